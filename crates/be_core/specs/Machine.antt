@@ -1,0 +1,306 @@
+-- The reclamation machine: versions of a set of pages, a writer that takes and retires pages, and passes that pin versions.
+use Rattle.std.specs.Prelude.{◌≡◌, ◌≢◌, ℕ, suc, ◌+◌, ◌<◌, ◌≤◌, min, Bool, true, false, not, ◌&&◌, ◌||◌, ◌==◌, nat_lt, if◌then◌else◌, ◌⊎◌, List, [], ◌∷◌, AllPairs, All, Option, Some, None, is_some, IsTrue, IsFalse, ⊤}
+use Rattle.std.specs.List.{list_any}
+use Rattle.be_core.specs.declared.event.Phase.{Phase}
+use Rattle.be_core.specs.declared.event.Phase.TheVariants.{Idle, Looked, Announced, Pinned}
+use Rattle.be_core.specs.declared.event.Event.{Event}
+use Rattle.be_core.specs.declared.event.Event.TheVariants.{Look, Announce, LookAgain, Read, Unpin, Lock, Scan, Fill, Publish, Unlock}
+
+-- who holds the lock, how many announcements its scan has read, the least so far, and whether it has published
+pub record Holder : Type 0 where
+  pub pass : ℕ
+  pub scanned : ℕ
+  pub least : ℕ
+  pub published : Bool
+
+-- A state. `reach n` is the set of the pages of version n, and `image n` what all words were when it was published.
+-- `retired p` is the number that the page p was retired with
+pub record World : Type 0 where
+  pub pages : ℕ
+  pub passes : ℕ
+  pub commits : ℕ
+  pub current : ℕ
+  pub reach : ℕ → ℕ → Bool
+  pub image : ℕ → ℕ → ℕ → ℕ
+  pub words : ℕ → ℕ → ℕ
+  pub free : ℕ → Bool
+  pub taken : ℕ → Bool
+  pub retired : ℕ → Option ℕ
+  pub holder : Option Holder
+  pub phases : ℕ → Phase
+
+-- f, but b at a
+abbrev pub update : {X : Type 0} → (ℕ → X) → ℕ → X → ℕ → X
+update f a b k = if k == a then b else f k
+
+-- the empty set
+abbrev pub nowhere : ℕ → Bool
+nowhere p = false
+
+abbrev pub zeros : ℕ → ℕ → ℕ
+zeros p i = 0
+
+abbrev pub InLimits : ℕ → ℕ → ℕ → Type 0
+InLimits pages passes commits = (0 < pages) × (pages ≤ 16384) × (0 < passes) × (passes ≤ 64) × (0 < commits) × (commits < 4294967296)
+
+-- version 0 has the page 0 alone, with these words, and each other page is free
+abbrev pub first_state : ℕ → ℕ → ℕ → (ℕ → ℕ → ℕ) → World
+first_state pages passes commits words =
+    record {
+      pages = pages;
+      passes = passes;
+      commits = commits;
+      current = 0;
+      reach = λ n p. (n == 0) && (p == 0);
+      image = λ n. words;
+      words = words;
+      free = λ p. nat_lt p pages && not (p == 0);
+      taken = nowhere;
+      retired = λ p. None;
+      holder = None;
+      phases = λ k. Idle;
+    }
+
+-- ## A reader's events
+
+abbrev pub to : World → ℕ → Phase → World
+to w k phase = record w { phases = update w.phases k phase }
+
+-- the phase after a look that reads c
+abbrev pub phase_after_look : Phase → ℕ → Phase
+phase_after_look Idle c = Looked c
+phase_after_look (Looked a) c = Looked c
+phase_after_look (Announced a) c = Announced a
+phase_after_look (Pinned a n) c = Pinned a n
+
+abbrev pub phase_after_announce : Phase → Phase
+phase_after_announce (Looked a) = Announced a
+phase_after_announce Idle = Idle
+phase_after_announce (Announced a) = Announced a
+phase_after_announce (Pinned a n) = Pinned a n
+
+abbrev pub phase_after_look_again : Phase → ℕ → Phase
+phase_after_look_again (Announced a) c = Pinned a c
+phase_after_look_again Idle c = Idle
+phase_after_look_again (Looked a) c = Looked a
+phase_after_look_again (Pinned a n) c = Pinned a n
+
+abbrev pub after_look : World → ℕ → World
+after_look w k = to w k (phase_after_look (w.phases k) w.current)
+
+abbrev pub after_announce : World → ℕ → World
+after_announce w k = to w k (phase_after_announce (w.phases k))
+
+abbrev pub after_look_again : World → ℕ → World
+after_look_again w k = to w k (phase_after_look_again (w.phases k) w.current)
+
+abbrev pub after_unpin : World → ℕ → World
+after_unpin w k = to w k Idle
+
+abbrev pub MayLook : World → ℕ → Type 0
+MayLook w k = k < w.passes
+
+abbrev pub MayAnnounce : World → ℕ → Type 0
+MayAnnounce w k = (k < w.passes) × ((a : ℕ) × (w.phases k ≡ Looked a))
+
+abbrev pub MayLookAgain : World → ℕ → Type 0
+MayLookAgain w k = (k < w.passes) × ((a : ℕ) × (w.phases k ≡ Announced a))
+
+abbrev pub MayRead : World → ℕ → ℕ → ℕ → Type 0
+MayRead w k p i = (k < w.passes) × (p < w.pages) × (i < 512) × ((a : ℕ) × (n : ℕ) × (w.phases k ≡ Pinned a n) × IsTrue (w.reach n p))
+
+abbrev pub MayUnpin : World → ℕ → Type 0
+MayUnpin w k = (k < w.passes) × ((a : ℕ) × (n : ℕ) × (w.phases k ≡ Pinned a n))
+
+-- ## The holder's events
+
+-- h has the lock, is the pass k, and has not published
+abbrev pub Writes : World → ℕ → Holder → Type 0
+Writes w k h = (w.holder ≡ Some h) × (h.pass ≡ k) × IsFalse h.published
+
+abbrev pub MayLock : World → ℕ → Type 0
+MayLock w k = (k < w.passes) × (w.holder ≡ None)
+
+abbrev pub after_lock : World → ℕ → World
+after_lock w k = record w { holder = Some record { pass = k; scanned = 0; least = w.current; published = false }; taken = nowhere }
+
+-- the least, after a phase was read
+abbrev pub least_with : ℕ → Phase → ℕ
+least_with l Idle = l
+least_with l (Looked a) = l
+least_with l (Announced a) = min l a
+least_with l (Pinned a n) = min l a
+
+-- a page is retired with a number below l
+abbrev pub is_below : ℕ → Option ℕ → Bool
+is_below l None = false
+is_below l (Some r) = nat_lt r l
+
+-- each page that is retired with a number below l is free
+abbrev pub swept : World → ℕ → World
+swept w l =
+    record w {
+      free = λ p. w.free p || is_below l (w.retired p);
+      retired = λ p. if is_below l (w.retired p) then None else w.retired p;
+    }
+
+-- what the least is after the j-th announcement is read
+abbrev pub least_after : World → Holder → ℕ → ℕ
+least_after w h j = least_with (if j == 0 then w.current else h.least) (w.phases j)
+
+-- one more announcement is read, and it isn't the last
+abbrev pub scanned_on : World → Holder → ℕ → World
+scanned_on w h j = record w { holder = Some record h { scanned = suc j; least = least_after w h j } }
+
+-- the last announcement is read
+abbrev pub scanned_out : World → Holder → ℕ → World
+scanned_out w h j = swept (record w { holder = Some record h { scanned = 0; least = least_after w h j } }) (least_after w h j)
+
+abbrev pub scanned_by : World → Option Holder → ℕ → World
+scanned_by w None j = w
+scanned_by w (Some h) j = if suc j == w.passes then scanned_out w h j else scanned_on w h j
+
+abbrev pub MayScan : World → ℕ → ℕ → Type 0
+MayScan w k j = (j < w.passes) × ((h : Holder) × Writes w k h × (j ≡ h.scanned))
+
+abbrev pub after_scan : World → ℕ → World
+after_scan w j = scanned_by w w.holder j
+
+abbrev pub MayFill : World → ℕ → ℕ → ℕ → Type 0
+MayFill w k p i = (p < w.pages) × (i < 512) × ((h : Holder) × Writes w k h) × IsTrue (w.taken p || w.free p)
+
+abbrev pub after_fill : World → ℕ → ℕ → ℕ → World
+after_fill w p i word =
+    record w {
+      taken = update w.taken p true;
+      free = update w.free p false;
+      words = update w.words p (update (w.words p) i word);
+    }
+
+-- the page is one of the list
+abbrev pub has : List ℕ → ℕ → Bool
+has given p = list_any (λ q. q == p) given
+
+abbrev pub MayPublish : World → ℕ → ℕ → List ℕ → Type 0
+MayPublish w k v given =
+    (w.current < w.commits) × (v < w.pages) × ((h : Holder) × Writes w k h) × IsTrue (w.taken v)
+    × AllPairs ◌≢◌ given × All (λ p. IsTrue (w.reach w.current p)) given
+
+abbrev pub with_published : Option Holder → Option Holder
+with_published None = None
+with_published (Some h) = Some record h { published = true }
+
+abbrev pub after_publish : World → List ℕ → World
+after_publish w given =
+    record w {
+      current = suc w.current;
+      reach = update w.reach (suc w.current) (λ p. (w.reach w.current p && not (has given p)) || w.taken p);
+      image = update w.image (suc w.current) w.words;
+      retired = λ p. if has given p then Some w.current else w.retired p;
+      taken = nowhere;
+      holder = with_published w.holder;
+    }
+
+abbrev pub MayUnlock : World → ℕ → Type 0
+MayUnlock w k = (h : Holder) × (w.holder ≡ Some h) × (h.pass ≡ k)
+
+abbrev pub after_unlock : World → World
+after_unlock w = record w { holder = None; taken = nowhere; free = λ p. w.free p || w.taken p }
+
+-- ## Any event
+
+abbrev pub Allowed : World → Event → Type 0
+Allowed w (Look k) = MayLook w k
+Allowed w (Announce k) = MayAnnounce w k
+Allowed w (LookAgain k) = MayLookAgain w k
+Allowed w (Read k p i) = MayRead w k p i
+Allowed w (Unpin k) = MayUnpin w k
+Allowed w (Lock k) = MayLock w k
+Allowed w (Scan k j) = MayScan w k j
+Allowed w (Fill k p i word) = MayFill w k p i
+Allowed w (Publish k v given) = MayPublish w k v given.items
+Allowed w (Unlock k) = MayUnlock w k
+
+-- what an allowed event makes of the state
+abbrev pub after : World → Event → World
+after w (Look k) = after_look w k
+after w (Announce k) = after_announce w k
+after w (LookAgain k) = after_look_again w k
+after w (Read k p i) = w
+after w (Unpin k) = after_unpin w k
+after w (Lock k) = after_lock w k
+after w (Scan k j) = after_scan w j
+after w (Fill k p i word) = after_fill w p i word
+after w (Publish k v given) = after_publish w given.items
+after w (Unlock k) = after_unlock w
+
+-- the holder gives a page that it has taken back
+abbrev pub after_return : World → ℕ → World
+after_return w p = record w { taken = update w.taken p false; free = update w.free p true }
+
+-- ## Schedules
+
+-- what stands in a schedule: an event, or a page of T that goes back to F
+pub data Move : Type 0 where
+  happens : Event → Move
+  returns : ℕ → Move
+
+-- An event that isn't allowed changes nothing
+abbrev pub Moves : World → Move → World → Type 0
+Moves w (happens e) w' = (Allowed w e × (w' ≡ after w e)) ⊎ ((¬ (Allowed w e)) × (w' ≡ w))
+Moves w (returns p) w' = IsTrue (w.taken p) × (w' ≡ after_return w p)
+
+abbrev pub Run : World → List Move → World → Type 0
+Run w [] w' = w' ≡ w
+Run w (m ∷ ms) w' = (mid : World) × Moves w m mid × Run mid ms w'
+
+-- ## What always holds
+
+abbrev pub bit : Bool → ℕ
+bit true = 1
+bit false = 0
+
+-- in how many of the four sets the page is
+abbrev pub places : World → ℕ → ℕ
+places w p = bit (w.free p) + bit (w.taken p) + bit (is_some (w.retired p)) + bit (w.reach w.current p)
+
+-- each page is in exactly one of the four, and nothing else is in any
+abbrev pub Partition : World → Type 0
+Partition w = (p : ℕ) → places w p ≡ bit (nat_lt p w.pages)
+
+-- no page of a pinned version is free or taken, and its words are those of the version
+abbrev pub Protected : World → Type 0
+Protected w = (k a n p : ℕ) → w.phases k ≡ Pinned a n → IsTrue (w.reach n p)
+    → IsFalse (w.free p) × IsFalse (w.taken p) × ((i : ℕ) → w.words p i ≡ w.image n p i)
+
+-- the page is in no version from l to c
+abbrev pub Unreached : World → ℕ → ℕ → ℕ → Type 0
+Unreached w l c p = (n : ℕ) → l ≤ n → n ≤ c → IsFalse (w.reach n p)
+
+-- a phase names no number above the current one
+abbrev pub InTime : ℕ → Phase → Type 0
+InTime c Idle = ⊤
+InTime c (Looked a) = a ≤ c
+InTime c (Announced a) = a ≤ c
+InTime c (Pinned a n) = (a ≤ n) × (n ≤ c)
+
+-- what a pin to the version n keeps of the page p: it is neither free nor taken, nor retired too early, and its words stay
+abbrev pub Keeps : World → ℕ → ℕ → Type 0
+Keeps w n p = IsFalse (w.free p) × IsFalse (w.taken p) × ((r : ℕ) → w.retired p ≡ Some r → n ≤ r) × ((i : ℕ) → w.words p i ≡ w.image n p i)
+
+-- The invariant
+pub record Sound (w : World) : Type 0 where
+  pub partition : Partition w
+  pub in_time : (k : ℕ) → InTime w.current (w.phases k)
+  pub outside : (k : ℕ) → w.passes ≤ k → w.phases k ≡ Idle
+  pub pinned : (k a n p : ℕ) → w.phases k ≡ Pinned a n → IsTrue (w.reach n p) → Keeps w n p
+  pub now : (p i : ℕ) → IsTrue (w.reach w.current p) → w.words p i ≡ w.image w.current p i
+  pub was_reached : (p r : ℕ) → w.retired p ≡ Some r → (r < w.current) × IsTrue (w.reach r p)
+  -- while the lock is held, a pass that was scanned and is pinned to an older version has announced no less than the least
+  pub counted : (h : Holder) → w.holder ≡ Some h → IsFalse h.published
+      → (k a n : ℕ) → k < h.scanned → w.phases k ≡ Pinned a n → n < w.current → h.least ≤ a
+  pub least_in_time : (h : Holder) → w.holder ≡ Some h → h.least ≤ w.current
+  pub unheld : w.holder ≡ None → (p : ℕ) → IsFalse (w.taken p)
+  -- each version has pages of the machine alone, and the lock is held by one of its passes
+  pub inside : (n p : ℕ) → IsTrue (w.reach n p) → p < w.pages
+  pub holder_inside : (h : Holder) → w.holder ≡ Some h → h.pass < w.passes

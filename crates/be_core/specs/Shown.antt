@@ -1,0 +1,59 @@
+-- The state of the machine that a `State` shows, and what a step of it answers.
+use Rattle.std.specs.Prelude.{◌≡◌, ℕ, Bool, true, false, Option, Some, None, slice_get, slice_index, slice_index_or, vec_len, Vec, []}
+use Rattle.std.specs.declared.alloc.Global.{Global}
+use Rattle.be_core.specs.declared.event.Phase.TheVariants.{Idle}
+use Rattle.be_core.specs.declared.state.Holder.{Holder}
+use Rattle.be_core.specs.declared.state.State.{State}
+use Rattle.be_core.specs.Machine.{World, Sound}
+use Rattle.be_core.specs.Machine as machine
+
+-- the words of each version, of which a `State` keeps none
+abbrev pub Images : Type 0
+Images = ℕ → ℕ → ℕ → ℕ
+
+-- what an event asks reads no images
+abbrev pub blank : Images
+blank n p i = 0
+
+abbrev pub is_in : Option (Vec Bool Global) → ℕ → Bool
+is_in None p = false
+is_in (Some row) p = slice_index_or row.items p false
+
+abbrev pub as_holder : Holder → machine.Holder
+as_holder h = record { pass = h.pass; scanned = h.scanned; least = h.least; published = h.published }
+
+abbrev pub holder_of : Option Holder → Option machine.Holder
+holder_of None = None
+holder_of (Some h) = Some (as_holder h)
+
+abbrev pub shown : State → Images → World
+shown s image =
+    record {
+      pages = vec_len s.words;
+      passes = vec_len s.phases;
+      commits = s.commits;
+      current = s.current;
+      reach = λ n p. is_in (slice_get s.reach.items n) p;
+      image = image;
+      words = λ p i. slice_index (slice_index_or s.words.items p []) i;
+      free = λ p. slice_index_or s.free.items p false;
+      taken = λ p. slice_index_or s.taken.items p false;
+      retired = λ p. slice_index_or s.retired.items p None;
+      holder = holder_of s.holder;
+      phases = λ k. slice_index_or s.phases.items k Idle;
+    }
+
+-- The answer says whether the event may happen. If so, the new state shows what it makes of the old one, else nothing changed
+abbrev pub MakesStep : State → (World → Type 0) → (World → World) → Bool → State → Type 0
+MakesStep old may next true new = (image : Images) → may (shown old image) × (shown new (next (shown old image)).image ≡ next (shown old image))
+MakesStep old may next false new = (image : Images) → (¬ (may (shown old image))) × (shown new image ≡ shown old image)
+
+abbrev pub IsUnchanged : State → State → Type 0
+IsUnchanged old new = (image : Images) → shown new image ≡ shown old image
+
+abbrev pub page_count : State → ℕ
+page_count s = vec_len s.words
+
+-- with some words of its versions, the state shows one in which the invariant holds
+abbrev pub IsSound : State → Type 0
+IsSound s = (image : Images) × Sound (shown s image)

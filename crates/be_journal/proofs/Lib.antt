@@ -1,0 +1,4 @@
+pub mod DoneLemmas
+pub mod LegalLemmas
+pub mod SoundLemmas
+pub mod TextLemmas

@@ -1,0 +1,224 @@
+//! The journal, its replay, and the test whether it is legal.
+//!
+//! An entry is appended in one of two ways. `push` takes the memory that it needs. A writer that must not fail once it has
+//! published takes the memory first, by `reserve`, and then appends by `push_reserved`, which takes none.
+ghost use Rattle.std.specs.Prelude.{◌≡◌, ◌≤◌, ◌<◌, ◌^◌, ◌↔◌, ℕ, length, get_or, true, IfOk, IfErr, OnOk, Ok, [], ◌++◌, ◌+◌, vec_len, vec_capacity};
+ghost use Rattle.be_volume.specs.Ahead.{after};
+ghost use Rattle.be_volume.specs.Volume.{steps};
+ghost use Rattle.be_value.specs.Refusal.{Answers};
+ghost use Rattle.be_value.specs.declared.refusals.Refusal.TheVariants.{OutOfMemory};
+ghost use Rattle.std.specs.String.{string_bytes};
+ghost use Rattle.be_journal.specs.Journal as model;
+ghost use Rattle.be_journal.specs.Text.{lines_from};
+
+use crate::texts::entry_line;
+use crate::{Dones, Entry, Ops};
+use be_value::Refusal;
+use be_volume::{Done, Op, Volume};
+use std::alloc::{AllocError, Global};
+use std::marker::Model;
+use std::mem;
+
+/// The accepted writes in their order. A contract sees a `Log`: the limit, the entries, and for how many operations a place
+/// is reserved.
+#[derive(Drop)]
+pub struct Journal {
+    alloc: Global,
+    limit: u64,
+    entries: Vec<Entry>,
+    /// The number of operations for which there is room.
+    reserved: usize,
+    spare_ops: Vec<Op>,
+    spare_dones: Vec<Done>,
+}
+
+impl Model for Journal {
+    ghost use Rattle.be_journal.specs.Journal as model;
+
+    ghost Value = { model.Log };
+
+    ghost coded = { model.coded_log };
+
+    ghost use Rattle.be_journal.specs.Room.{log_of, HasRoom};
+
+    ghost view = { log_of };
+
+    ghost invariant = { HasRoom };
+}
+
+impl Journal {
+    /// A journal without entries, which takes so many, up to 2^32 - 1.
+    pub fn new(alloc: Global, limit: u64) -> Journal
+        requires { limit < 2 ^ 32 }
+        ensures { result ≡ record { limit = limit; entries = []; reserved = 0 } }
+    {
+        Journal {
+            alloc,
+            limit,
+            entries: Vec::new(alloc),
+            reserved: 0,
+            spare_ops: Vec::new(alloc),
+            spare_dones: Vec::new(alloc),
+        }
+    }
+
+    /// How many entries there are.
+    pub fn len(&self) -> u64
+        ensures len { result ≡ length self.now.entries }
+        ensures limit { result ≤ self.now.limit }
+    {
+        self.entries.len() as u64
+    }
+
+    /// The entry with this number, from 0.
+    pub fn get(&self, i: u64) -> &Entry
+        requires { i < length self.now.entries }
+        ensures { result.now ≡ get_or self.now.entries i result.now }
+    {
+        &self.entries[i as usize]
+    }
+
+    /// Appends an entry; what was reserved is given up. It is refused with 9 exactly where the journal is at its limit, and
+    /// with 10 below it; the journal is then as it was, and the entry is dropped.
+    pub fn push(&mut self, entry: Entry) -> Result<(), Refusal>
+        requires { model.IsEntry entry }
+        ensures { model.Grows self.old (model.extended self.old entry) result self.new }
+    {
+        if self.entries.len() as u64 >= self.limit {
+            return Err(Refusal::CommitsSpent);
+        }
+        self.entries.push(entry)?;
+        self.reserved = 0;
+        Ok(())
+    }
+
+    /// Makes room for one entry of so many operations, 1 to 64, in place of any room made before. It is refused with 9 exactly
+    /// where the journal is at its limit, and with 10 below it; the journal is then as it was.
+    pub fn reserve(&mut self, count: usize) -> Result<(), Refusal>
+        requires some { 1 ≤ count }
+        requires few { count ≤ 64 }
+        ensures { model.Grows self.old (model.with_room self.old count) result self.new }
+    {
+        if self.entries.len() as u64 >= self.limit {
+            return Err(Refusal::CommitsSpent);
+        }
+        self.entries.reserve(1)?;
+        self.spare_ops.reserve(count)?;
+        self.spare_dones.reserve(count)?;
+        self.reserved = count;
+        Ok(())
+    }
+
+    /// Appends an entry in the room that was reserved for it since the last entry. It takes no memory and always succeeds.
+    pub fn push_reserved(&mut self, by: u64, ops: &[Op], dones: &[Done])
+        requires some { 1 ≤ length ops.now }
+        requires few { length ops.now ≤ 64 }
+        requires ops { length ops.now ≡ self.old.reserved }
+        requires dones { length dones.now ≡ self.old.reserved }
+        ensures { self.new ≡ model.extended self.old (record { by = by; ops = ops.now; dones = dones.now }) }
+    {
+        let mut own_ops = mem::replace(&mut self.spare_ops, Vec::new(self.alloc));
+        let mut own_dones = mem::replace(&mut self.spare_dones, Vec::new(self.alloc));
+        fill_ops(&mut own_ops, ops);
+        fill_dones(&mut own_dones, dones);
+        let entry = Entry {
+            by,
+            ops: Ops::from_vec(own_ops),
+            dones: Dones::from_vec(own_dones),
+        };
+        // There is room.
+        let _ = self.entries.push(entry);
+        self.reserved = 0;
+    }
+
+    /// The volume after the entries, one after the other; an entry that the volume refuses changes nothing as a whole. It is
+    /// refused with 10 alone, and costs what the entries change.
+    pub fn replay(&self) -> Result<Volume, Refusal>
+        ensures { Answers (λ volume. volume) result (Ok (model.replay self.now.entries)) }
+    {
+        let mut volume = Volume::new(self.alloc);
+        for entry in &self.entries {
+            volume = enter(volume, entry)?;
+        }
+        Ok(volume)
+    }
+
+    /// The journal's text, a line for each entry, numbered from 1: the pass, the operations as script lines with names quoted,
+    /// and their answers, as in `2 by 0 set 1 "size" LONG 5 -> ok`. It is refused with 10 alone.
+    pub fn text(&self) -> Result<String, Refusal>
+        ensures { Answers string_bytes result (Ok (lines_from 1 self.now.entries)) }
+    {
+        let mut text = String::new(self.alloc);
+        for (i, entry) in self.entries.iter().enumerate() {
+            let line = entry_line(self.alloc, i as u64 + 1, entry)?;
+            text.push_str(line.as_str())?;
+        }
+        Ok(text)
+    }
+
+    /// Whether the journal is legal: each entry tells what the volume answers after the entries before it, and none is
+    /// refused. It is refused with 10 alone, and costs what the entries change.
+    pub fn check(&self) -> Result<bool, Refusal>
+        ensures ok { IfOk result (λ legal. (legal ≡ true) ↔ model.IsLegal self.now.entries) }
+        ensures err { IfErr result (λ e. e ≡ OutOfMemory) }
+    {
+        let mut reached = Volume::new(self.alloc);
+        for entry in &self.entries {
+            let (next, agrees) = enter_if_agreed(reached, entry)?;
+            if !agrees {
+                return Ok(false);
+            }
+            reached = next;
+        }
+        Ok(true)
+    }
+}
+
+/// Appends copies, for which there is room.
+fn fill_ops(own: &mut Vec<Op>, ops: &[Op])
+    requires { vec_len own.old + length ops.now ≤ vec_capacity own.old }
+    ensures { own.new.items ≡ own.old.items ++ ops.now }
+{
+    for op in ops {
+        let _ = own.push(op.copy());
+    }
+}
+
+/// Appends copies, for which there is room.
+fn fill_dones(own: &mut Vec<Done>, dones: &[Done])
+    requires { vec_len own.old + length dones.now ≤ vec_capacity own.old }
+    ensures { own.new.items ≡ own.old.items ++ dones.now }
+{
+    for done in dones {
+        let _ = own.push(*done);
+    }
+}
+
+/// The volume after an entry; the same volume where it refuses the operations.
+fn enter(volume: Volume, entry: &Entry) -> Result<Volume, AllocError>
+    requires entry { model.IsEntry entry.now }
+    requires fits { volume.next + 64 < 2 ^ 64 }
+    ensures after { IfOk result (λ v. v ≡ after volume entry.now.ops) }
+    ensures grows { IfOk result (λ v. v.next ≤ volume.next + 64) }
+{
+    let (volume, _answer) = volume.replay(entry.ops.as_slice())?;
+    Ok(volume)
+}
+
+/// The volume after an entry, and whether the entry tells what the volume answers.
+fn enter_if_agreed(volume: Volume, entry: &Entry) -> Result<(Volume, bool), AllocError>
+    requires entry { model.IsEntry entry.now }
+    requires fits { volume.next + 64 < 2 ^ 64 }
+    ensures so { IfOk result (λ r. r.1 ≡ true → steps volume entry.now.ops ≡ Ok (r.0, entry.now.dones)) }
+    ensures is { IfOk result (λ r. model.Agrees volume entry.now → r.1 ≡ true) }
+    ensures grows { IfOk result (λ r. r.0.next ≤ volume.next + 64) }
+{
+    let (volume, answer) = volume.replay(entry.ops.as_slice())?;
+    match answer {
+        Ok(dones) => {
+            let agrees = dones.as_slice() == entry.dones.as_slice();
+            Ok((volume, agrees))
+        }
+        Err(_) => Ok((volume, false)),
+    }
+}

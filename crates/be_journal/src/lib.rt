@@ -1,0 +1,17 @@
+//! The journal: which writes were accepted, by whom, and what they answered.
+//!
+//! A journal is the history of a store told as that of one thread. Replayed on a plain volume it gives the store's
+//! contents, and it is legal where every answer in it is the one that the volume gives at its place.
+#![tactic(auto)]
+
+mod entries;
+mod journals;
+mod laws;
+#[cfg(test)]
+mod tests;
+mod texts;
+
+pub use entries::{Dones, Entry, Ops};
+pub use journals::Journal;
+pub use laws::{by_pass_append, legal_front, legal_last, legal_push, replay_push, replay_sound};
+pub use texts::{done_text, quoted, value_text};

@@ -1,0 +1,3 @@
+mod PageSets
+mod Pools
+mod Rooms

@@ -1,0 +1,172 @@
+-- A room's standings, as its pool's places change.
+use Rattle.std.proofs.Common.{◌≡◌, ℕ, zero, suc, ◌+◌, ◌<◌, ◌≤◌, ◌==◌, ◌⊎◌, List, [], ◌∷◌, length, cond, Bool, true, false, if◌then◌else◌, ap, sym, subst, ◌∙◌, refl, inl, inr, arith, slice_set, count_by, map}
+use Rattle.std.specs.Prelude.{IsTrue, slice_index_or}
+use Rattle.std.specs.List.{range_with_len}
+use Rattle.std.proofs.lemmas.Bool.{cases_eq, cases_lt}
+use Rattle.std.proofs.lemmas.List.{get_or_past, get_or-set_same, get_or-set_other, get_or_default, get_or-map, length-map, set_past}
+use Rattle.std.proofs.lemmas.List.FromFn.{fill_by_all}
+use Rattle.std.proofs.lemmas.List.Sums.{sum_by-cons}
+use mathlib.Core.Bool.{false≢true}
+use Rattle.be_pages.specs.declared.room.Standing.{Standing as Stands}
+use Rattle.be_pages.specs.declared.room.Standing.TheVariants as stands
+use Rattle.be_pages.specs.declared.page_pool.Place.{Place}
+use Rattle.be_pages.specs.declared.page_pool.Place.TheVariants.{Free, Reserved, Filled, Current, GivenUp, Retired}
+use Rattle.be_pages.specs.Pages.{StandsAt, after_give_up, after_keep, after_undo, is_held, is_taken, is_free as stands_free}
+use Rattle.be_pages.specs.Place.{given_place, is_free, is_held_page, is_in_hand, is_retired, kept_place, place_of, undone_place}
+use Rattle.be_pages.specs.VecRoom.{standing_in, standing_of, standings}
+use Rattle.be_pages.proofs.PageSets.{same_test, other_test}
+
+-- one page of the pool stands anew
+pub stands_set : (P : List Place) (p : ℕ) (s : Place) → p < length P → StandsAt (standing_in P) (standing_in (slice_set P p s)) p (standing_of s)
+stands_set P p s lt q = elim (cases_eq q p) [
+  | inl e ↦ subst (λ r. standing_in (slice_set P p s) r ≡ (if r == p then standing_of s else standing_in P r)) (sym e)
+      (ap standing_of (get_or-set_same P p s Free lt) ∙ sym (ap (λ (b : Bool). if b then standing_of s else standing_in P p) (same_test p)))
+  | inr ne ↦ ap standing_of (get_or-set_other P p q s Free ne) ∙ sym (ap (λ (b : Bool). if b then standing_of s else standing_in P q) (other_test q p ne))
+]
+
+-- each page stands as the map says
+pub stands_map : (f : Place → Place) (g : Stands → Stands) → ((x : Place) → standing_of (f x) ≡ g (standing_of x)) → g stands.Free ≡ stands.Free → (P : List Place) (q : ℕ) → standing_in (map f P) q ≡ g (standing_in P q)
+stands_map f g same free P q = elim (cases_lt q (length P)) [
+  | inl lt ↦ ap standing_of (get_or-map f P q Free Free lt) ∙ same (slice_index_or P q Free)
+  | inr past ↦ ap standing_of (get_or_past (map f P) q Free (omega (arith, past, length-map P f))) ∙ sym free ∙ sym (ap (λ (x : Place). g (standing_of x)) (get_or_past P q Free past))
+]
+
+pub stands_kept : (x : Place) → standing_of (kept_place x) ≡ after_keep (standing_of x)
+stands_kept Free = refl
+stands_kept Reserved = refl
+stands_kept Filled = refl
+stands_kept Current = refl
+stands_kept GivenUp = refl
+stands_kept (Retired n) = refl
+
+pub stands_undone : (x : Place) → standing_of (undone_place x) ≡ after_undo (standing_of x)
+stands_undone Free = refl
+stands_undone Reserved = refl
+stands_undone Filled = refl
+stands_undone Current = refl
+stands_undone GivenUp = refl
+stands_undone (Retired n) = refl
+
+pub stands_given : (x : Place) → standing_of (given_place x) ≡ after_give_up (standing_of x)
+stands_given Free = refl
+stands_given Reserved = refl
+stands_given Filled = refl
+stands_given Current = refl
+stands_given GivenUp = refl
+stands_given (Retired n) = refl
+
+-- none is retired
+pub unretired_kept : (x : Place) → is_retired (kept_place x) ≡ is_retired x
+unretired_kept Free = refl
+unretired_kept Reserved = refl
+unretired_kept Filled = refl
+unretired_kept Current = refl
+unretired_kept GivenUp = refl
+unretired_kept (Retired n) = refl
+
+pub unretired_undone : (x : Place) → is_retired (undone_place x) ≡ is_retired x
+unretired_undone Free = refl
+unretired_undone Reserved = refl
+unretired_undone Filled = refl
+unretired_undone Current = refl
+unretired_undone GivenUp = refl
+unretired_undone (Retired n) = refl
+
+pub unretired_given : (x : Place) → is_retired (given_place x) ≡ is_retired x
+unretired_given Free = refl
+unretired_given Reserved = refl
+unretired_given Filled = refl
+unretired_given Current = refl
+unretired_given GivenUp = refl
+unretired_given (Retired n) = refl
+
+pub unretired_map : (f : Place → Place) → ((x : Place) → is_retired (f x) ≡ is_retired x) → (P : List Place) → ((q : ℕ) → is_retired (place_of P q) ≡ false) → (q : ℕ) → is_retired (place_of (map f P) q) ≡ false
+unretired_map f same P none q = elim (cases_lt q (length P)) [
+  | inl lt ↦ ap is_retired (get_or-map f P q Current Current lt) ∙ same (place_of P q) ∙ none q
+  | inr past ↦ ap is_retired (get_or_past (map f P) q Current (omega (arith, past, length-map P f)))
+]
+
+pub unretired_set : (P : List Place) (p : ℕ) (s : Place) → is_retired s ≡ false → ((q : ℕ) → is_retired (place_of P q) ≡ false) → (q : ℕ) → is_retired (place_of (slice_set P p s) q) ≡ false
+unretired_set P p s is none q = elim (cases_lt p (length P)) [
+  | inl lt ↦ elim (cases_eq q p) [
+    | inl e ↦ ap (λ (r : ℕ). is_retired (place_of (slice_set P p s) r)) e ∙ ap is_retired (get_or-set_same P p s Current lt) ∙ is
+    | inr ne ↦ ap is_retired (get_or-set_other P p q s Current ne) ∙ none q
+  ]
+  | inr past ↦ ap (λ (xs : List Place). is_retired (place_of xs q)) (set_past P p s past) ∙ none q
+]
+
+-- what a standing says of the place
+pub standing_past : (P : List Place) (p : ℕ) → length P ≤ p → standing_in P p ≡ stands.Free
+standing_past P p past = ap standing_of (get_or_past P p Free past)
+
+pub standing_at : (P : List Place) (p : ℕ) → p < length P → standing_in P p ≡ standing_of (place_of P p)
+standing_at P p lt = ap standing_of (get_or_default P p Free Current lt)
+
+taken_place : (x : Place) → IsTrue (is_taken (standing_of x)) → IsTrue (is_in_hand x)
+taken_place Free h = absurd (false≢true h)
+taken_place Reserved h = refl
+taken_place Filled h = refl
+taken_place Current h = absurd (false≢true h)
+taken_place GivenUp h = absurd (false≢true h)
+taken_place (Retired n) h = absurd (false≢true h)
+
+held_place : (x : Place) → IsTrue (is_held (standing_of x)) → IsTrue (is_held_page x)
+held_place Free h = absurd (false≢true h)
+held_place Reserved h = refl
+held_place Filled h = refl
+held_place Current h = refl
+held_place GivenUp h = absurd (false≢true h)
+held_place (Retired n) h = absurd (false≢true h)
+
+pub held_inside : (P : List Place) (p : ℕ) → IsTrue (is_held (standing_in P p)) → p < length P
+held_inside P p h = elim (cases_lt p (length P)) [
+  | inl lt ↦ lt
+  | inr past ↦ absurd (false≢true (sym (ap is_held (standing_past P p past)) ∙ h))
+]
+
+pub taken_inside : (P : List Place) (p : ℕ) → IsTrue (is_taken (standing_in P p)) → p < length P
+taken_inside P p h = elim (cases_lt p (length P)) [
+  | inl lt ↦ lt
+  | inr past ↦ absurd (false≢true (sym (ap is_taken (standing_past P p past)) ∙ h))
+]
+
+pub taken_in_hand : (P : List Place) (p : ℕ) → IsTrue (is_taken (standing_in P p)) → IsTrue (is_in_hand (place_of P p))
+taken_in_hand P p h = taken_place (place_of P p) (sym (ap is_taken (standing_at P p (taken_inside P p h))) ∙ h)
+
+pub held_in_pool : (P : List Place) (p : ℕ) → IsTrue (is_held (standing_in P p)) → IsTrue (is_held_page (place_of P p))
+held_in_pool P p h = held_place (place_of P p) (sym (ap is_held (standing_at P p (held_inside P p h))) ∙ h)
+
+free_place : (x : Place) → is_retired x ≡ false → standing_of x ≡ stands.Free → x ≡ Free
+free_place Free is e = refl
+free_place Reserved is e = cc
+free_place Filled is e = cc
+free_place Current is e = cc
+free_place GivenUp is e = cc
+free_place (Retired n) is e = absurd (false≢true (sym is))
+
+pub busy_place : (P : List Place) (q : ℕ) → q < length P → is_retired (place_of P q) ≡ false → (place_of P q ≡ Free → ⊥) → standing_in P q ≡ stands.Free → ⊥
+busy_place P q lt is busy e = busy (free_place (place_of P q) is (sym (standing_at P q lt) ∙ e))
+
+-- the free pages, counted by standings
+same_free : (x : Place) → is_retired x ≡ false → stands_free (standing_of x) ≡ is_free x
+same_free Free is = refl
+same_free Reserved is = refl
+same_free Filled is = refl
+same_free Current is = refl
+same_free GivenUp is = refl
+same_free (Retired n) is = absurd (false≢true (sym is))
+
+count_map : (P : List Place) → ((q : ℕ) → is_retired (place_of P q) ≡ false) → count_by stands_free (map standing_of P) ≡ count_by is_free P
+count_map [] none = refl
+count_map (x ∷ xs) none =
+    omega (
+      arith,
+      sum_by-cons (λ (s : Stands). cond {A = ℕ} (stands_free s) 1 0) (standing_of x) (map standing_of xs),
+      sum_by-cons (λ (y : Place). cond {A = ℕ} (is_free y) 1 0) x xs,
+      ap (λ (b : Bool). cond {A = ℕ} b 1 0) (same_free x (none 0)),
+      count_map xs (λ q. none (suc q)),
+    )
+
+pub count_free : (P : List Place) → ((q : ℕ) → is_retired (place_of P q) ≡ false) → count_by is_free P ≡ count_by stands_free (standings P)
+count_free P none = sym (count_map P none)
+    ∙ ap (count_by stands_free) (fill_by_all (standing_in P) (map standing_of P) (length P) stands.Free (length-map P standing_of) (λ k lt. get_or-map standing_of P k Free stands.Free lt))

@@ -1,0 +1,12 @@
+-- Which refusal a call gives.
+use Rattle.std.specs.Prelude.{◌≡◌, ℕ, ◌≤◌, ◌<◌, ◌⊎◌}
+use Rattle.be_value.specs.declared.refusals.Refusal.{Refusal}
+use Rattle.be_value.specs.declared.refusals.Refusal.TheVariants.{OutOfMemory, Full, BadLimits}
+
+-- no page was left, and this holds of the number that the refusal carries
+abbrev pub IsFullOf : (ℕ → Type 0) → Refusal → Type 0
+IsFullOf tells refusal = (least : ℕ) × (refusal ≡ Full least) × tells least
+
+-- for a number of pages: a limit out of its range exactly, or no memory
+abbrev pub IsLimitOrMemory : ℕ → Refusal → Type 0
+IsLimitOrMemory pages refusal = (refusal ≡ BadLimits × ((pages < 8) ⊎ (16384 < pages))) ⊎ (refusal ≡ OutOfMemory × (8 ≤ pages) × (pages ≤ 16384))

@@ -1,0 +1,85 @@
+//! A set of pages, of which the last that came in is the first to go out.
+ghost use Rattle.std.specs.Prelude.{◌≡◌, ◌≢◌, ℕ, ◌<◌, ◌≤◌, ◌==◌, if◌then◌else◌, Bool, true, false, length, vec_len, take, count_by, IfOk, IfSome, IfNone};
+ghost use Rattle.be_pages.specs.Pages.{times};
+ghost use Rattle.be_pages.specs.PageSet.{has_page, is_true, one_if};
+
+use std::alloc::{AllocError, Global};
+
+/// A set of the pages below a number. No call but `new` takes memory.
+#[derive(Drop)]
+pub(crate) struct PageSet {
+    list: Vec<u64>,
+    len: usize,
+    has: Vec<bool>,
+    ghost same: { vec_len list ≡ vec_len has },
+    ghost counted: { len ≡ count_by is_true has.items },
+    ghost once: { (q : ℕ) → times q (take len list.items) ≡ one_if (has_page has.items q) },
+}
+
+impl PageSet {
+    ghost use Rattle.std.specs.Prelude.{length};
+
+    /// No page, of those below `pages`.
+    pub(crate) fn new(alloc: Global, pages: usize) -> Result<PageSet, AllocError>
+        ensures none { IfOk result (λ s. (q : ℕ) → has_page s.has.items q ≡ false) }
+        ensures pages { IfOk result (λ s. length s.has.items ≡ pages) }
+    {
+        let list = vec![in alloc; 0; pages]?;
+        let has = vec![in alloc; false; pages]?;
+        Ok(PageSet { list, len: 0, has })
+    }
+
+    /// The pages from one on that are below `pages`. The lowest is the first to go out.
+    pub(crate) fn from(alloc: Global, first: usize, pages: usize) -> Result<PageSet, AllocError>
+        requires { first ≤ pages }
+        ensures in_set { IfOk result (λ s. (q : ℕ) → first ≤ q → q < pages → has_page s.has.items q ≡ true) }
+        ensures out { IfOk result (λ s. (q : ℕ) → q < first → has_page s.has.items q ≡ false) }
+        ensures pages { IfOk result (λ s. length s.has.items ≡ pages) }
+    {
+        let mut set = PageSet::new(alloc, pages)?;
+        for i in 0..pages - first {
+            set.insert((pages - 1 - i) as u64);
+        }
+        Ok(set)
+    }
+
+    /// Adds a page, which may be there.
+    pub(crate) fn insert(&mut self, page: u64)
+        requires { page < length self.old.has.items }
+        ensures has { (q : ℕ) → has_page self.new.has.items q ≡ (if q == page then true else has_page self.old.has.items q) }
+        ensures pages { length self.new.has.items ≡ length self.old.has.items }
+    {
+        let at = page as usize;
+        if self.has[at] {
+            return;
+        }
+        self.list[self.len] = page;
+        self.has[at] = true;
+        self.len += 1;
+    }
+
+    /// Takes the last page that came in.
+    pub(crate) fn pop(&mut self) -> Option<u64>
+        ensures some { IfSome result (λ page. has_page self.old.has.items page ≡ true) }
+        ensures has { IfSome result (λ page. (q : ℕ) → has_page self.new.has.items q ≡ (if q == page then false else has_page self.old.has.items q)) }
+        ensures none { IfNone result ((q : ℕ) → has_page self.old.has.items q ≡ false) }
+        ensures still_none { IfNone result (self.new.has.items ≡ self.old.has.items) }
+        ensures fewer { IfSome result (λ page. self.new.len < self.old.len) }
+        ensures pages { length self.new.has.items ≡ length self.old.has.items }
+    {
+        if self.len == 0 {
+            return None;
+        }
+        let page = self.list[self.len - 1];
+        self.len -= 1;
+        self.has[page as usize] = false;
+        Some(page)
+    }
+
+    /// How many pages there are.
+    pub(crate) fn len(&self) -> usize
+        ensures { result ≡ count_by is_true self.now.has.items }
+    {
+        self.len
+    }
+}

@@ -1,0 +1,91 @@
+//! The two traits over pages.
+//!
+//! # Standings
+//! Where a page stands in a write is one function of the page, so the sets of pages that can be read, taken or given up
+//! cannot disagree. Ghost members tell it, with the words of each page and the facts that no call changes; none of them
+//! says who holds the words.
+ghost use Rattle.std.specs.Prelude.{◌≡◌, ℕ, ◌<◌, ◌^◌, ◌==◌, ◌≢◌, if◌then◌else◌, IsTrue, Bool, IfOk, IfErr, OnErr};
+ghost use Rattle.be_pages.specs.declared.room.Standing.{Standing as Stands};
+ghost use Rattle.be_pages.specs.declared.room.Standing.TheVariants.{Free, Taken, Filled};
+ghost use Rattle.be_pages.specs.Pages.{is_readable, is_taken, is_held, after_give_up, StandsAt};
+ghost use Rattle.be_pages.specs.Refusal.{IsFullOf};
+
+use be_value::Refusal;
+
+/// Where a page stands in a write.
+#[derive(Clone, Copy, Debug, PartialEq, Eq)]
+pub enum Standing {
+    /// Neither readable nor taken.
+    Free,
+    /// Readable since before this write.
+    Old,
+    /// Readable since before this write, and given up by it.
+    GivenUp,
+    /// Taken in this write, and not filled yet.
+    Taken,
+    /// Taken in this write, with a word filled.
+    Filled,
+}
+
+/// A reader of pages.
+pub trait Look {
+    /// The facts of a reader that no call changes.
+    ghost Kept: { Type 0 };
+
+    ghost kept: { Self → Kept };
+
+    /// Whether a reader with these facts may be written: its write is open.
+    ghost is_open: { Kept → Bool };
+
+    /// Where each page stands.
+    ghost standing: { Self → ℕ → Stands };
+
+    /// The word of a page at a place.
+    ghost words: { Self → ℕ → ℕ → ℕ };
+
+    /// A word of a page that was there when the write began, or that the write has taken.
+    fn word(&mut self, page: u64, i: usize) -> u64
+        requires readable { IsTrue (is_readable (standing self.old page)) }
+        requires in_page { i < 512 }
+        ensures value { result ≡ words self.old page i }
+        ensures kept { kept self.new ≡ kept self.old }
+        ensures standing { standing self.new ≡ standing self.old }
+        ensures words { words self.new ≡ words self.old };
+
+    // A page that stands somewhere has a small number: a root is one more than its page, and a new level fits too.
+    ghost pages_small: { (reader : Self) (q : ℕ) → standing reader q ≢ Free → q < 2 ^ 32 };
+}
+
+/// A reader that takes, fills and gives up pages, for one write.
+pub trait Room: Look {
+    /// What a room that has just refused a page tells of the refusal's number.
+    ghost full: { Self → ℕ → Type 0 };
+
+    /// Takes a free page. Its words have no meaning until they are filled.
+    fn take(&mut self) -> Result<u64, Refusal>
+        requires open { IsTrue (Self.is_open (Self.kept self.old)) }
+        ensures page { IfOk result (λ page. (page < 2 ^ 32) × (Self.standing self.old page ≡ Free)) }
+        ensures ok { IfOk result (λ page. StandsAt (Self.standing self.old) (Self.standing self.new) page Taken) }
+        ensures err { OnErr result (Self.standing self.new ≡ Self.standing self.old) }
+        ensures full { IfErr result (IsFullOf (full self.new)) }
+        ensures words { Self.words self.new ≡ Self.words self.old }
+        ensures kept { Self.kept self.new ≡ Self.kept self.old };
+
+    /// Writes one word of a page that was taken in this write.
+    fn fill(&mut self, page: u64, i: usize, word: u64)
+        requires open { IsTrue (Self.is_open (Self.kept self.old)) }
+        requires taken { IsTrue (is_taken (Self.standing self.old page)) }
+        requires in_page { i < 512 }
+        ensures standing { StandsAt (Self.standing self.old) (Self.standing self.new) page Filled }
+        ensures place { (j : ℕ) → Self.words self.new page j ≡ (if j == i then word else Self.words self.old page j) }
+        ensures others { (q : ℕ) → q ≢ page → Self.words self.new q ≡ Self.words self.old q }
+        ensures kept { Self.kept self.new ≡ Self.kept self.old };
+
+    /// Gives a page up. One that was taken in this write is free at once; any other keeps its words until the write is kept.
+    fn give_up(&mut self, page: u64)
+        requires open { IsTrue (Self.is_open (Self.kept self.old)) }
+        requires held { IsTrue (is_held (Self.standing self.old page)) }
+        ensures standing { StandsAt (Self.standing self.old) (Self.standing self.new) page (after_give_up (Self.standing self.old page)) }
+        ensures words { Self.words self.new ≡ Self.words self.old }
+        ensures kept { Self.kept self.new ≡ Self.kept self.old };
+}

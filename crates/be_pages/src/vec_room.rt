@@ -1,0 +1,122 @@
+//! A room in memory: a pool's places, and the words of its pages one page after another. It stands for a table in
+//! tests, and where one thread alone reads and writes.
+ghost use Rattle.std.specs.Prelude.{◌≡◌, ◌≢◌, ℕ, ◌<◌, ◌≤◌, ◌*◌, false, length, vec_len, count_by, slice_index, IfOk, IfErr, OnErr, ◌^◌};
+ghost use Rattle.be_pages.specs.declared.room.Standing.TheVariants.{Free, Taken};
+ghost use Rattle.be_pages.specs.Pages.{StandsAt, after_keep, after_undo, is_free};
+ghost use Rattle.be_pages.specs.PagePool.{places};
+ghost use Rattle.be_pages.specs.Place.{is_retired, place_of};
+ghost use Rattle.be_pages.specs.Refusal.{IsFullOf, IsLimitOrMemory};
+ghost use Rattle.be_pages.specs.VecRoom.{NoneFree, standing_in, standings, word_in};
+
+use crate::page_pool::PagePool;
+use crate::room::{Look, Room, Standing};
+use be_value::Refusal;
+use std::alloc::{AllocError, Global};
+
+/// A pool of 8 to 16,384 pages in memory. Its write is always open.
+#[derive(Drop)]
+pub struct VecRoom {
+    words: Vec<u64>,
+    pool: PagePool,
+    ghost pages_fit: { vec_len words ≡ length (places pool) * 512 },
+    ghost at_most: { length (places pool) ≤ 16384 },
+    ghost unretired: { (q : ℕ) → is_retired (place_of (places pool) q) ≡ false },
+}
+
+impl Look for VecRoom {
+    ghost use Rattle.std.specs.Prelude.{ℕ, length, true};
+    ghost use Rattle.be_pages.specs.PagePool.{places};
+    ghost use Rattle.be_pages.specs.VecRoom.{standing_in, word_in, small_in};
+
+    ghost Kept = { ℕ };
+
+    ghost kept = { λ r. length (places r.pool) };
+
+    ghost is_open = { λ _. true };
+
+    ghost standing = { λ r q. standing_in (places r.pool) q };
+
+    ghost words = { λ r q i. word_in r.words.items q i };
+
+    ghost pages_small = { λ r q some. small_in (places r.pool) q r.at_most some };
+
+    fn word(&mut self, page: u64, i: usize) -> u64 {
+        self.words[page as usize * 512 + i]
+    }
+}
+
+impl Room for VecRoom {
+    ghost use Rattle.be_pages.specs.PagePool.{places};
+    ghost use Rattle.be_pages.specs.VecRoom.{NoneFree};
+
+    ghost full = { λ r least. (least ≡ 0) × NoneFree (places r.pool) };
+
+    #[tactic(auto, using(crate::proofs::Rooms::stands_set, crate::proofs::Rooms::unretired_set, crate::proofs::Rooms::busy_place))]
+    fn take(&mut self) -> Result<u64, Refusal> {
+        match self.pool.take() {
+            Some(page) => Ok(page),
+            None => Err(Refusal::Full(0)),
+        }
+    }
+
+    #[tactic(auto, using(crate::proofs::Rooms::stands_set, crate::proofs::Rooms::unretired_set, crate::proofs::Rooms::taken_in_hand, crate::proofs::Rooms::taken_inside))]
+    fn fill(&mut self, page: u64, i: usize, word: u64) {
+        self.words[page as usize * 512 + i] = word;
+        self.pool.fill(page);
+    }
+
+    fn give_up(&mut self, page: u64) {
+        self.pool.give_up(page);
+    }
+}
+
+impl VecRoom {
+    /// A room whose pages are all free. `BadLimits` for a number of pages out of its range, else `OutOfMemory` where a
+    /// growth was refused.
+    pub fn new(alloc: Global, pages: u64) -> Result<VecRoom, Refusal>
+        ensures ok { IfOk result (λ r. (8 ≤ pages) × (pages ≤ 16384) × (⟦<VecRoom as Look>⟧.kept r ≡ pages)) }
+        ensures free { IfOk result (λ r. (q : ℕ) → ⟦<VecRoom as Look>⟧.standing r q ≡ Free) }
+        ensures err { IfErr result (IsLimitOrMemory pages) }
+    {
+        if pages < 8 || pages > 16384 {
+            return Err(Refusal::BadLimits);
+        }
+        VecRoom::of_pages(alloc, pages as usize).map_err(|_| Refusal::OutOfMemory)
+    }
+
+    fn of_pages(alloc: Global, pages: usize) -> Result<VecRoom, AllocError>
+        requires { pages ≤ 16384 }
+        ensures pages { IfOk result (λ r. length (places r.pool) ≡ pages) }
+        ensures free { IfOk result (λ r. (q : ℕ) → standing_in (places r.pool) q ≡ Free) }
+    {
+        let words = vec![in alloc; 0; pages * 512]?;
+        let pool = PagePool::new(alloc, pages, 0)?;
+        Ok(VecRoom { words, pool })
+    }
+
+    /// The write is kept: pages that it gave up are free, and pages that it took stay. Costs what the write touched.
+    pub fn keep(&mut self)
+        ensures standing { (q : ℕ) → ⟦<VecRoom as Look>⟧.standing self.new q ≡ after_keep (⟦<VecRoom as Look>⟧.standing self.old q) }
+        ensures words { ⟦<VecRoom as Look>⟧.words self.new ≡ ⟦<VecRoom as Look>⟧.words self.old }
+        ensures kept { ⟦<VecRoom as Look>⟧.kept self.new ≡ ⟦<VecRoom as Look>⟧.kept self.old }
+    {
+        self.pool.keep();
+    }
+
+    /// The write is undone: pages that it took are free, and pages that it gave up stand.
+    pub fn undo(&mut self)
+        ensures standing { (q : ℕ) → ⟦<VecRoom as Look>⟧.standing self.new q ≡ after_undo (⟦<VecRoom as Look>⟧.standing self.old q) }
+        ensures words { ⟦<VecRoom as Look>⟧.words self.new ≡ ⟦<VecRoom as Look>⟧.words self.old }
+        ensures kept { ⟦<VecRoom as Look>⟧.kept self.new ≡ ⟦<VecRoom as Look>⟧.kept self.old }
+    {
+        self.pool.undo();
+    }
+
+    /// How many pages are free.
+    #[tactic(auto, using(crate::proofs::Rooms::count_free))]
+    pub fn free(&self) -> u64
+        ensures { result ≡ count_by is_free (standings (places self.now.pool)) }
+    {
+        self.pool.free() as u64
+    }
+}

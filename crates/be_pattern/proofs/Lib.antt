@@ -1,0 +1,5 @@
+pub mod Scan
+pub mod Tokens
+pub mod Texts
+pub mod Back
+pub mod Drawn

@@ -1,0 +1,63 @@
+-- What the code has read of a pattern's text, as the definitions see it. It serves the proofs alone: `Parse` says what a text means.
+use Rattle.std.specs.Prelude.{ℕ, ◌+◌, ◌-◌, zero, suc, Bool, true, false, Option, Some, None, List, [], ◌∷◌, length, drop, ◌&&◌, not, if◌then◌else◌}
+use Rattle.std.specs.List.{list_any, before_first}
+use Rattle.std.specs.Str.{chars}
+use Rattle.be_pattern.specs.declared.parsing.Letter as code
+use Rattle.be_pattern.specs.Match.{Part, Run, One, Only}
+use Rattle.be_pattern.specs.Parse.{Letter, letters, ending_backslash, is_plain, members, set_with}
+
+abbrev pub letter_of : ℕ → code.Letter → Letter
+letter_of at l = record { at = at; escaped = l.escaped; char = l.char }
+
+-- the letters of the end of a text of so many bytes
+abbrev pub letters_in : ℕ → List ℕ → List Letter
+letters_in total rest = letters false (total - length rest) (chars rest)
+
+abbrev pub ending_in : ℕ → List ℕ → Option ℕ
+ending_in total rest = ending_backslash false (total - length rest) (chars rest)
+
+-- where so many last bytes begin, if there are any
+abbrev pub ending_of : ℕ → ℕ → Option ℕ
+ending_of total zero = None
+ending_of total (suc n) = Some (total - suc n)
+
+-- the last character of a range, and the letters behind it, where a `-` and that character stand first
+abbrev pub dashed : List Letter → Option (ℕ × List Letter)
+dashed [] = None
+dashed (d ∷ []) = None
+dashed (d ∷ e ∷ ls) = if is_plain 45 d && not (is_plain 93 e) then Some (e.char, ls) else None
+
+abbrev pub end_or : ℕ × List Letter → Option (ℕ × List Letter) → ℕ × List Letter
+end_or single None = single
+end_or single (Some p) = p
+
+-- the last character of a member that begins with this one, and the letters behind it
+abbrev pub member_end : ℕ → List Letter → ℕ × List Letter
+member_end c ls = end_or (c, ls) (dashed ls)
+
+-- the members up to the first plain `]`, and the letters behind that
+abbrev pub members_behind : List Letter → Option (List (ℕ × ℕ) × List Letter)
+members_behind ls =
+    let body = before_first (is_plain 93) ls in
+    if list_any (is_plain 93) ls then Some (members body, drop (length body + 1) ls) else None
+
+abbrev pub with_rest : List Letter → Option Part → Option (Part × List Letter)
+with_rest rest None = None
+with_rest rest (Some p) = Some (p, rest)
+
+abbrev pub with_members : Bool → Option (List (ℕ × ℕ) × List Letter) → Option (Part × List Letter)
+with_members negated None = None
+with_members negated (Some p) = with_rest p.1 (set_with negated p.0)
+
+-- the set behind a `[`, and the letters behind it
+abbrev pub set_behind : List Letter → Option (Part × List Letter)
+set_behind [] = None
+set_behind (l ∷ ls) = if is_plain 94 l then with_members true (members_behind ls) else with_members false (members_behind (l ∷ ls))
+
+-- the token that begins with a letter, and the letters behind it
+abbrev pub token_at : Letter → List Letter → Option (Part × List Letter)
+token_at l ls =
+    if is_plain 42 l then Some (Run, ls)
+    else (if is_plain 63 l then Some (One, ls)
+    else (if is_plain 91 l then set_behind ls
+    else Some (Only l.char, ls)))

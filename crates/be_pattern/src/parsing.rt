@@ -1,0 +1,221 @@
+//! Reading a pattern's text, letter by letter: a letter is a character, with a backslash before it or without.
+ghost use Rattle.std.specs.Prelude.{◌≡◌, ◌<◌, ◌≤◌, ◌-◌, ◌∷◌, ℕ, [], true, false, length, Ok, Some, None, IfOk, IfErr, IfSome, IfNone, MatchOption};
+ghost use Rattle.std.specs.List.{list_any};
+ghost use Rattle.std.specs.Str.{chars};
+ghost use Rattle.be_pattern.specs.Match.{part_of, parts_of};
+ghost use Rattle.be_pattern.specs.Parse.{pattern, IsFault, is_plain, falls, are_members};
+ghost use Rattle.be_pattern.specs.Letters.{letters_in, ending_in, ending_of, letter_of, dashed, member_end, with_members, members_behind, set_behind, token_at};
+
+use crate::matching::split_first_char;
+use crate::token::Token;
+use be_value::Refusal;
+use std::alloc::{AllocError, Global};
+
+/// A character of a pattern's text.
+#[derive(Clone, Copy)]
+struct Letter {
+    escaped: bool,
+    char: char,
+}
+
+impl Letter {
+    /// Whether the letter is this character, with no backslash.
+    fn is_plain(self, c: char) -> bool
+        ensures { (at : ℕ) → is_plain c (letter_of at self) ≡ result }
+    {
+        self.char == c && !self.escaped
+    }
+}
+
+/// The first letter and the text after it. There is none at the end, and none of an ending backslash.
+fn split_letter(text: &str) -> Option<(Letter, &str)>
+    ensures some { IfSome result (λ p. (total : ℕ) → length text.now ≤ total → letters_in total text.now ≡ letter_of (total - length text.now) p.0 ∷ letters_in total p.1.now) }
+    ensures ending { IfSome result (λ p. (total : ℕ) → length text.now ≤ total → ending_in total text.now ≡ ending_in total p.1.now) }
+    ensures none { IfNone result ((total : ℕ) → letters_in total text.now ≡ []) }
+    ensures end { IfNone result ((total : ℕ) → ending_in total text.now ≡ ending_of total (length text.now)) }
+    ensures shorter { IfSome result (λ p. length p.1.now < length text.now) }
+{
+    let Some((char, rest)) = split_first_char(text) else {
+        return None;
+    };
+    if char != '\\' {
+        return Some((
+            Letter {
+                escaped: false,
+                char,
+            },
+            rest,
+        ));
+    }
+    let Some((char, rest)) = split_first_char(rest) else {
+        return None;
+    };
+    Some((
+        Letter {
+            escaped: true,
+            char,
+        },
+        rest,
+    ))
+}
+
+/// The text behind the last letter: empty, or an ending backslash.
+fn behind_letters(text: &str) -> &str
+    ensures within { length result.now ≤ length text.now }
+    ensures ending { (total : ℕ) → length text.now ≤ total → ending_in total text.now ≡ ending_of total (length result.now) }
+{
+    let mut rest = text;
+    'behind: while let Some((_, after)) = split_letter(rest) {
+        rest = after;
+    }
+    rest
+}
+
+/// The tokens of a pattern's text.
+pub(crate) fn parse(alloc: Global, text: &str) -> Result<Vec<Token>, Refusal>
+    ensures ok { IfOk result (λ v. pattern (chars text.now) ≡ Ok (parts_of v.items)) }
+    ensures err { IfErr result (IsFault (pattern (chars text.now)) (length text.now)) }
+{
+    let ending = behind_letters(text).len();
+    if ending != 0 {
+        return Err(Refusal::BadPattern(text.len() - ending));
+    }
+    let mut tokens = Vec::new(alloc);
+    let mut rest = text;
+    'tokens: while let Some((letter, after)) = split_letter(rest) {
+        let Some((token, behind)) = read_token(alloc, letter, after)? else {
+            return Err(Refusal::BadPattern(text.len() - rest.len()));
+        };
+        tokens.push(token)?;
+        rest = behind;
+    }
+    Ok(tokens)
+}
+
+/// The token that begins with a letter, and the text behind it, or nothing where it is a faulty set.
+fn read_token(
+    alloc: Global,
+    letter: Letter,
+    text: &str,
+) -> Result<Option<(Token, &str)>, AllocError>
+    ensures token { IfOk result (λ o. (at : ℕ) (total : ℕ) → length text.now ≤ total → MatchOption o
+        (token_at (letter_of at letter) (letters_in total text.now) ≡ None)
+        (λ p. token_at (letter_of at letter) (letters_in total text.now) ≡ Some (part_of p.0, letters_in total p.1.now))) }
+    ensures within { IfOk result (λ o. IfSome o (λ p. length p.1.now ≤ length text.now)) }
+{
+    if letter.is_plain('*') {
+        return Ok(Some((Token::AnyRun, text)));
+    }
+    if letter.is_plain('?') {
+        return Ok(Some((Token::AnyOne, text)));
+    }
+    if letter.is_plain('[') {
+        return read_set(alloc, text);
+    }
+    let char = letter.char;
+    Ok(Some((Token::Literal(char), text)))
+}
+
+/// The text behind a `^` that stands first.
+fn split_caret(text: &str) -> Option<&str>
+    ensures some { IfSome result (λ after. (total : ℕ) → length text.now ≤ total → set_behind (letters_in total text.now) ≡ with_members true (members_behind (letters_in total after.now))) }
+    ensures none { IfNone result ((total : ℕ) → length text.now ≤ total → set_behind (letters_in total text.now) ≡ with_members false (members_behind (letters_in total text.now))) }
+    ensures shorter { IfSome result (λ after. length after.now ≤ length text.now) }
+{
+    let Some((letter, after)) = split_letter(text) else {
+        return None;
+    };
+    if letter.is_plain('^') {
+        Some(after)
+    } else {
+        None
+    }
+}
+
+/// The set behind a `[`, and the text behind its `]`, or nothing where it is faulty.
+fn read_set(alloc: Global, text: &str) -> Result<Option<(Token, &str)>, AllocError>
+    ensures set { IfOk result (λ o. (total : ℕ) → length text.now ≤ total → MatchOption o
+        (set_behind (letters_in total text.now) ≡ None)
+        (λ p. set_behind (letters_in total text.now) ≡ Some (part_of p.0, letters_in total p.1.now))) }
+    ensures within { IfOk result (λ o. IfSome o (λ p. length p.1.now ≤ length text.now)) }
+{
+    match split_caret(text) {
+        Some(after) => read_members(alloc, true, after),
+        None => read_members(alloc, false, text),
+    }
+}
+
+/// The set whose members stand at the front of a text, and the text behind its `]`, or nothing where it is faulty.
+fn read_members(
+    alloc: Global,
+    negated: bool,
+    text: &str,
+) -> Result<Option<(Token, &str)>, AllocError>
+    ensures set { IfOk result (λ o. (total : ℕ) → length text.now ≤ total → MatchOption o
+        (with_members negated (members_behind (letters_in total text.now)) ≡ None)
+        (λ p. with_members negated (members_behind (letters_in total text.now)) ≡ Some (part_of p.0, letters_in total p.1.now))) }
+    ensures within { IfOk result (λ o. IfSome o (λ p. length p.1.now ≤ length text.now)) }
+{
+    let mut members = Vec::new(alloc);
+    let mut rest = text;
+    'members: while let Some((first, after)) = split_letter(rest) {
+        if first.is_plain(']') {
+            if !are_members(&members) {
+                return Ok(None);
+            }
+            return Ok(Some((Token::Set { negated, members }, after)));
+        }
+        let first = first.char;
+        let (last, behind) = range_end(first, after);
+        members.push((first, last))?;
+        rest = behind;
+    }
+    Ok(None)
+}
+
+/// The last character of a range that goes on at the front of a text, and the text behind it.
+fn split_range(text: &str) -> Option<(char, &str)>
+    ensures none { IfNone result ((total : ℕ) → length text.now ≤ total → dashed (letters_in total text.now) ≡ None) }
+    ensures some { IfSome result (λ p. (total : ℕ) → length text.now ≤ total → dashed (letters_in total text.now) ≡ Some (p.0, letters_in total p.1.now)) }
+    ensures within { IfSome result (λ p. length p.1.now ≤ length text.now) }
+{
+    let Some((dash, after)) = split_letter(text) else {
+        return None;
+    };
+    if !dash.is_plain('-') {
+        return None;
+    }
+    let Some((last, behind)) = split_letter(after) else {
+        return None;
+    };
+    if last.is_plain(']') {
+        return None;
+    }
+    let last = last.char;
+    Some((last, behind))
+}
+
+/// The last character of a member that begins with this one, and the text behind the member.
+fn range_end(first: char, text: &str) -> (char, &str)
+    ensures end { (total : ℕ) → length text.now ≤ total → member_end first (letters_in total text.now) ≡ (result.0, letters_in total result.1.now) }
+    ensures within { length result.1.now ≤ length text.now }
+{
+    match split_range(text) {
+        Some(end) => end,
+        None => (first, text),
+    }
+}
+
+/// Whether the ranges are some, and none ends before it begins.
+fn are_members(members: &[(char, char)]) -> bool
+    ensures { result ≡ are_members members.now }
+{
+    !members.is_empty() && !falls(members)
+}
+
+/// Whether one of the ranges ends before it begins.
+fn falls(members: &[(char, char)]) -> bool
+    ensures { result ≡ falls members.now }
+{
+    members.iter().any(|m| m.1 < m.0)
+}

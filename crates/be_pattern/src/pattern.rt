@@ -1,0 +1,116 @@
+//! A pattern, and what its callers see of it.
+ghost use Rattle.std.specs.Prelude.{◌≡◌, ◌++◌, map, length, Ok, Err, IfOk, IfErr, string_bytes, encode_utf8_all};
+ghost use Rattle.std.specs.Str.{chars};
+ghost use Rattle.be_value.specs.declared.refusals.Refusal.TheVariants.{OutOfMemory};
+ghost use Rattle.be_pattern.specs.Canonical.{around, run_if, canonical, is_plain, literal_prefix};
+ghost use Rattle.be_pattern.specs.Match.{Only, matches, parts_of};
+ghost use Rattle.be_pattern.specs.Parse.{pattern, IsFault};
+
+use crate::matching::split_first_char;
+use crate::token::Token;
+use crate::{matching, parsing, printing};
+use be_value::Refusal;
+use std::alloc::{AllocError, Global};
+use std::marker::Model;
+
+/// A pattern over characters. A contract sees its tokens, without where they lie in memory.
+#[derive(Debug, Drop)]
+pub struct Pattern {
+    tokens: Vec<Token>,
+    /// The literal characters before the first wildcard.
+    prefix: String,
+}
+
+impl Model for Pattern {
+    ghost use Rattle.std.specs.Prelude.{◌≡◌, List, string_bytes, encode_utf8_all};
+    ghost use Rattle.be_pattern.specs.Canonical.{literal_prefix};
+    ghost use Rattle.be_pattern.specs.Match.{Part, parts_of};
+
+    ghost Value = { List Part };
+
+    ghost view = { λ p. parts_of p.tokens.items };
+
+    ghost invariant = { λ p. string_bytes p.prefix ≡ encode_utf8_all (literal_prefix (parts_of p.tokens.items)) };
+}
+
+impl Pattern {
+    /// Reads a pattern. The place of a fault is in bytes: of the `[` of the first faulty set (one without its `]` or
+    /// without members, or with a range that falls), or of a backslash with nothing behind it, which is looked for
+    /// first. It asks for memory a few times for each token.
+    pub fn parse(alloc: Global, text: &str) -> Result<Pattern, Refusal>
+        // The tokens are those that the text spells.
+        ensures ok { IfOk result (λ p. pattern (chars text.now) ≡ Ok p) }
+        // A bad pattern is told by the place of its fault, unless memory runs out.
+        ensures err { IfErr result (IsFault (pattern (chars text.now)) (length text.now)) }
+    {
+        let tokens = parsing::parse(alloc, text)?;
+        let prefix = printing::prefix(alloc, &tokens)?;
+        Ok(Pattern { tokens, prefix })
+    }
+
+    /// The pattern of a text whose characters are all literal, with a `*` before it and behind it where asked for.
+    pub fn around(alloc: Global, before: bool, text: &str, behind: bool) -> Result<Pattern, Refusal>
+        ensures ok { IfOk result (λ p. p ≡ around before (chars text.now) behind) }
+        ensures err { IfErr result (λ e. e ≡ OutOfMemory) }
+    {
+        let tokens = push_run(Vec::new(alloc), before)?;
+        let tokens = push_literals(tokens, text)?;
+        let tokens = push_run(tokens, behind)?;
+        let prefix = printing::prefix(alloc, &tokens)?;
+        Ok(Pattern { tokens, prefix })
+    }
+
+    /// Whether the pattern matches the whole text. It takes no memory, and mostly one step a character: at worst the
+    /// text's characters times the tokens behind the last `*`.
+    pub fn matches(&self, text: &str) -> bool
+        ensures { result ≡ matches self.now (chars text.now) }
+    {
+        matching::matches(&self.tokens, text)
+    }
+
+    /// Whether there is no wildcard, so that the pattern matches one text alone.
+    pub fn is_plain(&self) -> bool
+        ensures { result ≡ is_plain self.now }
+    {
+        printing::is_plain(&self.tokens)
+    }
+
+    /// The literal characters before the first wildcard, with which every text that it matches begins.
+    pub fn prefix(&self) -> &str
+        ensures { result.now ≡ encode_utf8_all (literal_prefix self.now) }
+    {
+        &self.prefix
+    }
+
+    /// The canonical text, which spells the same tokens (`laws::canonical`): members of sets stand in the order
+    /// written, and a backslash stands only before a character that would mean something else without it, and `"`.
+    pub fn canonical(&self, alloc: Global) -> Result<String, Refusal>
+        ensures ok { IfOk result (λ s. string_bytes s ≡ encode_utf8_all (canonical self.now)) }
+        ensures err { IfErr result (λ e. e ≡ OutOfMemory) }
+    {
+        Ok(printing::canonical(alloc, &self.tokens)?)
+    }
+}
+
+/// The tokens with a `*` more, where it stands.
+fn push_run(mut tokens: Vec<Token>, stands: bool) -> Result<Vec<Token>, AllocError>
+    ensures { IfOk result (λ v. parts_of v.items ≡ parts_of tokens.items ++ run_if stands) }
+{
+    if !stands {
+        return Ok(tokens);
+    }
+    tokens.push(Token::AnyRun)?;
+    Ok(tokens)
+}
+
+/// The tokens with the characters of a text behind them.
+fn push_literals(mut tokens: Vec<Token>, text: &str) -> Result<Vec<Token>, AllocError>
+    ensures { IfOk result (λ v. parts_of v.items ≡ parts_of tokens.items ++ map Only (chars text.now)) }
+{
+    let mut rest = text;
+    'characters: while let Some((c, after)) = split_first_char(rest) {
+        tokens.push(Token::Literal(c))?;
+        rest = after;
+    }
+    Ok(tokens)
+}

@@ -1,0 +1,150 @@
+//! A pattern's canonical text, and its literal front.
+ghost use Rattle.std.specs.Prelude.{◌≡◌, ◌++◌, ◌∷◌, ◌<◌, [], length, IfOk, IfNone, IfSome, string_bytes, encode_utf8_all};
+ghost use Rattle.std.specs.List.{flat_map};
+ghost use Rattle.be_pattern.specs.Match.{Only, part_of, parts_of};
+ghost use Rattle.be_pattern.specs.Canonical.{canonical, is_literal, is_plain, is_special, is_special_in_set, marked, member, member_char, opening, part_text, literal_prefix};
+
+use crate::token::Token;
+use std::alloc::{AllocError, Global};
+
+/// Whether the token is a literal character.
+fn is_literal(token: &Token) -> bool
+    ensures { result ≡ is_literal (part_of token.now) }
+{
+    match token {
+        Token::Literal(_) => true,
+        Token::AnyRun
+        | Token::AnyOne
+        | Token::Set {
+            negated: _,
+            members: _,
+        } => false,
+    }
+}
+
+/// Whether there is no wildcard.
+pub(crate) fn is_plain(tokens: &[Token]) -> bool
+    ensures { result ≡ is_plain (parts_of tokens.now) }
+{
+    let mut rest = tokens;
+    'tokens: while let Some((first, after)) = rest.split_first() {
+        if !is_literal(first) {
+            return false;
+        }
+        rest = after;
+    }
+    true
+}
+
+/// The first token's character and the tokens behind it, if that token is literal.
+fn split_literal(tokens: &[Token]) -> Option<(char, &[Token])>
+    ensures some { IfSome result (λ p. parts_of tokens.now ≡ Only p.0 ∷ parts_of p.1.now) }
+    ensures none { IfNone result (literal_prefix (parts_of tokens.now) ≡ []) }
+    ensures shorter { IfSome result (λ p. length p.1.now < length tokens.now) }
+{
+    match tokens.split_first() {
+        Some((Token::Literal(c), after)) => Some((*c, after)),
+        _ => None,
+    }
+}
+
+/// The literal characters before the first wildcard.
+pub(crate) fn prefix(alloc: Global, tokens: &[Token]) -> Result<String, AllocError>
+    ensures { IfOk result (λ s. string_bytes s ≡ encode_utf8_all (literal_prefix (parts_of tokens.now))) }
+{
+    let mut text = String::new(alloc);
+    let mut rest = tokens;
+    'literals: while let Some((c, after)) = split_literal(rest) {
+        text.push(c)?;
+        rest = after;
+    }
+    Ok(text)
+}
+
+/// The canonical text.
+pub(crate) fn canonical(alloc: Global, tokens: &[Token]) -> Result<String, AllocError>
+    ensures { IfOk result (λ s. string_bytes s ≡ encode_utf8_all (canonical (parts_of tokens.now))) }
+{
+    let mut text = String::new(alloc);
+    let mut rest = tokens;
+    'tokens: while let Some((token, after)) = rest.split_first() {
+        push_token(&mut text, token)?;
+        rest = after;
+    }
+    Ok(text)
+}
+
+/// Appends the text of a token.
+fn push_token(text: &mut String, token: &Token) -> Result<(), AllocError>
+    ensures { IfOk result (λ _. string_bytes text.new ≡ string_bytes text.old ++ encode_utf8_all (part_text (part_of token.now))) }
+{
+    match token {
+        Token::AnyRun => text.push('*'),
+        Token::AnyOne => text.push('?'),
+        Token::Set { negated, members } => push_set(text, *negated, members),
+        Token::Literal(c) => push_marked(text, *c, is_special(*c)),
+    }
+}
+
+/// Whether a literal character is printed with a backslash.
+fn is_special(c: char) -> bool
+    ensures { result ≡ is_special c }
+{
+    c == '"' || c == '\\' || c == '*' || c == '?' || c == '['
+}
+
+/// Whether a character of a set is printed with a backslash.
+fn is_special_in_set(c: char) -> bool
+    ensures { result ≡ is_special_in_set c }
+{
+    c == '"' || c == '\\' || c == '[' || c == ']' || c == '^' || c == '-'
+}
+
+/// Appends a character, behind a backslash where it wants one.
+fn push_marked(text: &mut String, c: char, backslash: bool) -> Result<(), AllocError>
+    ensures { IfOk result (λ _. string_bytes text.new ≡ string_bytes text.old ++ encode_utf8_all (marked backslash c)) }
+{
+    if !backslash {
+        return text.push(c);
+    }
+    text.push('\\')?;
+    text.push(c)
+}
+
+/// Appends a set.
+fn push_set(text: &mut String, negated: bool, members: &[(char, char)]) -> Result<(), AllocError>
+    ensures { IfOk result (λ _. string_bytes text.new ≡ string_bytes text.old ++ encode_utf8_all (opening negated ++ (flat_map member members.now ++ 93 ∷ []))) }
+{
+    push_opening(text, negated)?;
+    let mut rest = members;
+    'members: while let Some((first, after)) = rest.split_first() {
+        push_member(text, *first)?;
+        rest = after;
+    }
+    text.push(']')?;
+    Ok(())
+}
+
+/// Appends what a set begins with.
+fn push_opening(text: &mut String, negated: bool) -> Result<(), AllocError>
+    ensures { IfOk result (λ _. string_bytes text.new ≡ string_bytes text.old ++ encode_utf8_all (opening negated)) }
+{
+    if negated {
+        return text.push_str("[^");
+    }
+    text.push('[')
+}
+
+/// Appends a member of a set.
+fn push_member(text: &mut String, range: (char, char)) -> Result<(), AllocError>
+    ensures { IfOk result (λ _. string_bytes text.new ≡ string_bytes text.old ++ encode_utf8_all (member range)) }
+{
+    let (first, last) = range;
+    push_marked(text, first, is_special_in_set(first))?;
+    if first == last {
+        return Ok(());
+    }
+    text.push('-')?;
+    push_marked(text, last, is_special_in_set(last))?;
+    Ok(())
+}

@@ -1,0 +1,91 @@
+-- What the walks of picks that cover have collected is the scan.
+use Rattle.std.proofs.Common.{◌≡◌, ◌<◌, ◌+◌, IsTrue, ℕ, zero, suc, slice_index, Bool, true, false, List, [], ◌∷◌, length, nat_eq, refl, sym, ap, ◌∙◌, arith, Some, None, filter, is_some, if◌then◌else◌}
+use Rattle.std.specs.Prelude.{slice_get}
+use Rattle.std.specs.List.{list_any, list_all}
+use Rattle.std.specs.List.Sorted.{IsStrictlyIncreasing}
+use Rattle.std.specs.Option.{option_map_or, option_and_then}
+use Rattle.std.specs.FinMap as map
+use Rattle.std.specs.declared.option.Option.{Option}
+use Rattle.std.specs.declared.result.Result.TheVariants.{Ok, Err}
+use Rattle.be_value.specs.declared.refusals.Refusal.TheVariants.{NotCovered}
+use Rattle.be_value.specs.declared.values.Value.{Value}
+use Rattle.be_query.specs.Grammar.{Formula, Leaf, And, Or, comparisons}
+use Rattle.be_volume.specs.Maps.{Attributes}
+use Rattle.be_volume.specs.Query.{sat, sees, seen_in, scan, has_index}
+use Rattle.be_volume.specs.Reading.{attribute}
+use Rattle.be_volume.specs.Volume.{State}
+use Rattle.be_volume.specs.declared.maps.Index.{Index}
+use Rattle.be_plan.specs.Cover.{Comparison, leaves, covers, covers_part, rests_on}
+use Rattle.be_volume.specs.Sound.{IsSound, IsPaired}
+use Rattle.be_plan.specs.Walk.{AllSatisfy, HasReached}
+use Rattle.be_plan.proofs.Ways.{Way, IsPart, way, is_covered, at_pick, or_cases, and_first, and_second, nat_is}
+use Rattle.be_plan.proofs.Rising.{in_by_place, place_of, same_rising, in_filter, from_filter, rises_filter, rises_increasing, rises_keys}
+
+-- a node with an attribute is there
+has_attribute : (s : State) (node : ℕ) (name : List ℕ) (value : Value) → attribute s node name ≡ Some value → map.contains_key s.nodes node ≡ true
+has_attribute s node name value h = by (map.get s.nodes node) h
+  where
+    by : (found : Option Attributes) → option_and_then (λ attributes. map.get attributes name) found ≡ Some value → is_some found ≡ true
+    by None e = cc
+    by (Some a) e = refl
+
+-- a node of which an indexed name is seen is there
+is_node : (s : State) → IsSound s → (node : ℕ) (name : List ℕ) (value : Value) → has_index s name ≡ true → sees s node name ≡ Some value → map.contains_key s.nodes node ≡ true
+is_node s sound node name value indexed seen = by (map.get s.indices name) refl
+  where
+    by : (i : Option Index) → map.get s.indices name ≡ i → map.contains_key s.nodes node ≡ true
+    by None e = let no : false ≡ true = sym (ap (λ o. is_some o) e) ∙ indexed in cc
+    by (Some index) e =
+        let paired : map.get index.pairs node ≡ Some value = sym (ap (λ o. seen_in o (attribute s node name) node) e) ∙ seen in
+        let p : IsPaired s name index.kind node value = sound.pairs name index node value e paired in
+        has_attribute s node name value p.attribute_is
+
+pub scanned : (s : State) (f : Formula) (picks found : List ℕ) → IsSound s → list_all (rests_on (has_index s) f) picks ≡ true → covers_part picks 0 f ≡ true →
+    IsStrictlyIncreasing found → AllSatisfy s f found → ((p : ℕ) → list_any (nat_eq p) picks ≡ true → HasReached s f p found) → scan s f ≡ Ok found
+scanned s f picks found sound rest covers rising satisfy reached =
+    let part : IsPart f 0 f = λ i h. let e : 0 + i ≡ i = omega arith in ap (slice_get (leaves f)) e in
+    let found_way : (n : ℕ) → sat s f n ≡ true → Way s picks f n 0 f = λ n h. way s n picks f 0 f part covers h in
+    let rests : (n : ℕ) (h : sat s f n ≡ true) → has_index s (found_way n h).picked.name ≡ true = λ n h.
+    sym (ap (λ o. option_map_or (λ (d : Comparison). has_index s d.name) o false) (found_way n h).there) ∙ at_pick (rests_on (has_index s) f) picks (found_way n h).pick rest (found_way n h).is_pick in
+    let answer : List ℕ = filter (sat s f) (map.keys s.nodes) in
+    ap (λ b. if b then Ok (filter (sat s f) (map.keys s.nodes)) else Err NotCovered) (is_covered s picks f rest 0 f part covers)
+    ∙ ap Ok (same_rising (filter (sat s f) (map.keys s.nodes)) found (rises_filter (sat s f) (map.keys s.nodes) (rises_keys s.nodes)) (rises_increasing found rising)
+    (λ n h.
+    let holds : sat s f n ≡ true = (from_filter (sat s f) (map.keys s.nodes) n h).1 in
+    let w : Way s picks f n 0 f = found_way n holds in
+    in_by_place found n (reached w.pick w.is_pick n (record { picked = w.picked; there = w.there; value = w.value; seen = w.seen; allows = w.allows w.picked.name w.value w.seen }) holds))
+    (λ n h.
+    let holds : sat s f n ≡ true = satisfy n (place_of found n h) in
+    let w : Way s picks f n 0 f = found_way n holds in
+    in_filter (sat s f) (map.keys s.nodes) n (sym (map.contains_key-keys s.nodes n) ∙ is_node s sound n w.picked.name w.value (rests n holds) w.seen) holds))
+
+-- what passes at each element passes at this place
+pub at_place : (p : ℕ → Bool) (picks : List ℕ) (k : ℕ) → list_all p picks ≡ true → k < length picks → p (slice_index picks k) ≡ true
+at_place p [] k h lt = absurd (omega arith)
+at_place p (x ∷ picks) zero h lt = and_first (p x) (list_all p picks) h
+at_place p (x ∷ picks) (suc k) h lt = at_place p picks k (and_second (p x) (list_all p picks) h) (omega arith)
+
+-- where a pick stands
+pub pick_place : (picks : List ℕ) (p : ℕ) → list_any (nat_eq p) picks ≡ true → (k : ℕ) × k < length picks × slice_index picks k ≡ p
+pick_place [] p h = cc
+pick_place (x ∷ picks) p h =
+    or_cases (nat_eq p x) (list_any (nat_eq p) picks) h ((k : ℕ) × k < length (x ∷ picks) × slice_index (x ∷ picks) k ≡ p)
+    (λ e. (0, omega arith, sym (nat_is p x e)))
+    (λ e. let later : (k : ℕ) × k < length picks × slice_index picks k ≡ p = pick_place picks p e in (suc later.0, omega (arith, later.1), later.2))
+
+-- no picks cover nothing
+pub some_pick : (picks : List ℕ) (at : ℕ) (f : Formula) → covers_part picks at f ≡ true → 0 < length picks
+some_pick [] at f h = absurd (nothing at f h)
+  where
+    nothing : (at : ℕ) (f : Formula) → covers_part [] at f ≡ true → ⊥
+    nothing at (Leaf name op literal) h = cc
+    nothing at (And a b) h = or_cases (covers_part [] at a) (covers_part [] (at + comparisons a) b) h ⊥ (nothing at a) (nothing (at + comparisons a) b)
+    nothing at (Or a b) h = nothing at a (and_first (covers_part [] at a) (covers_part [] (at + comparisons a) b) h)
+some_pick (x ∷ picks) at f h = omega arith
+
+-- what picks that cover a query are, under other names of the picks and of the query
+pub covers_parts : (s : State) (picks ps : List ℕ) (f h : Formula) → picks ≡ ps → f ≡ h → IsTrue (covers (has_index s) picks f) →
+    (list_all (rests_on (has_index s) h) ps ≡ true) × (covers_part ps 0 h ≡ true)
+covers_parts s picks ps f h e d c =
+    let all : covers (has_index s) ps h ≡ true = ap (λ p. covers (has_index s) p h) (sym e) ∙ ap (λ g. covers (has_index s) picks g) (sym d) ∙ c in
+    (and_first (list_all (rests_on (has_index s) h) ps) (covers_part ps 0 h) all, and_second (list_all (rests_on (has_index s) h) ps) (covers_part ps 0 h) all)

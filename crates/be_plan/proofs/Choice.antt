@@ -1,0 +1,161 @@
+-- The choice covers, and there is none exactly where the query rests on no index.
+use Rattle.std.proofs.Common.{◌≡◌, ◌<◌, zero, suc, length, ◌+◌, ◌⊎◌, inl, inr, ℕ, Bool, true, false, ◌&&◌, ◌||◌, List, [], ◌∷◌, ◌++◌, nat_eq, nat_lt, refl, sym, ap, ◌∙◌, subst, arith, Some, None, add-zero, if◌then◌else◌}
+use Rattle.std.specs.Prelude.{slice_get}
+use Rattle.std.proofs.lemmas.Bool.Decides.{nat_tests}
+use Rattle.std.specs.List.{list_any, list_all}
+use Rattle.std.specs.Option.{option_map_or}
+use Rattle.std.specs.Result.{IfOk, IfErr}
+use Rattle.std.specs.declared.option.Option.{Option}
+use Rattle.std.specs.declared.result.Result.{Result}
+use Rattle.std.specs.declared.result.Result.TheVariants.{Ok, Err}
+use Rattle.be_value.specs.Refusal.{Answers}
+use Rattle.be_value.specs.declared.refusals.Refusal.{Refusal}
+use Rattle.be_value.specs.declared.refusals.Refusal.TheVariants.{OutOfMemory, NotCovered}
+use Rattle.be_query.specs.Grammar.{Formula, Leaf, And, Or, comparisons}
+use Rattle.be_volume.specs.Query.{rests}
+use Rattle.be_plan.specs.Explain.{are_places}
+use Rattle.be_plan.specs.Cover.{Comparison, leaves, covers, covers_part, rests_on, choice, chosen, cheaper, joined, or_not_covered, score_of}
+use Rattle.be_plan.specs.declared.plans.Cover.{Cover}
+use Rattle.be_plan.proofs.Ways.{IsPart, length-leaves, left_part, right_part, or_cases, and_first, and_second}
+
+any_front : (p : ℕ → Bool) (xs ys : List ℕ) → list_any p xs ≡ true → list_any p (xs ++ ys) ≡ true
+any_front p [] ys h = cc
+any_front p (x ∷ xs) ys h = or_cases (p x) (list_any p xs) h (list_any p ((x ∷ xs) ++ ys) ≡ true) (λ e. ap (λ t. t || list_any p (xs ++ ys)) e) (λ e. behind (p x) _ (any_front p xs ys e))
+  where
+    behind : (a b : Bool) → b ≡ true → (a || b) ≡ true
+    behind true b h = refl
+    behind false b h = h
+
+any_back : (p : ℕ → Bool) (xs ys : List ℕ) → list_any p ys ≡ true → list_any p (xs ++ ys) ≡ true
+any_back p [] ys h = h
+any_back p (x ∷ xs) ys h = behind (p x) _ (any_back p xs ys h)
+  where
+    behind : (a b : Bool) → b ≡ true → (a || b) ≡ true
+    behind true b h = refl
+    behind false b h = h
+
+behind : (a b : Bool) → b ≡ true → (a || b) ≡ true
+behind true b h = refl
+behind false b h = h
+
+all_both : (p : ℕ → Bool) (xs ys : List ℕ) → list_all p xs ≡ true → list_all p ys ≡ true → list_all p (xs ++ ys) ≡ true
+all_both p [] ys h g = g
+all_both p (x ∷ xs) ys h g = ap (λ t. t && list_all p (xs ++ ys)) (and_first (p x) (list_all p xs) h) ∙ all_both p xs ys (and_second (p x) (list_all p xs) h) g
+
+-- more picks cover what fewer do
+grows : (ps qs : List ℕ) → ((n : ℕ) → list_any (nat_eq n) ps ≡ true → list_any (nat_eq n) qs ≡ true) → (at : ℕ) (f : Formula) → covers_part ps at f ≡ true → covers_part qs at f ≡ true
+grows ps qs g at (Leaf name op literal) h = g at h
+grows ps qs g at (And a b) h =
+    or_cases (covers_part ps at a) (covers_part ps (at + comparisons a) b) h (covers_part qs at (And a b) ≡ true)
+    (λ e. ap (λ t. t || covers_part qs (at + comparisons a) b) (grows ps qs g at a e)) (λ e. behind (covers_part qs at a) _ (grows ps qs g (at + comparisons a) b e))
+grows ps qs g at (Or a b) h =
+    ap (λ t. t && covers_part qs (at + comparisons a) b) (grows ps qs g at a (and_first (covers_part ps at a) (covers_part ps (at + comparisons a) b) h))
+    ∙ grows ps qs g (at + comparisons a) b (and_second (covers_part ps at a) (covers_part ps (at + comparisons a) b) h)
+
+itself : (n : ℕ) → nat_eq n n ≡ true
+itself n = grind (arith, nat_tests)
+
+module _ (indexed : List ℕ → Bool) (whole : Formula) where
+  -- what a choice for a part is
+  pub record Covering (at : ℕ) (f : Formula) (cover : Cover) : Type 0 where
+    pub rest : rests indexed f ≡ true
+    pub indices : list_all (rests_on indexed whole) cover.picks ≡ true
+    pub part : covers_part cover.picks at f ≡ true
+
+  abbrev pub IsChoice : ℕ → Formula → Option Cover → Type 0
+  IsChoice at f None = rests indexed f ≡ false
+  IsChoice at f (Some cover) = Covering at f cover
+
+  neither : (a b : Bool) → a ≡ false → b ≡ false → (a || b) ≡ false
+  neither true b h g = cc
+  neither false b h g = g
+
+  not_both : (a b : Bool) → b ≡ false → (a && b) ≡ false
+  not_both true b h = h
+  not_both false b h = refl
+
+  to_left : (at : ℕ) (a b : Formula) (cover : Cover) → Covering at a cover → Covering at (And a b) cover
+  to_left at a b cover h = record {
+    rest = ap (λ t. t || rests indexed b) h.rest;
+    indices = h.indices;
+    part = ap (λ t. t || covers_part cover.picks (at + comparisons a) b) h.part;
+  }
+
+  to_right : (at : ℕ) (a b : Formula) (cover : Cover) → Covering (at + comparisons a) b cover → Covering at (And a b) cover
+  to_right at a b cover h = record { rest = behind (rests indexed a) _ h.rest; indices = h.indices; part = behind (covers_part cover.picks at a) _ h.part }
+
+  of_both : (at : ℕ) (a b : Formula) (x y : Option Cover) → IsChoice at a x → IsChoice (at + comparisons a) b y → IsChoice at (And a b) (cheaper x y)
+  of_both at a b None None h g = neither _ _ h g
+  of_both at a b None (Some y) h g = to_right at a b y g
+  of_both at a b (Some x) None h g = to_left at a b x h
+  of_both at a b (Some x) (Some y) h g = by (nat_lt y.score x.score)
+    where
+      by : (t : Bool) → IsChoice at (And a b) (if t then Some y else Some x)
+      by true = to_right at a b y g
+      by false = to_left at a b x h
+
+  of_either : (at : ℕ) (a b : Formula) (x y : Option Cover) → IsChoice at a x → IsChoice (at + comparisons a) b y → IsChoice at (Or a b) (joined x y)
+  of_either at a b None y h g = ap (λ t. t && rests indexed b) h
+  of_either at a b (Some x) None h g = not_both (rests indexed a) _ g
+  of_either at a b (Some x) (Some y) h g = record {
+    rest = ap (λ t. t && rests indexed b) h.rest ∙ g.rest;
+    indices = all_both (rests_on indexed whole) x.picks y.picks h.indices g.indices;
+    part = ap (λ t. t && covers_part (x.picks ++ y.picks) (at + comparisons a) b) (grows x.picks (x.picks ++ y.picks) (λ n. any_front (nat_eq n) x.picks y.picks) at a h.part)
+        ∙ grows y.picks (x.picks ++ y.picks) (λ n. any_back (nat_eq n) x.picks y.picks) (at + comparisons a) b g.part;
+  }
+
+  is_choice : (at : ℕ) (f : Formula) → IsPart whole at f → IsChoice at f (choice indexed at f)
+  is_choice at (Leaf name op literal) part = by (indexed name) refl
+    where
+      by : (t : Bool) → indexed name ≡ t → IsChoice at (Leaf name op literal) (if t then Some (record { picks = at ∷ []; score = score_of op literal }) else None)
+      by false e = e
+      by true e = record {
+        rest = e;
+        indices = ap (λ o. option_map_or (λ (d : Comparison). indexed d.name) o false && true) (ap (slice_get (leaves whole)) (sym (add-zero at)) ∙ part 0 (omega arith)) ∙ ap (λ t. t && true) e;
+        part = ap (λ t. t || false) (itself at);
+      }
+  is_choice at (And a b) part = of_both at a b _ _ (is_choice at a (left_part whole at a b part)) (is_choice (at + comparisons a) b (right_part whole at a b part))
+  is_choice at (Or a b) part = of_either at a b _ _ (is_choice at a (left_part whole at a b part)) (is_choice (at + comparisons a) b (right_part whole at a b part))
+
+-- a place whose comparison has an index is a comparison's place
+below : (indexed : List ℕ → Bool) (xs : List Comparison) (p : ℕ) → option_map_or (λ c. indexed c.name) (slice_get xs p) false ≡ true → p < length xs
+below indexed [] p h = cc
+below indexed (x ∷ xs) zero h = omega arith
+below indexed (x ∷ xs) (suc p) h = omega (arith, below indexed xs p h)
+
+less : (n m : ℕ) → n < m → nat_lt n m ≡ true
+less n m h = grind (arith, nat_tests)
+
+-- picks that rest on indices are places of comparisons
+pub placed : (indexed : List ℕ → Bool) (f : Formula) (picks : List ℕ) → list_all (rests_on indexed f) picks ≡ true → are_places f picks ≡ true
+placed indexed f [] h = refl
+placed indexed f (p ∷ picks) h =
+    let here : p < length (leaves f) = below indexed (leaves f) p (and_first (rests_on indexed f p) (list_all (rests_on indexed f) picks) h) in
+    ap (λ t. t && are_places f picks) (less p (comparisons f) (omega (arith, length-leaves f)))
+    ∙ placed indexed f picks (and_second (rests_on indexed f p) (list_all (rests_on indexed f) picks) h)
+
+-- picks that cover are places
+pub covers_placed : (indexed : List ℕ → Bool) (f : Formula) (picks : List ℕ) → covers indexed picks f ≡ true → are_places f picks ≡ true
+covers_placed indexed f picks h = placed indexed f picks (and_first (list_all (rests_on indexed f) picks) (covers_part picks 0 f) h)
+
+whole_part : (f : Formula) → IsPart f 0 f
+whole_part f i h = let e : 0 + i ≡ i = omega arith in ap (slice_get (leaves f)) e
+
+-- what an answered choice tells
+pub choice_told : (indexed : List ℕ → Bool) (f : Formula) (result : Result Cover Refusal) → Answers (λ cover. cover) result (chosen indexed f) →
+    IfOk result (λ cover. (covers indexed cover.picks f ≡ true) × (rests indexed f ≡ true))
+    × IfErr result (λ e. (e ≡ OutOfMemory) ⊎ ((e ≡ NotCovered) × (rests indexed f ≡ false)))
+choice_told indexed f result answers = by result (choice indexed 0 f) (is_choice indexed f 0 f (whole_part f)) answers
+  where
+    by : (r : Result Cover Refusal) (c : Option Cover) → IsChoice indexed f 0 f c → Answers (λ cover. cover) r (or_not_covered c) →
+        IfOk r (λ cover. (covers indexed cover.picks f ≡ true) × (rests indexed f ≡ true))
+        × IfErr r (λ e. (e ≡ OutOfMemory) ⊎ ((e ≡ NotCovered) × (rests indexed f ≡ false)))
+    by (Ok x) None is a = cc
+    by (Ok x) (Some c) is a =
+        let same : c ≡ x = cc in
+        let P : Cover → Type 0 = λ d. covers indexed d.picks f ≡ true in
+        ((subst P same (ap (λ t. t && covers_part c.picks 0 f) is.indices ∙ is.part), is.rest), tt)
+    by (Err e) None is (inl memory) = (tt, inl memory)
+    by (Err e) None is (inr same) = let named : e ≡ NotCovered = cc in (tt, inr (named, is))
+    by (Err e) (Some c) is (inl memory) = (tt, inl memory)
+    by (Err e) (Some c) is (inr same) = cc

@@ -1,0 +1,10 @@
+pub mod Answering
+pub mod Bounds
+pub mod Choice
+pub mod Listed
+pub mod Passing
+pub mod Prefixes
+pub mod Reaching
+pub mod Rising
+pub mod Seen
+pub mod Ways

@@ -1,0 +1,48 @@
+-- Which nodes a walk for a pick reaches.
+use Rattle.std.proofs.Common.{◌≡◌, ℕ, true, List, refl, sym, ap, ◌∙◌, subst, Some, None}
+use Rattle.std.proofs.lemmas.Option.{same_Some}
+use Rattle.std.specs.List.{Contains}
+use Rattle.std.specs.Option.{option_map}
+use Rattle.std.specs.Result.{OnOk}
+use Rattle.std.specs.FinMap as map
+use Rattle.std.specs.declared.option.Option.{Option}
+use Rattle.std.specs.declared.result.Result.{Result}
+use Rattle.std.specs.declared.result.Result.TheVariants.{Ok, Err}
+use Rattle.be_value.specs.Key.{key}
+use Rattle.be_value.specs.declared.values.Kind.{Kind}
+use Rattle.be_value.specs.declared.values.Value.{Value}
+use Rattle.be_query.specs.Grammar.{Formula}
+use Rattle.be_plan.specs.Cover.{Comparison, leaves}
+use Rattle.std.specs.Prelude.{slice_get}
+use Rattle.be_volume.specs.Query.{sat, sees, seen_in}
+use Rattle.be_volume.specs.Volume.{State}
+use Rattle.be_volume.specs.declared.maps.Index.{Index}
+use Rattle.be_volume.specs.Sound.{IsSound, IsPaired}
+use Rattle.be_volume.specs.Reading.{attribute, index_kind}
+use Rattle.be_plan.specs.Narrow.{Allows, IsPair, Within}
+use Rattle.be_plan.specs.Walk.{HasWithin, HasReached}
+
+pub on_ok : {A E : Type 0} {P Q : Type 0} (r : Result A E) → (P → Q) → OnOk r P → OnOk r Q
+on_ok (Ok x) f h = f h
+on_ok (Err e) f h = h
+
+-- a walk over the range of a pick has what is reached by way of it
+pub has_reached : (s : State) (f : Formula) (pick : ℕ) (c : Comparison) (kind : Kind) (low : List ℕ) (high : Option (List ℕ)) (found : List ℕ) →
+    IsSound s → slice_get (leaves f) pick ≡ Some c → index_kind s c.name ≡ Some kind →
+    ((v : Value) (n : ℕ) → IsPair kind v n → Allows pick 0 f c.name v → Within low high (key v n)) →
+    HasWithin s f c.name low high found → HasReached s f pick found
+has_reached s f pick c kind low high found sound there is_kind range within = λ node r sat_n.
+    let P : Comparison → Type 0 = λ d. (sees s node d.name ≡ Some r.value) × Allows pick 0 f d.name r.value in
+    let same : r.picked ≡ c = same_Some r.picked c (sym r.there ∙ there) in
+    let at_c : (sees s node c.name ≡ Some r.value) × Allows pick 0 f c.name r.value = subst P same (r.seen, r.allows) in
+    by node r.value sat_n at_c.0 at_c.1 (map.get s.indices c.name) refl
+  where
+    by : (node : ℕ) (value : Value) → sat s f node ≡ true → sees s node c.name ≡ Some value → Allows pick 0 f c.name value →
+        (i : Option Index) → map.get s.indices c.name ≡ i → Contains found node
+    by node value sat_n sees_n allows None none = let no : None ≡ Some kind = sym (ap (λ i. option_map (λ (i : Index). i.kind) i) none) ∙ is_kind in cc
+    by node value sat_n sees_n allows (Some index) some =
+        let paired : map.get index.pairs node ≡ Some value = sym (ap (λ i. seen_in i (attribute s node c.name) node) some) ∙ sees_n in
+        let p : IsPaired s c.name index.kind node value = sound.pairs c.name index node value some paired in
+        let kinds : index.kind ≡ kind = same_Some index.kind kind (sym (ap (λ i. option_map (λ (i : Index). i.kind) i) some) ∙ is_kind) in
+        within (key value node) (record { index = index; node = node; value = value; there = some; paired = paired; is = refl })
+        (range value node (record { is_value = p.is_value; kind_is = p.kind_is ∙ kinds; node_fits = p.node_fits }) allows) sat_n

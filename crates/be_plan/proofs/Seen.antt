@@ -1,0 +1,63 @@
+-- What a comparison sees of a node, by the keys of an index.
+use Rattle.std.proofs.Common.{◌≡◌, ◌<◌, ◌^◌, ℕ, IsTrue, List, refl, sym, ap, ◌∙◌, subst, Some, None}
+use Rattle.std.specs.Option.{option_map}
+use Rattle.std.proofs.lemmas.Option.{same_Some}
+use Rattle.std.specs.FinMap as map
+use Rattle.std.specs.declared.option.Option.{Option}
+use Rattle.be_value.specs.Key.{key, value_key}
+use Rattle.be_value.specs.Value.{kind_of, is_indexable}
+use Rattle.be_value.specs.declared.values.Kind.{Kind}
+use Rattle.be_value.specs.declared.values.Value.{Value}
+use Rattle.be_value.proofs.KeyOrder.{same_node}
+use Rattle.be_volume.specs.Query.{sees, seen_in}
+use Rattle.be_volume.specs.Volume.{State}
+use Rattle.be_volume.specs.declared.maps.Index.{Index}
+use Rattle.be_volume.specs.Keys.{IsKey}
+use Rattle.be_volume.specs.Sound.{IsSound, IsPaired}
+use Rattle.be_volume.specs.Reading.{attribute, index_kind}
+
+-- a key ends with one node alone
+pub key_node : (v w : Value) (m n : ℕ) → m < 2 ^ 64 → n < 2 ^ 64 → key v m ≡ key w n → m ≡ n
+key_node v w m n h g e = same_node (value_key v) (value_key w) m n h g e
+
+module _ (s : State) (sound : IsSound s) (name : List ℕ) (node : ℕ) (fits : node < 2 ^ 64) where
+  -- where the index has the key of the node's attribute, that is what is seen
+  pub seen_key : (value : Value) → attribute s node name ≡ Some value → IsKey s name (key value node) → Some value ≡ sees s node name
+  seen_key value is k =
+      let there : IsPaired s name k.index.kind k.node k.value = sound.pairs name k.index k.node k.value k.there k.paired in
+      let same : k.node ≡ node = key_node k.value value k.node node there.node_fits fits (sym k.is) in
+      let P : ℕ → Type 0 = λ n. attribute s n name ≡ Some k.value in
+      let Q : ℕ → Type 0 = λ n. map.get k.index.pairs n ≡ Some k.value in
+      let attr : attribute s node name ≡ Some k.value = subst P same there.attribute_is in
+      let got : map.get k.index.pairs node ≡ Some k.value = subst Q same k.paired in
+      sym is ∙ attr ∙ sym got ∙ ap (λ i. seen_in i (attribute s node name) node) (sym k.there)
+
+  -- what the pair of the node in the index is, if there is one
+  pair_of : (index : Index) (value : Value) (found : Option Value) → map.get s.indices name ≡ Some index → map.get index.pairs node ≡ found →
+      attribute s node name ≡ Some value → (kind_of value ≡ index.kind → IsKey s name (key value node) → ⊥) → None ≡ found
+  pair_of index value None there got is not = refl
+  pair_of index value (Some v) there got is not =
+      let paired : IsPaired s name index.kind node v = sound.pairs name index node v there got in
+      let same : value ≡ v = same_Some value v (sym is ∙ paired.attribute_is) in
+      absurd (not (ap kind_of same ∙ paired.kind_is)
+      (record { index = index; node = node; value = v; there = there; paired = got; is = ap (λ w. key w node) same }))
+
+  by_index : (found : Option Index) (value : Value) (kind : Kind) → map.get s.indices name ≡ found → index_kind s name ≡ Some kind →
+      attribute s node name ≡ Some value → (kind_of value ≡ kind → IsKey s name (key value node) → ⊥) → None ≡ sees s node name
+  by_index None value kind there has is not = cc
+  by_index (Some index) value kind there has is not =
+      let kinds : index.kind ≡ kind = same_Some _ _ (sym (ap (λ i. Rattle.std.specs.Option.option_map (λ (i : Index). i.kind) i) there) ∙ has) in
+      pair_of index value _ there refl is (λ e. not (e ∙ kinds)) ∙ ap (λ i. seen_in i (attribute s node name) node) (sym there)
+
+  -- where the index has no such key, or its kind is another, nothing is seen
+  pub seen_none : (value : Value) (kind : Kind) → index_kind s name ≡ Some kind → attribute s node name ≡ Some value →
+      (kind_of value ≡ kind → IsKey s name (key value node) → ⊥) → None ≡ sees s node name
+  seen_none value kind has is not = by_index _ value kind refl has is not
+
+-- the kind of an index is indexable
+pub kind_indexable : (s : State) → IsSound s → (name : List ℕ) (kind : Kind) → index_kind s name ≡ Some kind → IsTrue (is_indexable kind)
+kind_indexable s sound name kind is = by (map.get s.indices name) refl is
+  where
+    by : (found : Option Index) → map.get s.indices name ≡ found → option_map (λ (i : Index). i.kind) found ≡ Some kind → IsTrue (is_indexable kind)
+    by None there e = cc
+    by (Some index) there e = let P : Kind → Type 0 = λ k. IsTrue (is_indexable k) in subst P (same_Some index.kind kind e) (sound.kinds name index there)

@@ -1,0 +1,99 @@
+-- Which comparisons a query may be answered from, and which ones are chosen. A pick is the place of a comparison, counted from 0 from left to right.
+use Rattle.std.specs.Prelude.{ℕ, ◌+◌, Bool, true, false, ◌&&◌, ◌||◌, List, [], ◌∷◌, ◌++◌, nat_eq, nat_lt, Some, None, if◌then◌else◌, slice_get}
+use Rattle.std.specs.Option.{option_map_or}
+use Rattle.std.specs.List.{list_any, list_all}
+use Rattle.std.specs.declared.option.Option.{Option}
+use Rattle.std.specs.declared.result.Result.{Result}
+use Rattle.std.specs.declared.result.Result.TheVariants.{Ok, Err}
+use Rattle.be_value.specs.declared.refusals.Refusal.{Refusal}
+use Rattle.be_value.specs.declared.refusals.Refusal.TheVariants.{NotCovered}
+use Rattle.be_value.specs.declared.values.Kind.{Kind}
+use Rattle.be_pattern.specs.Match.{Part, Run, One, Among, Only}
+use Rattle.be_pattern.specs.Canonical.{is_plain}
+use Rattle.be_query.specs.declared.tree.Comparison as code
+use Rattle.be_query.specs.View.{literal}
+use Rattle.be_query.specs.Grammar.{Formula, Leaf, And, Or, comparisons}
+use Rattle.be_query.specs.declared.tree.Cmp.{Cmp}
+use Rattle.be_query.specs.declared.tree.Cmp.TheVariants.{Eq, Ne, Lt, Le, Gt, Ge}
+use Rattle.be_query.specs.Grammar.{Literal}
+use Rattle.be_query.specs.Grammar.{Wild, Exact}
+use Rattle.be_plan.specs.declared.plans.Cover.{Cover}
+use Rattle.std.specs.Cmp.Lexicographic.{pointwise}
+
+-- a comparison, without where it lies in memory
+pub record Comparison : Type 0 where
+  pub name : List ℕ
+  pub op : Cmp
+  pub literal : Literal
+
+-- a comparison of the code
+abbrev pub comparison_of : code.Comparison → Comparison
+comparison_of c = record { name = c.name; op = c.op; literal = literal c.literal }
+
+-- the comparisons of a query, from left to right
+abbrev pub leaves : Formula → List Comparison
+leaves (Leaf name op literal) = record { name = name; op = op; literal = literal } ∷ []
+leaves (And a b) = leaves a ++ leaves b
+leaves (Or a b) = leaves a ++ leaves b
+
+-- The picks cover the part of the query whose first comparison has the place `at`: a picked comparison covers itself, an "and" is covered where one side is, and an "or" where both are.
+abbrev pub covers_part : List ℕ → ℕ → Formula → Bool
+covers_part picks at (Leaf name op literal) = list_any (nat_eq at) picks
+covers_part picks at (And a b) = covers_part picks at a || covers_part picks (at + comparisons a) b
+covers_part picks at (Or a b) = covers_part picks at a && covers_part picks (at + comparisons a) b
+
+-- the pick is the place of a comparison whose name has an index
+abbrev pub rests_on : (List ℕ → Bool) → Formula → ℕ → Bool
+rests_on indexed f pick = option_map_or (λ c. indexed c.name) (slice_get (leaves f) pick) false
+
+-- the picks cover the query
+abbrev pub covers : (List ℕ → Bool) → List ℕ → Formula → Bool
+covers indexed picks f = list_all (rests_on indexed f) picks && covers_part picks 0 f
+
+-- the list has an index of that name
+abbrev pub is_listed : List (List ℕ × Kind) → List ℕ → Bool
+is_listed indices name = list_any (λ index. pointwise nat_eq index.0 name) indices
+
+-- the pattern begins with a literal character
+abbrev pub begins_literally : List Part → Bool
+begins_literally [] = false
+begins_literally (Run ∷ parts) = false
+begins_literally (One ∷ parts) = false
+begins_literally (Among negated members ∷ parts) = false
+begins_literally (Only c ∷ parts) = true
+
+-- how dear it is to answer from a comparison
+abbrev pub score_of : Cmp → Literal → ℕ
+score_of Eq (Exact words) = 1
+score_of Eq (Wild parts) = if is_plain parts then 1 else if begins_literally parts then 2 else 4
+score_of Ne literal = 5
+score_of Lt literal = 3
+score_of Le literal = 3
+score_of Gt literal = 3
+score_of Ge literal = 3
+
+-- the one with the smaller score, the left one at a tie; one alone where the other side is not covered
+abbrev pub cheaper : Option Cover → Option Cover → Option Cover
+cheaper None b = b
+cheaper (Some a) None = Some a
+cheaper (Some a) (Some b) = if nat_lt b.score a.score then Some b else Some a
+
+-- both, if both sides are covered
+abbrev pub joined : Option Cover → Option Cover → Option Cover
+joined None b = None
+joined (Some a) None = None
+joined (Some a) (Some b) = Some (record { picks = a.picks ++ b.picks; score = a.score + b.score })
+
+-- the choice for the part whose first comparison has the place `at`, if it is covered
+abbrev pub choice : (List ℕ → Bool) → ℕ → Formula → Option Cover
+choice indexed at (Leaf name op literal) = if indexed name then Some (record { picks = at ∷ []; score = score_of op literal }) else None
+choice indexed at (And a b) = cheaper (choice indexed at a) (choice indexed (at + comparisons a) b)
+choice indexed at (Or a b) = joined (choice indexed at a) (choice indexed (at + comparisons a) b)
+
+abbrev pub or_not_covered : Option Cover → Result Cover Refusal
+or_not_covered None = Err NotCovered
+or_not_covered (Some cover) = Ok cover
+
+-- the choice for a query, or that it rests on no index
+abbrev pub chosen : (List ℕ → Bool) → Formula → Result Cover Refusal
+chosen indexed f = or_not_covered (choice indexed 0 f)

@@ -1,0 +1,5 @@
+pub mod Cover
+pub mod Explain
+pub mod Narrow
+pub mod Sources
+pub mod Walk

@@ -1,0 +1,49 @@
+-- Which values and keys a walk over an index has to pass.
+use Rattle.std.specs.Prelude.{◌≡◌, ◌<◌, ◌≤◌, ◌+◌, ◌^◌, ℕ, Bool, true, false, List, Some, None, IsTrue}
+use Rattle.std.specs.Ordering.{is_lt, is_gt}
+use Rattle.std.specs.declared.option.Option.{Option}
+use Rattle.be_value.specs.Key.{IsValue}
+use Rattle.be_value.specs.Value.{kind_of, is_indexable, value_cmp}
+use Rattle.be_value.specs.declared.values.Kind.{Kind}
+use Rattle.be_value.specs.declared.values.Value.{Value}
+use Rattle.be_query.specs.Grammar.{Formula, Leaf, And, Or, comparisons}
+use Rattle.be_query.specs.declared.tree.Cmp.{Cmp}
+use Rattle.be_query.specs.Grammar.{Literal}
+use Rattle.be_volume.specs.Maps.{name_cmp}
+use Rattle.be_volume.specs.Query.{holds, is_true_of}
+
+-- The value is one that a node may have at the name where the part, whose first comparison has the place `at`, is true of it by way of the pick: the comparisons on this name that are then true are true of the value.
+abbrev pub Allows : ℕ → ℕ → Formula → List ℕ → Value → Type 0
+Allows pick at (Leaf own op literal) name value = own ≡ name → holds op value literal ≡ true
+Allows pick at (And a b) name value = Allows pick at a name value × Allows pick (at + comparisons a) b name value
+Allows pick at (Or a b) name value =
+    (at ≤ pick → pick < at + comparisons a → Allows pick at a name value)
+    × (at + comparisons a ≤ pick → pick < at + comparisons a + comparisons b → Allows pick (at + comparisons a) b name value)
+
+-- k is above the bound, if there is one
+abbrev pub is_above : Option (List ℕ) → List ℕ → Bool
+is_above None k = false
+is_above (Some high) k = is_gt (name_cmp k high)
+
+-- k is one of the keys from `low` to `high`, both included
+pub record Within (low : List ℕ) (high : Option (List ℕ)) (k : List ℕ) : Type 0 where
+  pub from_low : is_lt (name_cmp k low) ≡ false
+  pub to_high : is_above high k ≡ false
+
+-- a pair that an index of this kind may hold
+pub record IsPair (kind : Kind) (value : Value) (node : ℕ) : Type 0 where
+  pub is_value : IsValue value
+  pub kind_is : kind_of value ≡ kind
+  pub node_fits : node < 2 ^ 64
+
+-- The value stands for the literal at the values of an index of this kind: where a comparison with the literal is true of one of them, the operator is true of the two values.
+pub record StandsFor (literal : Literal) (kind : Kind) (bound : Value) : Type 0 where
+  pub is_value : IsValue bound
+  pub kind_is : kind_of bound ≡ kind
+  pub indexable : IsTrue (is_indexable kind)
+  pub compares : (op : Cmp) (value : Value) → kind_of value ≡ kind → holds op value literal ≡ true → is_true_of op (value_cmp value bound) ≡ true
+
+-- what is above the byte behind a pattern's literal characters
+abbrev pub limit : Bool → ℕ
+limit true = 1
+limit false = 255

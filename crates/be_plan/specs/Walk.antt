@@ -1,0 +1,41 @@
+-- What a walk over an index collects.
+use Rattle.std.specs.Prelude.{◌≡◌, ℕ, Bool, true, false, List, Some, slice_get}
+use Rattle.std.specs.List.{Contains}
+use Rattle.std.specs.declared.option.Option.{Option}
+use Rattle.be_value.specs.declared.values.Value.{Value}
+use Rattle.be_query.specs.Grammar.{Formula}
+use Rattle.be_plan.specs.Cover.{Comparison, leaves}
+use Rattle.be_volume.specs.Query.{sat, sees}
+use Rattle.be_volume.specs.Volume.{State}
+use Rattle.be_volume.specs.Keys.{IsKey}
+use Rattle.be_volume.specs.PairKeys.{is_from}
+use Rattle.be_plan.specs.Narrow.{Within, Allows}
+
+-- the formula is true of each of the nodes
+abbrev pub AllSatisfy : State → Formula → List ℕ → Type 0
+AllSatisfy s f found = (n : ℕ) → Contains found n → sat s f n ≡ true
+
+-- each of the nodes is still there
+abbrev pub Keeps : List ℕ → List ℕ → Type 0
+Keeps before after = (n : ℕ) → Contains before n → Contains after n
+
+-- each node of which the formula is true and whose key lies from `low` to `high` is there
+abbrev pub HasWithin : State → Formula → List ℕ → List ℕ → Option (List ℕ) → List ℕ → Type 0
+HasWithin s f name low high found = (k : List ℕ) (h : IsKey s name k) → Within low high k → sat s f h.node ≡ true → Contains found h.node
+
+-- the same of the keys that are not ahead of the walk, which stands at `from`
+abbrev pub HasPassed : State → Formula → List ℕ → List ℕ → Option (List ℕ) → List ℕ → Bool → List ℕ → Type 0
+HasPassed s f name low high from after found =
+    (k : List ℕ) (h : IsKey s name k) → Within low high k → is_from from after k ≡ false → sat s f h.node ≡ true → Contains found h.node
+
+-- The node is reached by way of the pick: the picked comparison sees a value, and the value is one that the query allows by that way.
+pub record Reaches (s : State) (f : Formula) (pick : ℕ) (node : ℕ) : Type 0 where
+  pub picked : Comparison
+  pub there : slice_get (leaves f) pick ≡ Some picked
+  pub value : Value
+  pub seen : sees s node picked.name ≡ Some value
+  pub allows : Allows pick 0 f picked.name value
+
+-- each node that is reached by way of the pick, and of which the formula is true, is there
+abbrev pub HasReached : State → Formula → ℕ → List ℕ → Type 0
+HasReached s f pick found = (node : ℕ) → Reaches s f pick node → sat s f node ≡ true → Contains found node

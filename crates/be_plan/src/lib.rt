@@ -1,0 +1,30 @@
+//! Plans: which comparisons a query is answered from, and its answer by walks over their indices.
+//!
+//! A query on a large volume must not look at every node. It is answered from a few of its comparisons, the picks: the index of each is
+//! walked over the keys that can matter, and of each node found there the whole query is asked. Picks cover a query where no answer can
+//! escape these walks; of an `&&` one side is enough, of an `||` both are needed. The answer depends on no plan: any picks that cover give
+//! the ascending list of all nodes of which the query is true.
+//!
+//! `choose` picks, `run` walks, `explain` says what was picked. `Source` is what is walked: a plain volume, or a reader of pages.
+#![tactic(auto)]
+
+mod choosing;
+mod coverage;
+mod evaluating;
+mod explaining;
+mod laws;
+mod plain;
+mod plans;
+mod ranges;
+mod running;
+mod source;
+mod walks;
+
+pub use choosing::choose;
+pub use coverage::covers;
+pub use explaining::explain;
+pub use laws::list_stands_for_volume;
+pub use plain::{VolumeSource, volume_source};
+pub use plans::{Cover, Picks};
+pub use running::run;
+pub use source::Source;

@@ -1,0 +1,227 @@
+//! The keys that a walk over an index has to pass.
+//!
+//! A walk for a pick begins with all keys of the index and leaves out what can't be an answer by way of this pick: each comparison on the picked
+//! name that stands beside it under `&&` gives a bound, and a pattern gives its literal prefix. A comparison on the other side of an `||`
+//! gives none, since it need not be true. A bound that can't be had, as of a number outside the index's kind, is not applied: the range is then
+//! wider, and never too narrow.
+//!
+//! Bounds are keys, both included: a value's key with the least node number or the greatest. So an end costs one idle key at most.
+ghost use Rattle.std.specs.Prelude.{◌≡◌, ◌<◌, ◌≤◌, ◌+◌, ◌^◌, ℕ, true, false, List, IfSome, IsTrue, IsUtf8, ◌++◌};
+ghost use Rattle.std.specs.Option.{option_map};
+ghost use Rattle.std.specs.Str.{chars};
+ghost use Rattle.be_pattern.specs.Match.{matches};
+ghost use Rattle.be_pattern.specs.Canonical.{is_plain};
+ghost use Rattle.std.specs.Ordering.{is_lt, is_gt};
+ghost use Rattle.be_value.specs.Key.{key as key_bytes, IsValue};
+ghost use Rattle.be_value.specs.Value.{kind_of, is_indexable, value_cmp};
+ghost use Rattle.be_value.specs.declared.values.Value.{Value as AnyValue};
+ghost use Rattle.be_query.specs.Grammar.{comparisons};
+ghost use Rattle.be_query.specs.View.{formula, literal};
+ghost use Rattle.be_volume.specs.Maps.{name_cmp};
+ghost use Rattle.be_volume.specs.Query.{holds, is_true_of};
+ghost use Rattle.be_plan.specs.Narrow.{Within, IsPair, StandsFor, Allows, is_above, limit};
+
+use crate::choosing::count;
+use arrayvec::ArrayVec;
+use be_pattern::Pattern;
+use be_query::{Cmp, Comparison, Literal, Tree};
+use be_value::{Kind, Name, Value, key_of};
+use be_volume::literal_number;
+
+/// The keys from `low` to `high`, both included.
+#[derive(Drop)]
+pub(crate) struct Range {
+    pub(crate) low: ArrayVec<u8, 264>,
+    pub(crate) high: Option<ArrayVec<u8, 264>>,
+}
+
+impl Range {
+    /// All keys.
+    fn whole() -> Range
+        ensures { (k : List ℕ) → Within result.low.items (option_map (λ b. b.items) result.high) k }
+    {
+        Range {
+            low: ArrayVec::new(),
+            high: None,
+        }
+    }
+
+    /// Leaves out keys below this one.
+    fn raise(&mut self, key: ArrayVec<u8, 264>)
+        ensures { (k : List ℕ) → is_lt (name_cmp k key.items) ≡ false →
+            Within self.old.low.items (option_map (λ b. b.items) self.old.high) k →
+            Within self.new.low.items (option_map (λ b. b.items) self.new.high) k }
+    {
+        if self.low.as_slice() < key.as_slice() {
+            self.low = key;
+        }
+    }
+
+    /// Leaves out keys above this one.
+    fn lower(&mut self, key: ArrayVec<u8, 264>)
+        ensures { (k : List ℕ) → is_gt (name_cmp k key.items) ≡ false →
+            Within self.old.low.items (option_map (λ b. b.items) self.old.high) k →
+            Within self.new.low.items (option_map (λ b. b.items) self.new.high) k }
+    {
+        let lowers = match &self.high {
+            Some(high) => key.as_slice() < high.as_slice(),
+            None => true,
+        };
+        if lowers {
+            self.high = Some(key);
+        }
+    }
+}
+
+/// Whether the key is above the bound, if there is one.
+pub(crate) fn is_above(high: &Option<ArrayVec<u8, 264>>, key: &[u8]) -> bool
+    ensures { result ≡ is_above (option_map (λ b. b.items) high.now) key.now }
+{
+    match high {
+        Some(high) => key.cmp(&high.as_slice()).is_gt(),
+        None => false,
+    }
+}
+
+/// The value of the kind that the literal stands for, if there is one.
+fn bound_of(given: &Literal, kind: Kind) -> Option<Value>
+    ensures { IfSome result (λ bound. StandsFor (literal given.now) kind bound) }
+{
+    match kind {
+        Kind::Cstr => match given {
+            Literal::Text(words) => Value::text(words.as_str()).ok(),
+            Literal::Pattern(_) => None,
+        },
+        Kind::Long => Some(Value::int32(i32::try_from(literal_number(given)?).ok()?)),
+        Kind::Llng => Some(Value::int64(i64::try_from(literal_number(given)?).ok()?)),
+        Kind::Ulng => Some(Value::uint32(u32::try_from(literal_number(given)?).ok()?)),
+        Kind::Ullg => Some(Value::uint64(u64::try_from(literal_number(given)?).ok()?)),
+        Kind::Mims | Kind::Rawt => None,
+    }
+}
+
+/// Leaves out keys of values at which the operator with the bound is false.
+fn narrow_by(range: &mut Range, op: Cmp, bound: &Value)
+    requires is_value { IsValue bound.now }
+    requires indexable { IsTrue (is_indexable (kind_of bound.now)) }
+    ensures { (v : AnyValue) (n : ℕ) → IsPair (kind_of bound.now) v n → is_true_of op (value_cmp v bound.now) ≡ true →
+        Within range.old.low.items (option_map (λ b. b.items) range.old.high) (key_bytes v n) →
+        Within range.new.low.items (option_map (λ b. b.items) range.new.high) (key_bytes v n) }
+{
+    match op {
+        Cmp::Eq => {
+            range.raise(key_of(bound, 0));
+            range.lower(key_of(bound, u64::MAX));
+        }
+        Cmp::Ne => {}
+        Cmp::Lt => range.lower(key_of(bound, 0)),
+        Cmp::Le => range.lower(key_of(bound, u64::MAX)),
+        Cmp::Gt => range.raise(key_of(bound, u64::MAX)),
+        Cmp::Ge => range.raise(key_of(bound, 0)),
+    }
+}
+
+/// A key that begins so.
+fn key_with(front: &[u8], end: &[u8]) -> Option<ArrayVec<u8, 264>>
+    ensures { IfSome result (λ key. key.items ≡ front.now ++ end.now) }
+{
+    let mut key = ArrayVec::new();
+    key.try_extend_from_slice(front).ok()?;
+    key.try_extend_from_slice(end).ok()?;
+    Some(key)
+}
+
+/// Leaves out keys below these bytes.
+fn raise_to(range: &mut Range, front: &[u8], end: &[u8])
+    ensures { (k : List ℕ) → is_lt (name_cmp k (front.now ++ end.now)) ≡ false →
+        Within range.old.low.items (option_map (λ b. b.items) range.old.high) k →
+        Within range.new.low.items (option_map (λ b. b.items) range.new.high) k }
+{
+    if let Some(key) = key_with(front, end) {
+        range.raise(key);
+    }
+}
+
+/// Leaves out keys above these bytes.
+fn lower_to(range: &mut Range, front: &[u8], end: &[u8])
+    ensures { (k : List ℕ) → is_gt (name_cmp k (front.now ++ end.now)) ≡ false →
+        Within range.old.low.items (option_map (λ b. b.items) range.old.high) k →
+        Within range.new.low.items (option_map (λ b. b.items) range.new.high) k }
+{
+    if let Some(key) = key_with(front, end) {
+        range.lower(key);
+    }
+}
+
+/// What is above each byte that may stand behind the pattern's literal characters in a key: a zero byte where it has no wildcard, else also the first byte of a character.
+fn limit_of(pattern: &Pattern) -> u8
+    ensures { result ≡ limit (is_plain pattern.now) }
+{
+    if pattern.is_plain() { 1 } else { 255 }
+}
+
+/// Leaves out keys of texts that don't begin with the pattern's literal characters.
+fn narrow_by_pattern(range: &mut Range, pattern: &Pattern)
+    ensures { (text : List ℕ) (n : ℕ) → IsUtf8 text → matches pattern.now (chars text) ≡ true →
+        Within range.old.low.items (option_map (λ b. b.items) range.old.high) (key_bytes (AnyValue.Cstr text) n) →
+        Within range.new.low.items (option_map (λ b. b.items) range.new.high) (key_bytes (AnyValue.Cstr text) n) }
+{
+    let limit = limit_of(pattern);
+    raise_to(range, pattern.prefix().as_bytes(), &[]);
+    lower_to(range, pattern.prefix().as_bytes(), &[limit]);
+}
+
+/// Leaves out keys of values at which the comparison is false.
+fn narrow(range: &mut Range, comparison: &Comparison, kind: Kind)
+    ensures { (v : AnyValue) (n : ℕ) → IsPair kind v n → holds comparison.now.op v (literal comparison.now.literal) ≡ true →
+        Within range.old.low.items (option_map (λ b. b.items) range.old.high) (key_bytes v n) →
+        Within range.new.low.items (option_map (λ b. b.items) range.new.high) (key_bytes v n) }
+{
+    match (kind, comparison.op, &comparison.literal) {
+        (Kind::Cstr, Cmp::Eq, Literal::Pattern(pattern)) => narrow_by_pattern(range, pattern),
+        (_, op, given) => {
+            if let Some(bound) = bound_of(given, kind) {
+                narrow_by(range, op, &bound);
+            }
+        }
+    }
+}
+
+/// Leaves out keys of values that a node can't have at this name where the part, whose first comparison has the place `at`, is true of it by way of the pick.
+fn narrow_all(range: &mut Range, tree: &Tree, at: usize, pick: usize, name: &Name, kind: Kind)
+    requires { at + comparisons (formula tree.now) ≤ 256 }
+    ensures { (v : AnyValue) (n : ℕ) → IsPair kind v n → Allows pick at (formula tree.now) name.now v →
+        Within range.old.low.items (option_map (λ b. b.items) range.old.high) (key_bytes v n) →
+        Within range.new.low.items (option_map (λ b. b.items) range.new.high) (key_bytes v n) }
+{
+    match tree {
+        Tree::Leaf(comparison) => {
+            if comparison.name == *name {
+                narrow(range, comparison, kind);
+            }
+        }
+        Tree::And(a, b) => {
+            narrow_all(range, a, at, pick, name, kind);
+            narrow_all(range, b, at + count(a), pick, name, kind);
+        }
+        Tree::Or(a, b) => {
+            let middle = at + count(a);
+            if at <= pick && pick < middle {
+                narrow_all(range, a, at, pick, name, kind);
+            } else if middle <= pick && pick < middle + count(b) {
+                narrow_all(range, b, middle, pick, name, kind);
+            }
+        }
+    }
+}
+
+/// The keys that a walk for the pick has to pass.
+pub(crate) fn range_of(tree: &Tree, pick: usize, name: &Name, kind: Kind) -> Range
+    requires { comparisons (formula tree.now) ≤ 256 }
+    ensures { (v : AnyValue) (n : ℕ) → IsPair kind v n → Allows pick 0 (formula tree.now) name.now v →
+        Within result.low.items (option_map (λ b. b.items) result.high) (key_bytes v n) }
+{
+    let mut range = Range::whole();
+    narrow_all(&mut range, tree, 0, pick, name, kind);
+    range
+}

@@ -1,0 +1,62 @@
+//! What answers for a volume.
+//!
+//! A source is read by four calls, and each may change the source itself: a cursor moves, a reader counts its steps. What stays is said in two
+//! ways. `kept` names the facts of the source that no call changes, and `answers_for` says by a relation which volume it answers for. It is a
+//! relation and not a function, since a reader of pages spells a volume but can't compute it: a contract says what holds of each volume
+//! that the source answers for, and the caller, who knows the volume, names it.
+ghost use Rattle.std.specs.Prelude.{◌≡◌, true};
+ghost use Rattle.std.specs.Option.{option_map};
+ghost use Rattle.be_volume.specs.Reading.{attribute};
+ghost use Rattle.be_volume.specs.Volume.{State};
+ghost use Rattle.be_volume.specs.Keys.{IsKey, IsNextKey};
+ghost use Rattle.be_volume.specs.Reading.{index_kind};
+ghost use Rattle.be_volume.specs.Sound.{IsSound};
+
+use arrayvec::ArrayVec;
+use be_value::{Kind, Name, Value};
+
+/// A reader of one volume. Its calls may change the reader itself, but neither the volume nor the facts that it keeps. Each call asks that
+/// the source answers for some volume, and its clauses hold of every volume for which it does. No call takes memory.
+pub trait Source {
+    /// The facts of the source that no call changes.
+    ghost Kept: { Type 0 };
+
+    ghost kept: { Self → Kept };
+
+    /// Whether the source answers for this volume.
+    ghost answers_for: { Self → State → Type 0 };
+
+    /// The kind of the index of that name, none without an index.
+    fn kind_of(&mut self, name: &Name) -> Option<Kind>
+        requires { (volume : State) × answers_for self.old volume }
+        ensures answer { (volume : State) → answers_for self.old volume → result ≡ index_kind volume name.now }
+        ensures stays { kept self.new ≡ kept self.old }
+        ensures answers { (volume : State) → answers_for self.old volume → answers_for self.new volume };
+
+    /// The least key of the index of that name at `from` or after it, or strictly after it. Keys are ordered by their bytes, and `from` may
+    /// be any bytes. Without an index there is none.
+    fn next_key(&mut self, name: &Name, from: &[u8], after: bool) -> Option<ArrayVec<u8, 264>>
+        requires { (volume : State) × answers_for self.old volume }
+        ensures answer { (volume : State) → answers_for self.old volume →
+            IsNextKey volume name.now from.now after (option_map (λ k. k.items) result) }
+        ensures stays { kept self.new ≡ kept self.old }
+        ensures answers { (volume : State) → answers_for self.old volume → answers_for self.new volume };
+
+    /// Whether the index of that name has the key; false without an index.
+    fn has_key(&mut self, name: &Name, key: &[u8]) -> bool
+        requires { (volume : State) × answers_for self.old volume }
+        ensures found { (volume : State) → answers_for self.old volume → result ≡ true → IsKey volume name.now key.now }
+        ensures finds { (volume : State) → answers_for self.old volume → IsKey volume name.now key.now → result ≡ true }
+        ensures stays { kept self.new ≡ kept self.old }
+        ensures answers { (volume : State) → answers_for self.old volume → answers_for self.new volume };
+
+    /// The node's attribute of that name, whether or not an index has it.
+    fn value(&mut self, node: u64, name: &Name) -> Option<Value>
+        requires { (volume : State) × answers_for self.old volume }
+        ensures answer { (volume : State) → answers_for self.old volume → result ≡ attribute volume node name.now }
+        ensures stays { kept self.new ≡ kept self.old }
+        ensures answers { (volume : State) → answers_for self.old volume → answers_for self.new volume };
+
+    // A law: each pair of an index of the volume is its node's attribute and has the index's kind.
+    ghost sound: { (source : Self) (volume : State) → answers_for source volume → IsSound volume };
+}

@@ -1,0 +1,79 @@
+//! Walks over indices.
+//!
+//! A walk goes from key to key by `next_key`, from the range's low end to the first key above its high end, and collects the nodes of which
+//! the query is true. It asks for one key more than it passes.
+ghost use Rattle.std.specs.Prelude.{◌≡◌, ◌<◌, ◌≤◌, ◌^◌, ℕ, true, length, OnOk, IfErr};
+ghost use Rattle.std.specs.List.{Contains};
+ghost use Rattle.std.specs.Option.{option_map};
+ghost use Rattle.be_value.specs.Key.{key as key_bytes};
+ghost use Rattle.be_value.specs.declared.refusals.Refusal.TheVariants.{OutOfMemory};
+ghost use Rattle.be_value.specs.declared.values.Value.{Value as AnyValue};
+ghost use Rattle.be_query.specs.View.{formula};
+ghost use Rattle.be_volume.specs.Query.{sat};
+ghost use Rattle.be_volume.specs.Volume.{State};
+ghost use Rattle.be_plan.specs.Walk.{AllSatisfy, Keeps, HasWithin};
+
+use crate::Source;
+use crate::evaluating::satisfies;
+use crate::ranges::{Range, is_above};
+use be_query::Tree;
+use be_value::{Name, Refusal, node_of};
+
+/// Adds the node of the key, if the tree is true of it.
+fn visit<S: Source>(
+    source: &mut S,
+    tree: &Tree,
+    key: &[u8],
+    found: &mut Vec<u64>,
+) -> Result<(), Refusal>
+    ghost volume: { State }
+    requires answers { S.answers_for source.old volume }
+    requires has_node { 8 ≤ length key.now }
+    ensures stays { S.kept source.new ≡ S.kept source.old }
+    ensures answers { S.answers_for source.new volume }
+    ensures memory { IfErr result (λ e. e ≡ OutOfMemory) }
+    ensures keeps { Keeps found.old.items found.new.items }
+    ensures satisfy { AllSatisfy volume (formula tree.now) found.old.items →
+        AllSatisfy volume (formula tree.now) found.new.items }
+    ensures has { OnOk result ((v : AnyValue) (n : ℕ) → n < 2 ^ 64 → key.now ≡ key_bytes v n →
+        sat volume (formula tree.now) n ≡ true → Contains found.new.items n) }
+{
+    let node = node_of(key);
+    if satisfies(source, tree, node) {
+        found.push(node)?;
+    }
+    Ok(())
+}
+
+/// Adds the nodes of the keys in the range of which the tree is true.
+pub(crate) fn walk<S: Source>(
+    source: &mut S,
+    tree: &Tree,
+    name: &Name,
+    range: Range,
+    found: &mut Vec<u64>,
+) -> Result<(), Refusal>
+    ghost volume: { State }
+    requires { S.answers_for source.old volume }
+    ensures stays { S.kept source.new ≡ S.kept source.old }
+    ensures answers { S.answers_for source.new volume }
+    ensures memory { IfErr result (λ e. e ≡ OutOfMemory) }
+    ensures keeps { Keeps found.old.items found.new.items }
+    ensures satisfy { AllSatisfy volume (formula tree.now) found.old.items →
+        AllSatisfy volume (formula tree.now) found.new.items }
+    ensures has { OnOk result (HasWithin volume (formula tree.now) name.now range.low.items
+        (option_map (λ b. b.items) range.high) found.new.items) }
+{
+    let Range { low, high } = range;
+    let mut from = low;
+    let mut after = false;
+    'keys: while let Some(key) = source.next_key(name, from.as_slice(), after) {
+        if is_above(&high, key.as_slice()) {
+            return Ok(());
+        }
+        visit(source, tree, key.as_slice(), found)?;
+        from = key;
+        after = true;
+    }
+    Ok(())
+}

@@ -1,0 +1,158 @@
+-- The tree that is built is the grammar's, so each token list has one tree at most.
+use Rattle.std.proofs.Common.{◌≡◌, ℕ, Bool, true, false, zero, suc, Option, Some, None, List, [], ◌∷◌, ◌++◌, refl, sym, ap, ◌∙◌, subst, append_assoc, append-nil, cond, ◌-◌, ◌<◌, ◌≤◌, arith}
+use Rattle.std.proofs.lemmas.Bool.{false≢true}
+use Rattle.be_query.specs.declared.tree.Cmp.{Cmp}
+use Rattle.be_query.specs.Tokens.{Token, Open, Close, Bang, Both, Either, Compares, Text, plain, is_name}
+use Rattle.be_query.specs.Grammar.{OrPhrase, or_one, or_more, AndPhrase, and_one, and_more, NotPhrase, negation, group, comparison, or_tokens, and_tokens, not_tokens, or_tree, and_tree, not_tree, Formula, Leaf, And, Or, opposite, complement, Spells}
+use Rattle.be_query.specs.declared.tree.Cmp.TheVariants.{Eq, Ne, Lt, Le, Gt, Ge}
+use Rattle.be_query.specs.Reading.{Place, Operand, Operator, Value, Joint, Mark, Paren, Negation, ended, next, read_from, read}
+use Rattle.be_query.specs.Building.{Level, fresh, Stage, Operands, Operators, Values, Joints, State, start, negated, joined, with_operand, with_side, close, build_at, build, build_from, tree_at, tree_of, place_of, negations_on, outer_marks, marks_of, view_of, IsSettledAt, IsSettled}
+
+-- levels in which an operand, a side or a phrase begins
+abbrev in_level : Option Formula → Option Formula → ℕ → Level
+in_level o a n = record { or_left = o; and_left = a; negations = n }
+
+abbrev at_operand : Level → List Level → Option State
+at_operand level outer = Some (record { stage = Operands; level = level; outer = outer })
+
+abbrev at_joint : Formula → Option Formula → List Level → Option State
+at_joint t o outer = Some (record { stage = Joints t; level = in_level o None 0; outer = outer })
+
+-- the left side of the last `||`, and its right side so far
+abbrev left_of : OrPhrase → Option Formula
+left_of (or_one a) = None
+left_of (or_more o a) = Some (or_tree o)
+
+abbrev right_of : OrPhrase → Formula
+right_of (or_one a) = and_tree a
+right_of (or_more o a) = and_tree a
+
+left_right : (o : OrPhrase) → joined Or (left_of o) (right_of o) ≡ or_tree o
+left_right (or_one a) = refl
+left_right (or_more o a) = refl
+
+mutual
+  pub or_built : (o : OrPhrase) (outer : List Level) (us : List Token) → build_from (at_operand fresh outer) (or_tokens o ++ us) ≡ build_from (at_joint (right_of o) (left_of o) outer) us
+  or_built (or_one a) outer us = and_built a None outer us
+  or_built (or_more o a) outer us =
+      ap (build_from (at_operand fresh outer)) (append_assoc (or_tokens o) (Either ∷ and_tokens a) us)
+      ∙ or_built o outer (Either ∷ (and_tokens a ++ us))
+      ∙ ap (λ t. build_from (at_operand (in_level (Some t) None 0) outer) (and_tokens a ++ us)) (left_right o)
+      ∙ and_built a (Some (or_tree o)) outer us
+
+  pub and_built : (a : AndPhrase) (left : Option Formula) (outer : List Level) (us : List Token) → build_from (at_operand (in_level left None 0) outer) (and_tokens a ++ us) ≡ build_from (at_joint (and_tree a) left outer) us
+  and_built (and_one n) left outer us = not_built n (in_level left None 0) outer us
+  and_built (and_more a n) left outer us =
+      ap (build_from (at_operand (in_level left None 0) outer)) (append_assoc (and_tokens a) (Both ∷ not_tokens n) us)
+      ∙ and_built a left outer (Both ∷ (not_tokens n ++ us))
+      ∙ not_built n (in_level left (Some (and_tree a)) 0) outer us
+
+  pub not_built : (n : NotPhrase) (level : Level) (outer : List Level) (us : List Token) → build_from (at_operand level outer) (not_tokens n ++ us) ≡ build_from (Some (with_operand (not_tree n) level outer)) us
+  not_built (negation n) level outer us = not_built n (record level { negations = suc level.negations }) outer us
+  not_built (group o) level outer us =
+      ap (build_from (at_operand fresh (level ∷ outer))) (append_assoc (or_tokens o) (Close ∷ []) us)
+      ∙ or_built o (level ∷ outer) (Close ∷ us)
+      ∙ ap (λ t. build_from (Some (with_operand t level outer)) us) (left_right o)
+  not_built (comparison name valid op value) level outer us = named (is_name name) valid level outer (λ s. build_from s (Compares op ∷ Text value ∷ us))
+    where
+      named : (b : Bool) → b ≡ true → (l : Level) (ls : List Level) (k : Option State → Option State) → k (cond b (Some (record { stage = Operators (plain name); level = l; outer = ls })) None) ≡ k (Some (record { stage = Operators (plain name); level = l; outer = ls }))
+      named true e l ls k = refl
+      named false e l ls k = absurd (false≢true e)
+
+-- the tree that is built of a phrase's tokens is the phrase's
+pub tree_built : (o : OrPhrase) → tree_of (build_from (Some start) (or_tokens o)) ≡ Some (or_tree o)
+tree_built o =
+    ap (λ ts. tree_of (build_from (Some start) ts)) (sym (append-nil (or_tokens o)))
+    ∙ ap tree_of (or_built o [] [])
+    ∙ ap Some (left_right o)
+
+-- tokens have one tree at most
+pub one_tree : (ts : List Token) (s t : Formula) → Spells ts s → Spells ts t → s ≡ t
+one_tree ts s t (o, eo, es) (p, ep, et) =
+    let same = sym (tree_built o) ∙ ap (λ l. tree_of (build_from (Some start) l)) (eo ∙ sym ep) ∙ tree_built p in
+    sym es ∙ some_same same ∙ et
+  where
+    some_same : {a b : Formula} → Some a ≡ Some b → a ≡ b
+    some_same e = cc
+
+-- Building goes on exactly as long as reading does.
+
+abbrev pub seen : Option State → Option (Place × List Mark)
+seen None = None
+seen (Some s) = Some (view_of s)
+
+ended_negations : (n : ℕ) (marks : List Mark) → ended (negations_on n marks) ≡ ended marks
+ended_negations zero marks = refl
+ended_negations (suc n) marks = ended_negations n marks
+
+ended_outer : (outer : List Level) → ended (outer_marks outer) ≡ outer_marks outer
+ended_outer [] = refl
+ended_outer (level ∷ outer) = refl
+
+pub ended_marks : (level : Level) (outer : List Level) → ended (marks_of level outer) ≡ outer_marks outer
+ended_marks level outer = ended_negations level.negations (outer_marks outer) ∙ ended_outer outer
+
+named_seen : (b : Bool) (raw : List ℕ) (level : Level) (outer : List Level) → cond b (Some (Operator, marks_of level outer)) None ≡ seen (cond b (Some (record { stage = Operators (plain raw); level = level; outer = outer })) None)
+named_seen true raw level outer = refl
+named_seen false raw level outer = refl
+
+closed_seen : (t : Formula) (level : Level) (outer : List Level) → level.negations ≡ 0 → next Joint (marks_of level outer) Close ≡ seen (close (with_side t level) outer)
+closed_seen t level outer h = ap (λ n. next Joint (negations_on n (outer_marks outer)) Close) h ∙ go outer (with_side t level)
+  where
+    go : (ls : List Level) (s : Formula) → next Joint (outer_marks ls) Close ≡ seen (close s ls)
+    go [] s = refl
+    go (l ∷ ls) s = ap (λ m. Some (Joint, m)) (ended_marks l ls)
+
+pub build_seen : (stage : Stage) (level : Level) (outer : List Level) (t : Token) → IsSettledAt stage level → next (place_of stage) (marks_of level outer) t ≡ seen (build_at stage level outer t)
+build_seen Operands level outer Open h = refl
+build_seen Operands level outer Close h = refl
+build_seen Operands level outer Bang h = refl
+build_seen Operands level outer Both h = refl
+build_seen Operands level outer Either h = refl
+build_seen Operands level outer (Compares op) h = refl
+build_seen Operands level outer (Text raw) h = named_seen (is_name raw) raw level outer
+build_seen (Operators name) level outer Open h = refl
+build_seen (Operators name) level outer Close h = refl
+build_seen (Operators name) level outer Bang h = refl
+build_seen (Operators name) level outer Both h = refl
+build_seen (Operators name) level outer Either h = refl
+build_seen (Operators name) level outer (Compares op) h = refl
+build_seen (Operators name) level outer (Text raw) h = refl
+build_seen (Values name op) level outer Open h = refl
+build_seen (Values name op) level outer Close h = refl
+build_seen (Values name op) level outer Bang h = refl
+build_seen (Values name op) level outer Both h = refl
+build_seen (Values name op) level outer Either h = refl
+build_seen (Values name op) level outer (Compares other) h = refl
+build_seen (Values name op) level outer (Text raw) h = ap (λ m. Some (Joint, m)) (ended_marks level outer)
+build_seen (Joints t) level outer Open h = refl
+build_seen (Joints t) level outer Close h = closed_seen t level outer h
+build_seen (Joints t) level outer Bang h = refl
+build_seen (Joints t) level outer Both h = refl
+build_seen (Joints t) level outer Either h = ap (λ n. Some (Operand, negations_on n (outer_marks outer))) h
+build_seen (Joints t) level outer (Compares op) h = refl
+build_seen (Joints t) level outer (Text raw) h = refl
+
+opposite_twice : (op : Cmp) → opposite (opposite op) ≡ op
+opposite_twice Eq = refl
+opposite_twice Ne = refl
+opposite_twice Lt = refl
+opposite_twice Le = refl
+opposite_twice Gt = refl
+opposite_twice Ge = refl
+
+pub complement_twice : (t : Formula) → complement (complement t) ≡ t
+complement_twice (Leaf n op v) = ap (λ o. Leaf n o v) (opposite_twice op)
+complement_twice (And l r) = λ i. And (complement_twice l i) (complement_twice r i)
+complement_twice (Or l r) = λ i. Or (complement_twice l i) (complement_twice r i)
+
+-- two complements less are the same
+pub negated_less : (n : ℕ) (t : Formula) → 2 ≤ n → negated (n - 2) t ≡ negated n t
+negated_less zero t h = absurd (omega arith)
+negated_less (suc zero) t h = absurd (omega arith)
+negated_less (suc (suc n)) t h = let m : suc (suc n) - 2 ≡ n = omega arith in ap (λ k. negated k t) m ∙ ap (negated n) (sym (complement_twice t))
+
+pub negated_once : (n : ℕ) (t u : Formula) → n < 2 → (n ≡ 0 → ⊥) → u ≡ complement t → u ≡ negated n t
+negated_once zero t u h z e = absurd (z refl)
+negated_once (suc zero) t u h z e = e
+negated_once (suc (suc n)) t u h z e = absurd (omega arith)

@@ -1,0 +1,112 @@
+-- Building the tree of a query while its tokens are read. It serves the proofs alone: `Grammar` says which tree it is.
+use Rattle.std.specs.Prelude.{◌≡◌, ℕ, zero, suc, Bool, true, false, Option, Some, None, List, [], ◌∷◌, if◌then◌else◌}
+use Rattle.be_query.specs.declared.tree.Cmp.{Cmp}
+use Rattle.be_query.specs.Tokens.{Token, Open, Close, Bang, Both, Either, Compares, Text, plain, is_name}
+use Rattle.be_query.specs.Grammar.{Formula, Leaf, And, Or, complement, literal_of}
+use Rattle.be_query.specs.Reading.{Place, Operand, Operator, Value, Joint, Mark, Paren, Negation}
+
+-- What waits for its right end inside one pair of parentheses: the left sides of `||` and `&&`, and the number of `!`.
+pub record Level : Type 0 where
+  pub or_left : Option Formula
+  pub and_left : Option Formula
+  pub negations : ℕ
+
+abbrev pub fresh : Level
+fresh = record { or_left = None; and_left = None; negations = 0 }
+
+-- what may come next, with the comparison or the tree before it
+pub data Stage : Type 0 where
+  Operands : Stage
+  Operators : List ℕ → Stage
+  Values : List ℕ → Cmp → Stage
+  Joints : Formula → Stage
+
+-- the innermost level, and those round it from the inside
+pub record State : Type 0 where
+  pub stage : Stage
+  pub level : Level
+  pub outer : List Level
+
+abbrev pub start : State
+start = record { stage = Operands; level = fresh; outer = [] }
+
+abbrev pub negated : ℕ → Formula → Formula
+negated zero t = t
+negated (suc n) t = negated n (complement t)
+
+abbrev pub joined : (Formula → Formula → Formula) → Option Formula → Formula → Formula
+joined join None t = t
+joined join (Some l) t = join l t
+
+-- an operand has ended, and its `!` and its `&&` with it
+abbrev pub with_operand : Formula → Level → List Level → State
+with_operand t level outer = record {
+  stage = Joints (joined And level.and_left (negated level.negations t));
+  level = record { or_left = level.or_left; and_left = None; negations = 0 };
+  outer = outer;
+}
+
+-- a side of `||` has ended
+abbrev pub with_side : Formula → Level → Formula
+with_side t level = joined Or level.or_left t
+
+abbrev pub close : Formula → List Level → Option State
+close t [] = None
+close t (level ∷ outer) = Some (with_operand t level outer)
+
+abbrev pub build_at : Stage → Level → List Level → Token → Option State
+build_at Operands level outer Open = Some (record { stage = Operands; level = fresh; outer = level ∷ outer })
+build_at Operands level outer Bang = Some (record { stage = Operands; level = record level { negations = suc level.negations }; outer = outer })
+build_at Operands level outer (Text raw) = if is_name raw then Some (record { stage = Operators (plain raw); level = level; outer = outer }) else None
+build_at (Operators name) level outer (Compares op) = Some (record { stage = Values name op; level = level; outer = outer })
+build_at (Values name op) level outer (Text raw) = Some (with_operand (Leaf name op (literal_of op raw)) level outer)
+build_at (Joints t) level outer Both = Some (record { stage = Operands; level = record level { and_left = Some t }; outer = outer })
+build_at (Joints t) level outer Either = Some (record { stage = Operands; level = record { or_left = Some (with_side t level); and_left = None; negations = 0 }; outer = outer })
+build_at (Joints t) level outer Close = close (with_side t level) outer
+build_at _ _ _ _ = None
+
+abbrev pub build : State → Token → Option State
+build s t = build_at s.stage s.level s.outer t
+
+abbrev pub build_from : Option State → List Token → Option State
+build_from s [] = s
+build_from None (t ∷ ts) = None
+build_from (Some s) (t ∷ ts) = build_from (build s t) ts
+
+abbrev pub tree_at : Stage → Level → List Level → Option Formula
+tree_at (Joints t) level [] = Some (with_side t level)
+tree_at _ _ _ = None
+
+-- the tree, where nothing waits any more
+abbrev pub tree_of : Option State → Option Formula
+tree_of None = None
+tree_of (Some s) = tree_at s.stage s.level s.outer
+
+abbrev pub place_of : Stage → Place
+place_of Operands = Operand
+place_of (Operators n) = Operator
+place_of (Values n op) = Value op
+place_of (Joints t) = Joint
+
+abbrev pub negations_on : ℕ → List Mark → List Mark
+negations_on zero marks = marks
+negations_on (suc n) marks = Negation ∷ negations_on n marks
+
+abbrev pub outer_marks : List Level → List Mark
+outer_marks [] = []
+outer_marks (level ∷ outer) = Paren ∷ negations_on level.negations (outer_marks outer)
+
+-- what is open
+abbrev pub marks_of : Level → List Level → List Mark
+marks_of level outer = negations_on level.negations (outer_marks outer)
+
+abbrev pub view_of : State → Place × List Mark
+view_of s = (place_of s.stage, marks_of s.level s.outer)
+
+-- behind a whole operand no `!` waits
+abbrev pub IsSettledAt : Stage → Level → Type 0
+IsSettledAt (Joints t) level = level.negations ≡ 0
+IsSettledAt _ level = Unit {0}
+
+abbrev pub IsSettled : State → Type 0
+IsSettled s = IsSettledAt s.stage s.level

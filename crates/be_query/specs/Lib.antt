@@ -1,0 +1,10 @@
+pub mod Tokens
+pub mod Grammar
+pub mod Reading
+pub mod Building
+pub mod Lexing
+pub mod Faults
+pub mod View
+pub mod Printing
+pub mod Rpn
+pub mod Coded

@@ -1,0 +1,101 @@
+-- The canonical text of a tree.
+use Rattle.std.specs.Prelude.{◌≡◌, ◌≤◌, Ok, ℕ, Bool, true, false, List, [], ◌∷◌, ◌++◌, length, ◌||◌, ◌==◌, if◌then◌else◌, encode_utf8_all, codes}
+use Rattle.be_pattern.specs.Canonical.{canonical}
+use Rattle.be_query.specs.declared.tree.Cmp.{Cmp}
+use Rattle.be_query.specs.declared.tree.Cmp.TheVariants.{Eq, Ne, Lt, Le, Gt, Ge}
+use Rattle.be_query.specs.declared.lexer.Span.TheVariants.{Ends}
+use Rattle.be_pattern.specs.Parse.{pattern}
+use Rattle.std.specs.Str.{all_scalars}
+use Rattle.be_query.specs.Faults.{takes_pattern}
+use Rattle.be_query.specs.Lexing.{quoted_span}
+use Rattle.be_query.specs.Tokens.{Token, Open, Close, Both, Either, Compares, Text, plain, is_name}
+use Rattle.be_value.specs.Name.{name_from, has_nul}
+use Rattle.be_query.specs.Grammar.{Formula, Leaf, And, Or, Literal, Wild, Exact, literal_of}
+
+-- `"` and `\`
+abbrev pub wants_backslash : ℕ → Bool
+wants_backslash b = (b == 34) || (b == 92)
+
+-- a backslash before each `"` and `\`
+abbrev pub escaped : List ℕ → List ℕ
+escaped [] = []
+escaped (b ∷ bs) = if wants_backslash b then 92 ∷ b ∷ escaped bs else b ∷ escaped bs
+
+abbrev pub value_text : Literal → List ℕ
+value_text (Wild ps) = encode_utf8_all (canonical ps)
+value_text (Exact bs) = escaped bs
+
+abbrev pub op_text : Cmp → List ℕ
+op_text Eq = codes "=="
+op_text Ne = codes "!="
+op_text Lt = codes "<"
+op_text Le = codes "<="
+op_text Gt = codes ">"
+op_text Ge = codes ">="
+
+abbrev pub leaf_text : List ℕ → Cmp → Literal → List ℕ
+leaf_text name op value = codes "\"" ++ escaped name ++ codes "\"" ++ op_text op ++ codes "\"" ++ value_text value ++ codes "\""
+
+-- The text of a tree where an `||`, a side of `||`, or an operand of `&&` may stand.
+abbrev mutual
+  pub or_text : Formula → List ℕ
+  or_text (Leaf n op v) = leaf_text n op v
+  or_text (And l r) = and_text l ++ codes " && " ++ operand_text r
+  or_text (Or l r) = or_text l ++ codes " || " ++ and_text r
+
+  pub and_text : Formula → List ℕ
+  and_text (Leaf n op v) = leaf_text n op v
+  and_text (And l r) = and_text l ++ codes " && " ++ operand_text r
+  and_text (Or l r) = codes "(" ++ or_text l ++ codes " || " ++ and_text r ++ codes ")"
+
+  pub operand_text : Formula → List ℕ
+  operand_text (Leaf n op v) = leaf_text n op v
+  operand_text (And l r) = codes "(" ++ and_text l ++ codes " && " ++ operand_text r ++ codes ")"
+  operand_text (Or l r) = codes "(" ++ or_text l ++ codes " || " ++ and_text r ++ codes ")"
+
+-- The tokens of the same.
+abbrev pub leaf_tokens : List ℕ → Cmp → Literal → List Token
+leaf_tokens name op value = Text (escaped name) ∷ Compares op ∷ Text (value_text value) ∷ []
+
+abbrev mutual
+  pub or_printed : Formula → List Token
+  or_printed (Leaf n op v) = leaf_tokens n op v
+  or_printed (And l r) = and_printed l ++ Both ∷ operand_printed r
+  or_printed (Or l r) = or_printed l ++ Either ∷ and_printed r
+
+  pub and_printed : Formula → List Token
+  and_printed (Leaf n op v) = leaf_tokens n op v
+  and_printed (And l r) = and_printed l ++ Both ∷ operand_printed r
+  and_printed (Or l r) = Open ∷ ((or_printed l ++ Either ∷ and_printed r) ++ Close ∷ [])
+
+  pub operand_printed : Formula → List Token
+  operand_printed (Leaf n op v) = leaf_tokens n op v
+  operand_printed (And l r) = Open ∷ ((and_printed l ++ Both ∷ operand_printed r) ++ Close ∷ [])
+  operand_printed (Or l r) = Open ∷ ((or_printed l ++ Either ∷ and_printed r) ++ Close ∷ [])
+
+-- each name is one, and each printed name and value is read back
+abbrev pub IsPrintable : Formula → Type 0
+IsPrintable (Leaf n op v) = (is_name (escaped n) ≡ true) × (plain (escaped n) ≡ n) × (literal_of op (value_text v) ≡ v)
+IsPrintable (And l r) = IsPrintable l × IsPrintable r
+IsPrintable (Or l r) = IsPrintable l × IsPrintable r
+
+-- between two `"` the text is one token
+abbrev pub IsWhole : List ℕ → Type 0
+IsWhole text = (rest : List ℕ) → quoted_span 34 false (text ++ 34 ∷ rest) ≡ Ends (length text)
+
+-- each printed name and value is one token
+abbrev pub IsQuotable : Formula → Type 0
+IsQuotable (Leaf n op v) = IsWhole (escaped n) × IsWhole (value_text v)
+IsQuotable (And l r) = IsQuotable l × IsQuotable r
+IsQuotable (Or l r) = IsQuotable l × IsQuotable r
+
+-- a pattern is read back from its canonical text, and no text has a NUL
+abbrev pub IsKeptBy : Cmp → Literal → Type 0
+IsKeptBy op (Wild ps) = (takes_pattern op ≡ true) × (pattern (canonical ps) ≡ Ok ps) × (has_nul (canonical ps) ≡ false) × (all_scalars (canonical ps) ≡ true)
+IsKeptBy op (Exact bs) = (takes_pattern op ≡ false) × (has_nul bs ≡ false)
+
+-- each name is one, and each value is kept by printing
+abbrev pub IsKept : Formula → Type 0
+IsKept (Leaf n op v) = (name_from n ≡ Ok n) × IsKeptBy op v
+IsKept (And l r) = IsKept l × IsKept r
+IsKept (Or l r) = IsKept l × IsKept r

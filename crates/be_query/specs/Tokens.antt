@@ -1,0 +1,29 @@
+-- The tokens of a query's text. Texts are lists of bytes.
+use Rattle.std.specs.Prelude.{◌≡◌, ℕ, ◌+◌, ◌≤◌, zero, suc, Bool, true, false, List, [], ◌∷◌, length, ◌&&◌, ◌||◌, not, ◌==◌, nat_lt, nat_le, take, if◌then◌else◌}
+use Rattle.std.specs.Result.{is_ok}
+use Rattle.be_value.specs.Name.{name_from}
+use Rattle.be_query.specs.declared.tree.Cmp.{Cmp}
+use Rattle.be_query.specs.declared.tree.Cmp.TheVariants.{Eq, Ne, Lt, Le, Gt, Ge}
+
+pub data Token : Type 0 where
+  -- `(` and `)`
+  Open : Token
+  Close : Token
+  -- `!`
+  Bang : Token
+  -- `&&` and `||`
+  Both : Token
+  Either : Token
+  Compares : Cmp → Token
+  -- a name or a value, with its backslashes and without its quotes
+  Text : List ℕ → Token
+
+-- the text with each backslash gone that takes the next character literally
+abbrev pub plain : List ℕ → List ℕ
+plain [] = []
+plain (b ∷ []) = b ∷ []
+plain (b ∷ c ∷ bs) = if b == 92 then c ∷ plain bs else b ∷ plain (c ∷ bs)
+
+-- with its backslashes gone, the text is a name
+abbrev pub is_name : List ℕ → Bool
+is_name raw = is_ok (name_from (plain raw))

@@ -1,0 +1,32 @@
+//! What the definitions of the grammar and of canonical texts imply.
+ghost use Rattle.std.specs.Prelude.{ℕ, ◌≡◌, false, List, Some, None, []};
+ghost use Rattle.be_query.specs.Grammar.{Formula, OrPhrase, Spells, IsTextOf, Viable, or_tokens};
+ghost use Rattle.be_query.specs.Reading.{Place, Joint, Mark, read};
+ghost use Rattle.be_query.specs.Tokens.{Token, plain};
+ghost use Rattle.be_value.specs.Name.{has_nul};
+ghost use Rattle.be_query.specs.Printing.{IsKept, IsPrintable, IsQuotable, IsWhole, escaped, or_printed, or_text};
+ghost use Rattle.be_query.specs.Lexing.{tokens};
+
+/// A token list is read on exactly as long as some tokens behind it make a sentence, is a sentence
+/// exactly where it is read to its end, and has one tree at most.
+pub fn reading()
+    ensures viable { (ts : List Token) (s : Place × List Mark) → read ts ≡ Some s → Viable ts }
+    ensures stuck { (ts : List Token) → read ts ≡ None → Viable ts → ⊥ }
+    ensures sentence { (ts : List Token) → read ts ≡ Some (Joint, []) → (o : OrPhrase) × (or_tokens o ≡ ts) }
+    ensures whole { (o : OrPhrase) → read (or_tokens o) ≡ Some (Joint, []) }
+    // What is printed spells its tree, if its names and values are read back.
+    ensures printed { (t : Formula) → IsPrintable t → Spells (or_printed t) t }
+    ensures unescaped { (bs : List ℕ) → plain (escaped bs) ≡ bs }
+    ensures one_tree { (ts : List Token) (s t : Formula) → Spells ts s → Spells ts t → s ≡ t }
+{}
+
+/// The canonical text of a tree spells the tree, and by `reading` no other.
+pub fn printing()
+    // It is cut into the tokens of the tree, if each name and value is one token.
+    ensures tokens { (t : Formula) → IsQuotable t → tokens (or_text t) ≡ or_printed t }
+    // So the text of a tree whose names and values are kept spells it.
+    ensures kept { (t : Formula) → IsKept t → IsTextOf (or_text t) t }
+    ensures spells { (t : Formula) → IsQuotable t → IsPrintable t → Spells (tokens (or_text t)) t }
+    // A name, or an order operator's value, is one token if it has no NUL.
+    ensures whole { (bs : List ℕ) → has_nul bs ≡ false → IsWhole (escaped bs) }
+{}

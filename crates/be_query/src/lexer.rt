@@ -1,0 +1,227 @@
+//! How a query's text is cut into tokens. The longest token is taken; a name or value is a word or a quoted text.
+ghost use Rattle.std.specs.Prelude.{false, true, ◌||◌, ℕ, ◌≡◌, ◌≤◌, ◌<◌, ◌+◌, ◌==◌, length, drop, slice_get, slice_index, IfSome};
+ghost use Rattle.be_query.specs.View.{IsClean, IsCleanFront, token_of, IsFront, SignIs};
+ghost use Rattle.be_query.specs.Lexing.{is_quote, is_separator, is_sign, is_word, word_span, quoted_span};
+
+use crate::token::Token;
+use crate::tree::Cmp;
+
+/// How far a name or value goes.
+#[derive(Clone, Copy)]
+pub(crate) enum Span {
+    /// It takes this many bytes.
+    Ends(usize),
+    /// It breaks off this many bytes behind its first: the text ends, or a NUL stands there.
+    Breaks(usize),
+}
+
+/// What stands at the front of a text.
+#[derive(Clone, Copy)]
+pub(crate) enum Front<'a> {
+    /// A separator, and the text behind it.
+    Separator(&'a str),
+    /// A token, how many bytes stand before its text, and the text behind it.
+    Token(Token<'a>, usize, &'a str),
+    /// A name or value that breaks off so many bytes behind its first.
+    Broken(usize),
+    /// No token begins so.
+    Odd,
+}
+
+/// Whether the byte separates tokens.
+fn is_separator(b: u8) -> bool
+    ensures { result ≡ is_separator b }
+{
+    b == b' ' || b == b'\t' || b == b'\n' || b == b'\r'
+}
+
+/// Whether the byte may stand in a word.
+fn is_word(b: u8) -> bool
+    ensures { result ≡ is_word b }
+{
+    !(is_separator(b) || is_quote(b) || is_sign(b) || b == 0)
+}
+
+/// Whether a quoted text begins with the byte.
+fn is_quote(b: u8) -> bool
+    ensures { result ≡ is_quote b }
+{
+    b == b'"' || b == b'\''
+}
+
+/// Whether a token other than a name or value begins with the byte.
+fn is_sign(b: u8) -> bool
+    ensures { result ≡ is_sign b }
+{
+    b == b'='
+        || b == b'!'
+        || b == b'<'
+        || b == b'>'
+        || b == b'&'
+        || b == b'|'
+        || b == b'('
+        || b == b')'
+}
+
+/// How far the word at the front goes.
+fn word_span(bytes: &[u8]) -> Span
+    ensures { result ≡ word_span false bytes.now }
+{
+    let mut escaped = false;
+    'word: for (i, b) in bytes.iter().enumerate() {
+        if escaped {
+            if *b == 0 {
+                return Span::Breaks(i);
+            }
+            escaped = false;
+            continue 'word;
+        }
+        if *b == b'\\' {
+            escaped = true;
+            continue 'word;
+        }
+        if !is_word(*b) {
+            return Span::Ends(i);
+        }
+    }
+    if escaped {
+        Span::Breaks(bytes.len())
+    } else {
+        Span::Ends(bytes.len())
+    }
+}
+
+/// How far the text behind a quote goes, up to the next such quote.
+fn quoted_span(quote: u8, bytes: &[u8]) -> Span
+    ensures { result ≡ quoted_span quote false bytes.now }
+{
+    let mut escaped = false;
+    'quoted: for (i, b) in bytes.iter().enumerate() {
+        if escaped {
+            if *b == 0 {
+                return Span::Breaks(i);
+            }
+            escaped = false;
+            continue 'quoted;
+        }
+        if *b == quote {
+            return Span::Ends(i);
+        }
+        if *b == 0 {
+            return Span::Breaks(i);
+        }
+        if *b == b'\\' {
+            escaped = true;
+            continue 'quoted;
+        }
+    }
+    Span::Breaks(bytes.len())
+}
+
+/// The token that a sign begins, before the byte behind it, and its bytes.
+fn sign(first: u8, second: Option<u8>) -> Option<(Token<'static>, usize)>
+    ensures sign { SignIs first second result }
+    ensures clean { IfSome result (λ p. IsClean (token_of p.0)) }
+{
+    match (first, second) {
+        (b'(', _) => Some((Token::Open, 1)),
+        (b')', _) => Some((Token::Close, 1)),
+        (b'=', Some(b'=')) => Some((Token::Compares(Cmp::Eq), 2)),
+        (b'=', _) => Some((Token::Compares(Cmp::Eq), 1)),
+        (b'!', Some(b'=')) => Some((Token::Compares(Cmp::Ne), 2)),
+        (b'!', _) => Some((Token::Bang, 1)),
+        (b'<', Some(b'=')) => Some((Token::Compares(Cmp::Le), 2)),
+        (b'<', _) => Some((Token::Compares(Cmp::Lt), 1)),
+        (b'>', Some(b'=')) => Some((Token::Compares(Cmp::Ge), 2)),
+        (b'>', _) => Some((Token::Compares(Cmp::Gt), 1)),
+        (b'&', Some(b'&')) => Some((Token::Both, 2)),
+        (b'|', Some(b'|')) => Some((Token::Either, 2)),
+        _ => None,
+    }
+}
+
+/// What stands at the front of a text that begins with this quote.
+fn quoted_front(quote: u8, text: &str) -> Front<'_>
+    requires nonempty { 0 < length text.now }
+    requires first { slice_index text.now 0 ≡ quote }
+    requires separator { is_separator quote ≡ false }
+    requires quote { is_quote quote ≡ true }
+    ensures front { IsFront text.now result }
+    ensures clean { IsCleanFront result }
+{
+    let (_, behind) = text.split_at(1);
+    match quoted_span(quote, behind.as_bytes()) {
+        Span::Ends(len) => {
+            let (raw, rest) = behind.split_at(len);
+            let (_, rest) = rest.split_at(1);
+            Front::Token(Token::Text(raw), 1, rest)
+        }
+        Span::Breaks(len) => Front::Broken(len + 1),
+    }
+}
+
+/// The byte at an index.
+fn byte_at(bytes: &[u8], i: usize) -> Option<u8>
+    ensures { result ≡ slice_get bytes.now i }
+{
+    bytes.get(i).copied()
+}
+
+/// What stands at the front of a text that begins with this sign, or a NUL.
+fn sign_front(first: u8, text: &str) -> Front<'_>
+    requires nonempty { 0 < length text.now }
+    requires first { slice_index text.now 0 ≡ first }
+    requires separator { is_separator first ≡ false }
+    requires quote { is_quote first ≡ false }
+    requires sign { (is_sign first || (first == 0)) ≡ true }
+    ensures front { IsFront text.now result }
+    ensures clean { IsCleanFront result }
+{
+    let bytes = text.as_bytes();
+    match sign(first, byte_at(bytes, 1)) {
+        Some((token, width)) => {
+            let (_, rest) = text.split_at(width);
+            Front::Token(token, 0, rest)
+        }
+        None => Front::Odd,
+    }
+}
+
+/// What stands at the front of a text that begins with a word.
+fn word_front(text: &str) -> Front<'_>
+    requires nonempty { 0 < length text.now }
+    requires separator { is_separator (slice_index text.now 0) ≡ false }
+    requires quote { is_quote (slice_index text.now 0) ≡ false }
+    requires sign { is_sign (slice_index text.now 0) ≡ false }
+    requires nul { (slice_index text.now 0 == 0) ≡ false }
+    ensures front { IsFront text.now result }
+    ensures clean { IsCleanFront result }
+{
+    match word_span(text.as_bytes()) {
+        Span::Ends(len) => {
+            let (raw, rest) = text.split_at(len);
+            Front::Token(Token::Text(raw), 0, rest)
+        }
+        Span::Breaks(len) => Front::Broken(len),
+    }
+}
+
+/// What stands at the front of a text that is not empty.
+pub(crate) fn split_front(text: &str) -> Front<'_>
+    requires { 0 < length text.now }
+    ensures front { IsFront text.now result }
+    ensures clean { IsCleanFront result }
+{
+    let first = text.as_bytes()[0];
+    if is_separator(first) {
+        let (_, rest) = text.split_at(1);
+        return Front::Separator(rest);
+    }
+    if is_quote(first) {
+        return quoted_front(first, text);
+    }
+    if is_sign(first) || first == 0 {
+        return sign_front(first, text);
+    }
+    word_front(text)
+}

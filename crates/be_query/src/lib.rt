@@ -1,0 +1,22 @@
+//! The query language: texts and predicates in, trees of comparisons out.
+//!
+//! A query is a tree whose leaves compare an attribute with a literal and whose inner nodes are `&&` and `||`; `!` is
+//! carried down to the leaves while the tree is built. `parse` reads it from text, `from_rpn` from items in reverse
+//! Polish order, and `print` gives its canonical text. docs/QUERIES.md shows the language by example.
+#![tactic(auto)]
+
+pub mod laws;
+mod lexer;
+mod parser;
+mod printing;
+mod query;
+mod rpn;
+#[cfg(test)]
+mod tests;
+mod token;
+mod tree;
+
+pub use printing::{print, print_comparison};
+pub use query::{Query, parse};
+pub use rpn::{Item, from_rpn};
+pub use tree::{Cmp, Comparison, Literal, Tree};

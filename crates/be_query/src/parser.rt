@@ -1,0 +1,420 @@
+//! Reading the tokens of a query from the left, with one level for each open `(`: the sides of `||` and `&&` that
+//! wait for their right one, and the number of `!` that wait for their operand. Nothing here recurses on the text.
+ghost use Rattle.std.specs.Prelude.{false, true, ℕ, ◌≡◌, MatchOption, IfNone, IfSome, [], ◌++◌, encode_utf8, string_bytes, Some, None, IfOk, IfErr, ◌<◌, ◌≤◌, ◌+◌, ◌^◌, length};
+ghost use Rattle.std.specs.Str.{chars};
+ghost use Rattle.be_pattern.specs.Parse.{pattern};
+ghost use Rattle.be_query.specs.Building.{Operands, Operators, Values, Joints, joined, with_side, with_operand, negated, State};
+ghost use Rattle.be_query.specs.Grammar.{And, Or, literal_of};
+ghost use Rattle.be_query.specs.Faults.{bad_pattern};
+ghost use Rattle.be_query.specs.Tokens.{is_name, plain};
+ghost use Rattle.be_query.specs.View.{IsMemory, text_len, literal, formula, level_of, side_of, stage_of, token_of, IsCounted, TakesToken, Refuses};
+
+use crate::token::Token;
+use crate::tree::{Cmp, Comparison, Literal, Tree, complement};
+use be_pattern::Pattern;
+use be_pattern::matching::split_first_char;
+use be_value::{Name, Refusal};
+use std::alloc::{AllocError, Global};
+use std::mem;
+
+/// How many `(` and `!` may be open.
+const MAX_OPEN: usize = 64;
+
+/// How many comparisons a query may have.
+const MAX_COMPARISONS: usize = 256;
+
+/// What waits for its right end inside one pair of parentheses.
+#[derive(Drop)]
+pub(crate) struct Level {
+    /// The left side of `||`.
+    or_left: Option<Box<Tree>>,
+    /// The left side of `&&`.
+    and_left: Option<Box<Tree>>,
+    /// How many `!` wait for their operand.
+    negations: usize,
+}
+
+/// What may come next, with the comparison or the tree before it.
+#[derive(Drop)]
+pub(crate) enum Stage {
+    Operand,
+    Operator(Name),
+    Value(Name, Cmp),
+    Joint(Box<Tree>),
+}
+
+/// What waits round the next token.
+#[derive(Drop)]
+pub(crate) struct Context {
+    level: Level,
+    /// The levels round that one, from the outside.
+    outer: Vec<Level>,
+    /// How many `(` and `!` are open.
+    depth: usize,
+    comparisons: usize,
+}
+
+/// A query that was read up to a token.
+#[derive(Drop)]
+pub(crate) struct Parser {
+    stage: Stage,
+    context: Context,
+}
+
+impl Parser {
+    ghost use Rattle.be_query.specs.Building.{start, tree_at};
+    ghost use Rattle.be_query.specs.Faults.{broken_at, ends};
+    ghost use Rattle.be_query.specs.Building.{place_of, marks_of};
+    ghost use Rattle.be_query.specs.View.{outer_of, parser_state};
+
+    /// At the start of a text.
+    pub(crate) fn new(alloc: Global) -> Parser
+        ensures counted { IsCounted (stage_of result.stage) result.context }
+        ensures start { parser_state result ≡ start }
+        ensures none { result.context.comparisons ≡ 0 }
+    {
+        let level = Level {
+            or_left: None,
+            and_left: None,
+            negations: 0,
+        };
+        let context = Context {
+            level,
+            outer: Vec::new(alloc),
+            depth: 0,
+            comparisons: 0,
+        };
+        Parser {
+            stage: Stage::Operand,
+            context,
+        }
+    }
+
+    /// Takes a token at a place, whose text begins at another. After a refusal nothing more is taken.
+    pub(crate) fn take(
+        &mut self,
+        alloc: Global,
+        at: usize,
+        start: usize,
+        token: Token,
+    ) -> Result<(), Refusal>
+        requires counted { IsCounted (stage_of self.now.stage) self.now.context }
+        requires fits { start + text_len (token_of token) < 2 ^ 64 }
+        ensures ok { IfOk result (λ _. TakesToken (stage_of self.old.stage) self.old.context at start (token_of token.entry) self.new.stage self.new.context) }
+        ensures err { IfErr result (Refuses (stage_of self.old.stage) self.old.context at start (token_of token.entry)) }
+    {
+        let stage = mem::replace(&mut self.stage, Stage::Operand);
+        match stage {
+            Stage::Operand => {
+                self.stage = take_operand(alloc, &mut self.context, at, token)?;
+                Ok(())
+            }
+            Stage::Operator(name) => {
+                self.stage = take_operator(name, &mut self.context, at, token)?;
+                Ok(())
+            }
+            Stage::Value(name, op) => {
+                self.stage = take_value(alloc, name, op, &mut self.context, at, start, token)?;
+                Ok(())
+            }
+            Stage::Joint(tree) => {
+                self.stage = take_joint(alloc, tree, &mut self.context, at, token)?;
+                Ok(())
+            }
+        }
+    }
+
+    /// The fault of a name or value at a place that breaks off so many bytes behind its first.
+    pub(crate) fn broken(&self, at: usize, len: usize) -> Refusal
+        requires { at + len < 2 ^ 64 }
+        ensures { result ≡ Refusal.Syntax (broken_at (place_of (stage_of self.now.stage)) at len) }
+    {
+        match &self.stage {
+            Stage::Operand => Refusal::Syntax(at + len),
+            Stage::Value(_, _) => Refusal::Syntax(at + len),
+            Stage::Operator(_) => Refusal::Syntax(at),
+            Stage::Joint(_) => Refusal::Syntax(at),
+        }
+    }
+
+    /// The tree at the end of a text of so many bytes.
+    pub(crate) fn finish(self, alloc: Global, len: usize) -> Result<Tree, Refusal>
+        requires { IsCounted (stage_of self.stage) self.context }
+        ensures ok { IfOk result (λ t. tree_at (stage_of self.stage) (level_of self.context.level) (outer_of self.context) ≡ Some (formula t)) }
+        ensures ends { IfOk result (λ t. ends (place_of (stage_of self.stage)) (marks_of (level_of self.context.level) (outer_of self.context)) len ≡ None) }
+        ensures err { IfErr result (λ e. IsMemory e (ends (place_of (stage_of self.stage)) (marks_of (level_of self.context.level) (outer_of self.context)) len ≡ Some e)) }
+    {
+        let Parser { stage, context } = self;
+        let Context {
+            mut level,
+            outer,
+            depth,
+            comparisons,
+        } = context;
+        let _counts = depth.min(comparisons);
+        match stage {
+            Stage::Joint(tree) => {
+                if !outer.is_empty() {
+                    return Err(Refusal::Syntax(len));
+                }
+                let tree = end_side(alloc, &mut level, tree)?;
+                Ok(Box::into_inner(tree))
+            }
+            Stage::Operand => Err(Refusal::Syntax(len)),
+            Stage::Operator(_) => Err(Refusal::Syntax(len)),
+            Stage::Value(_, _) => Err(Refusal::Syntax(len)),
+        }
+    }
+}
+
+/// Takes a token where an operand begins.
+fn take_operand(
+    alloc: Global,
+    context: &mut Context,
+    at: usize,
+    token: Token,
+) -> Result<Stage, Refusal>
+    requires { IsCounted Operands context.now }
+    ensures ok { IfOk result (λ s. (start : ℕ) → TakesToken Operands context.old at start (token_of token.entry) s context.new) }
+    ensures err { IfErr result (λ e. (start : ℕ) → Refuses Operands context.old at start (token_of token.entry) e) }
+{
+    match token {
+        Token::Open => {
+            if context.depth >= MAX_OPEN {
+                return Err(Refusal::TooDeep);
+            }
+            let level = mem::replace(
+                &mut context.level,
+                Level {
+                    or_left: None,
+                    and_left: None,
+                    negations: 0,
+                },
+            );
+            context.outer.push(level)?;
+            context.depth += 1;
+            Ok(Stage::Operand)
+        }
+        Token::Bang => {
+            if context.depth >= MAX_OPEN {
+                return Err(Refusal::TooDeep);
+            }
+            context.level.negations += 1;
+            context.depth += 1;
+            Ok(Stage::Operand)
+        }
+        Token::Text(raw) => match read_name(alloc, raw)? {
+            Some(name) => Ok(Stage::Operator(name)),
+            None => Err(Refusal::Syntax(at)),
+        },
+        Token::Close | Token::Both | Token::Either | Token::Compares(_) => Err(Refusal::Syntax(at)),
+    }
+}
+
+/// Takes a token where an operator must stand.
+fn take_operator(
+    name: Name,
+    context: &mut Context,
+    at: usize,
+    token: Token,
+) -> Result<Stage, Refusal>
+    requires { IsCounted (Operators name) context.now }
+    ensures ok { IfOk result (λ s. (start : ℕ) → TakesToken (Operators name) context.old at start (token_of token.entry) s context.new) }
+    ensures err { IfErr result (λ e. (start : ℕ) → Refuses (Operators name) context.old at start (token_of token.entry) e) }
+{
+    match token {
+        Token::Compares(op) => Ok(Stage::Value(name, op)),
+        _ => Err(Refusal::Syntax(at)),
+    }
+}
+
+/// Takes a token where a value must stand, whose text begins at a place.
+fn take_value(
+    alloc: Global,
+    name: Name,
+    op: Cmp,
+    context: &mut Context,
+    at: usize,
+    start: usize,
+    token: Token,
+) -> Result<Stage, Refusal>
+    requires counted { IsCounted (Values name op) context.now }
+    requires fits { start + text_len (token_of token) < 2 ^ 64 }
+    ensures ok { IfOk result (λ s. TakesToken (Values name op) context.old at start (token_of token.entry) s context.new) }
+    ensures err { IfErr result (Refuses (Values name op) context.old at start (token_of token.entry)) }
+{
+    let Token::Text(raw) = token else {
+        return Err(Refusal::Syntax(at));
+    };
+    let read = read_literal(alloc, op, raw)?;
+    let literal = match read {
+        Ok(literal) => literal,
+        Err(place) => return Err(Refusal::BadPattern(start + place)),
+    };
+    if context.comparisons >= MAX_COMPARISONS {
+        return Err(Refusal::TooMany);
+    }
+    let ended = context.level.negations;
+    let leaf = Box::new(alloc, Tree::Leaf(Comparison { name, op, literal }))?;
+    let tree = end_operand(alloc, &mut context.level, leaf)?;
+    context.depth -= ended;
+    context.comparisons += 1;
+    Ok(Stage::Joint(tree))
+}
+
+/// Takes a token behind an operand.
+fn take_joint(
+    alloc: Global,
+    tree: Box<Tree>,
+    context: &mut Context,
+    at: usize,
+    token: Token,
+) -> Result<Stage, Refusal>
+    requires { IsCounted (Joints (formula tree.value)) context.now }
+    ensures ok { IfOk result (λ s. (start : ℕ) → TakesToken (Joints (formula tree.value)) context.old at start (token_of token.entry) s context.new) }
+    ensures err { IfErr result (λ e. (start : ℕ) → Refuses (Joints (formula tree.value)) context.old at start (token_of token.entry) e) }
+{
+    match token {
+        Token::Both => {
+            context.level.and_left = Some(tree);
+            Ok(Stage::Operand)
+        }
+        Token::Either => {
+            let side = end_side(alloc, &mut context.level, tree)?;
+            context.level = Level {
+                or_left: Some(side),
+                and_left: None,
+                negations: 0,
+            };
+            Ok(Stage::Operand)
+        }
+        Token::Close => {
+            let side = end_side(alloc, &mut context.level, tree)?;
+            let Some(level) = context.outer.pop() else {
+                return Err(Refusal::Syntax(at));
+            };
+            context.level = level;
+            let ended = 1 + context.level.negations;
+            let tree = end_operand(alloc, &mut context.level, side)?;
+            context.depth -= ended;
+            Ok(Stage::Joint(tree))
+        }
+        Token::Open | Token::Bang | Token::Compares(_) | Token::Text(_) => Err(Refusal::Syntax(at)),
+    }
+}
+
+/// The name that a text spells, if it is one.
+fn read_name(alloc: Global, raw: &str) -> Result<Option<Name>, AllocError>
+    ensures { IfOk result (λ o. MatchOption o (is_name raw.now ≡ false) (λ n. (n ≡ plain raw.now) × (is_name raw.now ≡ true))) }
+{
+    let text = unescape(alloc, raw)?;
+    match Name::new(&text) {
+        Ok(name) => Ok(Some(name)),
+        Err(_) => Ok(None),
+    }
+}
+
+/// The first character that is meant, and the text behind it.
+fn split_plain(text: &str) -> Option<(char, &str)>
+    ensures none { IfNone result (plain text.now ≡ []) }
+    ensures some { IfSome result (λ p. plain text.now ≡ encode_utf8 p.0 ++ plain p.1.now) }
+    ensures shorter { IfSome result (λ p. length p.1.now < length text.now) }
+{
+    let Some((c, after)) = split_first_char(text) else {
+        return None;
+    };
+    if c != '\\' {
+        return Some((c, after));
+    }
+    match split_first_char(after) {
+        Some((escaped, behind)) => Some((escaped, behind)),
+        None => Some((c, after)),
+    }
+}
+
+/// The text with its backslashes taken away.
+fn unescape(alloc: Global, raw: &str) -> Result<String, AllocError>
+    ensures { IfOk result (λ s. string_bytes s ≡ plain raw.now) }
+{
+    let mut text = String::new(alloc);
+    let mut rest = raw;
+    'characters: while let Some((c, after)) = split_plain(rest) {
+        text.push(c)?;
+        rest = after;
+    }
+    Ok(text)
+}
+
+/// The pattern that a value spells, or where it is faulty.
+fn read_pattern(alloc: Global, raw: &str) -> Result<Result<Pattern, usize>, AllocError>
+    ensures { IfOk result (λ r. (pattern (chars raw.now) ≡ r) × IfErr r (λ at. at ≤ length raw.now)) }
+{
+    match Pattern::parse(alloc, raw) {
+        Ok(pattern) => Ok(Ok(pattern)),
+        Err(Refusal::BadPattern(at)) => Ok(Err(at)),
+        Err(_) => Err(AllocError),
+    }
+}
+
+/// The literal that a value spells, or where its pattern is faulty.
+pub(crate) fn read_literal(
+    alloc: Global,
+    op: Cmp,
+    raw: &str,
+) -> Result<Result<Literal, usize>, AllocError>
+    ensures ok { IfOk result (λ r. IfOk r (λ l. (literal l ≡ literal_of op raw.now) × (bad_pattern op raw.now ≡ None))) }
+    ensures err { IfOk result (λ r. IfErr r (λ at. (bad_pattern op raw.now ≡ Some at) × (at ≤ length raw.now))) }
+{
+    match op {
+        Cmp::Eq | Cmp::Ne => match read_pattern(alloc, raw)? {
+            Ok(pattern) => Ok(Ok(Literal::Pattern(pattern))),
+            Err(at) => Ok(Err(at)),
+        },
+        Cmp::Lt | Cmp::Le | Cmp::Gt | Cmp::Ge => {
+            let text = unescape(alloc, raw)?;
+            Ok(Ok(Literal::Text(text)))
+        }
+    }
+}
+
+/// The complement, taken so many times. Twice is not at all.
+fn negate(alloc: Global, tree: Box<Tree>, times: usize) -> Result<Box<Tree>, AllocError>
+    ensures { IfOk result (λ t. formula t.value ≡ negated times (formula tree.value)) }
+{
+    if times >= 2 {
+        return negate(alloc, tree, times - 2);
+    }
+    if times == 0 {
+        return Ok(tree);
+    }
+    let tree = complement(alloc, Box::into_inner(tree))?;
+    Ok(Box::new(alloc, tree)?)
+}
+
+/// An operand has ended, and its `!` and its `&&` with it.
+fn end_operand(
+    alloc: Global,
+    level: &mut Level,
+    operand: Box<Tree>,
+) -> Result<Box<Tree>, AllocError>
+    ensures tree { IfOk result (λ t. formula t.value ≡ joined And (level_of level.old).and_left (negated (level_of level.old).negations (formula operand.value))) }
+    ensures level { IfOk result (λ t. level_of level.new ≡ record { or_left = (level_of level.old).or_left; and_left = None; negations = 0 }) }
+{
+    let negations = mem::replace(&mut level.negations, 0);
+    let tree = negate(alloc, operand, negations)?;
+    match level.and_left.take() {
+        None => Ok(tree),
+        Some(left) => Ok(Box::new(alloc, Tree::And(left, tree))?),
+    }
+}
+
+/// A side of `||` has ended.
+fn end_side(alloc: Global, level: &mut Level, side: Box<Tree>) -> Result<Box<Tree>, AllocError>
+    ensures tree { IfOk result (λ t. formula t.value ≡ with_side (formula side.value) (level_of level.old)) }
+    ensures level { level_of level.new ≡ record { or_left = None; and_left = (level_of level.old).and_left; negations = (level_of level.old).negations } }
+{
+    match level.or_left.take() {
+        None => Ok(side),
+        Some(left) => Ok(Box::new(alloc, Tree::Or(left, side))?),
+    }
+}

@@ -1,0 +1,15 @@
+//! The tokens of a query's text.
+
+use crate::tree::Cmp;
+
+/// A token. A name or a value is as the text has it, without its quotes.
+#[derive(Clone, Copy)]
+pub(crate) enum Token<'a> {
+    Open,
+    Close,
+    Bang,
+    Both,
+    Either,
+    Compares(Cmp),
+    Text(&'a str),
+}

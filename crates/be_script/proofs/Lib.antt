@@ -1,0 +1,5 @@
+pub mod CoverLemmas
+pub mod RunLemmas
+pub mod StoreLemmas
+pub mod ValueLemmas
+pub mod WordLemmas

@@ -1,0 +1,10 @@
+pub mod Limits
+pub mod Output
+pub mod Reply
+pub mod Request
+pub mod Run
+pub mod Store
+pub mod Task
+pub mod Values
+pub mod View
+pub mod Words

@@ -1,0 +1,157 @@
+-- What a script may be answered.
+use Rattle.std.specs.Prelude.{◌≡◌, ◌⊎◌, ℕ, List, [], ◌∷◌, ◌++◌, Some, None, IsOk, length, nat_lt, if◌then◌else◌}
+use Rattle.std.specs.declared.option.Option.{Option}
+use Rattle.std.specs.declared.result.Result.{Result}
+use Rattle.std.specs.declared.result.Result.TheVariants.{Ok, Err}
+use Rattle.be_value.specs.declared.refusals.Refusal.{Refusal}
+use Rattle.be_value.specs.declared.refusals.Refusal.TheVariants.{OutOfMemory, Full}
+use Rattle.be_query.specs.Faults.{fault}
+use Rattle.be_query.specs.Grammar.{Formula, Spells}
+use Rattle.be_query.specs.Lexing.{tokens}
+use Rattle.be_plan.specs.Cover.{chosen, is_listed}
+use Rattle.be_plan.specs.Explain.{explanation}
+use Rattle.be_volume.specs.Query.{scan}
+use Rattle.be_volume.specs.Reading.{attribute, attributes_at, index_kinds}
+use Rattle.be_volume.specs.declared.ops.Done.{Done}
+use Rattle.be_volume.specs.declared.ops.Done.TheVariants.{Node, Unit as Nothing}
+use Rattle.be_volume.specs.declared.ops.Op.{Op}
+use Rattle.be_script.specs.Reply.{Reply, none, bad_line, ok, node, nodes, value, attributes, kinds, cover, queued, full_batch, empty_batch, already_begun, not_begun, committed, refused, text_of}
+use Rattle.be_script.specs.Request.{Request, silent, malformed, write, query, explain, get, attrs, indices, begin, commit, abort, asked, lines_of}
+use Rattle.be_script.specs.Store.{Store, start, written}
+
+-- a script under way: its store, and the operations of its batch where one is open
+pub record Session : Type 0 where
+  pub store : Store
+  pub batch : Option (List Op)
+
+-- the session with no batch open
+abbrev pub closed : Store → Session
+closed store = record { store = store; batch = None }
+
+-- the reply to a write of one operation
+abbrev pub done_reply : List Done → Reply
+done_reply [] = ok
+done_reply (Node n ∷ dones) = node n
+done_reply (Nothing ∷ dones) = ok
+
+abbrev pub write_reply : Session → Result (Store × List Done) Refusal → Reply × Session
+write_reply s (Ok answer) = (done_reply answer.1, record { store = answer.0; batch = s.batch })
+write_reply s (Err e) = (refused e, s)
+
+-- An operation is written, or queued where a batch is open, which takes 64.
+abbrev pub taken : Session → Option (List Op) → Op → Reply × Session
+taken s None op = write_reply s (written s.store (op ∷ []))
+taken s (Some ops) op =
+    if nat_lt (length ops) 64 then (queued, record { store = s.store; batch = Some (ops ++ op ∷ []) })
+    else (full_batch, s)
+
+abbrev pub commit_reply : Session → Result (Store × List Done) Refusal → Reply × Session
+commit_reply s (Ok answer) = (committed (length answer.0.journal) answer.1, closed answer.0)
+commit_reply s (Err e) = (refused e, closed s.store)
+
+-- The batch is written as one. It ends then, refused or not.
+abbrev pub committing : Session → Option (List Op) → Reply × Session
+committing s None = (not_begun, s)
+committing s (Some []) = (empty_batch, s)
+committing s (Some (op ∷ ops)) = commit_reply s (written s.store (op ∷ ops))
+
+abbrev pub beginning : Session → Option (List Op) → Reply × Session
+beginning s None = (ok, record { store = s.store; batch = Some [] })
+beginning s (Some ops) = (already_begun, s)
+
+abbrev pub aborting : Session → Option (List Op) → Reply × Session
+aborting s None = (not_begun, s)
+aborting s (Some ops) = (ok, closed s.store)
+
+-- what an answer or a refusal is as a reply
+abbrev pub replied : {X : Type 0} → (X → Reply) → Result X Refusal → Reply
+replied reply (Ok x) = reply x
+replied reply (Err e) = refused e
+
+-- the reply to a query that a text spells, or that it fails to spell
+abbrev pub queried : Store → Result Formula Refusal → Reply
+queried s (Ok f) = replied nodes (scan s.volume f)
+queried s (Err e) = refused e
+
+-- the reply to a text whose cover is asked: what is picked where the volume's indices are these, and its score
+abbrev pub explained : Store → Result Formula Refusal → Reply
+explained s (Ok f) = replied (λ c. cover (explanation f c)) (chosen (is_listed (index_kinds s.volume)) f)
+explained s (Err e) = refused e
+
+abbrev pub got : Store → ℕ → Result (List ℕ) Refusal → Reply
+got s n (Ok name) = value (attribute s.volume n name)
+got s n (Err e) = refused e
+
+-- what a text is as a query: the one that it spells, or its fault
+abbrev pub IsQuery : List ℕ → Result Formula Refusal → Type 0
+IsQuery text (Ok f) = (fault text ≡ None) × Spells (tokens text) f
+IsQuery text (Err e) = fault text ≡ Some e
+
+-- the session after a refusal for want of memory or of pages: only a commit ends its batch
+abbrev pub unwritten : Session → Request → Session
+unwritten s silent = s
+unwritten s malformed = s
+unwritten s (write op) = s
+unwritten s (query text) = s
+unwritten s (explain text) = s
+unwritten s (get n name) = s
+unwritten s (attrs n) = s
+unwritten s indices = s
+unwritten s begin = s
+unwritten s commit = closed s.store
+unwritten s abort = s
+
+-- the operations that a line writes to the store
+abbrev pub write_of : Session → Option (List Op) → Request → List Op
+write_of s None (write (Ok op)) = op ∷ []
+write_of s (Some ops) commit = ops
+write_of s batch request = []
+
+-- There was no memory, or no page for a write that should be accepted; nothing was written.
+abbrev pub IsWanting : Session → Request → Reply → Session → Type 0
+IsWanting s request reply after = (after ≡ unwritten s request) ×
+    ((reply ≡ refused OutOfMemory) ⊎ ((least : ℕ) × (reply ≡ refused (Full least)) × IsOk (written s.store (write_of s s.batch request))))
+
+-- exactly this reply, and this session after it
+abbrev pub Gives : Reply × Session → Reply → Session → Type 0
+Gives answer reply after = answer ≡ (reply, after)
+
+-- this reply and this session after it, or a want
+abbrev pub MayReply : Session → Request → Reply × Session → Reply → Session → Type 0
+MayReply s request answer reply after = Gives answer reply after ⊎ IsWanting s request reply after
+
+-- A request may get this reply, and leave this session.
+abbrev pub Replies : Session → Request → Reply → Session → Type 0
+Replies s silent reply after = Gives (none, s) reply after
+Replies s malformed reply after = MayReply s malformed (bad_line, s) reply after
+Replies s (write (Ok op)) reply after = MayReply s (write (Ok op)) (taken s s.batch op) reply after
+Replies s (write (Err e)) reply after = MayReply s (write (Err e)) (refused e, s) reply after
+Replies s (query text) reply after = ((parsed : Result Formula Refusal) × IsQuery text parsed × Gives (queried s.store parsed, s) reply after) ⊎ IsWanting s (query text) reply after
+Replies s (explain text) reply after = ((parsed : Result Formula Refusal) × IsQuery text parsed × Gives (explained s.store parsed, s) reply after) ⊎ IsWanting s (explain text) reply after
+Replies s (get n name) reply after = MayReply s (get n name) (got s.store n name, s) reply after
+Replies s (attrs n) reply after = MayReply s (attrs n) (replied attributes (attributes_at s.store.volume n), s) reply after
+Replies s indices reply after = MayReply s indices (kinds (index_kinds s.store.volume), s) reply after
+Replies s begin reply after = MayReply s begin (beginning s s.batch) reply after
+Replies s commit reply after = MayReply s commit (committing s s.batch) reply after
+Replies s abort reply after = MayReply s abort (aborting s s.batch) reply after
+
+-- a line may be answered by this text, and leave this session
+abbrev pub Answered : Session → List ℕ → Session → List ℕ → Type 0
+Answered s line after out = (reply : Reply) × Replies s (asked line) reply after × (out ≡ text_of reply)
+
+-- the lines may be answered by this text, one after the other
+abbrev pub Outputs : Session → List (List ℕ) → List ℕ → Type 0
+Outputs s [] out = out ≡ []
+Outputs s (line ∷ lines) out = (after : Session) × (reply : List ℕ) × (rest : List ℕ) × Answered s line after reply × Outputs after lines rest × (out ≡ reply ++ rest)
+
+-- the text is an output of the script, run from this store on
+abbrev pub IsOutputFrom : Store → List ℕ → List ℕ → Type 0
+IsOutputFrom store script out = Outputs (closed store) (lines_of script) out
+
+-- the text is an output of the script, run from an empty store with this commits limit on
+abbrev pub IsOutput : ℕ → List ℕ → List ℕ → Type 0
+IsOutput limit script out = IsOutputFrom (start limit) script out
+
+-- the text is the front of one
+abbrev pub IsFrontOfOutput : Store → List ℕ → List ℕ → Type 0
+IsFrontOfOutput store script front = (rest : List ℕ) × IsOutputFrom store script (front ++ rest)

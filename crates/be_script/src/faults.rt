@@ -1,0 +1,22 @@
+//! Why a run stops before the end of its script.
+use thiserror::Error;
+
+/// Why a run stopped before the end of its script.
+#[derive(Debug, Drop, Error)]
+pub enum RunFault {
+    /// A limit is out of its range. Nothing was read or written.
+    #[error("a limit is out of its range")]
+    Limits,
+    /// A read failed. Nothing was written.
+    #[error("the script can't be read")]
+    Read,
+    /// The script has more than 1,048,576 bytes. Nothing was written.
+    #[error("the script is too long")]
+    TooLong,
+    /// A write failed or took nothing. What was written is the front of an output.
+    #[error("a reply can't be written")]
+    Write,
+    /// A line or a reply found no memory. What was written is the front of an output.
+    #[error("out of memory")]
+    Memory,
+}

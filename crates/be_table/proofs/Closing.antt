@@ -1,0 +1,114 @@
+-- All passes come back to one seat, and the slot has the journal.
+use Rattle.std.proofs.Common.{◌≡◌, ℕ, ◌<◌, eq-eqb, List, [], ◌∷◌, ◌++◌, map, length, false, true≢false, Option, Some, None, refl, sym, ap, ◌∙◌, subst, inl, inr, ⊎_elim}
+use mathlib.Core.Option.{some, none, some-injective}
+use lib.ListN.{get_elem?}
+use Rattle.atomic_table.specs.Table.{step, Enters, Final, Seen}
+use Rattle.atomic_table.specs.Seated.{TableId}
+use Rattle.be_core.specs.Machine.{Holder}
+use Rattle.be_journal.specs.declared.entries.Entry.{Entry}
+use Rattle.be_table.specs.declared.ledger.Ledger.{Ledger}
+use Rattle.be_table.specs.declared.limits.Limits.{Limits}
+use Rattle.be_table.specs.declared.pass.Knowledge.{Knowledge}
+use Rattle.be_journal.specs.Journal.{IsLegal}
+use Rattle.be_table.specs.History.{AllBelow}
+use Rattle.be_table.specs.Place.{Place}
+use Rattle.be_table.specs.Rule.{Board, entries, is_holder, IsHome, AllFit, Shows, everyone, counted, joined}
+use Rattle.be_table.specs.Steps.{Arrived, Has, AllIdle, Keeps}
+use Rattle.be_table.specs.Works.{AllAt, Gathered}
+use Rattle.be_table.proofs.Deals.{at_snoc_place}
+use Rattle.be_table.proofs.Histories.{is_legal}
+use Rattle.be_table.proofs.Frames.{entries-start}
+
+-- a pass of these that is not the holder
+not_held : (limits : Limits) (b : Board) (i : ℕ) (v : List Knowledge) (h : ℕ) → AllFit limits b i v → AllIdle v → Has v h → is_holder b.world.holder h ≡ false
+not_held limits b i [] h f idle has = absurd has
+not_held limits b i (a ∷ v) h f idle has = ⊎_elim (λ e. ap (is_holder b.world.holder) (sym e) ∙ (sym f.0.writes ∙ idle.0)) (λ more. not_held limits b i v h f.2 idle.1 more) has
+
+nobody_holds : (o : Option Holder) (passes : ℕ) → ((h : Holder) → o ≡ Some h → h.pass < passes) → ((h : ℕ) → h < passes → is_holder o h ≡ false) → o ≡ None
+nobody_holds None passes b f = refl
+nobody_holds (Some h) passes b f = absurd (true≢false (sym (eq-eqb h.pass h.pass refl) ∙ f h.pass (b h refl)))
+
+all_kept : (limits : Limits) (b : Board) (i : ℕ) (v : List Knowledge) → AllFit limits b i v → Keeps (entries b.log) v
+all_kept limits b i [] f = tt
+all_kept limits b i (a ∷ v) f = (entries-start b.log a.seen f.0.seen, f.0.mine, all_kept limits b i v f.2)
+
+-- once all passes are in one seat, the slot has the journal
+pub ends : (limits : Limits) (i : ℕ) (v : List Knowledge) (words : List ℕ) (slots : List (Option Ledger)) → AllIdle v → ((k : ℕ) → k < limits.passes → Has v k) → Final (Seen (Shows limits) i v) words slots
+    → (ledger : Ledger) × (get_elem? slots 0 ≡ some (Some ledger)) × IsLegal ledger.journal.entries × AllBelow limits.passes ledger.journal.entries × Keeps ledger.journal.entries v
+ends limits i v words slots idle all f =
+    let s = f.0 in let b = f.1.0.0 in let h = f.1.0.1 in
+    let fit = h.views i v f.1.1 in
+    let none_is = nobody_holds b.world.holder limits.passes h.sound.holder (λ k lt. not_held limits b i v k fit idle (all k lt)) in
+    let home : IsHome None b.world b.log s.homes = subst (λ (o : Option Holder). IsHome o b.world b.log s.homes) none_is h.table.home in
+    let is = sym home.2.journal in (
+      home.0,
+      f.4 0 (Some home.0) (ap (λ hs. get_elem? hs 0) home.1),
+      subst IsLegal is (is_legal (entries b.log) h.sound.legal),
+      subst (AllBelow limits.passes) is h.sound.by_passes,
+      subst (λ l. Keeps l v) is (all_kept limits b i v fit),
+    )
+
+-- what a joined seat has of each
+has_counted : (v : List Knowledge) (k : ℕ) → Has v k → Has (map counted v) k
+has_counted [] k h = h
+has_counted (a ∷ v) k h = ⊎_elim inl (λ m. inr (has_counted v k m)) h
+
+has_left : (v w : List Knowledge) (k : ℕ) → Has v k → Has (v ++ w) k
+has_left [] w k h = absurd h
+has_left (a ∷ v) w k h = ⊎_elim inl (λ m. inr (has_left v w k m)) h
+
+has_right : (v w : List Knowledge) (k : ℕ) → Has w k → Has (v ++ w) k
+has_right [] w k h = h
+has_right (a ∷ v) w k h = inr (has_right v w k h)
+
+idle_counted : (v : List Knowledge) → AllIdle v → AllIdle (map counted v)
+idle_counted [] h = tt
+idle_counted (a ∷ v) h = (h.0, idle_counted v h.1)
+
+idle_append : (v w : List Knowledge) → AllIdle v → AllIdle w → AllIdle (v ++ w)
+idle_append [] w h g = g
+idle_append (a ∷ v) w h g = (h.0, idle_append v w h.1 g)
+
+keeps_counted : (log : List Entry) (v : List Knowledge) → Keeps log (map counted v) → Keeps log v
+keeps_counted log [] h = tt
+keeps_counted log (a ∷ v) h = (h.0, h.1, keeps_counted log v h.2)
+
+keeps_parts : (log : List Entry) (v w : List Knowledge) → Keeps log (v ++ w) → Keeps log v × Keeps log w
+keeps_parts log [] w h = (tt, h)
+keeps_parts log (a ∷ v) w h = let r = keeps_parts log v w h.2 in ((h.0, h.1, r.0), r.1)
+
+pub gathered_none : Gathered [] []
+gathered_none = record { idle = tt; all = λ k h. h; keeps = λ log h. tt }
+
+pub gathered_more : (known v : List Knowledge) (a : Knowledge) → a.writes ≡ false → Gathered known v → Gathered (a ∷ known) (joined v (a ∷ []))
+gathered_more known v a idle g = record {
+  idle = idle_append (map counted v) (counted a ∷ []) (idle_counted v g.idle) (idle, tt);
+  all = λ k h. ⊎_elim (λ e. has_right (map counted v) (counted a ∷ []) k (inl e)) (λ m. has_left (map counted v) (counted a ∷ []) k (has_counted v k (g.all k m))) h;
+  keeps = λ log h. let p = keeps_parts log (map counted v) (counted a ∷ []) h in (p.1.0, p.1.1, g.keeps log (keeps_counted log v p.0));
+}
+
+pub AllAt-parts : (id : TableId) (ss : List Place) (s : Place) → AllAt id (ss ++ s ∷ []) → AllAt id ss × (s.blank ≡ false) × (s.table ≡ id)
+AllAt-parts id [] s h = (tt, h.0.0, h.0.1)
+AllAt-parts id (x ∷ ss) s h = let r = AllAt-parts id ss s h.1 in ((h.0, r.0), r.1, r.2)
+
+pub record Closes (limits : Limits) (known : List Knowledge) (items : List Entry) : Type 0 where
+  pub legal : IsLegal items
+  pub by_passes : AllBelow limits.passes items
+  pub keeps : Keeps items known
+
+-- the ledger that was found in the slot has the journal
+pub closes : (limits : Limits) (known : List Knowledge) (i : ℕ) (v : List Knowledge) (words : List ℕ) (slots : List (Option Ledger)) (ledger : Ledger) (items : List Entry) → Gathered known v → ((k : ℕ) → k < limits.passes → Has known k)
+    → Final (Seen (Shows limits) i v) words slots → get_elem? slots 0 ≡ some (Some ledger) → items ≡ ledger.journal.entries → Closes limits known items
+closes limits known i v words slots ledger items g all f at is =
+    let e = ends limits i v words slots g.idle (λ k lt. g.all k (all k lt)) f in
+    let same : Some e.0 ≡ Some ledger = some-injective (Some e.0) (Some ledger) (sym e.1 ∙ at) in
+    let it : e.0 ≡ ledger = cc in
+    subst (Closes limits known) (ap (λ (l : Ledger). l.journal.entries) it ∙ sym is) record { legal = e.2; by_passes = e.3; keeps = g.keeps e.0.journal.entries e.4 }
+
+-- a seat with no pass may arrive
+pub arrives : (limits : Limits) (slots : ℕ) → Enters (Shows limits) slots 0 (λ n w. Arrived (step slots 0 0 0 none) (everyone limits, []) n (w, []))
+arrives limits slots s h sized fits = (
+  [],
+  (h.0, record { table = record { words = h.1.table.words; home = h.1.table.home; version = h.1.table.version }; sound = h.1.sound; views = λ j u e. ⊎_elim (λ there. h.1.views j u there) (λ (p : (j ≡ length s.views) × ([] ≡ u)). subst (AllFit limits h.0 j) p.1 tt) (at_snoc_place s.views [] u j e) }),
+  refl,
+)

@@ -1,0 +1,261 @@
+-- Seats are cut and joined, and the rule at the start.
+use Rattle.std.proofs.Common.{◌≡◌, ◌≢◌, ◌⊎◌, ℕ, zero, suc, ◌+◌, ◌*◌, ◌<◌, ◌≤◌, ◌==◌, eqb, eq-eqb, ne_eqb, List, [], ◌∷◌, ◌++◌, map, length, set, false, true≢false, if◌then◌else◌, Option, Some, None, refl, sym, ap, ◌∙◌, subst, inl, inr, ⊎_elim, arith, IsTrue, nat_lt, ◌&&◌, not}
+use Rattle.std.proofs.lemmas.Bool.{cases_lt}
+use borrow.Author.Tests.{lt-ltb, le-ltb}
+use Rattle.std.specs.Prelude.{slice_index}
+use mathlib.Core.Option.{some, some-injective, some-ne-none}
+use lib.ListN.{get_elem?}
+use Rattle.std.proofs.Math.ListN.{length-set}
+use Rattle.atomic_table.specs.Table.{Me, Splits, Joins, opening}
+use Rattle.atomic_table.proofs.Lists.{at_set, set_else}
+use Rattle.atomic_table.specs.Seated.{TableId}
+use Rattle.be_core.specs.Machine.{first_state, has}
+use Rattle.be_core.proofs.Schedules.{first-sound}
+use Rattle.be_table.specs.declared.ledger.Ledger.{Ledger}
+use Rattle.be_pages.specs.declared.page_pool.Place.{Place as PagePlace}
+use Rattle.be_pages.specs.declared.page_pool.Place.TheVariants.{Free, Current}
+use Rattle.be_table.specs.declared.limits.Limits.{Limits}
+use Rattle.be_table.specs.declared.pass.Knowledge.{Knowledge}
+use Rattle.be_pages.specs.Place.{undone_place, place_of}
+use Rattle.be_table.specs.Ledger.{ShowsPlaces, is_free, is_taken, retired_with}
+use Rattle.be_table.specs.Place.{Place}
+use Rattle.be_table.specs.Rule.{ledger_places, Board, IsWithin, IsSound, AreInside, reach_at, page_at, word_place, Fits, IsAbsent, AllFit, Shows, newcomer, newcomers, everyone, counted, first_seat, other_seats, joined}
+use Rattle.be_table.specs.Seats.{IsTold}
+use Rattle.be_table.specs.Works.{AreNewAt}
+use Rattle.be_table.proofs.Histories.{by_pass-nil, legal-nil, below-nil}
+use Rattle.std.proofs.lemmas.List.{get_or_past}
+use Rattle.be_table.proofs.Ledgers.{mapped}
+use Rattle.be_table.proofs.Frames.{all_fit, apart, views_change, fits_counted}
+
+-- a list that is one longer has its old members, and the new one
+pub at_snoc_place : {A : Type 0} (l : List A) (a b : A) (j : ℕ) → get_elem? (l ++ a ∷ []) j ≡ some b → (get_elem? l j ≡ some b) ⊎ ((j ≡ length l) × (a ≡ b))
+at_snoc_place [] a b zero e = inr (refl, some-injective a b e)
+at_snoc_place [] a b (suc j) e = absurd (some-ne-none b (sym e))
+at_snoc_place (x ∷ xs) a b zero e = inl e
+at_snoc_place (x ∷ xs) a b (suc j) e = ⊎_elim inl (λ t. inr (ap suc t.0, t.1)) (at_snoc_place xs a b j e)
+
+-- the pass k moves to the seat n
+abbrev moved : ℕ → ℕ → (ℕ → ℕ) → ℕ → ℕ
+moved k n seat_of m = if eqb m k then n else seat_of m
+
+-- the passes of the seat j move to the seat i
+abbrev gathered : ℕ → ℕ → (ℕ → ℕ) → ℕ → ℕ
+gathered j i seat_of m = if eqb (seat_of m) j then i else seat_of m
+
+choose_then : (m k n o : ℕ) → m ≡ k → (if eqb m k then n else o) ≡ n
+choose_then m k n o e = ap (λ b. if b then n else o) (eq-eqb m k e)
+
+choose_else : (m k n o : ℕ) → m ≢ k → (if eqb m k then n else o) ≡ o
+choose_else m k n o e = ap (λ b. if b then n else o) (ne_eqb m k e)
+
+-- the board is the same but for where the passes sit
+reseat : (limits : Limits) (b : Board) (f : ℕ → ℕ) (i j : ℕ) (a : Knowledge) → f a.number ≡ j → Fits limits b i a → Fits limits (record b { seat_of = f }) j a
+reseat limits b f i j a e h = record { number = h.number; limits_are = h.limits_are; seat_is = e; seen = h.seen; mine = h.mine; own = h.own; writes = h.writes; whole = λ t. let x = h.whole t in record { log = x.log; holder = x.holder; turn = x.turn; count = x.count; shown = x.shown; size = x.size; words = x.words }; phase = h.phase; pin = h.pin; image = h.image }
+
+sound_seats : (limits : Limits) (b : Board) (f : ℕ → ℕ) → IsSound limits b → IsSound limits (record b { seat_of = f })
+sound_seats limits b f s = record { within = s.within; legal = s.legal; by_passes = s.by_passes; room = s.room; page = s.page; inside = s.inside; own_pages = s.own_pages; pages = s.pages; passes = s.passes; commits = s.commits; holder = s.holder; reaches = s.reaches; machine = s.machine }
+
+absent_counted : (k : ℕ) (v : List Knowledge) → IsAbsent k v → IsAbsent k (map counted v)
+absent_counted k [] h = tt
+absent_counted k (a ∷ v) h = (h.0, absent_counted k v h.1)
+
+absent_append : (k : ℕ) (v w : List Knowledge) → IsAbsent k v → IsAbsent k w → IsAbsent k (v ++ w)
+absent_append k [] w h g = g
+absent_append k (a ∷ v) w h g = (h.0, absent_append k v w h.1 g)
+
+-- no pass of another seat
+absent_elsewhere : (limits : Limits) (b : Board) (i j : ℕ) (a : Knowledge) (w : List Knowledge) → j ≢ i → Fits limits b i a → AllFit limits b j w → IsAbsent a.number w
+absent_elsewhere limits b i j a [] ne fa h = tt
+absent_elsewhere limits b i j a (x ∷ w) ne fa h = (apart limits b i j a x ne fa h.0, absent_elsewhere limits b i j a w ne fa h.2)
+
+all_counted : (limits : Limits) (b d : Board) (i j : ℕ) (v : List Knowledge) → ((x : Knowledge) → Fits limits b i x → Fits limits d j x) → AllFit limits b i v → AllFit limits d j (map counted v)
+all_counted limits b d i j [] f h = tt
+all_counted limits b d i j (a ∷ v) f h = (fits_counted limits d j a (f a h.0), absent_counted a.number v h.1, all_counted limits b d i j v f h.2)
+
+all_joined : (limits : Limits) (b d : Board) (i j : ℕ) (v w : List Knowledge) → j ≢ i → ((x : Knowledge) → Fits limits b i x → Fits limits d i x) → ((x : Knowledge) → Fits limits b j x → Fits limits d i x)
+    → AllFit limits b i v → AllFit limits b j w → AllFit limits d i (joined v w)
+all_joined limits b d i j [] w ne f g h k = all_counted limits b d j i w g k
+all_joined limits b d i j (a ∷ v) w ne f g h k =
+    (fits_counted limits d i a (f a h.0), absent_append a.number (map counted v) (map counted w) (absent_counted a.number v h.1) (absent_counted a.number w (absent_elsewhere limits b i j a w ne h.0 k)), all_joined limits b d i j v w ne f g h.2 k)
+
+-- the others of a list in which a pass is absent
+all_others : (limits : Limits) (b d : Board) (i k : ℕ) (v : List Knowledge) → ((x : Knowledge) → x.number ≢ k → Fits limits b i x → Fits limits d i x) → IsAbsent k v → AllFit limits b i v → AllFit limits d i (map counted v)
+all_others limits b d i k [] f n h = tt
+all_others limits b d i k (a ∷ v) f n h = (fits_counted limits d i a (f a n.0 h.0), absent_counted a.number v h.1, all_others limits b d i k v f n.1 h.2)
+
+module _ (limits : Limits) where
+  -- the first pass of a seat gets a seat of its own
+  pub deals : (i : ℕ) (a : Knowledge) (v : List Knowledge) → Splits (Shows limits) i (a ∷ v) (other_seats (a ∷ v)) (first_seat (a ∷ v))
+  deals i a v s h at =
+      let b = h.0 in let t = h.1 in
+      let n = length s.views in
+      let d : Board = record b { seat_of = moved a.number n b.seat_of } in
+      let f = t.views i (a ∷ v) at in
+      let changed = views_change limits b d s.views i (a ∷ v) (map counted v) t.views at
+      (λ j x ne fx. reseat limits b d.seat_of j j x (choose_else x.number a.number n (b.seat_of x.number) (apart limits b i j a x ne f.0 fx) ∙ fx.seat_is) fx)
+      (λ all. all_others limits b d i a.number v (λ x ne fx. reseat limits b d.seat_of i i x (choose_else x.number a.number n (b.seat_of x.number) ne ∙ fx.seat_is) fx) all.1 all.2) in
+      let sized : length (set s.views i (map counted v)) ≡ n = length-set s.views i (map counted v) in
+      let new : AllFit limits d n (counted a ∷ []) = (fits_counted limits d n a (reseat limits b d.seat_of i n a (choose_then a.number a.number n (b.seat_of a.number) refl) f.0), tt, tt) in (
+        d,
+        record {
+          table = record { words = t.table.words; home = t.table.home; version = t.table.version };
+          sound = sound_seats limits b d.seat_of t.sound;
+          views = λ j u e. ⊎_elim (λ there. changed j u there)
+              (λ (p : (j ≡ length (set s.views i (map counted v))) × (counted a ∷ [] ≡ u)). subst (λ (q : ℕ × List Knowledge). AllFit limits d q.0 q.1) (λ k. (sym (p.0 ∙ sized) k, p.1 k)) new)
+              (at_snoc_place (set s.views i (map counted v)) (counted a ∷ []) u j e);
+        },
+      )
+
+  -- two seats become one
+  pub joins : (i : ℕ) (v : List Knowledge) (other : ℕ) (w : List Knowledge) → Joins (Shows limits) i v other w (joined v w) []
+  joins i v other w s h at ne there =
+      let b = h.0 in let t = h.1 in
+      let d : Board = record b { seat_of = gathered other i b.seat_of } in
+      let was : get_elem? s.views other ≡ some w = sym (set_else s.views i other (joined v w) ne) ∙ there in
+      let to_i = λ (x : Knowledge) (fx : Fits limits b other x). reseat limits b d.seat_of other i x (choose_then (b.seat_of x.number) other i (b.seat_of x.number) fx.seat_is) fx in
+      let stay = λ (j : ℕ) (x : Knowledge) (apart_from : j ≢ other) (fx : Fits limits b j x). reseat limits b d.seat_of j j x (choose_else (b.seat_of x.number) other i (b.seat_of x.number) (λ q. apart_from (sym fx.seat_is ∙ q)) ∙ fx.seat_is) fx in (
+        d,
+        record {
+          table = record { words = t.table.words; home = t.table.home; version = t.table.version };
+          sound = sound_seats limits b d.seat_of t.sound;
+          views = λ j u e. ⊎_elim
+              (λ (p : (j ≡ other) × ([] ≡ u)). subst (AllFit limits d j) p.1 tt)
+              (λ (p : (j ≢ other) × (get_elem? (set s.views i (joined v w)) j ≡ some u)). ⊎_elim
+              (λ (q : (j ≡ i) × (joined v w ≡ u)). subst (λ (r : ℕ × List Knowledge). AllFit limits d r.0 r.1) (λ k. (sym q.0 k, q.1 k)) (all_joined limits b d i other v w ne (λ x fx. stay i x (λ q'. ne (sym q')) fx) to_i (t.views i v at) (t.views other w was)))
+              (λ (q : (j ≢ i) × (get_elem? s.views j ≡ some u)). all_fit limits b d j u (λ x fx. stay j x p.0 fx) (t.views j u q.1))
+              (at_set s.views i j (joined v w) u p.1))
+              (at_set (set s.views i (joined v w)) other j [] u e);
+        },
+      )
+
+-- the passes from k on are all different
+newcomers-absent : (limits : Limits) (j k n : ℕ) → j < k → IsAbsent j (newcomers limits 0 k n)
+unfolding newcomers
+newcomers-absent limits j k zero lt = tt
+newcomers-absent limits j k (suc n) lt = ((λ e. omega arith), newcomers-absent limits j (suc k) n (omega arith))
+
+some_page : (limits : Limits) → IsWithin limits → 0 < limits.pages
+some_page limits within = let w = within.some_pages in omega arith
+
+-- version 0 has the page 0 alone
+first_inside : (pages : ℕ) → 0 < pages → AreInside pages []
+first_inside pages positive zero zero le r = positive
+first_inside pages positive zero (suc p) le r = absurd (let e : has (0 ∷ []) (suc p) ≡ false = rw (ne_eqb 0 (suc p) (λ z. absurd (omega arith))) refl in cc)
+first_inside pages positive (suc n) p le r = absurd (omega arith)
+
+first_own : (n : ℕ) → n ≤ 0 → IsTrue (has (reach_at [] n) (page_at [] n))
+first_own zero le = refl
+first_own (suc n) le = absurd (omega arith)
+
+abbrev first_board : Limits → List ℕ → Board
+first_board limits words = record { log = []; world = first_state limits.pages limits.passes limits.commits (λ p i. slice_index words (word_place p i)); seat_of = λ _. 0 }
+
+newcomers_fit : (limits : Limits) (words : List ℕ) (k n : ℕ) → k + n ≡ limits.passes → AllFit limits (first_board limits words) 0 (newcomers limits 0 k n)
+unfolding newcomers
+newcomers_fit limits words k zero e = tt
+newcomers_fit limits words k (suc n) e = (
+  record { number = omega arith; limits_are = refl; seat_is = refl; seen = ([], refl); mine = by_pass-nil k; own = by_pass-nil k; writes = refl; whole = λ w. absurd (true≢false (sym w)); phase = refl; pin = tt; image = λ x n p i e. absurd (cc) },
+  newcomers-absent limits k (suc k) n (omega arith),
+  newcomers_fit limits words (suc k) n (omega arith),
+)
+
+zero_first : (p : ℕ) → (p == 0) ≡ has (0 ∷ []) p
+zero_first zero = refl
+zero_first (suc p) = rw (ne_eqb 0 (suc p) (λ z. absurd (omega arith)), ne_eqb (suc p) 0 (λ z. absurd (omega arith))) refl
+
+pub begins : (limits : Limits) (words : List ℕ) (ledger : Ledger) → IsWithin limits → length words ≡ 528 + 512 * limits.pages → ((k : ℕ) → k < 528 → slice_index words k ≡ 0)
+    → ledger.journal.entries ≡ [] → ledger.journal.limit ≡ limits.commits → ledger.page ≡ 0 → length (ledger_places ledger) ≡ limits.pages → ShowsPlaces (ledger_places ledger) (first_board limits words).world → map undone_place (ledger_places ledger) ≡ (ledger_places ledger)
+    → Shows limits (opening words (Some ledger ∷ []) (everyone limits))
+begins limits words ledger within size blank empty limit page count shown idle = (
+  first_board limits words,
+  record {
+    table = record {
+      words = record { size = size; lock = blank 0 (omega arith); current = blank 8 (omega arith); announced = λ k lt. blank (16 + 8 * k) (let f = within.few in omega arith); pages = λ p i a b. refl };
+      home = (ledger, refl, record { journal = empty; limit = limit; page = page; count = count; shown = shown; idle = idle });
+      version = refl;
+    };
+    sound = record {
+      within = within;
+      legal = legal-nil;
+      by_passes = below-nil limits.passes;
+      room = omega arith;
+      page = omega arith;
+      inside = first_inside limits.pages (some_page limits within);
+      own_pages = first_own;
+      pages = refl;
+      passes = refl;
+      commits = refl;
+      holder = λ h e. absurd (cc);
+      reaches = λ n p le. reached n p le;
+      machine = first-sound limits.pages limits.passes limits.commits (λ p i. slice_index words (word_place p i)) (some_page limits within);
+    };
+    views = one;
+  },
+)
+  where
+    reached : (n p : ℕ) → n ≤ 0 → (first_board limits words).world.reach n p ≡ has (reach_at [] n) p
+    reached zero p le = zero_first p
+    reached (suc n) p le = absurd (omega arith)
+
+    one : (j : ℕ) (u : List Knowledge) → get_elem? (everyone limits ∷ []) j ≡ some u → AllFit limits (first_board limits words) j u
+    one zero u e = subst (AllFit limits (first_board limits words) 0) (some-injective (everyone limits) u e) (newcomers_fit limits words 0 limits.passes (omega arith))
+    one (suc j) u e = absurd (some-ne-none u (sym e))
+
+-- the first of the newcomers is dealt a seat
+pub newcomers-first : (limits : Limits) (t k n : ℕ) → first_seat (newcomers limits t k (suc n)) ≡ newcomer limits (t + 1) k ∷ []
+unfolding newcomers
+newcomers-first limits t k n = refl
+
+newcomers-counted : (limits : Limits) (t k n : ℕ) → map counted (newcomers limits t k n) ≡ newcomers limits (t + 1) k n
+unfolding newcomers
+newcomers-counted limits t k zero = refl
+newcomers-counted limits t k (suc n) = ap (λ v. newcomer limits (t + 1) k ∷ v) (newcomers-counted limits t (suc k) n)
+
+pub newcomers-others : (limits : Limits) (t k n : ℕ) → other_seats (newcomers limits t k (suc n)) ≡ newcomers limits (t + 1) (suc k) n
+unfolding newcomers
+newcomers-others limits t k n = newcomers-counted limits t (suc k) n
+
+pub newcomers-deal : (limits of : Limits) (i t k n : ℕ) (v : List Knowledge) → v ≡ newcomers of t k (suc n) → Splits (Shows limits) i v (other_seats v) (first_seat v)
+unfolding newcomers
+newcomers-deal limits of i t k n v e = subst (λ u. Splits (Shows limits) i u (other_seats u) (first_seat u)) (sym e) (deals limits i (newcomer of t k) (newcomers of t (suc k) n))
+
+abbrev pub Me2 : Type 0
+Me2 = Me (Option Ledger) (List Knowledge)
+
+pub newcomer_told : (limits : Limits) (t k : ℕ) → IsWithin limits → k < limits.passes → IsTold (newcomer limits t k) k 0
+newcomer_told limits t k within lt = record { number_is = refl; seen_is = refl; writes = refl; pass = record { within = within; legal = legal-nil; number_below = lt; by_passes = below-nil limits.passes; room = omega arith; inside = first_inside limits.pages (some_page limits within); own_pages = first_own; pin = tt; mine = by_pass-nil k } }
+
+pub AreNewAt-push : (id : TableId) (limits : Limits) (k : ℕ) (ss : List Place) (s : Place) → AreNewAt id limits k ss → (s.blank ≡ false) × (s.table ≡ id) × (s.knows ≡ newcomer limits (k + length ss + 1) (k + length ss)) → AreNewAt id limits k (ss ++ s ∷ [])
+AreNewAt-push id limits k [] s h new = (subst (λ n. (s.blank ≡ false) × (s.table ≡ id) × (s.knows ≡ newcomer limits (n + 1) n)) (let e : k + length {A = Place} [] ≡ k = omega arith in e) new, tt)
+AreNewAt-push id limits k (x ∷ ss) s h new = (h.0, AreNewAt-push id limits (k + 1) ss s h.1 (subst (λ n. (s.blank ≡ false) × (s.table ≡ id) × (s.knows ≡ newcomer limits (n + 1) n)) (let e : k + length (x ∷ ss) ≡ k + 1 + length ss = omega arith in e) new))
+
+pub dealt : (limits : Limits) (k n : ℕ) (me r : Me2) → me ≡ (newcomers limits k k (suc n), []) → r ≡ (first_seat me.0, []) → r ≡ (newcomer limits (k + 1) k ∷ [], [])
+dealt limits k n me r e f = f ∙ ap (λ (m : Me2). (first_seat m.0, [])) e ∙ ap (λ (v : List Knowledge). (v, [])) (newcomers-first limits k k n)
+
+pub left_over : (limits : Limits) (k n : ℕ) (me r : Me2) → me ≡ (newcomers limits k k (suc n), []) → r ≡ (other_seats me.0, me.1) → r ≡ (newcomers limits (k + 1) (suc k) n, [])
+left_over limits k n me r e f = f ∙ ap (λ (m : Me2). (other_seats m.0, m.1)) e ∙ ap (λ (v : List Knowledge). (v, [])) (newcomers-others limits k k n)
+
+pub newcomers-none : (limits : Limits) (t k n : ℕ) → n ≡ 0 → newcomers limits t k n ≡ []
+unfolding newcomers
+newcomers-none limits t k n e = ap (newcomers limits t k) e
+
+-- the page 0 is current, and each other is free
+pub first_places : (limits : Limits) (words : List ℕ) (places : List PagePlace) → IsWithin limits → length places ≡ limits.pages → ((q : ℕ) → q < 1 → place_of places q ≡ Current) → ((q : ℕ) → 1 ≤ q → q < limits.pages → place_of places q ≡ Free)
+    → ShowsPlaces places (first_board limits words).world × (map undone_place places ≡ places)
+first_places limits words places within count used unused = (record { free = λ p. (at p).0; taken = λ p. (at p).1; retired = λ p. (at p).2 }, sym (mapped undone_place refl places places refl (λ q lt. (at q).3)))
+  where
+    at : (p : ℕ) → ((nat_lt p limits.pages && not (p == 0)) ≡ is_free (place_of places p)) × (false ≡ is_taken (place_of places p)) × (None ≡ retired_with (place_of places p)) × (place_of places p ≡ undone_place (place_of places p))
+    at zero = rw (used 0 (omega arith), lt-ltb 0 limits.pages (some_page limits within)) (refl, refl, refl, refl)
+    at (suc p) = elim (cases_lt (suc p) limits.pages) [
+      | inl lt ↦ rw (unused (suc p) (omega arith) lt, ne_eqb (suc p) 0 (λ z. absurd (omega arith)), lt-ltb (suc p) limits.pages lt) (refl, refl, refl, refl)
+      | inr le ↦ rw (get_or_past places (suc p) Current (omega (arith, le, count)), le-ltb (suc p) limits.pages le) (refl, refl, refl, refl)
+    ]
+
+pub begins_as : (limits : Limits) (words : List ℕ) (slots : List (Option Ledger)) (ledger : Ledger) → slots ≡ Some ledger ∷ [] → IsWithin limits → length words ≡ 528 + 512 * limits.pages → ((k : ℕ) → k < 528 → slice_index words k ≡ 0)
+    → ledger.journal.entries ≡ [] → ledger.journal.limit ≡ limits.commits → ledger.page ≡ 0 → length (ledger_places ledger) ≡ limits.pages → ((q : ℕ) → q < 1 → place_of (ledger_places ledger) q ≡ Current) → ((q : ℕ) → 1 ≤ q → q < limits.pages → place_of (ledger_places ledger) q ≡ Free) → Shows limits (opening words slots (everyone limits))
+begins_as limits words slots ledger e within size blank empty limit page count used unused =
+    let x = first_places limits words (ledger_places ledger) within count used unused in
+    subst (λ (xs : List (Option Ledger)). Shows limits (opening words xs (everyone limits))) (sym e) (begins limits words ledger within size blank empty limit page count x.0 x.1)
+
+pub only_one : (r l : List (Option Ledger)) (x : Option Ledger) → r ≡ l ++ x ∷ [] → l ≡ [] → r ≡ x ∷ []
+only_one r l x e f = e ∙ ap (λ xs. xs ++ x ∷ []) f

@@ -1,0 +1,336 @@
+-- Each step of the holder is its event of the machine, and keeps the rule.
+use Rattle.std.proofs.Common.{◌≡◌, ◌⊎◌, ℕ, suc, ◌+◌, ◌*◌, ◌<◌, ◌≤◌, ◌==◌, if◌then◌else◌, List, [], ◌∷◌, length, set, slice_set, Bool, true, false, ◌||◌, Option, Some, None, refl, sym, ap, ◌∙◌, subst, inl, inr, arith, slice_index, map, length-set, IsTrue}
+use Rattle.std.proofs.lemmas.Bool.Decides.{eqb_tells}
+use Rattle.std.proofs.lemmas.List.{length-map}
+use mathlib.Core.Option.{some, none}
+use lib.ListN.{get_elem?}
+use Rattle.atomic_table.specs.Table.{keeps, step, stepped, Allows}
+use Rattle.be_core.specs.declared.event.Phase.{Phase}
+use Rattle.be_core.specs.declared.event.Phase.TheVariants.{Idle, Looked, Announced, Pinned}
+use Rattle.be_core.specs.Machine.{World, Holder, Sound, after_fill, after_return, after_scan, least_after, least_with, swept, is_below, has}
+use Rattle.be_core.proofs.Writers.{after_fill-sound, after_return-sound}
+use Rattle.be_core.proofs.Scans.{part-sound, whole-sound, all_swept}
+use Rattle.be_table.specs.declared.ledger.Ledger.{Ledger}
+use Rattle.be_pages.specs.declared.page_pool.Place.{Place}
+use Rattle.be_pages.specs.declared.page_pool.Place.TheVariants.{Free, Reserved, Filled, Current, GivenUp, Retired}
+use Rattle.be_table.specs.declared.limits.Limits.{Limits}
+use Rattle.be_table.specs.declared.pass.Knowledge.{Knowledge}
+use Rattle.be_table.specs.Laws.{AllowsBy, NoEvent, IsFill, IsReturn, IsScan}
+use Rattle.be_pages.specs.Place.{place_of, is_in_hand, is_held_page, given_place, swept_place}
+use Rattle.be_table.specs.Ledger.{is_taken, is_free, retired_with}
+use Rattle.be_table.specs.Rule.{Board, page_at, reach_at, announce_word, word_place, holder_of, WordsAgree, Holds, Fits, Stands, Shows, counted}
+use Rattle.be_table.specs.Steps.{fills, takes_page, gives_up, least_found, least_then, pages_from, scans_on, scans_out, scans, MayBeFilled, OwnRead, FilledAt, PageTaken, PageGivenUp, Scanned}
+use Rattle.be_table.proofs.Frames.{Table, Me1, views_step, fits_counted, words_load, words_fill, pages_fill, same_place, not_holder, fits_world, sound_world}
+use Rattle.be_table.proofs.Moves.{forget}
+use Rattle.be_table.proofs.Locks.{at_work, held_by, same_some, unheld_by}
+use Rattle.be_table.proofs.Ledgers.{shows-fill, shows-return, shows-place, shows-sweep}
+
+-- the holder, with other numbers, places and words
+abbrev works : Knowledge → ℕ → ℕ → List Place → List ℕ → List ℕ → Knowledge
+works a scanned least places words held = record a { scanned = scanned; least = least; places = places; words = words; held = held; steps = a.steps + 1 }
+
+module _ (limits : Limits) (s : Table) (b0 : Board) (i : ℕ) (a : Knowledge) where
+  abbrev b : Board
+  b = held_by b0 (Some (holder_of a))
+
+  -- the machine's holder, sets and words change
+  pub stands_held : Stands limits s b → get_elem? s.views i ≡ some (a ∷ []) → (scanned least : ℕ) (places : List Place) (known held : List ℕ) (free taken : ℕ → Bool) (retired : ℕ → Option ℕ) (words : ℕ → ℕ → ℕ) (ws : List ℕ)
+      → let c = works a scanned least places known held in let w : World = record b.world { holder = Some (holder_of c); free = free; taken = taken; retired = retired; words = words } in
+      WordsAgree w (page_at b.log (length b.log)) ws → Sound w → Holds (record b { world = w }) c
+      → Stands limits (record { words = ws; homes = s.homes; views = set s.views i (c ∷ []) }) (record b { world = w })
+  stands_held h at scanned least places known held free taken retired words ws agree sound holds =
+      let c = works a scanned least places known held in
+      let w : World = record b.world { holder = Some (holder_of c); free = free; taken = taken; retired = retired; words = words } in
+      let fa = (h.views i (a ∷ []) at).0 in
+      let fc : Fits limits (record b { world = w }) i c = record { number = fa.number; limits_are = fa.limits_are; seat_is = fa.seat_is; seen = fa.seen; mine = fa.mine; own = fa.own; writes = fa.writes; whole = λ _. holds; phase = fa.phase; pin = fa.pin; image = fa.image } in
+      record {
+        table = record { words = agree; home = h.table.home; version = h.table.version };
+        sound = sound_world limits b w h.sound refl refl refl (λ g e. subst (λ (g : Holder). g.pass < limits.passes) (same_some _ _ e) fa.number) h.sound.reaches sound;
+        views = views_step limits b (record b { world = w }) s.views i a c h.views at (λ j y ne f. fits_world limits b w j y refl refl (λ z. absurd (not_holder b a y ne refl z)) (λ g. g) f) fc;
+      }
+
+fillable : (x : Place) → IsTrue (is_taken x || is_free x) → retired_with x ≡ None
+fillable Free h = refl
+fillable Reserved h = refl
+fillable Filled h = refl
+fillable Current h = absurd (cc)
+fillable GivenUp h = absurd (cc)
+fillable (Retired r) h = absurd (cc)
+
+least-found : (b : ℕ) (phase : Phase) → least_with b phase ≡ least_found b (announce_word phase)
+least-found b Idle = refl
+least-found b (Looked a) = refl
+least-found b (Announced a) = refl
+least-found b (Pinned a n) = refl
+
+least-plain : (b : Bool) (c c' l m m' : ℕ) → c ≡ c' → m ≡ m' → least_found (if b then c else l) m ≡ least_found (if b then c' else l) m'
+least-plain b c c' l m m' e g = cc
+
+module _ (limits : Limits) (slots i : ℕ) (a : Knowledge) (carried : List (ℕ × Option Ledger)) where
+  -- a load by the holder finds the word that it knows
+  pub own_by : (p j : ℕ) → a.writes ≡ true → p < a.limits.pages → j < 512 → AllowsBy limits slots i (a ∷ [], carried) (word_place p j) (λ n. n) NoEvent (OwnRead (step slots (word_place p j) 0 0 none) (a ∷ [], carried))
+  own_by p j writes lp lj s b h sized at fits =
+      let t = h.table in
+      let fa = (h.views i (a ∷ []) at).0 in
+      let m = fa.whole writes in
+      let inside : p < b.world.pages = rw h.sound.pages (rw fa.limits_are at lp) in (
+        counted a ∷ [],
+        keeps,
+        tt,
+        (
+          b,
+          record {
+            table = record { words = words_load b.world (page_at b.log (length b.log)) s.words t.words (word_place p j); home = t.home; version = t.version };
+            sound = h.sound;
+            views = views_step limits b b s.views i a (counted a) h.views at (λ j x _ f. f) (fits_counted limits b i a fa);
+          },
+          refl,
+        ),
+        (refl, t.words.pages p j inside lj ∙ sym (m.words p j inside lj)),
+      )
+
+  pub fill_by : (p j x : ℕ) → a.writes ≡ true → a.published ≡ false → MayBeFilled a.places p → j < 512
+      → AllowsBy limits slots i (a ∷ [], carried) (word_place p j) (λ _. x) (IsFill a.number p j x) (λ _. FilledAt (step slots (word_place p j) x 0 none) (a ∷ [], carried) x)
+  fill_by p j x writes unpublished may lj s b0 h0 sized at fits =
+      let work = at_work limits s b0 i a h0 at writes in
+      let b : Board = held_by b0 (Some (holder_of a)) in
+      let h = work.0 in
+      let m = work.1 in
+      let v = b.world in
+      let w : World = after_fill v p j x in
+      let lp : p < v.pages = omega (arith, may.0, m.count) in
+      let few : v.passes ≤ 64 = rw h.sound.passes h.sound.within.few in
+      let in_hand : IsTrue (v.taken p || v.free p) = rw (m.shown.free p, m.shown.taken p) may.1 in (
+        fills a p j x ∷ [],
+        keeps,
+        tt,
+        (
+          record b { world = w },
+          stands_held limits s b0 i a h at a.scanned a.least (slice_set a.places p Filled) (slice_set a.words (word_place p j) x) a.held w.free w.taken w.retired w.words (set s.words (word_place p j) x)
+              (words_fill v (page_at b.log (length b.log)) s.words h.table.words p j x lp lj few)
+              (after_fill-sound v h.sound.machine p in_hand j x (holder_of a, refl))
+              (record {
+                log = m.log;
+                holder = refl;
+                turn = m.turn;
+                count = length-set a.places p Filled ∙ m.count;
+                shown = shows-fill a.places v m.shown p j x may.0 (fillable (place_of a.places p) may.1);
+                size = length-set a.words (word_place p j) x ∙ m.size;
+                words = pages_fill v.pages v.words a.words p j x m.size lp lj m.words;
+              }),
+          unheld_by b0.world (holder_of a) (λ u. IsFill a.number p j x 0 u w) ((h0.views i (a ∷ []) at).0.whole writes).holder ((lp, lj, (holder_of a, (refl, refl, unpublished)), in_hand), refl),
+        ),
+        (λ q k e lk. let z = same_place p j q k lj lk e in ap (λ (y : ℕ × ℕ). (fills a y.0 y.1 x ∷ [], carried)) (λ o. (z.0 o, z.1 o))),
+      )
+
+  -- a load by the holder, before which a page goes to another place that is the same for the machine
+  note_by : (p : ℕ) (x : Place) → a.writes ≡ true → p < length a.places → is_free x ≡ is_free (place_of a.places p) → is_taken x ≡ is_taken (place_of a.places p) → retired_with x ≡ retired_with (place_of a.places p)
+      → let c : Knowledge = record a { places = slice_set a.places p x; steps = a.steps + 1 } in AllowsBy limits slots i (a ∷ [], carried) (word_place p 0) (λ n. n) NoEvent (λ n r. r ≡ (c ∷ [], carried))
+  note_by p x writes lp free taken retired s b0 h0 sized at fits =
+      let work = at_work limits s b0 i a h0 at writes in
+      let b : Board = held_by b0 (Some (holder_of a)) in
+      let h = work.0 in
+      let m = work.1 in
+      let v = b.world in
+      let t = words_load v (page_at b.log (length b.log)) s.words h.table.words (word_place p 0) in (
+        record a { places = slice_set a.places p x; steps = a.steps + 1 } ∷ [],
+        keeps,
+        tt,
+        (
+          b,
+          stands_held limits s b0 i a h at a.scanned a.least (slice_set a.places p x) a.words a.held v.free v.taken v.retired v.words (set s.words (word_place p 0) (slice_index s.words (word_place p 0)))
+              t h.sound.machine
+              (record {
+                log = m.log;
+                holder = refl;
+                turn = m.turn;
+                count = length-set a.places p x ∙ m.count;
+                shown = shows-place a.places v m.shown p x lp free taken retired;
+                size = m.size;
+                words = m.words;
+              }),
+          ap (λ o. record b0.world { holder = o }) (sym ((h0.views i (a ∷ []) at).0.whole writes).holder),
+        ),
+        refl,
+      )
+
+  -- a load by the holder, before which a page that it had filled goes back to the free ones
+  back_by : (p : ℕ) → a.writes ≡ true → p < length a.places → place_of a.places p ≡ Filled
+      → let c : Knowledge = record a { places = slice_set a.places p Free; steps = a.steps + 1 } in AllowsBy limits slots i (a ∷ [], carried) (word_place p 0) (λ n. n) (IsReturn p) (λ n r. r ≡ (c ∷ [], carried))
+  back_by p writes lp filled s b0 h0 sized at fits =
+      let work = at_work limits s b0 i a h0 at writes in
+      let b : Board = held_by b0 (Some (holder_of a)) in
+      let h = work.0 in
+      let m = work.1 in
+      let v = b.world in
+      let w : World = after_return v p in
+      let in_hand : IsTrue (v.taken p) = m.shown.taken p ∙ ap is_taken filled in
+      let t = words_load v (page_at b.log (length b.log)) s.words h.table.words (word_place p 0) in (
+        record a { places = slice_set a.places p Free; steps = a.steps + 1 } ∷ [],
+        keeps,
+        tt,
+        (
+          record b { world = w },
+          stands_held limits s b0 i a h at a.scanned a.least (slice_set a.places p Free) a.words a.held w.free w.taken w.retired w.words (set s.words (word_place p 0) (slice_index s.words (word_place p 0)))
+              (record { size = t.size; lock = t.lock; current = t.current; announced = t.announced; pages = t.pages })
+              (after_return-sound v h.sound.machine p in_hand)
+              (record {
+                log = m.log;
+                holder = refl;
+                turn = m.turn;
+                count = length-set a.places p Free ∙ m.count;
+                shown = shows-return a.places v m.shown p lp (ap retired_with filled);
+                size = m.size;
+                words = m.words;
+              }),
+          unheld_by b0.world (holder_of a) (λ u. IsReturn p 0 u w) ((h0.views i (a ∷ []) at).0.whole writes).holder (in_hand, refl),
+        ),
+        refl,
+      )
+
+  -- the page at whose first word the step was
+  at_page : (p : ℕ) (x : Place) (c : ℕ → Knowledge) → c p ≡ record a { places = slice_set a.places p x; steps = a.steps + 1 } → (event : ℕ → World → World → Type 0)
+      → AllowsBy limits slots i (a ∷ [], carried) (word_place p 0) (λ n. n) event (λ n r. r ≡ (record a { places = slice_set a.places p x; steps = a.steps + 1 } ∷ [], carried))
+      → AllowsBy limits slots i (a ∷ [], carried) (word_place p 0) (λ n. n) event (λ n r. (q : ℕ) → word_place p 0 ≡ word_place q 0 → r ≡ (c q ∷ [], carried))
+  at_page p x c is event by s b h sized at fits =
+      let y = by s b h sized at fits in
+      (y.0, y.1, y.2, y.3, λ q f. let z = same_place p 0 q 0 (omega arith) (omega arith) f in y.4 ∙ ap (λ (k : Knowledge). (k ∷ [], carried)) (sym is ∙ ap c z.0))
+
+  -- a step that is one event is one of more
+  widen : (p : ℕ) (x : Place) (event more : ℕ → World → World → Type 0) → ((n : ℕ) (v w : World) → event n v w → more n v w)
+      → AllowsBy limits slots i (a ∷ [], carried) (word_place p 0) (λ n. n) event (λ n r. r ≡ (record a { places = slice_set a.places p x; steps = a.steps + 1 } ∷ [], carried))
+      → AllowsBy limits slots i (a ∷ [], carried) (word_place p 0) (λ n. n) more (λ n r. r ≡ (record a { places = slice_set a.places p x; steps = a.steps + 1 } ∷ [], carried))
+  widen p x event more g by s b h sized at fits = let y = by s b h sized at fits in (y.0, y.1, y.2, (y.3.0, y.3.1, g _ _ _ y.3.2), y.4)
+
+  pub take_by : (p : ℕ) → a.writes ≡ true → p < length a.places → place_of a.places p ≡ Free → AllowsBy limits slots i (a ∷ [], carried) (word_place p 0) (λ n. n) NoEvent (PageTaken (step slots (word_place p 0) 0 0 none) (a ∷ [], carried))
+  take_by p writes lp is = at_page p Reserved (takes_page a) refl NoEvent (note_by p Reserved writes lp (ap is_free (sym is)) (ap is_taken (sym is)) (ap retired_with (sym is)))
+
+  pub give_up_by : (p : ℕ) → a.writes ≡ true → p < length a.places → IsTrue (is_held_page (place_of a.places p)) → AllowsBy limits slots i (a ∷ [], carried) (word_place p 0) (λ n. n) (λ n v w. NoEvent n v w ⊎ IsReturn p n v w) (PageGivenUp (step slots (word_place p 0) 0 0 none) (a ∷ [], carried))
+  give_up_by p writes lp held = at_page p (given_place (place_of a.places p)) (gives_up a) refl Gives (by_place (place_of a.places p) refl held)
+    where
+      Gives : ℕ → World → World → Type 0
+      Gives n v w = NoEvent n v w ⊎ IsReturn p n v w
+
+      noted : (x : Place) → is_free x ≡ is_free (place_of a.places p) → is_taken x ≡ is_taken (place_of a.places p) → retired_with x ≡ retired_with (place_of a.places p)
+          → AllowsBy limits slots i (a ∷ [], carried) (word_place p 0) (λ n. n) Gives (λ n r. r ≡ (record a { places = slice_set a.places p x; steps = a.steps + 1 } ∷ [], carried))
+      noted x f t r = widen p x NoEvent Gives (λ n v w e. inl e) (note_by p x writes lp f t r)
+
+      by_place : (y : Place) → place_of a.places p ≡ y → IsTrue (is_held_page y) → AllowsBy limits slots i (a ∷ [], carried) (word_place p 0) (λ n. n) Gives (λ n r. r ≡ (record a { places = slice_set a.places p (given_place y); steps = a.steps + 1 } ∷ [], carried))
+      by_place Free e h = absurd (cc)
+      by_place Reserved e h = noted Free (ap is_free (sym e)) (ap is_taken (sym e)) (ap retired_with (sym e))
+      by_place Filled e h = widen p Free (IsReturn p) Gives (λ n v w r. inr r) (back_by p writes lp e)
+      by_place Current e h = noted GivenUp (ap is_free (sym e)) (ap is_taken (sym e)) (ap retired_with (sym e))
+      by_place GivenUp e h = absurd (cc)
+      by_place (Retired r) e h = absurd (cc)
+
+  -- a load of the announcement whose turn it is
+  pub scan_by : a.writes ≡ true → a.published ≡ false → AllowsBy limits slots i (a ∷ [], carried) (16 + 8 * a.scanned) (λ n. n) (IsScan a.number a.scanned) (Scanned (step slots (16 + 8 * a.scanned) 0 0 none) (a ∷ [], carried))
+  scan_by writes unpublished s b0 h0 sized at fits =
+      let work = at_work limits s b0 i a h0 at writes in
+      let b : Board = held_by b0 (Some (holder_of a)) in
+      let h = work.0 in
+      let m = work.1 in
+      let v = b.world in
+      let fa = (h.views i (a ∷ []) at).0 in
+      let j = a.scanned in
+      let n = slice_index s.words (16 + 8 * j) in
+      let t = words_load v (page_at b.log (length b.log)) s.words h.table.words (16 + 8 * j) in
+      let passes : a.limits.passes ≡ v.passes = ap (λ (l : Limits). l.passes) fa.limits_are ∙ sym h.sound.passes in
+      let least : least_after v (holder_of a) j ≡ least_then a n = least-found (if j == 0 then v.current else a.least) (v.phases j) ∙ least-plain (j == 0) v.current (length a.seen) a.least (announce_word (v.phases j)) n (h.table.version ∙ ap length (sym m.log)) (sym (h.table.words.announced j m.turn)) in
+      let is = ((h0.views i (a ∷ []) at).0.whole writes).holder in
+      elim (eqb_tells (suc j) v.passes) [
+        | inl y ↦
+            let c = scans_out a n in
+            let w : World = swept (record v { holder = Some (holder_of c) }) (least_then a n) in
+            let event : w ≡ after_scan v j = rw y.0 (ap (λ l. swept (record v { holder = Some record (holder_of a) { scanned = 0; least = l } }) l) (sym least)) in (
+              scans a n ∷ [],
+              keeps,
+              tt,
+              (
+                record b { world = w },
+                subst (λ x. Stands limits (stepped s (16 + 8 * j) n i carried (x ∷ []) keeps) (record b { world = w })) (sym (chosen_out passes y.0 n))
+                    (stands_held limits s b0 i a h at 0 (least_then a n) (map (swept_place (least_then a n)) a.places) a.words (pages_from is_in_hand 0 a.places) w.free w.taken w.retired w.words (set s.words (16 + 8 * j) n)
+                    (record { size = t.size; lock = t.lock; current = t.current; announced = t.announced; pages = t.pages })
+                    (subst Sound (λ k. swept (record v { holder = Some record (holder_of a) { scanned = 0; least = least k } }) (least k)) (whole-sound v h.sound.machine (holder_of a) a.number j (refl, refl, unpublished) refl y.1))
+                    (record {
+                      log = m.log;
+                      holder = refl;
+                      turn = rw h.sound.passes h.sound.within.some_pass;
+                      count = length-map a.places (swept_place (least_then a n)) ∙ m.count;
+                      shown = (let z = shows-sweep a.places v m.shown (least_then a n) in record { free = z.free; taken = z.taken; retired = z.retired });
+                      size = m.size;
+                      words = m.words;
+                    })),
+                unheld_by b0.world (holder_of a) (λ u. IsScan a.number j n u w) is ((m.turn, (holder_of a, (refl, refl, unpublished), refl)), event),
+              ),
+              (
+                refl,
+                λ _ p lp un.
+                    let l = least_then a n in
+                    let z = shows-sweep a.places v m.shown l in
+                    let count = length-map a.places (swept_place l) in
+                    let inside : p < v.pages = omega (arith, lp, count, m.count) in
+                    let x = all_swept v h.sound.machine (holder_of a) a.number j (refl, refl, unpublished) refl y.1 p inside
+                    (λ o lo hi. h.sound.reaches o p hi ∙ ap (λ g. has (reach_at g o) p) (sym m.log) ∙ un o (subst (λ q. q ≤ o) least lo) (let q = ap length m.log in let g = h.table.version in omega arith)) in
+                    rw (z.free p, z.taken p) at (subst (λ l. IsTrue ((v.free p || is_below l (v.retired p)) || v.taken p)) least x),
+              ),
+            )
+        | inr y ↦
+            let c = scans_on a n in
+            let w : World = record v { holder = Some (holder_of c) } in
+            let event : w ≡ after_scan v j = rw y.0 (ap (λ l. record v { holder = Some record (holder_of a) { scanned = suc j; least = l } }) (sym least)) in (
+              scans a n ∷ [],
+              keeps,
+              tt,
+              (
+                record b { world = w },
+                subst (λ x. Stands limits (stepped s (16 + 8 * j) n i carried (x ∷ []) keeps) (record b { world = w })) (sym (chosen_on passes y.0 n))
+                    (stands_held limits s b0 i a h at (suc j) (least_then a n) a.places a.words a.held w.free w.taken w.retired w.words (set s.words (16 + 8 * j) n)
+                    (record { size = t.size; lock = t.lock; current = t.current; announced = t.announced; pages = t.pages })
+                    (subst Sound (λ k. record v { holder = Some record (holder_of a) { scanned = suc j; least = least k } }) (part-sound v h.sound.machine (holder_of a) a.number j (refl, refl, unpublished) refl))
+                    (record {
+                      log = m.log;
+                      holder = refl;
+                      turn = (let z = m.turn in let d = y.1 in omega arith);
+                      count = m.count;
+                      shown = record { free = m.shown.free; taken = m.shown.taken; retired = m.shown.retired };
+                      size = m.size;
+                      words = m.words;
+                    })),
+                unheld_by b0.world (holder_of a) (λ u. IsScan a.number j n u w) is ((m.turn, (holder_of a, (refl, refl, unpublished), refl)), event),
+              ),
+              (refl, λ last. absurd (y.1 (last ∙ passes))),
+            )
+      ]
+    where
+      chosen_out : {passes : ℕ} → a.limits.passes ≡ passes → (suc a.scanned == passes) ≡ true → (n : ℕ) → scans a n ≡ scans_out a n
+      chosen_out p e n = ap (λ (x : Bool). if x then scans_out a n else scans_on a n) (ap (λ q. suc a.scanned == q) p ∙ e)
+
+      chosen_on : {passes : ℕ} → a.limits.passes ≡ passes → (suc a.scanned == passes) ≡ false → (n : ℕ) → scans a n ≡ scans_on a n
+      chosen_on p e n = ap (λ (x : Bool). if x then scans_out a n else scans_on a n) (ap (λ q. suc a.scanned == q) p ∙ e)
+
+module _ (limits : Limits) (slots i : ℕ) (a : Knowledge) (carried : List (ℕ × Option Ledger)) (me : Me1) (e : me ≡ (a ∷ [], carried)) where
+  pub owns_as : (p j word : ℕ) → a.writes ≡ true → p < a.limits.pages → j < 512 → word ≡ word_place p j → Allows (Shows limits) slots i me word (λ n. n) (OwnRead (step slots word 0 0 none) me)
+  owns_as p j word writes lp lj at =
+      subst (λ (q : Me1 × ℕ). Allows (Shows limits) slots i q.0 q.1 (λ n. n) (OwnRead (step slots q.1 0 0 none) q.0)) (λ k. (sym e k, sym at k))
+      (forget limits slots i (a ∷ [], carried) (word_place p j) (λ n. n) NoEvent (OwnRead (step slots (word_place p j) 0 0 none) (a ∷ [], carried)) (own_by limits slots i a carried p j writes lp lj))
+
+  pub fills_as : (p j x word : ℕ) → a.writes ≡ true → a.published ≡ false → MayBeFilled a.places p → j < 512 → word ≡ word_place p j → Allows (Shows limits) slots i me word (λ _. x) (λ _. FilledAt (step slots word x 0 none) me x)
+  fills_as p j x word writes un may lj at =
+      subst (λ (q : Me1 × ℕ). Allows (Shows limits) slots i q.0 q.1 (λ _. x) (λ _. FilledAt (step slots q.1 x 0 none) q.0 x)) (λ k. (sym e k, sym at k))
+      (forget limits slots i (a ∷ [], carried) (word_place p j) (λ _. x) (IsFill a.number p j x) (λ _. FilledAt (step slots (word_place p j) x 0 none) (a ∷ [], carried) x) (fill_by limits slots i a carried p j x writes un may lj))
+
+  pub takes_as : (p word : ℕ) → a.writes ≡ true → p < length a.places → place_of a.places p ≡ Free → word ≡ word_place p 0 → Allows (Shows limits) slots i me word (λ n. n) (PageTaken (step slots word 0 0 none) me)
+  takes_as p word writes lp is at =
+      subst (λ (q : Me1 × ℕ). Allows (Shows limits) slots i q.0 q.1 (λ n. n) (PageTaken (step slots q.1 0 0 none) q.0)) (λ k. (sym e k, sym at k))
+      (forget limits slots i (a ∷ [], carried) (word_place p 0) (λ n. n) NoEvent (PageTaken (step slots (word_place p 0) 0 0 none) (a ∷ [], carried)) (take_by limits slots i a carried p writes lp is))
+
+  pub gives_as : (p word : ℕ) → a.writes ≡ true → p < length a.places → IsTrue (is_held_page (place_of a.places p)) → word ≡ word_place p 0 → Allows (Shows limits) slots i me word (λ n. n) (PageGivenUp (step slots word 0 0 none) me)
+  gives_as p word writes lp held at =
+      subst (λ (q : Me1 × ℕ). Allows (Shows limits) slots i q.0 q.1 (λ n. n) (PageGivenUp (step slots q.1 0 0 none) q.0)) (λ k. (sym e k, sym at k))
+      (forget limits slots i (a ∷ [], carried) (word_place p 0) (λ n. n) (λ n v w. NoEvent n v w ⊎ IsReturn p n v w) (PageGivenUp (step slots (word_place p 0) 0 0 none) (a ∷ [], carried)) (give_up_by limits slots i a carried p writes lp held))
+
+  pub scans_as : (word : ℕ) → a.writes ≡ true → a.published ≡ false → word ≡ 16 + 8 * a.scanned → Allows (Shows limits) slots i me word (λ n. n) (Scanned (step slots word 0 0 none) me)
+  scans_as word writes un at =
+      subst (λ (q : Me1 × ℕ). Allows (Shows limits) slots i q.0 q.1 (λ n. n) (Scanned (step slots q.1 0 0 none) q.0)) (λ k. (sym e k, sym at k))
+      (forget limits slots i (a ∷ [], carried) (16 + 8 * a.scanned) (λ n. n) (IsScan a.number a.scanned) (Scanned (step slots (16 + 8 * a.scanned) 0 0 none) (a ∷ [], carried)) (scan_by limits slots i a carried writes un))

@@ -1,0 +1,17 @@
+pub mod Frames
+pub mod Histories
+pub mod Holding
+pub mod Ledgers
+pub mod Locks
+pub mod Moves
+pub mod Pins
+pub mod Opened
+pub mod Scans
+pub mod Listed
+pub mod Publishing
+pub mod Deals
+pub mod PinMarks
+pub mod Meetings
+pub mod Closing
+pub mod Standings
+pub mod Told

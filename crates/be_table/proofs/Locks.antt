@@ -1,0 +1,209 @@
+-- The lock is taken and given back.
+use Rattle.std.proofs.Common.{◌≡◌, ◌≢◌, ℕ, ◌+◌, ◌*◌, ◌<◌, ◌≤◌, eqb, eq-eqb, ne_eqb, MatchBool, List, [], ◌∷◌, length, set, Bool, true, false, true≢false, Option, Some, None, refl, sym, ap, ◌∙◌, subst, arith, slice_index, map}
+use Rattle.std.proofs.lemmas.List.{length-map}
+use mathlib.Core.Option.{some, none}
+use mathlib.Core.Logic.{dite}
+use native.Mathlib.Decide.{ℕ_discrete}
+use prog.Atomic.{either}
+use lib.ListN.{get_elem?}
+use Rattle.atomic_table.specs.Table.{State, Me, Act, keeps, takes, gives, step, stepped, carried_after, Valid, Allows}
+use Rattle.be_core.specs.Machine.{has, World, Holder, MayLock, after_lock, after_unlock}
+use Rattle.be_core.proofs.Writers.{after_lock-sound, after_unlock-sound}
+use Rattle.be_table.specs.declared.ledger.Ledger.{Ledger}
+use Rattle.be_table.specs.declared.limits.Limits.{Limits}
+use Rattle.be_table.specs.declared.pass.Knowledge.{Knowledge}
+use Rattle.be_table.specs.Laws.{AllowsBy, IsLock, IsUnlock}
+use Rattle.be_pages.specs.Place.{undone_place}
+use Rattle.be_table.specs.Ledger.{ShowsPlaces}
+use Rattle.be_table.specs.Rule.{ledger_places, Board, entries, reach_at, page_at, lock_word, is_holder, holder_of, IsHome, IsSound, Holds, Fits, Stands, Shows, counted}
+use Rattle.be_table.specs.Steps.{takes_lock, leaves, Gets, IsLate, Locked, Unlocked}
+use Rattle.be_table.proofs.Histories.{starts_itself}
+use Rattle.be_table.proofs.Frames.{Table, Me1, views_step, fits_counted, longer_seen, is_pass, in_time_later, words_load, words_lock, not_holder, fits_world, not_other, sound_world}
+use Rattle.std.proofs.Math.Nat.{le_refl}
+use Rattle.be_table.specs.Reading.{at_start}
+use Rattle.be_table.proofs.Standings.{begun}
+use Rattle.be_table.proofs.Moves.{forget}
+use Rattle.be_table.proofs.Ledgers.{shows-unlock, idle-idle}
+
+pub same_some : (g k : Holder) → Some g ≡ Some k → g ≡ k
+same_some g k e = cc
+
+no_lock : (o : Option Holder) → lock_word o ≡ 0 → o ≡ None
+no_lock None e = refl
+no_lock (Some x) e = absurd (omega arith)
+
+-- the board with this holder
+abbrev pub held_by : Board → Option Holder → Board
+held_by b o = record { log = b.log; world = record b.world { holder = o }; seat_of = b.seat_of }
+
+-- what is so of the board with its holder spelt out is so of the board
+pub unheld_by : (w : World) (h : Holder) (P : World → Type 0) → w.holder ≡ Some h → P (record w { holder = Some h }) → P w
+unheld_by w h P e p = subst P (ap (λ (o : Option Holder). record w { holder = o }) (sym e)) p
+
+-- a pass that holds the lock is the machine's holder, and has seen the journal
+pub at_work : (limits : Limits) (s : Table) (b : Board) (i : ℕ) (a : Knowledge) → Stands limits s b → get_elem? s.views i ≡ some (a ∷ []) → a.writes ≡ true
+    → Stands limits s (held_by b (Some (holder_of a))) × Holds (held_by b (Some (holder_of a))) a
+at_work limits s b i a h at writes =
+    let f = (h.views i (a ∷ []) at).0 in let r = f.whole writes in
+    subst (λ (o : Option Holder). Stands limits s (held_by b o) × Holds (held_by b o) a) r.holder (h, r)
+
+-- what a step owes
+abbrev pub Goes : Limits → Table → Board → ℕ → ℕ → ℕ → List (ℕ × Option Ledger) → (World → World → Type 0) → (Me1 → Type 0) → Type 0
+Goes limits s b word n i carried event then = (w : List Knowledge) × (x : Act (Option Ledger)) × Valid s.homes carried x × ((d : Board) × Stands limits (stepped s word n i carried w x) d × event b.world d.world) × then (w, carried_after carried x)
+
+module _ (limits : Limits) (slots i : ℕ) (a : Knowledge) (carried : List (ℕ × Option Ledger)) where
+  lock_free : (s : Table) (b : Board) → Stands limits s (held_by b None) → get_elem? s.views i ≡ some (a ∷ []) → Goes limits s (held_by b None) 0 (a.number + 1) i carried (λ v w. MayLock v a.number × (w ≡ after_lock v a.number)) (Gets (a ∷ [], carried))
+  lock_free s b0 h at =
+      let b : Board = held_by b0 None in
+      let home : IsHome None b.world b.log s.homes = h.table.home in
+      let ledger = home.0 in
+      let x = home.2 in
+      let t = h.table in
+      let k = a.number in
+      let w : World = after_lock b.world k in
+      let d : Board = record b { world = w } in
+      let fa = (h.views i (a ∷ []) at).0 in
+      let below : k < b.world.passes = rw h.sound.passes fa.number in
+      let few : b.world.passes ≤ 64 = rw h.sound.passes h.sound.within.few in
+      let c = takes_lock a b.log (ledger_places ledger) s.words in
+      let v = words_lock b.world (page_at b.log (length b.log)) s.words t.words (k + 1) w.holder few refl in
+      let fc : Fits limits d i c = record {
+        number = fa.number;
+        limits_are = fa.limits_are;
+        seat_is = fa.seat_is;
+        seen = starts_itself b.log;
+        mine = fa.mine;
+        own = fa.mine;
+        writes = sym (eq-eqb k k refl);
+        whole = λ _. record {
+          log = refl;
+          holder = ap (λ n. Some record { pass = k; scanned = 0; least = n; published = false }) t.version;
+          turn = rw h.sound.passes h.sound.within.some_pass;
+          count = x.count;
+          shown = record { free = x.shown.free; taken = λ p. sym (h.sound.machine.unheld refl p) ∙ x.shown.taken p; retired = x.shown.retired };
+          size = t.words.size;
+          words = t.words.pages;
+        };
+        phase = fa.phase;
+        pin = in_time_later (length a.seen) (length b.log) a.phase (longer_seen b.log a.seen fa.seen) fa.pin;
+        image = fa.image;
+      } in
+      let sd : IsSound limits d = sound_world limits b w h.sound refl refl refl (λ g e. subst (λ (g : Holder). g.pass < limits.passes) (same_some _ _ e) fa.number) h.sound.reaches (after_lock-sound b.world h.sound.machine k (below, refl)) in (
+        c ∷ [],
+        takes 0 (Some ledger),
+        ap (λ hs. get_elem? hs 0) home.1,
+        (
+          d,
+          record {
+            table = record { words = record { size = v.size; lock = v.lock; current = v.current; announced = v.announced; pages = v.pages }; home = ap (λ hs. set hs 0 none) home.1; version = t.version };
+            sound = sd;
+            views = views_step limits b d s.views i a c h.views at (λ j y ne f. fits_world limits b w j y (not_other k y.number ne) refl (λ z. absurd (let e = z.holder in cc)) (λ g. g) f) fc;
+          },
+          ((below, refl), refl),
+        ),
+        (ledger, b.log, s.words, (refl, fa.seen, is_pass limits d i c sd fc, record { journal = x.journal; limit = x.limit ∙ h.sound.commits ∙ ap (λ (l : Limits). l.commits) (sym fa.limits_are); page = x.page; places = refl; idle = x.idle; count = x.count ∙ h.sound.pages ∙ ap (λ (l : Limits). l.pages) (sym fa.limits_are); size = t.words.size ∙ ap (λ n. 528 + 512 * n) (h.sound.pages ∙ ap (λ (l : Limits). l.pages) (sym fa.limits_are)); begun = λ q. begun (ledger_places ledger) b.world h.sound.machine x.shown x.count (let few = h.sound.within.few_pages in let count = x.count in let pages = h.sound.pages in omega arith) x.idle q ∙ ap at_start (h.sound.reaches b.world.current q (le_refl b.world.current) ∙ ap (λ n. has (reach_at b.log n) q) t.version) })),
+      )
+
+  taken : (o : Option Holder) (passes : ℕ) → lock_word o ≢ 0 → ((g : Holder) → o ≡ Some g → g.pass < passes) → is_holder o a.number ≡ false → (lock_word o ≢ a.number + 1) × (lock_word o < passes + 1)
+  taken None passes n b f = absurd (n refl)
+  taken (Some x) passes n b f = let lt = b x refl in ((λ e. true≢false (sym (eq-eqb x.pass a.number (omega arith)) ∙ f)), omega arith)
+
+  lock_late : (s : Table) (b : Board) → Stands limits s b → get_elem? s.views i ≡ some (a ∷ []) → a.writes ≡ false → lock_word b.world.holder ≢ 0 → Goes limits s b 0 (slice_index s.words 0) i carried (λ v w. w ≡ v) (IsLate (a ∷ [], carried) (lock_word b.world.holder))
+  lock_late s b h at idle held =
+      let fa = (h.views i (a ∷ []) at).0 in
+      let late = taken b.world.holder b.world.passes held (λ g e. rw h.sound.passes (h.sound.holder g e)) (sym fa.writes ∙ idle) in (
+        counted a ∷ [],
+        keeps,
+        tt,
+        (
+          b,
+          record {
+            table = record { words = words_load b.world (page_at b.log (length b.log)) s.words h.table.words 0; home = h.table.home; version = h.table.version };
+            sound = h.sound;
+            views = views_step limits b b s.views i a (counted a) h.views at (λ j x _ f. f) (fits_counted limits b i a fa);
+          },
+          refl,
+        ),
+        (refl, late.0, subst (λ (l : Limits). lock_word b.world.holder < l.passes + 1) (sym fa.limits_are) (subst (λ n. lock_word b.world.holder < n + 1) h.sound.passes late.1)),
+      )
+
+  pub lock_by : a.writes ≡ false → AllowsBy limits slots i (a ∷ [], carried) 0 (λ n. either (eqb n 0) (a.number + 1) n) (IsLock a.number) (Locked (step slots 0 0 (a.number + 1) none) (a ∷ [], carried))
+  lock_by idle s b h sized at fits =
+      let found : slice_index s.words 0 ≡ lock_word b.world.holder = h.table.words.lock in
+      let E : Bool → World → World → Type 0 = λ z v w. MatchBool z (MayLock v a.number × (w ≡ after_lock v a.number)) (w ≡ v) in
+      let P : Board → ℕ → Type 0 = λ d n. Goes limits s d 0 (either (eqb n 0) (a.number + 1) n) i carried (E (eqb n 0)) (Locked (step slots 0 0 (a.number + 1) none) (a ∷ [], carried) n) in
+      dite (ℕ_discrete (lock_word b.world.holder) 0)
+      (λ is0. let none_is = no_lock b.world.holder is0 in
+      subst (λ (o : Option Holder). P (held_by b o) (slice_index s.words 0)) (sym none_is) (subst (P (held_by b None)) (sym (found ∙ is0)) (lock_free s b (subst (λ (o : Option Holder). Stands limits s (held_by b o)) none_is h) at)))
+      (λ held. let Q : Bool → ℕ → Type 0 = λ z n. Goes limits s b 0 (either z (a.number + 1) (slice_index s.words 0)) i carried (E z) (λ r. MatchBool z (Gets (a ∷ [], carried) r) (IsLate (a ∷ [], carried) n r)) in
+      let none_is : eqb (slice_index s.words 0) 0 ≡ false = ne_eqb (slice_index s.words 0) 0 (λ e. held (sym found ∙ e)) in
+      subst (λ (p : Bool × ℕ). Q p.0 p.1) (λ k. (sym none_is k, sym found k)) (lock_late s b h at idle held))
+
+module _ (limits : Limits) (slots i : ℕ) (a : Knowledge) (ledger : Ledger) where
+  pub unlock_by : a.writes ≡ true → ledger.journal.entries ≡ entries a.seen → ledger.journal.limit ≡ a.limits.commits → ledger.page ≡ page_at a.seen (length a.seen) → (ledger_places ledger) ≡ map undone_place a.places
+      → AllowsBy limits slots i (a ∷ [], (0, Some ledger) ∷ []) 0 (λ _. 0) (IsUnlock a.number) (λ _. Unlocked (step slots 0 0 0 none) (a ∷ [], (0, Some ledger) ∷ []) 0)
+  unlock_by writes journal limit page places s b0 h0 sized at fits =
+      let work = at_work limits s b0 i a h0 at writes in
+      let b : Board = held_by b0 (Some (holder_of a)) in
+      let h = work.0 in
+      let m = work.1 in
+      let t = h.table in
+      let w : World = after_unlock b.world in
+      let d : Board = record b { world = w } in
+      let fa = (h.views i (a ∷ []) at).0 in
+      let few : b.world.passes ≤ 64 = rw h.sound.passes h.sound.within.few in
+      let c = leaves a in
+      let v = words_lock b.world (page_at b.log (length b.log)) s.words t.words 0 None few refl in
+      let shown = shows-unlock a.places b.world m.shown in
+      let fc : Fits limits d i c = record { number = fa.number; limits_are = fa.limits_are; seat_is = fa.seat_is; seen = fa.seen; mine = fa.mine; own = fa.own; writes = refl; whole = λ z. absurd (true≢false (sym z)); phase = fa.phase; pin = fa.pin; image = fa.image } in (
+        c ∷ [],
+        gives,
+        tt,
+        (
+          d,
+          record {
+            table = record {
+              words = record { size = v.size; lock = v.lock; current = v.current; announced = v.announced; pages = v.pages };
+              home = (
+                ledger,
+                ap (λ hs. set hs 0 (some (Some ledger))) t.home,
+                record {
+                  journal = journal ∙ ap entries m.log;
+                  limit = limit ∙ ap (λ (l : Limits). l.commits) fa.limits_are ∙ sym h.sound.commits;
+                  page = page ∙ ap (λ l. page_at l (length l)) m.log;
+                  count = ap length places ∙ length-map a.places undone_place ∙ m.count;
+                  shown = subst (λ ps. ShowsPlaces ps w) (sym places) shown;
+                  idle = ap (map undone_place) places ∙ idle-idle a.places ∙ sym places;
+                },
+              );
+              version = t.version;
+            };
+            sound = sound_world limits b w h.sound refl refl refl (λ g e. absurd (cc)) h.sound.reaches (after_unlock-sound b.world h.sound.machine a.number (holder_of a, refl, refl));
+            views = views_step limits b d s.views i a c h.views at (λ j y ne f. fits_world limits b w j y (sym (not_other a.number y.number ne)) refl (λ z. absurd (not_holder b a y ne refl z)) (λ g. g) f) fc;
+          },
+          ((holder_of a, ((h0.views i (a ∷ []) at).0.whole writes).holder, refl), refl),
+        ),
+        refl,
+      )
+
+module _ (limits : Limits) (slots i : ℕ) (a : Knowledge) (carried : List (ℕ × Option Ledger)) (me : Me1) where
+  pub locks_as : me ≡ (a ∷ [], carried) → (new : ℕ) → a.writes ≡ false → new ≡ a.number + 1 → Allows (Shows limits) slots i me 0 (λ n. either (eqb n 0) new n) (Locked (step slots 0 0 new none) me)
+  locks_as e new idle is =
+      subst (λ (p : Me1 × ℕ). Allows (Shows limits) slots i p.0 0 (λ n. either (eqb n 0) p.1 n) (Locked (step slots 0 0 p.1 none) p.0)) (λ k. (sym e k, sym is k))
+      (forget limits slots i (a ∷ [], carried) 0 (λ n. either (eqb n 0) (a.number + 1) n) (IsLock a.number) (Locked (step slots 0 0 (a.number + 1) none) (a ∷ [], carried)) (lock_by limits slots i a carried idle))
+
+  pub unlocks_as : (ledger : Ledger) → me ≡ (a ∷ [], (0, Some ledger) ∷ []) → a.writes ≡ true → ledger.journal.entries ≡ entries a.seen → ledger.journal.limit ≡ a.limits.commits → ledger.page ≡ page_at a.seen (length a.seen) → (ledger_places ledger) ≡ map undone_place a.places
+      → Allows (Shows limits) slots i me 0 (λ _. 0) (λ _. Unlocked (step slots 0 0 0 none) me 0)
+  unlocks_as ledger e writes journal limit page places =
+      subst (λ (m : Me1). Allows (Shows limits) slots i m 0 (λ _. 0) (λ _. Unlocked (step slots 0 0 0 none) m 0)) (sym e)
+      (forget limits slots i (a ∷ [], (0, Some ledger) ∷ []) 0 (λ _. 0) (IsUnlock a.number) (λ _. Unlocked (step slots 0 0 0 none) (a ∷ [], (0, Some ledger) ∷ []) 0) (unlock_by limits slots i a ledger writes journal limit page places))
+
+pub got : (m : Me1) (n : ℕ) (r : Me1) → MatchBool (eqb n 0) (Gets m r) (IsLate m n r) → n ≡ 0 → Gets m r
+got m n r l e = subst (λ (b : Bool). MatchBool b (Gets m r) (IsLate m n r)) (eq-eqb n 0 e) l
+
+pub late : (m : Me1) (n : ℕ) (r : Me1) → MatchBool (eqb n 0) (Gets m r) (IsLate m n r) → n ≢ 0 → IsLate m n r
+late m n r l ne = subst (λ (b : Bool). MatchBool b (Gets m r) (IsLate m n r)) (ne_eqb n 0 ne) l
+
+-- the slot taken last is the first of the list
+pub is_out : (l rest : List (ℕ × Option Ledger)) (x : ℕ × Option Ledger) → l ≡ x ∷ rest → l ≡ x ∷ Rattle.atomic_table.specs.Table.rest l
+is_out l rest x e = e ∙ ap (λ y. x ∷ y) (sym (ap Rattle.atomic_table.specs.Table.rest e))

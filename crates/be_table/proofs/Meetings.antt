@@ -1,0 +1,99 @@
+-- Two passes of one seat compare what they have seen.
+use Rattle.std.proofs.Common.{◌≡◌, ℕ, ◌≤◌, List, [], ◌∷◌, ◌++◌, length, Bool, false, true≢false, if◌then◌else◌, Option, refl, sym, ◌∙◌, subst, arith}
+use mathlib.Core.Option.{none}
+use mathlib.Core.Logic.{dite}
+use native.Mathlib.Decide.{dec_lt}
+use borrow.Author.Tests.{lt-ltb, le-ltb}
+use Rattle.atomic_table.specs.Table.{Step, keeps, step, Allows, Splits}
+use Rattle.be_table.specs.declared.ledger.Ledger.{Ledger}
+use Rattle.be_table.specs.declared.limits.Limits.{Limits}
+use Rattle.be_table.specs.declared.marks.PinnedVersion.{PinnedVersion}
+use Rattle.be_table.specs.declared.pass.Commit.{Commit}
+use Rattle.be_table.specs.declared.pass.Knowledge.{Knowledge}
+use Rattle.be_table.specs.History.{StartsWith}
+use Rattle.be_table.specs.Laws.{AllowsBy, NoEvent}
+use Rattle.be_table.specs.Rule.{Board, entries, page_at, Fits, Shows, counted, joined, first_seat, other_seats}
+use Rattle.be_table.specs.Seats.{pin_of}
+use Rattle.be_table.specs.Steps.{IsPass, Compared, sees, longer}
+use Rattle.be_table.proofs.Histories.{starts_itself, by_pass-between}
+use Rattle.be_table.proofs.Deals.{deals}
+use Rattle.be_table.proofs.Frames.{Me1, views_change, entries-start, longer_seen, is_pass, in_time_later, words_load}
+use Rattle.be_table.proofs.Moves.{forget}
+use Rattle.be_table.proofs.PinMarks.{pin_stays}
+
+-- two beginnings of one journal
+two_fronts : (p r q z : List Commit) → p ++ r ≡ q ++ z → length p ≤ length q → StartsWith q p
+two_fronts [] r q z e le = (q, refl)
+two_fronts (x ∷ p) r [] z e le = absurd (omega arith)
+two_fronts (x ∷ p) r (y ∷ q) z e le =
+    let head : x ≡ y = cc in let tail : p ++ r ≡ q ++ z = cc in
+    let more = two_fronts p r q z tail (omega arith) in
+    (more.0, λ k. sym head k ∷ more.1 k)
+
+shorter_starts : (log p q : List Commit) → StartsWith log p → StartsWith log q → length p ≤ length q → StartsWith q p
+shorter_starts log p q s t le = two_fronts p s.0 q t.0 (sym s.1 ∙ t.1) le
+
+longer_starts : (log p q : List Commit) → StartsWith log p → StartsWith log q → StartsWith (longer p q) p × StartsWith (longer p q) q × StartsWith log (longer p q)
+longer_starts log p q s t = dite (dec_lt (length p) (length q))
+    (λ lt. subst P (sym (lt-ltb (length p) (length q) lt)) (shorter_starts log p q s t (omega arith), starts_itself q, t))
+    (λ nlt. let le : length q ≤ length p = omega arith in subst P (sym (le-ltb (length p) (length q) le)) (starts_itself p, shorter_starts log q p t s le, s))
+  where
+    P : Bool → Type 0
+    P b = StartsWith (if b then q else p) p × StartsWith (if b then q else p) q × StartsWith log (if b then q else p)
+
+-- a pass without the lock sees more
+sees_fits : (limits : Limits) (b : Board) (i : ℕ) (a : Knowledge) (log : List Commit) → a.writes ≡ false → Fits limits b i a → StartsWith log a.seen → StartsWith b.log log → Fits limits b i (sees a log)
+sees_fits limits b i a log idle f more front = record {
+  number = f.number;
+  limits_are = f.limits_are;
+  seat_is = f.seat_is;
+  seen = front;
+  mine = f.mine;
+  own = by_pass-between a.number (entries b.log) (entries log) (entries a.seen) a.mine (entries-start b.log log front) (entries-start log a.seen more) f.own f.mine;
+  writes = f.writes;
+  whole = λ w. absurd (true≢false (sym w ∙ idle));
+  phase = f.phase;
+  pin = in_time_later (length a.seen) (length log) a.phase (longer_seen log a.seen more) f.pin;
+  image = f.image;
+}
+
+module _ (limits : Limits) (slots i : ℕ) (a c : Knowledge) (carried : List (ℕ × Option Ledger)) where
+  pub compare_by : a.writes ≡ false → c.writes ≡ false → AllowsBy limits slots i (a ∷ c ∷ [], carried) 0 (λ n. n) NoEvent (Compared (step slots 0 0 0 none) (a ∷ c ∷ [], carried))
+  compare_by idle idle' s b t sized at fits =
+      let f = t.views i (a ∷ c ∷ []) at in
+      let log = longer a.seen c.seen in
+      let l = longer_starts b.log a.seen c.seen f.0.seen f.2.0.seen in
+      let ga = sees_fits limits b i a log idle f.0 l.0 l.2 in
+      let gc = sees_fits limits b i c log idle' f.2.0 l.1 l.2 in (
+        sees a log ∷ sees c log ∷ [],
+        keeps,
+        tt,
+        (
+          b,
+          record {
+            table = record { words = words_load b.world (page_at b.log (length b.log)) s.words t.table.words 0; home = t.table.home; version = t.table.version };
+            sound = t.sound;
+            views = views_change limits b b s.views i (a ∷ c ∷ []) (sees a log ∷ sees c log ∷ []) t.views at (λ j x _ g. g) (λ _. (ga, (f.1.0, tt), (gc, tt, tt)));
+          },
+          refl,
+        ),
+        (refl, l.0, l.1, is_pass limits b i (sees a log) t.sound ga, is_pass limits b i (sees c log) t.sound gc),
+      )
+
+pub joined_pair : (a c : Knowledge) (m n r : Me1) → m ≡ (a ∷ [], []) → n ≡ (c ∷ [], []) → r ≡ (joined m.0 n.0, m.1) → r ≡ (counted a ∷ counted c ∷ [], [])
+joined_pair a c m n r e f g = g ∙ (λ k. (joined ((e k).0) ((f k).0), (e k).1))
+
+pub compares_as : (limits : Limits) (slots i : ℕ) (a c : Knowledge) (me : Me1) → me ≡ (a ∷ c ∷ [], []) → a.writes ≡ false → c.writes ≡ false → Allows (Shows limits) slots i me 0 (λ n. n) (Compared (step slots 0 0 0 none) me)
+compares_as limits slots i a c me e idle idle' =
+    subst (λ (m : Me1). Allows (Shows limits) slots i m 0 (λ n. n) (Compared (step slots 0 0 0 none) m)) (sym e)
+    (forget limits slots i (a ∷ c ∷ [], []) 0 (λ n. n) NoEvent (Compared (step slots 0 0 0 none) (a ∷ c ∷ [], [])) (compare_by limits slots i a c [] idle idle'))
+
+pub deals_as : (limits : Limits) (i : ℕ) (a : Knowledge) (v u : List Knowledge) → u ≡ a ∷ v → Splits (Shows limits) i u (other_seats u) (first_seat u)
+deals_as limits i a v u e = subst (λ (w : List Knowledge). Splits (Shows limits) i w (other_seats w) (first_seat w)) (sym e) (deals limits i a v)
+
+-- what a comparison tells, at the two passes
+pub told : (a c : Knowledge) (m r : Me1) (st : Step (Option Ledger)) (n : ℕ) → m ≡ (a ∷ c ∷ [], []) → Compared st m n r → Compared st (a ∷ c ∷ [], []) n r
+told a c m r st n e t = subst (λ (x : Me1). Compared st x n r) e t
+
+pub met_pin : (a : Knowledge) (log : List Commit) (pin : Option PinnedVersion) → IsPass a → pin ≡ pin_of a.phase a.seen → StartsWith log a.seen → pin ≡ pin_of a.phase log
+met_pin a log pin pass is more = is ∙ sym (pin_stays a.phase a.seen log pass.pin more)

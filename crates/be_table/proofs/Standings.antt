@@ -1,0 +1,94 @@
+-- Where the pages of a ledger stand.
+use Rattle.std.proofs.Common.{◌≡◌, ℕ, ◌+◌, ◌<◌, ◌≤◌, List, length, map, Bool, true, false, nat_lt, if◌then◌else◌, refl, sym, ap, ◌∙◌, inl, inr, arith}
+use Rattle.std.specs.Prelude.{slice_index_or}
+use Rattle.std.proofs.lemmas.Bool.{cases_lt}
+use Rattle.std.proofs.lemmas.List.{get_or_default, get_or_past}
+use borrow.Author.Tests.{lt-ltb, le-ltb}
+use Rattle.be_core.specs.Machine.{World, Sound, bit, places}
+use Rattle.be_pages.specs.declared.room.Standing.TheVariants.{Free as Nowhere, Filled as Full}
+use Rattle.be_pages.specs.declared.page_pool.Place.{Place}
+use Rattle.be_pages.specs.declared.page_pool.Place.TheVariants.{Free, Reserved, Filled, Current, GivenUp, Retired}
+use Rattle.be_pages.specs.Place.{place_of, undone_place}
+use Rattle.be_table.specs.Ledger.{ShowsPlaces, is_free, is_taken, is_current, retired_with}
+use Rattle.be_table.specs.Reading.{standing_at, standing_in, at_start}
+use Rattle.be_table.proofs.Ledgers.{place-map}
+
+-- the sets of a page that has this place
+one_place : (x : Place) (r : Bool) → bit (is_free x) + bit (is_taken x) + bit (Rattle.std.specs.Prelude.is_some (retired_with x)) + bit r ≡ 1 → r ≡ is_current x
+one_place Free true e = absurd (omega (arith, e))
+one_place Free false e = refl
+one_place Reserved true e = absurd (omega (arith, e))
+one_place Reserved false e = refl
+one_place Filled true e = absurd (omega (arith, e))
+one_place Filled false e = refl
+one_place Current true e = refl
+one_place Current false e = absurd (omega (arith, e))
+one_place GivenUp true e = refl
+one_place GivenUp false e = absurd (omega (arith, e))
+one_place (Retired n) true e = absurd (omega (arith, e))
+one_place (Retired n) false e = refl
+
+no_place : (f t o r : Bool) → bit f + bit t + bit o + bit r ≡ 0 → r ≡ false
+no_place f t o false e = refl
+no_place f t o true e = absurd (omega (arith, e))
+
+module _ (xs : List Place) (w : World) (s : Sound w) (shown : ShowsPlaces xs w) (count : length xs ≡ w.pages) where
+  -- the current version has the pages that the ledger says
+  pub reach_shown : (q : ℕ) → q < length xs → w.reach w.current q ≡ is_current (place_of xs q)
+  reach_shown q lt =
+      let p : places w q ≡ bit (nat_lt q w.pages) = s.partition q in
+      let in_range : nat_lt q w.pages ≡ true = lt-ltb q w.pages (omega arith) in
+      one_place (place_of xs q) (w.reach w.current q) (rw (← shown.free q, ← shown.taken q, ← shown.retired q) (p ∙ ap bit in_range))
+
+  pub reach_past : (q : ℕ) → length xs ≤ q → w.reach w.current q ≡ false
+  reach_past q le =
+      let p : places w q ≡ bit (nat_lt q w.pages) = s.partition q in
+      let past : nat_lt q w.pages ≡ false = le-ltb q w.pages (omega arith) in
+      no_place (w.free q) (w.taken q) (Rattle.std.specs.Prelude.is_some (w.retired q)) (w.reach w.current q) (p ∙ ap bit past)
+
+  -- while nobody writes
+  pub begun : length xs ≤ 16384 → map undone_place xs ≡ xs → (q : ℕ) → standing_in xs q ≡ at_start (w.reach w.current q)
+  begun few idle q = elim (cases_lt q (length xs)) [
+    | inl lt ↦
+        let in_range : nat_lt q 16384 ≡ true = lt-ltb q 16384 (omega (arith, lt, few)) in
+        let place : slice_index_or xs q Free ≡ place_of xs q = get_or_default xs q Free Current lt in
+        let same : place_of xs q ≡ undone_place (place_of xs q) = ap (λ l. place_of l q) (sym idle) ∙ place-map undone_place refl xs q in
+        rw (in_range, place, reach_shown q lt) (by_place (place_of xs q) same)
+    | inr le ↦ rw (get_or_past xs q Free le, reach_past q le) (nowhere (nat_lt q 16384))
+  ]
+    where
+      by_place : (x : Place) → x ≡ undone_place x → standing_at x ≡ at_start (is_current x)
+      by_place Free e = refl
+      by_place Reserved e = absurd (cc)
+      by_place Filled e = absurd (cc)
+      by_place Current e = refl
+      by_place GivenUp e = absurd (cc)
+      by_place (Retired r) e = refl
+
+      nowhere : (b : Bool) → (if b then Nowhere else Nowhere) ≡ Nowhere
+      nowhere true = refl
+      nowhere false = refl
+
+-- a page that stands filled is one of the table
+pub filled_place : (xs : List Place) (q : ℕ) → standing_in xs q ≡ Full → (q < length xs) × (place_of xs q ≡ Filled)
+filled_place xs q is = elim (cases_lt q (length xs)) [
+  | inl lt ↦ (lt, by_place (place_of xs q) (nat_lt q 16384) (ap (λ x. if nat_lt q 16384 then standing_at x else Nowhere) (sym (get_or_default xs q Free Current lt)) ∙ is))
+  | inr le ↦ absurd (none (nat_lt q 16384) (ap (λ x. if nat_lt q 16384 then standing_at x else Nowhere) (sym (get_or_past xs q Free le)) ∙ is))
+]
+  where
+    none : (b : Bool) → (if b then Nowhere else Nowhere) ≡ Full → ⊥
+    none true e = cc
+    none false e = cc
+
+    by_place : (x : Place) (b : Bool) → (if b then standing_at x else Nowhere) ≡ Full → x ≡ Filled
+    by_place Filled b e = refl
+    by_place Free true e = absurd (cc)
+    by_place Reserved true e = absurd (cc)
+    by_place Current true e = absurd (cc)
+    by_place GivenUp true e = absurd (cc)
+    by_place (Retired r) true e = absurd (cc)
+    by_place Free false e = absurd (cc)
+    by_place Reserved false e = absurd (cc)
+    by_place Current false e = absurd (cc)
+    by_place GivenUp false e = absurd (cc)
+    by_place (Retired r) false e = absurd (cc)

@@ -1,0 +1,15 @@
+use Rattle.std.proofs.Common.{◌+◌, Some, sym, ap, ◌∙◌, arith}
+use Rattle.be_table.proofs.Locks.{locks_as, got, is_out}
+use Rattle.be_table.proofs.table.VersionTable.lock.Goals as goal
+
+pub compare_exchange-found-requires : goal.compare_exchange-found-requires
+compare_exchange-found-requires c =
+    let p = c.into_base-base.ensures.pass in let t = c.into_base-base.ensures.told in let i = c.self.invariant in
+    (p.0 ∙ c.requires.1 ∙ sym (ap (λ t. t.id) c.self.view_is), omega (arith, i.0), locks_as _ _ _ c.args.seat.knows _ _ p.1 _ t.1.writes (ap (λ n. n + 1) (sym t.1.number_is)))
+
+pub exchange-requires : goal.exchange-requires
+exchange-requires c =
+    let p = c.into_base-base.ensures.pass in
+    let e = c.compare_exchange-found.ensures in
+    let g = got c.into_base-base.result.0.me c.compare_exchange-found.result c.compare_exchange-found.new.seat.me e.2 c.if-found-eq0.true in
+    (e.0 ∙ p.0 ∙ c.requires.1 ∙ sym (ap (λ t. t.id) c.self.view_is), (Some g.0, is_out _ _ (0, Some g.0) (ap (λ m. m.1) g.3.0)))

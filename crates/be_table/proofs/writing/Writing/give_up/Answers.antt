@@ -1,0 +1,30 @@
+use Rattle.std.proofs.Common.{refl, [], ◌∷◌, ◌≡◌, ◌<◌, length, IsTrue, sym, ap, ◌∙◌, subst, arith, length-set, slice_set}
+use Rattle.be_table.specs.declared.pass.Knowledge.{Knowledge}
+use Rattle.be_pages.specs.Place.{given_place, is_held_page, place_of}
+use Rattle.be_table.specs.Rule.{pass_of}
+use Rattle.be_table.specs.Steps.{gives_up}
+use Rattle.be_table.proofs.Holding.{gives_as}
+use Rattle.be_table.proofs.Opened.{reopened}
+use Rattle.be_table.proofs.writing.Writing.give_up.Goals as goal
+
+pub load-requires : goal.load-requires
+load-requires c =
+    let i = c.self.invariant in let w = c.self.inside in let a = pass_of w.base.me.0 in
+    let k = ap (λ (w : Rattle.be_table.specs.Place.Work). w.knows) c.self.view_is in
+    let e : c.table.inside.limits.pages ≡ a.limits.pages = ap (λ l. l.pages) c.table.invariant.2 ∙ ap (λ t. t.limits.pages) c.table.view_is ∙ sym (ap (λ l. l.pages) i.limits_are) in
+    let few = i.pass.within.few_pages in
+    let low : c.args.page < a.limits.pages = let lp : c.args.page < length a.places = subst (λ (n : Knowledge). c.args.page < length n.places) (sym k) c.requires.held.0 in let z = ap length i.places in let y = i.count in let u = ap (λ l. l.pages) i.limits_are in omega (arith, lp) in
+    let lp : c.args.page < length a.places = subst (λ (n : Knowledge). c.args.page < length n.places) (sym k) c.requires.held.0 in (
+      i.table_is ∙ sym (ap (λ t. t.id) c.table.view_is),
+      omega (arith, c.table.invariant.0, low, e, few),
+      gives_as _ _ _ a _ _ i.me_is c.args.page _ i.writes lp (subst (λ (n : Knowledge). IsTrue (is_held_page (place_of n.places c.args.page))) (sym k) c.requires.held.1) (omega arith),
+    )
+
+pub invariant_of-self : goal.invariant_of-self
+invariant_of-self c =
+    let i = c.self.invariant in let w = c.self.inside in let a = pass_of w.base.me.0 in
+    let s = c.load.ensures in
+    let b = gives_up a c.args.page in
+    let m = s.2 c.args.page (omega arith) in
+    reopened w _ b i refl refl refl refl refl s.0 (m ∙ ap (λ l. (b ∷ [], l)) (ap (λ m. m.1) i.me_is)) refl i.turn refl (length-set a.places c.args.page (given_place (place_of a.places c.args.page)))
+    (c.give_up.ensures ∙ ap (λ l. slice_set l c.args.page (given_place (place_of l c.args.page))) i.places)

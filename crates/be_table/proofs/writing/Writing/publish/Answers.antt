@@ -1,0 +1,63 @@
+use Rattle.std.proofs.Common.{◌≡◌, ◌<◌, [], ◌∷◌, ◌++◌, None, length, map, refl, sym, ap, ◌∙◌, subst, arith}
+use Rattle.std.proofs.lemmas.List.{length-map}
+use Rattle.be_journal.specs.declared.entries.Entry.{Entry}
+use Rattle.be_journal.specs.Journal.{Agrees, replay}
+use Rattle.be_pages.specs.Place.{place_of, published_place}
+use Rattle.be_table.specs.declared.pass.Knowledge.{Knowledge}
+use Rattle.be_table.specs.Place.{Work}
+use Rattle.be_table.specs.Rule.{entries, ledger_places, page_at, pass_of}
+use Rattle.be_table.specs.Seats.{pin_of}
+use Rattle.be_table.specs.Steps.{IsPass, commit_of, publishes}
+use Rattle.be_table.proofs.Frames.{entries-append}
+use Rattle.be_table.proofs.Opened.{seen_length}
+use Rattle.be_table.proofs.PinMarks.{pin_stays}
+use Rattle.be_table.proofs.Publishing.{last_page}
+use Rattle.be_table.proofs.writing.Writing.publish.Goals as goal
+
+pub announce-requires-clause-pass : goal.announce-requires-clause-pass
+announce-requires-clause-pass c =
+    let i = c.self.invariant in let w = c.self.inside in let a = pass_of w.base.me.0 in
+    let k : a ≡ c.args.self.now.knows = ap (λ (x : Work). x.knows) c.self.view_is in
+    let e : Entry = record { by = w.marks.number; ops = c.args.ops.now; dones = c.args.dones.now } in
+    let reserved : w.reserved ≡ c.args.self.now.reserved = ap (λ (x : Work). x.reserved) c.self.view_is in (
+      ap (λ m. m.0) i.me_is,
+      record {
+        writes = i.writes;
+        unpublished = ap (λ (n : Knowledge). n.published) k ∙ c.requires.open;
+        by = sym i.number_is;
+        agrees = subst (λ (n : Knowledge). Agrees (replay (entries n.seen)) e) (sym k) c.requires.entry;
+        operations = (c.requires.count.1, c.all_valid.ensures);
+        room = (i.room (let n = c.requires.count.0 in let r = c.requires.reserved.0 in omega arith)).1;
+        inside = subst (λ (n : Knowledge). c.args.page < length n.places) (sym k) c.is_filled.ensures.0;
+        filled = ap (λ (n : Knowledge). place_of n.places c.args.page) k ∙ c.is_filled.ensures.1;
+      },
+    )
+
+pub invariant_of-self : goal.invariant_of-self
+invariant_of-self c =
+    let i = c.self.invariant in let w = c.self.inside in let a = pass_of w.base.me.0 in
+    let e : Entry = record { by = w.marks.number; ops = c.args.ops.now; dones = c.args.dones.now } in
+    let b = publishes a e c.args.page in
+    let commit = commit_of a e c.args.page in
+    let m : c.announce.new.base.me ≡ (b ∷ [], (0, None) ∷ []) = c.announce.ensures.me ∙ ap (λ l. (b ∷ [], l)) (ap (λ m. m.1) i.me_is) in
+    let k : pass_of c.announce.new.base.me.0 ≡ b = ap (λ m. pass_of m.0) m in
+    let long : length w.ledger.journal.entries ≡ length a.seen = ap length i.journal ∙ seen_length a.seen in
+    let places = c.append.ensures.places in
+    record {
+      table_is = c.announce.ensures.seat.0 ∙ i.table_is;
+      me_is = m ∙ sym (ap (λ (x : Knowledge). (x ∷ [], (0, None) ∷ [])) k);
+      number_is = ap (λ (x : Knowledge). x.number) k ∙ i.number_is;
+      limits_are = ap (λ (x : Knowledge). x.limits) k ∙ i.limits_are;
+      small = i.small;
+      writes = ap (λ (x : Knowledge). x.writes) k ∙ i.writes;
+      journal = ap (λ j. j.entries) c.append.ensures.journal ∙ ap (λ l. l ++ e ∷ []) i.journal ∙ sym (entries-append a.seen (commit ∷ [])) ∙ sym (ap (λ (x : Knowledge). entries x.seen) k);
+      page = c.append.ensures.page ∙ sym (last_page a.seen commit) ∙ sym (ap (λ (x : Knowledge). page_at x.seen (length x.seen)) k);
+      places = places ∙ (λ n. map (published_place (long n)) (i.places n)) ∙ sym (ap (λ (x : Knowledge). x.places) k);
+      count = ap length places ∙ length-map (ledger_places w.ledger) (published_place (length w.ledger.journal.entries)) ∙ i.count;
+      size = ap (λ (x : Knowledge). length x.words) k ∙ i.size;
+      turn = ap (λ (x : Knowledge). x.scanned) k ∙ i.turn;
+      pin = i.pin ∙ sym (pin_stays a.phase a.seen b.seen i.pass.pin (commit ∷ [], refl)) ∙ sym (ap (λ (x : Knowledge). pin_of x.phase x.seen) k);
+      pass = subst IsPass (sym k) c.announce.ensures.pass;
+      limit = ap (λ j. j.limit) c.append.ensures.journal ∙ i.limit;
+      room = λ some. absurd (omega (arith, some));
+    }

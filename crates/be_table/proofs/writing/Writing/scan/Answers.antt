@@ -1,0 +1,18 @@
+use Rattle.std.proofs.Common.{[], ◌∷◌, length, map, refl, sym, ap, ◌∙◌}
+use Rattle.std.proofs.lemmas.List.{length-map}
+use Rattle.be_pages.specs.Place.{swept_place}
+use Rattle.be_table.specs.declared.pass.Knowledge.{Knowledge}
+use Rattle.be_table.specs.Rule.{pass_of}
+use Rattle.be_table.proofs.Opened.{reopened}
+use Rattle.be_table.proofs.writing.Writing.scan.Goals as goal
+
+pub invariant_of-self : goal.invariant_of-self
+invariant_of-self c =
+    let i = c.self.invariant in let w = c.self.inside in let a = pass_of w.base.me.0 in
+    let r = c.read_all-least.ensures in let s : Knowledge = pass_of c.read_all-least.new.base.me.0 in
+    let part = r.part in let whole = part.whole refl in
+    let z = ap (λ m. pass_of m.0) r.me.2 in
+    let words = ap (λ (x : Knowledge). x.words) part.same in
+    reopened w _ s i refl refl refl c.sweep.ensures.0 c.sweep.ensures.1 r.seat.0 (r.me.2 ∙ (λ k. (sym z k ∷ [], ap (λ m. m.1) i.me_is k)))
+    (part.same ∙ ap (λ ws. record a { scanned = s.scanned; least = s.least; places = s.places; words = ws; held = s.held; steps = s.steps }) (sym words))
+    whole.0 (ap length words) (ap length whole.1 ∙ length-map a.places (swept_place c.read_all-least.result)) (c.sweep.ensures.2 ∙ ap (map (swept_place c.read_all-least.result)) i.places ∙ sym whole.1)

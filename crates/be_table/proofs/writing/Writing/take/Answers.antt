@@ -1,0 +1,24 @@
+use Rattle.std.proofs.Common.{refl, sym, subst, inl, inr}
+use Rattle.be_table.specs.Place.{Work}
+use Rattle.be_table.specs.Works.{MakesScan, FindsNone}
+use Rattle.be_table.proofs.Opened.{all_held}
+use Rattle.be_table.proofs.writing.Writing.take.Goals as goal
+
+pub returns-in-Some-clause-ok : goal.returns-in-Some-clause-ok
+returns-in-Some-clause-ok c =
+    let e = c.in-Some.ensures in record { between = c.args.self.now; scan = inl refl; inside = e.some.0; small = e.small; free = e.some.1; taken = e.taken }
+
+pub returns-in-Some-take_free-clause-ok : goal.returns-in-Some-take_free-clause-ok
+returns-in-Some-take_free-clause-ok c =
+    let e = c.in-Some-take_free.ensures in
+    let h = subst (λ (w : Work). MakesScan w c.scan-least.new.self c.scan-least.result) c.in_default.ensures.same c.scan-least.ensures in
+    record { between = c.scan-least.new.self; scan = inr (c.scan-least.result, h); inside = e.some.0; small = e.small; free = e.some.1; taken = e.taken }
+
+pub returns-in-None-clause-full : goal.returns-in-None-clause-full
+returns-in-None-clause-full c =
+    let e = c.in-None.ensures in
+    let h = subst (λ (w : Work). MakesScan w c.scan-least.new.self c.scan-least.result) c.in_default.ensures.same c.scan-least.ensures in (
+      c.scan-least.result,
+      refl,
+      subst (λ (w : Work). FindsNone c.args.self.now w c.scan-least.result) (sym e.same) (record { scan = h; none = e.none; holds = all_held c.args.self.now c.scan-least.new.self c.scan-least.result h e.none }),
+    )

@@ -1,0 +1,17 @@
+-- What a pass has seen of a journal.
+use Rattle.std.specs.Prelude.{◌≡◌, ℕ, ◌<◌, List, [], ◌∷◌, ◌++◌, All}
+use Rattle.be_journal.specs.Journal.{IsLegal, HasOperations}
+use Rattle.be_journal.specs.declared.entries.Entry.{Entry}
+
+-- log begins with seen
+abbrev pub StartsWith : {A : Type 0} → List A → List A → Type 0
+StartsWith {A} log seen = (rest : List A) × (log ≡ seen ++ rest)
+
+-- each entry is by one of so many passes
+unfoldable pub AllBelow : ℕ → List Entry → Type 0
+AllBelow passes [] = Unit {0}
+AllBelow passes (e ∷ es) = (e.by < passes) × AllBelow passes es
+
+-- a legal journal, of operations of the program
+unfoldable pub IsHistory : List Entry → Type 0
+IsHistory log = IsLegal log × All HasOperations log

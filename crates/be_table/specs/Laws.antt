@@ -1,0 +1,128 @@
+-- What a step on a word is allowed to do, with the event that it is.
+use Rattle.std.specs.Prelude.{◌≡◌, ◌⊎◌, ℕ, ◌+◌, ◌*◌, ◌<◌, ◌==◌, List, [], ◌∷◌, length, map, slice_index, Option, Some, true, false, IsTrue, MatchBool}
+use prog.Atomic.{either}
+use mathlib.Core.Option.{some, none}
+use lib.ListN.{get_elem?}
+use Rattle.atomic_table.specs.Table.{State, Me, Act, Valid, step, stepped, carried_after}
+use Rattle.be_core.specs.declared.event.Phase.TheVariants.{Looked, Announced, Pinned}
+use Rattle.be_core.specs.Machine.{World, has, MayLook, MayAnnounce, MayLookAgain, MayRead, MayUnpin, MayLock, MayScan, MayFill, MayPublish as MayPublishAt, MayUnlock, after_look, after_announce, after_look_again, after_unpin, after_lock, after_scan, after_fill, after_publish, after_return, after_unlock}
+use Rattle.be_table.specs.declared.ledger.Ledger.{Ledger}
+use Rattle.be_table.specs.declared.limits.Limits.{Limits}
+use Rattle.be_table.specs.declared.pass.Knowledge.{Knowledge}
+use Rattle.be_journal.specs.declared.entries.Entry.{Entry}
+use Rattle.be_pages.specs.declared.page_pool.Place.TheVariants.{Free}
+use Rattle.be_pages.specs.Place.{undone_place, is_held_page, place_of}
+use Rattle.be_table.specs.Ledger.{is_given}
+use Rattle.be_table.specs.Rule.{ledger_places, Board, Stands, entries, page_at, reach_at, word_place, current_word}
+use Rattle.be_table.specs.Steps.{LookTold, Told, PinnedAt, Unpinned, PinnedRead, Locked, Unlocked, Scanned, OwnRead, FilledAt, PageTaken, PageGivenUp, MayBeFilled, MayPublish, Published, Compared, pages_from}
+
+-- ## The events: what a step that found the number n does to the machine
+
+abbrev pub NoEvent : ℕ → World → World → Type 0
+NoEvent n v w = w ≡ v
+
+abbrev pub IsLook : ℕ → ℕ → World → World → Type 0
+IsLook k n v w = MayLook v k × (w ≡ after_look v k)
+
+abbrev pub IsAnnounce : ℕ → ℕ → World → World → Type 0
+IsAnnounce k n v w = MayAnnounce v k × (w ≡ after_announce v k)
+
+abbrev pub IsLookAgain : ℕ → ℕ → World → World → Type 0
+IsLookAgain k n v w = MayLookAgain v k × (w ≡ after_look_again v k)
+
+-- a read of a page of the pinned version m finds the word of its image
+abbrev pub IsRead : (k m p i : ℕ) → ℕ → World → World → Type 0
+IsRead k m p i n v w = MayRead v k p i × (w ≡ v) × (n ≡ v.image m p i)
+
+abbrev pub IsUnpin : ℕ → ℕ → World → World → Type 0
+IsUnpin k n v w = MayUnpin v k × (w ≡ after_unpin v k)
+
+-- where the word was 0
+abbrev pub IsLock : ℕ → ℕ → World → World → Type 0
+IsLock k n v w = MatchBool (n == 0) (MayLock v k × (w ≡ after_lock v k)) (w ≡ v)
+
+abbrev pub IsUnlock : ℕ → ℕ → World → World → Type 0
+IsUnlock k n v w = MayUnlock v k × (w ≡ after_unlock v)
+
+abbrev pub IsScan : (k j : ℕ) → ℕ → World → World → Type 0
+IsScan k j n v w = MayScan v k j × (w ≡ after_scan v j)
+
+abbrev pub IsFill : (k p i word : ℕ) → ℕ → World → World → Type 0
+IsFill k p i word n v w = MayFill v k p i × (w ≡ after_fill v p i word)
+
+-- a page that the write had filled goes back to the free ones
+abbrev pub IsReturn : ℕ → ℕ → World → World → Type 0
+IsReturn p n v w = IsTrue (v.taken p) × (w ≡ after_return v p)
+
+abbrev pub IsPublish : (k page : ℕ) → List ℕ → ℕ → World → World → Type 0
+IsPublish k page given n v w = MayPublishAt v k page given × (w ≡ after_publish v given)
+
+-- ## What a step does
+
+-- As `Allows`: whatever the table is, the seat can step, and keep the rule. And the machine that it shows goes by the event, which may read the number found
+abbrev pub AllowsBy : Limits → ℕ → ℕ → Me (Option Ledger) (List Knowledge) → ℕ → (ℕ → ℕ) → (ℕ → World → World → Type 0) → (ℕ → Me (Option Ledger) (List Knowledge) → Type 0) → Type 0
+AllowsBy limits slots id me i f event then =
+    (s : State (Option Ledger) (List Knowledge)) (b : Board) → Stands limits s b → length s.homes ≡ slots → get_elem? s.views id ≡ some me.0 → slice_index s.words i < 18446744073709551616
+    → (w : List Knowledge) × (x : Act (Option Ledger)) × Valid s.homes me.1 x
+    × ((d : Board) × Stands limits (stepped s i (f (slice_index s.words i)) id me.1 w x) d × event (slice_index s.words i) b.world d.world)
+    × then (slice_index s.words i) (w, carried_after me.1 x)
+
+-- ## Each step by a pass that may make it
+
+module _ (limits : Limits) (slots id : ℕ) (a : Knowledge) (carried : List (ℕ × Option Ledger)) where
+  abbrev pub LookIsItsEvent : Type 0
+  LookIsItsEvent = AllowsBy limits slots id (a ∷ [], carried) 8 (λ n. n) (IsLook a.number) (LookTold (step slots 8 0 0 none) (a ∷ [], carried))
+
+  abbrev pub AnnounceIsItsEvent : Type 0
+  AnnounceIsItsEvent = (x : ℕ) → a.phase ≡ Looked x
+      → AllowsBy limits slots id (a ∷ [], carried) (16 + 8 * a.number) (λ _. x + 1) (IsAnnounce a.number) (λ _. Told (step slots (16 + 8 * a.number) (x + 1) 0 none) (a ∷ [], carried) (x + 1))
+
+  abbrev pub LookAgainIsItsEvent : Type 0
+  LookAgainIsItsEvent = (x : ℕ) → a.phase ≡ Announced x
+      → AllowsBy limits slots id (a ∷ [], carried) 8 (λ n. n) (IsLookAgain a.number) (PinnedAt (step slots 8 0 0 none) (a ∷ [], carried))
+
+  abbrev pub UnpinIsItsEvent : Type 0
+  UnpinIsItsEvent = (x n : ℕ) → a.phase ≡ Pinned x n
+      → AllowsBy limits slots id (a ∷ [], carried) (16 + 8 * a.number) (λ _. 0) (IsUnpin a.number) (λ _. Unpinned (step slots (16 + 8 * a.number) 0 0 none) (a ∷ [], carried) 0)
+
+  abbrev pub PinnedReadIsItsEvent : Type 0
+  PinnedReadIsItsEvent = (x n p i : ℕ) → a.phase ≡ Pinned x n → IsTrue (has (reach_at a.seen n) p) → i < 512
+      → AllowsBy limits slots id (a ∷ [], carried) (word_place p i) (λ n. n) (IsRead a.number n p i) (PinnedRead (step slots (word_place p i) 0 0 none) (a ∷ [], carried))
+
+  -- a compare-exchange that finds 0 is Lock, and one that doesn't is no event
+  abbrev pub LockIsItsEvent : Type 0
+  LockIsItsEvent = a.writes ≡ false
+      → AllowsBy limits slots id (a ∷ [], carried) 0 (λ n. either (n == 0) (a.number + 1) n) (IsLock a.number) (Locked (step slots 0 0 (a.number + 1) none) (a ∷ [], carried))
+
+  abbrev pub ScanIsItsEvent : Type 0
+  ScanIsItsEvent = a.writes ≡ true → a.published ≡ false
+      → AllowsBy limits slots id (a ∷ [], carried) (16 + 8 * a.scanned) (λ n. n) (IsScan a.number a.scanned) (Scanned (step slots (16 + 8 * a.scanned) 0 0 none) (a ∷ [], carried))
+
+  abbrev pub FillIsItsEvent : Type 0
+  FillIsItsEvent = (p i x : ℕ) → a.writes ≡ true → a.published ≡ false → MayBeFilled a.places p → i < 512
+      → AllowsBy limits slots id (a ∷ [], carried) (word_place p i) (λ _. x) (IsFill a.number p i x) (λ _. FilledAt (step slots (word_place p i) x 0 none) (a ∷ [], carried) x)
+
+  abbrev pub OwnReadIsNoEvent : Type 0
+  OwnReadIsNoEvent = (p i : ℕ) → a.writes ≡ true → p < a.limits.pages → i < 512
+      → AllowsBy limits slots id (a ∷ [], carried) (word_place p i) (λ n. n) NoEvent (OwnRead (step slots (word_place p i) 0 0 none) (a ∷ [], carried))
+
+  abbrev pub TakeIsNoEvent : Type 0
+  TakeIsNoEvent = (p : ℕ) → a.writes ≡ true → p < length a.places → place_of a.places p ≡ Free
+      → AllowsBy limits slots id (a ∷ [], carried) (word_place p 0) (λ n. n) NoEvent (PageTaken (step slots (word_place p 0) 0 0 none) (a ∷ [], carried))
+
+  -- a page that the write had filled goes back to the free ones, and else nothing happens
+  abbrev pub GiveUpIsNoEvent : Type 0
+  GiveUpIsNoEvent = (p : ℕ) → a.writes ≡ true → p < length a.places → IsTrue (is_held_page (place_of a.places p))
+      → AllowsBy limits slots id (a ∷ [], carried) (word_place p 0) (λ n. n) (λ n v w. NoEvent n v w ⊎ IsReturn p n v w) (PageGivenUp (step slots (word_place p 0) 0 0 none) (a ∷ [], carried))
+
+  abbrev pub PublishIsItsEvent : Type 0
+  PublishIsItsEvent = (e : Entry) (page new : ℕ) → MayPublish limits a e page → new ≡ current_word (length a.seen + 1) page
+      → AllowsBy limits slots id (a ∷ [], carried) 8 (λ _. new) (IsPublish a.number page (pages_from is_given 0 a.places)) (λ _. Published e page (step slots 8 new 0 none) (a ∷ [], carried) new)
+
+abbrev pub UnlockIsItsEvent : Limits → ℕ → ℕ → Knowledge → Ledger → Type 0
+UnlockIsItsEvent limits slots id a ledger = a.writes ≡ true → ledger.journal.entries ≡ entries a.seen → ledger.journal.limit ≡ a.limits.commits → ledger.page ≡ page_at a.seen (length a.seen) → (ledger_places ledger) ≡ map undone_place a.places
+    → AllowsBy limits slots id (a ∷ [], (0, Some ledger) ∷ []) 0 (λ _. 0) (IsUnlock a.number) (λ _. Unlocked (step slots 0 0 0 none) (a ∷ [], (0, Some ledger) ∷ []) 0)
+
+abbrev pub CompareIsNoEvent : Limits → ℕ → ℕ → Knowledge → Knowledge → List (ℕ × Option Ledger) → Type 0
+CompareIsNoEvent limits slots id a c carried = a.writes ≡ false → c.writes ≡ false
+    → AllowsBy limits slots id (a ∷ c ∷ [], carried) 0 (λ n. n) NoEvent (Compared (step slots 0 0 0 none) (a ∷ c ∷ [], carried))

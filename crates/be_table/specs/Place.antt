@@ -1,0 +1,26 @@
+-- What contracts see of a seat, of a table and of an open write.
+use Rattle.std.specs.Prelude.{Bool, ℕ}
+use Rattle.atomic_table.specs.Seated.{TableId}
+use Rattle.be_table.specs.declared.limits.Limits.{Limits}
+use Rattle.be_table.specs.declared.pass.Knowledge.{Knowledge}
+
+-- a seat: its table, and what its pass knows; a blank one has no pass
+pub record Place : Type 0 where
+  pub blank : Bool
+  pub table : TableId
+  pub knows : Knowledge
+
+pub record Opened : Type 0 where
+  pub id : TableId
+  pub limits : Limits
+
+-- an open write: the table, what the pass knows, and for how many operations of one entry there is room, 0 for none
+pub record Work : Type 0 where
+  pub table : Opened
+  pub knows : Knowledge
+  pub reserved : ℕ
+
+-- a pass that reads the version that it is pinned to
+pub record Pin : Type 0 where
+  pub table : Opened
+  pub knows : Knowledge

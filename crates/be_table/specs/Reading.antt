@@ -1,0 +1,74 @@
+-- What a reader of pages sees of an open write, and of a pinned version.
+use Rattle.std.specs.Prelude.{◌≢◌, ℕ, ◌<◌, ◌^◌, ◌&&◌, Bool, true, false, nat_lt, if◌then◌else◌, List, [], slice_index, slice_index_or}
+use Rattle.std.proofs.Common.{inl, inr, arith, refl}
+use Rattle.std.proofs.lemmas.Bool.{cases_lt}
+use borrow.Author.Tests.{le-ltb}
+use Rattle.be_core.specs.declared.event.Phase.{Phase}
+use Rattle.be_core.specs.declared.event.Phase.TheVariants.{Idle, Looked, Announced, Pinned}
+use Rattle.be_core.specs.Machine.{has}
+use Rattle.be_pages.specs.declared.room.Standing.{Standing}
+use Rattle.be_pages.specs.declared.room.Standing.TheVariants.{Free as Nowhere, Old, GivenUp as Given, Taken, Filled as Full}
+use Rattle.be_pages.specs.declared.page_pool.Place.{Place}
+use Rattle.be_pages.specs.declared.page_pool.Place.TheVariants.{Free, Reserved, Filled, Current, GivenUp, Retired}
+use Rattle.be_table.specs.declared.pass.Commit.{Commit}
+use Rattle.be_table.specs.declared.pass.Knowledge.{Knowledge}
+use Rattle.be_table.specs.Place.{Opened, Work, Pin}
+use Rattle.be_table.specs.Rule.{reach_at, word_place}
+
+abbrev pub standing_at : Place → Standing
+standing_at Free = Nowhere
+standing_at Reserved = Taken
+standing_at Filled = Full
+standing_at Current = Old
+standing_at GivenUp = Given
+standing_at (Retired r) = Nowhere
+
+-- where a page stands in a write with these places
+abbrev pub standing_in : List Place → ℕ → Standing
+standing_in places q = if nat_lt q 16384 then standing_at (slice_index_or places q Free) else Nowhere
+
+-- when a write begins: a page of the current version, and any other
+abbrev pub at_start : Bool → Standing
+at_start true = Old
+at_start false = Nowhere
+
+-- word i of the page q
+abbrev pub word_in : List ℕ → ℕ → ℕ → ℕ
+word_in words q i = if nat_lt i 512 then slice_index words (word_place q i) else 0
+
+-- what no call on an open write changes
+pub record StaysOpen : Type 0 where
+  pub table : Opened
+  pub number : ℕ
+  pub phase : Phase
+  pub seen : List Commit
+  pub published : Bool
+
+abbrev pub open_of : Work → StaysOpen
+open_of w = record { table = w.table; number = w.knows.number; phase = w.knows.phase; seen = w.knows.seen; published = w.knows.published }
+
+-- the pages of the pinned version
+abbrev pub reach_of : Phase → List Commit → List ℕ
+reach_of Idle seen = []
+reach_of (Looked a) seen = []
+reach_of (Announced a) seen = []
+reach_of (Pinned a n) seen = reach_at seen n
+
+abbrev pub pinned_standing : Knowledge → ℕ → Standing
+pinned_standing a q = if nat_lt q 16384 && has (reach_of a.phase a.seen) q then Old else Nowhere
+
+-- the pass but for the count of its steps
+abbrev pub steady : Knowledge → Knowledge
+steady a = record a { steps = 0 }
+
+pub small_open : (w : Work) (q : ℕ) → standing_in w.knows.places q ≢ Nowhere → q < 2 ^ 32
+small_open w q some = elim (cases_lt q 16384) [
+  | inl lt ↦ omega (arith, lt)
+  | inr past ↦ absurd (some (rw (le-ltb q 16384 past) refl))
+]
+
+pub small_pin : (p : Pin) (q : ℕ) → pinned_standing p.knows q ≢ Nowhere → q < 2 ^ 32
+small_pin p q some = elim (cases_lt q 16384) [
+  | inl lt ↦ omega (arith, lt)
+  | inr past ↦ absurd (some (rw (le-ltb q 16384 past) refl))
+]

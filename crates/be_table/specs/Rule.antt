@@ -1,0 +1,223 @@
+-- The fact that holds of the table between any two steps.
+use Rattle.std.specs.Prelude.{◌≡◌, ◌≢◌, ℕ, zero, suc, ◌+◌, ◌*◌, ◌<◌, ◌≤◌, ◌==◌, Bool, true, false, List, [], ◌∷◌, ◌++◌, length, take, drop, map, Option, Some, None, slice_index, slice_index_or, IsTrue}
+use mathlib.Core.Option.{Option as Maybe, some, none}
+use lib.ListN.{get_elem?}
+use Rattle.atomic_table.specs.Table.{State}
+use Rattle.be_core.specs.declared.event.Phase.{Phase}
+use Rattle.be_core.specs.declared.event.Phase.TheVariants.{Idle, Looked, Announced, Pinned}
+use Rattle.be_core.specs.Machine.{World, Holder, Sound, InTime, has}
+use Rattle.be_journal.specs.declared.entries.Entry.{Entry}
+use Rattle.be_pages.specs.PagePool.{places}
+use Rattle.be_table.specs.declared.ledger.Ledger.{Ledger}
+use Rattle.be_pages.specs.declared.page_pool.Place.{Place}
+use Rattle.be_table.specs.declared.limits.Limits.{Limits}
+use Rattle.be_table.specs.declared.pass.Commit.{Commit}
+use Rattle.be_table.specs.declared.pass.Knowledge.{Knowledge}
+use Rattle.be_pages.specs.Place.{undone_place}
+use Rattle.be_table.specs.Ledger.{ShowsPlaces}
+use Rattle.be_journal.specs.Journal.{by_pass}
+use Rattle.be_table.specs.History.{StartsWith, AllBelow, IsHistory}
+
+-- what the table shows: the journal with its versions, the machine, and which seat each pass has
+pub record Board : Type 0 where
+  pub log : List Commit
+  pub world : World
+  pub seat_of : ℕ → ℕ
+
+abbrev pub entries : List Commit → List Entry
+entries log = map (λ c. c.entry) log
+
+abbrev pub nothing : Commit
+nothing = record { entry = record { by = 0; ops = []; dones = [] }; page = 0; reach = [] }
+
+-- the pages of version n. Version 0 has the page 0 alone
+abbrev pub reach_at : List Commit → ℕ → List ℕ
+reach_at log zero = 0 ∷ []
+reach_at log (suc n) = (slice_index_or log n nothing).reach
+
+-- the version page of version n
+abbrev pub page_at : List Commit → ℕ → ℕ
+page_at log zero = 0
+page_at log (suc n) = (slice_index_or log n nothing).page
+
+abbrev pub lock_word : Option Holder → ℕ
+lock_word None = 0
+lock_word (Some h) = h.pass + 1
+
+abbrev pub announce_word : Phase → ℕ
+announce_word Idle = 0
+announce_word (Looked a) = 0
+announce_word (Announced a) = suc a
+announce_word (Pinned a n) = suc a
+
+abbrev pub current_word : ℕ → ℕ → ℕ
+current_word version page = version * 4294967296 + page
+
+-- word i of the page p
+abbrev pub word_place : ℕ → ℕ → ℕ
+word_place p i = 528 + 512 * p + i
+
+-- on any one page and place, the list has the word
+abbrev pub PagesAgree : ℕ → (ℕ → ℕ → ℕ) → List ℕ → Type 0
+PagesAgree pages words ws = (p i : ℕ) → p < pages → i < 512 → slice_index ws (word_place p i) ≡ words p i
+
+-- where each page is
+abbrev pub ledger_places : Ledger → List Place
+ledger_places ledger = places ledger.pool
+
+abbrev pub is_holder : Option Holder → ℕ → Bool
+is_holder None k = false
+is_holder (Some h) k = h.pass == k
+
+-- a ledger at home: the journal, the version page, and where each page is
+pub record AtHome (w : World) (log : List Commit) (ledger : Ledger) : Type 0 where
+  pub journal : ledger.journal.entries ≡ entries log
+  pub limit : ledger.journal.limit ≡ w.commits
+  pub page : ledger.page ≡ page_at log (length log)
+  pub count : length (ledger_places ledger) ≡ w.pages
+  pub shown : ShowsPlaces (ledger_places ledger) w
+  pub idle : map undone_place (ledger_places ledger) ≡ (ledger_places ledger)
+
+-- the ledger is at home while nobody holds the lock
+abbrev pub IsHome : Option Holder → World → List Commit → List (Maybe (Option Ledger)) → Type 0
+IsHome None w log homes = (ledger : Ledger) × (homes ≡ some (Some ledger) ∷ []) × AtHome w log ledger
+IsHome (Some h) w log homes = homes ≡ none ∷ []
+
+-- ## The first part: the table shows the state
+
+pub record WordsAgree (w : World) (page : ℕ) (words : List ℕ) : Type 0 where
+  pub size : length words ≡ 528 + 512 * w.pages
+  pub lock : slice_index words 0 ≡ lock_word w.holder
+  pub current : slice_index words 8 ≡ current_word w.current page
+  pub announced : (k : ℕ) → k < w.passes → slice_index words (16 + 8 * k) ≡ announce_word (w.phases k)
+  pub pages : PagesAgree w.pages w.words words
+
+-- the words, the slot and the journal's length are those of the machine
+pub record Agrees (b : Board) (s : State (Option Ledger) (List Knowledge)) : Type 0 where
+  pub words : WordsAgree b.world (page_at b.log (length b.log)) s.words
+  pub home : IsHome b.world.holder b.world b.log s.homes
+  pub version : b.world.current ≡ length b.log
+
+-- ## The second part: the journal's and the machine's invariants
+
+-- limits that a table may have
+pub record IsWithin (limits : Limits) : Type 0 where
+  pub some_pages : 8 ≤ limits.pages
+  pub few_pages : limits.pages ≤ 16384
+  pub some_pass : 0 < limits.passes
+  pub few : limits.passes ≤ 64
+  pub short : limits.commits < 4294967296
+
+-- the pages of each version are those that its commit tells
+abbrev pub ReachesAgree : World → List Commit → Type 0
+ReachesAgree w log = (n p : ℕ) → n ≤ w.current → w.reach n p ≡ has (reach_at log n) p
+
+-- the pages of each version are pages of the table
+abbrev pub AreInside : ℕ → List Commit → Type 0
+AreInside pages log = (n p : ℕ) → n ≤ length log → IsTrue (has (reach_at log n) p) → p < pages
+
+-- the version page of each version is one of its pages
+abbrev pub OwnPages : List Commit → Type 0
+OwnPages log = (n : ℕ) → n ≤ length log → IsTrue (has (reach_at log n) (page_at log n))
+
+pub record IsSound (limits : Limits) (b : Board) : Type 0 where
+  pub within : IsWithin limits
+  pub legal : IsHistory (entries b.log)
+  pub by_passes : AllBelow limits.passes (entries b.log)
+  pub room : length b.log ≤ limits.commits
+  pub page : page_at b.log (length b.log) < 4294967296
+  pub inside : AreInside limits.pages b.log
+  pub own_pages : OwnPages b.log
+  pub pages : b.world.pages ≡ limits.pages
+  pub passes : b.world.passes ≡ limits.passes
+  pub commits : b.world.commits ≡ limits.commits
+  pub holder : (h : Holder) → b.world.holder ≡ Some h → h.pass < limits.passes
+  pub reaches : ReachesAgree b.world b.log
+  pub machine : Sound b.world
+
+-- ## The third part: what each pass knows is so
+
+-- the machine's holder, as a pass that holds the lock knows it
+abbrev pub holder_of : Knowledge → Holder
+holder_of a = record { pass = a.number; scanned = a.scanned; least = a.least; published = a.published }
+
+-- what the holder knows
+pub record Holds (b : Board) (a : Knowledge) : Type 0 where
+  pub log : a.seen ≡ b.log
+  pub holder : b.world.holder ≡ Some (holder_of a)
+  pub turn : a.scanned < b.world.passes
+  pub count : length a.places ≡ b.world.pages
+  pub shown : ShowsPlaces a.places b.world
+  pub size : length a.words ≡ 528 + 512 * b.world.pages
+  pub words : PagesAgree b.world.pages b.world.words a.words
+
+-- the image of a pinned version, on each of its pages
+abbrev pub ImageIs : World → Phase → List ℕ → Type 0
+ImageIs w phase image = (x n p i : ℕ) → phase ≡ Pinned x n → IsTrue (w.reach n p) → i < 512 → slice_index image (word_place p i) ≡ w.image n p i
+
+pub record Fits (limits : Limits) (b : Board) (seat : ℕ) (a : Knowledge) : Type 0 where
+  pub number : a.number < limits.passes
+  pub limits_are : a.limits ≡ limits
+  pub seat_is : b.seat_of a.number ≡ seat
+  pub seen : StartsWith b.log a.seen
+  pub mine : by_pass a.number (entries b.log) ≡ a.mine
+  pub own : by_pass a.number (entries a.seen) ≡ a.mine
+  pub writes : a.writes ≡ is_holder b.world.holder a.number
+  pub whole : a.writes ≡ true → Holds b a
+  pub phase : b.world.phases a.number ≡ a.phase
+  pub pin : InTime (length a.seen) a.phase
+  pub image : ImageIs b.world a.phase a.image
+
+-- no pass of the view has this number
+abbrev pub IsAbsent : ℕ → List Knowledge → Type 0
+IsAbsent k [] = Unit {0}
+IsAbsent k (a ∷ v) = (a.number ≢ k) × IsAbsent k v
+
+-- each pass of a seat's view, and no pass twice
+abbrev pub AllFit : Limits → Board → ℕ → List Knowledge → Type 0
+AllFit limits b seat [] = Unit {0}
+AllFit limits b seat (a ∷ v) = Fits limits b seat a × IsAbsent a.number v × AllFit limits b seat v
+
+abbrev pub ViewsFit : Limits → Board → List (List Knowledge) → Type 0
+ViewsFit limits b views = (seat : ℕ) (v : List Knowledge) → get_elem? views seat ≡ some v → AllFit limits b seat v
+
+pub record Stands (limits : Limits) (s : State (Option Ledger) (List Knowledge)) (b : Board) : Type 0 where
+  pub table : Agrees b s
+  pub sound : IsSound limits b
+  pub views : ViewsFit limits b s.views
+
+abbrev pub Shows : Limits → State (Option Ledger) (List Knowledge) → Type 0
+Shows limits s = (b : Board) × Stands limits s b
+
+-- a pass that has seen nothing
+abbrev pub newcomer : Limits → ℕ → ℕ → Knowledge
+newcomer limits steps k = record { number = k; limits = limits; seen = []; mine = []; phase = Idle; image = []; writes = false; scanned = 0; least = 0; published = false; places = []; words = []; held = []; steps = steps }
+
+-- the passes from k on, so many
+unfoldable pub newcomers : Limits → ℕ → ℕ → ℕ → List Knowledge
+newcomers limits steps k zero = []
+newcomers limits steps k (suc n) = newcomer limits steps k ∷ newcomers limits steps (suc k) n
+
+abbrev pub everyone : Limits → List Knowledge
+everyone limits = newcomers limits 0 0 limits.passes
+
+abbrev pub counted : Knowledge → Knowledge
+counted a = record a { steps = a.steps + 1 }
+
+-- the first pass gets a seat of its own
+abbrev pub first_seat : List Knowledge → List Knowledge
+first_seat v = map counted (take 1 v)
+
+abbrev pub other_seats : List Knowledge → List Knowledge
+other_seats v = map counted (drop 1 v)
+
+abbrev pub joined : List Knowledge → List Knowledge → List Knowledge
+joined v w = map counted v ++ map counted w
+
+abbrev pub nobody : Knowledge
+nobody = newcomer (record { pages = 0; passes = 0; commits = 0 }) 0 0
+
+-- the pass of a seat that has one
+abbrev pub pass_of : List Knowledge → Knowledge
+pass_of [] = nobody
+pass_of (a ∷ v) = a

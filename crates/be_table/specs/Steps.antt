@@ -1,0 +1,262 @@
+-- What each step tells the pass that makes it.
+use Rattle.std.specs.Prelude.{◌≡◌, ◌≢◌, ◌⊎◌, ℕ, zero, suc, ◌+◌, ◌*◌, ◌<◌, ◌≤◌, ◌==◌, true, false, Bool, List, [], ◌∷◌, ◌++◌, length, map, MatchBool, Option, Some, drop, min, ◌-◌, if◌then◌else◌, slice_index, slice_set, IsTrue, IsFalse, ◌||◌, Contains}
+use lib.Dec.{ltb}
+use Rattle.atomic_table.specs.Table.{Me, Step}
+use Rattle.be_core.specs.declared.event.Phase.TheVariants.{Idle, Announced, Pinned}
+use Rattle.be_core.specs.Machine.{InTime, phase_after_look, has}
+use Rattle.be_journal.specs.declared.entries.Entry.{Entry}
+use Rattle.be_table.specs.declared.ledger.Ledger.{Ledger}
+use Rattle.be_pages.specs.declared.page_pool.Place.{Place}
+use Rattle.be_pages.specs.declared.page_pool.Place.TheVariants.{Reserved, Filled}
+use Rattle.be_volume.specs.declared.ops.Done.{Done}
+use Rattle.be_volume.specs.declared.ops.Op.{Op}
+use Rattle.be_table.specs.declared.limits.Limits.{Limits}
+use Rattle.be_table.specs.declared.pass.Commit.{Commit}
+use Rattle.be_table.specs.declared.pass.Knowledge.{Knowledge}
+use Rattle.be_pages.specs.Place.{number_of, swept_place, is_in_hand, given_place, published_place, place_of, undone_place}
+use Rattle.be_table.specs.Ledger.{is_taken, is_free, is_kept}
+use Rattle.be_journal.specs.Journal.{HasOperations, Agrees, by_pass, replay}
+use Rattle.be_table.specs.History.{StartsWith, AllBelow, IsHistory}
+use Rattle.be_table.specs.Reading.{standing_in, at_start}
+use Rattle.be_table.specs.Rule.{ledger_places, IsWithin, AreInside, OwnPages, pass_of, counted, current_word, page_at, reach_at, entries, word_place}
+
+-- what is always so of a pass
+pub record IsPass (a : Knowledge) : Type 0 where
+  pub within : IsWithin a.limits
+  pub legal : IsHistory (entries a.seen)
+  pub number_below : a.number < a.limits.passes
+  pub by_passes : AllBelow a.limits.passes (entries a.seen)
+  pub room : length a.seen ≤ a.limits.commits
+  pub inside : AreInside a.limits.pages a.seen
+  pub own_pages : OwnPages a.seen
+  pub pin : InTime (length a.seen) a.phase
+  pub mine : by_pass a.number (entries a.seen) ≡ a.mine
+
+-- a pass after a look that found this journal
+abbrev pub looks : Knowledge → List Commit → Knowledge
+looks a log = record a { seen = log; phase = phase_after_look a.phase (length log); steps = a.steps + 1 }
+
+-- a pass that has the lock now, with the ledger's places and the table's words
+abbrev pub takes_lock : Knowledge → List Commit → List Place → List ℕ → Knowledge
+takes_lock a log places words = record a { seen = log; writes = true; scanned = 0; least = length log; published = false; places = places; words = words; held = []; steps = a.steps + 1 }
+
+abbrev pub announces : Knowledge → ℕ → Knowledge
+announces a x = record a { phase = Announced x; steps = a.steps + 1 }
+
+abbrev pub pins : Knowledge → ℕ → List Commit → List ℕ → Knowledge
+pins a x log image = record a { seen = log; phase = Pinned x (length log); image = image; steps = a.steps + 1 }
+
+abbrev pub unpins : Knowledge → Knowledge
+unpins a = record a { phase = Idle; steps = a.steps + 1 }
+
+-- the least, after an announcement was found
+abbrev pub least_found : ℕ → ℕ → ℕ
+least_found l zero = l
+least_found l (suc n) = min l n
+
+abbrev pub scan_from : Knowledge → ℕ
+scan_from a = if a.scanned == 0 then length a.seen else a.least
+
+abbrev pub least_then : Knowledge → ℕ → ℕ
+least_then a n = least_found (scan_from a) n
+
+-- of the current number and the announced numbers, of which a word has one more, the least
+pub record IsLeast (current : ℕ) (words : List ℕ) (least : ℕ) : Type 0 where
+  pub at_most : least ≤ current
+  pub below : (a : ℕ) → Contains words (suc a) → least ≤ a
+  pub one : (least ≡ current) ⊎ Contains words (suc least)
+
+-- the pages of which f holds, from the page p on
+abbrev pub pages_from : (Place → Bool) → ℕ → List Place → List ℕ
+pages_from f p [] = []
+pages_from f p (x ∷ xs) = if f x then p ∷ pages_from f (suc p) xs else pages_from f (suc p) xs
+
+-- one announcement of a scan, and the last of it
+abbrev pub scans_on : Knowledge → ℕ → Knowledge
+scans_on a n = record a { scanned = suc a.scanned; least = least_then a n; steps = a.steps + 1 }
+
+abbrev pub scans_out : Knowledge → ℕ → Knowledge
+scans_out a n = record a { scanned = 0; least = least_then a n; places = map (swept_place (least_then a n)) a.places; held = pages_from is_in_hand 0 a.places; steps = a.steps + 1 }
+
+-- the page is in no version from l to the last that was seen
+abbrev pub Unreached : List Commit → ℕ → ℕ → Type 0
+Unreached seen l p = (n : ℕ) → l ≤ n → n ≤ length seen → IsFalse (has (reach_at seen n) p)
+
+-- each page that no version from the least on reaches is free or taken
+abbrev pub LeavesNone : Knowledge → Type 0
+LeavesNone a = (p : ℕ) → p < length a.places → Unreached a.seen a.least p → IsTrue (is_free (place_of a.places p) || is_taken (place_of a.places p))
+
+abbrev pub scans : Knowledge → ℕ → Knowledge
+scans a n = if suc a.scanned == a.limits.passes then scans_out a n else scans_on a n
+
+-- a whole scan, or a part of one, by the words that it found
+abbrev pub scans_all : Knowledge → List ℕ → Knowledge
+scans_all a [] = a
+scans_all a (n ∷ ns) = scans_all (scans a n) ns
+
+-- a word of a page is stored
+abbrev pub fills : Knowledge → ℕ → ℕ → ℕ → Knowledge
+fills a p i x = record a { places = slice_set a.places p Filled; words = slice_set a.words (word_place p i) x; steps = a.steps + 1 }
+
+-- a free page is taken
+abbrev pub takes_page : Knowledge → ℕ → Knowledge
+takes_page a p = record a { places = slice_set a.places p Reserved; steps = a.steps + 1 }
+
+-- a page is given up. One that the write has taken is free at once
+abbrev pub gives_up : Knowledge → ℕ → Knowledge
+gives_up a p = record a { places = slice_set a.places p (given_place (place_of a.places p)); steps = a.steps + 1 }
+
+-- a write by this pass
+abbrev pub entry_of : Knowledge → List Op → List Done → Entry
+entry_of a ops dones = record { by = a.number; ops = ops; dones = dones }
+
+-- the entry e with the version that the places make, whose version page is v
+abbrev pub commit_of : Knowledge → Entry → ℕ → Commit
+commit_of a e v = record { entry = e; page = v; reach = pages_from is_kept 0 a.places }
+
+-- a pass with one more entry of its own
+abbrev pub publishes : Knowledge → Entry → ℕ → Knowledge
+publishes a e v = record a { seen = a.seen ++ commit_of a e v ∷ []; mine = a.mine ++ e ∷ []; published = true; places = map (published_place (length a.seen)) a.places; steps = a.steps + 1 }
+
+-- a pass that holds the lock may publish this entry, with this version page
+pub record MayPublish (limits : Limits) (a : Knowledge) (e : Entry) (v : ℕ) : Type 0 where
+  pub writes : a.writes ≡ true
+  pub unpublished : a.published ≡ false
+  pub by : e.by ≡ a.number
+  pub agrees : Agrees (replay (entries a.seen)) e
+  pub operations : HasOperations e
+  pub room : length a.seen < limits.commits
+  pub inside : v < length a.places
+  pub filled : place_of a.places v ≡ Filled
+
+-- a pass that holds the lock may read the announcement of the pass j
+abbrev pub MayScan : Limits → Me (Option Ledger) (List Knowledge) → ℕ → Type 0
+MayScan limits m j = let a = pass_of m.0 in (m.0 ≡ a ∷ []) × (a.writes ≡ true) × (a.published ≡ false) × (a.scanned ≡ j) × (j < limits.passes)
+
+abbrev pub MayBeFilled : List Place → ℕ → Type 0
+MayBeFilled places p = (p < length places) × IsTrue (is_taken (place_of places p) || is_free (place_of places p))
+
+-- the current number was found
+abbrev pub LookTold : Step (Option Ledger) → Me (Option Ledger) (List Knowledge) → ℕ → Me (Option Ledger) (List Knowledge) → Type 0
+LookTold st m n r =
+    (log : List Commit) × let a = pass_of m.0 in let c = looks a log in
+    (r ≡ (c ∷ [], m.1)) × StartsWith log a.seen × IsPass c × (n ≡ current_word (length log) (page_at log (length log))) × (page_at log (length log) < 4294967296)
+
+-- the ledger, as a pass finds it that takes the lock
+pub record IsFound (ledger : Ledger) (c : Knowledge) : Type 0 where
+  pub journal : ledger.journal.entries ≡ entries c.seen
+  pub limit : ledger.journal.limit ≡ c.limits.commits
+  pub page : ledger.page ≡ page_at c.seen (length c.seen)
+  pub places : (ledger_places ledger) ≡ c.places
+  pub idle : map undone_place c.places ≡ c.places
+  pub count : length c.places ≡ c.limits.pages
+  pub size : length c.words ≡ 528 + 512 * c.limits.pages
+  pub begun : (q : ℕ) → standing_in c.places q ≡ at_start (has (reach_at c.seen (length c.seen)) q)
+
+-- the lock was free: the slot is out with the pass, which has seen the journal in it
+abbrev pub Gets : Me (Option Ledger) (List Knowledge) → Me (Option Ledger) (List Knowledge) → Type 0
+Gets m r =
+    (ledger : Ledger) × (log : List Commit) × (words : List ℕ) × let a = pass_of m.0 in let c = takes_lock a log (ledger_places ledger) words in
+    (r ≡ (c ∷ [], (0, Some ledger) ∷ m.1)) × StartsWith log a.seen × IsPass c × IsFound ledger c
+
+-- another pass holds the lock
+abbrev pub IsLate : Me (Option Ledger) (List Knowledge) → ℕ → Me (Option Ledger) (List Knowledge) → Type 0
+IsLate m n r = let a = pass_of m.0 in (r ≡ (counted a ∷ [], m.1)) × (n ≢ a.number + 1) × (n < a.limits.passes + 1)
+
+abbrev pub Locked : Step (Option Ledger) → Me (Option Ledger) (List Knowledge) → ℕ → Me (Option Ledger) (List Knowledge) → Type 0
+Locked st m n r = MatchBool (n == 0) (Gets m r) (IsLate m n r)
+
+-- a pass without the lock
+abbrev pub leaves : Knowledge → Knowledge
+leaves a = record a { writes = false; steps = a.steps + 1 }
+
+-- the pass has seen this journal
+abbrev pub sees : Knowledge → List Commit → Knowledge
+sees a log = record a { seen = log; steps = a.steps + 1 }
+
+-- the same after three steps: a join, a comparison and a cut
+abbrev pub met : Knowledge → List Commit → Knowledge
+met a log = record a { seen = log; steps = a.steps + 3 }
+
+abbrev pub longer : List Commit → List Commit → List Commit
+longer p q = if ltb (length p) (length q) then q else p
+
+-- the two passes of a seat have seen the longer of two journals, which contains the other
+abbrev pub Compared : Step (Option Ledger) → Me (Option Ledger) (List Knowledge) → ℕ → Me (Option Ledger) (List Knowledge) → Type 0
+Compared st m n r =
+    let a = pass_of m.0 in let c = pass_of (drop 1 m.0) in let log = longer a.seen c.seen in
+    (r ≡ (sees a log ∷ sees c log ∷ [], m.1)) × StartsWith log a.seen × StartsWith log c.seen × IsPass (sees a log) × IsPass (sees c log)
+
+-- a new seat has no pass
+abbrev pub Arrived : Step (Option Ledger) → Me (Option Ledger) (List Knowledge) → ℕ → Me (Option Ledger) (List Knowledge) → Type 0
+Arrived st m n r = r ≡ ([], [])
+
+-- one of these passes has the number k
+abbrev pub Has : List Knowledge → ℕ → Type 0
+Has [] k = ⊥
+Has (a ∷ v) k = (a.number ≡ k) ⊎ Has v k
+
+-- none of these passes holds the lock
+abbrev pub AllIdle : List Knowledge → Type 0
+AllIdle [] = Unit {0}
+AllIdle (a ∷ v) = (a.writes ≡ false) × AllIdle v
+
+-- the journal contains what each has seen, and has of each the entries that it knows
+abbrev pub Keeps : List Entry → List Knowledge → Type 0
+Keeps log [] = Unit {0}
+Keeps log (a ∷ v) = StartsWith log (entries a.seen) × (by_pass a.number log ≡ a.mine) × Keeps log v
+
+-- the ledger is at home
+abbrev pub Unlocked : Step (Option Ledger) → Me (Option Ledger) (List Knowledge) → ℕ → Me (Option Ledger) (List Knowledge) → Type 0
+Unlocked st m n r = let a = pass_of m.0 in r ≡ (leaves a ∷ [], [])
+
+-- the announcement stands
+abbrev pub Told : Step (Option Ledger) → Me (Option Ledger) (List Knowledge) → ℕ → Me (Option Ledger) (List Knowledge) → Type 0
+Told st m n r = let a = pass_of m.0 in r ≡ (announces a (n - 1) ∷ [], m.1)
+
+-- the pass is pinned at the current number, and has seen the journal up to there
+abbrev pub PinnedAt : Step (Option Ledger) → Me (Option Ledger) (List Knowledge) → ℕ → Me (Option Ledger) (List Knowledge) → Type 0
+PinnedAt st m n r =
+    (log : List Commit) × (x : ℕ) × (image : List ℕ) × let a = pass_of m.0 in let c = pins a x log image in
+    (a.phase ≡ Announced x) × (r ≡ (c ∷ [], m.1)) × StartsWith log a.seen × IsPass c × (n ≡ current_word (length log) (page_at log (length log))) × (page_at log (length log) < 4294967296)
+
+abbrev pub Unpinned : Step (Option Ledger) → Me (Option Ledger) (List Knowledge) → ℕ → Me (Option Ledger) (List Knowledge) → Type 0
+Unpinned st m n r = let a = pass_of m.0 in r ≡ (unpins a ∷ [], m.1)
+
+-- one announcement was found
+abbrev pub Scanned : Step (Option Ledger) → Me (Option Ledger) (List Knowledge) → ℕ → Me (Option Ledger) (List Knowledge) → Type 0
+Scanned st m n r = let a = pass_of m.0 in (r ≡ (scans a n ∷ [], m.1)) × (suc a.scanned ≡ a.limits.passes → LeavesNone (scans_out a n))
+
+-- a word of the pinned version was found
+abbrev pub PinnedRead : Step (Option Ledger) → Me (Option Ledger) (List Knowledge) → ℕ → Me (Option Ledger) (List Knowledge) → Type 0
+PinnedRead st m n r = let a = pass_of m.0 in (r ≡ (counted a ∷ [], m.1)) × (n ≡ slice_index a.image st.word)
+
+-- a word of a page was found by the holder
+abbrev pub OwnRead : Step (Option Ledger) → Me (Option Ledger) (List Knowledge) → ℕ → Me (Option Ledger) (List Knowledge) → Type 0
+OwnRead st m n r = let a = pass_of m.0 in (r ≡ (counted a ∷ [], m.1)) × (n ≡ slice_index a.words st.word)
+
+abbrev pub FilledAt : Step (Option Ledger) → Me (Option Ledger) (List Knowledge) → ℕ → Me (Option Ledger) (List Knowledge) → Type 0
+FilledAt st m n r = let a = pass_of m.0 in (p i : ℕ) → st.word ≡ word_place p i → i < 512 → r ≡ (fills a p i n ∷ [], m.1)
+
+-- the page is taken or given up, at its first word
+abbrev pub PageTaken : Step (Option Ledger) → Me (Option Ledger) (List Knowledge) → ℕ → Me (Option Ledger) (List Knowledge) → Type 0
+PageTaken st m n r = let a = pass_of m.0 in (p : ℕ) → st.word ≡ word_place p 0 → r ≡ (takes_page a p ∷ [], m.1)
+
+abbrev pub PageGivenUp : Step (Option Ledger) → Me (Option Ledger) (List Knowledge) → ℕ → Me (Option Ledger) (List Knowledge) → Type 0
+PageGivenUp st m n r = let a = pass_of m.0 in (p : ℕ) → st.word ≡ word_place p 0 → r ≡ (gives_up a p ∷ [], m.1)
+
+-- the pass s is what a became by j announcements of a scan, of which this is the least
+pub record IsPart (passes : ℕ) (a s : Knowledge) (j least : ℕ) : Type 0 where
+  pub same : s ≡ record a { scanned = s.scanned; least = s.least; places = s.places; held = s.held; steps = s.steps }
+  pub turn : j < passes → s.scanned ≡ j
+  pub waits : j < passes → s.places ≡ a.places
+  pub whole : j ≡ passes → (s.scanned ≡ 0) × (s.places ≡ map (swept_place least) a.places) × (s.held ≡ pages_from is_in_hand 0 a.places) × LeavesNone s
+  pub begins : j ≡ 0 → least ≡ length a.seen
+  pub so_far : 0 < j → s.least ≡ least
+
+-- no page was retired with a number above that of the current version
+abbrev pub IsNewest : Knowledge → Type 0
+IsNewest a = (q : ℕ) → number_of a.places q ≤ length a.seen
+
+abbrev pub Published : Entry → ℕ → Step (Option Ledger) → Me (Option Ledger) (List Knowledge) → ℕ → Me (Option Ledger) (List Knowledge) → Type 0
+Published e v st m n r = let a = pass_of m.0 in (r ≡ (publishes a e v ∷ [], m.1)) × IsPass (publishes a e v) × IsNewest a

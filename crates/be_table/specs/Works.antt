@@ -1,0 +1,108 @@
+-- What is true of each table and of each open write, and what calls promise.
+use Rattle.std.specs.Prelude.{◌≡◌, ◌≢◌, ◌⊎◌, ◌≤◌, ℕ, ◌+◌, ◌<◌, false, List, [], ◌∷◌, length, map, IsTrue}
+use Rattle.atomic_table.specs.Seated.{TableId}
+use Rattle.be_journal.specs.declared.entries.Entry.{Entry}
+use Rattle.be_table.specs.declared.limits.Limits.{Limits}
+use Rattle.be_table.specs.declared.pass.Knowledge.{Knowledge}
+use Rattle.be_core.specs.Machine.{has}
+use Rattle.be_core.specs.declared.event.Phase.TheVariants.{Announced}
+use Rattle.be_value.specs.declared.refusals.Refusal.{Refusal}
+use Rattle.be_value.specs.declared.refusals.Refusal.TheVariants.{Busy, CommitsSpent, OutOfMemory, BadLimits}
+use Rattle.be_table.specs.History.{StartsWith}
+use Rattle.be_pages.specs.declared.page_pool.Place.TheVariants.{Free}
+use Rattle.be_pages.specs.Place.{undone_place, swept_place, place_of, is_in_hand}
+use Rattle.be_table.specs.Place.{Place, Opened, Work}
+use Rattle.be_table.specs.Reading.{standing_in, at_start}
+use Rattle.be_table.specs.Rule.{reach_at, newcomer}
+use Rattle.be_table.specs.Steps.{Has, AllIdle, Keeps, IsPass, looks, takes_lock, pins, takes_page, scans_all, IsLeast, pages_from, LeavesNone, Unreached}
+
+-- a seat of this table
+abbrev pub IsSeatOf : Opened → Place → Type 0
+IsSeatOf t s = (s.blank ≡ false) × (s.table ≡ t.id) × (s.knows.limits ≡ t.limits)
+
+-- seats of this table, of passes that have seen nothing, from the pass k on
+abbrev pub AreNewAt : TableId → Limits → ℕ → List Place → Type 0
+AreNewAt id limits k [] = Unit {0}
+AreNewAt id limits k (s ∷ ss) = ((s.blank ≡ false) × (s.table ≡ id) × (s.knows ≡ newcomer limits (k + 1) k)) × AreNewAt id limits (k + 1) ss
+
+abbrev pub AreNew : Opened → ℕ → List Place → Type 0
+AreNew t k ss = AreNewAt t.id t.limits k ss
+
+-- seats of the table
+abbrev pub AllAt : TableId → List Place → Type 0
+AllAt id [] = Unit {0}
+AllAt id (s ∷ ss) = ((s.blank ≡ false) × (s.table ≡ id)) × AllAt id ss
+
+abbrev pub knows_of : Place → Knowledge
+knows_of s = s.knows
+
+-- the pass has looked: it has seen a journal that contains what it had seen
+pub record SeesMore (a c : Knowledge) : Type 0 where
+  pub more : StartsWith c.seen a.seen
+  pub same : c ≡ looks a c.seen
+  pub pass : IsPass c
+
+-- the same, and it now holds the lock
+pub record TakesLock (a c : Knowledge) : Type 0 where
+  pub before : IsPass a
+  pub more : StartsWith c.seen a.seen
+  pub same : c ≡ takes_lock a c.seen c.places c.words
+  pub idle : map undone_place c.places ≡ c.places
+  pub begun : (q : ℕ) → standing_in c.places q ≡ at_start (has (reach_at c.seen (length c.seen)) q)
+  pub pass : IsPass c
+
+-- the pass, which had announced x, is pinned at the current number
+pub record Pins (a c : Knowledge) : Type 0 where
+  pub more : StartsWith c.seen a.seen
+  pub same : (x : ℕ) × (a.phase ≡ Announced x) × (c ≡ pins a x c.seen c.image)
+  pub pass : IsPass c
+
+-- another pass of the table holds the lock
+abbrev pub IsBusy : Refusal → Knowledge → Type 0
+IsBusy r a = (b : ℕ) × (r ≡ Busy b) × (b < a.limits.passes) × (b ≢ a.number)
+
+-- why an entry has no room
+abbrev pub HasNoRoom : Refusal → Knowledge → Type 0
+HasNoRoom r a = ((r ≡ CommitsSpent) × (length a.seen ≡ a.limits.commits)) ⊎ ((r ≡ OutOfMemory) × (length a.seen < a.limits.commits))
+
+-- the write has made a whole scan, with this least
+pub record MakesScan (old new : Work) (least : ℕ) : Type 0 where
+  pub by : (found : List ℕ) × (length found ≡ old.knows.limits.passes) × (new ≡ record old { knows = scans_all old.knows found }) × IsLeast (length old.knows.seen) found least
+  pub least_is : new.knows.least ≡ least
+  pub places : new.knows.places ≡ map (swept_place least) old.knows.places
+  pub held : new.knows.held ≡ pages_from is_in_hand 0 old.knows.places
+  pub leaves : LeavesNone new.knows
+  pub same : new ≡ record old { knows = record old.knows { scanned = 0; least = least; places = new.knows.places; held = new.knows.held; steps = new.knows.steps } }
+
+-- a free page is taken, maybe after a whole scan
+pub record TakesPage (old new : Work) (page : ℕ) : Type 0 where
+  pub between : Work
+  pub scan : (between ≡ old) ⊎ ((least : ℕ) × MakesScan old between least)
+  pub inside : page < length between.knows.places
+  pub small : page < 16384
+  pub free : place_of between.knows.places page ≡ Free
+  pub taken : new ≡ record between { knows = takes_page between.knows page }
+
+-- of the pages that no version from the least on reaches, each is held by the write
+abbrev pub HoldsUnreached : Knowledge → ℕ → Type 0
+HoldsUnreached a least = (p : ℕ) → p < length a.places → Unreached a.seen least p → IsTrue (has a.held p)
+
+-- after a whole scan no page was free
+pub record FindsNone (old new : Work) (least : ℕ) : Type 0 where
+  pub scan : MakesScan old new least
+  pub none : (p : ℕ) → p < length new.knows.places → place_of new.knows.places p ≢ Free
+  pub holds : HoldsUnreached new.knows least
+
+-- the limits that a table can't have
+abbrev pub AreBad : Limits → Type 0
+AreBad l = (l.pages < 8) ⊎ (16384 < l.pages) ⊎ (l.passes ≡ 0) ⊎ (64 < l.passes) ⊎ (l.commits ≡ 0) ⊎ (4294967296 ≤ l.commits)
+
+-- why a table with these limits was not opened
+abbrev pub IsUnopened : Limits → Refusal → Type 0
+IsUnopened l r = ((r ≡ BadLimits) × AreBad l) ⊎ ((r ≡ OutOfMemory) × (¬ (AreBad l)))
+
+-- what a seat knows that has taken in these passes
+pub record Gathered (known v : List Knowledge) : Type 0 where
+  pub idle : AllIdle v
+  pub all : (k : ℕ) → Has known k → Has v k
+  pub keeps : (log : List Entry) → Keeps log v → Keeps log known

@@ -1,0 +1,29 @@
+-- What is true of each open write.
+use Rattle.std.specs.Prelude.{◌≡◌, ◌+◌, ◌*◌, ◌<◌, true, [], ◌∷◌, None, length}
+use Rattle.be_table.specs.declared.writing.Writing.TheInside.{Inside}
+use Rattle.be_table.specs.Place.{Work}
+use Rattle.be_table.specs.Rule.{pass_of, entries, page_at, ledger_places}
+use Rattle.be_table.specs.Seats.{pin_of}
+use Rattle.be_table.specs.Steps.{IsPass}
+
+abbrev pub work_of : Inside → Work
+work_of w = record { table = w.table.now; knows = pass_of w.base.me.0; reserved = w.reserved }
+
+-- the seat is at the table with the slot, and the ledger has what the pass has seen
+pub record IsOpen (w : Inside) : Type 0 where
+  pub table_is : w.base.table_id ≡ w.table.now.id
+  pub me_is : w.base.me ≡ (pass_of w.base.me.0 ∷ [], (0, None) ∷ [])
+  pub number_is : (pass_of w.base.me.0).number ≡ w.marks.number
+  pub limits_are : (pass_of w.base.me.0).limits ≡ w.table.now.limits
+  pub small : w.marks.number < 64
+  pub writes : (pass_of w.base.me.0).writes ≡ true
+  pub journal : w.ledger.journal.entries ≡ entries (pass_of w.base.me.0).seen
+  pub page : w.ledger.page ≡ page_at (pass_of w.base.me.0).seen (length (pass_of w.base.me.0).seen)
+  pub places : (ledger_places w.ledger) ≡ (pass_of w.base.me.0).places
+  pub count : length (ledger_places w.ledger) ≡ w.table.now.limits.pages
+  pub size : length (pass_of w.base.me.0).words ≡ 528 + 512 * w.table.now.limits.pages
+  pub turn : (pass_of w.base.me.0).scanned ≡ 0
+  pub pin : w.marks.pin ≡ pin_of (pass_of w.base.me.0).phase (pass_of w.base.me.0).seen
+  pub pass : IsPass (pass_of w.base.me.0)
+  pub limit : w.ledger.journal.limit ≡ w.table.now.limits.commits
+  pub room : 0 < w.reserved → (w.ledger.journal.reserved ≡ w.reserved) × (length (pass_of w.base.me.0).seen < w.table.now.limits.commits)

@@ -1,0 +1,53 @@
+//! Seats are dealt when a table opens, and gathered when it closes.
+ghost use Rattle.std.specs.Prelude.{◌≡◌, ◌≤◌, ◌<◌, ℕ, slice_index, [], length, map, vec_capacity, vec_len, ◌+◌};
+ghost use Rattle.be_table.specs.Rule.{IsWithin, everyone};
+ghost use Rattle.be_table.specs.Works.{AreNewAt, AllAt, Gathered, knows_of};
+
+use crate::limits::Limits;
+use crate::marks::Marks;
+use crate::rule::Deal;
+use crate::seat::{Base, Seat};
+use crate::table::{Inner, PAGES};
+
+// Each pass gets a seat.
+pub(crate) fn deal(table: &Inner, rest: &mut Base, limits: Limits, seats: &mut Vec<Seat>)
+    requires table { (0 < table.now.shared.table_id.words) × (table.now.shared.key ≡ limits) × IsWithin limits }
+    requires rest { (rest.old.table_id ≡ table.now.shared.table_id) × (rest.old.me ≡ (everyone limits, [])) }
+    requires seats { (seats.old.items ≡ []) × (limits.passes ≤ vec_capacity seats.old) }
+    ensures rest { (rest.new.table_id ≡ table.now.shared.table_id) × (rest.new.me ≡ ([], [])) }
+    ensures seats { (length seats.new.items ≡ limits.passes) × AreNewAt table.now.shared.table_id limits 0 seats.new.items }
+{
+    for number in 0..limits.passes {
+        let base = table.shared.split_seat::<Deal>(rest);
+        let marks = Marks {
+            number,
+            seen: 0,
+            pin: None,
+        };
+        seats.push_reserved(Seat::of(base, marks));
+    }
+}
+
+// The words of the first page lie at page 0.
+pub(crate) fn lay_first(words: &mut Vec<u64>, first: &[u64; 512])
+    requires { 528 + 512 ≤ vec_len words.old }
+    ensures { (length words.new.items ≡ length words.old.items) × ((k : ℕ) → k < 528 → slice_index words.new.items k ≡ slice_index words.old.items k) × ((i : ℕ) → i < 512 → slice_index words.new.items (528 + i) ≡ slice_index first.now i) }
+{
+    for i in 0..512 {
+        words[PAGES + i] = first[i];
+    }
+}
+
+// The seats' passes go to one seat.
+pub(crate) fn gather(table: &Inner, rest: &mut Base, mut seats: Vec<Seat>)
+    requires table { 0 < table.now.shared.table_id.words }
+    requires rest { (rest.old.table_id ≡ table.now.shared.table_id) × (rest.old.me ≡ ([], [])) }
+    requires seats { AllAt table.now.shared.table_id seats.items }
+    ensures rest { (rest.new.table_id ≡ table.now.shared.table_id) × (rest.new.id ≡ rest.old.id) × (rest.new.me.1 ≡ []) }
+    ensures passes { Gathered (map knows_of seats.items) rest.new.me.0 }
+{
+    while let Some(seat) = seats.pop() {
+        let (other, _) = seat.into_base();
+        table.shared.join_seat::<Deal>(rest, other);
+    }
+}

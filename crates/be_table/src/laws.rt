@@ -1,0 +1,78 @@
+//! What each step on a word does to the reclamation machine.
+//!
+//! The rule of the table says that the words, the ledger and what the passes know show one state of the machine of be_core, in which the machine's invariant holds. The functions here do nothing: their contracts say, over the definitions alone, which event of the machine each step is. Whatever state the table is in, a pass that may step can step; the state that the table shows before allows the event, and the one that it shows afterwards is the event's. A step whose word has no event leaves the machine as it was. The calls of the table are proved by these very laws.
+ghost use Rattle.std.specs.Prelude.{ℕ, List, Option};
+ghost use Rattle.be_table.specs.declared.ledger.Ledger.{Ledger};
+ghost use Rattle.be_table.specs.declared.limits.Limits.{Limits};
+ghost use Rattle.be_table.specs.declared.pass.Knowledge.{Knowledge};
+ghost use Rattle.be_table.specs.Laws.{LookIsItsEvent, AnnounceIsItsEvent, LookAgainIsItsEvent, UnpinIsItsEvent, PinnedReadIsItsEvent, LockIsItsEvent, ScanIsItsEvent, FillIsItsEvent, OwnReadIsNoEvent, TakeIsNoEvent, GiveUpIsNoEvent, PublishIsItsEvent, UnlockIsItsEvent, CompareIsNoEvent};
+
+/// A load of the current number is Look.
+pub fn look()
+    ensures { (limits : Limits) (slots id : ℕ) (a : Knowledge) (carried : List (ℕ × Option Ledger)) → LookIsItsEvent limits slots id a carried }
+{}
+
+/// The store of an announcement is Announce.
+pub fn announce()
+    ensures { (limits : Limits) (slots id : ℕ) (a : Knowledge) (carried : List (ℕ × Option Ledger)) → AnnounceIsItsEvent limits slots id a carried }
+{}
+
+/// The second load of the current number is LookAgain.
+pub fn look_again()
+    ensures { (limits : Limits) (slots id : ℕ) (a : Knowledge) (carried : List (ℕ × Option Ledger)) → LookAgainIsItsEvent limits slots id a carried }
+{}
+
+/// The store that takes an announcement back is Unpin.
+pub fn unpin()
+    ensures { (limits : Limits) (slots id : ℕ) (a : Knowledge) (carried : List (ℕ × Option Ledger)) → UnpinIsItsEvent limits slots id a carried }
+{}
+
+/// A load of a word of a pinned version is Read, and finds the word that the page had when the version was published.
+pub fn pinned_read()
+    ensures { (limits : Limits) (slots id : ℕ) (a : Knowledge) (carried : List (ℕ × Option Ledger)) → PinnedReadIsItsEvent limits slots id a carried }
+{}
+
+/// A compare-exchange of the lock that finds it free is Lock, and one that finds it held is no event.
+pub fn lock()
+    ensures { (limits : Limits) (slots id : ℕ) (a : Knowledge) (carried : List (ℕ × Option Ledger)) → LockIsItsEvent limits slots id a carried }
+{}
+
+/// A load of an announcement by the holder is Scan.
+pub fn scan()
+    ensures { (limits : Limits) (slots id : ℕ) (a : Knowledge) (carried : List (ℕ × Option Ledger)) → ScanIsItsEvent limits slots id a carried }
+{}
+
+/// The store of a page word is Fill.
+pub fn fill()
+    ensures { (limits : Limits) (slots id : ℕ) (a : Knowledge) (carried : List (ℕ × Option Ledger)) → FillIsItsEvent limits slots id a carried }
+{}
+
+/// A load of a page word by the holder is no event.
+pub fn own_read()
+    ensures { (limits : Limits) (slots id : ℕ) (a : Knowledge) (carried : List (ℕ × Option Ledger)) → OwnReadIsNoEvent limits slots id a carried }
+{}
+
+/// The load by which a page is taken is no event.
+pub fn take()
+    ensures { (limits : Limits) (slots id : ℕ) (a : Knowledge) (carried : List (ℕ × Option Ledger)) → TakeIsNoEvent limits slots id a carried }
+{}
+
+/// The load by which a page is given up is no event: a page that the write had filled goes back to the free ones, which is the holder's bookkeeping.
+pub fn give_up()
+    ensures { (limits : Limits) (slots id : ℕ) (a : Knowledge) (carried : List (ℕ × Option Ledger)) → GiveUpIsNoEvent limits slots id a carried }
+{}
+
+/// The store of the current number is Publish, of the pages that the write has given up.
+pub fn publish()
+    ensures { (limits : Limits) (slots id : ℕ) (a : Knowledge) (carried : List (ℕ × Option Ledger)) → PublishIsItsEvent limits slots id a carried }
+{}
+
+/// The store that frees the lock is Unlock.
+pub fn unlock()
+    ensures { (limits : Limits) (slots id : ℕ) (a : Knowledge) (ledger : Ledger) → UnlockIsItsEvent limits slots id a ledger }
+{}
+
+/// The load by which two passes of one seat compare what they have seen is no event.
+pub fn compare()
+    ensures { (limits : Limits) (slots id : ℕ) (a c : Knowledge) (carried : List (ℕ × Option Ledger)) → CompareIsNoEvent limits slots id a c carried }
+{}

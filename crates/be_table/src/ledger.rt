@@ -1,0 +1,73 @@
+//! What lies in the slot while nobody holds the lock.
+//!
+//! Who holds the lock has the ledger in hand and changes it as plain data. It keeps no volume: the pages are the volume.
+ghost use Rattle.std.specs.Prelude.{◌≡◌, ◌≤◌, ℕ, map, length};
+ghost use Rattle.be_journal.specs.Journal.{Grows, extended, with_room};
+ghost use Rattle.be_pages.specs.PagePool.{places};
+ghost use Rattle.be_pages.specs.Place.{number_of, undone_place, swept_place, published_place};
+
+use be_journal::Journal;
+use be_pages::PagePool;
+use be_value::Refusal;
+use be_volume::{Done, Op};
+
+/// The journal, and where the pages of the current version and of older ones are.
+#[derive(Drop)]
+pub struct Ledger {
+    pub journal: Journal,
+    /// The version page of the current version.
+    pub page: u64,
+    /// Where each page is.
+    pub pool: PagePool,
+}
+
+impl Ledger {
+    /// Makes room for one entry of so many operations.
+    pub fn reserve(&mut self, count: usize) -> Result<(), Refusal>
+        requires { (1 ≤ count) × (count ≤ 64) }
+        ensures journal { Grows self.old.journal (with_room self.old.journal count) result self.new.journal }
+        ensures others { (self.new.page ≡ self.old.page) × (self.new.pool ≡ self.old.pool) }
+    {
+        self.journal.reserve(count)
+    }
+
+    /// What the write has taken is free, and what it has given up stays.
+    pub fn rest(&mut self)
+        ensures { (self.new.journal ≡ self.old.journal) × (self.new.page ≡ self.old.page) × (places self.new.pool ≡ map undone_place (places self.old.pool)) }
+    {
+        self.pool.undo();
+    }
+
+    /// The pages that were retired with a number below the least are free.
+    pub fn sweep(&mut self, least: u64)
+        ensures { (self.new.journal ≡ self.old.journal) × (self.new.page ≡ self.old.page) × (places self.new.pool ≡ map (swept_place least) (places self.old.pool)) }
+    {
+        self.pool.sweep(least);
+    }
+
+    /// The entry comes last, with this version page. What was filled is of the current version, and what was given up is retired. There is room for the entry.
+    pub fn append(&mut self, by: u64, ops: &[Op], dones: &[Done], page: u64)
+        requires some { (1 ≤ length ops.now) × (length ops.now ≤ 64) }
+        requires room { (length ops.now ≡ self.old.journal.reserved) × (length dones.now ≡ self.old.journal.reserved) }
+        requires newest { (q : ℕ) → number_of (places self.old.pool) q ≤ length self.old.journal.entries }
+        ensures journal { self.new.journal ≡ extended self.old.journal (record { by = by; ops = ops.now; dones = dones.now }) }
+        ensures page { self.new.page ≡ page }
+        ensures places { places self.new.pool ≡ map (published_place (length self.old.journal.entries)) (places self.old.pool) }
+    {
+        let version = self.journal.len();
+        self.pool.publish(version);
+        self.journal.push_reserved(by, ops, dones);
+        self.page = page;
+    }
+
+    pub fn into_journal(self) -> Journal
+        ensures { result ≡ self.journal }
+    {
+        let Ledger {
+            journal,
+            page: _,
+            pool: _,
+        } = self;
+        journal
+    }
+}

@@ -1,0 +1,16 @@
+//! What a seat tells of its pass without a step.
+
+/// A pinned version: its number, and its version page.
+#[derive(Clone, Copy)]
+pub(crate) struct PinnedVersion {
+    pub number: u64,
+    pub page: u64,
+}
+
+/// The pass's number, the length of the part of the journal that it has seen, and its pin.
+#[derive(Clone, Copy)]
+pub(crate) struct Marks {
+    pub number: u64,
+    pub seen: u64,
+    pub pin: Option<PinnedVersion>,
+}

@@ -1,0 +1,46 @@
+//! What a pass knows, for contracts alone: no value of these types is ever made.
+//!
+//! A seat carries the knowledge of its pass as ghost data. Each step changes the knowledge of the pass that steps, and of no other. What a pass knows stays so whatever the others do: a beginning of the journal, its own entries, the image of the version that it is pinned to; and, while it holds the lock, where each page is and all page words.
+use crate::limits::Limits;
+use be_core::Phase;
+use be_journal::Entry;
+use be_pages::Place;
+use std::collections::LinkedList;
+
+/// An entry of the journal, with the version that it published: its version page, and all its pages.
+pub struct Commit {
+    pub entry: Entry,
+    pub page: u64,
+    pub reach: LinkedList<u64>,
+}
+
+pub struct Knowledge {
+    pub number: u64,
+    /// The limits of the table.
+    pub limits: Limits,
+    /// The part of the journal that the pass has seen, with its versions.
+    pub seen: LinkedList<Commit>,
+    /// The entries of its own accepted writes.
+    pub mine: LinkedList<Entry>,
+    /// How far it is with its pin.
+    pub phase: Phase,
+    /// The table's words when it pinned, of which those of the pinned version's pages stay.
+    pub image: LinkedList<u64>,
+    /// It holds the lock.
+    pub writes: bool,
+    /// How many announcements its scan has read, and the least so far. Once a scan is whole the count is 0 again.
+    pub scanned: u64,
+    pub least: u64,
+    /// It has entered its write.
+    pub published: bool,
+    /// While it holds the lock, where each page is, and the table's words, of which those of the pages stay.
+    pub places: LinkedList<Place>,
+    pub words: LinkedList<u64>,
+    /// The pages that its write had filled and not given back when its last whole scan ended.
+    pub held: LinkedList<u64>,
+    /// The number of its steps on words.
+    pub steps: u64,
+}
+
+/// The knowledge of one pass, of several while seats are cut or joined, or of none.
+pub type View = LinkedList<Knowledge>;

@@ -1,0 +1,46 @@
+//! An open write as a reader and a room of pages.
+//!
+//! Trees are built over the traits of be_pages. What an open write has in common with a room in memory is stated here: where each page stands, its words, and what no call changes (the table, the pass, its phase, what it has seen, and that it isn't published).
+
+use crate::writing::Writing;
+use be_pages::{Look, Room};
+use be_value::Refusal;
+
+impl<'a> Look for Writing<'a> {
+    ghost use Rattle.std.specs.Prelude.{not};
+    ghost use Rattle.be_table.specs.Reading.{StaysOpen, open_of, standing_in, word_in, small_open};
+
+    ghost Kept = { StaysOpen };
+
+    ghost kept = { open_of };
+
+    ghost is_open = { λ k. not k.published };
+
+    ghost standing = { λ w q. standing_in w.knows.places q };
+
+    ghost words = { λ w q i. word_in w.knows.words q i };
+
+    ghost pages_small = { small_open };
+
+    fn word(&mut self, page: u64, i: usize) -> u64 {
+        self.own_word(page, i)
+    }
+}
+
+impl<'a> Room for Writing<'a> {
+    ghost use Rattle.be_table.specs.Works.{HoldsUnreached};
+
+    ghost full = { λ w least. HoldsUnreached w.knows least };
+
+    fn take(&mut self) -> Result<u64, Refusal> {
+        Writing::take(self)
+    }
+
+    fn fill(&mut self, page: u64, i: usize, word: u64) {
+        Writing::fill(self, page, i, word)
+    }
+
+    fn give_up(&mut self, page: u64) {
+        Writing::give_up(self, page)
+    }
+}

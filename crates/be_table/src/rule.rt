@@ -1,0 +1,145 @@
+//! The rule of the table, and the names of its steps.
+//!
+//! A step on a word is allowed where, whatever the table is then, the rule still holds after it. What the step tells its pass is the definition that its name carries.
+ghost use Rattle.std.specs.Prelude.{[]};
+ghost use Rattle.be_table.specs.Rule.{Shows, everyone, first_seat, other_seats, joined};
+ghost use Rattle.be_table.specs.Steps.{LookTold, Locked, Unlocked, Compared, Arrived, Told, PinnedAt, Unpinned, Scanned, PinnedRead, OwnRead, FilledAt, PageTaken, PageGivenUp, Published};
+
+use crate::ledger::Ledger;
+use crate::limits::Limits;
+use crate::pass::View;
+use atomic_table::{Join, Play, Split, TableRule};
+use std::marker::{Brand, PhantomData};
+
+pub(crate) struct Law;
+
+impl TableRule<Option<Ledger>, View, Limits> for Law {
+    ghost holds = { Shows };
+
+    ghost first = { everyone };
+}
+
+pub(crate) struct Look;
+
+impl Play<Option<Ledger>, View> for Look {
+    ghost then = { LookTold };
+}
+
+pub(crate) struct Lock;
+
+impl Play<Option<Ledger>, View> for Lock {
+    ghost then = { Locked };
+}
+
+pub(crate) struct Unlock;
+
+impl Play<Option<Ledger>, View> for Unlock {
+    ghost then = { Unlocked };
+}
+
+/// The first pass of the view gets a seat of its own.
+pub(crate) struct Deal;
+
+impl Split<View> for Deal {
+    ghost left = { other_seats };
+
+    ghost right = { first_seat };
+}
+
+impl Join<View> for Deal {
+    ghost both = { joined };
+
+    ghost spent = { [] };
+}
+
+/// Two passes of one seat compare what they have seen.
+pub(crate) struct Compare;
+
+impl Play<Option<Ledger>, View> for Compare {
+    ghost then = { Compared };
+}
+
+/// A seat with no pass.
+pub(crate) struct Arrive;
+
+impl Play<Option<Ledger>, View> for Arrive {
+    ghost then = { Arrived };
+}
+
+pub(crate) struct Announce;
+
+impl Play<Option<Ledger>, View> for Announce {
+    ghost then = { Told };
+}
+
+pub(crate) struct LookAgain;
+
+impl Play<Option<Ledger>, View> for LookAgain {
+    ghost then = { PinnedAt };
+}
+
+pub(crate) struct Unpin;
+
+impl Play<Option<Ledger>, View> for Unpin {
+    ghost then = { Unpinned };
+}
+
+pub(crate) struct Scan;
+
+impl Play<Option<Ledger>, View> for Scan {
+    ghost then = { Scanned };
+}
+
+pub(crate) struct PinnedWord;
+
+impl Play<Option<Ledger>, View> for PinnedWord {
+    ghost then = { PinnedRead };
+}
+
+pub(crate) struct OwnWord;
+
+impl Play<Option<Ledger>, View> for OwnWord {
+    ghost then = { OwnRead };
+}
+
+pub(crate) struct Fill;
+
+impl Play<Option<Ledger>, View> for Fill {
+    ghost then = { FilledAt };
+}
+
+pub(crate) struct TakePage;
+
+impl Play<Option<Ledger>, View> for TakePage {
+    ghost then = { PageTaken };
+}
+
+pub(crate) struct GiveUp;
+
+impl Play<Option<Ledger>, View> for GiveUp {
+    ghost then = { PageGivenUp };
+}
+
+/// The entry and the version page that a publishing step tells. Each call picks them.
+pub(crate) trait Announced {
+    ghost use Rattle.std.specs.Prelude.{ℕ};
+    ghost use Rattle.be_journal.specs.declared.entries.Entry.{Entry};
+
+    ghost entry: { Entry };
+
+    ghost page: { ℕ };
+}
+
+impl Announced for Brand {
+    ghost entry = { record { by = 0; ops = []; dones = [] } };
+
+    ghost page = { 0 };
+}
+
+pub(crate) struct Publish<E> {
+    marker: PhantomData<E>,
+}
+
+impl<E: Announced> Play<Option<Ledger>, View> for Publish<E> {
+    ghost then = { Published E.entry E.page };
+}

@@ -1,0 +1,123 @@
+//! A pass's seat at the table.
+//!
+//! A seat is the right to step for one pass: no two seats have the same pass, so what a pass knows is known to one holder alone. Beside that right it carries three numbers which its steps told: the number of the pass, how much of the journal the pass has seen, and its pin.
+ghost use Rattle.std.specs.Prelude.{◌≡◌, ℕ, ◌<◌, true, false, [], ◌∷◌, length, IsTrue};
+ghost use Rattle.be_core.specs.Machine.{has};
+ghost use Rattle.be_table.specs.Rule.{pass_of, page_at, reach_at};
+ghost use Rattle.be_core.specs.declared.event.Phase.TheVariants.{Pinned};
+
+use crate::ledger::Ledger;
+use crate::marks::Marks;
+use crate::pass::View;
+use atomic_table::Badge;
+use std::marker::Model;
+use std::mem;
+
+pub(crate) type Base = atomic_table::Seat<Option<Ledger>, View>;
+
+/// What a pass steps with. A seat that was moved out is blank, and steps no more.
+#[derive(Drop)]
+pub struct Seat {
+    badge: Badge<View>,
+    marks: Marks,
+}
+
+impl Model for Seat {
+    ghost use Rattle.be_table.specs.Place.{Place};
+
+    ghost Value = { Place };
+
+    ghost use Rattle.be_table.specs.Seats.{place_of, IsPlaced};
+
+    ghost view = { place_of };
+
+    ghost invariant = { IsPlaced };
+}
+
+impl Seat {
+    ghost use Rattle.be_table.specs.Seats.{IsTold, pin_of, pinned_number};
+
+    fn blank() -> Seat
+        ensures { result.blank ≡ true }
+    {
+        Seat {
+            badge: Badge::blank(),
+            marks: Marks {
+                number: 0,
+                seen: 0,
+                pin: None,
+            },
+        }
+    }
+
+    pub(crate) fn of(base: Base, marks: Marks) -> Seat
+        requires number { marks.number < 64 }
+        requires pass { base.me ≡ (pass_of base.me.0 ∷ [], []) }
+        requires told { IsTold (pass_of base.me.0) marks.number marks.seen }
+        requires pin { marks.pin ≡ pin_of (pass_of base.me.0).phase (pass_of base.me.0).seen }
+        ensures { (result.blank ≡ false) × (result.table ≡ base.table_id) × (result.knows ≡ pass_of base.me.0) }
+    {
+        Seat {
+            badge: base.into_badge(),
+            marks,
+        }
+    }
+
+    // The base's seat, with what it tells of the pass.
+    pub(crate) fn into_base(self) -> (Base, Marks)
+        requires { self.blank ≡ false }
+        ensures pass { (result.0.table_id ≡ self.table) × (result.0.me ≡ (self.knows ∷ [], [])) }
+        ensures told { (result.1.number < 64) × IsTold self.knows result.1.number result.1.seen }
+        ensures pin { result.1.pin ≡ pin_of self.knows.phase self.knows.seen }
+    {
+        let Seat { badge, marks } = self;
+        (badge.into_seat(), marks)
+    }
+
+    /// The number of the pass, counted from 0.
+    pub fn number(&self) -> u64
+        requires { self.now.blank ≡ false }
+        ensures { result ≡ self.now.knows.number }
+    {
+        self.marks.number
+    }
+
+    /// How many entries of the journal the pass has seen.
+    pub fn seen(&self) -> u64
+        requires { self.now.blank ≡ false }
+        ensures { result ≡ length self.now.knows.seen }
+    {
+        self.marks.seen
+    }
+
+    /// The number of the version to which the pass is pinned, if it is.
+    pub fn pinned(&self) -> Option<u64>
+        requires { self.now.blank ≡ false }
+        ensures { result ≡ pinned_number self.now.knows.phase }
+    {
+        match self.marks.pin {
+            Some(pin) => Some(pin.number),
+            None => None,
+        }
+    }
+
+    /// The version page of the version to which the pass is pinned.
+    pub fn version_page(&self) -> u64
+        requires seat { self.now.blank ≡ false }
+        requires pinned { (x : ℕ) × (n : ℕ) × (self.now.knows.phase ≡ Pinned x n) }
+        ensures page { (x n : ℕ) → self.now.knows.phase ≡ Pinned x n → result ≡ page_at self.now.knows.seen n }
+        ensures readable { (x n : ℕ) → self.now.knows.phase ≡ Pinned x n → IsTrue (has (reach_at self.now.knows.seen n) result) }
+    {
+        match self.marks.pin {
+            Some(pin) => pin.page,
+            None => unreachable!(),
+        }
+    }
+
+    /// The seat, of which a blank one is left. No step.
+    pub fn move_out(&mut self) -> Seat
+        ensures { (result ≡ self.old) × (self.new.blank ≡ true) }
+    {
+        mem::replace(self, Seat::blank())
+    }
+}

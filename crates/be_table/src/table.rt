@@ -1,0 +1,261 @@
+//! The table that the passes share, and the steps of readers.
+//!
+//! Word 0 is LOCK: 0 when free, else the holder's number + 1. Word 8 is CURRENT: the version's number times 2^32, plus its version page. Word 16 + 8 k is the announcement of pass k: 0 for none, else the number + 1. Word i of page p is word 528 + 512 p + i.
+ghost use Rattle.std.specs.Prelude.{◌≡◌, ℕ, ◌<◌, false, length, map, MatchResult, IsTrue, slice_index};
+ghost use Rattle.be_core.specs.Machine.{has};
+ghost use Rattle.be_table.specs.Rule.{counted, reach_at, word_place, page_at};
+
+use crate::deal::{deal, gather, lay_first};
+use crate::ledger::Ledger;
+use crate::limits::Limits;
+use crate::marks::PinnedVersion;
+use crate::pass::View;
+use crate::pinned::PinnedLook;
+use crate::rule::{Announce, Arrive, Compare, Deal, Law, Lock, Look, LookAgain, PinnedWord, Unpin};
+use crate::seat::Seat;
+use crate::writing::Writing;
+use atomic_table::Table;
+use be_core::Phase;
+use be_journal::Journal;
+use be_pages::PagePool;
+use be_value::Refusal;
+use std::alloc::Global;
+use std::marker::Model;
+
+pub(crate) const LOCK: usize = 0;
+
+pub(crate) const CURRENT: usize = 8;
+
+// The announcement of pass k is the word ANNOUNCE + 8 * k, on a cache line of its own.
+pub(crate) const ANNOUNCE: usize = 16;
+
+// Then come the pages, of 512 words each.
+pub(crate) const PAGES: usize = 528;
+
+pub(crate) type Inner = Table<Option<Ledger>, View, Limits, Law, Global>;
+
+/// The words, the slot and the limits. Passes share it by a `&`.
+#[derive(Drop)]
+pub struct VersionTable {
+    pub(crate) table: Inner,
+    pub(crate) limits: Limits,
+}
+
+impl Model for VersionTable {
+    ghost use Rattle.std.specs.Prelude.{◌≡◌, ◌+◌, ◌*◌};
+    ghost use Rattle.be_table.specs.Place.{Opened};
+    ghost use Rattle.be_table.specs.Rule.{IsWithin};
+
+    ghost Value = { Opened };
+
+    ghost view = { λ t. record { id = t.table.shared.table_id; limits = t.table.shared.key } };
+
+    ghost invariant = { λ t. (t.table.shared.table_id.words ≡ 528 + 512 * t.limits.pages) × (t.table.shared.table_id.slots ≡ 1) × (t.limits ≡ t.table.shared.key) × IsWithin t.limits };
+}
+
+impl VersionTable {
+    ghost use Rattle.be_table.specs.Works.{IsSeatOf, SeesMore, TakesLock, IsBusy, Pins, AreNew, IsUnopened, AllAt, knows_of};
+    ghost use Rattle.be_table.specs.Steps.{announces, unpins, met, longer, Has, Keeps};
+    ghost use Rattle.be_journal.specs.Journal.{IsLegal};
+    ghost use Rattle.be_table.specs.History.{StartsWith, AllBelow};
+
+    /// A table with an empty journal, and the seats of its passes in the order of their numbers. Version 0 is the page `first`, at page 0; the other pages are free.
+    ///
+    /// BadLimits where a limit is out of its range, and OutOfMemory where a growth was refused. No later call but `reserve` takes memory.
+    pub fn open(
+        alloc: Global,
+        limits: Limits,
+        first: &[u64; 512],
+    ) -> Result<(VersionTable, Vec<Seat>), Refusal>
+        ensures { MatchResult result
+            (λ r. (r.0.limits ≡ limits) × (length r.1.items ≡ limits.passes) × AreNew r.0 0 r.1.items)
+            (λ r. IsUnopened limits r) }
+    {
+        if limits.pages < 8
+            || limits.pages > 16384
+            || limits.passes == 0
+            || limits.passes > 64
+            || limits.commits == 0
+            || limits.commits >= 1 << 32
+        {
+            return Err(Refusal::BadLimits);
+        }
+        let Ok(mut seats) = Vec::with_capacity(alloc, limits.passes as usize) else {
+            return Err(Refusal::OutOfMemory);
+        };
+        let Ok(mut slots) = Vec::with_capacity(alloc, 1) else {
+            return Err(Refusal::OutOfMemory);
+        };
+        let Ok(pool) = PagePool::new(alloc, limits.pages as usize, 1) else {
+            return Err(Refusal::OutOfMemory);
+        };
+        slots.push_reserved(Some(Ledger {
+            journal: Journal::new(alloc, limits.commits),
+            page: 0,
+            pool,
+        }));
+        let Ok(mut words) = vec![in alloc; 0; PAGES + 512 * limits.pages as usize] else {
+            return Err(Refusal::OutOfMemory);
+        };
+        lay_first(&mut words, first);
+        let Ok((table, mut rest)) = Inner::new(alloc, words.as_slice(), slots, &limits) else {
+            return Err(Refusal::OutOfMemory);
+        };
+        deal(&table, &mut rest, limits, &mut seats);
+        Ok((VersionTable { table, limits }, seats))
+    }
+
+    pub(crate) fn passes(&self) -> u64
+        ensures { result ≡ self.now.limits.passes }
+    {
+        self.limits.passes
+    }
+
+    /// Sees the journal up to now, and answers its length. One load.
+    pub fn look(&self, seat: &mut Seat) -> u64
+        requires { IsSeatOf self.now seat.old }
+        ensures seat { IsSeatOf self.now seat.new }
+        ensures sees { SeesMore seat.old.knows seat.new.knows }
+        ensures result { result ≡ length seat.new.knows.seen }
+    {
+        let (mut base, mut marks) = seat.move_out().into_base();
+        let version = self.table.shared.load::<Look>(&mut base, CURRENT) >> 32;
+        marks.seen = version;
+        *seat = Seat::of(base, marks);
+        version
+    }
+
+    /// Announces the number that the pass looked at. From then on no write that scans frees a page of that version or of a later one. One store.
+    pub fn announce(&self, seat: &mut Seat, number: u64)
+        requires seat { IsSeatOf self.now seat.old }
+        requires looked { seat.old.knows.phase ≡ Phase.Looked number }
+        ensures seat { IsSeatOf self.now seat.new }
+        ensures pass { seat.new.knows ≡ announces seat.old.knows number }
+    {
+        let (mut base, marks) = seat.move_out().into_base();
+        let word = ANNOUNCE + 8 * marks.number as usize;
+        self.table
+            .shared
+            .store::<Announce>(&mut base, word, number + 1);
+        *seat = Seat::of(base, marks);
+    }
+
+    /// Pins the version that is current once the announcement stands, which may be later than the announced one. Answers its number and its version page. One load.
+    pub fn look_again(&self, seat: &mut Seat) -> (u64, u64)
+        requires seat { IsSeatOf self.now seat.old }
+        requires announced { (x : ℕ) × (seat.old.knows.phase ≡ Phase.Announced x) }
+        ensures seat { IsSeatOf self.now seat.new }
+        ensures pass { Pins seat.old.knows seat.new.knows }
+        ensures number { result.0 ≡ length seat.new.knows.seen }
+        ensures page { result.1 ≡ page_at seat.new.knows.seen (length seat.new.knows.seen) }
+    {
+        let (mut base, mut marks) = seat.move_out().into_base();
+        let word = self.table.shared.load::<LookAgain>(&mut base, CURRENT);
+        let number = word >> 32;
+        let page = word & 0xffff_ffff;
+        marks.seen = number;
+        marks.pin = Some(PinnedVersion { number, page });
+        *seat = Seat::of(base, marks);
+        (number, page)
+    }
+
+    /// Takes the announcement back. One store.
+    pub fn unpin(&self, seat: &mut Seat)
+        requires seat { IsSeatOf self.now seat.old }
+        requires pinned { (x : ℕ) × (n : ℕ) × (seat.old.knows.phase ≡ Phase.Pinned x n) }
+        ensures seat { IsSeatOf self.now seat.new }
+        ensures pass { seat.new.knows ≡ unpins seat.old.knows }
+    {
+        let (mut base, mut marks) = seat.move_out().into_base();
+        let word = ANNOUNCE + 8 * marks.number as usize;
+        self.table.shared.store::<Unpin>(&mut base, word, 0);
+        marks.pin = None;
+        *seat = Seat::of(base, marks);
+    }
+
+    /// Takes the lock, or answers Busy with the pass that has it, which is another one. One compare-exchange.
+    pub fn lock(&self, seat: Seat) -> Result<Writing<'_>, (Seat, Refusal)>
+        requires { IsSeatOf self.now seat }
+        ensures { MatchResult result
+            (λ w. (w.table ≡ self.now) × (w.reserved ≡ 0) × TakesLock seat.knows w.knows)
+            (λ r. IsSeatOf self.now r.0 × (r.0.knows ≡ counted seat.knows) × IsBusy r.1 seat.knows) }
+    {
+        let (mut base, marks) = seat.into_base();
+        let shared = &self.table.shared;
+        let found = shared.compare_exchange::<Lock>(&mut base, LOCK, 0, marks.number + 1);
+        if found == 0 {
+            let ledger = shared.exchange(&mut base, 0, None).unwrap();
+            Ok(Writing::of(self, base, marks, ledger))
+        } else {
+            Err((Seat::of(base, marks), Refusal::Busy(found - 1)))
+        }
+    }
+
+    /// Word i of a page of the pinned version, as it was when that version was published. One load.
+    pub fn pinned_word(&self, seat: &mut Seat, page: u64, i: usize) -> u64
+        requires seat { IsSeatOf self.now seat.old }
+        requires pinned { (x : ℕ) × (n : ℕ) × (seat.old.knows.phase ≡ Phase.Pinned x n) × IsTrue (has (reach_at seat.old.knows.seen n) page) }
+        requires place { i < 512 }
+        ensures seat { IsSeatOf self.now seat.new }
+        ensures pass { seat.new.knows ≡ counted seat.old.knows }
+        ensures word { result ≡ slice_index seat.old.knows.image (word_place page i) }
+    {
+        let (mut base, marks) = seat.move_out().into_base();
+        let word = PAGES + 512 * page as usize + i;
+        let found = self.table.shared.load::<PinnedWord>(&mut base, word);
+        *seat = Seat::of(base, marks);
+        found
+    }
+
+    /// A reader of the pages of the pinned version. No step.
+    pub fn pinned_look(&self, seat: Seat) -> PinnedLook<'_>
+        requires seat { IsSeatOf self.now seat }
+        requires pinned { (x : ℕ) × (n : ℕ) × (seat.knows.phase ≡ Phase.Pinned x n) }
+        ensures { (result.table ≡ self.now) × (result.knows ≡ seat.knows) }
+    {
+        PinnedLook::of(self, seat)
+    }
+
+    /// Two passes tell each other what they have seen, in three steps: their seats are joined, a load compares what they have seen, and the seats are cut apart again. Both passes have then seen what either had: of two beginnings of one journal the longer. Answers its length.
+    pub fn meet(&self, left: Seat, right: Seat) -> (Seat, Seat, u64)
+        requires { IsSeatOf self.now left × IsSeatOf self.now right }
+        ensures seats { IsSeatOf self.now result.0 × IsSeatOf self.now result.1 }
+        ensures left { StartsWith (longer left.knows.seen right.knows.seen) left.knows.seen × (result.0.knows ≡ met left.knows (longer left.knows.seen right.knows.seen)) }
+        ensures right { StartsWith (longer left.knows.seen right.knows.seen) right.knows.seen × (result.1.knows ≡ met right.knows (longer left.knows.seen right.knows.seen)) }
+        ensures length { result.2 ≡ length (longer left.knows.seen right.knows.seen) }
+    {
+        let (mut base, mut marks) = left.into_base();
+        let (other, mut other_marks) = right.into_base();
+        let shared = &self.table.shared;
+        shared.join_seat::<Deal>(&mut base, other);
+        shared.load::<Compare>(&mut base, LOCK);
+        let first = shared.split_seat::<Deal>(&mut base);
+        let both = if marks.seen < other_marks.seen {
+            other_marks.seen
+        } else {
+            marks.seen
+        };
+        marks.seen = both;
+        other_marks.seen = both;
+        (Seat::of(first, marks), Seat::of(base, other_marks), both)
+    }
+
+    /// The journal, once all seats are back. Their passes may be pinned.
+    pub fn close(self, seats: Vec<Seat>) -> Journal
+        requires seats { AllAt self.id seats.items }
+        requires all { (k : ℕ) → k < self.limits.passes → Has (map knows_of seats.items) k }
+        ensures legal { IsLegal result.entries }
+        ensures by { AllBelow self.limits.passes result.entries }
+        ensures seats { Keeps result.entries (map knows_of seats.items) }
+    {
+        let VersionTable { table, limits: _ } = self;
+        // A seat with no pass takes in the others.
+        let (_, mut rest) = table.shared.load_new_seat::<Arrive>(LOCK);
+        gather(&table, &mut rest, seats);
+        let mut closed = table.close_with(rest);
+        let slot = closed.take(0);
+        closed.free();
+        let Some(ledger) = slot else { unreachable!() };
+        ledger.into_journal()
+    }
+}

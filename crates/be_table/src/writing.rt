@@ -1,0 +1,307 @@
+//! An open write: the lock is held, and the ledger is in hand.
+//!
+//! A write takes pages, fills them, gives pages up, and publishes. Until it publishes, nothing of it can be seen by others, and `unlock` undoes it. It is never let go of but by `unlock`, since it has no `Drop`: so the ledger always comes back.
+ghost use Rattle.std.specs.Prelude.{◌≡◌, ◌≤◌, All, suc, ◌+◌, ◌*◌, ◌<◌, true, false, [], ◌∷◌, length, None, MatchResult, ℕ, map, slice_index, IsTrue, List, IfOk, IfErr, IfSome, IfNone, ◌≢◌};
+ghost use Rattle.be_volume.specs.Sound.{IsOperation};
+ghost use Rattle.be_pages.specs.declared.room.Standing.TheVariants.{Taken, Filled as Full};
+ghost use Rattle.be_table.specs.Reading.{standing_in};
+ghost use Rattle.be_pages.specs.Place.{is_in_hand, is_held_page, place_of, given_place};
+ghost use Rattle.be_table.specs.Rule.{pass_of, counted, word_place, current_word};
+ghost use Rattle.be_table.specs.Steps.{IsNewest, IsPass, IsFound, MayPublish, publishes, MayScan, IsPart, fills, takes_page, gives_up, scans, scans_out, scans_all, least_found, IsLeast, LeavesNone};
+
+use crate::ledger::Ledger;
+use crate::marks::Marks;
+use crate::rule::{Announced, Fill, GiveUp, OwnWord, Publish, Scan, TakePage, Unlock};
+use crate::seat::{Base, Seat};
+use crate::table::{ANNOUNCE, CURRENT, LOCK, PAGES, VersionTable};
+use be_pages::Place;
+use be_value::Refusal;
+use be_volume::{Done, Op};
+use std::marker::{Brand, Model};
+
+/// The lock is held by this pass. It has no `Drop`, so it ends in `unlock`.
+pub struct Writing<'a> {
+    table: &'a VersionTable,
+    base: Base,
+    marks: Marks,
+    ledger: Ledger,
+    reserved: usize,
+}
+
+impl<'a> Model for Writing<'a> {
+    ghost use Rattle.be_table.specs.Place.{Work};
+
+    ghost Value = { Work };
+
+    ghost use Rattle.be_table.specs.Writes.{work_of, IsOpen};
+
+    ghost view = { work_of };
+
+    ghost invariant = { IsOpen };
+}
+
+impl<'a> Writing<'a> {
+    ghost use Rattle.be_pages.specs.Refusal.{IsFullOf};
+    ghost use Rattle.be_table.specs.Works.{IsSeatOf, HasNoRoom, MakesScan, TakesPage, FindsNone};
+    ghost use Rattle.be_table.specs.Rule.{page_at, entries};
+    ghost use Rattle.be_table.specs.Steps.{entry_of};
+    ghost use Rattle.be_journal.specs.Journal.{Agrees, replay};
+    ghost use Rattle.be_table.specs.Steps.{leaves};
+    ghost use Rattle.be_table.specs.Seats.{pin_of};
+
+    pub(crate) fn of(
+        table: &'a VersionTable,
+        base: Base,
+        marks: Marks,
+        ledger: Ledger,
+    ) -> Writing<'a>
+        requires seat { (base.table_id ≡ table.now.id) × (base.me ≡ (pass_of base.me.0 ∷ [], (0, None) ∷ [])) }
+        requires pass { ((pass_of base.me.0).number ≡ marks.number) × ((pass_of base.me.0).limits ≡ table.now.limits) × (marks.number < 64) × ((pass_of base.me.0).writes ≡ true) × IsPass (pass_of base.me.0) }
+        requires ledger { IsFound ledger (pass_of base.me.0) }
+        requires turn { (pass_of base.me.0).scanned ≡ 0 }
+        requires pin { marks.pin ≡ pin_of (pass_of base.me.0).phase (pass_of base.me.0).seen }
+        ensures { (result.table ≡ table.now) × (result.knows ≡ pass_of base.me.0) × (result.reserved ≡ 0) }
+    {
+        Writing {
+            table,
+            base,
+            marks,
+            ledger,
+            reserved: 0,
+        }
+    }
+
+    /// The length of the journal, and the version page. No step.
+    pub fn current(&self) -> (u64, u64)
+        ensures { (result.0 ≡ length self.now.knows.seen) × (result.1 ≡ page_at self.now.knows.seen (length self.now.knows.seen)) }
+    {
+        (self.ledger.journal.len(), self.ledger.page)
+    }
+
+    /// Word i of a page, as the current version has it or as this write filled it. One load.
+    pub fn own_word(&mut self, page: u64, i: usize) -> u64
+        requires place { (page < length self.old.knows.places) × (i < 512) }
+        ensures write { self.new ≡ record self.old { knows = counted self.old.knows } }
+        ensures word { result ≡ slice_index self.old.knows.words (word_place page i) }
+    {
+        let table = self.table;
+        let word = PAGES + 512 * page as usize + i;
+        table.table.shared.load::<OwnWord>(&mut self.base, word)
+    }
+
+    /// Writes word i of a page that was taken in this write. One store.
+    pub fn fill(&mut self, page: u64, i: usize, word: u64)
+        requires open { self.old.knows.published ≡ false }
+        requires taken { (page < length self.old.knows.places) × IsTrue (is_in_hand (place_of self.old.knows.places page)) }
+        requires place { i < 512 }
+        ensures write { self.new ≡ record self.old { knows = fills self.old.knows page i word } }
+        ensures inside { word_place page i < length self.old.knows.words }
+    {
+        let table = self.table;
+        let at = PAGES + 512 * page as usize + i;
+        table.table.shared.store::<Fill>(&mut self.base, at, word);
+        self.ledger.pool.fill(page);
+    }
+
+    /// Gives a page up. One that was taken in this write is free at once; one of the current version keeps its words until a scan frees it. One load.
+    pub fn give_up(&mut self, page: u64)
+        requires open { self.old.knows.published ≡ false }
+        requires held { (page < length self.old.knows.places) × IsTrue (is_held_page (place_of self.old.knows.places page)) }
+        ensures write { self.new ≡ record self.old { knows = gives_up self.old.knows page } }
+    {
+        // The load tells that the page is given up.
+        let table = self.table;
+        table
+            .table
+            .shared
+            .load::<GiveUp>(&mut self.base, PAGES + 512 * page as usize);
+        self.ledger.pool.give_up(page);
+    }
+
+    // Takes the page that was freed last, if one is free.
+    fn take_free(&mut self) -> Option<u64>
+        requires open { self.old.knows.published ≡ false }
+        ensures some { IfSome result (λ page. (page < length self.old.knows.places) × (place_of self.old.knows.places page ≡ Place.Free)) }
+        ensures small { IfSome result (λ page. page < 16384) }
+        ensures taken { IfSome result (λ page. self.new ≡ record self.old { knows = takes_page self.old.knows page }) }
+        ensures none { IfNone result ((p : ℕ) → p < length self.old.knows.places → place_of self.old.knows.places p ≢ Place.Free) }
+        ensures same { IfNone result (self.new ≡ self.old) }
+    {
+        let page = self.ledger.pool.take()?;
+        tell_taken(self.table, &mut self.base, page);
+        Some(page)
+    }
+
+    /// Takes a free page, the one that was freed last. Where none is free it scans, and answers Full with the least that it found where none is free even then: each page that no version from the least on has is then held by this write. One load, and a scan's where it scans.
+    pub fn take(&mut self) -> Result<u64, Refusal>
+        requires open { self.old.knows.published ≡ false }
+        ensures ok { IfOk result (λ page. TakesPage self.old self.new page) }
+        ensures full { IfErr result (IsFullOf (FindsNone self.old self.new)) }
+    {
+        if let Some(page) = self.take_free() {
+            return Ok(page);
+        }
+        let least = self.scan();
+        match self.take_free() {
+            Some(page) => Ok(page),
+            None => Err(Refusal::Full(least)),
+        }
+    }
+
+    /// Reads every announcement once. Answers the least of them and of the current number; the pages that were retired with a smaller number are free. A load for each pass, and work for each page that becomes free.
+    pub fn scan(&mut self) -> u64
+        requires open { self.old.knows.published ≡ false }
+        ensures { MakesScan self.old self.new result }
+    {
+        let current = self.ledger.journal.len();
+        let least = read_all(self.table, &mut self.base, current);
+        self.ledger.sweep(least);
+        least
+    }
+
+    /// Makes room for one entry of so many operations. CommitsSpent where the journal is as long as the limit, and OutOfMemory where a growth was refused; either leaves the write as it was.
+    #[tactic(auto, using(crate::proofs::Opened::no_room, crate::proofs::Opened::has_room))]
+    pub fn reserve(&mut self, count: usize) -> Result<(), Refusal>
+        requires open { self.old.knows.published ≡ false }
+        requires count { (1 ≤ count) × (count ≤ 64) }
+        ensures { MatchResult result
+            (λ _. (self.new ≡ record self.old { reserved = count }) × (length self.old.knows.seen < self.old.knows.limits.commits))
+            (λ r. (self.new ≡ self.old) × HasNoRoom r self.old.knows) }
+    {
+        self.ledger.reserve(count)?;
+        self.reserved = count;
+        Ok(())
+    }
+
+    // A page that stands filled is one of the table. It does nothing.
+    fn is_filled(&self, page: u64)
+        requires { standing_in self.now.knows.places page ≡ Full }
+        ensures { (page < length self.now.knows.places) × (place_of self.now.knows.places page ≡ Place.Filled) }
+    {}
+
+    /// Enters a write into the journal, with the version of the pages that the write keeps. Answers the journal's length, which is the new version's number. One store, which takes no memory, and work for each page that the write took or gave up.
+    pub fn publish(&mut self, page: u64, ops: &[Op], dones: &[Done]) -> u64
+        requires open { self.old.knows.published ≡ false }
+        requires count { (1 ≤ length ops.now) × (length ops.now ≤ 64) }
+        requires reserved { (length ops.now ≡ self.old.reserved) × (length dones.now ≡ self.old.reserved) }
+        requires entry { Agrees (replay (entries self.old.knows.seen)) (entry_of self.old.knows ops.now dones.now) }
+        requires page { standing_in self.old.knows.places page ≡ Full }
+        requires filled { (q : ℕ) → standing_in self.old.knows.places q ≢ Taken }
+        ensures write { self.new ≡ record self.old { knows = publishes self.old.knows (entry_of self.old.knows ops.now dones.now) page; reserved = 0 } }
+        ensures result { result ≡ length self.new.knows.seen }
+    {
+        all_valid(ops);
+        self.is_filled(page);
+        let number = self.marks.number;
+        let version = self.ledger.journal.len() + 1;
+        let word = (version << 32) + page;
+        announce::<Brand>(self.table, &mut self.base, number, ops, dones, page, word);
+        self.ledger.append(number, ops, dones, page);
+        self.reserved = 0;
+        version
+    }
+
+    /// Gives the ledger and the lock back. What wasn't published is undone. One store.
+    pub fn unlock(self) -> Seat
+        ensures seat { IsSeatOf self.entry.table result }
+        ensures pass { result.knows ≡ leaves self.entry.knows }
+    {
+        let Writing {
+            table,
+            mut base,
+            mut marks,
+            mut ledger,
+            reserved: _,
+        } = self;
+        marks.seen = ledger.journal.len();
+        ledger.rest();
+        let shared = &table.table.shared;
+        let _ = shared.exchange(&mut base, 0, Some(ledger));
+        shared.store::<Unlock>(&mut base, LOCK, 0);
+        Seat::of(base, marks)
+    }
+}
+
+// The operations are such of the program, as their types have it.
+fn all_valid(ops: &[Op])
+    ensures { All IsOperation ops.now }
+{
+    for op in ops {
+        op.valid();
+    }
+}
+
+// The one step at which the write takes effect.
+fn announce<E: Announced>(
+    table: &VersionTable,
+    base: &mut Base,
+    by: u64,
+    ops: &[Op],
+    dones: &[Done],
+    page: u64,
+    word: u64,
+)
+    requires told { (E.entry ≡ record { by = by; ops = ops.now; dones = dones.now }) × (page ≡ E.page) }
+    requires seat { base.old.table_id ≡ table.now.id }
+    requires pass { (base.old.me.0 ≡ pass_of base.old.me.0 ∷ []) × MayPublish table.now.limits (pass_of base.old.me.0) E.entry page }
+    requires word { word ≡ current_word (length (pass_of base.old.me.0).seen + 1) page }
+    ensures seat { (base.new.table_id ≡ base.old.table_id) × (base.new.id ≡ base.old.id) }
+    ensures me { base.new.me ≡ (publishes (pass_of base.old.me.0) E.entry page ∷ [], base.old.me.1) }
+    ensures pass { IsPass (publishes (pass_of base.old.me.0) E.entry page) }
+    ensures newest { IsNewest (pass_of base.old.me.0) }
+{
+    table.table.shared.store::<Publish<E>>(base, CURRENT, word)
+}
+
+// The load by which a page is taken.
+fn tell_taken(table: &VersionTable, base: &mut Base, page: u64)
+    requires seat { base.old.table_id ≡ table.now.id }
+    requires pass { (base.old.me.0 ≡ pass_of base.old.me.0 ∷ []) × ((pass_of base.old.me.0).writes ≡ true) }
+    requires small { page < 16384 }
+    requires page { (page < table.now.limits.pages) × (page < length (pass_of base.old.me.0).places) × (place_of (pass_of base.old.me.0).places page ≡ Place.Free) }
+    ensures seat { (base.new.table_id ≡ base.old.table_id) × (base.new.id ≡ base.old.id) }
+    ensures me { base.new.me ≡ (takes_page (pass_of base.old.me.0) page ∷ [], base.old.me.1) }
+{
+    let at = PAGES + 512 * page as usize;
+    table.table.shared.load::<TakePage>(base, at);
+}
+
+// One announcement, of the pass whose turn it is.
+fn read_announcement(table: &VersionTable, base: &mut Base, pass: u64) -> u64
+    requires seat { base.old.table_id ≡ table.now.id }
+    requires pass { MayScan table.now.limits base.old.me pass }
+    ensures seat { (base.new.table_id ≡ base.old.table_id) × (base.new.id ≡ base.old.id) }
+    ensures me { base.new.me ≡ (scans (pass_of base.old.me.0) result ∷ [], base.old.me.1) }
+    ensures leaves { suc (pass_of base.old.me.0).scanned ≡ (pass_of base.old.me.0).limits.passes → LeavesNone (scans_out (pass_of base.old.me.0) result) }
+{
+    table
+        .table
+        .shared
+        .load::<Scan>(base, ANNOUNCE + 8 * pass as usize)
+}
+
+fn lower(least: u64, found: u64) -> u64
+    ensures { result ≡ least_found least found }
+{
+    if found == 0 {
+        least
+    } else {
+        least.min(found - 1)
+    }
+}
+
+fn read_all(table: &VersionTable, base: &mut Base, current: u64) -> u64
+    requires seat { base.old.table_id ≡ table.now.id }
+    requires pass { MayScan table.now.limits base.old.me 0 }
+    requires current { ((pass_of base.old.me.0).limits ≡ table.now.limits) × (current ≡ length (pass_of base.old.me.0).seen) }
+    ensures seat { (base.new.table_id ≡ base.old.table_id) × (base.new.id ≡ base.old.id) }
+    ensures me { (found : List ℕ) × (length found ≡ table.now.limits.passes) × (base.new.me ≡ (scans_all (pass_of base.old.me.0) found ∷ [], base.old.me.1)) × IsLeast current found result }
+    ensures part { IsPart table.now.limits.passes (pass_of base.old.me.0) (pass_of base.new.me.0) table.now.limits.passes result }
+{
+    let mut least = current;
+    for pass in 0..table.passes() {
+        let found = read_announcement(table, base, pass);
+        least = lower(least, found);
+    }
+    least
+}

@@ -1,0 +1,243 @@
+-- Rooms whose pages in use change.
+use Rattle.std.proofs.Common.{◌≡◌, ℕ, zero, suc, ◌+◌, ◌<◌, ◌≤◌, List, [], ◌∷◌, ◌++◌, IsTrue, true, false, ap, sym, subst, ◌∙◌, refl, inl, inr, arith, cond, ◌==◌, zero-add, add-zero}
+use Rattle.std.specs.List.{flat_map, count_by}
+use Rattle.std.proofs.lemmas.Bool.{cases_eq}
+use Rattle.std.proofs.lemmas.Bool.Decides.{nat_tests}
+use Rattle.std.proofs.lemmas.List.Sums.{sum_by-append, sum_by-cons}
+use mathlib.Core.Bool.{false≢true}
+use Rattle.be_pages.specs.declared.room.Standing.{Standing}
+use Rattle.be_pages.specs.declared.room.Standing.TheVariants.{Free, Old, GivenUp, Taken, Filled}
+use Rattle.be_pages.specs.Pages.{is_readable, is_kept, is_from_before, after_undo, times, PageStep, untouched, unused, fresh, given_old, given_new, stays_old, stays_new, Swaps, KeepsStart, IsUnchanged}
+
+-- how often a page is among a part's pages
+pub times_append : (q : ℕ) (xs ys : List ℕ) → times q (xs ++ ys) ≡ times q xs + times q ys
+times_append q xs ys = sum_by-append (λ p. cond (p == q) 1 0) xs ys
+
+pub times-cons : (q p : ℕ) (ps : List ℕ) → times q (p ∷ ps) ≡ cond (p == q) 1 0 + times q ps
+times-cons q p ps = sum_by-cons (λ p. cond (p == q) 1 0) p ps
+
+pub times_tail : (q p : ℕ) (ps : List ℕ) → times q ps ≤ times q (p ∷ ps)
+times_tail q p ps = omega (arith, times-cons q p ps)
+
+pub same_page : (p : ℕ) → cond {A = ℕ} (p == p) 1 0 ≡ 1
+same_page p = grind (arith, nat_tests)
+
+pub times_itself : (p : ℕ) → times p (p ∷ []) ≡ 1
+times_itself p = omega (arith, times-cons p p [], same_page p)
+
+pub times_other : (q p : ℕ) → (q ≡ p → ⊥) → times q (p ∷ []) ≡ 0
+times_other q p ne = omega (arith, times-cons q p [], other q p ne)
+  where
+    other : (q p : ℕ) → (q ≡ p → ⊥) → cond {A = ℕ} (p == q) 1 0 ≡ 0
+    other q p ne = grind (arith, nat_tests)
+
+-- one change of a page after another
+step_trans : {P Q S : Type 0} {b m a : ℕ} {s t u : Standing} → (P → Q → S) → PageStep P b m s t → PageStep Q m a t u → PageStep S b a s u
+step_trans f (untouched p) (untouched q) = untouched (f p q)
+step_trans f (untouched p) unused = unused
+step_trans f (untouched p) fresh = fresh
+step_trans f unused (untouched q) = unused
+step_trans f unused unused = unused
+step_trans f unused fresh = fresh
+step_trans f fresh given_new = unused
+step_trans f fresh stays_new = fresh
+step_trans f (given_old p) (untouched q) = given_old (f p q)
+step_trans f given_new (untouched q) = given_new
+step_trans f given_new unused = given_new
+step_trans f given_new fresh = stays_new
+step_trans f (stays_old p) (given_old q) = given_old (f p q)
+step_trans f (stays_old p) (stays_old q) = stays_old (f p q)
+step_trans f stays_new given_new = given_new
+step_trans f stays_new stays_new = stays_new
+
+-- a page in use that is untouched is in use before and after
+stays_used : {P : Type 0} (s : Standing) → IsTrue (is_kept s) → P → (n m : ℕ) → PageStep P (suc n) (suc m) s s
+stays_used Free used p n m = absurd (false≢true used)
+stays_used Old used p n m = stays_old p
+stays_used GivenUp used p n m = absurd (false≢true used)
+stays_used Taken used p n m = absurd (false≢true used)
+stays_used Filled used p n m = stays_new
+
+step_stays : {P : Type 0} {b a : ℕ} {s t : Standing} → IsTrue (is_kept s) → b ≡ 0 → PageStep P b a s t → (n m : ℕ) → PageStep P (suc n) (suc m) s t
+step_stays used e (untouched {s} p) n m = stays_used s used p n m
+step_stays used e unused n m = absurd (false≢true used)
+step_stays used e fresh n m = absurd (false≢true used)
+step_stays used e (given_old {b} p) n m = absurd (omega (arith, e))
+step_stays used e (given_new {b}) n m = absurd (omega (arith, e))
+step_stays used e (stays_old {b} p) n m = absurd (omega (arith, e))
+step_stays used e (stays_new {b}) n m = absurd (omega (arith, e))
+
+-- the same change, seen beside other pages in use
+step_frame : {P : Type 0} {b a : ℕ} {s t : Standing} (x : ℕ) → x + b ≤ 1 → (0 < x → IsTrue (is_kept s)) → PageStep P b a s t → PageStep P (x + b) (x + a) s t
+step_frame {P = P} {b = b} {a = a} {s = s} {t = t} zero once used step =
+    let e : b ≡ 0 + b = omega arith in
+    let f : a ≡ 0 + a = omega arith in
+    subst (λ n. PageStep P n (0 + a) s t) e (subst (λ n. PageStep P b n s t) f step)
+step_frame {P = P} {b = b} {a = a} {s = s} {t = t} (suc x) once used step =
+    let e : suc (x + b) ≡ suc x + b = omega arith in
+    let f : suc (x + a) ≡ suc x + a = omega arith in
+    subst (λ n. PageStep P n (suc x + a) s t) e (subst (λ n. PageStep P (suc (x + b)) n s t) f (step_stays (used (omega arith)) (omega (arith, once)) step (x + b) (x + a)))
+
+-- a page that others use keeps its words
+step_same : {P : Type 0} {b a : ℕ} {s t : Standing} → b ≡ 0 → IsTrue (is_readable s) → PageStep P b a s t → P
+step_same none read (untouched p) = p
+step_same none read unused = absurd (false≢true read)
+step_same none read fresh = absurd (false≢true read)
+step_same none read (given_old p) = p
+step_same none read (given_new {b}) = absurd (omega (arith, none))
+step_same none read (stays_old p) = p
+step_same none read (stays_new {b} {a}) = absurd (omega (arith, none))
+
+-- and stands where it stood
+step_stands : {P : Type 0} {b a : ℕ} {s t : Standing} → b ≡ 0 → IsTrue (is_readable s) → PageStep P b a s t → t ≡ s
+step_stands none read (untouched p) = refl
+step_stands none read unused = refl
+step_stands none read fresh = absurd (false≢true read)
+step_stands none read (given_old {b} p) = absurd (omega (arith, none))
+step_stands none read (given_new {b}) = absurd (omega (arith, none))
+step_stands none read (stays_old p) = refl
+step_stands none read stays_new = refl
+
+-- a page in use afterwards is held
+step_after : {P : Type 0} {b a : ℕ} {s t : Standing} → 0 < a → PageStep P b a s t → IsTrue (is_kept t)
+step_after some (untouched p) = absurd (omega (arith, some))
+step_after some unused = absurd (omega (arith, some))
+step_after some fresh = refl
+step_after some (given_old p) = absurd (omega (arith, some))
+step_after some given_new = absurd (omega (arith, some))
+step_after some (stays_old p) = refl
+step_after some stays_new = refl
+
+-- a page that comes into use was free
+step_fresh : {P : Type 0} {b a : ℕ} {s t : Standing} → b ≡ 0 → 0 < a → PageStep P b a s t → s ≡ Free
+step_fresh none some (untouched p) = absurd (omega (arith, some))
+step_fresh none some unused = refl
+step_fresh none some fresh = refl
+step_fresh none some (given_old {b} p) = absurd (omega (arith, none))
+step_fresh none some given_new = absurd (omega (arith, some))
+step_fresh none some (stays_old {b} p) = absurd (omega (arith, none))
+step_fresh none some (stays_new {b}) = absurd (omega (arith, none))
+
+step_undone : {P : Type 0} {b a : ℕ} {s t : Standing} → PageStep P b a s t → after_undo t ≡ after_undo s
+step_undone (untouched p) = refl
+step_undone unused = refl
+step_undone fresh = refl
+step_undone (given_old p) = refl
+step_undone given_new = refl
+step_undone (stays_old p) = refl
+step_undone stays_new = refl
+
+step_older : {P : Type 0} {b a : ℕ} {s t : Standing} → IsTrue (is_from_before s) → PageStep P b a s t → P
+step_older old (untouched p) = p
+step_older old unused = absurd (false≢true old)
+step_older old fresh = absurd (false≢true old)
+step_older old (given_old p) = p
+step_older old given_new = absurd (false≢true old)
+step_older old (stays_old p) = p
+step_older old stays_new = absurd (false≢true old)
+
+-- what stands the same once undone was there alike
+from_before : (s t : Standing) → after_undo t ≡ after_undo s → IsTrue (is_from_before s) → IsTrue (is_from_before t)
+from_before s t e old = same t ∙ ap is_from_before e ∙ sym (same s) ∙ old
+  where
+    same : (s : Standing) → is_from_before s ≡ is_from_before (after_undo s)
+    same Free = refl
+    same Old = refl
+    same GivenUp = refl
+    same Taken = refl
+    same Filled = refl
+
+module _ {S K : Type 0} (kept_of : S → K) (standing_of : S → ℕ → Standing) (words_of : S → ℕ → ℕ → ℕ) where
+  pub swaps_trans : (b m a : List ℕ) (old mid new : S) → Swaps kept_of standing_of words_of b m old mid → Swaps kept_of standing_of words_of m a mid new → Swaps kept_of standing_of words_of b a old new
+  swaps_trans b m a old mid new first then = record {
+    kept = then.kept ∙ first.kept;
+    each = λ q. step_trans (λ x y. y ∙ x) (first.each q) (then.each q);
+  }
+
+  pub swaps_frame : (b a b' a' : List ℕ) (x : ℕ → ℕ) (old new : S) → Swaps kept_of standing_of words_of b a old new
+      → ((q : ℕ) → times q b' ≡ x q + times q b) → ((q : ℕ) → times q a' ≡ x q + times q a) → ((q : ℕ) → times q b' ≤ 1) → ((q : ℕ) → 0 < x q → IsTrue (is_kept (standing_of old q)))
+      → Swaps kept_of standing_of words_of b' a' old new
+  swaps_frame b a b' a' x old new swaps eb ea once used = record {
+    kept = swaps.kept;
+    each = λ q. subst (λ n. PageStep (words_of new q ≡ words_of old q) n (times q a') (standing_of old q) (standing_of new q)) (sym (eb q))
+        (subst (λ n. PageStep (words_of new q ≡ words_of old q) (x q + times q b) n (standing_of old q) (standing_of new q)) (sym (ea q))
+        (step_frame (x q) (omega (arith, eb q, once q)) (used q) (swaps.each q)));
+  }
+
+  pub swaps_same : (b a : List ℕ) (old new : S) → Swaps kept_of standing_of words_of b a old new → (q : ℕ) → times q b ≡ 0 → IsTrue (is_readable (standing_of old q)) → words_of new q ≡ words_of old q
+  swaps_same b a old new swaps q none read = step_same none read (swaps.each q)
+
+  pub swaps_stands : (b a : List ℕ) (old new : S) → Swaps kept_of standing_of words_of b a old new → (q : ℕ) → times q b ≡ 0 → IsTrue (is_readable (standing_of old q)) → standing_of new q ≡ standing_of old q
+  swaps_stands b a old new swaps q none read = step_stands none read (swaps.each q)
+
+  pub swaps_after : (b a : List ℕ) (old new : S) → Swaps kept_of standing_of words_of b a old new → (q : ℕ) → 0 < times q a → IsTrue (is_kept (standing_of new q))
+  swaps_after b a old new swaps q some = step_after some (swaps.each q)
+
+  pub swaps_fresh : (b a : List ℕ) (old new : S) → Swaps kept_of standing_of words_of b a old new → (q : ℕ) → times q b ≡ 0 → 0 < times q a → standing_of old q ≡ Free
+  swaps_fresh b a old new swaps q none some = step_fresh none some (swaps.each q)
+
+  pub swaps_start : (b a : List ℕ) (old new : S) → Swaps kept_of standing_of words_of b a old new → KeepsStart kept_of standing_of words_of old new
+  swaps_start b a old new swaps = record {
+    kept = swaps.kept;
+    undone = λ q. step_undone (swaps.each q);
+    words = λ q old. step_older old (swaps.each q);
+  }
+
+  pub start_trans : (old mid new : S) → KeepsStart kept_of standing_of words_of old mid → KeepsStart kept_of standing_of words_of mid new → KeepsStart kept_of standing_of words_of old new
+  start_trans old mid new first then = record {
+    kept = then.kept ∙ first.kept;
+    undone = λ q. then.undone q ∙ first.undone q;
+    words = λ q was. then.words q (from_before (standing_of old q) (standing_of mid q) (first.undone q) was) ∙ first.words q was;
+  }
+
+pub readable_kept : (s : Standing) → IsTrue (is_kept s) → IsTrue (is_readable s)
+readable_kept Free used = absurd (false≢true used)
+readable_kept Old used = refl
+readable_kept GivenUp used = refl
+readable_kept Taken used = refl
+readable_kept Filled used = refl
+
+-- a page that was free is taken and filled
+pub written_swaps : {S K : Type 0} (kept_of : S → K) (standing_of : S → ℕ → Standing) (words_of : S → ℕ → ℕ → ℕ) (page : ℕ) (old new : S)
+    → kept_of new ≡ kept_of old → standing_of old page ≡ Free → standing_of new page ≡ Filled
+    → ((q : ℕ) → (q ≡ page → ⊥) → standing_of new q ≡ standing_of old q) → ((q : ℕ) → (q ≡ page → ⊥) → words_of new q ≡ words_of old q)
+    → Swaps kept_of standing_of words_of [] (page ∷ []) old new
+written_swaps kept_of standing_of words_of page old new kept free filled stands words = record {
+  kept = kept;
+  each = λ q. elim (cases_eq q page) [
+    | inl e ↦
+        step q (words_of new q ≡ words_of old q) 1 0 (standing_of old q) (standing_of new q) (ap (λ p. times p (page ∷ [])) e ∙ times_itself page) (ap (standing_of old) e ∙ free) (ap (standing_of new) e ∙ filled)
+    | inr ne ↦
+        subst (λ n. PageStep (words_of new q ≡ words_of old q) zero n (standing_of old q) (standing_of new q)) (sym (times_other q page ne))
+        (subst (λ t. PageStep (words_of new q ≡ words_of old q) zero zero (standing_of old q) t) (sym (stands q ne)) (untouched (words q ne)))
+  ];
+}
+  where
+    step : (q : ℕ) (P : Type 0) (n m : ℕ) (s t : Standing) → times q (page ∷ []) ≡ 1 → s ≡ Free → t ≡ Filled → PageStep P zero (times q (page ∷ [])) s t
+    step q P n m s t once free filled =
+        subst (λ n. PageStep P zero n s t) (sym once) (subst (λ u. PageStep P zero 1 u t) (sym free) (subst (λ u. PageStep P zero 1 Free u) (sym filled) fresh))
+
+-- a change of what was only read since
+pub swaps_since : {S K : Type 0} (kept_of : S → K) (standing_of : S → ℕ → Standing) (words_of : S → ℕ → ℕ → ℕ) (b a : List ℕ) (old read new : S) → IsUnchanged kept_of standing_of words_of old read
+    → Swaps kept_of standing_of words_of b a read new → Swaps kept_of standing_of words_of b a old new
+swaps_since kept_of standing_of words_of b a old read new same swaps = record {
+  kept = swaps.kept ∙ same.kept;
+  each = λ q. subst (λ s. PageStep (words_of new q ≡ words_of old q) (times q b) (times q a) (s q) (standing_of new q)) same.standing
+      (subst (λ w. PageStep (words_of new q ≡ w q) (times q b) (times q a) (standing_of read q) (standing_of new q)) same.words (swaps.each q));
+}
+
+pub unchanged_start : {S K : Type 0} (kept_of : S → K) (standing_of : S → ℕ → Standing) (words_of : S → ℕ → ℕ → ℕ) (old read : S) → IsUnchanged kept_of standing_of words_of old read → KeepsStart kept_of standing_of words_of old read
+unchanged_start kept_of standing_of words_of old read same = record {
+  kept = same.kept;
+  undone = λ q. ap (λ s. after_undo (s q)) same.standing;
+  words = λ q old. ap (λ w. w q) same.words;
+}
+
+-- one reading after another
+pub unchanged_trans : {S K : Type 0} (kept_of : S → K) (standing_of : S → ℕ → Standing) (words_of : S → ℕ → ℕ → ℕ) (old mid new : S)
+    → IsUnchanged kept_of standing_of words_of old mid → IsUnchanged kept_of standing_of words_of mid new → IsUnchanged kept_of standing_of words_of old new
+unchanged_trans kept_of standing_of words_of old mid new first last = record {
+  kept = last.kept ∙ first.kept;
+  standing = last.standing ∙ first.standing;
+  words = last.words ∙ first.words;
+}

@@ -1,0 +1,22 @@
+pub mod Codec
+mod Words
+pub mod Slots
+mod PutAt
+pub mod Order
+pub mod Frame
+pub mod TreeFacts
+pub mod Below
+mod Parts
+mod Puts
+mod Roots
+mod Removes
+mod Rests
+mod SlotLists
+mod Writes
+pub mod Levels
+mod Neighbours
+pub mod Ranges
+mod Heights
+mod Cursors
+pub mod Clears
+pub mod Trees

@@ -1,0 +1,116 @@
+-- A pair put below a page whose items stay where they stand until they are written.
+use Rattle.std.proofs.Common.{◌≡◌, ℕ, zero, suc, ◌+◌, ◌-◌, ◌*◌, ◌<◌, ◌≤◌, List, [], ◌∷◌, ◌++◌, length, get_or, take, drop, map, All, IsTrue, ap, sym, subst, ◌∙◌, refl, arith, zero-add}
+use Rattle.std.specs.List.{remove, range_with_len, take-map, drop-map}
+use Rattle.std.proofs.lemmas.List.{map-append, length-append, take-append-drop}
+use Rattle.std.proofs.lemmas.List.Edits.{length-remove}
+use Rattle.std.proofs.lemmas.List.Elements.{All-append}
+use Rattle.std.proofs.lemmas.List.FromFn.{length-map-range_with_len}
+use Rattle.be_pages.specs.declared.room.Standing.{Standing}
+use Rattle.be_pages.specs.Pages.{is_readable, is_kept, is_held, times, Swaps, IsUnchanged}
+use Rattle.be_tree.specs.declared.slot.Slot.{Slot}
+use Rattle.be_tree.specs.declared.slot.Slot.TheVariants.{At}
+use Rattle.be_tree.specs.Pair.{Pair}
+use Rattle.be_tree.specs.Key.{IsRank, put}
+use Rattle.be_tree.specs.Page.{item_at, items_of, IsItem, IsPage, place_of}
+use Rattle.be_tree.specs.Slot.{pair_of, pairs_of, IsReady}
+use Rattle.be_tree.specs.Tree.{pairs_at, pairs_below, pages_below, IsBelow, IsTreeAt, Becomes}
+use Rattle.be_tree.proofs.Frame.{swaps_same, swaps_stands, readable_kept}
+use Rattle.be_tree.proofs.Below.{all_left, all_right}
+use Rattle.be_tree.proofs.Puts.{item_below, item_apart, tree_read, becomes_put}
+use Rattle.be_tree.proofs.Slots.{item_get, items_count, loaded_pairs, loaded_ready}
+
+out_length : {A : Type 0} (slots more out : List A) (at : ℕ) → at < length slots → out ≡ take at (remove slots at) ++ (more ++ drop at (remove slots at)) → length out + 1 ≡ length slots + length more
+out_length slots more out at lt e =
+    let rest = remove slots at in
+    omega (arith, ap length e, length-append (take at rest) (more ++ drop at rest), length-append more (drop at rest), ap length (take-append-drop at rest), length-append (take at rest) (drop at rest), length-remove slots at lt)
+
+out_mapped : {A B : Type 0} (f : A → B) (slots more out : List A) (at : ℕ) → out ≡ take at (remove slots at) ++ (more ++ drop at (remove slots at))
+    → map f out ≡ take at (remove (map f slots) at) ++ (map f more ++ drop at (remove (map f slots) at))
+out_mapped f slots more out at e =
+    let rest = remove slots at in
+    let removed : map f rest ≡ remove (map f slots) at = map-append f (take at slots) (drop (suc at) slots) ∙ ap2 (sym (take-map f at slots)) (sym (drop-map f (suc at) slots)) in
+    ap (map f) e ∙ map-append f (take at rest) (more ++ drop at rest)
+    ∙ ap2 (sym (take-map f at rest)) (map-append f more (drop at rest) ∙ ap (λ ys. map f more ++ ys) (sym (drop-map f at rest)))
+    ∙ ap (λ xs. take at xs ++ (map f more ++ drop at xs)) removed
+  where
+    ap2 : {A : Type 0} {a b c d : List A} → a ≡ b → c ≡ d → a ++ c ≡ b ++ d
+    ap2 p q = cc
+
+all_out : {A : Type 0} (P : A → Type 0) (slots more : List A) (at : ℕ) → All P slots → All P more → All P (take at (remove slots at) ++ (more ++ drop at (remove slots at)))
+all_out P slots more at all new =
+    let rest = remove slots at in
+    let whole = subst (All P) (sym (take-append-drop at slots)) all in
+    let after : All P (drop at slots) = all_right P (take at slots) (drop at slots) whole in
+    let later : All P (drop (suc at) slots) = all_right P (take (suc at) slots) (drop (suc at) slots) (subst (All P) (sym (take-append-drop (suc at) slots)) all) in
+    let left : All P rest = All-append P (take at slots) (drop (suc at) slots) (all_left P (take at slots) (drop at slots) whole) later in
+    let parts = subst (All P) (sym (take-append-drop at rest)) left in
+    All-append P (take at rest) (more ++ drop at rest) (all_left P (take at rest) (drop at rest) parts) (All-append P more (drop at rest) new (all_right P (take at rest) (drop at rest) parts))
+
+module _ {S K : Type 0} (kept_of : S → K) (standing_of : S → ℕ → Standing) (words_of : S → ℕ → ℕ → ℕ) (level page : ℕ) (pair : Pair) (r at : ℕ) (old read : S)
+    (tree : IsTreeAt level 1 (standing_of old) (words_of old) page) (same : IsUnchanged kept_of standing_of words_of old read)
+    (rank : IsRank pair.key (items_of (words_of read page)) r) (place : at ≡ r - 1) where
+  items : List Pair
+  items = items_of (words_of read page)
+
+  item : Pair
+  item = item_at (words_of read page) (place_of at)
+
+  here : IsTreeAt level 1 (standing_of read) (words_of read) page
+  here = subst (λ s. IsTreeAt level 1 s (words_of read) page) (sym same.standing) (subst (λ w. IsTreeAt level 1 (standing_of old) w page) (sym same.words) tree)
+
+  pub at_item : at < words_of read page 1
+  at_item = omega (arith, place, rank.in_range, here.node.enough, items_count (words_of read page))
+
+  is_item : item ≡ get_or items at item
+  unfolding items item
+  is_item = sym (item_get (words_of read page) at (item_at (words_of read page) (place_of at)) at_item)
+
+  pub slot_readable : IsTrue (is_readable (standing_of read page))
+  slot_readable = readable_kept _ here.page_in_use
+
+  pub slot_in_page : 2 + 42 * at + 42 ≤ 512
+  slot_in_page = omega (arith, at_item, here.node.is_page.few)
+
+  pub slot_item : IsItem (words_of read page) (2 + 42 * at)
+  slot_item = here.node.is_page.each at at_item
+
+  pub slot_below : IsBelow level (standing_of read) (words_of read) (item_at (words_of read page) (2 + 42 * at) ∷ [])
+  unfolding items item
+  slot_below = item_below kept_of standing_of words_of level page pair item items (remove items at) r at old read tree same refl rank place is_item refl
+
+  -- what the slots become where `more` stand in the place of one
+  module _ (slots more out : List Slot) (n : ℕ) (mid : S) (count : n ≡ words_of read page 1) (loaded : slots ≡ map (λ j. At page (place_of j)) (range_with_len 0 n))
+      (inserted : out ≡ take at (remove slots at) ++ (more ++ drop at (remove slots at))) where
+    pub slots_count : length slots ≡ words_of read page 1
+    slots_count = ap length loaded ∙ length-map-range_with_len (λ j. At page (place_of j)) 0 n ∙ count
+
+    pub slots_length : length out + 1 ≡ length slots + length more
+    slots_length = out_length slots more out at (omega (arith, at_item, slots_count)) inserted
+
+    module _ (becomes : Becomes kept_of standing_of words_of (pages_below level (words_of read) (item_at (words_of read page) (2 + 42 * at) ∷ [])) (put pair (pairs_below level (words_of read) (item_at (words_of read page) (2 + 42 * at) ∷ []))) level (pairs_of (words_of mid) pair more) read mid) where
+      pub apart : times page (pages_below level (words_of read) (item_at (words_of read page) (2 + 42 * at) ∷ [])) ≡ 0
+      unfolding items item
+      apart = item_apart kept_of standing_of words_of level page pair item items (remove items at) r at old read tree same refl rank place is_item refl
+
+      same_words : words_of mid page ≡ words_of read page
+      same_words = swaps_same kept_of standing_of words_of (pages_below level (words_of read) (item_at (words_of read page) (2 + 42 * at) ∷ [])) (pages_below level (words_of mid) (pairs_of (words_of mid) pair more)) read mid becomes.swaps page apart slot_readable
+
+      same_standing : standing_of mid page ≡ standing_of read page
+      same_standing = swaps_stands kept_of standing_of words_of (pages_below level (words_of read) (item_at (words_of read page) (2 + 42 * at) ∷ [])) (pages_below level (words_of mid) (pairs_of (words_of mid) pair more)) read mid becomes.swaps page apart slot_readable
+
+      slots_pairs : pairs_of (words_of mid) pair slots ≡ items_of (words_of read page)
+      slots_pairs = ap (pairs_of (words_of mid) pair) loaded ∙ loaded_pairs (words_of mid) pair page n (count ∙ ap (λ (w : ℕ → ℕ). w 1) (sym same_words)) ∙ ap items_of same_words
+
+      pub slots_put : Becomes kept_of standing_of words_of (pages_below level (words_of old) (items_of (words_of old page))) (put pair (pairs_at level (words_of old) page)) level (pairs_of (words_of mid) pair out) old mid
+      unfolding items item
+      slots_put =
+          becomes_put kept_of standing_of words_of level page pair item items (remove items at) r at old read tree same refl rank place is_item refl (pairs_of (words_of mid) pair more) (pairs_of (words_of mid) pair out) mid becomes
+          (out_mapped (pair_of (words_of mid) pair) slots more out at inserted ∙ ap (λ xs. take at (remove xs at) ++ (pairs_of (words_of mid) pair more ++ drop at (remove xs at))) slots_pairs)
+
+      pub slots_ready : All (IsReady (standing_of mid) (words_of mid)) more → All (IsReady (standing_of mid) (words_of mid)) out
+      slots_ready ready =
+          subst (All (IsReady (standing_of mid) (words_of mid))) (sym inserted)
+          (all_out (IsReady (standing_of mid) (words_of mid)) slots more at
+          (subst (All (IsReady (standing_of mid) (words_of mid))) (sym loaded)
+          (loaded_ready (standing_of mid) (words_of mid) page n (count ∙ ap (λ (w : ℕ → ℕ). w 1) (sym same_words)) (subst (λ s. IsTrue (is_readable s)) (sym same_standing) slot_readable) (subst IsPage (sym same_words) here.node.is_page)))
+          ready)

@@ -1,0 +1,351 @@
+-- A pair put below a page.
+use Rattle.std.proofs.Common.{◌≡◌, ℕ, zero, suc, ◌+◌, ◌-◌, ◌<◌, ◌≤◌, List, [], ◌∷◌, ◌++◌, length, get_or, take, drop, All, IsTrue, ◌==◌, if◌then◌else◌, ap, sym, subst, ◌∙◌, refl, inl, inr, arith}
+use mathlib.Core.Bool.{false≢true}
+use Rattle.std.specs.List.{flat_map, remove}
+use Rattle.std.specs.declared.cmp.Ordering.TheVariants.{Less, Equal, Greater}
+use Rattle.std.proofs.lemmas.Bool.{cases_eq}
+use Rattle.std.proofs.lemmas.List.{append-nil, append_assoc, length-append, take-append-drop, length-take-le}
+use Rattle.std.proofs.lemmas.List.Edits.{length-remove}
+use Rattle.std.proofs.Math.Seq.{take-append_seam, drop-append_seam}
+use Rattle.std.proofs.lemmas.List.Elements.{All-cons}
+use Rattle.std.proofs.lemmas.Bool.Decides.{nat_tests}
+use Rattle.be_pages.specs.declared.room.Standing.{Standing}
+use Rattle.be_pages.specs.declared.room.Standing.TheVariants.{Free, Old, GivenUp, Taken, Filled}
+use Rattle.be_pages.specs.Pages.{is_kept, is_held, times, after_give_up, PageStep, untouched, unused, fresh, given_old, given_new, stays_old, stays_new, Swaps, StandsAt, IsUnchanged}
+use Rattle.be_tree.specs.Pair.{Pair}
+use Rattle.be_tree.specs.Key.{key_cmp, AllAbove, IsRising, IsRank, put, put_before}
+use Rattle.be_tree.specs.Page.{items_of, item_at, place_of}
+use Rattle.std.proofs.lemmas.List.FromFn.{length-map-range_with_len}
+use Rattle.be_tree.specs.Tree.{child, pairs_at, pairs_below, pages_at, pages_below, IsNode, AreShaped, IsBelow, IsTreeAt, Becomes}
+use Rattle.be_tree.proofs.Order.{key_exact, key_total, key_cmp_flip_less, AllAbove_trans, IsRising_right}
+use Rattle.be_tree.proofs.Frame.{times_append, times-cons, times_other, same_page, swaps_after, swaps_fresh, swaps_trans, swaps_stands, readable_kept}
+use Rattle.be_tree.proofs.TreeFacts.{in_three, IsSplit, put_split, inner_split, leaf_split, as_branches, branch_tree}
+use Rattle.be_tree.proofs.Below.{pairs_append, pages_append, times_pages, below_left, below_right}
+use Rattle.be_tree.proofs.Parts.{becomes_same, becomes_append, back_below, back_pairs, all_one}
+
+-- a page has as many items as it says
+pub items_length : (words : ℕ → ℕ) → length (items_of words) ≡ words 1
+items_length words = length-map-range_with_len (λ (j : ℕ). item_at words (place_of j)) 0 (words 1)
+
+-- a put keeps the order
+above_put : (k : List ℕ) (pair : Pair) (xs : List Pair) → key_cmp pair.key k ≡ Greater → AllAbove k xs → AllAbove k (put pair xs)
+above_put k pair [] gt above = (gt, tt)
+above_put k pair (x ∷ xs) gt above =
+    elim (key_cmp x.key pair.key) as (λ r. AllAbove k (put_before r pair x xs (put pair xs))) [
+      | Less ↦ (above.0, above_put k pair xs gt above.1)
+      | Equal ↦ (gt, above.1)
+      | Greater ↦ (gt, above)
+    ]
+
+pub rising_put : (pair : Pair) (xs : List Pair) → IsRising xs → IsRising (put pair xs)
+rising_put pair [] rising = (tt, tt)
+rising_put pair (x ∷ xs) rising =
+    elim (key_cmp x.key pair.key) as (λ r. key_cmp x.key pair.key ≡ r → IsRising (put_before r pair x xs (put pair xs))) [
+      | Less ↦ λ e. (above_put x.key pair xs (key_cmp_flip_less x.key pair.key e) rising.0, rising_put pair xs rising.1)
+      | Equal ↦ λ e. (subst (λ k. AllAbove k xs) (key_exact x.key pair.key e) rising.0, rising.1)
+      | Greater ↦ λ e. ((e, AllAbove_trans x.key pair.key xs e rising.0), rising)
+    ] refl
+
+-- a put into the pairs below items goes to one item
+pub put_at_item : (level : ℕ) (standing : ℕ → Standing) (words : ℕ → ℕ → ℕ) (items : List Pair) (pair : Pair) (r at : ℕ) (item : Pair)
+    → IsBelow level standing words items → 0 < length items → IsRank pair.key items r → at ≡ r - 1 → item ≡ get_or items at item
+    → record {
+      in_range : at < length items;
+      all : put pair (pairs_below level words items)
+          ≡ pairs_below level words (take at items) ++ (put pair (pairs_below level words (item ∷ [])) ++ pairs_below level words (drop (suc at) items));
+    }
+put_at_item zero standing words items pair r at item below some rank place is =
+    let split = subst (IsSplit (λ x. x ∷ []) pair.key items) (sym place) (leaf_split items below.rising pair.key r rank some) in
+    record {
+      in_range = split.in_range;
+      all = ap (put pair) (sym (as_branches items)) ∙ put_split (λ x. x ∷ []) pair.key items at split pair item refl
+          ∙ ap2 (as_branches (take at items)) (ap (λ x. put pair (x ∷ [])) (sym is)) (as_branches (drop (suc at) items));
+    }
+  where
+    ap2 : {a b c d e f : List Pair} → a ≡ b → c ≡ d → e ≡ f → a ++ (c ++ e) ≡ b ++ (d ++ f)
+    ap2 p q r = cc
+put_at_item (suc level) standing words items pair r at item below some rank place is =
+    let f = λ (b : Pair). pairs_at level words (child b) in
+    let split = subst (IsSplit f pair.key items) (sym place) (inner_split level standing words items below pair.key r rank some) in
+    record {
+      in_range = split.in_range;
+      all = put_split f pair.key items at split pair item refl
+          ∙ ap (λ x. flat_map f (take at items) ++ (put pair (f x) ++ flat_map f (drop (suc at) items))) (sym is)
+          ∙ ap (λ x. flat_map f (take at items) ++ (put pair x ++ flat_map f (drop (suc at) items))) (sym (append-nil (f item)));
+    }
+
+-- a page in use that is none of those before is none of those after
+pub given_up_page : {S K : Type 0} (kept_of : S → K) (standing_of : S → ℕ → Standing) (words_of : S → ℕ → ℕ → ℕ) (before after : List ℕ) (page : ℕ) (old mid : S) → Swaps kept_of standing_of words_of before after old mid
+    → times page before ≡ 0 → IsTrue (is_kept (standing_of old page)) → times page after ≡ 0
+given_up_page kept_of standing_of words_of before after page old mid swaps none used = elim (cases_eq (times page after) 0) [
+  | inl e ↦ e
+  | inr ne ↦ absurd (false≢true (ap is_kept (sym (swaps_fresh kept_of standing_of words_of before after old mid swaps page none (omega (arith, ne)))) ∙ used))
+]
+
+module _ {S K : Type 0} (kept_of : S → K) (standing_of : S → ℕ → Standing) (words_of : S → ℕ → ℕ → ℕ) where
+  -- one item becomes others, between those before and after it
+  pub becomes_splice : (level : ℕ) (xs zs us : List Pair) (item : Pair) (ps : List Pair) (old new : S)
+      → IsBelow level (standing_of old) (words_of old) (xs ++ item ∷ zs)
+      → Becomes kept_of standing_of words_of (pages_below level (words_of old) (item ∷ [])) ps level us old new
+      → IsRising (pairs_below level (words_of old) xs ++ (ps ++ pairs_below level (words_of old) zs))
+      → Becomes kept_of standing_of words_of (pages_below level (words_of old) (xs ++ item ∷ zs)) (pairs_below level (words_of old) xs ++ (ps ++ pairs_below level (words_of old) zs)) level (xs ++ (us ++ zs)) old new
+  becomes_splice level xs zs us item ps old new below middle rising =
+      let front = below_left level (standing_of old) (words_of old) xs (item ∷ zs) below in
+      let rest = below_right level (standing_of old) (words_of old) xs (item ∷ zs) below in
+      let same = back_pairs kept_of standing_of words_of level (item ∷ zs) (item ∷ []) zs us ps level refl old new rest middle in
+      let end = becomes_same kept_of standing_of words_of level zs new (back_below kept_of standing_of words_of level (item ∷ zs) (item ∷ []) zs us ps level refl old new rest middle) in
+      let back = becomes_append kept_of standing_of words_of level level (item ∷ []) zs us zs ps (pairs_below level (words_of new) zs) old new new rest middle end
+      (subst (λ qs. IsRising (ps ++ qs)) (sym same) (IsRising_right (pairs_below level (words_of old) xs) (ps ++ pairs_below level (words_of old) zs) rising)) in
+      let back' = subst (λ qs. Becomes kept_of standing_of words_of (pages_below level (words_of old) (item ∷ zs)) (ps ++ qs) level (us ++ zs) old new) same back in
+      becomes_append kept_of standing_of words_of level level xs (item ∷ zs) xs (us ++ zs) (pairs_below level (words_of old) xs) (ps ++ pairs_below level (words_of old) zs) old old new below
+      (becomes_same kept_of standing_of words_of level xs old front) back' rising
+
+  -- a page in use is given up besides
+  pub swaps_given_up : (before after : List ℕ) (page : ℕ) (old mid new : S) → Swaps kept_of standing_of words_of before after old mid
+      → times page before ≡ 0 → IsTrue (is_kept (standing_of old page))
+      → kept_of new ≡ kept_of mid → words_of new ≡ words_of mid → standing_of new page ≡ after_give_up (standing_of mid page) → ((q : ℕ) → (q ≡ page → ⊥) → standing_of new q ≡ standing_of mid q)
+      → Swaps kept_of standing_of words_of (page ∷ before) after old new
+  swaps_given_up before after page old mid new swaps none used kept words gone others = record {
+    kept = kept ∙ swaps.kept;
+    each = λ q. subst (λ w. PageStep (w q ≡ words_of old q) (times q (page ∷ before)) (times q after) (standing_of old q) (standing_of new q)) (sym words)
+        (elim (cases_eq q page) [
+          | inl e ↦ subst (λ p. PageStep (words_of mid p ≡ words_of old p) (times p (page ∷ before)) (times p after) (standing_of old p) (standing_of new p)) (sym e) given
+          | inr ne ↦
+              subst (λ n. PageStep (words_of mid q ≡ words_of old q) n (times q after) (standing_of old q) (standing_of new q)) (sym (besides q ne))
+              (subst (λ t. PageStep (words_of mid q ≡ words_of old q) (times q before) (times q after) (standing_of old q) t) (sym (others q ne)) (swaps.each q))
+        ]);
+  }
+    where
+      no_more : times page after ≡ 0
+      no_more = given_up_page kept_of standing_of words_of before after page old mid swaps none used
+
+      besides : (q : ℕ) → (q ≡ page → ⊥) → times q (page ∷ before) ≡ times q before
+      besides q ne = omega (arith, times_append q (page ∷ []) before, times_other q page ne)
+
+      give : {P : Type 0} {b a : ℕ} {s t : Standing} → b ≡ 0 → a ≡ 0 → IsTrue (is_kept s) → PageStep P b a s t → (u : Standing) → u ≡ after_give_up t → PageStep P 1 0 s u
+      give nb na used step u e = given_up_step _ _ _ used (untouched_is nb na used step) u e
+        where
+          untouched_is : {P : Type 0} {b a : ℕ} {s t : Standing} → b ≡ 0 → a ≡ 0 → IsTrue (is_kept s) → PageStep P b a s t → P × (t ≡ s)
+          untouched_is nb na used (untouched p) = (p, refl)
+          untouched_is nb na used unused = absurd (false≢true used)
+          untouched_is nb na used fresh = absurd (false≢true used)
+          untouched_is nb na used (given_old {b} p) = absurd (omega (arith, nb))
+          untouched_is nb na used (given_new {b}) = absurd (omega (arith, nb))
+          untouched_is nb na used (stays_old {b} p) = absurd (omega (arith, nb))
+          untouched_is nb na used (stays_new {b}) = absurd (omega (arith, nb))
+
+          given_up_step : (P : Type 0) (s t : Standing) → IsTrue (is_kept s) → P × (t ≡ s) → (u : Standing) → u ≡ after_give_up t → PageStep P 1 0 s u
+          given_up_step P Free t used h u e = absurd (false≢true used)
+          given_up_step P Old t used h u e = subst (λ v. PageStep P 1 0 Old v) (sym (e ∙ ap after_give_up h.1)) (given_old h.0)
+          given_up_step P GivenUp t used h u e = absurd (false≢true used)
+          given_up_step P Taken t used h u e = absurd (false≢true used)
+          given_up_step P Filled t used h u e = subst (λ v. PageStep P 1 0 Filled v) (sym (e ∙ ap after_give_up h.1)) given_new
+
+      given : PageStep (words_of mid page ≡ words_of old page) (times page (page ∷ before)) (times page after) (standing_of old page) (standing_of new page)
+      given =
+          let one : 1 ≡ times page (page ∷ before) = omega (arith, times-cons page page before, same_page page, none) in
+          subst (λ n. PageStep (words_of mid page ≡ words_of old page) n (times page after) (standing_of old page) (standing_of new page)) one
+          (subst (λ n. PageStep (words_of mid page ≡ words_of old page) 1 n (standing_of old page) (standing_of new page)) (sym no_more)
+          (give none no_more used (swaps.each page) (standing_of new page) gone))
+
+  pub becomes_given_up : (before : List ℕ) (all : List Pair) (level : ℕ) (items : List Pair) (page : ℕ) (old mid new : S)
+      → Becomes kept_of standing_of words_of before all level items old mid
+      → times page before ≡ 0 → IsTrue (is_kept (standing_of old page))
+      → kept_of new ≡ kept_of mid → words_of new ≡ words_of mid → standing_of new page ≡ after_give_up (standing_of mid page) → ((q : ℕ) → (q ≡ page → ⊥) → standing_of new q ≡ standing_of mid q)
+      → Becomes kept_of standing_of words_of (page ∷ before) all level items old new
+  becomes_given_up before all level items page old mid new becomes none used kept words gone others =
+      let now = λ (w : ℕ → ℕ → ℕ). pages_below level w items in
+      record {
+        below = record {
+          keys_fit = becomes.below.keys_fit;
+          shaped = subst (λ w. AreShaped level w items) (sym words) becomes.below.shaped;
+          rising = subst (λ w. IsRising (pairs_below level w items)) (sym words) becomes.below.rising;
+          once = λ q. subst (λ w. times q (pages_below level w items) ≤ 1) (sym words) (becomes.below.once q);
+          in_use = λ q some.
+              let was = subst (λ w. 0 < times q (pages_below level w items)) words some in
+              elim (cases_eq q page) [
+                | inl e ↦ absurd (not_page (subst (λ p. 0 < times p (pages_below level (words_of mid) items)) e was))
+                | inr ne ↦ subst (λ s. IsTrue (is_kept s)) (sym (others q ne)) (becomes.below.in_use q was)
+              ];
+        };
+        has_pairs = ap (λ w. pairs_below level w items) words ∙ becomes.has_pairs;
+        swaps = subst (λ w. Swaps kept_of standing_of words_of (page ∷ before) (pages_below level w items) old new) (sym words)
+            (swaps_given_up before (pages_below level (words_of mid) items) page old mid new becomes.swaps none used kept words gone others);
+      }
+    where
+      not_page : 0 < times page (pages_below level (words_of mid) items) → ⊥
+      not_page some = absurd (omega (arith, some, given_up_page kept_of standing_of words_of before (pages_below level (words_of mid) items) page old mid becomes.swaps none used))
+
+  -- a page in use that none of the pages before is, is held still
+  pub held_after : (before after : List ℕ) (page : ℕ) (old new : S) → Swaps kept_of standing_of words_of before after old new → times page before ≡ 0 → IsTrue (is_kept (standing_of old page)) → IsTrue (is_held (standing_of new page))
+  held_after before after page old new swaps none used = held _ (subst (λ s. IsTrue (is_kept s)) (sym (swaps_stands kept_of standing_of words_of before after old new swaps page none (readable_kept _ used))) used)
+    where
+      held : (s : Standing) → IsTrue (is_kept s) → IsTrue (is_held s)
+      held Free used = used
+      held Old used = refl
+      held GivenUp used = used
+      held Taken used = refl
+      held Filled used = refl
+
+  -- one change after another
+  pub becomes_trans : (before : List ℕ) (all : List Pair) (level next : ℕ) (xs us : List Pair) (old mid new : S) → Becomes kept_of standing_of words_of before all level xs old mid
+      → Becomes kept_of standing_of words_of (pages_below level (words_of mid) xs) (pairs_below level (words_of mid) xs) next us mid new → Becomes kept_of standing_of words_of before all next us old new
+  becomes_trans before all level next xs us old mid new first last = record {
+    below = last.below;
+    has_pairs = last.has_pairs ∙ first.has_pairs;
+    swaps = swaps_trans kept_of standing_of words_of before (pages_below level (words_of mid) xs) (pages_below next (words_of new) us) old mid new first.swaps last.swaps;
+  }
+
+  -- a change of what was only read since
+  pub becomes_since : (before : List ℕ) (all : List Pair) (level : ℕ) (items : List Pair) (old read new : S) → IsUnchanged kept_of standing_of words_of old read
+      → Becomes kept_of standing_of words_of before all level items read new → Becomes kept_of standing_of words_of before all level items old new
+  becomes_since before all level items old read new same becomes = record {
+    below = becomes.below;
+    has_pairs = becomes.has_pairs;
+    swaps = record {
+      kept = becomes.swaps.kept ∙ same.kept;
+      each = λ q. subst (λ s. PageStep (words_of new q ≡ words_of old q) (times q before) (times q (pages_below level (words_of new) items)) (s q) (standing_of new q)) same.standing
+          (subst (λ w. PageStep (words_of new q ≡ w q) (times q before) (times q (pages_below level (words_of new) items)) (standing_of read q) (standing_of new q)) same.words (becomes.swaps.each q));
+    };
+  }
+
+  -- in a leaf a pair stands beside an item, or in its place
+  pub becomes_beside : (item pair : Pair) (room : S) → IsBelow 0 (standing_of room) (words_of room) (item ∷ []) → length pair.key ≤ 264
+      → Becomes kept_of standing_of words_of [] (put pair (item ∷ [])) 0 (put pair (item ∷ [])) room room
+  becomes_beside item pair room below fits = record {
+    below = record {
+      keys_fit = keys (below.keys_fit 0 item (omega arith));
+      shaped = tt;
+      rising = rising_put pair (item ∷ []) below.rising;
+      once = λ q. omega arith;
+      in_use = λ q some. absurd (omega (arith, some));
+    };
+    has_pairs = refl;
+    swaps = record { kept = refl; each = λ q. untouched refl };
+  }
+    where
+      keys : length item.key ≤ 264 → All (λ x. length x.key ≤ 264) (put pair (item ∷ []))
+      keys fit = elim (key_cmp item.key pair.key) as (λ r. All (λ x. length x.key ≤ 264) (put_before r pair item [] (put pair []))) [
+        | Less ↦ All-cons (λ x. length x.key ≤ 264) item (pair ∷ []) fit (all_one (λ x. length x.key ≤ 264) pair fits)
+        | Equal ↦ all_one (λ x. length x.key ≤ 264) pair fits
+        | Greater ↦ All-cons (λ x. length x.key ≤ 264) pair (item ∷ []) fits (all_one (λ x. length x.key ≤ 264) item fit)
+      ]
+
+  -- what a page's items become, one of which became others, when the page is given up
+  module _ (level : ℕ) (page : ℕ) (pair item : Pair) (items rest : List Pair) (r at : ℕ) (old read : S)
+      (tree : IsTreeAt level 1 (standing_of old) (words_of old) page) (same : IsUnchanged kept_of standing_of words_of old read)
+      (loaded : items ≡ items_of (words_of read page)) (rank : IsRank pair.key items r) (place : at ≡ r - 1) (is : item ≡ get_or items at item) (removed : rest ≡ remove items at) where
+    pub tree_read : IsTreeAt level 1 (standing_of read) (words_of read) page
+    tree_read = subst (λ s. IsTreeAt level 1 s (words_of read) page) (sym same.standing) (subst (λ w. IsTreeAt level 1 (standing_of old) w page) (sym same.words) tree)
+
+    below : IsBelow level (standing_of read) (words_of read) items
+    below = subst (IsBelow level (standing_of read) (words_of read)) (sym loaded) tree_read.below
+
+    some : 0 < length items
+    some = omega (arith, tree_read.node.enough, ap length loaded)
+
+    pub parts : record {
+      in_range : at < length items;
+      all : put pair (pairs_below level (words_of read) items)
+          ≡ pairs_below level (words_of read) (take at items) ++ (put pair (pairs_below level (words_of read) (item ∷ [])) ++ pairs_below level (words_of read) (drop (suc at) items));
+    }
+    parts = put_at_item level (standing_of read) (words_of read) items pair r at item below some rank place is
+
+    three : items ≡ take at items ++ item ∷ drop (suc at) items
+    three = in_three items at item parts.in_range ∙ ap (λ x. take at items ++ x ∷ drop (suc at) items) (sym is)
+
+    below_three : IsBelow level (standing_of read) (words_of read) (take at items ++ item ∷ drop (suc at) items)
+    below_three = subst (IsBelow level (standing_of read) (words_of read)) three below
+
+    pub item_below : IsBelow level (standing_of read) (words_of read) (item ∷ [])
+    item_below = below_left level (standing_of read) (words_of read) (item ∷ []) (drop (suc at) items) (below_right level (standing_of read) (words_of read) (take at items) (item ∷ drop (suc at) items) below_three)
+
+    page_apart : times page (pages_below level (words_of read) items) ≡ 0
+    page_apart = ap (λ xs. times page (pages_below level (words_of read) xs)) loaded ∙ tree_read.page_once
+
+    pub item_apart : times page (pages_below level (words_of read) (item ∷ [])) ≡ 0
+    item_apart = omega (
+      arith,
+      page_apart,
+      ap (λ xs. times page (pages_below level (words_of read) xs)) three,
+      times_pages level (words_of read) (take at items) (item ∷ drop (suc at) items) page,
+      times_pages level (words_of read) (item ∷ []) (drop (suc at) items) page,
+    )
+
+    pub put_lengths : (us out : List Pair) → out ≡ take at rest ++ (us ++ drop at rest) → length out + 1 ≡ length items + length us
+    put_lengths us out put =
+        omega (arith, ap length put, length-append (take at rest) (us ++ drop at rest), length-append us (drop at rest), ap length (take-append-drop at rest), length-append (take at rest) (drop at rest), ap length removed, length-remove items at parts.in_range)
+
+    pub becomes_put : (us out : List Pair) (mid : S) → Becomes kept_of standing_of words_of (pages_below level (words_of read) (item ∷ [])) (put pair (pairs_below level (words_of read) (item ∷ []))) level us read mid
+        → out ≡ take at rest ++ (us ++ drop at rest)
+        → Becomes kept_of standing_of words_of (pages_below level (words_of old) (items_of (words_of old page))) (put pair (pairs_at level (words_of old) page)) level out old mid
+    becomes_put us out mid becomes inserted =
+        let spliced = becomes_splice level (take at items) (drop (suc at) items) us item (put pair (pairs_below level (words_of read) (item ∷ []))) read mid below_three becomes (subst IsRising parts.all (rising_put pair (pairs_below level (words_of read) items) below.rising)) in
+        let seam : take at rest ++ (us ++ drop at rest) ≡ take at items ++ (us ++ drop (suc at) items) = seams in
+        let all = subst (λ ps. Becomes kept_of standing_of words_of (pages_below level (words_of read) (take at items ++ item ∷ drop (suc at) items)) ps level (take at items ++ (us ++ drop (suc at) items)) read mid) (sym parts.all) spliced in
+        let before = subst (λ xs. Becomes kept_of standing_of words_of (pages_below level (words_of read) xs) (put pair (pairs_below level (words_of read) items)) level (take at items ++ (us ++ drop (suc at) items)) read mid) (sym three) all in
+        let here = subst (λ xs. Becomes kept_of standing_of words_of (pages_below level (words_of read) items) (put pair (pairs_below level (words_of read) items)) level xs read mid) (sym (inserted ∙ seam)) before in
+        let since = becomes_since (pages_below level (words_of read) items) (put pair (pairs_below level (words_of read) items)) level out old read mid same here in
+        subst (λ w. Becomes kept_of standing_of words_of (pages_below level w (items_of (w page))) (put pair (pairs_below level w (items_of (w page)))) level out old mid) same.words
+        (subst (λ xs. Becomes kept_of standing_of words_of (pages_below level (words_of read) xs) (put pair (pairs_below level (words_of read) xs)) level out old mid) loaded since)
+      where
+        len : length (take at items) ≡ at
+        len = length-take-le at items (omega (arith, parts.in_range))
+
+        seams : take at rest ++ (us ++ drop at rest) ≡ take at items ++ (us ++ drop (suc at) items)
+        seams =
+            ap (λ xs. take at xs ++ (us ++ drop at xs)) removed
+            ∙ ap (λ (n : ℕ). take n (take at items ++ drop (suc at) items) ++ (us ++ drop n (take at items ++ drop (suc at) items))) (sym len)
+            ∙ ap (λ ys. ys ++ (us ++ drop (length (take at items)) (take at items ++ drop (suc at) items))) (take-append_seam (take at items) (drop (suc at) items))
+            ∙ ap (λ ys. take at items ++ (us ++ ys)) (drop-append_seam (take at items) (drop (suc at) items))
+
+-- a branch alone, and its child
+pub branch_child : (level below : ℕ) (standing : ℕ → Standing) (words : ℕ → ℕ → ℕ) (item : Pair) → level ≡ suc below → IsBelow level standing words (item ∷ []) → IsTreeAt below 6 standing words (child item)
+branch_child level below standing words item e h = branch_tree below standing words (item ∷ []) (subst (λ n. IsBelow n standing words (item ∷ [])) e h) 0 item (omega arith)
+
+pub tree_weaker : (level least : ℕ) (standing : ℕ → Standing) (words : ℕ → ℕ → ℕ) (page : ℕ) → 1 ≤ least → IsTreeAt level least standing words page → IsTreeAt level 1 standing words page
+tree_weaker level least standing words page le tree = record {
+  node = record { is_page = tree.node.is_page; at_level = tree.node.at_level; enough = omega (arith, tree.node.enough) };
+  below = tree.below;
+  page_once = tree.page_once;
+  page_in_use = tree.page_in_use;
+}
+
+module _ {S K : Type 0} (kept_of : S → K) (standing_of : S → ℕ → Standing) (words_of : S → ℕ → ℕ → ℕ) where
+  -- a change after which was only read
+  pub becomes_until : (before : List ℕ) (all : List Pair) (level : ℕ) (items : List Pair) (old new read : S) → IsUnchanged kept_of standing_of words_of new read
+      → Becomes kept_of standing_of words_of before all level items old new → Becomes kept_of standing_of words_of before all level items old read
+  becomes_until before all level items old new read same becomes = record {
+    below = subst (λ s. IsBelow level s (words_of read) items) (sym same.standing) (subst (λ w. IsBelow level (standing_of new) w items) (sym same.words) becomes.below);
+    has_pairs = ap (λ w. pairs_below level w items) same.words ∙ becomes.has_pairs;
+    swaps = record {
+      kept = same.kept ∙ becomes.swaps.kept;
+      each = λ q. subst (λ s. PageStep (words_of read q ≡ words_of old q) (times q before) (times q (pages_below level (words_of read) items)) (standing_of old q) (s q)) (sym same.standing)
+          (subst (λ w. PageStep (w q ≡ words_of old q) (times q before) (times q (pages_below level w items)) (standing_of old q) (standing_of new q)) (sym same.words) (becomes.swaps.each q));
+    };
+  }
+
+  -- the child of a branch that was read
+  pub child_read : (level below : ℕ) (item : Pair) (page : ℕ) (old read : S) → level ≡ suc below → IsBelow level (standing_of old) (words_of old) (item ∷ []) → page ≡ child item → IsUnchanged kept_of standing_of words_of old read
+      → IsTreeAt below 6 (standing_of read) (words_of read) page
+  child_read level below item page old read e h is same =
+      subst (λ p. IsTreeAt below 6 (standing_of read) (words_of read) p) (sym is)
+      (subst (λ s. IsTreeAt below 6 s (words_of read) (child item)) (sym same.standing)
+      (subst (λ w. IsTreeAt below 6 (standing_of old) w (child item)) (sym same.words) (branch_child level below (standing_of old) (words_of old) item e h)))
+
+  -- a branch, whose child's items changed and were then written, and whose child is then given up
+  pub becomes_below : (level below page : ℕ) (item pair : Pair) (xs ys us : List Pair) (old mid last new : S) → level ≡ suc below → page ≡ child item → ys ≡ xs
+      → IsTreeAt below 6 (standing_of old) (words_of old) page
+      → Becomes kept_of standing_of words_of (pages_below below (words_of old) (items_of (words_of old page))) (put pair (pairs_at below (words_of old) page)) below xs old mid
+      → Becomes kept_of standing_of words_of (pages_below below (words_of mid) ys) (pairs_below below (words_of mid) ys) (suc below) us mid last
+      → kept_of new ≡ kept_of last → words_of new ≡ words_of last → StandsAt (standing_of last) (standing_of new) page (after_give_up (standing_of last page))
+      → Becomes kept_of standing_of words_of (pages_below level (words_of old) (item ∷ [])) (put pair (pairs_below level (words_of old) (item ∷ []))) level us old new
+  becomes_below level below page item pair xs ys us old mid last new e is same tree first last_step kept words gone =
+      let both = becomes_trans kept_of standing_of words_of (pages_below below (words_of old) (items_of (words_of old page))) (put pair (pairs_at below (words_of old) page)) below (suc below) xs us old mid last first
+      (subst (λ zs. Becomes kept_of standing_of words_of (pages_below below (words_of mid) zs) (pairs_below below (words_of mid) zs) (suc below) us mid last) same last_step) in
+      let given = becomes_given_up kept_of standing_of words_of (pages_below below (words_of old) (items_of (words_of old page))) (put pair (pairs_at below (words_of old) page)) (suc below) us page old last new both tree.page_once tree.page_in_use kept words
+      (gone page ∙ grind (arith, nat_tests)) (λ q ne. gone q ∙ grind (arith, nat_tests)) in
+      let at = subst (λ p. Becomes kept_of standing_of words_of (pages_at below (words_of old) p) (put pair (pairs_at below (words_of old) p)) (suc below) us old new) is given in
+      let alone = subst (λ ps. Becomes kept_of standing_of words_of ps (put pair (pairs_at below (words_of old) (child item))) (suc below) us old new) (sym (append-nil (pages_at below (words_of old) (child item)))) at in
+      let pairs = subst (λ ps. Becomes kept_of standing_of words_of (pages_at below (words_of old) (child item) ++ []) (put pair ps) (suc below) us old new) (sym (append-nil (pairs_at below (words_of old) (child item)))) alone in
+      subst (λ n. Becomes kept_of standing_of words_of (pages_below n (words_of old) (item ∷ [])) (put pair (pairs_below n (words_of old) (item ∷ []))) n us old new) (sym e) pairs

@@ -1,0 +1,168 @@
+use Rattle.std.specs.Prelude.{IsTrue}
+use Rattle.std.proofs.Common.{◌≡◌, ℕ, suc, [], ◌∷◌, ◌++◌, ◌-◌, ◌+◌, ◌<◌, ◌≤◌, List, get_or, take, drop, ap, sym, subst, ◌∙◌, refl, length, arith, rules}
+use Rattle.std.proofs.lemmas.List.{length-map}
+use Rattle.be_pages.specs.Pages.{IsUnchanged}
+use Rattle.be_tree.specs.Pair.{Pair}
+use Rattle.be_tree.specs.Key.{IsRank, put}
+use Rattle.be_tree.specs.Page.{items_of, item_at, place_of}
+use Rattle.be_tree.specs.declared.slot.Slot.{Slot}
+use Rattle.be_tree.specs.declared.slot.Slot.TheVariants.{At}
+use Rattle.std.proofs.lemmas.List.FromFn.{length-map-range_with_len}
+use Rattle.be_tree.specs.Slot.{pair_of, pairs_of}
+use Rattle.be_tree.specs.Tree.{child, pairs_at, pairs_below, pages_at, pages_below, Becomes, IsBelow, IsTreeAt}
+use Rattle.be_tree.proofs.Puts.{becomes_beside, branch_child, tree_weaker, becomes_below, becomes_since, becomes_until, child_read, held_after, becomes_trans}
+use Rattle.be_tree.proofs.PutAt.{slot_readable, slot_in_page, slot_item, slot_below, slots_count, slots_length, slots_put, slots_ready}
+use Rattle.be_tree.proofs.Frame.{swaps_start, start_trans, unchanged_trans, unchanged_start}
+use Rattle.be_tree.proofs.Parts.{on_err}
+use Rattle.be_tree.proofs.Slots.{items_count, branches_ready}
+use Rattle.be_tree.proofs.edit.+put.Goals as goal
+
+pub put_at-put_below-requires : goal.put_at-put_below-requires
+put_at-put_below-requires g t c κs within =
+    let same = unchanged_trans g.R.Look.kept g.R.Look.standing g.R.Look.words c.args.room.now c.slots_of-slots.new.look c.rank.new.look c.slots_of-slots.ensures.unchanged c.rank.ensures.unchanged in
+    let ranked = subst (λ (w : ℕ → ℕ → ℕ). IsRank c.args.pair.now.key (items_of (w c.args.page)) c.rank.result) (sym c.rank.ensures.unchanged.words)
+    (subst (λ (k : List ℕ). IsRank k (items_of (g.R.Look.words c.slots_of-slots.new.look c.args.page)) c.rank.result) c.key.ensures c.rank.ensures.rank) in (
+      omega arith,
+      (
+        within,
+        (
+          slot_readable g.R.Look.kept g.R.Look.standing g.R.Look.words c.args.level c.args.page c.args.pair.now c.rank.result c.saturating_sub-at.result c.args.room.now c.rank.new.look c.requires.tree same ranked c.saturating_sub-at.ensures,
+          (
+            slot_in_page g.R.Look.kept g.R.Look.standing g.R.Look.words c.args.level c.args.page c.args.pair.now c.rank.result c.saturating_sub-at.result c.args.room.now c.rank.new.look c.requires.tree same ranked c.saturating_sub-at.ensures,
+            (
+              slot_item g.R.Look.kept g.R.Look.standing g.R.Look.words c.args.level c.args.page c.args.pair.now c.rank.result c.saturating_sub-at.result c.args.room.now c.rank.new.look c.requires.tree same ranked c.saturating_sub-at.ensures,
+              (
+                slot_below g.R.Look.kept g.R.Look.standing g.R.Look.words c.args.level c.args.page c.args.pair.now c.rank.result c.saturating_sub-at.result c.args.room.now c.rank.new.look c.requires.tree same ranked c.saturating_sub-at.ensures,
+                (c.requires.key_fits, (c.requires.prepared, subst (λ k. IsTrue (g.R.Look.is_open k)) (sym same.kept) c.requires.open)),
+              ),
+            ),
+          ),
+        ),
+      ),
+    )
+
+pub put_at-insert_all-requires-clause-room : goal.put_at-insert_all-requires-clause-room
+put_at-insert_all-requires-clause-room g t c =
+    let len = ap length c.slots_of-slots.ensures.slots ∙ length-map-range_with_len (λ (j : ℕ). At c.args.page (place_of j)) 0 (g.R.Look.words c.args.room.now c.args.page 1) in
+    omega (arith, c.remove.ensures.len, c.in_ok-beside.ensures.some, len, c.requires.tree.node.is_page.few)
+
+pub put_at-returns-clause-ok : goal.put_at-returns-clause-ok
+put_at-returns-clause-ok g t c =
+    let same = unchanged_trans g.R.Look.kept g.R.Look.standing g.R.Look.words c.args.room.now c.slots_of-slots.new.look c.rank.new.look c.slots_of-slots.ensures.unchanged c.rank.ensures.unchanged in
+    let ranked = subst (λ (w : ℕ → ℕ → ℕ). IsRank c.args.pair.now.key (items_of (w c.args.page)) c.rank.result) (sym c.rank.ensures.unchanged.words)
+    (subst (λ (k : List ℕ). IsRank k (items_of (g.R.Look.words c.slots_of-slots.new.look c.args.page)) c.rank.result) c.key.ensures c.rank.ensures.rank) in
+    let inserted = c.insert_all.ensures ∙ ap (λ (xs : List Slot). take c.saturating_sub-at.result xs ++ (c.in_ok-beside.beside.items ++ drop c.saturating_sub-at.result xs)) c.remove.ensures.items in
+    let count = ap (λ (w : ℕ → ℕ → ℕ). w c.args.page 1) (sym same.words) in
+    slots_put g.R.Look.kept g.R.Look.standing g.R.Look.words c.args.level c.args.page c.args.pair.now c.rank.result c.saturating_sub-at.result c.args.room.now c.rank.new.look c.requires.tree same ranked c.saturating_sub-at.ensures c.slots_of-slots.result.items c.in_ok-beside.beside.items c.insert_all.new.slots.items (g.R.Look.words c.args.room.now c.args.page 1) c.put_below.new.room count c.slots_of-slots.ensures.slots inserted c.in_ok-beside.ensures.ok
+
+pub put_at-returns-clause-ready : goal.put_at-returns-clause-ready
+put_at-returns-clause-ready g t c =
+    let same = unchanged_trans g.R.Look.kept g.R.Look.standing g.R.Look.words c.args.room.now c.slots_of-slots.new.look c.rank.new.look c.slots_of-slots.ensures.unchanged c.rank.ensures.unchanged in
+    let ranked = subst (λ (w : ℕ → ℕ → ℕ). IsRank c.args.pair.now.key (items_of (w c.args.page)) c.rank.result) (sym c.rank.ensures.unchanged.words)
+    (subst (λ (k : List ℕ). IsRank k (items_of (g.R.Look.words c.slots_of-slots.new.look c.args.page)) c.rank.result) c.key.ensures c.rank.ensures.rank) in
+    let inserted = c.insert_all.ensures ∙ ap (λ (xs : List Slot). take c.saturating_sub-at.result xs ++ (c.in_ok-beside.beside.items ++ drop c.saturating_sub-at.result xs)) c.remove.ensures.items in
+    let count = ap (λ (w : ℕ → ℕ → ℕ). w c.args.page 1) (sym same.words) in
+    slots_ready g.R.Look.kept g.R.Look.standing g.R.Look.words c.args.level c.args.page c.args.pair.now c.rank.result c.saturating_sub-at.result c.args.room.now c.rank.new.look c.requires.tree same ranked c.saturating_sub-at.ensures c.slots_of-slots.result.items c.in_ok-beside.beside.items c.insert_all.new.slots.items (g.R.Look.words c.args.room.now c.args.page 1) c.put_below.new.room count c.slots_of-slots.ensures.slots inserted c.in_ok-beside.ensures.ok c.in_ok-beside.ensures.ready
+
+pub put_at-returns-clause-some : goal.put_at-returns-clause-some
+put_at-returns-clause-some g t c =
+    let same = unchanged_trans g.R.Look.kept g.R.Look.standing g.R.Look.words c.args.room.now c.slots_of-slots.new.look c.rank.new.look c.slots_of-slots.ensures.unchanged c.rank.ensures.unchanged in
+    let ranked = subst (λ (w : ℕ → ℕ → ℕ). IsRank c.args.pair.now.key (items_of (w c.args.page)) c.rank.result) (sym c.rank.ensures.unchanged.words)
+    (subst (λ (k : List ℕ). IsRank k (items_of (g.R.Look.words c.slots_of-slots.new.look c.args.page)) c.rank.result) c.key.ensures c.rank.ensures.rank) in
+    let inserted = c.insert_all.ensures ∙ ap (λ (xs : List Slot). take c.saturating_sub-at.result xs ++ (c.in_ok-beside.beside.items ++ drop c.saturating_sub-at.result xs)) c.remove.ensures.items in
+    let count = ap (λ (w : ℕ → ℕ → ℕ). w c.args.page 1) (sym same.words) in
+    let len = slots_length g.R.Look.kept g.R.Look.standing g.R.Look.words c.args.level c.args.page c.args.pair.now c.rank.result c.saturating_sub-at.result c.args.room.now c.rank.new.look c.requires.tree same ranked c.saturating_sub-at.ensures c.slots_of-slots.result.items c.in_ok-beside.beside.items c.insert_all.new.slots.items (g.R.Look.words c.args.room.now c.args.page 1) c.put_below.new.room count c.slots_of-slots.ensures.slots inserted in
+    let all = slots_count g.R.Look.kept g.R.Look.standing g.R.Look.words c.args.level c.args.page c.args.pair.now c.rank.result c.saturating_sub-at.result c.args.room.now c.rank.new.look c.requires.tree same ranked c.saturating_sub-at.ensures c.slots_of-slots.result.items c.in_ok-beside.beside.items c.insert_all.new.slots.items (g.R.Look.words c.args.room.now c.args.page 1) c.put_below.new.room count c.slots_of-slots.ensures.slots inserted in
+    let n = items_count (g.R.Look.words c.args.room.now c.args.page) in
+    (omega (arith, len, all, n, count, c.in_ok-beside.ensures.some), omega (arith, len, all, n, count, c.in_ok-beside.ensures.some, c.requires.tree.node.is_page.few))
+
+pub put_below-returns-then-level-eq0-clause-ok : goal.put_below-returns-then-level-eq0-clause-ok
+put_below-returns-then-level-eq0-clause-ok g t c =
+    let words = g.R.Look.words c.args.room.now in
+    let item = item_at (words c.args.page) c.args.place in
+    let leaf = becomes_beside g.R.Look.kept g.R.Look.standing g.R.Look.words item c.args.pair.now c.args.room.now
+    (subst (λ (n : ℕ). IsBelow n (g.R.Look.standing c.args.room.now) words (item ∷ [])) c.if-level-eq0.true c.requires.below) c.requires.key_fits in
+    let all = subst (λ (n : ℕ). Becomes g.R.Look.kept g.R.Look.standing g.R.Look.words (pages_below n words (item ∷ [])) (put c.args.pair.now (pairs_below n words (item ∷ []))) n (put c.args.pair.now (item ∷ [])) c.args.room.now c.args.room.now) (sym c.if-level-eq0.true) leaf in
+    becomes_until g.R.Look.kept g.R.Look.standing g.R.Look.words (pages_below c.args.level words (item ∷ [])) (put c.args.pair.now (pairs_below c.args.level words (item ∷ []))) c.args.level (pairs_of (g.R.Look.words c.put_beside.new.look) c.args.pair.now c.put_beside.result.items) c.args.room.now c.args.room.now c.put_beside.new.look c.put_beside.ensures.unchanged
+    (subst (λ (xs : List Pair). Becomes g.R.Look.kept g.R.Look.standing g.R.Look.words (pages_below c.args.level words (item ∷ [])) (put c.args.pair.now (pairs_below c.args.level words (item ∷ []))) c.args.level xs c.args.room.now c.args.room.now)
+    (sym (ap (λ (w : ℕ → ℕ → ℕ). pairs_of w c.args.pair.now c.put_beside.result.items) c.put_beside.ensures.unchanged.words ∙ c.put_beside.ensures.items)) all)
+
+pub put_below-put_at-requires : goal.put_below-put_at-requires
+put_below-put_at-requires g t c κs within =
+    let e : c.args.level ≡ suc (c.args.level - 1) = omega (arith, c.if-level-eq0.false) in
+    let read = c.child_at-child.new.look in
+    let item = item_at (g.R.Look.words c.args.room.now c.args.page) c.args.place in
+    let child_tree = child_read g.R.Look.kept g.R.Look.standing g.R.Look.words c.args.level (c.args.level - 1) item c.child_at-child.result c.args.room.now read e c.requires.below c.child_at-child.ensures.child c.child_at-child.ensures.unchanged in (
+      omega (arith, c.if-level-eq0.false),
+      (
+        within,
+        (
+          tree_weaker (c.args.level - 1) 6 (g.R.Look.standing read) (g.R.Look.words read) c.child_at-child.result (omega arith) child_tree,
+          (c.requires.key_fits, (c.requires.prepared, subst (λ k. IsTrue (g.R.Look.is_open k)) (sym c.child_at-child.ensures.unchanged.kept) c.requires.open)),
+        ),
+      ),
+    )
+
+pub put_below-pack-requires-clause-enough : goal.put_below-pack-requires-clause-enough
+put_below-pack-requires-clause-enough g t c =
+    let e : c.args.level ≡ suc (c.args.level - 1) = omega (arith, c.if-level-eq0.false) in
+    let read = c.child_at-child.new.look in
+    let item = item_at (g.R.Look.words c.args.room.now c.args.page) c.args.place in
+    let child_tree = child_read g.R.Look.kept g.R.Look.standing g.R.Look.words c.args.level (c.args.level - 1) item c.child_at-child.result c.args.room.now read e c.requires.below c.child_at-child.ensures.child c.child_at-child.ensures.unchanged in
+    omega (arith, child_tree.node.enough, c.in_ok-slots.ensures.some, ap length c.deref.ensures.0)
+
+pub put_below-returns-in_err-branches-clause-err : goal.put_below-returns-in_err-branches-clause-err
+put_below-returns-in_err-branches-clause-err g t c =
+    let e : c.args.level ≡ suc (c.args.level - 1) = omega (arith, c.if-level-eq0.false) in
+    let read = c.child_at-child.new.look in
+    let item = item_at (g.R.Look.words c.args.room.now c.args.page) c.args.place in
+    let child_tree = child_read g.R.Look.kept g.R.Look.standing g.R.Look.words c.args.level (c.args.level - 1) item c.child_at-child.result c.args.room.now read e c.requires.below c.child_at-child.ensures.child c.child_at-child.ensures.unchanged in
+    let first = swaps_start g.R.Look.kept g.R.Look.standing g.R.Look.words (pages_below (c.args.level - 1) (g.R.Look.words read) (items_of (g.R.Look.words read c.child_at-child.result))) (pages_below (c.args.level - 1) (g.R.Look.words c.put_at.new.room) (pairs_of (g.R.Look.words c.put_at.new.room) c.args.pair.now c.in_ok-slots.slots.items)) read c.put_at.new.room c.in_ok-slots.ensures.ok.swaps in
+    on_err _ (start_trans g.R.Look.kept g.R.Look.standing g.R.Look.words c.args.room.now read c.pack.new.room (unchanged_start g.R.Look.kept g.R.Look.standing g.R.Look.words c.args.room.now read c.child_at-child.ensures.unchanged)
+    (start_trans g.R.Look.kept g.R.Look.standing g.R.Look.words read c.put_at.new.room c.pack.new.room first c.in_err-branches.ensures.err))
+
+pub put_below-give_up-requires-clause-held : goal.put_below-give_up-requires-clause-held
+put_below-give_up-requires-clause-held g t c =
+    let e : c.args.level ≡ suc (c.args.level - 1) = omega (arith, c.if-level-eq0.false) in
+    let read = c.child_at-child.new.look in
+    let item = item_at (g.R.Look.words c.args.room.now c.args.page) c.args.place in
+    let child_tree = child_read g.R.Look.kept g.R.Look.standing g.R.Look.words c.args.level (c.args.level - 1) item c.child_at-child.result c.args.room.now read e c.requires.below c.child_at-child.ensures.child c.child_at-child.ensures.unchanged in
+    let packed = subst (λ (xs : List Slot). Becomes g.R.Look.kept g.R.Look.standing g.R.Look.words (pages_below (c.args.level - 1) (g.R.Look.words c.put_at.new.room) (pairs_of (g.R.Look.words c.put_at.new.room) c.args.pair.now xs))
+    (pairs_below (c.args.level - 1) (g.R.Look.words c.put_at.new.room) (pairs_of (g.R.Look.words c.put_at.new.room) c.args.pair.now xs)) (suc (c.args.level - 1)) (pairs_of (g.R.Look.words c.pack.new.room) c.args.pair.now c.in_ok-branches.branches.items) c.put_at.new.room c.pack.new.room)
+    c.deref.ensures.0 c.in_ok-branches.ensures.ok in
+    let both = becomes_trans g.R.Look.kept g.R.Look.standing g.R.Look.words (pages_below (c.args.level - 1) (g.R.Look.words read) (items_of (g.R.Look.words read c.child_at-child.result))) (put c.args.pair.now (pairs_at (c.args.level - 1) (g.R.Look.words read) c.child_at-child.result)) (c.args.level - 1) (suc (c.args.level - 1))
+    (pairs_of (g.R.Look.words c.put_at.new.room) c.args.pair.now c.in_ok-slots.slots.items) (pairs_of (g.R.Look.words c.pack.new.room) c.args.pair.now c.in_ok-branches.branches.items) read c.put_at.new.room c.pack.new.room c.in_ok-slots.ensures.ok packed in
+    held_after g.R.Look.kept g.R.Look.standing g.R.Look.words (pages_below (c.args.level - 1) (g.R.Look.words read) (items_of (g.R.Look.words read c.child_at-child.result))) (pages_below (suc (c.args.level - 1)) (g.R.Look.words c.pack.new.room) (pairs_of (g.R.Look.words c.pack.new.room) c.args.pair.now c.in_ok-branches.branches.items))
+    c.child_at-child.result read c.pack.new.room both.swaps child_tree.page_once child_tree.page_in_use
+
+pub put_below-returns-clause-ok : goal.put_below-returns-clause-ok
+put_below-returns-clause-ok g t c =
+    let e : c.args.level ≡ suc (c.args.level - 1) = omega (arith, c.if-level-eq0.false) in
+    let read = c.child_at-child.new.look in
+    let item = item_at (g.R.Look.words c.args.room.now c.args.page) c.args.place in
+    let child_tree = child_read g.R.Look.kept g.R.Look.standing g.R.Look.words c.args.level (c.args.level - 1) item c.child_at-child.result c.args.room.now read e c.requires.below c.child_at-child.ensures.child c.child_at-child.ensures.unchanged in
+    let packed = subst (λ (xs : List Slot). Becomes g.R.Look.kept g.R.Look.standing g.R.Look.words (pages_below (c.args.level - 1) (g.R.Look.words c.put_at.new.room) (pairs_of (g.R.Look.words c.put_at.new.room) c.args.pair.now xs))
+    (pairs_below (c.args.level - 1) (g.R.Look.words c.put_at.new.room) (pairs_of (g.R.Look.words c.put_at.new.room) c.args.pair.now xs)) (suc (c.args.level - 1)) (pairs_of (g.R.Look.words c.pack.new.room) c.args.pair.now c.in_ok-branches.branches.items) c.put_at.new.room c.pack.new.room)
+    c.deref.ensures.0 c.in_ok-branches.ensures.ok in
+    let branches = pairs_of (g.R.Look.words c.pack.new.room) c.args.pair.now c.in_ok-branches.branches.items in
+    let given = becomes_below g.R.Look.kept g.R.Look.standing g.R.Look.words c.args.level (c.args.level - 1) c.child_at-child.result item c.args.pair.now (pairs_of (g.R.Look.words c.put_at.new.room) c.args.pair.now c.in_ok-slots.slots.items) (pairs_of (g.R.Look.words c.put_at.new.room) c.args.pair.now c.in_ok-slots.slots.items) branches
+    read c.put_at.new.room c.pack.new.room c.give_up.new.self e c.child_at-child.ensures.child refl child_tree c.in_ok-slots.ensures.ok packed c.give_up.ensures.kept c.give_up.ensures.words c.give_up.ensures.standing in
+    let since = becomes_since g.R.Look.kept g.R.Look.standing g.R.Look.words (pages_below c.args.level (g.R.Look.words read) (item ∷ [])) (put c.args.pair.now (pairs_below c.args.level (g.R.Look.words read) (item ∷ []))) c.args.level branches c.args.room.now read c.give_up.new.self c.child_at-child.ensures.unchanged given in
+    subst (λ (w : ℕ → ℕ → ℕ). Becomes g.R.Look.kept g.R.Look.standing g.R.Look.words (pages_below c.args.level w (item ∷ [])) (put c.args.pair.now (pairs_below c.args.level w (item ∷ []))) c.args.level (pairs_of (g.R.Look.words c.give_up.new.self) c.args.pair.now c.in_ok-branches.branches.items) c.args.room.now c.give_up.new.self) c.child_at-child.ensures.unchanged.words
+    (subst (λ (w : ℕ → ℕ → ℕ). Becomes g.R.Look.kept g.R.Look.standing g.R.Look.words (pages_below c.args.level (g.R.Look.words read) (item ∷ [])) (put c.args.pair.now (pairs_below c.args.level (g.R.Look.words read) (item ∷ []))) c.args.level (pairs_of w c.args.pair.now c.in_ok-branches.branches.items) c.args.room.now c.give_up.new.self) (sym c.give_up.ensures.words) since)
+
+pub put_below-returns-clause-ready : goal.put_below-returns-clause-ready
+put_below-returns-clause-ready g t c =
+    let e : c.args.level ≡ suc (c.args.level - 1) = omega (arith, c.if-level-eq0.false) in
+    let read = c.child_at-child.new.look in
+    let item = item_at (g.R.Look.words c.args.room.now c.args.page) c.args.place in
+    let child_tree = child_read g.R.Look.kept g.R.Look.standing g.R.Look.words c.args.level (c.args.level - 1) item c.child_at-child.result c.args.room.now read e c.requires.below c.child_at-child.ensures.child c.child_at-child.ensures.unchanged in
+    let packed = subst (λ (xs : List Slot). Becomes g.R.Look.kept g.R.Look.standing g.R.Look.words (pages_below (c.args.level - 1) (g.R.Look.words c.put_at.new.room) (pairs_of (g.R.Look.words c.put_at.new.room) c.args.pair.now xs))
+    (pairs_below (c.args.level - 1) (g.R.Look.words c.put_at.new.room) (pairs_of (g.R.Look.words c.put_at.new.room) c.args.pair.now xs)) (suc (c.args.level - 1)) (pairs_of (g.R.Look.words c.pack.new.room) c.args.pair.now c.in_ok-branches.branches.items) c.put_at.new.room c.pack.new.room)
+    c.deref.ensures.0 c.in_ok-branches.ensures.ok in
+    let branches = pairs_of (g.R.Look.words c.pack.new.room) c.args.pair.now c.in_ok-branches.branches.items in
+    let given = becomes_below g.R.Look.kept g.R.Look.standing g.R.Look.words c.args.level (c.args.level - 1) c.child_at-child.result item c.args.pair.now (pairs_of (g.R.Look.words c.put_at.new.room) c.args.pair.now c.in_ok-slots.slots.items) (pairs_of (g.R.Look.words c.put_at.new.room) c.args.pair.now c.in_ok-slots.slots.items) branches
+    read c.put_at.new.room c.pack.new.room c.give_up.new.self e c.child_at-child.ensures.child refl child_tree c.in_ok-slots.ensures.ok packed c.give_up.ensures.kept c.give_up.ensures.words c.give_up.ensures.standing in
+    let below = subst (λ (w : ℕ → ℕ → ℕ). IsBelow c.args.level (g.R.Look.standing c.give_up.new.self) (g.R.Look.words c.give_up.new.self) (pairs_of w c.args.pair.now c.in_ok-branches.branches.items)) (sym c.give_up.ensures.words) given.below in
+    branches_ready (c.args.level - 1) (g.R.Look.standing c.give_up.new.self) (g.R.Look.words c.give_up.new.self) c.args.pair.now c.in_ok-branches.branches.items c.in_ok-branches.ensures.branches
+    (subst (λ (n : ℕ). IsBelow n (g.R.Look.standing c.give_up.new.self) (g.R.Look.words c.give_up.new.self) (pairs_of (g.R.Look.words c.give_up.new.self) c.args.pair.now c.in_ok-branches.branches.items)) e below)

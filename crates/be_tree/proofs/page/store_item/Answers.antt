@@ -1,0 +1,15 @@
+use Rattle.std.proofs.Common.{◌≡◌, ◌+◌, ◌*◌, ◌^◌, ◌<◌, ◌∙◌, ap, length, arith}
+use Rattle.std.proofs.lemmas.List.{length-append}
+use Rattle.std.proofs.lemmas.Bool.Decides.{nat_tests}
+use Rattle.std.proofs.lemmas.Grind.{common_steps}
+use Rattle.be_tree.proofs.Codec.{item_at_stored}
+use Rattle.be_tree.proofs.page.store_item.Goals as goal
+
+pub returns-clause-item : goal.returns-clause-item
+returns-clause-item g c =
+    let kept = c.store_bytes.ensures.only.before c.args.at (omega arith) in
+    let placed = c.fill.ensures.place c.args.at in
+    let len = ap length c.bytes-bytes.ensures.value ∙ length-append c.args.item.now.key c.args.item.now.payload in
+    let small : length c.args.item.now.payload < 2 ^ 32 = omega (arith, len) in
+    item_at_stored (g.R.Look.words c.store_bytes.new.room c.args.page) c.args.at c.args.item.now
+    (kept ∙ grind (arith, nat_tests, placed, len)) small (rw c.bytes-bytes.ensures.value at c.store_bytes.ensures.bytes)

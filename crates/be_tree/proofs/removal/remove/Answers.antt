@@ -1,0 +1,94 @@
+use Rattle.std.specs.Prelude.{IsTrue, is_some}
+use Rattle.std.proofs.Common.{◌≡◌, ℕ, suc, [], ◌∷◌, ◌+◌, ◌-◌, ◌^◌, ◌<◌, List, ap, sym, subst, ◌∙◌, arith}
+use Rattle.be_pages.specs.Pages.{IsUnchanged}
+use Rattle.be_tree.specs.declared.slot.Slot.{Slot}
+use Rattle.be_tree.specs.Pair.{Pair}
+use Rattle.be_tree.specs.Key.{payload_at, without}
+use Rattle.be_tree.specs.Page.{items_of}
+use Rattle.be_tree.specs.Slot.{pairs_of}
+use Rattle.be_tree.specs.Tree.{child, pages, pairs, pairs_at, pages_at, pairs_below, pages_below, IsTreeAt, BecomesTree, least_of_root}
+use Rattle.be_tree.proofs.Frame.{swaps_start, start_trans, unchanged_start}
+use Rattle.be_tree.proofs.Puts.{tree_weaker, held_after}
+use Rattle.be_tree.proofs.Parts.{on_err}
+use Rattle.be_tree.proofs.Levels.{level_bound, tree_in_use, kept_not_free}
+use Rattle.be_tree.proofs.Rests.{has_root, none_if_not, tree_changed, tree_same, tree_until, without_absent}
+use Rattle.be_tree.proofs.Roots.{root_tree, root_some, becomes_tree}
+use Rattle.be_tree.proofs.removal.remove.Given.{Over}
+use Rattle.be_tree.proofs.removal.remove.Goals as goal
+use Rattle.be_tree.proofs.removal.remove.Goals.{After-word-level}
+
+pub returns-then-not-has_key-clause-ok : goal.returns-then-not-has_key-clause-ok
+returns-then-not-has_key-clause-ok g c =
+    let old = c.args.room.now in
+    let words = g.R.Look.words old in
+    let k = c.args.key.now in
+    let root = c.args.root in
+    let none = none_if_not (payload_at (pairs words root) k) (sym c.has_key.ensures.found ∙ c.if-not-has_key.true) in
+    tree_until g.R.Look.kept g.R.Look.standing g.R.Look.words (pages words root) (without k (pairs words root)) root old old c.has_key.new.look c.has_key.ensures.unchanged
+    (subst (λ (xs : List Pair). BecomesTree g.R.Look.kept g.R.Look.standing g.R.Look.words (pages words root) xs root old old) (sym (without_absent k (pairs words root) none))
+    (tree_same g.R.Look.kept g.R.Look.standing g.R.Look.words root old c.requires.tree))
+
+-- the root's page is read
+same : (g : Over) (c : After-word-level g) → IsUnchanged g.R.Look.kept g.R.Look.standing g.R.Look.words c.args.room.now c.word-level.new.self
+same g c = record {
+  kept = c.word-level.ensures.kept ∙ c.has_key.ensures.unchanged.kept;
+  standing = c.word-level.ensures.standing ∙ c.has_key.ensures.unchanged.standing;
+  words = c.word-level.ensures.words ∙ c.has_key.ensures.unchanged.words;
+}
+
+some : (g : Over) (c : After-word-level g) → 0 < c.args.root
+some g c = has_root (g.R.Look.words c.args.room.now) c.args.root c.args.key.now (sym c.has_key.ensures.found ∙ c.if-not-has_key.false)
+
+level_is : (g : Over) (c : After-word-level g) → c.word-level.result ≡ g.R.Look.words c.args.room.now (c.args.root - 1) 0
+level_is g c = c.word-level.ensures.value ∙ ap (λ (w : ℕ → ℕ → ℕ). w (c.args.root - 1) 0) c.has_key.ensures.unchanged.words
+
+root_page : (g : Over) (c : After-word-level g) → IsTreeAt c.word-level.result (least_of_root c.word-level.result) (g.R.Look.standing c.word-level.new.self) (g.R.Look.words c.word-level.new.self) (c.args.root - 1)
+root_page g c =
+    let here = root_tree c.args.root (c.args.root - 1) c.word-level.result (g.R.Look.standing c.args.room.now) (g.R.Look.words c.args.room.now) (omega (arith, some g c)) (level_is g c) c.requires.tree in
+    subst (λ s. IsTreeAt c.word-level.result (least_of_root c.word-level.result) s (g.R.Look.words c.word-level.new.self) (c.args.root - 1)) (sym (same g c).standing)
+    (subst (λ w. IsTreeAt c.word-level.result (least_of_root c.word-level.result) (g.R.Look.standing c.args.room.now) w (c.args.root - 1)) (sym (same g c).words) here)
+
+pub remove_at-requires-clause-tree : goal.remove_at-requires-clause-tree
+remove_at-requires-clause-tree g c = root_page g (goal.at.remove_at-requires-clause-tree g c).After-word-level
+
+pub write_rest-requires-clause-low : goal.write_rest-requires-clause-low
+write_rest-requires-clause-low g c =
+    let level = c.word-level.result in
+    let read = c.word-level.new.self in
+    let page = c.args.root - 1 in
+    let tree = tree_weaker level (least_of_root level) (g.R.Look.standing read) (g.R.Look.words read) page (root_some level) (root_page g (goal.at.write_rest-requires-clause-low g c).After-word-level) in
+    level_bound (2 ^ 32) level (g.R.Look.standing read) (g.R.Look.words read) page tree
+    (λ q some. g.met.R.Look.pages_small read q (kept_not_free (g.R.Look.standing read q) (tree_in_use level 1 (g.R.Look.standing read) (g.R.Look.words read) page tree q some)))
+
+pub returns-in_err-new-clause-err : goal.returns-in_err-new-clause-err
+returns-in_err-new-clause-err g c =
+    let read = c.word-level.new.self in
+    on_err _ (start_trans g.R.Look.kept g.R.Look.standing g.R.Look.words c.args.room.now read c.write_rest.new.room
+    (unchanged_start g.R.Look.kept g.R.Look.standing g.R.Look.words c.args.room.now read (same g (goal.at.returns-in_err-new-clause-err g c).After-word-level))
+    (start_trans g.R.Look.kept g.R.Look.standing g.R.Look.words read c.remove_at.new.room c.write_rest.new.room
+    (swaps_start g.R.Look.kept g.R.Look.standing g.R.Look.words (pages_below c.word-level.result (g.R.Look.words read) (items_of (g.R.Look.words read (c.args.root - 1)))) (pages_below c.word-level.result (g.R.Look.words c.remove_at.new.room) (pairs_of (g.R.Look.words c.remove_at.new.room) c.new-pair.result c.in_ok-slots.slots.items)) read c.remove_at.new.room c.in_ok-slots.ensures.ok.swaps)
+    c.in_err-new.ensures.err))
+
+pub give_up-requires-clause-held : goal.give_up-requires-clause-held
+give_up-requires-clause-held g c =
+    let tree = root_page g (goal.at.give_up-requires-clause-held g c).After-word-level in
+    let level = c.word-level.result in
+    let page = c.args.root - 1 in
+    let mid = g.R.Look.words c.remove_at.new.room in
+    let written = subst (λ (xs : List Slot). BecomesTree g.R.Look.kept g.R.Look.standing g.R.Look.words (pages_below level mid (pairs_of mid c.new-pair.result xs)) (pairs_below level mid (pairs_of mid c.new-pair.result xs)) c.in_ok-new.new c.remove_at.new.room c.write_rest.new.room)
+    c.deref-2.ensures.0 c.in_ok-new.ensures.ok in
+    let read = g.R.Look.words c.word-level.new.self in
+    let both = becomes_tree g.R.Look.kept g.R.Look.standing g.R.Look.words (pages_below level read (items_of (read page))) (without c.args.key.now (pairs_at level read page)) level (pairs_of mid c.new-pair.result c.in_ok-slots.slots.items) c.in_ok-new.new
+    c.word-level.new.self c.remove_at.new.room c.write_rest.new.room c.in_ok-slots.ensures.ok written in
+    held_after g.R.Look.kept g.R.Look.standing g.R.Look.words (pages_below level read (items_of (read page))) (pages (g.R.Look.words c.write_rest.new.room) c.in_ok-new.new) page c.word-level.new.self c.write_rest.new.room both.swaps tree.page_once tree.page_in_use
+
+pub returns-clause-ok : goal.returns-clause-ok
+returns-clause-ok g c =
+    let at = (goal.at.returns-clause-ok g c).After-word-level in
+    let level = c.word-level.result in
+    let mid = g.R.Look.words c.remove_at.new.room in
+    let written = subst (λ (xs : List Slot). BecomesTree g.R.Look.kept g.R.Look.standing g.R.Look.words (pages_below level mid (pairs_of mid c.new-pair.result xs)) (pairs_below level mid (pairs_of mid c.new-pair.result xs)) c.in_ok-new.new c.remove_at.new.room c.write_rest.new.room)
+    c.deref-2.ensures.0 c.in_ok-new.ensures.ok in
+    tree_changed g.R.Look.kept g.R.Look.standing g.R.Look.words (without c.args.key.now) c.args.root (c.args.root - 1) level (least_of_root level) c.in_ok-new.new (pairs_of mid c.new-pair.result c.in_ok-slots.slots.items)
+    c.args.room.now c.word-level.new.self c.remove_at.new.room c.write_rest.new.room c.give_up.new.self
+    (omega (arith, some g at)) (level_is g at) (same g at) (root_page g at) c.in_ok-slots.ensures.ok written c.give_up.ensures.kept c.give_up.ensures.words c.give_up.ensures.standing

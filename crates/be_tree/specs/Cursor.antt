@@ -1,0 +1,35 @@
+-- What a cursor has still to give.
+use Rattle.std.specs.Prelude.{◌≡◌, ℕ, ◌+◌, ◌<◌, ◌≤◌, List, [], ◌∷◌, ◌++◌, length, drop, slice_index_or, All}
+use Rattle.be_pages.specs.declared.room.Standing.{Standing}
+use Rattle.be_tree.specs.Pair.{Pair}
+use Rattle.be_tree.specs.Page.{items_of}
+use Rattle.be_tree.specs.Tree.{pairs_below, IsTreeAt}
+use Rattle.be_tree.specs.declared.cursor.Place.{Place}
+use Rattle.be_tree.specs.declared.cursor.Cursor.{Cursor}
+
+-- the pairs below the items of a place's page, from its next one on
+abbrev pub pairs_past : (words : ℕ → ℕ → ℕ) → Place → List Pair
+pairs_past words place = pairs_below place.level words (drop place.next (items_of (words place.page)))
+
+-- the pairs that stand past the places of a path, those of the deepest first
+abbrev pub pairs_along : (words : ℕ → ℕ → ℕ) → List Place → List Pair
+pairs_along words [] = []
+pairs_along words (place ∷ path) = pairs_along words path ++ pairs_past words place
+
+-- the pairs that a cursor has still to give
+abbrev pub remaining : (words : ℕ → ℕ → ℕ) → Cursor → List Pair
+remaining words cursor = pairs_along words cursor.path.items
+
+-- a place in a page of a well-formed tree
+pub record IsPlace (standing : ℕ → Standing) (words : ℕ → ℕ → ℕ) (place : Place) : Type 0 where
+  pub tree : IsTreeAt place.level 1 standing words place.page
+  pub in_range : place.next ≤ length (items_of (words place.page))
+
+-- a cursor's path: places in trees, and no more of them than a tree is high
+pub record IsPath (standing : ℕ → Standing) (words : ℕ → ℕ → ℕ) (path : List Place) : Type 0 where
+  pub places : All (IsPlace standing words) path
+  pub short : (i : ℕ) (d : Place) → i < length path → (slice_index_or path i d).level + i ≤ 13
+
+-- a cursor that can go on
+abbrev pub IsCursor : (standing : ℕ → Standing) (words : ℕ → ℕ → ℕ) → Cursor → Type 0
+IsCursor standing words cursor = IsPath standing words cursor.path.items

@@ -1,0 +1,54 @@
+//! A tree is given up, page by page.
+ghost use Rattle.std.specs.Prelude.{◌≡◌, [], IsTrue};
+ghost use Rattle.be_pages.specs.Pages.{Swaps};
+ghost use Rattle.be_tree.specs.Page.{items_of};
+ghost use Rattle.be_tree.specs.Tree.{IsTree, IsTreeAt, pages, pages_at, pages_below};
+
+use crate::page::child_at;
+use be_pages::Room;
+
+/// Gives up each page of a tree. A page that was there when the write began keeps its words until the write is kept, so
+/// the tree stands again once the room is undone. It gives each page up once, reads the inner ones, and takes none.
+pub fn clear<R: Room>(room: &mut R, root: u64)
+    requires tree { IsTree (R.standing room.old) (R.words room.old) root }
+    requires open { IsTrue (R.is_open (R.kept room.old)) }
+    ensures pages { Swaps R.kept R.standing R.words (pages (R.words room.old) root) [] room.old room.new }
+    ensures words { R.words room.new ≡ R.words room.old }
+{
+    if root == 0 {
+        return;
+    }
+    let page = root - 1;
+    let level = room.word(page, 0);
+    clear_page(room, level, page);
+}
+
+/// Gives up a page and all below it.
+#[cycle(clear)]
+fn clear_page<R: Room>(room: &mut R, level: u64, page: u64)
+    requires tree { IsTreeAt level 1 (R.standing room.old) (R.words room.old) page }
+    requires open { IsTrue (R.is_open (R.kept room.old)) }
+    ensures pages { Swaps R.kept R.standing R.words (pages_at level (R.words room.old) page) [] room.old room.new }
+    ensures words { R.words room.new ≡ R.words room.old }
+{
+    clear_below(room, level, page);
+    room.give_up(page);
+}
+
+/// Gives up all pages below a page.
+#[cycle(clear)]
+fn clear_below<R: Room>(room: &mut R, level: u64, page: u64)
+    requires tree { IsTreeAt level 1 (R.standing room.old) (R.words room.old) page }
+    requires open { IsTrue (R.is_open (R.kept room.old)) }
+    ensures pages { Swaps R.kept R.standing R.words (pages_below level (R.words room.old) (items_of (R.words room.old page))) [] room.old room.new }
+    ensures words { R.words room.new ≡ R.words room.old }
+{
+    if level == 0 {
+        return;
+    }
+    let count = room.word(page, 1) as usize;
+    for j in 0..count {
+        let child = child_at(room, page, 2 + 42 * j);
+        clear_page(room, level - 1, child);
+    }
+}

@@ -1,0 +1,117 @@
+//! Look-ups and walks serve any reader of pages: here one that owns a room and counts the words that are read.
+ghost use Rattle.std.specs.Prelude.{◌≡◌, IfOk, IsTrue, OnOk};
+ghost use Rattle.be_pages.specs.Pages.{IsUnchanged};
+ghost use Rattle.be_tree.specs.Tree.{IsTree};
+
+use crate::{Cursor, clear, find, has_key, insert, range};
+use be_pages::{Look, Room, VecRoom};
+use be_value::Refusal;
+use std::test::Fail;
+
+/// A reader that counts its calls. Its facts are those of the reader that it owns.
+#[derive(Drop)]
+struct Counting<L> {
+    look: L,
+    reads: u64,
+}
+
+impl<L: Look> Look for Counting<L> {
+    ghost Kept = { L.Kept };
+
+    ghost kept = { λ c. L.kept c.look };
+
+    ghost is_open = { L.is_open };
+
+    ghost standing = { λ c. L.standing c.look };
+
+    ghost words = { λ c. L.words c.look };
+
+    ghost pages_small = { λ c q some. L.pages_small c.look q some };
+
+    fn word(&mut self, page: u64, i: usize) -> u64 {
+        self.reads = self.reads.wrapping_add(1);
+        self.look.word(page, i)
+    }
+}
+
+/// Inserts the numbers below `count` in order, and gives the root.
+fn filled<R: Room>(room: &mut R, count: u64) -> Result<u64, Refusal>
+    requires { IsTrue (R.is_open (R.kept room.old)) }
+    ensures tree { IfOk result (λ root. IsTree (R.standing room.new) (R.words room.new) root) }
+    ensures kept { OnOk result (R.kept room.new ≡ R.kept room.old) }
+{
+    let mut root = 0;
+    for i in 0..count {
+        root = insert(room, root, &i.to_be_bytes(), &[7])?;
+    }
+    Ok(root)
+}
+
+/// Whether each number below `count` is found, and the next one is not.
+fn finds<L: Look>(look: &mut L, root: u64, count: u64) -> bool
+    requires { IsTree (L.standing look.old) (L.words look.old) root }
+    ensures { IsUnchanged L.kept L.standing L.words look.old look.new }
+{
+    for i in 0..count {
+        if find(look, root, &i.to_be_bytes()).is_none() || !has_key(look, root, &i.to_be_bytes()) {
+            return false;
+        }
+    }
+    !has_key(look, root, &count.to_be_bytes())
+}
+
+/// Whether `range` meets the numbers below `count` one after the other, and nothing else.
+fn ranges<L: Look>(look: &mut L, root: u64, count: u64) -> bool
+    requires { IsTree (L.standing look.old) (L.words look.old) root }
+    ensures { IsUnchanged L.kept L.standing L.words look.old look.new }
+{
+    let mut from = [0; 8];
+    let mut after = false;
+    for i in 0..count {
+        match range(look, root, &from, after) {
+            Some(item) if &item.key[..] == &i.to_be_bytes()[..] => {}
+            _ => return false,
+        }
+        from = i.to_be_bytes();
+        after = true;
+    }
+    range(look, root, &from, after).is_none()
+}
+
+/// Whether a cursor meets the numbers below `count` one after the other, and nothing else.
+fn steps<L: Look>(look: &mut L, root: u64, count: u64) -> bool
+    requires { IsTree (L.standing look.old) (L.words look.old) root }
+    ensures { IsUnchanged L.kept L.standing L.words look.old look.new }
+{
+    let mut cursor = Cursor::seek(look, root, &[], false);
+    for i in 0..count {
+        match cursor.next(look) {
+            Some(item) if &item.key[..] == &i.to_be_bytes()[..] => {}
+            _ => return false,
+        }
+    }
+    cursor.next_key(look).is_none()
+}
+
+// A hundred pairs stand in two levels: some thirty words a look-up, one word a step and the pair's own.
+#[test]
+fn counting_look(rt: HostRuntime) -> Result<(), Fail> {
+    let mut room = VecRoom::new(rt.alloc(), 64)?;
+    let root = filled(&mut room, 100)?;
+    let mut look = Counting {
+        look: room,
+        reads: 0,
+    };
+    assert!(rt; finds(&mut look, root, 100));
+    let found = look.reads;
+    assert!(rt; found < 201 * 40);
+    assert!(rt; ranges(&mut look, root, 100));
+    let ranged = look.reads;
+    assert!(rt; ranged < found + 101 * 40);
+    assert!(rt; steps(&mut look, root, 100));
+    assert!(rt; look.reads < ranged + 101 * 8);
+    let mut room = look.look;
+    clear(&mut room, root);
+    assert_eq!(rt; room.free(), 64);
+    Ok(())
+}

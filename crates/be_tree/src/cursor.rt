@@ -1,0 +1,190 @@
+//! A cursor among the pairs of a tree.
+//!
+//! A cursor keeps the way from the root down to the pair that comes next: for each page on it the number of the item that
+//! comes after those already passed. What it has still to give is what stands past the deepest place, then past the one
+//! above it, and so on up to the root; where a page is spent, its place is taken off and the walk goes on from the one
+//! above. So a step reads one leaf mostly, and a walk over a whole tree reads each inner page about once, while a look-up
+//! for each pair would go down from the root each time.
+//!
+//! No page may have more than 12 items, and each but the root has 6 at least. So a tree of fewer than 2^32 pages has no
+//! level above 13, and the way down has at most 14 places.
+ghost use Rattle.std.specs.Prelude.{◌≡◌, ◌≢◌, ℕ, [], ◌+◌, ◌<◌, ◌≤◌, ◌++◌, IsTrue, length, option_map, drop, IfNone, IfSome, Some, slice_get};
+ghost use Rattle.be_pages.specs.declared.room.Standing.{Standing as Stands};
+ghost use Rattle.be_pages.specs.Pages.{IsUnchanged, is_readable};
+ghost use Rattle.be_tree.specs.Cursor.{IsCursor, IsPath, IsPlace, pairs_along, pairs_past, remaining};
+ghost use Rattle.be_tree.specs.Key.{IsPrepared};
+ghost use Rattle.be_tree.specs.Page.{IsItem, IsPage, item_at, items_of};
+ghost use Rattle.be_tree.specs.Range.{pair_in, pairs_from};
+ghost use Rattle.be_tree.specs.Tree.{IsTree, IsTreeAt, pairs, pairs_at};
+
+use crate::lookup::rank;
+use crate::page::{child_at, cmp_at, key_words};
+use crate::walk::{TreeItem, load_key, load_pair};
+use arrayvec::ArrayVec;
+use be_pages::Look;
+use std::cmp::Ordering;
+
+/// A place in a page of a level: the number of the item that comes next.
+#[derive(Clone, Copy)]
+struct Place {
+    level: u64,
+    page: u64,
+    next: usize,
+}
+
+impl Default for Place {
+    fn default() -> Place {
+        Place {
+            level: 0,
+            page: 0,
+            next: 0,
+        }
+    }
+}
+
+/// A place among the pairs of a tree, with the way to it from the root. It serves as long as the tree's pages keep their
+/// words, and takes no memory besides its own 14 places.
+#[derive(Drop)]
+pub struct Cursor {
+    path: ArrayVec<Place, 14>,
+}
+
+impl Cursor {
+    /// A cursor past all pairs.
+    pub fn new() -> Cursor
+        ensures cursor { (standing : ℕ → Stands) (words : ℕ → ℕ → ℕ) → IsCursor standing words result }
+        ensures remaining { (words : ℕ → ℕ → ℕ) → remaining words result ≡ [] }
+    {
+        Cursor {
+            path: ArrayVec::new(),
+        }
+    }
+
+    /// A cursor before the least pair whose key is at or after `from`; with `after` set, strictly after it. It costs one
+    /// descent, with a binary search in each page.
+    pub fn seek<L: Look>(look: &mut L, root: u64, from: &[u8], after: bool) -> Cursor
+        requires tree { IsTree (L.standing look.old) (L.words look.old) root }
+        ensures cursor { IsCursor (L.standing look.old) (L.words look.old) result }
+        ensures remaining { remaining (L.words look.old) result ≡ pairs_from (pairs (L.words look.old) root) from.now after }
+        ensures unchanged { IsUnchanged L.kept L.standing L.words look.old look.new }
+    {
+        if root == 0 {
+            return Cursor::new();
+        }
+        let words = key_words(from);
+        let mut path = ArrayVec::new();
+        let mut page = root - 1;
+        let mut level = look.word(page, 0);
+        while level > 0 {
+            let at = rank(look, page, from, &words).saturating_sub(1);
+            let child = child_at(look, page, 2 + 42 * at);
+            path.push(Place {
+                level,
+                page,
+                next: at + 1,
+            });
+            page = child;
+            level -= 1;
+        }
+        let next = leaf_from(look, page, from, &words, after);
+        path.push(Place {
+            level: 0,
+            page,
+            next,
+        });
+        Cursor { path }
+    }
+
+    /// The pair that comes next, and a step past it; none once all were given. It is the pair that `range` answers for the
+    /// last one's key and `after`, without the descent.
+    pub fn next<L: Look>(&mut self, look: &mut L) -> Option<TreeItem>
+        requires cursor { IsCursor (L.standing look.old) (L.words look.old) self.old }
+        ensures item { option_map pair_in result ≡ slice_get (remaining (L.words look.old) self.old) 0 }
+        ensures cursor { IsCursor (L.standing look.old) (L.words look.old) self.new }
+        ensures remaining { remaining (L.words look.old) self.new ≡ drop 1 (remaining (L.words look.old) self.old) }
+        ensures unchanged { IsUnchanged L.kept L.standing L.words look.old look.new }
+    {
+        let (page, at) = self.step(look)?;
+        Some(load_pair(look, page, at))
+    }
+
+    /// The key of the pair that comes next, and a step past it. No payload is read.
+    pub fn next_key<L: Look>(&mut self, look: &mut L) -> Option<ArrayVec<u8, 264>>
+        requires cursor { IsCursor (L.standing look.old) (L.words look.old) self.old }
+        ensures key { option_map (λ key. key.items) result ≡ option_map (λ x. x.key) (slice_get (remaining (L.words look.old) self.old) 0) }
+        ensures cursor { IsCursor (L.standing look.old) (L.words look.old) self.new }
+        ensures remaining { remaining (L.words look.old) self.new ≡ drop 1 (remaining (L.words look.old) self.old) }
+        ensures unchanged { IsUnchanged L.kept L.standing L.words look.old look.new }
+    {
+        let (page, at) = self.step(look)?;
+        Some(load_key(look, page, at))
+    }
+
+    /// Takes the deepest place off the path that has an item left, and with it the deeper ones, which have none.
+    fn pop_spent<L: Look>(&mut self, look: &mut L) -> Option<Place>
+        requires cursor { IsCursor (L.standing look.old) (L.words look.old) self.old }
+        ensures none { IfNone result (remaining (L.words look.old) self.old ≡ []) }
+        ensures empty { IfNone result (remaining (L.words look.old) self.new ≡ []) }
+        ensures place { IfSome result (IsPlace (L.standing look.old) (L.words look.old)) }
+        ensures left { IfSome result (λ place. place.next < L.words look.old place.page 1) }
+        ensures short { IfSome result (λ place. place.level + length self.new.path.items ≤ 13) }
+        ensures parts { IfSome result (λ place. remaining (L.words look.old) self.old ≡ pairs_past (L.words look.old) place ++ remaining (L.words look.old) self.new) }
+        ensures cursor { IsCursor (L.standing look.old) (L.words look.old) self.new }
+        ensures unchanged { IsUnchanged L.kept L.standing L.words look.old look.new }
+    {
+        while let Some(place) = self.path.pop() {
+            if (place.next as u64) < look.word(place.page, 1) {
+                return Some(place);
+            }
+        }
+        None
+    }
+
+    /// The page and the place of the item that comes next, and a step past it.
+    fn step<L: Look>(&mut self, look: &mut L) -> Option<(u64, usize)>
+        requires cursor { IsCursor (L.standing look.old) (L.words look.old) self.old }
+        ensures none { IfNone result (remaining (L.words look.old) self.old ≡ []) }
+        ensures item { IfSome result (λ at. slice_get (remaining (L.words look.old) self.old) 0 ≡ Some (item_at (L.words look.old at.0) at.1)) }
+        ensures readable { IfSome result (λ at. IsTrue (is_readable (L.standing look.old at.0))) }
+        ensures in_page { IfSome result (λ at. at.1 + 42 ≤ 512) }
+        ensures fits { IfSome result (λ at. IsItem (L.words look.old at.0) at.1) }
+        ensures cursor { IsCursor (L.standing look.old) (L.words look.old) self.new }
+        ensures remaining { remaining (L.words look.old) self.new ≡ drop 1 (remaining (L.words look.old) self.old) }
+        ensures unchanged { IsUnchanged L.kept L.standing L.words look.old look.new }
+    {
+        let mut place = self.pop_spent(look)?;
+        while place.level > 0 {
+            self.path.push(Place {
+                next: place.next + 1,
+                ..place
+            });
+            let child = child_at(look, place.page, 2 + 42 * place.next);
+            place = Place {
+                level: place.level - 1,
+                page: child,
+                next: 0,
+            };
+        }
+        self.path.push(Place {
+            next: place.next + 1,
+            ..place
+        });
+        Some((place.page, 2 + 42 * place.next))
+    }
+}
+
+/// How many of a leaf's items stand before the pairs at or after a key.
+fn leaf_from<L: Look>(look: &mut L, page: u64, from: &[u8], words: &[u64], after: bool) -> usize
+    requires tree { IsTreeAt 0 1 (L.standing look.old) (L.words look.old) page }
+    requires prepared { IsPrepared words.now from.now }
+    ensures in_range { result ≤ length (items_of (L.words look.old page)) }
+    ensures rest { drop result (items_of (L.words look.old page)) ≡ pairs_from (items_of (L.words look.old page)) from.now after }
+    ensures unchanged { IsUnchanged L.kept L.standing L.words look.old look.new }
+{
+    let at = rank(look, page, from, words).saturating_sub(1);
+    match cmp_at(look, page, 2 + 42 * at, from, words) {
+        Ordering::Less => at + 1,
+        Ordering::Equal => if after { at + 1 } else { at },
+        Ordering::Greater => at,
+    }
+}

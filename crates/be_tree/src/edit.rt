@@ -1,0 +1,319 @@
+//! Changes.
+ghost use Rattle.std.specs.Prelude.{◌≡◌, ℕ, suc, ◌+◌, ◌-◌, ◌^◌, ◌<◌, ◌≤◌, List, [], ◌∷◌, ◌++◌, length, take, drop, All, IfOk, OnErr, IfErr, IsTrue};
+ghost use Rattle.std.specs.Prelude.{◌≢◌};
+ghost use Rattle.be_pages.specs.Pages.{IsUnchanged, is_kept, is_readable, times, Swaps, KeepsStart};
+ghost use Rattle.be_pages.specs.Refusal.{IsFullOf};
+ghost use Rattle.be_tree.specs.Key.{IsPrepared, put};
+ghost use Rattle.be_tree.specs.Page.{IsItem, item_at, items_of};
+ghost use Rattle.be_tree.specs.Slot.{IsBranchSlot, IsReady, branch_to, pairs_of};
+ghost use Rattle.be_tree.specs.Tree.{IsBelow, IsTreeAt, IsWritten, Becomes, BecomesTree, IsTree, least_of_root, pairs, pages, pairs_at, pairs_below, pages_below};
+
+use crate::item::Item;
+use crate::lookup::rank;
+use crate::page::{child_at, cmp_at, key_words, slots_of, store_node};
+use crate::slot::Slot;
+use arrayvec::ArrayVec;
+use be_pages::{Look, Room};
+use be_value::Refusal;
+use std::cmp::Ordering;
+
+/// Writes a node to a page of its own, and gives the page.
+fn write_node<R: Room>(
+    room: &mut R,
+    level: u64,
+    slots: &[Slot],
+    pair: &Item,
+) -> Result<u64, Refusal>
+    requires some { 0 < length slots.now }
+    requires few { length slots.now ≤ 12 }
+    requires ready { All (IsReady (R.standing room.old) (R.words room.old)) slots.now }
+    requires key_fits { length pair.now.key ≤ 264 }
+    requires open { IsTrue (R.is_open (R.kept room.old)) }
+    ensures ok { IfOk result (λ page. IsWritten level (R.words room.new) (pairs_of (R.words room.old) pair.now slots.now) (branch_to (R.words room.new) page)) }
+    ensures swaps { IfOk result (λ page. Swaps R.kept R.standing R.words [] (page ∷ []) room.old room.new) }
+    ensures small { IfOk result (λ page. page < 2 ^ 32) }
+    ensures err { OnErr result (KeepsStart R.kept R.standing R.words room.old room.new) }
+    ensures full { IfErr result (IsFullOf (R.full room.new)) }
+{
+    let page = room.take()?;
+    store_node(room, page, level, slots, pair);
+    Ok(page)
+}
+
+/// The item at a place of a leaf with a pair beside it, or in its place.
+fn put_beside<L: Look>(
+    look: &mut L,
+    page: u64,
+    place: usize,
+    pair: &Item,
+    words: &[u64],
+) -> ArrayVec<Slot, 2>
+    requires readable { IsTrue (is_readable (L.standing look.old page)) }
+    requires in_page { place + 42 ≤ 512 }
+    requires item { IsItem (L.words look.old page) place }
+    requires prepared { IsPrepared words.now pair.now.key }
+    ensures items { pairs_of (L.words look.old) pair.now result.items ≡ put pair.now (item_at (L.words look.old page) place ∷ []) }
+    ensures ready { All (IsReady (L.standing look.old) (L.words look.old)) result.items }
+    ensures some { (0 < length result.items) × (length result.items ≤ 2) }
+    ensures unchanged { IsUnchanged L.kept L.standing L.words look.old look.new }
+{
+    let item = Slot::At(page, place);
+    let mut both = ArrayVec::new();
+    match cmp_at(look, page, place, pair.key(), words) {
+        Ordering::Less => {
+            both.push(item);
+            both.push(Slot::New);
+        }
+        Ordering::Equal => both.push(Slot::New),
+        Ordering::Greater => {
+            both.push(Slot::New);
+            both.push(item);
+        }
+    }
+    both
+}
+
+/// Inserts slots at a place.
+pub(crate) fn insert_all(slots: &mut ArrayVec<Slot, 24>, at: usize, mut more: ArrayVec<Slot, 2>)
+    requires in_range { at ≤ length slots.old.items }
+    requires room { length slots.old.items + length more.items ≤ 24 }
+    ensures { slots.new.items ≡ take at slots.old.items ++ (more.items ++ drop at slots.old.items) }
+{
+    while let Some(slot) = more.pop() {
+        slots.insert(at, slot);
+    }
+}
+
+/// Writes a node with what stands below it, and gives its page.
+fn write_branch<R: Room>(
+    room: &mut R,
+    level: u64,
+    slots: &[Slot],
+    pair: &Item,
+) -> Result<u64, Refusal>
+    requires below { IsBelow level (R.standing room.old) (R.words room.old) (pairs_of (R.words room.old) pair.now slots.now) }
+    requires ready { All (IsReady (R.standing room.old) (R.words room.old)) slots.now }
+    requires enough { 6 ≤ length slots.now }
+    requires few { length slots.now ≤ 12 }
+    requires key_fits { length pair.now.key ≤ 264 }
+    requires open { IsTrue (R.is_open (R.kept room.old)) }
+    ensures ok { IfOk result (λ page. Becomes R.kept R.standing R.words (pages_below level (R.words room.old) (pairs_of (R.words room.old) pair.now slots.now)) (pairs_below level (R.words room.old) (pairs_of (R.words room.old) pair.now slots.now)) (suc level) (branch_to (R.words room.new) page ∷ []) room.old room.new) }
+    ensures fresh { IfOk result (λ page. Swaps R.kept R.standing R.words [] (page ∷ []) room.old room.new) }
+    ensures small { IfOk result (λ page. page < 2 ^ 32) }
+    ensures err { OnErr result (KeepsStart R.kept R.standing R.words room.old room.new) }
+    ensures full { IfErr result (IsFullOf (R.full room.new)) }
+{
+    let page = write_node(room, level, slots, pair)?;
+    Ok(page)
+}
+
+/// Writes a node in hand in two pages, the first `cut` items in the first, and gives them.
+fn write_parts<R: Room>(
+    room: &mut R,
+    level: u64,
+    slots: &[Slot],
+    cut: usize,
+    pair: &Item,
+) -> Result<(u64, u64), Refusal>
+    requires below { IsBelow level (R.standing room.old) (R.words room.old) (pairs_of (R.words room.old) pair.now slots.now) }
+    requires ready { All (IsReady (R.standing room.old) (R.words room.old)) slots.now }
+    requires first { (6 ≤ cut) × (cut ≤ 12) }
+    requires second { (cut + 6 ≤ length slots.now) × (length slots.now ≤ cut + 12) }
+    requires key_fits { length pair.now.key ≤ 264 }
+    requires open { IsTrue (R.is_open (R.kept room.old)) }
+    ensures ok { IfOk result (λ both. Becomes R.kept R.standing R.words (pages_below level (R.words room.old) (pairs_of (R.words room.old) pair.now slots.now)) (pairs_below level (R.words room.old) (pairs_of (R.words room.old) pair.now slots.now)) (suc level) (branch_to (R.words room.new) both.0 ∷ branch_to (R.words room.new) both.1 ∷ []) room.old room.new) }
+    ensures small { IfOk result (λ both. (both.0 < 2 ^ 32) × (both.1 < 2 ^ 32)) }
+    ensures err { OnErr result (KeepsStart R.kept R.standing R.words room.old room.new) }
+    ensures full { IfErr result (IsFullOf (R.full room.new)) }
+{
+    let (front, back) = slots.split_at(cut);
+    let left = write_branch(room, level, front, pair)?;
+    let right = write_branch(room, level, back, pair)?;
+    Ok((left, right))
+}
+
+/// How many of the items the first of two pages takes: all that it can hold while six are left for the second.
+fn first_of_two(len: usize) -> usize
+    requires { (12 < len) × (len ≤ 24) }
+    ensures first { (6 ≤ result) × (result ≤ 12) }
+    ensures second { (result + 6 ≤ len) × (len ≤ result + 12) }
+{
+    if len < 18 { len - 6 } else { 12 }
+}
+
+/// Writes a node in hand, in one page or in two, and gives the branches to them.
+fn pack<R: Room>(
+    room: &mut R,
+    level: u64,
+    slots: &[Slot],
+    pair: &Item,
+) -> Result<ArrayVec<Slot, 2>, Refusal>
+    requires below { IsBelow level (R.standing room.old) (R.words room.old) (pairs_of (R.words room.old) pair.now slots.now) }
+    requires ready { All (IsReady (R.standing room.old) (R.words room.old)) slots.now }
+    requires enough { 6 ≤ length slots.now }
+    requires few { length slots.now ≤ 24 }
+    requires key_fits { length pair.now.key ≤ 264 }
+    requires open { IsTrue (R.is_open (R.kept room.old)) }
+    ensures ok { IfOk result (λ branches. Becomes R.kept R.standing R.words (pages_below level (R.words room.old) (pairs_of (R.words room.old) pair.now slots.now)) (pairs_below level (R.words room.old) (pairs_of (R.words room.old) pair.now slots.now)) (suc level) (pairs_of (R.words room.new) pair.now branches.items) room.old room.new) }
+    ensures branches { IfOk result (λ branches. All IsBranchSlot branches.items) }
+    ensures some { IfOk result (λ branches. (0 < length branches.items) × (length branches.items ≤ 2)) }
+    ensures err { OnErr result (KeepsStart R.kept R.standing R.words room.old room.new) }
+    ensures full { IfErr result (IsFullOf (R.full room.new)) }
+{
+    let mut branches = ArrayVec::new();
+    if slots.len() <= 12 {
+        let page = write_branch(room, level, slots, pair)?;
+        branches.push(Slot::Branch(page));
+        return Ok(branches);
+    }
+    let (left, right) = write_parts(room, level, slots, first_of_two(slots.len()), pair)?;
+    branches.push(Slot::Branch(left));
+    branches.push(Slot::Branch(right));
+    Ok(branches)
+}
+
+/// Writes a node in hand whose items stood in two neighbours, and gives the two up.
+pub(crate) fn pack_two<R: Room>(
+    room: &mut R,
+    level: u64,
+    left: u64,
+    right: u64,
+    slots: &[Slot],
+    pair: &Item,
+) -> Result<ArrayVec<Slot, 2>, Refusal>
+    requires below { IsBelow level (R.standing room.old) (R.words room.old) (pairs_of (R.words room.old) pair.now slots.now) }
+    requires ready { All (IsReady (R.standing room.old) (R.words room.old)) slots.now }
+    requires enough { 6 ≤ length slots.now }
+    requires few { length slots.now ≤ 24 }
+    requires key_fits { length pair.now.key ≤ 264 }
+    requires left_kept { IsTrue (is_kept (R.standing room.old left)) }
+    requires right_kept { IsTrue (is_kept (R.standing room.old right)) }
+    requires left_apart { times left (pages_below level (R.words room.old) (pairs_of (R.words room.old) pair.now slots.now)) ≡ 0 }
+    requires right_apart { times right (pages_below level (R.words room.old) (pairs_of (R.words room.old) pair.now slots.now)) ≡ 0 }
+    requires different { left ≢ right }
+    requires open { IsTrue (R.is_open (R.kept room.old)) }
+    ensures ok { IfOk result (λ branches. Becomes R.kept R.standing R.words (left ∷ right ∷ pages_below level (R.words room.old) (pairs_of (R.words room.old) pair.now slots.now)) (pairs_below level (R.words room.old) (pairs_of (R.words room.old) pair.now slots.now)) (suc level) (pairs_of (R.words room.new) pair.now branches.items) room.old room.new) }
+    ensures ready { IfOk result (λ branches. All (IsReady (R.standing room.new) (R.words room.new)) branches.items) }
+    ensures some { IfOk result (λ branches. (0 < length branches.items) × (length branches.items ≤ 2)) }
+    ensures err { OnErr result (KeepsStart R.kept R.standing R.words room.old room.new) }
+    ensures full { IfErr result (IsFullOf (R.full room.new)) }
+{
+    let branches = pack(room, level, slots, pair)?;
+    room.give_up(right);
+    room.give_up(left);
+    Ok(branches)
+}
+
+/// Puts a pair below the item at a place, and gives the items that stand in its place.
+#[cycle(put)]
+fn put_below<R: Room>(
+    room: &mut R,
+    level: u64,
+    page: u64,
+    place: usize,
+    pair: &Item,
+    words: &[u64],
+) -> Result<ArrayVec<Slot, 2>, Refusal>
+    requires readable { IsTrue (is_readable (R.standing room.old page)) }
+    requires in_page { place + 42 ≤ 512 }
+    requires item { IsItem (R.words room.old page) place }
+    requires below { IsBelow level (R.standing room.old) (R.words room.old) (item_at (R.words room.old page) place ∷ []) }
+    requires key_fits { length pair.now.key ≤ 264 }
+    requires prepared { IsPrepared words.now pair.now.key }
+    requires open { IsTrue (R.is_open (R.kept room.old)) }
+    ensures ok { IfOk result (λ slots. Becomes R.kept R.standing R.words (pages_below level (R.words room.old) (item_at (R.words room.old page) place ∷ [])) (put pair.now (pairs_below level (R.words room.old) (item_at (R.words room.old page) place ∷ []))) level (pairs_of (R.words room.new) pair.now slots.items) room.old room.new) }
+    ensures ready { IfOk result (λ slots. All (IsReady (R.standing room.new) (R.words room.new)) slots.items) }
+    ensures some { IfOk result (λ slots. (0 < length slots.items) × (length slots.items ≤ 2)) }
+    ensures err { OnErr result (KeepsStart R.kept R.standing R.words room.old room.new) }
+    ensures full { IfErr result (IsFullOf (R.full room.new)) }
+{
+    if level == 0 {
+        return Ok(put_beside(room, page, place, pair, words));
+    }
+    let child = child_at(room, page, place);
+    let slots = put_at(room, level - 1, child, pair, words)?;
+    let branches = pack(room, level - 1, &slots, pair)?;
+    room.give_up(child);
+    Ok(branches)
+}
+
+/// Puts a pair below a page, and gives the page's items with the pair put, still to be written. The page is not given up
+/// yet, since some of them stand there.
+#[cycle(put)]
+fn put_at<R: Room>(
+    room: &mut R,
+    level: u64,
+    page: u64,
+    pair: &Item,
+    words: &[u64],
+) -> Result<ArrayVec<Slot, 24>, Refusal>
+    requires tree { IsTreeAt level 1 (R.standing room.old) (R.words room.old) page }
+    requires key_fits { length pair.now.key ≤ 264 }
+    requires prepared { IsPrepared words.now pair.now.key }
+    requires open { IsTrue (R.is_open (R.kept room.old)) }
+    ensures ok { IfOk result (λ slots. Becomes R.kept R.standing R.words (pages_below level (R.words room.old) (items_of (R.words room.old page))) (put pair.now (pairs_at level (R.words room.old) page)) level (pairs_of (R.words room.new) pair.now slots.items) room.old room.new) }
+    ensures ready { IfOk result (λ slots. All (IsReady (R.standing room.new) (R.words room.new)) slots.items) }
+    ensures some { IfOk result (λ slots. (length (items_of (R.words room.old page)) ≤ length slots.items) × (length slots.items ≤ 13)) }
+    ensures err { OnErr result (KeepsStart R.kept R.standing R.words room.old room.new) }
+    ensures full { IfErr result (IsFullOf (R.full room.new)) }
+{
+    let mut slots = slots_of(room, page);
+    let at = rank(room, page, pair.key(), words).saturating_sub(1);
+    let beside = put_below(room, level, page, 2 + 42 * at, pair, words)?;
+    slots.remove(at);
+    insert_all(&mut slots, at, beside);
+    Ok(slots)
+}
+
+/// Writes items as a tree of their own, and gives its root.
+pub(crate) fn write_root<R: Room>(
+    room: &mut R,
+    level: u64,
+    slots: &[Slot],
+    pair: &Item,
+) -> Result<u64, Refusal>
+    requires below { IsBelow level (R.standing room.old) (R.words room.old) (pairs_of (R.words room.old) pair.now slots.now) }
+    requires ready { All (IsReady (R.standing room.old) (R.words room.old)) slots.now }
+    requires enough { least_of_root level ≤ length slots.now }
+    requires few { length slots.now ≤ 18 }
+    requires low { level < 2 ^ 32 }
+    requires key_fits { length pair.now.key ≤ 264 }
+    requires open { IsTrue (R.is_open (R.kept room.old)) }
+    ensures ok { IfOk result (λ root. BecomesTree R.kept R.standing R.words (pages_below level (R.words room.old) (pairs_of (R.words room.old) pair.now slots.now)) (pairs_below level (R.words room.old) (pairs_of (R.words room.old) pair.now slots.now)) root room.old room.new) }
+    ensures err { OnErr result (KeepsStart R.kept R.standing R.words room.old room.new) }
+    ensures full { IfErr result (IsFullOf (R.full room.new)) }
+{
+    if slots.len() <= 12 {
+        let top = write_node(room, level, slots, pair)?;
+        return Ok(top + 1);
+    }
+    let (left, right) = write_parts(room, level, slots, first_of_two(slots.len()), pair)?;
+    let branches = [Slot::Branch(left), Slot::Branch(right)];
+    let top = write_node(room, level + 1, &branches, pair)?;
+    Ok(top + 1)
+}
+
+/// Puts a pair into a tree, in place of any pair of its key, and gives the new root. The old tree's pages that the new
+/// one has not are given up. After an error the tree stands again once the room is undone.
+pub fn insert<R: Room>(room: &mut R, root: u64, key: &[u8], payload: &[u8]) -> Result<u64, Refusal>
+    requires tree { IsTree (R.standing room.old) (R.words room.old) root }
+    requires key_fits { length key.now ≤ 264 }
+    requires fits { length key.now + length payload.now ≤ 328 }
+    requires open { IsTrue (R.is_open (R.kept room.old)) }
+    ensures ok { IfOk result (λ new. BecomesTree R.kept R.standing R.words (pages (R.words room.old) root)
+        (put (record { key = key.now; payload = payload.now }) (pairs (R.words room.old) root)) new room.old room.new) }
+    ensures err { OnErr result (KeepsStart R.kept R.standing R.words room.old room.new) }
+    ensures full { IfErr result (IsFullOf (R.full room.new)) }
+{
+    let pair = Item::new(key, payload);
+    if root == 0 {
+        return write_root(room, 0, &[Slot::New], &pair);
+    }
+    let words = key_words(pair.key());
+    let page = root - 1;
+    let level = room.word(page, 0);
+    let slots = put_at(room, level, page, &pair, &words)?;
+    let new = write_root(room, level, &slots, &pair)?;
+    room.give_up(page);
+    Ok(new)
+}

@@ -1,0 +1,24 @@
+//! A copy-on-write B+tree over pages of words.
+#![tactic(auto)]
+
+mod clearing;
+#[cfg(test)]
+mod counting_look;
+mod cursor;
+mod edit;
+mod item;
+mod laws;
+mod lookup;
+mod page;
+mod removal;
+mod slot;
+mod walk;
+
+pub use clearing::clear;
+pub use cursor::Cursor;
+pub use edit::insert;
+pub use laws::{tree_beside, tree_kept, tree_replaced, tree_undone};
+pub use lookup::{find, has_key};
+pub use page::{load_bytes, store_bytes};
+pub use removal::remove;
+pub use walk::{TreeItem, range};

@@ -1,0 +1,295 @@
+//! Items read from a page and written to it.
+ghost use Rattle.std.specs.Prelude.{◌≡◌, ◌≢◌, ℕ, ◌+◌, ◌*◌, ◌<◌, ◌≤◌, ◌++◌, All, IsTrue, length, take, map, slice_index};
+ghost use Rattle.std.specs.List.{range_with_len};
+ghost use Rattle.std.specs.Int.{from_be_bytes, to_be_bytes, w64};
+ghost use Rattle.be_pages.specs.Pages.{is_readable, is_taken, IsUnchanged, OnlyWrites, StandsAt};
+ghost use Rattle.be_pages.specs.declared.room.Standing.TheVariants.{Filled};
+ghost use Rattle.be_tree.specs.Page.{IsItem, IsPage, item_at, bytes_at, key_len, level_of, items_of, words_for};
+ghost use Rattle.be_tree.specs.Page.{place_of};
+ghost use Rattle.std.specs.Prelude.{◌^◌, ◌⊎◌};
+ghost use Rattle.be_tree.specs.declared.slot.Slot.TheVariants.{At};
+ghost use Rattle.be_tree.specs.Slot.{IsBeside, IsReady, branch_to, pair_of, pairs_of};
+ghost use Rattle.be_tree.specs.Key.{IsPrepared, key_cmp};
+ghost use Rattle.be_tree.specs.Tree.{child};
+
+use crate::item::Item;
+use crate::slot::Slot;
+use arrayvec::ArrayVec;
+use be_pages::{Look, Room};
+use std::cmp::Ordering;
+
+/// The page that the branch at a place names.
+pub(crate) fn child_at<L: Look>(look: &mut L, page: u64, at: usize) -> u64
+    requires readable { IsTrue (is_readable (L.standing look.old page)) }
+    requires in_page { at + 42 ≤ 512 }
+    requires item { IsItem (L.words look.old page) at }
+    requires names_page { length (item_at (L.words look.old page) at).payload ≡ 8 }
+    ensures child { result ≡ child (item_at (L.words look.old page) at) }
+    ensures unchanged { IsUnchanged L.kept L.standing L.words look.old look.new }
+{
+    let key_len = (look.word(page, at) >> 32) as usize;
+    let skip = key_len % 8;
+    let bytes: ArrayVec<u8, 16> = load_bytes(look, page, at + 1 + key_len / 8, skip + 8);
+    number_in(&bytes[skip..])
+}
+
+/// The number in eight bytes, the most significant first.
+fn number_in(bytes: &[u8]) -> u64
+    requires { length bytes.now ≡ 8 }
+    ensures { result ≡ from_be_bytes w64 bytes.now }
+{
+    u64::from_be_bytes([
+        bytes[0], bytes[1], bytes[2], bytes[3], bytes[4], bytes[5], bytes[6], bytes[7],
+    ])
+}
+
+/// The words of a key's first 264 bytes, for comparisons by words.
+pub(crate) fn key_words(key: &[u8]) -> ArrayVec<u64, 33>
+    ensures { IsPrepared result.items key.now }
+{
+    let count = if key.len() > 264 {
+        33
+    } else {
+        (key.len() + 7) / 8
+    };
+    let mut words = ArrayVec::new();
+    for i in 0..count {
+        words.push(word_from(key, 8 * i));
+    }
+    words
+}
+
+/// How the key of the item at a place compares with a key whose words are at hand.
+pub(crate) fn cmp_at<L: Look>(
+    look: &mut L,
+    page: u64,
+    at: usize,
+    key: &[u8],
+    words: &[u64],
+) -> Ordering
+    requires readable { IsTrue (is_readable (L.standing look.old page)) }
+    requires in_page { at + 42 ≤ 512 }
+    requires item { IsItem (L.words look.old page) at }
+    requires prepared { IsPrepared words.now key.now }
+    ensures order { result ≡ key_cmp (item_at (L.words look.old page) at).key key.now }
+    ensures unchanged { IsUnchanged L.kept L.standing L.words look.old look.new }
+{
+    let len = (look.word(page, at) >> 32) as usize;
+    let common = least_of(len, key.len());
+    for i in 0..common / 8 {
+        let mine = look.word(page, at + 1 + i);
+        let other = words[i];
+        if mine != other {
+            return mine.cmp(&other);
+        }
+    }
+    let rest = common % 8;
+    if rest == 0 {
+        return len.cmp(&key.len());
+    }
+    let mine = look.word(page, at + 1 + common / 8);
+    let other = words[common / 8];
+    let shift = 64 - 8 * rest;
+    let mine_first = mine >> shift;
+    let other_first = other >> shift;
+    if mine_first != other_first {
+        return mine_first.cmp(&other_first);
+    }
+    len.cmp(&key.len())
+}
+
+/// The lesser of two numbers.
+fn least_of(a: usize, b: usize) -> usize
+    ensures at_most { (result ≤ a) × (result ≤ b) }
+    ensures one { (result ≡ a) ⊎ (result ≡ b) }
+{
+    if a < b { a } else { b }
+}
+
+/// The first `n` bytes from a word on; the first byte is the most significant of the first word.
+pub fn load_bytes<L: Look, const N: usize>(
+    look: &mut L,
+    page: u64,
+    at: usize,
+    n: usize,
+) -> ArrayVec<u8, N>
+    requires readable { IsTrue (is_readable (L.standing look.old page)) }
+    requires in_page { at + words_for n ≤ 512 }
+    requires fits { 8 * words_for n ≤ N }
+    ensures bytes { result.items ≡ bytes_at (L.words look.old page) at n }
+    ensures len { length result.items ≡ n }
+    ensures unchanged { IsUnchanged L.kept L.standing L.words look.old look.new }
+{
+    let mut bytes = ArrayVec::new();
+    for i in 0..(n + 7) / 8 {
+        let word = look.word(page, at + i).to_be_bytes();
+        extend(&mut bytes, &word);
+    }
+    bytes.truncate(n);
+    bytes
+}
+
+/// Appends bytes for which there is room.
+pub(crate) fn extend<const N: usize>(bytes: &mut ArrayVec<u8, N>, more: &[u8])
+    requires { length bytes.old.items + length more.now ≤ N }
+    ensures items { bytes.new.items ≡ bytes.old.items ++ more.now }
+    ensures len { length bytes.new.items ≡ length bytes.old.items + length more.now }
+{
+    let _ = bytes.try_extend_from_slice(more);
+}
+
+/// The byte at a place, or 0 past the end.
+fn byte_or_zero(bytes: &[u8], i: usize) -> u8
+    ensures { result ≡ slice_index bytes.now i }
+{
+    if i < bytes.len() { bytes[i] } else { 0 }
+}
+
+/// The eight bytes from a place on, as a word.
+fn word_from(bytes: &[u8], from: usize) -> u64
+    requires { from ≤ 328 }
+    ensures { to_be_bytes w64 result ≡ map (λ k. slice_index bytes.now k) (range_with_len from 8) }
+{
+    u64::from_be_bytes([
+        byte_or_zero(bytes, from),
+        byte_or_zero(bytes, from + 1),
+        byte_or_zero(bytes, from + 2),
+        byte_or_zero(bytes, from + 3),
+        byte_or_zero(bytes, from + 4),
+        byte_or_zero(bytes, from + 5),
+        byte_or_zero(bytes, from + 6),
+        byte_or_zero(bytes, from + 7),
+    ])
+}
+
+/// Writes bytes into the words from a place on, of a page that has a word filled, eight in a word, and zeros after the
+/// last.
+pub fn store_bytes<R: Room>(room: &mut R, page: u64, at: usize, bytes: &[u8])
+    requires filled { R.standing room.old page ≡ Filled }
+    requires in_page { at + 41 ≤ 512 }
+    requires fits { length bytes.now ≤ 328 }
+    requires open { IsTrue (R.is_open (R.kept room.old)) }
+    ensures bytes { bytes_at (R.words room.new page) at (length bytes.now) ≡ bytes.now }
+    ensures only { OnlyWrites R.kept R.standing R.words page at (at + 41) room.old room.new }
+{
+    for i in 0..(bytes.len() + 7) / 8 {
+        room.fill(page, at + i, word_from(bytes, 8 * i));
+    }
+}
+
+/// Writes an item at a place, of a page that has a word filled.
+pub(crate) fn store_item<R: Room>(room: &mut R, page: u64, at: usize, item: &Item)
+    requires filled { R.standing room.old page ≡ Filled }
+    requires in_page { at + 42 ≤ 512 }
+    requires key_fits { length item.now.key ≤ 264 }
+    requires open { IsTrue (R.is_open (R.kept room.old)) }
+    ensures item { item_at (R.words room.new page) at ≡ item.now }
+    ensures fits { IsItem (R.words room.new page) at }
+    ensures only { OnlyWrites R.kept R.standing R.words page at (at + 42) room.old room.new }
+{
+    let bytes = item.bytes();
+    let key_len = item.key_len();
+    room.fill(
+        page,
+        at,
+        ((key_len as u64) << 32) + (bytes.len() - key_len) as u64,
+    );
+    store_bytes(room, page, at + 1, bytes);
+}
+
+/// Copies the words of an item of another page to a place of a page that has a word filled.
+fn copy_item<R: Room>(room: &mut R, page: u64, at: usize, from: u64, place: usize)
+    requires filled { R.standing room.old page ≡ Filled }
+    requires in_page { at + 42 ≤ 512 }
+    requires readable { IsTrue (is_readable (R.standing room.old from)) }
+    requires beside { from ≢ page }
+    requires place { place + 42 ≤ 512 }
+    requires item { IsItem (R.words room.old from) place }
+    requires open { IsTrue (R.is_open (R.kept room.old)) }
+    ensures item { item_at (R.words room.new page) at ≡ item_at (R.words room.old from) place }
+    ensures fits { IsItem (R.words room.new page) at }
+    ensures only { OnlyWrites R.kept R.standing R.words page at (at + 42) room.old room.new }
+{
+    let header = room.word(from, place);
+    room.fill(page, at, header);
+    let n = ((header >> 32) + header % (1 << 32)) as usize;
+    for i in 0..(n + 7) / 8 {
+        let word = room.word(from, place + 1 + i);
+        room.fill(page, at + 1 + i, word);
+    }
+}
+
+/// Writes the branch to another page at a place of a page that has a word filled.
+fn store_branch<R: Room>(room: &mut R, page: u64, at: usize, child: u64)
+    requires filled { R.standing room.old page ≡ Filled }
+    requires in_page { at + 42 ≤ 512 }
+    requires readable { IsTrue (is_readable (R.standing room.old child)) }
+    requires beside { child ≢ page }
+    requires item { IsItem (R.words room.old child) 2 }
+    requires open { IsTrue (R.is_open (R.kept room.old)) }
+    ensures item { item_at (R.words room.new page) at ≡ branch_to (R.words room.old) child }
+    ensures fits { IsItem (R.words room.new page) at }
+    ensures only { OnlyWrites R.kept R.standing R.words page at (at + 42) room.old room.new }
+{
+    let key_len = (room.word(child, 2) >> 32) as usize;
+    let mut bytes: ArrayVec<u8, 328> = load_bytes(room, child, 3, key_len);
+    extend(&mut bytes, &child.to_be_bytes());
+    room.fill(page, at, ((key_len as u64) << 32) + 8);
+    store_bytes(room, page, at + 1, &bytes);
+}
+
+/// Writes the item of a slot at a place of a page that has a word filled.
+fn store_slot<R: Room>(room: &mut R, page: u64, at: usize, slot: Slot, pair: &Item)
+    requires filled { R.standing room.old page ≡ Filled }
+    requires in_page { at + 42 ≤ 512 }
+    requires ready { IsReady (R.standing room.old) (R.words room.old) slot }
+    requires beside { IsBeside page slot }
+    requires key_fits { length pair.now.key ≤ 264 }
+    requires open { IsTrue (R.is_open (R.kept room.old)) }
+    ensures item { item_at (R.words room.new page) at ≡ pair_of (R.words room.old) pair.now slot }
+    ensures fits { IsItem (R.words room.new page) at }
+    ensures only { OnlyWrites R.kept R.standing R.words page at (at + 42) room.old room.new }
+{
+    match slot {
+        Slot::At(from, place) => copy_item(room, page, at, from, place),
+        Slot::Branch(child) => store_branch(room, page, at, child),
+        Slot::New => store_item(room, page, at, pair),
+    }
+}
+
+/// The slots of a page's items.
+pub(crate) fn slots_of<L: Look>(look: &mut L, page: u64) -> ArrayVec<Slot, 24>
+    requires readable { IsTrue (is_readable (L.standing look.old page)) }
+    requires page { IsPage (L.words look.old page) }
+    ensures slots { result.items ≡ map (λ j. At page (place_of j)) (range_with_len 0 (L.words look.old page 1)) }
+    ensures unchanged { IsUnchanged L.kept L.standing L.words look.old look.new }
+{
+    let count = look.word(page, 1) as usize;
+    let mut slots: ArrayVec<Slot, 24> = ArrayVec::new();
+    for j in 0..count {
+        slots.push(Slot::At(page, 2 + 42 * j));
+    }
+    slots
+}
+
+/// Writes a node to a page that was taken.
+pub(crate) fn store_node<R: Room>(room: &mut R, page: u64, level: u64, slots: &[Slot], pair: &Item)
+    requires taken { IsTrue (is_taken (R.standing room.old page)) }
+    requires few { length slots.now ≤ 12 }
+    requires ready { All (IsReady (R.standing room.old) (R.words room.old)) slots.now }
+    requires beside { All (IsBeside page) slots.now }
+    requires key_fits { length pair.now.key ≤ 264 }
+    requires open { IsTrue (R.is_open (R.kept room.old)) }
+    ensures level { level_of (R.words room.new page) ≡ level }
+    ensures items { items_of (R.words room.new page) ≡ pairs_of (R.words room.old) pair.now slots.now }
+    ensures page { IsPage (R.words room.new page) }
+    ensures standing { StandsAt (R.standing room.old) (R.standing room.new) page Filled }
+    ensures others { (q : ℕ) → q ≢ page → R.words room.new q ≡ R.words room.old q }
+    ensures kept { R.kept room.new ≡ R.kept room.old }
+{
+    room.fill(page, 0, level);
+    room.fill(page, 1, slots.len() as u64);
+    for j in 0..slots.len() {
+        store_slot(room, page, 2 + 42 * j, slots[j], pair);
+    }
+}

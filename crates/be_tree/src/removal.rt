@@ -1,0 +1,252 @@
+//! A key is taken out of a tree.
+//!
+//! # Neighbours
+//! The page that loses an item is written anew together with a neighbour under the same parent, the next one where
+//! there is one: the items of both go into one page where they fit, else into two. So no page is left under-full, and
+//! pages that were thin are joined. A removal writes two pages a level at most.
+ghost use Rattle.std.specs.Prelude.{◌≡◌, ℕ, suc, ◌+◌, ◌-◌, ◌^◌, ◌<◌, ◌≤◌, [], ◌∷◌, ◌++◌, length, take, drop, All, IfOk, OnErr, IfErr, IsTrue, None, Ok};
+ghost use Rattle.be_pages.specs.Pages.{IsUnchanged, is_readable, Swaps, KeepsStart};
+ghost use Rattle.be_pages.specs.Refusal.{IsFullOf};
+ghost use Rattle.be_tree.specs.Key.{IsPrepared, payload_at, without};
+ghost use Rattle.be_tree.specs.Page.{IsItem, IsPage, item_at, items_of, place_of};
+ghost use Rattle.be_tree.specs.Pair.{Pair};
+ghost use Rattle.be_tree.specs.Slot.{IsReady, pair_of, pairs_of};
+ghost use Rattle.be_tree.specs.Tree.{AreNeighbours, Becomes, BecomesTree, IsBelow, IsTree, IsTreeAt, child, least_of_root, pages, pages_below, pairs, pairs_at, pairs_below};
+
+use crate::edit::{insert_all, pack_two, write_root};
+use crate::item::Item;
+use crate::lookup::{has_key, rank};
+use crate::page::{child_at, cmp_at, key_words, slots_of};
+use crate::slot::Slot;
+use arrayvec::ArrayVec;
+use be_pages::{Look, Room};
+use be_value::Refusal;
+
+/// Takes a key out of a tree, and gives the new root. An absent key gives the same root and takes no page. After an
+/// error the tree stands again once the room is undone.
+pub fn remove<R: Room>(room: &mut R, root: u64, key: &[u8]) -> Result<u64, Refusal>
+    requires tree { IsTree (R.standing room.old) (R.words room.old) root }
+    requires open { IsTrue (R.is_open (R.kept room.old)) }
+    ensures ok { IfOk result (λ new. BecomesTree R.kept R.standing R.words (pages (R.words room.old) root)
+        (without key.now (pairs (R.words room.old) root)) new room.old room.new) }
+    ensures absent { payload_at (pairs (R.words room.old) root) key.now ≡ None → result ≡ Ok root }
+    ensures still { payload_at (pairs (R.words room.old) root) key.now ≡ None → IsUnchanged R.kept R.standing R.words room.old room.new }
+    ensures err { OnErr result (KeepsStart R.kept R.standing R.words room.old room.new) }
+    ensures full { IfErr result (IsFullOf (R.full room.new)) }
+{
+    if !has_key(room, root, key) {
+        return Ok(root);
+    }
+    let pair = Item::new(&[], &[]);
+    let words = key_words(key);
+    let page = root - 1;
+    let level = room.word(page, 0);
+    let slots = remove_at(room, level, page, key, &words, &pair)?;
+    let new = write_rest(room, level, &slots, &pair)?;
+    room.give_up(page);
+    Ok(new)
+}
+
+/// Writes what is left of a root as a tree, and gives its root: none where nothing is left, and the page of the one
+/// branch that is left of an inner root.
+fn write_rest<R: Room>(
+    room: &mut R,
+    level: u64,
+    slots: &[Slot],
+    pair: &Item,
+) -> Result<u64, Refusal>
+    requires below { IsBelow level (R.standing room.old) (R.words room.old) (pairs_of (R.words room.old) pair.now slots.now) }
+    requires ready { All (IsReady (R.standing room.old) (R.words room.old)) slots.now }
+    requires few { length slots.now ≤ 18 }
+    requires low { level < 2 ^ 32 }
+    requires key_fits { length pair.now.key ≤ 264 }
+    requires open { IsTrue (R.is_open (R.kept room.old)) }
+    ensures ok { IfOk result (λ root. BecomesTree R.kept R.standing R.words (pages_below level (R.words room.old) (pairs_of (R.words room.old) pair.now slots.now)) (pairs_below level (R.words room.old) (pairs_of (R.words room.old) pair.now slots.now)) root room.old room.new) }
+    ensures err { OnErr result (KeepsStart R.kept R.standing R.words room.old room.new) }
+    ensures full { IfErr result (IsFullOf (R.full room.new)) }
+{
+    if slots.len() == 0 {
+        return Ok(0);
+    }
+    if level > 0 && slots.len() == 1 {
+        return Ok(child_of(room, slots[0], pair) + 1);
+    }
+    let root = write_root(room, level, slots, pair)?;
+    Ok(root)
+}
+
+/// The page that a slot's branch names.
+fn child_of<L: Look>(look: &mut L, slot: Slot, pair: &Item) -> u64
+    requires ready { IsReady (L.standing look.old) (L.words look.old) slot }
+    requires names_page { length (pair_of (L.words look.old) pair.now slot).payload ≡ 8 }
+    ensures child { result ≡ child (pair_of (L.words look.old) pair.now slot) }
+    ensures unchanged { IsUnchanged L.kept L.standing L.words look.old look.new }
+{
+    match slot {
+        Slot::At(page, place) => child_at(look, page, place),
+        Slot::Branch(page) => page,
+        Slot::New => pair.child(),
+    }
+}
+
+/// The slots of a leaf's items but the one at a number, if that has the key.
+fn slots_without<L: Look>(
+    look: &mut L,
+    page: u64,
+    at: usize,
+    key: &[u8],
+    words: &[u64],
+) -> ArrayVec<Slot, 24>
+    requires readable { IsTrue (is_readable (L.standing look.old page)) }
+    requires page { IsPage (L.words look.old page) }
+    requires in_page { at < L.words look.old page 1 }
+    requires prepared { IsPrepared words.now key.now }
+    ensures items { (given : Pair) → pairs_of (L.words look.old) given result.items
+        ≡ take at (items_of (L.words look.old page)) ++ (without key.now (item_at (L.words look.old page) (place_of at) ∷ []) ++ drop (suc at) (items_of (L.words look.old page))) }
+    ensures ready { All (IsReady (L.standing look.old) (L.words look.old)) result.items }
+    ensures some { (L.words look.old page 1 ≤ length result.items + 1) × (length result.items ≤ 12) }
+    ensures unchanged { IsUnchanged L.kept L.standing L.words look.old look.new }
+{
+    let mut slots = slots_of(look, page);
+    if cmp_at(look, page, 2 + 42 * at, key, words).is_eq() {
+        slots.remove(at);
+    }
+    slots
+}
+
+/// The slots of a node's items, with others in the place of two neighbours.
+fn slots_with<L: Look>(
+    look: &mut L,
+    page: u64,
+    at: usize,
+    two: ArrayVec<Slot, 2>,
+) -> ArrayVec<Slot, 24>
+    requires readable { IsTrue (is_readable (L.standing look.old page)) }
+    requires page { IsPage (L.words look.old page) }
+    requires in_page { at + 2 ≤ L.words look.old page 1 }
+    requires ready { All (IsReady (L.standing look.old) (L.words look.old)) two.items }
+    ensures items { (given : Pair) → pairs_of (L.words look.old) given result.items
+        ≡ take at (items_of (L.words look.old page)) ++ (pairs_of (L.words look.old) given two.items ++ drop (at + 2) (items_of (L.words look.old page))) }
+    ensures ready { All (IsReady (L.standing look.old) (L.words look.old)) result.items }
+    ensures len { length result.items + 2 ≡ L.words look.old page 1 + length two.items }
+    ensures unchanged { IsUnchanged L.kept L.standing L.words look.old look.new }
+{
+    let mut slots = slots_of(look, page);
+    slots.remove(at);
+    slots.remove(at);
+    insert_all(&mut slots, at, two);
+    slots
+}
+
+/// How many items a page has.
+fn count_of<L: Look>(look: &mut L, page: u64) -> usize
+    requires readable { IsTrue (is_readable (L.standing look.old page)) }
+    requires page { IsPage (L.words look.old page) }
+    ensures count { result ≡ L.words look.old page 1 }
+    ensures unchanged { IsUnchanged L.kept L.standing L.words look.old look.new }
+{
+    look.word(page, 1) as usize
+}
+
+/// Appends slots.
+fn append(slots: &mut ArrayVec<Slot, 24>, more: &[Slot])
+    requires { length slots.old.items + length more.now ≤ 24 }
+    ensures { slots.new.items ≡ slots.old.items ++ more.now }
+{
+    let _ = slots.try_extend_from_slice(more);
+}
+
+/// Takes a key out below a page, and gives the page's items without it, still to be written. The page is not given up
+/// yet, since some of them stand there.
+#[cycle(removal)]
+fn remove_at<R: Room>(
+    room: &mut R,
+    level: u64,
+    page: u64,
+    key: &[u8],
+    words: &[u64],
+    pair: &Item,
+) -> Result<ArrayVec<Slot, 24>, Refusal>
+    requires tree { IsTreeAt level (least_of_root level) (R.standing room.old) (R.words room.old) page }
+    requires key_fits { length pair.now.key ≤ 264 }
+    requires prepared { IsPrepared words.now key.now }
+    requires open { IsTrue (R.is_open (R.kept room.old)) }
+    ensures ok { IfOk result (λ slots. Becomes R.kept R.standing R.words (pages_below level (R.words room.old) (items_of (R.words room.old page))) (without key.now (pairs_at level (R.words room.old) page)) level (pairs_of (R.words room.new) pair.now slots.items) room.old room.new) }
+    ensures ready { IfOk result (λ slots. All (IsReady (R.standing room.new) (R.words room.new)) slots.items) }
+    ensures some { IfOk result (λ slots. (length (items_of (R.words room.old page)) ≤ length slots.items + 1) × (length slots.items ≤ 12)) }
+    ensures err { OnErr result (KeepsStart R.kept R.standing R.words room.old room.new) }
+    ensures full { IfErr result (IsFullOf (R.full room.new)) }
+{
+    let at = rank(room, page, key, words).saturating_sub(1);
+    if level == 0 {
+        return Ok(slots_without(room, page, at, key, words));
+    }
+    let count = count_of(room, page);
+    let here = child_at(room, page, 2 + 42 * at);
+    if at + 1 < count {
+        let next = child_at(room, page, 2 + 42 * (at + 1));
+        let two = remove_left(room, level - 1, here, next, key, words, pair)?;
+        return Ok(slots_with(room, page, at, two));
+    }
+    let before = child_at(room, page, 2 + 42 * (at - 1));
+    let two = remove_right(room, level - 1, before, here, key, words, pair)?;
+    Ok(slots_with(room, page, at - 1, two))
+}
+
+/// Takes a key out below the first of two neighbours, and writes both anew.
+#[cycle(removal)]
+fn remove_left<R: Room>(
+    room: &mut R,
+    level: u64,
+    left: u64,
+    right: u64,
+    key: &[u8],
+    words: &[u64],
+    pair: &Item,
+) -> Result<ArrayVec<Slot, 2>, Refusal>
+    requires neighbours { AreNeighbours level (R.standing room.old) (R.words room.old) left right }
+    requires key_fits { length pair.now.key ≤ 264 }
+    requires prepared { IsPrepared words.now key.now }
+    requires open { IsTrue (R.is_open (R.kept room.old)) }
+    ensures ok { IfOk result (λ slots. Becomes R.kept R.standing R.words (left ∷ right ∷ pages_below level (R.words room.old) (items_of (R.words room.old left) ++ items_of (R.words room.old right)))
+        (without key.now (pairs_at level (R.words room.old) left) ++ pairs_at level (R.words room.old) right) (suc level) (pairs_of (R.words room.new) pair.now slots.items) room.old room.new) }
+    ensures ready { IfOk result (λ slots. All (IsReady (R.standing room.new) (R.words room.new)) slots.items) }
+    ensures some { IfOk result (λ slots. (0 < length slots.items) × (length slots.items ≤ 2)) }
+    ensures err { OnErr result (KeepsStart R.kept R.standing R.words room.old room.new) }
+    ensures full { IfErr result (IsFullOf (R.full room.new)) }
+{
+    let mut slots = remove_at(room, level, left, key, words, pair)?;
+    let others = slots_of(room, right);
+    append(&mut slots, &others);
+    let branches = pack_two(room, level, left, right, &slots, pair)?;
+    Ok(branches)
+}
+
+/// Takes a key out below the second of two neighbours, and writes both anew.
+#[cycle(removal)]
+fn remove_right<R: Room>(
+    room: &mut R,
+    level: u64,
+    left: u64,
+    right: u64,
+    key: &[u8],
+    words: &[u64],
+    pair: &Item,
+) -> Result<ArrayVec<Slot, 2>, Refusal>
+    requires neighbours { AreNeighbours level (R.standing room.old) (R.words room.old) left right }
+    requires key_fits { length pair.now.key ≤ 264 }
+    requires prepared { IsPrepared words.now key.now }
+    requires open { IsTrue (R.is_open (R.kept room.old)) }
+    ensures ok { IfOk result (λ slots. Becomes R.kept R.standing R.words (left ∷ right ∷ pages_below level (R.words room.old) (items_of (R.words room.old left) ++ items_of (R.words room.old right)))
+        (pairs_at level (R.words room.old) left ++ without key.now (pairs_at level (R.words room.old) right)) (suc level) (pairs_of (R.words room.new) pair.now slots.items) room.old room.new) }
+    ensures ready { IfOk result (λ slots. All (IsReady (R.standing room.new) (R.words room.new)) slots.items) }
+    ensures some { IfOk result (λ slots. (0 < length slots.items) × (length slots.items ≤ 2)) }
+    ensures err { OnErr result (KeepsStart R.kept R.standing R.words room.old room.new) }
+    ensures full { IfErr result (IsFullOf (R.full room.new)) }
+{
+    let less = remove_at(room, level, right, key, words, pair)?;
+    let mut slots = slots_of(room, left);
+    append(&mut slots, &less);
+    let branches = pack_two(room, level, left, right, &slots, pair)?;
+    Ok(branches)
+}

@@ -1,0 +1,90 @@
+//! The least pair of a tree from a key on.
+//!
+//! A tree is a sorted list of pairs, so what stands at or after a key is a tail of the list, and its first pair is the
+//! least. One descent finds where that tail begins: at each inner page it takes the last branch whose key isn't above the
+//! key that is sought, and in the leaf a binary search ends it.
+ghost use Rattle.std.specs.Prelude.{◌≡◌, ◌+◌, ◌≤◌, IsTrue, length, option_map};
+ghost use Rattle.be_pages.specs.Pages.{IsUnchanged, is_readable};
+ghost use Rattle.be_tree.specs.Page.{IsItem, item_at};
+ghost use Rattle.be_tree.specs.Range.{first_from, pair_in};
+ghost use Rattle.be_tree.specs.Tree.{IsTree, pairs};
+
+use crate::cursor::Cursor;
+use crate::page::load_bytes;
+use arrayvec::ArrayVec;
+use be_pages::Look;
+
+/// A pair of a tree, read from its page.
+#[derive(Drop)]
+pub struct TreeItem {
+    /// At most 264 bytes.
+    pub key: ArrayVec<u8, 264>,
+    /// With the key at most 328 bytes.
+    pub payload: ArrayVec<u8, 328>,
+}
+
+/// The least pair whose key is at or after `from`; with `after` set, strictly after it. It costs one descent, and one
+/// more to the next leaf where the leaf that was found has no such pair.
+pub fn range<L: Look>(look: &mut L, root: u64, from: &[u8], after: bool) -> Option<TreeItem>
+    requires tree { IsTree (L.standing look.old) (L.words look.old) root }
+    ensures item { option_map pair_in result ≡ first_from (pairs (L.words look.old) root) from.now after }
+    ensures unchanged { IsUnchanged L.kept L.standing L.words look.old look.new }
+{
+    let mut cursor = Cursor::seek(look, root, from, after);
+    cursor.next(look)
+}
+
+/// The pair at a place of a page.
+pub(crate) fn load_pair<L: Look>(look: &mut L, page: u64, at: usize) -> TreeItem
+    requires readable { IsTrue (is_readable (L.standing look.old page)) }
+    requires in_page { at + 42 ≤ 512 }
+    requires item { IsItem (L.words look.old page) at }
+    ensures pair { pair_in result ≡ item_at (L.words look.old page) at }
+    ensures unchanged { IsUnchanged L.kept L.standing L.words look.old look.new }
+{
+    let key = load_key(look, page, at);
+    let payload = load_payload(look, page, at);
+    TreeItem { key, payload }
+}
+
+/// The key at a place of a page.
+pub(crate) fn load_key<L: Look>(look: &mut L, page: u64, at: usize) -> ArrayVec<u8, 264>
+    requires readable { IsTrue (is_readable (L.standing look.old page)) }
+    requires in_page { at + 42 ≤ 512 }
+    requires item { IsItem (L.words look.old page) at }
+    ensures key { result.items ≡ (item_at (L.words look.old page) at).key }
+    ensures unchanged { IsUnchanged L.kept L.standing L.words look.old look.new }
+{
+    let key_len = (look.word(page, at) >> 32) as usize;
+    load_bytes(look, page, at + 1, key_len)
+}
+
+/// The payload at a place of a page.
+pub(crate) fn load_payload<L: Look>(look: &mut L, page: u64, at: usize) -> ArrayVec<u8, 328>
+    requires readable { IsTrue (is_readable (L.standing look.old page)) }
+    requires in_page { at + 42 ≤ 512 }
+    requires item { IsItem (L.words look.old page) at }
+    ensures payload { result.items ≡ (item_at (L.words look.old page) at).payload }
+    ensures unchanged { IsUnchanged L.kept L.standing L.words look.old look.new }
+{
+    let header = look.word(page, at);
+    let key_len = (header >> 32) as usize;
+    let skip = key_len % 8;
+    let bytes: ArrayVec<u8, 328> = load_bytes(
+        look,
+        page,
+        at + 1 + key_len / 8,
+        skip + (header % (1 << 32)) as usize,
+    );
+    copy_of(&bytes[skip..])
+}
+
+/// The same bytes in a vector of their own.
+fn copy_of<const N: usize>(bytes: &[u8]) -> ArrayVec<u8, N>
+    requires { length bytes.now ≤ N }
+    ensures { result.items ≡ bytes.now }
+{
+    let mut copy = ArrayVec::new();
+    let _ = copy.try_extend_from_slice(bytes);
+    copy
+}

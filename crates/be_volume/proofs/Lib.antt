@@ -1,0 +1,5 @@
+pub mod FactLemmas
+pub mod KeyLemmas
+pub mod MapLemmas
+pub mod Soundness
+pub mod StepLemmas

@@ -1,0 +1,10 @@
+pub mod Ahead
+pub mod Coded
+pub mod Indices
+pub mod Keys
+pub mod Maps
+pub mod PairKeys
+pub mod Query
+pub mod Reading
+pub mod Sound
+pub mod Volume

@@ -1,0 +1,37 @@
+-- The keys of the pairs of an index, in the order of their bytes.
+use Rattle.std.specs.Prelude.{◌≡◌, ◌<◌, ◌≤◌, ◌^◌, ℕ, Bool, true, false, not, List, length, Some, None, if◌then◌else◌}
+use Rattle.std.specs.Ordering.{nat_cmp, is_lt, is_gt}
+use Rattle.std.specs.FinMap as map
+use Rattle.std.specs.declared.option.Option.{Option}
+use Rattle.be_value.specs.Key.{key}
+use Rattle.be_value.specs.Value.{kind_of, is_indexable}
+use Rattle.be_value.specs.declared.values.Value.{Value}
+use Rattle.be_volume.specs.Maps.{name_cmp}
+
+-- k stands at `from` or after it; strictly after it where `after` is true. Keys are ordered by their bytes.
+abbrev pub is_from : List ℕ → Bool → List ℕ → Bool
+is_from from after k = if after then is_gt (name_cmp k from) else not (is_lt (name_cmp k from))
+
+-- the answer is the least of the keys from there on, or none where there is none
+abbrev pub IsNext : (List ℕ → Type 0) → List ℕ → Bool → Option (List ℕ) → Type 0
+IsNext Is from after None = (k : List ℕ) → Is k → is_from from after k ≡ false
+IsNext Is from after (Some next) =
+    Is next × (is_from from after next ≡ true) × ((k : List ℕ) → Is k → is_from from after k ≡ true → is_lt (name_cmp k next) ≡ false)
+
+-- the key of a pair, none where the value can't stand in an index
+abbrev pub own_key : Value → ℕ → Option (List ℕ)
+own_key value node = if is_indexable (kind_of value) then Some (key value node) else None
+
+-- k is the key of one of these pairs
+pub record IsKeyOf (pairs : map.FinMap nat_cmp Value) (k : List ℕ) : Type 0 where
+  pub node : ℕ
+  pub value : Value
+  pub paired : map.get pairs node ≡ Some value
+  pub is : own_key value node ≡ Some k
+
+-- the keys kept beside pairs are theirs, and no others
+pub record AreKeysOf (pairs : map.FinMap nat_cmp Value) (has : List ℕ → Bool) : Type 0 where
+  pub fits : (node : ℕ) (value : Value) → map.get pairs node ≡ Some value → node < 2 ^ 64
+  pub each : (k : List ℕ) → IsKeyOf pairs k → has k ≡ true
+  pub only : (k : List ℕ) → has k ≡ true → IsKeyOf pairs k
+  pub short : (k : List ℕ) → has k ≡ true → length k ≤ 264

@@ -1,0 +1,324 @@
+//! The refusal of a list of operations, found ahead from the list and the facts of the old volume.
+//!
+//! Whether an operation is refused may rest on what the operations before it do. Each fact is asked of the old volume and
+//! then carried through those operations, so nothing is copied and no memory is taken. A list of n costs n steps a fact,
+//! and n times n for the count of attributes, which is asked for a new name alone.
+ghost use Rattle.std.specs.Prelude.{◌≡◌, ◌≤◌, ◌<◌, ◌+◌, ◌^◌, IsOk, length};
+ghost use Rattle.std.specs.Result.{result_err};
+ghost use Rattle.std.specs.FinMap as map;
+ghost use Rattle.be_volume.specs.Maps.{attributes_of};
+ghost use Rattle.be_volume.specs.Volume.{State, step, steps};
+ghost use Rattle.be_volume.specs.declared.ops.Op.TheVariants as ops;
+ghost use Rattle.be_volume.specs.Ahead.{after, next_after, node_after, attribute_after, count_after, index_after, indices_after, IsThere};
+
+use crate::{Facts, Op};
+use be_value::{Kind, Name, Refusal, Value};
+
+const MAX_ATTRIBUTES: usize = 64;
+
+const MAX_INDICES: usize = 32;
+
+/// The refusal, 2 to 8, of the first operation of the list that is refused, or none where all are accepted. It takes no
+/// memory and changes nothing: a caller asks it before the first change.
+pub fn first_refusal<F: Facts>(facts: &mut F, ops: &[Op]) -> Option<Refusal>
+    ghost volume: { State }
+    requires answers { F.answers_for facts.old volume }
+    requires fits { volume.next + length ops.now < 2 ^ 64 }
+    ensures answer { result ≡ result_err (steps volume ops.now) }
+    ensures stays { F.kept facts.new ≡ F.kept facts.old }
+    ensures answers { F.answers_for facts.new volume }
+{
+    for (i, op) in ops.iter().enumerate() {
+        if let Some(refusal) = refusal_after(facts, &ops[..i], op) {
+            return Some(refusal);
+        }
+    }
+    None
+}
+
+/// Why the operation is refused after those before it.
+fn refusal_after<F: Facts>(facts: &mut F, before: &[Op], op: &Op) -> Option<Refusal>
+    ghost volume: { State }
+    requires answers { F.answers_for facts.old volume }
+    requires accepted { IsOk (steps volume before.now) }
+    requires fits { volume.next + length before.now < 2 ^ 64 }
+    ensures answer { result ≡ result_err (step (after volume before.now) op.now) }
+    ensures stays { F.kept facts.new ≡ F.kept facts.old }
+    ensures answers { F.answers_for facts.new volume }
+{
+    match op {
+        Op::New => None,
+        Op::Drop(node) => drop_refusal(facts, before, *node),
+        Op::Set(node, name, value) => set_refusal(facts, before, *node, name, value),
+        Op::Unset(node, name) => unset_refusal(facts, before, *node, name),
+        Op::MkIndex(name, kind) => make_refusal(facts, before, name, *kind),
+        Op::RmIndex(name) => remove_refusal(facts, before, name),
+    }
+}
+
+fn drop_refusal<F: Facts>(facts: &mut F, before: &[Op], node: u64) -> Option<Refusal>
+    ghost volume: { State }
+    requires answers { F.answers_for facts.old volume }
+    requires accepted { IsOk (steps volume before.now) }
+    requires fits { volume.next + length before.now < 2 ^ 64 }
+    ensures answer { result ≡ result_err (step (after volume before.now) (ops.Drop node)) }
+    ensures stays { F.kept facts.new ≡ F.kept facts.old }
+    ensures answers { F.answers_for facts.new volume }
+{
+    if has_node(facts, before, node) {
+        None
+    } else {
+        Some(Refusal::NoNode)
+    }
+}
+
+fn set_refusal<F: Facts>(
+    facts: &mut F,
+    before: &[Op],
+    node: u64,
+    name: &Name,
+    value: &Value,
+) -> Option<Refusal>
+    ghost volume: { State }
+    requires answers { F.answers_for facts.old volume }
+    requires accepted { IsOk (steps volume before.now) }
+    requires fits { volume.next + length before.now < 2 ^ 64 }
+    ensures answer { result ≡ result_err (step (after volume before.now) (ops.Set node name.now value.now)) }
+    ensures stays { F.kept facts.new ≡ F.kept facts.old }
+    ensures answers { F.answers_for facts.new volume }
+{
+    if !has_node(facts, before, node) {
+        return Some(Refusal::NoNode);
+    }
+    if !has_attribute(facts, before, node, name)
+        && attribute_count(facts, before, node) >= MAX_ATTRIBUTES
+    {
+        return Some(Refusal::TooManyAttrs);
+    }
+    None
+}
+
+fn unset_refusal<F: Facts>(facts: &mut F, before: &[Op], node: u64, name: &Name) -> Option<Refusal>
+    ghost volume: { State }
+    requires answers { F.answers_for facts.old volume }
+    requires accepted { IsOk (steps volume before.now) }
+    requires fits { volume.next + length before.now < 2 ^ 64 }
+    ensures answer { result ≡ result_err (step (after volume before.now) (ops.Unset node name.now)) }
+    ensures stays { F.kept facts.new ≡ F.kept facts.old }
+    ensures answers { F.answers_for facts.new volume }
+{
+    if !has_node(facts, before, node) {
+        Some(Refusal::NoNode)
+    } else if !has_attribute(facts, before, node, name) {
+        Some(Refusal::NoAttr)
+    } else {
+        None
+    }
+}
+
+fn make_refusal<F: Facts>(facts: &mut F, before: &[Op], name: &Name, kind: Kind) -> Option<Refusal>
+    ghost volume: { State }
+    requires answers { F.answers_for facts.old volume }
+    requires accepted { IsOk (steps volume before.now) }
+    ensures answer { result ≡ result_err (step (after volume before.now) (ops.MkIndex name.now kind)) }
+    ensures stays { F.kept facts.new ≡ F.kept facts.old }
+    ensures answers { F.answers_for facts.new volume }
+{
+    if has_index(facts, before, name) {
+        Some(Refusal::IndexExists)
+    } else if index_count(facts, before) >= MAX_INDICES {
+        Some(Refusal::TooManyIndices)
+    } else if !kind.indexable() {
+        Some(Refusal::NotIndexable)
+    } else {
+        None
+    }
+}
+
+fn remove_refusal<F: Facts>(facts: &mut F, before: &[Op], name: &Name) -> Option<Refusal>
+    ghost volume: { State }
+    requires answers { F.answers_for facts.old volume }
+    requires accepted { IsOk (steps volume before.now) }
+    ensures answer { result ≡ result_err (step (after volume before.now) (ops.RmIndex name.now)) }
+    ensures stays { F.kept facts.new ≡ F.kept facts.old }
+    ensures answers { F.answers_for facts.new volume }
+{
+    if has_index(facts, before, name) {
+        None
+    } else {
+        Some(Refusal::NoSuchIndex)
+    }
+}
+
+/// The next number after an operation.
+fn next_after(op: &Op, next: u64) -> u64
+    requires { next + 1 < 2 ^ 64 }
+    ensures { result ≡ next_after op.now next }
+{
+    match op {
+        Op::New => next + 1,
+        _ => next,
+    }
+}
+
+/// Whether the node is there after these operations.
+fn has_node<F: Facts>(facts: &mut F, before: &[Op], node: u64) -> bool
+    ghost volume: { State }
+    requires answers { F.answers_for facts.old volume }
+    requires accepted { IsOk (steps volume before.now) }
+    requires fits { volume.next + length before.now < 2 ^ 64 }
+    ensures answer { result ≡ map.contains_key (after volume before.now).nodes node }
+    ensures stays { F.kept facts.new ≡ F.kept facts.old }
+    ensures answers { F.answers_for facts.new volume }
+{
+    let mut next = facts.next();
+    let mut there = facts.has_node(node);
+    for op in before {
+        there = node_after(op, next, there, node);
+        next = next_after(op, next);
+    }
+    there
+}
+
+fn node_after(op: &Op, next: u64, there: bool, node: u64) -> bool
+    ensures { result ≡ node_after op.now next there node }
+{
+    match op {
+        Op::New => node == next || there,
+        Op::Drop(dropped) => node != *dropped && there,
+        _ => there,
+    }
+}
+
+/// Whether the node has the attribute after these operations.
+fn has_attribute<F: Facts>(facts: &mut F, before: &[Op], node: u64, name: &Name) -> bool
+    ghost volume: { State }
+    requires answers { F.answers_for facts.old volume }
+    requires accepted { IsOk (steps volume before.now) }
+    requires fits { volume.next + length before.now < 2 ^ 64 }
+    ensures answer { result ≡ map.contains_key (attributes_of (after volume before.now).nodes node) name.now }
+    ensures stays { F.kept facts.new ≡ F.kept facts.old }
+    ensures answers { F.answers_for facts.new volume }
+{
+    let mut next = facts.next();
+    let mut there = facts.has_attribute(node, name);
+    for op in before {
+        there = attribute_after(op, next, there, node, name);
+        next = next_after(op, next);
+    }
+    there
+}
+
+fn attribute_after(op: &Op, next: u64, there: bool, node: u64, name: &Name) -> bool
+    ensures { result ≡ attribute_after op.now next there node name.now }
+{
+    match op {
+        Op::New => node != next && there,
+        Op::Drop(dropped) => node != *dropped && there,
+        Op::Set(changed, set, _) => (node == *changed && name == set) || there,
+        Op::Unset(changed, unset) => !(node == *changed && name == unset) && there,
+        _ => there,
+    }
+}
+
+/// How many attributes the node has after these operations.
+fn attribute_count<F: Facts>(facts: &mut F, before: &[Op], node: u64) -> usize
+    ghost volume: { State }
+    requires answers { F.answers_for facts.old volume }
+    requires accepted { IsOk (steps volume before.now) }
+    requires fits { volume.next + length before.now < 2 ^ 64 }
+    ensures answer { result ≡ map.len (attributes_of (after volume before.now).nodes node) }
+    ensures stays { F.kept facts.new ≡ F.kept facts.old }
+    ensures answers { F.answers_for facts.new volume }
+{
+    let mut next = facts.next();
+    let mut count = facts.attribute_count(node);
+    for (i, op) in before.iter().enumerate() {
+        let has = sets_again(facts, &before[..i], op);
+        count = count_after(op, next, count, node, has);
+        next = next_after(op, next);
+    }
+    count
+}
+
+/// Whether the operation sets an attribute that is there.
+fn sets_again<F: Facts>(facts: &mut F, before: &[Op], op: &Op) -> bool
+    ghost volume: { State }
+    requires answers { F.answers_for facts.old volume }
+    requires accepted { IsOk (steps volume before.now) }
+    requires fits { volume.next + length before.now < 2 ^ 64 }
+    ensures answer { IsThere (after volume before.now) op.now result }
+    ensures stays { F.kept facts.new ≡ F.kept facts.old }
+    ensures answers { F.answers_for facts.new volume }
+{
+    match op {
+        Op::Set(node, name, _) => has_attribute(facts, before, *node, name),
+        _ => false,
+    }
+}
+
+fn count_after(op: &Op, next: u64, count: usize, node: u64, has: bool) -> usize
+    requires { count_after op.now next count node has < 2 ^ 64 }
+    ensures { result ≡ count_after op.now next count node has }
+{
+    match op {
+        Op::New if node == next => 0,
+        Op::Drop(dropped) if node == *dropped => 0,
+        Op::Set(changed, _, _) if node == *changed && !has => count + 1,
+        Op::Unset(changed, _) if node == *changed => count.saturating_sub(1),
+        _ => count,
+    }
+}
+
+/// Whether there is an index of the name after these operations.
+fn has_index<F: Facts>(facts: &mut F, before: &[Op], name: &Name) -> bool
+    ghost volume: { State }
+    requires answers { F.answers_for facts.old volume }
+    requires accepted { IsOk (steps volume before.now) }
+    ensures answer { result ≡ map.contains_key (after volume before.now).indices name.now }
+    ensures stays { F.kept facts.new ≡ F.kept facts.old }
+    ensures answers { F.answers_for facts.new volume }
+{
+    let mut there = facts.has_index(name);
+    for op in before {
+        there = index_after(op, there, name);
+    }
+    there
+}
+
+fn index_after(op: &Op, there: bool, name: &Name) -> bool
+    ensures { result ≡ index_after op.now there name.now }
+{
+    match op {
+        Op::MkIndex(made, _) => name == made || there,
+        Op::RmIndex(removed) => name != removed && there,
+        _ => there,
+    }
+}
+
+/// How many indices there are after these operations.
+fn index_count<F: Facts>(facts: &mut F, before: &[Op]) -> usize
+    ghost volume: { State }
+    requires answers { F.answers_for facts.old volume }
+    requires accepted { IsOk (steps volume before.now) }
+    ensures answer { result ≡ map.len (after volume before.now).indices }
+    ensures stays { F.kept facts.new ≡ F.kept facts.old }
+    ensures answers { F.answers_for facts.new volume }
+{
+    let mut count = facts.index_count();
+    for op in before {
+        count = indices_after(op, count);
+    }
+    count
+}
+
+fn indices_after(op: &Op, count: usize) -> usize
+    requires { indices_after op.now count < 2 ^ 64 }
+    ensures { result ≡ indices_after op.now count }
+{
+    match op {
+        Op::MkIndex(_, _) => count + 1,
+        Op::RmIndex(_) => count.saturating_sub(1),
+        _ => count,
+    }
+}

@@ -1,0 +1,26 @@
+//! The plain volume: nodes with attributes, and indices that lead from values back to nodes.
+//!
+//! This is the sequential object with which everything else is compared: one thread, ordered maps, every call equal to
+//! its definition. A store over pages gives the same answers, and a journal is legal where this volume answers so.
+#![tactic(auto)]
+
+mod ahead;
+mod contents;
+mod each;
+mod facts;
+mod keys;
+mod laws;
+mod maps;
+mod ops;
+mod pairs;
+mod queries;
+#[cfg(test)]
+mod tests;
+mod volumes;
+
+pub use ahead::first_refusal;
+pub use facts::Facts;
+pub use laws::sound_steps;
+pub use ops::{Done, Op};
+pub use queries::{holds, literal_number};
+pub use volumes::Volume;

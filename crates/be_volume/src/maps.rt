@@ -1,0 +1,335 @@
+//! The maps that a volume keeps, each seen as a finite map.
+//!
+//! Each wrapper has one exact clause a call, so that above this file nothing speaks of the trees that the maps are kept in.
+ghost use Rattle.std.specs.Prelude.{◌≡◌, IsSome, IsOk, IfOk, OnOk, OnErr, IsTrue};
+ghost use Rattle.std.specs.Prelude.{map as each};
+ghost use Rattle.std.specs.Option.{option_copied};
+ghost use Rattle.std.specs.FinMap as map;
+ghost use Rattle.std.specs.BTreeMap as tree;
+ghost use Rattle.std.specs.Ordering.{nat_cmp};
+ghost use Rattle.be_volume.specs.Maps.{attributes_of, with_attribute, name_cmp};
+
+use crate::each::unpair_each;
+use crate::pairs::Pairs;
+use be_value::{Kind, Name, Value};
+use std::alloc::{AllocError, Global};
+use std::collections::BTreeMap;
+use std::marker::Model;
+
+/// The attributes of a node.
+#[derive(Drop)]
+pub struct Attributes {
+    values: BTreeMap<Name, Value>,
+}
+
+impl Model for Attributes {
+    ghost use Rattle.std.specs.FinMap as map;
+    ghost use Rattle.be_volume.specs.Maps as maps;
+
+    ghost Value = { maps.Attributes };
+
+    ghost coded = { maps.coded_attributes };
+
+    ghost view = { λ a. map.from_entries a.values.entries };
+}
+
+impl Attributes {
+    pub fn new(alloc: Global) -> Attributes
+        ensures { result ≡ map.empty }
+    {
+        Attributes {
+            values: BTreeMap::new(alloc),
+        }
+    }
+
+    pub fn len(&self) -> usize
+        ensures { result ≡ map.len self.now }
+    {
+        self.values.len()
+    }
+
+    pub fn get(&self, name: &Name) -> Option<&Value>
+        ensures { option_copied result ≡ map.get self.now name.now }
+    {
+        self.values.get(name)
+    }
+
+    pub fn insert(&mut self, name: Name, value: Value) -> Result<(), AllocError>
+        ensures { OnOk result (self.new ≡ map.insert self.old name value) }
+    {
+        self.values.insert(name, value)?;
+        Ok(())
+    }
+
+    pub fn remove(&mut self, name: &Name)
+        ensures { self.new ≡ map.remove self.old name.now }
+    {
+        self.values.remove(name);
+    }
+
+    /// The attributes, by ascending names.
+    pub fn list(&self, alloc: Global) -> Result<Vec<(Name, Value)>, AllocError>
+        ensures { IfOk result (λ list. list.items ≡ map.entries self.now) }
+    {
+        attributes_in(alloc, &self.values)
+    }
+}
+
+fn attributes_in(
+    alloc: Global,
+    values: &BTreeMap<Name, Value>,
+) -> Result<Vec<(Name, Value)>, AllocError>
+    ensures list { IfOk result (λ list. list.items ≡ each (λ e. (e.0, e.1)) values.now.entries) }
+    ensures ordered { tree.IsOrdered name_cmp values.now }
+{
+    values
+        .iter()
+        .map(|(name, value)| (name.copy(), value.copy()))
+        .collect(alloc)
+}
+
+/// The nodes.
+#[derive(Drop)]
+pub struct Nodes {
+    nodes: BTreeMap<u64, Attributes>,
+}
+
+impl Model for Nodes {
+    ghost use Rattle.std.specs.FinMap as map;
+    ghost use Rattle.be_volume.specs.Maps as maps;
+
+    ghost Value = { maps.Nodes };
+
+    ghost coded = { maps.coded_nodes };
+
+    ghost view = { λ n. map.from_entries n.nodes.entries };
+}
+
+fn numbers_of(alloc: Global, nodes: &BTreeMap<u64, Attributes>) -> Result<Vec<u64>, AllocError>
+    ensures numbers { IfOk result (λ numbers. numbers.items ≡ tree.keys nodes.now) }
+    ensures ordered { tree.IsOrdered nat_cmp nodes.now }
+{
+    nodes.keys().copied().collect(alloc)
+}
+
+impl Nodes {
+    pub fn new(alloc: Global) -> Nodes
+        ensures { result ≡ map.empty }
+    {
+        Nodes {
+            nodes: BTreeMap::new(alloc),
+        }
+    }
+
+    pub fn get(&self, node: u64) -> Option<&Attributes>
+        ensures { option_copied result ≡ map.get self.now node }
+    {
+        self.nodes.get(&node)
+    }
+
+    /// The numbers of the nodes, ascending.
+    pub fn numbers(&self, alloc: Global) -> Result<Vec<u64>, AllocError>
+        ensures { IfOk result (λ numbers. numbers.items ≡ map.keys self.now) }
+    {
+        numbers_of(alloc, &self.nodes)
+    }
+
+    pub fn insert(&mut self, node: u64, attributes: Attributes) -> Result<(), AllocError>
+        ensures { OnOk result (self.new ≡ map.insert self.old node attributes) }
+    {
+        self.nodes.insert(node, attributes)?;
+        Ok(())
+    }
+
+    pub fn remove(&mut self, node: u64)
+        ensures { self.new ≡ map.remove self.old node }
+    {
+        self.nodes.remove(&node);
+    }
+
+    /// Sets an attribute of a node that is there.
+    pub fn put(&mut self, node: u64, name: Name, value: Value) -> Result<(), AllocError>
+        requires { IsSome (map.get self.old node) }
+        ensures { OnOk result (self.new ≡ with_attribute self.old node name value) }
+    {
+        match self.nodes.get_mut(&node) {
+            Some(attributes) => attributes.insert(name, value),
+            None => unreachable!(),
+        }
+    }
+
+    /// Takes an attribute away from a node that is there.
+    pub fn take(&mut self, node: u64, name: &Name)
+        requires { IsSome (map.get self.old node) }
+        ensures { self.new ≡ map.insert self.old node (map.remove (attributes_of self.old node) name.now) }
+    {
+        match self.nodes.get_mut(&node) {
+            Some(attributes) => {
+                attributes.remove(name);
+            }
+            None => unreachable!(),
+        }
+    }
+}
+
+/// An index.
+#[derive(Drop)]
+pub struct Index {
+    pub kind: Kind,
+    pub pairs: Pairs,
+}
+
+fn kinds_in(alloc: Global, indices: &BTreeMap<Name, Index>) -> Result<Vec<(Name, Kind)>, AllocError>
+    ensures list { IfOk result (λ list. list.items ≡ each (λ e. (e.0, e.1.kind)) indices.now.entries) }
+    ensures ordered { tree.IsOrdered name_cmp indices.now }
+{
+    indices
+        .iter()
+        .map(|(name, index)| (name.copy(), index.kind))
+        .collect(alloc)
+}
+
+/// The indices.
+#[derive(Drop)]
+pub struct Indices {
+    indices: BTreeMap<Name, Index>,
+}
+
+impl Model for Indices {
+    ghost use Rattle.std.specs.FinMap as map;
+    ghost use Rattle.be_volume.specs.Indices as maps;
+
+    ghost Value = { maps.Indices };
+
+    ghost coded = { maps.coded_indices };
+
+    ghost view = { λ i. map.from_entries i.indices.entries };
+}
+
+impl Indices {
+    ghost use Rattle.std.specs.Prelude.{◌≡◌, IfOk, OnOk};
+    ghost use Rattle.std.specs.Prelude.{map as each};
+    ghost use Rattle.std.specs.Option.{option_copied};
+    ghost use Rattle.std.specs.FinMap as map;
+    ghost use Rattle.be_volume.specs.Indices.{with_pair, without_pair, without_node};
+
+    pub fn new(alloc: Global) -> Indices
+        ensures { result ≡ map.empty }
+    {
+        Indices {
+            indices: BTreeMap::new(alloc),
+        }
+    }
+
+    pub fn len(&self) -> usize
+        ensures { result ≡ map.len self.now }
+    {
+        self.indices.len()
+    }
+
+    pub fn get(&self, name: &Name) -> Option<&Index>
+        ensures { option_copied result ≡ map.get self.now name.now }
+    {
+        self.indices.get(name)
+    }
+
+    pub fn insert(&mut self, name: Name, index: Index) -> Result<(), AllocError>
+        ensures { OnOk result (self.new ≡ map.insert self.old name index) }
+    {
+        self.indices.insert(name, index)?;
+        Ok(())
+    }
+
+    pub fn remove(&mut self, name: &Name)
+        ensures { self.new ≡ map.remove self.old name.now }
+    {
+        self.indices.remove(name);
+    }
+
+    /// The kinds of the indices, by ascending names.
+    pub fn kinds(&self, alloc: Global) -> Result<Vec<(Name, Kind)>, AllocError>
+        ensures { IfOk result (λ list. list.items ≡ each (λ e. (e.0, e.1.kind)) (map.entries self.now)) }
+    {
+        kinds_in(alloc, &self.indices)
+    }
+
+    /// The node lost its value at the name.
+    pub fn unpair(&mut self, name: &Name, node: u64)
+        ensures { self.new ≡ without_pair self.old name.now node }
+    {
+        let Some(index) = self.indices.get_mut(name) else {
+            return;
+        };
+        index.pairs.remove(node);
+    }
+
+    /// The node left.
+    pub fn unpair_all(&mut self, node: u64)
+        ensures { self.new ≡ without_node self.old node }
+    {
+        unpair_each(&mut self.indices, node);
+    }
+
+    /// The node has this value at the name: its old pair leaves the index of the name, and the new one enters if the kinds agree.
+    pub fn pair(&mut self, name: &Name, node: u64, value: Value) -> Result<(), AllocError>
+        ensures { OnOk result (self.new ≡ with_pair self.old name.now node value) }
+    {
+        let Some(index) = self.indices.get_mut(name) else {
+            return Ok(());
+        };
+        index.pair(node, value)
+    }
+}
+
+impl Index {
+    ghost use Rattle.std.specs.Prelude.{◌≡◌, OnOk, OnErr};
+    ghost use Rattle.be_volume.specs.Indices.{paired};
+
+    fn pair(&mut self, node: u64, value: Value) -> Result<(), AllocError>
+        ensures { OnOk result (self.new ≡ paired self.old node value) }
+    {
+        if self.kind.code() == value.kind().code() {
+            self.pairs.insert(node, value)
+        } else {
+            self.pairs.remove(node);
+            Ok(())
+        }
+    }
+}
+
+impl Clone for Attributes {
+    ghost is_clone = { λ a b. b ≡ a };
+
+    fn clone(&self) -> Result<Attributes, AllocError> {
+        let values = self.values.clone()?;
+        Ok(Attributes { values })
+    }
+}
+
+impl Clone for Nodes {
+    ghost is_clone = { λ a b. b ≡ a };
+
+    fn clone(&self) -> Result<Nodes, AllocError> {
+        let nodes = self.nodes.clone()?;
+        Ok(Nodes { nodes })
+    }
+}
+
+impl Clone for Index {
+    ghost is_clone = { λ a b. b ≡ a };
+
+    fn clone(&self) -> Result<Index, AllocError> {
+        let pairs = self.pairs.clone()?;
+        let kind = self.kind;
+        Ok(Index { kind, pairs })
+    }
+}
+
+impl Clone for Indices {
+    ghost is_clone = { λ a b. b ≡ a };
+
+    fn clone(&self) -> Result<Indices, AllocError> {
+        let indices = self.indices.clone()?;
+        Ok(Indices { indices })
+    }
+}
