@@ -9,7 +9,7 @@ use Rattle.be_query.specs.declared.tree.Cmp.{Cmp}
 use Rattle.be_query.specs.Tokens.{Token, Open, Close, Bang, Both, Either, Compares, Text, plain, is_name}
 use Rattle.be_query.specs.Grammar.{Formula, Leaf, And, Or, complement, comparisons, literal_of, Spells}
 use Rattle.be_query.specs.Reading.{Place, Operand, Operator, Value, Joint, Mark, next}
-use Rattle.be_query.specs.Building.{Level, fresh, Stage, Operands, Operators, Values, Joints, State, start, negated, joined, with_operand, with_side, close, build_at, build, build_from, tree_at, tree_of, place_of, marks_of, view_of, IsSettled}
+use Rattle.be_query.specs.Building.{Level, fresh, Stage, Operands, Operators, Values, Joints, State, start, turned, conjunction, disjunction, joined, with_operand, with_side, close, build_at, build, build_from, tree_at, tree_of, place_of, marks_of, view_of, IsSettled}
 use Rattle.be_query.specs.Lexing.{Placed, Lexeme, Whole, Broken, Odd, lexemes, whole, all_whole, tokens}
 use Rattle.be_query.specs.Faults.{bad_pattern, value_fault, own_fault, counted, ends, broken_at, first_fault, fault}
 use Rattle.be_query.specs.Rpn as rpn
@@ -23,9 +23,9 @@ complement_same (Leaf n op v) = refl
 complement_same (And l r) = omega (arith, complement_same l, complement_same r)
 complement_same (Or l r) = omega (arith, complement_same l, complement_same r)
 
-negated_same : (n : ℕ) (t : Formula) → comparisons (negated n t) ≡ comparisons t
-negated_same zero t = refl
-negated_same (suc n) t = negated_same n (complement t) ∙ complement_same t
+turned_same : (b : Bool) (t : Formula) → comparisons (turned b t) ≡ comparisons t
+turned_same false t = refl
+turned_same true t = complement_same t
 
 -- how many comparisons wait in a side, a level, the levels and a stage
 in_side : Option Formula → ℕ
@@ -59,21 +59,22 @@ Holds : ℕ → Option State → Type 0
 Holds n None = Unit {0}
 Holds n (Some s) = in_state s.stage s.level s.outer ≤ n
 
-joined_or : (o : Option Formula) (t : Formula) → comparisons (joined Or o t) ≡ in_side o + comparisons t
+joined_or : (b : Bool) (o : Option Formula) (t : Formula) → comparisons (joined (disjunction b) o t) ≡ in_side o + comparisons t
 unfolding in_side
-joined_or None t = omega arith
-joined_or (Some l) t = refl
+joined_or b None t = omega arith
+joined_or false (Some l) t = refl
+joined_or true (Some l) t = refl
 
-joined_and : (o : Option Formula) (t : Formula) → comparisons (joined And o t) ≡ in_side o + comparisons t
+joined_and : (b : Bool) (o : Option Formula) (t : Formula) → comparisons (joined (conjunction b) o t) ≡ in_side o + comparisons t
 unfolding in_side
-joined_and None t = omega arith
-joined_and (Some l) t = refl
+joined_and b None t = omega arith
+joined_and false (Some l) t = refl
+joined_and true (Some l) t = refl
 
 operand_holds : (t : Formula) (level : Level) (outer : List Level) (n : ℕ) → comparisons t + (in_level level + in_levels outer) ≤ n → Holds n (Some (with_operand t level outer))
 unfolding Holds in_state in_stage in_level in_side
 operand_holds t level outer n h =
-    let a = joined_and level.and_left (negated level.negations t) in
-    let b = negated_same level.negations t in
+    let a = joined_and level.negated level.and_left t in
     omega arith
 
 named_holds : (b : Bool) (name : List ℕ) (level : Level) (outer : List Level) → Holds (in_level level + in_levels outer) (cond b (Some (record { stage = Operators name; level = level; outer = outer })) None)
@@ -84,7 +85,7 @@ named_holds false name level outer = tt
 closed_holds : (t : Formula) (level : Level) (outer : List Level) → Holds (comparisons t + (in_level level + in_levels outer)) (close (with_side t level) outer)
 unfolding Holds in_level in_levels
 closed_holds t level [] = tt
-closed_holds t level (l ∷ ls) = operand_holds (with_side t level) l ls _ (let a = joined_or level.or_left t in omega arith)
+closed_holds t level (l ∷ ls) = operand_holds (with_side t level) l ls _ (let a = joined_or level.negated level.or_left t in omega arith)
 
 build_holds : (stage : Stage) (level : Level) (outer : List Level) (t : Token) → Holds (in_state stage level outer + ends_one stage) (build_at stage level outer t)
 unfolding Holds in_state in_stage in_level in_levels in_side ends_one
@@ -108,12 +109,12 @@ build_holds (Values name op) level outer Bang = tt
 build_holds (Values name op) level outer Both = tt
 build_holds (Values name op) level outer Either = tt
 build_holds (Values name op) level outer (Compares other) = tt
-build_holds (Values name op) level outer (Text raw) = operand_holds (Leaf name op (literal_of op raw)) level outer _ (omega arith)
+build_holds (Values name op) level outer (Text raw) = operand_holds _ level outer _ (let a = turned_same level.operand_negated (Leaf name op (literal_of op raw)) in omega arith)
 build_holds (Joints t) level outer Open = tt
 build_holds (Joints t) level outer Close = subst (λ n. Holds n (close (with_side t level) outer)) (omega arith) (closed_holds t level outer)
 build_holds (Joints t) level outer Bang = tt
 build_holds (Joints t) level outer Both = omega arith
-build_holds (Joints t) level outer Either = let a = joined_or level.or_left t in omega arith
+build_holds (Joints t) level outer Either = let a = joined_or level.negated level.or_left t in omega arith
 build_holds (Joints t) level outer (Compares op) = tt
 build_holds (Joints t) level outer (Text raw) = tt
 
@@ -145,7 +146,7 @@ unfolding in_state in_stage in_level in_levels
 end_few Operands level outer t e = cc
 end_few (Operators n) level outer t e = cc
 end_few (Values n op) level outer t e = cc
-end_few (Joints u) level [] t e = let same : with_side u level ≡ t = cc in let a = joined_or level.or_left u in let b = ap comparisons same in omega arith
+end_few (Joints u) level [] t e = let same : with_side u level ≡ t = cc in let a = joined_or level.negated level.or_left u in let b = ap comparisons same in omega arith
 end_few (Joints u) level (l ∷ ls) t e = cc
 
 none_built : (ts : List Token) (t : Formula) → tree_of (build_from None ts) ≡ Some t → ⊥

@@ -18,7 +18,7 @@ use Rattle.be_query.specs.declared.tree.Cmp.{Cmp}
 use Rattle.be_query.specs.declared.tree.Cmp.TheVariants.{Eq, Ne, Lt, Le, Gt, Ge}
 use Rattle.be_query.specs.Tokens.{Token, Open, Close, Bang, Both, Either, Compares, Text, plain, is_name}
 use Rattle.be_query.specs.Grammar.{Formula, Leaf, And, Or, Literal, Wild, Exact, opposite, complement, wild_or_none, literal_of}
-use Rattle.be_query.specs.Building.{Level, fresh, Stage, Operands, Operators, Values, Joints, State, negated, joined, with_operand, with_side, close, build_at, tree_at}
+use Rattle.be_query.specs.Building.{Level, fresh, Stage, Operands, Operators, Values, Joints, State, turned, conjunction, disjunction, joined, with_operand, with_side, close, build_at, tree_at}
 use Rattle.be_query.specs.Faults.{takes_pattern}
 use Rattle.be_query.specs.Printing.{IsKept, IsKeptBy}
 use Rattle.be_query.specs.View.{IsClean}
@@ -112,9 +112,9 @@ complement_kept (Leaf n op v) h = (h.0, opposite_kept op v h.1)
 complement_kept (And l r) h = (complement_kept l h.0, complement_kept r h.1)
 complement_kept (Or l r) h = (complement_kept l h.0, complement_kept r h.1)
 
-negated_kept : (n : ℕ) (t : Formula) → IsKept t → IsKept (negated n t)
-negated_kept zero t h = h
-negated_kept (suc n) t h = negated_kept n (complement t) (complement_kept t h)
+turned_kept : (b : Bool) (t : Formula) → IsKept t → IsKept (turned b t)
+turned_kept false t h = h
+turned_kept true t h = complement_kept t h
 
 -- While a text is read.
 
@@ -143,16 +143,18 @@ abbrev pub IfKept : Option State → Type 0
 IfKept None = Unit {0}
 IfKept (Some s) = StateKept s
 
-joined_kept : (o : Option Formula) (t : Formula) → SideKept o → IsKept t → IsKept (joined And o t)
-joined_kept None t h k = k
-joined_kept (Some l) t h k = (h, k)
+both_kept : (b : Bool) (o : Option Formula) (t : Formula) → SideKept o → IsKept t → IsKept (joined (conjunction b) o t)
+both_kept b None t h k = k
+both_kept false (Some l) t h k = (h, k)
+both_kept true (Some l) t h k = (h, k)
 
-side_kept : (o : Option Formula) (t : Formula) → SideKept o → IsKept t → IsKept (joined Or o t)
-side_kept None t h k = k
-side_kept (Some l) t h k = (h, k)
+side_kept : (b : Bool) (o : Option Formula) (t : Formula) → SideKept o → IsKept t → IsKept (joined (disjunction b) o t)
+side_kept b None t h k = k
+side_kept false (Some l) t h k = (h, k)
+side_kept true (Some l) t h k = (h, k)
 
 operand_kept : (t : Formula) (level : Level) (outer : List Level) → IsKept t → LevelKept level → LevelsKept outer → StateKept (with_operand t level outer)
-operand_kept t level outer h k o = (joined_kept level.and_left (negated level.negations t) k.1 (negated_kept level.negations t h), (k.0, tt), o)
+operand_kept t level outer h k o = (both_kept level.negated level.and_left t k.1 h, (k.0, tt), o)
 
 closed_kept : (t : Formula) (outer : List Level) → IsKept t → LevelsKept outer → IfKept (close t outer)
 closed_kept t [] h o = tt
@@ -183,12 +185,12 @@ build_kept (Values name op) level outer Bang s k o c = tt
 build_kept (Values name op) level outer Both s k o c = tt
 build_kept (Values name op) level outer Either s k o c = tt
 build_kept (Values name op) level outer (Compares other) s k o c = tt
-build_kept (Values name op) level outer (Text raw) s k o c = operand_kept (Leaf name op (literal_of op raw)) level outer (s, literal_kept op raw c.0 c.1) k o
+build_kept (Values name op) level outer (Text raw) s k o c = operand_kept _ level outer (turned_kept level.operand_negated (Leaf name op (literal_of op raw)) (s, literal_kept op raw c.0 c.1)) k o
 build_kept (Joints t) level outer Open s k o c = tt
-build_kept (Joints t) level outer Close s k o c = closed_kept (with_side t level) outer (side_kept level.or_left t k.0 s) o
+build_kept (Joints t) level outer Close s k o c = closed_kept (with_side t level) outer (side_kept level.negated level.or_left t k.0 s) o
 build_kept (Joints t) level outer Bang s k o c = tt
 build_kept (Joints t) level outer Both s k o c = (tt, (k.0, s), o)
-build_kept (Joints t) level outer Either s k o c = (tt, (side_kept level.or_left t k.0 s, tt), o)
+build_kept (Joints t) level outer Either s k o c = (tt, (side_kept level.negated level.or_left t k.0 s, k.1), o)
 build_kept (Joints t) level outer (Compares op) s k o c = tt
 build_kept (Joints t) level outer (Text raw) s k o c = tt
 
@@ -203,5 +205,5 @@ end_kept s t h e = subst SideKept e (go s.stage s.outer h.0)
     go Operands outer k = tt
     go (Operators n) outer k = tt
     go (Values n op) outer k = tt
-    go (Joints u) [] k = side_kept s.level.or_left u h.1.0 k
+    go (Joints u) [] k = side_kept s.level.negated s.level.or_left u h.1.0 k
     go (Joints u) (l ∷ ls) k = tt

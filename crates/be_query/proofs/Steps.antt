@@ -7,7 +7,7 @@ use Rattle.be_query.specs.declared.tree.Cmp.{Cmp}
 use Rattle.be_query.specs.Grammar.{Formula, Leaf, And, Or, Literal, literal_of}
 use Rattle.be_query.specs.Tokens.{Token, Open, Close, Bang, Both, Either, Compares, Text}
 use Rattle.be_query.specs.Reading.{Place, Operand, Operator, Value, Joint, Mark, Paren, Negation, ended, next}
-use Rattle.be_query.specs.Building.{Level, Stage, Operands, Operators, Values, Joints, State, with_operand, with_side, joined, negated, close, build_at, place_of, negations_on, outer_marks, marks_of, view_of, IsSettledAt}
+use Rattle.be_query.specs.Building.{Level, Stage, Operands, Operators, Values, Joints, State, turned, conjunction, ended_level, with_operand, with_side, joined, close, build_at, place_of, negations_on, outer_marks, marks_of, view_of, IsSettledAt}
 use Rattle.be_query.specs.Lexing.{Placed, Lexeme, Whole}
 use Rattle.be_query.specs.Faults.{first_fault, own_fault, counted, bad_pattern, value_fault, ends}
 use Rattle.be_query.proofs.Trees.{seen, build_seen}
@@ -50,23 +50,20 @@ pub own_stops : (place : Place) (marks : List Mark) (n len : ℕ) (x : Placed) (
     → first_fault place marks n len (x ∷ xs) ≡ Some e
 own_stops place marks n len x t xs s e l k h = rw l (rw k (rw h refl))
 
-abbrev ended_level : Level → Level
-ended_level level = record { or_left = level.or_left; and_left = None; negations = 0 }
-
-pub value_built : (name : List ℕ) (op : Cmp) (raw : List ℕ) (t : Token) (level after : Level) (outer : List Level) (tree : Formula) (lit : Literal)
-    → t ≡ Text raw → lit ≡ literal_of op raw → tree ≡ joined And level.and_left (negated level.negations (Leaf name op lit)) → after ≡ ended_level level
+pub value_built : (name : List ℕ) (op : Cmp) (raw : List ℕ) (t : Token) (level after : Level) (outer : List Level) (leaf tree : Formula)
+    → t ≡ Text raw → leaf ≡ turned level.operand_negated (Leaf name op (literal_of op raw)) → tree ≡ joined (conjunction level.negated) level.and_left leaf → after ≡ ended_level level
     → build_at (Values name op) level outer t ≡ Some (record { stage = Joints tree; level = after; outer = outer })
-value_built name op raw t level after outer tree lit e k h l =
+value_built name op raw t level after outer leaf tree e k h l =
     ap (build_at (Values name op) level outer) e
-    ∙ (λ i. Some (record { stage = Joints ((ap (λ v. joined And level.and_left (negated level.negations (Leaf name op v))) (sym k) ∙ sym h) i); level = sym l i; outer = outer }))
+    ∙ (λ i. Some (record { stage = Joints ((ap (joined (conjunction level.negated) level.and_left) (sym k) ∙ sym h) i); level = sym l i; outer = outer }))
 
 pub close_built : (t : Formula) (tok : Token) (level after l : Level) (outer rest : List Level) (side tree : Formula)
-    → tok ≡ Close → outer ≡ l ∷ rest → side ≡ with_side t level → tree ≡ joined And l.and_left (negated l.negations side) → after ≡ ended_level l
+    → tok ≡ Close → outer ≡ l ∷ rest → side ≡ with_side t level → tree ≡ joined (conjunction l.negated) l.and_left side → after ≡ ended_level l
     → build_at (Joints t) level outer tok ≡ Some (record { stage = Joints tree; level = after; outer = rest })
 close_built t tok level after l outer rest side tree e o s h k =
     ap (build_at (Joints t) level outer) e
     ∙ ap (close (with_side t level)) o
-    ∙ (λ i. Some (record { stage = Joints ((ap (λ v. joined And l.and_left (negated l.negations v)) (sym s) ∙ sym h) i); level = sym k i; outer = rest }))
+    ∙ (λ i. Some (record { stage = Joints ((ap (joined (conjunction l.negated) l.and_left) (sym s) ∙ sym h) i); level = sym k i; outer = rest }))
 
 pub deep_ended : (level after : Level) (outer : List Level) (depth : ℕ) → depth ≡ length (marks_of level outer) → after ≡ ended_level level → depth - level.negations ≡ length (marks_of after outer)
 deep_ended level after outer depth e k =

@@ -1,58 +1,88 @@
 -- The tree that is built is the grammar's, so each token list has one tree at most.
 use Rattle.std.proofs.Common.{◌≡◌, ℕ, Bool, true, false, zero, suc, Option, Some, None, List, [], ◌∷◌, ◌++◌, refl, sym, ap, ◌∙◌, subst, append_assoc, append-nil, cond, ◌-◌, ◌<◌, ◌≤◌, arith}
+use Rattle.std.specs.Prelude.{not}
 use Rattle.std.proofs.lemmas.Bool.{false≢true}
 use Rattle.be_query.specs.declared.tree.Cmp.{Cmp}
 use Rattle.be_query.specs.Tokens.{Token, Open, Close, Bang, Both, Either, Compares, Text, plain, is_name}
 use Rattle.be_query.specs.Grammar.{OrPhrase, or_one, or_more, AndPhrase, and_one, and_more, NotPhrase, negation, group, comparison, or_tokens, and_tokens, not_tokens, or_tree, and_tree, not_tree, Formula, Leaf, And, Or, opposite, complement, Spells}
 use Rattle.be_query.specs.declared.tree.Cmp.TheVariants.{Eq, Ne, Lt, Le, Gt, Ge}
 use Rattle.be_query.specs.Reading.{Place, Operand, Operator, Value, Joint, Mark, Paren, Negation, ended, next, read_from, read}
-use Rattle.be_query.specs.Building.{Level, fresh, Stage, Operands, Operators, Values, Joints, State, start, negated, joined, with_operand, with_side, close, build_at, build, build_from, tree_at, tree_of, place_of, negations_on, outer_marks, marks_of, view_of, IsSettledAt, IsSettled}
+use Rattle.be_query.specs.Building.{Level, fresh, Stage, Operands, Operators, Values, Joints, State, start, turned, conjunction, disjunction, joined, with_operand, with_side, close, build_at, build, build_from, tree_at, tree_of, place_of, negations_on, outer_marks, marks_of, view_of, IsSettledAt, IsSettled}
+
+opposite_twice : (op : Cmp) → opposite (opposite op) ≡ op
+opposite_twice Eq = refl
+opposite_twice Ne = refl
+opposite_twice Lt = refl
+opposite_twice Le = refl
+opposite_twice Gt = refl
+opposite_twice Ge = refl
+
+pub complement_twice : (t : Formula) → complement (complement t) ≡ t
+complement_twice (Leaf n op v) = ap (λ o. Leaf n o v) (opposite_twice op)
+complement_twice (And l r) = λ i. And (complement_twice l i) (complement_twice r i)
+complement_twice (Or l r) = λ i. Or (complement_twice l i) (complement_twice r i)
+
+-- one `!` more round a tree is a complement inside those that stood there
+turned_more : (b : Bool) (t : Formula) → turned (not b) t ≡ turned b (complement t)
+turned_more false t = refl
+turned_more true t = sym (complement_twice t)
+
+both_turned : (b : Bool) (l r : Formula) → conjunction b (turned b l) (turned b r) ≡ turned b (And l r)
+both_turned false l r = refl
+both_turned true l r = refl
+
+either_turned : (b : Bool) (l r : Formula) → disjunction b (turned b l) (turned b r) ≡ turned b (Or l r)
+either_turned false l r = refl
+either_turned true l r = refl
 
 -- levels in which an operand, a side or a phrase begins
-abbrev in_level : Option Formula → Option Formula → ℕ → Level
-in_level o a n = record { or_left = o; and_left = a; negations = n }
+abbrev in_level : Bool → Option Formula → Option Formula → Level
+in_level b o a = record { negated = b; operand_negated = b; or_left = o; and_left = a; negations = 0 }
 
 abbrev at_operand : Level → List Level → Option State
 at_operand level outer = Some (record { stage = Operands; level = level; outer = outer })
 
-abbrev at_joint : Formula → Option Formula → List Level → Option State
-at_joint t o outer = Some (record { stage = Joints t; level = in_level o None 0; outer = outer })
+abbrev at_joint : Bool → Formula → Option Formula → List Level → Option State
+at_joint b t o outer = Some (record { stage = Joints t; level = in_level b o None; outer = outer })
 
 -- the left side of the last `||`, and its right side so far
-abbrev left_of : OrPhrase → Option Formula
-left_of (or_one a) = None
-left_of (or_more o a) = Some (or_tree o)
+abbrev left_of : Bool → OrPhrase → Option Formula
+left_of b (or_one a) = None
+left_of b (or_more o a) = Some (turned b (or_tree o))
 
 abbrev right_of : OrPhrase → Formula
 right_of (or_one a) = and_tree a
 right_of (or_more o a) = and_tree a
 
-left_right : (o : OrPhrase) → joined Or (left_of o) (right_of o) ≡ or_tree o
-left_right (or_one a) = refl
-left_right (or_more o a) = refl
+left_right : (b : Bool) (o : OrPhrase) → joined (disjunction b) (left_of b o) (turned b (right_of o)) ≡ turned b (or_tree o)
+left_right b (or_one a) = refl
+left_right b (or_more o a) = either_turned b (or_tree o) (and_tree a)
 
 mutual
-  pub or_built : (o : OrPhrase) (outer : List Level) (us : List Token) → build_from (at_operand fresh outer) (or_tokens o ++ us) ≡ build_from (at_joint (right_of o) (left_of o) outer) us
-  or_built (or_one a) outer us = and_built a None outer us
-  or_built (or_more o a) outer us =
-      ap (build_from (at_operand fresh outer)) (append_assoc (or_tokens o) (Either ∷ and_tokens a) us)
-      ∙ or_built o outer (Either ∷ (and_tokens a ++ us))
-      ∙ ap (λ t. build_from (at_operand (in_level (Some t) None 0) outer) (and_tokens a ++ us)) (left_right o)
-      ∙ and_built a (Some (or_tree o)) outer us
+  pub or_built : (o : OrPhrase) (b : Bool) (outer : List Level) (us : List Token) → build_from (at_operand (fresh b) outer) (or_tokens o ++ us) ≡ build_from (at_joint b (turned b (right_of o)) (left_of b o) outer) us
+  or_built (or_one a) b outer us = and_built a b None outer us
+  or_built (or_more o a) b outer us =
+      ap (build_from (at_operand (fresh b) outer)) (append_assoc (or_tokens o) (Either ∷ and_tokens a) us)
+      ∙ or_built o b outer (Either ∷ (and_tokens a ++ us))
+      ∙ ap (λ t. build_from (at_operand (in_level b (Some t) None) outer) (and_tokens a ++ us)) (left_right b o)
+      ∙ and_built a b (Some (turned b (or_tree o))) outer us
 
-  pub and_built : (a : AndPhrase) (left : Option Formula) (outer : List Level) (us : List Token) → build_from (at_operand (in_level left None 0) outer) (and_tokens a ++ us) ≡ build_from (at_joint (and_tree a) left outer) us
-  and_built (and_one n) left outer us = not_built n (in_level left None 0) outer us
-  and_built (and_more a n) left outer us =
-      ap (build_from (at_operand (in_level left None 0) outer)) (append_assoc (and_tokens a) (Both ∷ not_tokens n) us)
-      ∙ and_built a left outer (Both ∷ (not_tokens n ++ us))
-      ∙ not_built n (in_level left (Some (and_tree a)) 0) outer us
+  pub and_built : (a : AndPhrase) (b : Bool) (left : Option Formula) (outer : List Level) (us : List Token) → build_from (at_operand (in_level b left None) outer) (and_tokens a ++ us) ≡ build_from (at_joint b (turned b (and_tree a)) left outer) us
+  and_built (and_one n) b left outer us = not_built n (in_level b left None) outer us
+  and_built (and_more a n) b left outer us =
+      ap (build_from (at_operand (in_level b left None) outer)) (append_assoc (and_tokens a) (Both ∷ not_tokens n) us)
+      ∙ and_built a b left outer (Both ∷ (not_tokens n ++ us))
+      ∙ not_built n (in_level b left (Some (turned b (and_tree a)))) outer us
+      ∙ ap (λ t. build_from (at_joint b t left outer) us) (both_turned b (and_tree a) (not_tree n))
 
-  pub not_built : (n : NotPhrase) (level : Level) (outer : List Level) (us : List Token) → build_from (at_operand level outer) (not_tokens n ++ us) ≡ build_from (Some (with_operand (not_tree n) level outer)) us
-  not_built (negation n) level outer us = not_built n (record level { negations = suc level.negations }) outer us
+  pub not_built : (n : NotPhrase) (level : Level) (outer : List Level) (us : List Token) → build_from (at_operand level outer) (not_tokens n ++ us) ≡ build_from (Some (with_operand (turned level.operand_negated (not_tree n)) level outer)) us
+  not_built (negation n) level outer us =
+      not_built n (record level { operand_negated = not level.operand_negated; negations = suc level.negations }) outer us
+      ∙ ap (λ t. build_from (Some (with_operand t level outer)) us) (turned_more level.operand_negated (not_tree n))
   not_built (group o) level outer us =
-      ap (build_from (at_operand fresh (level ∷ outer))) (append_assoc (or_tokens o) (Close ∷ []) us)
-      ∙ or_built o (level ∷ outer) (Close ∷ us)
-      ∙ ap (λ t. build_from (Some (with_operand t level outer)) us) (left_right o)
+      ap (build_from (at_operand (fresh level.operand_negated) (level ∷ outer))) (append_assoc (or_tokens o) (Close ∷ []) us)
+      ∙ or_built o level.operand_negated (level ∷ outer) (Close ∷ us)
+      ∙ ap (λ t. build_from (Some (with_operand t level outer)) us) (left_right level.operand_negated o)
   not_built (comparison name valid op value) level outer us = named (is_name name) valid level outer (λ s. build_from s (Compares op ∷ Text value ∷ us))
     where
       named : (b : Bool) → b ≡ true → (l : Level) (ls : List Level) (k : Option State → Option State) → k (cond b (Some (record { stage = Operators (plain name); level = l; outer = ls })) None) ≡ k (Some (record { stage = Operators (plain name); level = l; outer = ls }))
@@ -63,8 +93,8 @@ mutual
 pub tree_built : (o : OrPhrase) → tree_of (build_from (Some start) (or_tokens o)) ≡ Some (or_tree o)
 tree_built o =
     ap (λ ts. tree_of (build_from (Some start) ts)) (sym (append-nil (or_tokens o)))
-    ∙ ap tree_of (or_built o [] [])
-    ∙ ap Some (left_right o)
+    ∙ ap tree_of (or_built o false [] [])
+    ∙ ap Some (left_right false o)
 
 -- tokens have one tree at most
 pub one_tree : (ts : List Token) (s t : Formula) → Spells ts s → Spells ts t → s ≡ t
@@ -129,30 +159,6 @@ build_seen (Joints t) level outer Open h = refl
 build_seen (Joints t) level outer Close h = closed_seen t level outer h
 build_seen (Joints t) level outer Bang h = refl
 build_seen (Joints t) level outer Both h = refl
-build_seen (Joints t) level outer Either h = ap (λ n. Some (Operand, negations_on n (outer_marks outer))) h
+build_seen (Joints t) level outer Either h = refl
 build_seen (Joints t) level outer (Compares op) h = refl
 build_seen (Joints t) level outer (Text raw) h = refl
-
-opposite_twice : (op : Cmp) → opposite (opposite op) ≡ op
-opposite_twice Eq = refl
-opposite_twice Ne = refl
-opposite_twice Lt = refl
-opposite_twice Le = refl
-opposite_twice Gt = refl
-opposite_twice Ge = refl
-
-pub complement_twice : (t : Formula) → complement (complement t) ≡ t
-complement_twice (Leaf n op v) = ap (λ o. Leaf n o v) (opposite_twice op)
-complement_twice (And l r) = λ i. And (complement_twice l i) (complement_twice r i)
-complement_twice (Or l r) = λ i. Or (complement_twice l i) (complement_twice r i)
-
--- two complements less are the same
-pub negated_less : (n : ℕ) (t : Formula) → 2 ≤ n → negated (n - 2) t ≡ negated n t
-negated_less zero t h = absurd (omega arith)
-negated_less (suc zero) t h = absurd (omega arith)
-negated_less (suc (suc n)) t h = let m : suc (suc n) - 2 ≡ n = omega arith in ap (λ k. negated k t) m ∙ ap (negated n) (sym (complement_twice t))
-
-pub negated_once : (n : ℕ) (t u : Formula) → n < 2 → (n ≡ 0 → ⊥) → u ≡ complement t → u ≡ negated n t
-negated_once zero t u h z e = absurd (z refl)
-negated_once (suc zero) t u h z e = e
-negated_once (suc (suc n)) t u h z e = absurd (omega arith)

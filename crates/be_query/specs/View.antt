@@ -37,7 +37,7 @@ side_of None = None
 side_of (Some b) = Some (formula b.value)
 
 abbrev pub level_of : code_level.Level → Level
-level_of l = record { or_left = side_of l.or_left; and_left = side_of l.and_left; negations = l.negations }
+level_of l = record { negated = l.negated; operand_negated = l.operand_negated; or_left = side_of l.or_left; and_left = side_of l.and_left; negations = l.negations }
 
 abbrev pub stage_of : code_stage.Stage → Stage
 stage_of code_stage.TheVariants.Operand = Operands

@@ -1,16 +1,18 @@
 //! Reading the tokens of a query from the left, with one level for each open `(`: the sides of `||` and `&&` that
-//! wait for their right one, and the number of `!` that wait for their operand. Nothing here recurses on the text.
+//! wait for their right one, and the `!` that wait for their operand. A `!` is carried down while its operand is read:
+//! inside an odd number of them each comparison and each joint is made as its complement. So nothing here recurses,
+//! and no tree that stands is gone over again.
 ghost use Rattle.std.specs.Prelude.{false, true, ℕ, ◌≡◌, MatchOption, IfNone, IfSome, [], ◌++◌, encode_utf8, string_bytes, Some, None, IfOk, IfErr, ◌<◌, ◌≤◌, ◌+◌, ◌^◌, length};
 ghost use Rattle.std.specs.Str.{chars};
 ghost use Rattle.be_pattern.specs.Parse.{pattern};
-ghost use Rattle.be_query.specs.Building.{Operands, Operators, Values, Joints, joined, with_side, with_operand, negated, State};
-ghost use Rattle.be_query.specs.Grammar.{And, Or, literal_of};
+ghost use Rattle.be_query.specs.Building.{Operands, Operators, Values, Joints, fresh, turned, conjunction, disjunction, joined, ended_level, with_side, with_operand, State};
+ghost use Rattle.be_query.specs.Grammar.{Leaf, literal_of};
 ghost use Rattle.be_query.specs.Faults.{bad_pattern};
 ghost use Rattle.be_query.specs.Tokens.{is_name, plain};
 ghost use Rattle.be_query.specs.View.{IsMemory, text_len, literal, formula, level_of, side_of, stage_of, token_of, IsCounted, TakesToken, Refuses};
 
 use crate::token::Token;
-use crate::tree::{Cmp, Comparison, Literal, Tree, complement};
+use crate::tree::{Cmp, Comparison, Literal, Tree};
 use be_pattern::Pattern;
 use be_pattern::matching::split_first_char;
 use be_value::{Name, Refusal};
@@ -26,6 +28,10 @@ const MAX_COMPARISONS: usize = 256;
 /// What waits for its right end inside one pair of parentheses.
 #[derive(Drop)]
 pub(crate) struct Level {
+    /// Whether an odd number of `!` stands round the level.
+    negated: bool,
+    /// Whether an odd number stands round the operand that comes next.
+    operand_negated: bool,
     /// The left side of `||`.
     or_left: Option<Box<Tree>>,
     /// The left side of `&&`.
@@ -61,6 +67,21 @@ pub(crate) struct Parser {
     context: Context,
 }
 
+impl Level {
+    /// With nothing in it, inside an odd number of `!` or not.
+    fn new(negated: bool) -> Level
+        ensures { level_of result ≡ fresh negated }
+    {
+        Level {
+            negated,
+            operand_negated: negated,
+            or_left: None,
+            and_left: None,
+            negations: 0,
+        }
+    }
+}
+
 impl Parser {
     ghost use Rattle.be_query.specs.Building.{start, tree_at};
     ghost use Rattle.be_query.specs.Faults.{broken_at, ends};
@@ -73,13 +94,8 @@ impl Parser {
         ensures start { parser_state result ≡ start }
         ensures none { result.context.comparisons ≡ 0 }
     {
-        let level = Level {
-            or_left: None,
-            and_left: None,
-            negations: 0,
-        };
         let context = Context {
-            level,
+            level: Level::new(false),
             outer: Vec::new(alloc),
             depth: 0,
             comparisons: 0,
@@ -183,14 +199,8 @@ fn take_operand(
             if context.depth >= MAX_OPEN {
                 return Err(Refusal::TooDeep);
             }
-            let level = mem::replace(
-                &mut context.level,
-                Level {
-                    or_left: None,
-                    and_left: None,
-                    negations: 0,
-                },
-            );
+            let inner = Level::new(context.level.operand_negated);
+            let level = mem::replace(&mut context.level, inner);
             context.outer.push(level)?;
             context.depth += 1;
             Ok(Stage::Operand)
@@ -199,6 +209,7 @@ fn take_operand(
             if context.depth >= MAX_OPEN {
                 return Err(Refusal::TooDeep);
             }
+            context.level.operand_negated = !context.level.operand_negated;
             context.level.negations += 1;
             context.depth += 1;
             Ok(Stage::Operand)
@@ -255,7 +266,8 @@ fn take_value(
         return Err(Refusal::TooMany);
     }
     let ended = context.level.negations;
-    let leaf = Box::new(alloc, Tree::Leaf(Comparison { name, op, literal }))?;
+    let comparison = Comparison { name, op, literal };
+    let leaf = Box::new(alloc, turned_leaf(context.level.operand_negated, comparison))?;
     let tree = end_operand(alloc, &mut context.level, leaf)?;
     context.depth -= ended;
     context.comparisons += 1;
@@ -281,11 +293,7 @@ fn take_joint(
         }
         Token::Either => {
             let side = end_side(alloc, &mut context.level, tree)?;
-            context.level = Level {
-                or_left: Some(side),
-                and_left: None,
-                negations: 0,
-            };
+            context.level.or_left = Some(side);
             Ok(Stage::Operand)
         }
         Token::Close => {
@@ -377,18 +385,35 @@ pub(crate) fn read_literal(
     }
 }
 
-/// The complement, taken so many times. Twice is not at all.
-fn negate(alloc: Global, tree: Box<Tree>, times: usize) -> Result<Box<Tree>, AllocError>
-    ensures { IfOk result (λ t. formula t.value ≡ negated times (formula tree.value)) }
+/// A comparison, or its complement inside an odd number of `!`.
+fn turned_leaf(negated: bool, comparison: Comparison) -> Tree
+    ensures { formula result ≡ turned negated (Leaf comparison.name comparison.op (literal comparison.literal)) }
 {
-    if times >= 2 {
-        return negate(alloc, tree, times - 2);
+    let Comparison { name, op, literal } = comparison;
+    let op = if negated { op.opposite() } else { op };
+    Tree::Leaf(Comparison { name, op, literal })
+}
+
+/// What `&&` makes of its sides, which inside an odd number of `!` are complements.
+fn conjunction(negated: bool, left: Box<Tree>, right: Box<Tree>) -> Tree
+    ensures { formula result ≡ conjunction negated (formula left.value) (formula right.value) }
+{
+    if negated {
+        Tree::Or(left, right)
+    } else {
+        Tree::And(left, right)
     }
-    if times == 0 {
-        return Ok(tree);
+}
+
+/// What `||` makes of them.
+fn disjunction(negated: bool, left: Box<Tree>, right: Box<Tree>) -> Tree
+    ensures { formula result ≡ disjunction negated (formula left.value) (formula right.value) }
+{
+    if negated {
+        Tree::And(left, right)
+    } else {
+        Tree::Or(left, right)
     }
-    let tree = complement(alloc, Box::into_inner(tree))?;
-    Ok(Box::new(alloc, tree)?)
 }
 
 /// An operand has ended, and its `!` and its `&&` with it.
@@ -397,24 +422,24 @@ fn end_operand(
     level: &mut Level,
     operand: Box<Tree>,
 ) -> Result<Box<Tree>, AllocError>
-    ensures tree { IfOk result (λ t. formula t.value ≡ joined And (level_of level.old).and_left (negated (level_of level.old).negations (formula operand.value))) }
-    ensures level { IfOk result (λ t. level_of level.new ≡ record { or_left = (level_of level.old).or_left; and_left = None; negations = 0 }) }
+    ensures tree { IfOk result (λ t. formula t.value ≡ joined (conjunction (level_of level.old).negated) (level_of level.old).and_left (formula operand.value)) }
+    ensures level { level_of level.new ≡ ended_level (level_of level.old) }
 {
-    let negations = mem::replace(&mut level.negations, 0);
-    let tree = negate(alloc, operand, negations)?;
+    level.negations = 0;
+    level.operand_negated = level.negated;
     match level.and_left.take() {
-        None => Ok(tree),
-        Some(left) => Ok(Box::new(alloc, Tree::And(left, tree))?),
+        None => Ok(operand),
+        Some(left) => Ok(Box::new(alloc, conjunction(level.negated, left, operand))?),
     }
 }
 
 /// A side of `||` has ended.
 fn end_side(alloc: Global, level: &mut Level, side: Box<Tree>) -> Result<Box<Tree>, AllocError>
     ensures tree { IfOk result (λ t. formula t.value ≡ with_side (formula side.value) (level_of level.old)) }
-    ensures level { level_of level.new ≡ record { or_left = None; and_left = (level_of level.old).and_left; negations = (level_of level.old).negations } }
+    ensures level { level_of level.new ≡ record (level_of level.old) { or_left = None } }
 {
     match level.or_left.take() {
         None => Ok(side),
-        Some(left) => Ok(Box::new(alloc, Tree::Or(left, side))?),
+        Some(left) => Ok(Box::new(alloc, disjunction(level.negated, left, side))?),
     }
 }

@@ -1,6 +1,6 @@
 use Rattle.std.proofs.Common.{◌≡◌, ◌+◌, arith, ap, sym, ◌∙◌, refl, inr}
-use Rattle.be_query.specs.Building.{Values, marks_of, joined, negated}
-use Rattle.be_query.specs.Grammar.{Leaf, And}
+use Rattle.be_query.specs.Building.{Values, marks_of, turned}
+use Rattle.be_query.specs.Grammar.{Leaf}
 use Rattle.be_query.specs.Lexing.{Whole}
 use Rattle.be_query.specs.View.{level_of, outer_of, token_of, formula, literal, parser_state, IsCounted}
 use Rattle.be_query.proofs.Steps.{negations_within, built_on, value_built, deep_ended, good_value, value_refused}
@@ -17,9 +17,10 @@ returns-clause-ok c =
     let h = rw c.in-Ok.is at c.in_ok-read.ensures.ok in
     let k = c.in_ok-tree.ensures in
     let t = ap token_of c.in-Text.is in
-    let leaf : formula c.in_ok-leaf.leaf.value ≡ Leaf c.args.name c.args.op (literal c.in-Ok.literal) = ap formula c.in_ok-leaf.ensures.ok in
-    let tree = k.tree ∙ ap (λ x. joined And (level_of c.args.context.now.level).and_left (negated (level_of c.args.context.now.level).negations x)) leaf in
-    let built = value_built c.args.name c.args.op _ _ (level_of c.args.context.now.level) _ (outer_of c.args.context.now) _ _ t h.0 tree k.level in
+    let level = level_of c.args.context.now.level in
+    let leaf : formula c.in_ok-leaf.leaf.value ≡ turned level.operand_negated (Leaf c.args.name c.args.op (literal c.in-Ok.literal)) = ap formula c.in_ok-leaf.ensures.ok ∙ c.turned_leaf.ensures in
+    let kept = leaf ∙ ap (λ v. turned level.operand_negated (Leaf c.args.name c.args.op v)) h.0 in
+    let built = value_built c.args.name c.args.op _ _ level _ (outer_of c.args.context.now) _ _ t kept k.tree k.level in
     let deep = deep_ended (level_of c.args.context.now.level) _ (outer_of c.args.context.now) c.args.context.now.depth c.requires.counted.deep k.level in
     record {
       counted = record { settled = ap (λ l. l.negations) k.level; deep = deep; shallow = omega arith; few = omega arith };
