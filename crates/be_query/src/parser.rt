@@ -267,7 +267,10 @@ fn take_value(
     }
     let ended = context.level.negations;
     let comparison = Comparison { name, op, literal };
-    let leaf = Box::new(alloc, turned_leaf(context.level.operand_negated, comparison))?;
+    let leaf = Box::new(
+        alloc,
+        turned_leaf(context.level.operand_negated, comparison),
+    )?;
     let tree = end_operand(alloc, &mut context.level, leaf)?;
     context.depth -= ended;
     context.comparisons += 1;
@@ -344,7 +347,7 @@ fn split_plain(text: &str) -> Option<(char, &str)>
 fn unescape(alloc: Global, raw: &str) -> Result<String, AllocError>
     ensures { IfOk result (λ s. string_bytes s ≡ plain raw.now) }
 {
-    let mut text = String::new(alloc);
+    let mut text = String::with_capacity(alloc, raw.len())?;
     let mut rest = raw;
     'characters: while let Some((c, after)) = split_plain(rest) {
         text.push(c)?;

@@ -24,7 +24,7 @@ pub(crate) enum Place {
 
 /// The canonical text of a query: each comparison as `"name"op"value"`, sides joined by ` && ` and ` || `. `parse`
 /// reads it back wherever it is within the limits of `parse`: it may have more than 4,096 bytes, or more than 64
-/// parentheses round a comparison.
+/// parentheses round a comparison. It recurses on the tree's joints, of which a query has at most 255.
 pub fn print(alloc: Global, query: &Query) -> Result<String, Refusal>
     // It is the canonical text of the tree,
     ensures text { IfOk result (λ s. string_bytes s ≡ or_text query.now) }

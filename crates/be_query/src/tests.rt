@@ -182,6 +182,12 @@ fn query_limits(rt: HostRuntime) {
         ("a==1||", 256, "a==1", "", Some(Refusal::TooMany)),
         ("a==1||", 256, "a==[", "", Some(Refusal::BadPattern(1539))),
         ("a==1||", 256, "a==1\0", "", Some(Refusal::TooMany)),
+        ("", 4092, "a==1", " ", None),
+        ("", 4093, "a==1", " ", Some(Refusal::TooLong)),
+        ("(", 64, "a==1(", "", Some(Refusal::Syntax(68))),
+        // A `!` is open until its operand ends.
+        ("!a==1&&", 70, "a==1", "", None),
+        ("!(a==1)&&", 70, "a==1", "", None),
     ] {
         let text = repeated(&rt, front, count, middle, back);
         assert_eq!(rt; refusal(read(&rt, &text)), want, "at {count} times {front}");
@@ -220,6 +226,15 @@ fn printing(rt: HostRuntime) {
         ),
         ("'x\"\\\\'<'\\*\"'", "\"x\\\"\\\\\"<\"*\\\"\""),
         ("!!!(a>1||b<=2)", "\"a\"<=\"1\" && \"b\">\"2\""),
+        ("!!(a=1&&b=2)", "\"a\"==\"1\" && \"b\"==\"2\""),
+        (
+            "!(a=1&&!(b=2||c=3))",
+            "\"a\"!=\"1\" || (\"b\"==\"2\" || \"c\"==\"3\")",
+        ),
+        (
+            "!(!a=1||b=2)&&!c<3",
+            "\"a\"==\"1\" && \"b\"!=\"2\" && \"c\">=\"3\"",
+        ),
         ("\ta\n!=\r\"\" ", "\"a\"!=\"\""),
     ] {
         assert!(rt; is_text(printed(&rt, read(&rt, text)), want), "at {text}");
@@ -357,6 +372,33 @@ fn refused_predicates(rt: HostRuntime) {
         )),
         Some(Refusal::BadRpn(6))
     );
+}
+
+/// Adds a comparison and the item that joins it to the tree below.
+fn add_joined(items: &mut Vec<Item>, joint: Item) {
+    add(items, named("a"));
+    add(items, Item::Int(1));
+    add(items, Item::Eq);
+    add(items, joint);
+}
+
+/// Items may build a tree whose canonical text has more parentheses than `parse` takes.
+#[test]
+fn deep_predicate(rt: HostRuntime) {
+    let mut items = Vec::new(rt.alloc());
+    add(&mut items, named("a"));
+    add(&mut items, Item::Int(1));
+    add(&mut items, Item::Eq);
+    for i in 0..65 {
+        let _ = i;
+        add_joined(&mut items, Item::Or);
+        add_joined(&mut items, Item::And);
+    }
+    let back = match printed(&rt, built(&rt, &items)) {
+        Ok(text) => read(&rt, &text),
+        Err(refusal) => Err(refusal),
+    };
+    assert_eq!(rt; refusal(back), Some(Refusal::TooDeep));
 }
 
 /// 64 things may stand on the stack, and 256 comparisons be built.

@@ -35,7 +35,7 @@ pub struct Comparison {
     pub literal: Literal,
 }
 
-/// Comparisons under `&&` and `||`.
+/// Comparisons under `&&` and `||`. It is dropped by recursion on its joints, of which a query's tree has at most 255.
 #[derive(Drop)]
 pub enum Tree {
     Leaf(Comparison),
@@ -59,7 +59,8 @@ impl Cmp {
     }
 }
 
-/// The tree that holds where this one does not.
+/// The tree that holds where this one does not. It recurses on the tree's joints, which `from_rpn` keeps to 255 at most,
+/// and makes each anew.
 pub(crate) fn complement(alloc: Global, tree: Tree) -> Result<Tree, AllocError>
     ensures { IfOk result (λ t. formula t ≡ complement (formula tree)) }
 {
