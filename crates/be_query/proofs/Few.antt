@@ -1,17 +1,17 @@
 -- How many comparisons a tree that is read or built from items has.
-use Rattle.std.proofs.Common.{◌≡◌, ℕ, ◌+◌, ◌<◌, ◌≤◌, Bool, true, false, zero, suc, Option, Some, None, Result, Ok, Err, List, [], ◌∷◌, length, refl, sym, ap, ◌∙◌, subst, arith, cond}
+use Rattle.std.proofs.Common.{◌≡◌, ℕ, ◌+◌, ◌<◌, ◌≤◌, Bool, true, false, Option, Some, None, Result, Ok, Err, List, [], ◌∷◌, length, refl, sym, ap, ◌∙◌, subst, arith, cond}
 use Rattle.std.specs.Prelude.{nat_le, nat_lt}
 use Rattle.std.proofs.lemmas.Bool.{leb-false, ltb-false, cond_both}
 use Rattle.be_value.specs.Name.{has_nul}
 use Rattle.be_value.specs.declared.refusals.Refusal.{Refusal}
-use Rattle.be_value.specs.declared.refusals.Refusal.TheVariants.{Syntax, BadPattern, TooLong, TooDeep, TooMany, BadRpn}
+use Rattle.be_value.specs.declared.refusals.Refusal.TheVariants.{Syntax, BadPattern, TooLong, TooMany}
 use Rattle.be_query.specs.declared.tree.Cmp.{Cmp}
 use Rattle.be_query.specs.Tokens.{Token, Open, Close, Bang, Both, Either, Compares, Text, plain, is_name}
 use Rattle.be_query.specs.Grammar.{Formula, Leaf, And, Or, complement, comparisons, literal_of, Spells}
-use Rattle.be_query.specs.Reading.{Place, Operand, Operator, Value, Joint, Mark, next}
-use Rattle.be_query.specs.Building.{Level, fresh, Stage, Operands, Operators, Values, Joints, State, start, turned, conjunction, disjunction, joined, with_operand, with_side, close, build_at, build, build_from, tree_at, tree_of, place_of, marks_of, view_of, IsSettled}
+use Rattle.be_query.specs.Reading.{Place, Operand, Mark, next}
+use Rattle.be_query.specs.Building.{Level, Stage, Operands, Operators, Values, Joints, State, start, turned, conjunction, disjunction, joined, with_operand, with_side, close, build_at, build, build_from, tree_at, tree_of, place_of, marks_of, view_of, IsSettled}
 use Rattle.be_query.specs.Lexing.{Placed, Lexeme, Whole, Broken, Odd, lexemes, whole, all_whole, tokens}
-use Rattle.be_query.specs.Faults.{bad_pattern, value_fault, own_fault, counted, ends, broken_at, first_fault, fault}
+use Rattle.be_query.specs.Faults.{bad_pattern, value_fault, own_fault, counted, broken_at, first_fault, fault}
 use Rattle.be_query.specs.Rpn as rpn
 use Rattle.be_query.proofs.Trees.{seen, build_seen, tree_built}
 use Rattle.be_query.proofs.Sentences.{settled_build, SettledIf}

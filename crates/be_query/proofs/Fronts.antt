@@ -1,5 +1,5 @@
 -- What stands at the front of a text.
-use Rattle.std.proofs.Common.{◌≡◌, ℕ, ◌+◌, ◌-◌, ◌<◌, ◌≤◌, Bool, true, false, zero, suc, Option, Some, None, List, [], ◌∷◌, ◌++◌, length, take, drop, get_or, ◌||◌, refl, sym, ap, ◌∙◌, subst, arith, cond, not}
+use Rattle.std.proofs.Common.{◌≡◌, ℕ, ◌+◌, ◌-◌, ◌<◌, ◌≤◌, Bool, true, false, zero, suc, Option, List, [], ◌∷◌, length, take, drop, get_or, ◌||◌, refl, sym, ap, ◌∙◌, subst, arith, cond, not}
 use Rattle.std.specs.Bool.{◌==◌}
 use Rattle.std.proofs.lemmas.Bool.{true≢false, cond-true, cond-false, cond_both, or_cases, or_parts, eqb-true}
 use Rattle.std.proofs.Math.Logic.{⊎_elim}
@@ -11,7 +11,7 @@ use Rattle.std.proofs.lemmas.Str.{IsUtf8-drop, IsCharBoundary-after_ascii}
 use Rattle.std.proofs.Common.{get_or-drop}
 use Rattle.be_query.specs.declared.lexer.Span.{Span}
 use Rattle.be_query.specs.declared.lexer.Span.TheVariants.{Ends, Breaks}
-use Rattle.be_query.specs.Lexing.{further, is_separator, is_quote, is_sign, is_word, word_span, quoted_span, Lexeme, Whole, Broken, Odd, Front, Separator, Takes, front, word_front, quoted_front, sign_front}
+use Rattle.be_query.specs.Lexing.{further, is_separator, is_quote, is_sign, is_word, word_span, quoted_span, Lexeme, Whole, Broken, Takes, front, word_front, quoted_front}
 use Rattle.be_query.specs.Tokens.{Token, Text}
 use Rattle.be_query.specs.View.{StandsAt, BeginsSeparated, text_len, second_of}
 use Rattle.std.specs.Prelude.{slice_get}

@@ -1,7 +1,7 @@
 -- What is read from clean tokens is kept by printing.
-use Rattle.std.proofs.Common.{◌≡◌, ℕ, ◌+◌, Bool, true, false, zero, suc, Option, Some, None, Result, Ok, Err, List, [], ◌∷◌, ◌++◌, ◌&&◌, ◌||◌, refl, sym, ap, ◌∙◌, subst, cond, arith}
+use Rattle.std.proofs.Common.{◌≡◌, ℕ, Bool, true, false, Option, Some, None, Result, Ok, Err, List, [], ◌∷◌, ◌&&◌, refl, sym, ap, ◌∙◌, subst, cond, arith}
 use Rattle.std.specs.Prelude.{not, encode_utf8, encode_utf8_all, IsUtf8}
-use Rattle.std.specs.List.{list_all, list_any}
+use Rattle.std.specs.List.{list_all}
 use Rattle.std.specs.Str.{chars, all_scalars}
 use Rattle.std.specs.Bool.{◌==◌}
 use Rattle.std.proofs.Math.Utf8.{scalar}
@@ -11,14 +11,14 @@ use Rattle.std.proofs.lemmas.Str.{scalars-chars, encodes-chars, encode_ascii}
 use Rattle.be_value.specs.Name.{name_from, has_nul}
 use Rattle.be_pattern.specs.Match.{Part}
 use Rattle.be_pattern.specs.Parse.{pattern}
-use Rattle.be_pattern.specs.Canonical.{canonical, has_only, notation}
+use Rattle.be_pattern.specs.Canonical.{canonical, has_only}
 use Rattle.be_pattern.proofs.Back.{canonical_back}
 use Rattle.be_pattern.proofs.Drawn.{pattern_on, canonical_on}
 use Rattle.be_query.specs.declared.tree.Cmp.{Cmp}
 use Rattle.be_query.specs.declared.tree.Cmp.TheVariants.{Eq, Ne, Lt, Le, Gt, Ge}
 use Rattle.be_query.specs.Tokens.{Token, Open, Close, Bang, Both, Either, Compares, Text, plain, is_name}
 use Rattle.be_query.specs.Grammar.{Formula, Leaf, And, Or, Literal, Wild, Exact, opposite, complement, wild_or_none, literal_of}
-use Rattle.be_query.specs.Building.{Level, fresh, Stage, Operands, Operators, Values, Joints, State, turned, conjunction, disjunction, joined, with_operand, with_side, close, build_at, tree_at}
+use Rattle.be_query.specs.Building.{Level, Stage, Operands, Operators, Values, Joints, State, turned, conjunction, disjunction, joined, with_operand, with_side, close, build_at, tree_at}
 use Rattle.be_query.specs.Faults.{takes_pattern}
 use Rattle.be_query.specs.Printing.{IsKept, IsKeptBy}
 use Rattle.be_query.specs.View.{IsClean}

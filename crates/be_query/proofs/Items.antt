@@ -1,5 +1,5 @@
 -- What items make of the stack.
-use Rattle.std.proofs.Common.{◌≡◌, ℕ, Option, Some, None, Result, Ok, Err, List, [], ◌∷◌, length, map, refl, sym, ap, ◌∙◌}
+use Rattle.std.proofs.Common.{◌≡◌, ℕ, Option, Some, None, Result, Err, List, [], ◌∷◌, length, map, refl, sym, ap, ◌∙◌}
 use Rattle.be_value.specs.declared.refusals.Refusal.{Refusal}
 use Rattle.be_value.specs.declared.refusals.Refusal.TheVariants.{BadPattern, BadRpn}
 use Rattle.be_query.specs.declared.tree.Cmp.{Cmp}

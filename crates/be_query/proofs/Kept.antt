@@ -1,12 +1,11 @@
 -- What a printed tree needs, so that its text spells it.
-use Rattle.std.proofs.Common.{◌≡◌, ℕ, ◌+◌, ◌-◌, ◌<◌, ◌≤◌, Bool, true, false, zero, suc, Result, Ok, Err, List, [], ◌∷◌, ◌++◌, length, get_or, ◌||◌, ◌&&◌, refl, sym, ap, ◌∙◌, subst, arith, cond, append_assoc, append-nil, length-append}
+use Rattle.std.proofs.Common.{◌≡◌, ℕ, ◌+◌, ◌<◌, ◌≤◌, Bool, true, false, suc, Ok, List, [], ◌∷◌, ◌++◌, length, get_or, ◌||◌, refl, sym, ap, ◌∙◌, subst, arith, append_assoc, append-nil, length-append}
 use Rattle.std.specs.Prelude.{encode_utf8, encode_utf8_all}
-use Rattle.std.specs.Str.{chars, all_scalars}
-use Rattle.std.specs.List.{list_any, flat_map}
+use Rattle.std.specs.Str.{chars}
+use Rattle.std.specs.List.{flat_map}
 use Rattle.std.specs.Bool.{◌==◌}
-use Rattle.std.specs.Prelude.{nat_le}
 use Rattle.std.proofs.Math.Logic.{⊎_elim}
-use Rattle.std.proofs.lemmas.Bool.{true≢false, cond-true, cond-false, cond_both, cases_Bool, or_parts, or_from, and_from, cases_lt, eqb-true, ne_eqb, le-leb}
+use Rattle.std.proofs.lemmas.Bool.{true≢false, cond-false, cond_both, or_parts, or_from, cases_lt, ne_eqb}
 use Rattle.std.proofs.lemmas.Str.{inside_one, length-encode, len_utf8_bounds, len_utf8_ascii, encode_ascii, encodes-append, chars-encodes}
 use Rattle.be_pattern.specs.Match.{Part, Run, One, Among, Only}
 use Rattle.be_pattern.specs.Parse.{pattern}
@@ -15,10 +14,10 @@ use Rattle.be_query.specs.declared.lexer.Span.{Span}
 use Rattle.be_query.specs.declared.lexer.Span.TheVariants.{Ends, Breaks}
 use Rattle.be_query.specs.declared.tree.Cmp.{Cmp}
 use Rattle.be_query.specs.declared.tree.Cmp.TheVariants.{Eq, Ne, Lt, Le, Gt, Ge}
-use Rattle.be_query.specs.Tokens.{plain, is_name}
+use Rattle.be_query.specs.Tokens.{is_name}
 use Rattle.be_value.specs.Name.{name_from, has_nul}
 use Rattle.std.specs.Result.{is_ok}
-use Rattle.be_query.specs.Grammar.{Formula, Leaf, And, Or, Literal, Wild, Exact, Spells, IsTextOf, wild_or_none, literal_of}
+use Rattle.be_query.specs.Grammar.{Formula, Leaf, And, Or, Literal, Wild, Exact, IsTextOf, wild_or_none, literal_of}
 use Rattle.be_query.specs.Faults.{takes_pattern}
 use Rattle.be_query.specs.Lexing.{further, quoted_span, tokens}
 use Rattle.be_query.specs.Printing.{escaped, value_text, or_text, IsPrintable, IsWhole, IsQuotable, IsKept, IsKeptBy}

@@ -1,17 +1,13 @@
 -- One lexeme of the text.
-use Rattle.std.proofs.Common.{◌≡◌, ℕ, ◌+◌, ◌-◌, ◌<◌, ◌≤◌, Bool, true, false, zero, suc, Option, Some, None, List, [], ◌∷◌, ◌++◌, length, drop, refl, sym, ap, ◌∙◌, subst, arith, cond}
+use Rattle.std.proofs.Common.{◌≡◌, ℕ, ◌+◌, ◌-◌, ◌<◌, ◌≤◌, zero, suc, Some, List, [], ◌∷◌, length, drop, refl, sym, ap, ◌∙◌, arith, cond}
 use Rattle.std.proofs.lemmas.Bool.{le-ltb}
 use Rattle.std.proofs.Math.ListN.{length-drop}
-use Rattle.be_value.specs.declared.refusals.Refusal.{Refusal}
 use Rattle.be_value.specs.declared.refusals.Refusal.TheVariants.{TooLong}
-use Rattle.be_query.specs.Tokens.{Token}
-use Rattle.be_query.specs.Grammar.{Formula, Spells}
-use Rattle.be_query.specs.Reading.{Place, Operand, Mark}
-use Rattle.be_query.specs.Building.{State, start, build, build_from, tree_at}
-use Rattle.be_query.specs.Lexing.{Placed, Lexeme, Whole, Broken, Odd, Front, Separator, Takes, front, lexemes, whole, tokens}
+use Rattle.be_query.specs.Reading.{Operand}
+use Rattle.be_query.specs.Lexing.{Placed, Lexeme, Front, Separator, Takes, front, lexemes}
 use Rattle.be_query.specs.Faults.{first_fault, fault}
 use Rattle.be_query.specs.View.{StandsAt, BeginsSeparated}
-use Rattle.be_query.proofs.Sentences.{lexemes_behind, built_spells}
+use Rattle.be_query.proofs.Sentences.{lexemes_behind}
 
 after_front : ℕ → List ℕ → Front → List Placed
 after_front at bs Separator = lexemes 0 (at + 1) bs

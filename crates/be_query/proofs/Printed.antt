@@ -1,17 +1,17 @@
 -- A canonical text is cut into the tokens of its tree.
-use Rattle.std.proofs.Common.{◌≡◌, ℕ, ◌+◌, ◌-◌, ◌<◌, ◌≤◌, Bool, true, false, zero, suc, List, [], ◌∷◌, ◌++◌, length, take, drop, refl, sym, ap, ◌∙◌, subst, arith, cond, append_assoc, append-nil}
+use Rattle.std.proofs.Common.{◌≡◌, ℕ, ◌+◌, ◌-◌, true, false, suc, List, [], ◌∷◌, ◌++◌, length, take, drop, refl, sym, ap, ◌∙◌, subst, arith, append_assoc, append-nil}
 use Rattle.std.specs.Prelude.{codes}
 use Rattle.std.specs.List.{list_any}
 use Rattle.std.specs.Bool.{◌==◌}
 use Rattle.std.proofs.Math.Logic.{⊎_elim}
-use Rattle.std.proofs.lemmas.Bool.{cond-true, cond-false, cases_Bool, or_parts, or_cases}
+use Rattle.std.proofs.lemmas.Bool.{cond-true, cond-false, cases_Bool, or_parts}
 use Rattle.be_query.specs.declared.lexer.Span.{Span}
-use Rattle.be_query.specs.declared.lexer.Span.TheVariants.{Ends, Breaks}
+use Rattle.be_query.specs.declared.lexer.Span.TheVariants.{Ends}
 use Rattle.be_query.specs.declared.tree.Cmp.{Cmp}
 use Rattle.be_query.specs.declared.tree.Cmp.TheVariants.{Eq, Ne, Lt, Le, Gt, Ge}
 use Rattle.be_query.specs.Tokens.{Token, Open, Close, Both, Either, Compares, Text}
 use Rattle.be_query.specs.Grammar.{Formula, Leaf, And, Or, Literal, Spells}
-use Rattle.be_query.specs.Lexing.{further, quoted_span, quoted_front, front, lexemes, whole, all_whole, tokens, Takes, Whole}
+use Rattle.be_query.specs.Lexing.{further, quoted_span, quoted_front, lexemes, whole, all_whole, tokens, Whole}
 use Rattle.be_query.specs.Printing.{wants_backslash, escaped, value_text, op_text, leaf_text, or_text, and_text, operand_text, leaf_tokens, or_printed, and_printed, operand_printed, IsPrintable, IsWhole, IsQuotable}
 use Rattle.be_query.proofs.Sentences.{lexemes_behind}
 use Rattle.be_query.proofs.Loop.{taken_at}

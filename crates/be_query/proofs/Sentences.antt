@@ -1,12 +1,11 @@
 -- What was built to the end is the tree of a sentence.
-use Rattle.std.proofs.Common.{◌≡◌, ℕ, ◌+◌, ◌-◌, Bool, true, false, zero, suc, Option, Some, None, List, [], ◌∷◌, ◌++◌, length, drop, refl, sym, ap, ◌∙◌, subst, arith, cond}
-use Rattle.be_query.specs.declared.tree.Cmp.{Cmp}
+use Rattle.std.proofs.Common.{◌≡◌, ℕ, ◌+◌, Bool, true, false, zero, suc, Option, Some, None, List, [], ◌∷◌, drop, refl, sym, ap, ◌∙◌, subst, arith, cond}
 use Rattle.be_query.specs.Tokens.{Token, Open, Close, Bang, Both, Either, Compares, Text, is_name}
-use Rattle.be_query.specs.Grammar.{OrPhrase, or_tokens, or_tree, Formula, Spells}
-use Rattle.be_query.specs.Reading.{Place, Operand, Operator, Value, Joint, Mark, Paren, Negation, next, read_from, read}
-use Rattle.be_query.specs.Building.{Level, fresh, Stage, Operands, Operators, Values, Joints, State, start, with_side, with_operand, close, build_at, build, build_from, tree_at, tree_of, place_of, negations_on, outer_marks, marks_of, view_of, IsSettledAt, IsSettled}
-use Rattle.be_query.specs.Lexing.{Placed, Lexeme, Whole, Broken, Odd, Front, Separator, Takes, front, lexemes, whole}
-use Rattle.be_query.proofs.Viability.{read_none, read_sentence}
+use Rattle.be_query.specs.Grammar.{or_tree, Formula, Spells}
+use Rattle.be_query.specs.Reading.{Joint, read_from}
+use Rattle.be_query.specs.Building.{Level, Stage, Operands, Operators, Values, Joints, State, start, close, build_at, build, build_from, tree_at, tree_of, place_of, negations_on, marks_of, IsSettledAt, IsSettled}
+use Rattle.be_query.specs.Lexing.{lexemes}
+use Rattle.be_query.proofs.Viability.{read_sentence}
 use Rattle.be_query.proofs.Trees.{seen, build_seen, tree_built}
 
 abbrev pub SettledIf : Option State → Type 0

@@ -1,14 +1,14 @@
 -- What one token changes.
-use Rattle.std.proofs.Common.{◌≡◌, ℕ, ◌+◌, ◌-◌, ◌<◌, ◌≤◌, Bool, true, false, zero, suc, Option, Some, None, List, [], ◌∷◌, ◌++◌, length, map, reverse, refl, sym, ap, ◌∙◌, subst, arith, cond}
+use Rattle.std.proofs.Common.{◌≡◌, ℕ, ◌+◌, ◌-◌, ◌<◌, ◌≤◌, zero, suc, Some, None, List, [], ◌∷◌, ◌++◌, length, map, reverse, refl, sym, ap, ◌∙◌, arith, cond}
 use Rattle.std.proofs.lemmas.Bool.{lt-leb}
 use Rattle.be_value.specs.declared.refusals.Refusal.{Refusal}
 use Rattle.be_value.specs.declared.refusals.Refusal.TheVariants.{Syntax, BadPattern, TooMany}
 use Rattle.be_query.specs.declared.tree.Cmp.{Cmp}
-use Rattle.be_query.specs.Grammar.{Formula, Leaf, And, Or, Literal, literal_of}
-use Rattle.be_query.specs.Tokens.{Token, Open, Close, Bang, Both, Either, Compares, Text}
-use Rattle.be_query.specs.Reading.{Place, Operand, Operator, Value, Joint, Mark, Paren, Negation, ended, next}
-use Rattle.be_query.specs.Building.{Level, Stage, Operands, Operators, Values, Joints, State, turned, conjunction, ended_level, with_operand, with_side, joined, close, build_at, place_of, negations_on, outer_marks, marks_of, view_of, IsSettledAt}
-use Rattle.be_query.specs.Lexing.{Placed, Lexeme, Whole}
+use Rattle.be_query.specs.Grammar.{Formula, Leaf, literal_of}
+use Rattle.be_query.specs.Tokens.{Token, Close, Text}
+use Rattle.be_query.specs.Reading.{Place, Value, Joint, Mark, Paren, ended, next}
+use Rattle.be_query.specs.Building.{Level, Stage, Values, Joints, State, turned, conjunction, ended_level, with_side, joined, close, build_at, place_of, negations_on, outer_marks, marks_of, view_of, IsSettledAt}
+use Rattle.be_query.specs.Lexing.{Placed, Whole}
 use Rattle.be_query.specs.Faults.{first_fault, own_fault, counted, bad_pattern, value_fault, ends}
 use Rattle.be_query.proofs.Trees.{seen, build_seen}
 use Rattle.be_query.specs.declared.parser.Level as code_level

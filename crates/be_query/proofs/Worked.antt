@@ -1,5 +1,5 @@
 -- What is built from clean items is kept by printing.
-use Rattle.std.proofs.Common.{◌≡◌, ℕ, ◌+◌, ◌<◌, ◌^◌, zero, suc, arith, Bool, true, false, Option, Some, None, Result, Ok, Err, List, [], ◌∷◌, ◌++◌, ◌&&◌, length, map, refl, sym, ap, ◌∙◌, subst}
+use Rattle.std.proofs.Common.{◌≡◌, ℕ, ◌+◌, ◌<◌, ◌^◌, zero, suc, arith, Bool, true, false, Option, Some, None, Result, Ok, Err, List, [], ◌∷◌, ◌++◌, length, map, refl, sym, ap, ◌∙◌, subst}
 use Rattle.std.specs.Prelude.{IsUtf8, nat_le, nat_lt}
 use Rattle.std.specs.List.{list_all}
 use Rattle.std.specs.Str.{chars}
@@ -21,10 +21,10 @@ use Rattle.be_pattern.specs.Canonical.{around, run_if, is_formed, has_only}
 use Rattle.be_pattern.proofs.Back.{canonical_read}
 use Rattle.be_query.specs.declared.tree.Cmp.{Cmp}
 use Rattle.be_query.specs.declared.tree.Cmp.TheVariants.{Eq}
-use Rattle.be_query.specs.Grammar.{Formula, Leaf, And, Or, Literal, Wild, literal_of}
+use Rattle.be_query.specs.Grammar.{Formula, Leaf, And, Or, Wild, literal_of}
 use Rattle.be_query.specs.Faults.{bad_pattern}
 use Rattle.be_query.specs.Printing.{IsKept, IsKeptBy}
-use Rattle.be_query.specs.Rpn.{Thing, Attribute, Value, Whole, Item, Attr, Given, Number, Compare, Around, Both, Either, Complement, top_value, top_attribute, top_tree, comparison_below, top_comparison, tree_below, top_trees, counts, compares, surrounds, joins, complements, work, shallow, one_tree, ItemClean}
+use Rattle.be_query.specs.Rpn.{Thing, Attribute, Value, Whole, Item, Attr, Given, Number, Compare, Around, Both, Either, Complement, top_tree, comparison_below, top_comparison, tree_below, top_trees, counts, compares, surrounds, joins, complements, work, shallow, one_tree, ItemClean}
 use Rattle.be_query.proofs.Held.{some, all_some, scalars_all, chars_clean, parts_kept, literal_kept, complement_kept}
 
 abbrev pub ThingKept : Thing → Type 0

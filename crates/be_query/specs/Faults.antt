@@ -1,14 +1,14 @@
 -- The fault of a query's text: the first that is met when its tokens are read from the left.
-use Rattle.std.specs.Prelude.{◌≡◌, ℕ, ◌+◌, Bool, true, false, Option, Some, None, Result, Ok, Err, List, [], ◌∷◌, length, ◌==◌, nat_lt, nat_le, if◌then◌else◌}
+use Rattle.std.specs.Prelude.{ℕ, ◌+◌, Bool, true, false, Option, Some, None, Result, Ok, Err, List, [], ◌∷◌, length, nat_lt, nat_le, if◌then◌else◌}
 use Rattle.std.specs.Str.{chars}
 use Rattle.be_pattern.specs.Parse.{pattern}
 use Rattle.be_value.specs.declared.refusals.Refusal.{Refusal}
 use Rattle.be_value.specs.declared.refusals.Refusal.TheVariants.{Syntax, BadPattern, TooLong, TooDeep, TooMany}
 use Rattle.be_query.specs.declared.tree.Cmp.{Cmp}
 use Rattle.be_query.specs.declared.tree.Cmp.TheVariants.{Eq, Ne, Lt, Le, Gt, Ge}
-use Rattle.be_query.specs.Tokens.{Token, Open, Close, Bang, Both, Either, Compares, Text}
-use Rattle.be_query.specs.Reading.{Place, Operand, Operator, Value, Joint, Mark, next}
-use Rattle.be_query.specs.Lexing.{Lexeme, Whole, Broken, Odd, Placed, lexemes}
+use Rattle.be_query.specs.Tokens.{Token, Open, Bang, Text}
+use Rattle.be_query.specs.Reading.{Place, Operand, Value, Joint, Mark, next}
+use Rattle.be_query.specs.Lexing.{Whole, Broken, Odd, Placed, lexemes}
 
 -- the operator takes a pattern
 abbrev pub takes_pattern : Cmp → Bool

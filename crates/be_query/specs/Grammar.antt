@@ -2,7 +2,7 @@
 --   or  = and { "||" and }
 --   and = not { "&&" not }
 --   not = "!" not | "(" or ")" | name op value
-use Rattle.std.specs.Prelude.{◌≡◌, ℕ, ◌+◌, Bool, true, false, Result, Ok, Err, List, [], ◌∷◌, ◌++◌}
+use Rattle.std.specs.Prelude.{◌≡◌, ℕ, ◌+◌, true, Result, Ok, Err, List, [], ◌∷◌, ◌++◌}
 use Rattle.std.specs.Str.{chars}
 use Rattle.be_pattern.specs.Match.{Part}
 use Rattle.be_pattern.specs.Parse.{pattern}

@@ -1,5 +1,5 @@
 -- The canonical text of a tree.
-use Rattle.std.specs.Prelude.{◌≡◌, ◌≤◌, Ok, ℕ, Bool, true, false, List, [], ◌∷◌, ◌++◌, length, ◌||◌, ◌==◌, if◌then◌else◌, encode_utf8_all, codes}
+use Rattle.std.specs.Prelude.{◌≡◌, Ok, ℕ, Bool, true, false, List, [], ◌∷◌, ◌++◌, length, ◌||◌, ◌==◌, if◌then◌else◌, encode_utf8_all, codes}
 use Rattle.be_pattern.specs.Canonical.{canonical}
 use Rattle.be_query.specs.declared.tree.Cmp.{Cmp}
 use Rattle.be_query.specs.declared.tree.Cmp.TheVariants.{Eq, Ne, Lt, Le, Gt, Ge}

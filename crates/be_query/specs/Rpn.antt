@@ -1,5 +1,5 @@
 -- The tree that items in reverse Polish order build, or why they build none.
-use Rattle.std.specs.Prelude.{◌≡◌, ℕ, ◌+◌, ℤ, Bool, true, false, Option, Some, None, Result, Ok, Err, List, [], ◌∷◌, length, map, reverse, ◌==◌, nat_le, nat_lt, if◌then◌else◌, string_bytes, IsUtf8}
+use Rattle.std.specs.Prelude.{◌≡◌, ℕ, ◌+◌, Bool, true, false, Option, Some, None, Result, Ok, Err, List, [], ◌∷◌, length, map, reverse, nat_le, nat_lt, if◌then◌else◌, string_bytes, IsUtf8}
 use Rattle.std.specs.Str.{chars}
 use Rattle.std.specs.Fmt.{decimal, signed_decimal}
 use Rattle.be_pattern.specs.Canonical.{around}

@@ -1,9 +1,8 @@
 -- The tokens of a query's text. Texts are lists of bytes.
-use Rattle.std.specs.Prelude.{◌≡◌, ℕ, ◌+◌, ◌≤◌, zero, suc, Bool, true, false, List, [], ◌∷◌, length, ◌&&◌, ◌||◌, not, ◌==◌, nat_lt, nat_le, take, if◌then◌else◌}
+use Rattle.std.specs.Prelude.{ℕ, Bool, List, [], ◌∷◌, ◌==◌, if◌then◌else◌}
 use Rattle.std.specs.Result.{is_ok}
 use Rattle.be_value.specs.Name.{name_from}
 use Rattle.be_query.specs.declared.tree.Cmp.{Cmp}
-use Rattle.be_query.specs.declared.tree.Cmp.TheVariants.{Eq, Ne, Lt, Le, Gt, Ge}
 
 pub data Token : Type 0 where
   -- `(` and `)`

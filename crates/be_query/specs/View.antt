@@ -7,7 +7,6 @@ use Rattle.be_value.specs.declared.refusals.Refusal.TheVariants.{OutOfMemory}
 use Rattle.std.specs.Global.{Global}
 use Rattle.std.specs.declared.boxed.Box.{Box}
 use Rattle.be_query.specs.declared.tree.Literal as code_literal
-use Rattle.be_query.specs.declared.tree.Comparison.{Comparison}
 use Rattle.be_query.specs.declared.tree.Tree as code_tree
 use Rattle.be_query.specs.declared.token.Token as code_token
 use Rattle.be_query.specs.declared.lexer.Front as code_front

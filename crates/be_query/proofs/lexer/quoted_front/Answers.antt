@@ -1,4 +1,4 @@
-use Rattle.std.proofs.Common.{◌≡◌, sym, ◌∙◌, ap, arith, false, length, subst, IsUtf8, rules}
+use Rattle.std.proofs.Common.{◌∙◌, ap, arith, false, length, subst, IsUtf8, rules}
 use Rattle.std.proofs.lemmas.Str.{IsCharBoundary-after_ascii}
 use Rattle.be_query.specs.Lexing.{quoted_span, is_quote, is_separator}
 use Rattle.be_query.proofs.Fronts.{quote_ascii, quoted_ends, before_ascii, quoted_breaks, tail_boundary, quoted_token, quoted_broken}

@@ -1,4 +1,4 @@
-use Rattle.std.proofs.Common.{◌≡◌, sym, ◌∙◌, ap, arith}
+use Rattle.std.proofs.Common.{◌∙◌, ap, arith}
 use Rattle.std.specs.Prelude.{slice_get}
 use Rattle.be_query.proofs.Fronts.{sign_boundary, sign_at}
 use Rattle.be_query.proofs.lexer.sign_front.Goals as goal

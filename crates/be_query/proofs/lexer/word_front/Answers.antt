@@ -1,4 +1,4 @@
-use Rattle.std.proofs.Common.{◌≡◌, sym, ◌∙◌, ap, arith, false, rules}
+use Rattle.std.proofs.Common.{◌∙◌, ap, false, rules}
 use Rattle.be_query.specs.Lexing.{word_span}
 use Rattle.be_query.proofs.Fronts.{word_ends, before_ascii, word_token, word_broken}
 use Rattle.be_query.proofs.Clean.{word_free}

@@ -1,4 +1,4 @@
-use Rattle.std.proofs.Common.{◌≡◌, ◌+◌, arith, ap, sym, ◌∙◌, refl}
+use Rattle.std.proofs.Common.{arith, ap, refl}
 use Rattle.be_query.specs.Building.{Joints, marks_of}
 use Rattle.be_query.specs.Lexing.{Whole}
 use Rattle.be_query.specs.View.{formula, level_of, outer_of, token_of}

@@ -1,4 +1,4 @@
-use Rattle.std.proofs.Common.{◌≡◌, ◌+◌, arith}
+use Rattle.std.proofs.Common.{arith}
 use Rattle.be_query.specs.View.{level_of, outer_of}
 use Rattle.be_query.proofs.Steps.{negations_within}
 use Rattle.be_query.proofs.parser.take_operand.Goals as goal

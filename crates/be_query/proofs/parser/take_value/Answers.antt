@@ -1,8 +1,8 @@
-use Rattle.std.proofs.Common.{◌≡◌, ◌+◌, arith, ap, sym, ◌∙◌, refl, inr}
+use Rattle.std.proofs.Common.{◌≡◌, arith, ap, ◌∙◌, refl, inr}
 use Rattle.be_query.specs.Building.{Values, marks_of, turned}
 use Rattle.be_query.specs.Grammar.{Leaf}
 use Rattle.be_query.specs.Lexing.{Whole}
-use Rattle.be_query.specs.View.{level_of, outer_of, token_of, formula, literal, parser_state, IsCounted}
+use Rattle.be_query.specs.View.{level_of, outer_of, token_of, formula, literal}
 use Rattle.be_query.proofs.Steps.{negations_within, built_on, value_built, deep_ended, good_value, value_refused}
 use Rattle.be_query.proofs.parser.take_value.Goals as goal
 

@@ -1,6 +1,5 @@
-use Rattle.std.proofs.Common.{◌≡◌, ◌+◌, ◌-◌, ◌∷◌, [], ap, sym, ◌∙◌, Some, None, length, arith, Bool, true, false, rules}
-use Rattle.be_query.specs.Reading.{Operand}
-use Rattle.be_query.specs.Building.{start, build_from}
+use Rattle.std.proofs.Common.{◌≡◌, ◌-◌, ap, sym, ◌∙◌, Some, length, arith, rules}
+use Rattle.be_query.specs.Building.{build_from}
 use Rattle.be_query.specs.Lexing.{lexemes, whole, tokens, Whole}
 use Rattle.be_query.specs.View.{stage_of, parser_state, fault_in, token_of, formula}
 use Rattle.be_query.proofs.Loop.{separated, separated_shorter, taken, taken_shorter, no_lexemes, fault_within}

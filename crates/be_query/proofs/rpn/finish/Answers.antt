@@ -1,7 +1,6 @@
-use Rattle.std.proofs.Common.{◌≡◌, Some, length, arith, rules}
-use Rattle.be_query.specs.Rpn.{top_tree, things_of}
+use Rattle.std.proofs.Common.{arith}
+use Rattle.be_query.specs.Rpn.{things_of}
 use Rattle.be_query.specs.View.{formula}
-use Rattle.std.proofs.lemmas.List.{length-map, length-reverse}
 use Rattle.be_query.proofs.Items.{many_things, some_things}
 use Rattle.be_query.proofs.rpn.finish.Goals as goal
 

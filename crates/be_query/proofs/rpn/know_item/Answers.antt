@@ -1,4 +1,4 @@
-use Rattle.std.proofs.Common.{◌≡◌, sym, subst, arith, rules, FitsSigned, w64}
+use Rattle.std.proofs.Common.{sym, subst, arith, rules, FitsSigned, w64}
 use Rattle.std.proofs.lemmas.Str.{IsUtf8-string_bytes}
 use Rattle.be_query.specs.Rpn.{ItemClean, item_of}
 use Rattle.be_query.proofs.Worked.{signed_clean}

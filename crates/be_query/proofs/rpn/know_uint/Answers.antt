@@ -1,4 +1,3 @@
-use Rattle.std.proofs.Common.{◌<◌, arith}
 use Rattle.be_query.proofs.Worked.{number_clean}
 use Rattle.be_query.proofs.rpn.know_uint.Goals as goal
 

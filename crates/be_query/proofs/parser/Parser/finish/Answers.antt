@@ -1,6 +1,4 @@
-use Rattle.std.proofs.Common.{◌≡◌, ap, sym, ◌∙◌, Some, length, arith, Bool, true, false, inr}
-use Rattle.std.specs.Vec.{vec_len}
-use Rattle.std.proofs.lemmas.Bool.{eqb-false, not-true}
+use Rattle.std.proofs.Common.{◌≡◌, ap, ◌∙◌, length, arith, inr}
 use Rattle.be_query.specs.Building.{place_of, marks_of}
 use Rattle.be_query.specs.Faults.{ends}
 use Rattle.be_query.specs.View.{stage_of, level_of, outer_of}
