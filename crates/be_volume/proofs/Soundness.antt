@@ -1,5 +1,5 @@
 -- Accepted operations keep a volume sound.
-use Rattle.std.proofs.Common.{◌≡◌, ◌⊎◌, inl, inr, ◌<◌, ◌≤◌, ◌+◌, ◌++◌, ◌^◌, ℕ, Bool, true, false, cond, List, [], ◌∷◌, length, IsTrue, refl, sym, ap, ◌∙◌, subst, arith, Some, None, is_some, nat_eq, unwrap_or, fold, All, IsOk, is_ok, map as each}
+use Rattle.std.proofs.Common.{◌≡◌, ◌⊎◌, inl, inr, ◌<◌, ◌≤◌, ◌+◌, ◌++◌, ◌^◌, ℕ, Bool, true, false, cond, List, [], ◌∷◌, length, IsTrue, refl, sym, ap, ◌∙◌, subst, arith, Some, None, is_some, nat_eq, unwrap_or, fold, All, is_ok}
 use Rattle.std.proofs.lemmas.List.Elements.{All-head, All-tail}
 use Rattle.std.proofs.lemmas.Option.{same_Some}
 use Rattle.std.specs.Prelude.{Ok, Err, Result}
@@ -18,8 +18,8 @@ use Rattle.be_value.specs.declared.refusals.Refusal.{Refusal}
 use Rattle.be_value.specs.declared.values.Kind.{Kind}
 use Rattle.be_value.specs.declared.values.Kind.TheVariants as kinds
 use Rattle.be_value.specs.declared.values.Value.{Value}
-use Rattle.be_volume.specs.Indices.{Indices, with_pair, without_pair, without_node, paired, paired_at, unpaired, unpaired_at, same_kind}
-use Rattle.be_volume.specs.Maps.{name_cmp, Attributes, Nodes, attributes_of, with_attribute}
+use Rattle.be_volume.specs.Indices.{paired, paired_at, unpaired, unpaired_at, same_kind}
+use Rattle.be_volume.specs.Maps.{name_cmp, Attributes, Nodes, attributes_of}
 use Rattle.be_volume.specs.Reading.{attribute}
 use Rattle.be_volume.specs.Sound.{IsName, IsOperation, IsPaired, IsSound}
 use Rattle.be_volume.specs.Volume.{State, step, steps, advance}
