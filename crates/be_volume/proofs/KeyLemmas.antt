@@ -1,7 +1,7 @@
 -- Keys beside their pairs, and the least of them from some bytes on.
-use Rattle.std.proofs.Common.{◌≡◌, ◌<◌, ◌≤◌, ◌^◌, ℕ, ◌+◌, zero, suc, Bool, true, false, not, cond, List, [], ◌∷◌, length, take, IsTrue, refl, sym, ap, subst, ◌∙◌, arith, Some, None, if◌then◌else◌}
+use Rattle.std.proofs.Common.{◌≡◌, ◌<◌, ◌≤◌, ◌^◌, ℕ, zero, suc, Bool, true, false, not, cond, List, [], ◌∷◌, length, take, IsTrue, refl, sym, ap, subst, ◌∙◌, arith, Some, None, if◌then◌else◌}
 use Rattle.std.proofs.lemmas.Option.{same_Some}
-use Rattle.std.specs.Prelude.{⊤, IfSome, OnOk, OnErr, Ok, Err, Result}
+use Rattle.std.specs.Prelude.{IfSome, OnOk, OnErr, Ok, Err, Result}
 use Rattle.std.specs.Result.{is_err}
 use Rattle.std.specs.BTreeSet.{BTreeSet, contains, IsKeyRangeOf}
 use Rattle.std.specs.BTreeMap.{is_at}
@@ -9,7 +9,7 @@ use Rattle.std.specs.BTreeMap.Range.{is_from_start, IsFromStart, IsInRange}
 use Rattle.std.specs.List.{list_any, slice_get}
 use Rattle.std.specs.Option.{option_and_then}
 use Rattle.std.specs.Ordering.{nat_cmp, is_eq, is_lt, is_gt, is_le, ordering_then, ordering_reverse, eq_by_cmp}
-use Rattle.std.specs.Cmp.{IsTotalOrder, nat_cmp_total, tied_itself, eq_by_cmp_equiv}
+use Rattle.std.specs.Cmp.{nat_cmp_total, tied_itself}
 use Rattle.std.specs.declared.cmp.Ordering.{Ordering}
 use Rattle.std.specs.declared.cmp.Ordering.TheVariants.{Less, Equal, Greater}
 use Rattle.std.specs.declared.ops.Bound.{Bound}

@@ -3,7 +3,7 @@
 //! A volume holds nodes, each with a number and typed attributes, and indices that are made and removed by name, as the
 //! attributes and indices of the Be File System (Giampaolo, "Practical File System Design"; the Be Book, `fs_attr.h` and
 //! `fs_index.h`). That a new index is empty and takes only attributes set after its making is this project's own choice.
-ghost use Rattle.std.specs.Prelude.{◌≡◌, ◌<◌, ◌≤◌, ◌^◌, ◌+◌, IsOk, IfOk, Ok, length, true};
+ghost use Rattle.std.specs.Prelude.{◌≡◌, ◌<◌, ◌≤◌, ◌^◌, ◌+◌, IsOk, IfOk, IfSome, Ok, length, true};
 ghost use Rattle.std.specs.Option.{option_map};
 ghost use Rattle.be_volume.specs.Keys.{IsKey, IsNextKey};
 ghost use Rattle.be_volume.specs.Query.{scan};
@@ -21,16 +21,23 @@ use be_query::Query;
 use be_value::{Kind, Name, Refusal, Value};
 use std::alloc::{AllocError, Global};
 use std::marker::Model;
+use std::mem;
 
 /// A volume. A contract sees its `State`: the next number, the attributes of each node, and the indices. Every volume is
 /// sound: each pair of an index is its node's attribute of that name and has the index's kind.
+///
+/// The contents are kept twice, so a volume takes twice the room of what it holds: `apply` works on the one while the
+/// other stands, since what was removed from an ordered map can't be put back without memory.
 #[derive(Drop)]
 pub struct Volume {
     alloc: Global,
     contents: Contents,
+    /// Equal contents, or none where they are yet to be copied.
+    twin: Option<Contents>,
 }
 
 impl Model for Volume {
+    ghost use Rattle.std.specs.Prelude.{◌≡◌, IfSome};
     ghost use Rattle.be_volume.specs.Sound.{IsSound};
     ghost use Rattle.be_volume.specs.Volume as model;
 
@@ -40,7 +47,7 @@ impl Model for Volume {
 
     ghost view = { λ v. v.contents };
 
-    ghost invariant = { λ v. IsSound v.contents };
+    ghost invariant = { λ v. IsSound v.contents × IfSome v.twin (λ twin. twin ≡ v.contents) };
 }
 
 impl Volume {
@@ -51,6 +58,7 @@ impl Volume {
         Volume {
             alloc,
             contents: Contents::new(alloc),
+            twin: Some(Contents::new(alloc)),
         }
     }
 
@@ -68,7 +76,8 @@ impl Volume {
         self.contents.next()
     }
 
-    /// An equal volume, at the cost of all that this one holds; refused with 10 alone.
+    /// An equal volume, at the cost of all that this one holds; refused with 10 alone. The first `apply` on it costs as
+    /// much again.
     pub fn copy(&self) -> Result<Volume, Refusal>
         ensures { Answers (λ copy. copy) result (Ok self.now) }
     {
@@ -76,6 +85,7 @@ impl Volume {
         Ok(Volume {
             alloc: self.alloc,
             contents,
+            twin: None,
         })
     }
 
@@ -97,8 +107,9 @@ impl Volume {
     /// can't be indexed; this is found before memory is taken. It is refused with 10 where there is no memory. A refused
     /// list leaves the volume as it was.
     ///
-    /// The operations are done on a copy, which takes the place of the volume at the end, so a call costs as much as the
-    /// volume holds. `replay` needs no copy.
+    /// The operations are done on the twin of the contents, which takes their place, and then the old contents follow. So
+    /// a call costs what it changes, twice. Only where there is no twin is the whole volume copied: at the first call
+    /// after a refusal with 10, after a `replay`, and on a new copy.
     pub fn apply(&mut self, ops: &[Op]) -> Result<ArrayVec<Done, 64>, Refusal>
         requires some { 1 ≤ length ops.now }
         requires few { length ops.now ≤ 64 }
@@ -106,20 +117,21 @@ impl Volume {
         ensures writes { model.Writes (λ dones. dones.items) self.old ops.now result self.new }
         ensures grows { self.new.next ≤ self.old.next + 64 }
     {
-        let mut facts = Standing {
-            contents: &self.contents,
-        };
-        if let Some(refusal) = first_refusal(&mut facts, ops) {
+        if let Some(refusal) = self.refusal(ops) {
             return Err(refusal);
         }
-        let mut contents = self.contents.copy()?;
-        let dones = perform_all(&mut contents, ops)?;
-        self.contents = contents;
+        let mut ahead = twin_of(&self.contents, self.twin.take())?;
+        let dones = perform_all(&mut ahead, ops)?;
+        let mut behind = mem::replace(&mut self.contents, ahead);
+        if perform_all(&mut behind, ops).is_ok() {
+            self.twin = Some(behind);
+        }
         Ok(dones)
     }
 
-    /// Applies operations as `apply` does, and gives the volume back beside the answer, which is never 10. There is no
-    /// copy: where there is no memory, the volume is gone. So a journal is replayed at the cost of what its entries change.
+    /// Applies operations as `apply` does, and gives the volume back beside the answer, which is never 10. Nothing is kept
+    /// twice: where there is no memory, the volume is gone. So a journal is replayed at the cost of what its entries
+    /// change, and in the room of what the volume holds.
     pub fn replay(
         self,
         ops: &[Op],
@@ -130,20 +142,19 @@ impl Volume {
         ensures replays { IfOk result (λ r. model.Replays (λ dones. dones.items) self ops.now r.1 r.0) }
         ensures grows { IfOk result (λ r. r.0.next ≤ self.next + 64) }
     {
-        let mut facts = Standing {
-            contents: &self.contents,
-        };
-        if let Some(refusal) = first_refusal(&mut facts, ops) {
+        if let Some(refusal) = self.refusal(ops) {
             return Ok((self, Err(refusal)));
         }
         let Volume {
             alloc,
             contents: mut own,
+            twin: _,
         } = self;
         let dones = perform_all(&mut own, ops)?;
         let volume = Volume {
             alloc,
             contents: own,
+            twin: None,
         };
         Ok((volume, Ok(dones)))
     }
@@ -217,7 +228,18 @@ impl Volume {
     }
 }
 
-/// Performs operations that are accepted.
+/// The twin of these contents, or a copy where there is none.
+fn twin_of(contents: &Contents, twin: Option<Contents>) -> Result<Contents, AllocError>
+    requires { IfSome twin (λ twin. twin ≡ contents.now) }
+    ensures { IfOk result (λ twin. twin ≡ contents.now) }
+{
+    match twin {
+        Some(twin) => Ok(twin),
+        None => contents.copy(),
+    }
+}
+
+/// Performs operations that are accepted. Where there is no memory, what is left of the contents is not said.
 fn perform_all(contents: &mut Contents, ops: &[Op]) -> Result<ArrayVec<Done, 64>, AllocError>
     requires few { length ops.now ≤ 64 }
     requires sound { IsSound contents.old }

@@ -1,7 +1,6 @@
 use Rattle.std.proofs.Common.{◌≡◌, ◌≤◌, ◌<◌, ◌^◌, ◌+◌, IsOk, length, take, subst, sym, ◌∙◌, arith}
 use Rattle.std.proofs.lemmas.List.{length-take-le}
-use Rattle.be_volume.specs.Volume.{State, steps}
-use Rattle.be_volume.specs.Ahead.{after, IsThere}
+use Rattle.be_volume.specs.Volume.{steps}
 use Rattle.be_volume.proofs.StepLemmas.{take_ok}
 use Rattle.be_volume.proofs.FactLemmas.{next_turn, bound_turn, count_turn, count_turn_fits}
 use Rattle.be_volume.proofs.ahead.attribute_count.Goals as goal

@@ -1,7 +1,4 @@
-use Rattle.std.proofs.Common.{take, sym, ap, ◌∙◌}
-use Rattle.std.specs.Result.{result_err}
-use Rattle.be_volume.specs.Volume.{step}
-use Rattle.be_volume.specs.Ahead.{after}
+use Rattle.std.proofs.Common.{sym, ◌∙◌}
 use Rattle.be_volume.proofs.StepLemmas.{refused_at}
 use Rattle.be_volume.proofs.ahead.first_refusal.Goals as goal
 

@@ -1,5 +1,5 @@
 use Rattle.std.proofs.Common.{IsOk, subst, sym, ◌∙◌}
-use Rattle.be_volume.specs.Volume.{State, steps}
+use Rattle.be_volume.specs.Volume.{steps}
 use Rattle.std.proofs.Common.{◌≤◌, ◌+◌}
 use Rattle.be_volume.proofs.FactLemmas.{next_turn, bound_turn, node_turn}
 use Rattle.be_volume.proofs.ahead.has_node.Goals as goal

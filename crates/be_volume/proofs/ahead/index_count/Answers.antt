@@ -1,5 +1,5 @@
-use Rattle.std.proofs.Common.{IsOk, subst, sym, ◌∙◌}
-use Rattle.be_volume.specs.Volume.{State, steps}
+use Rattle.std.proofs.Common.{IsOk, ◌∙◌}
+use Rattle.be_volume.specs.Volume.{steps}
 use Rattle.be_volume.proofs.FactLemmas.{indices_turn, indices_turn_fits}
 use Rattle.be_volume.proofs.ahead.index_count.Goals as goal
 

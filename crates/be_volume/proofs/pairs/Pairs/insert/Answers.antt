@@ -1,4 +1,4 @@
-use Rattle.std.proofs.Common.{◌≡◌, ℕ, ◌≤◌, List, length, sym, ap, subst, ◌∙◌, refl, Some, None}
+use Rattle.std.proofs.Common.{ℕ, ◌≤◌, List, length, sym, ap, subst, ◌∙◌, refl}
 use Rattle.std.specs.BTreeMap.{is_at}
 use Rattle.std.specs.BTreeSet.{contains}
 use Rattle.std.specs.List.{list_any}
@@ -9,7 +9,7 @@ use Rattle.std.specs.Ordering.{nat_cmp}
 use Rattle.std.specs.declared.option.Option.{Option}
 use Rattle.be_value.specs.declared.values.Value.{Value}
 use Rattle.be_volume.specs.Maps.{name_cmp}
-use Rattle.be_volume.specs.PairKeys.{AreKeysOf, own_key}
+use Rattle.be_volume.specs.PairKeys.{AreKeysOf}
 use Rattle.be_volume.proofs.KeyLemmas.{kept_with, Gains, gone, put_again, taken_back, of_some, of_err, of_ok}
 use Rattle.be_volume.proofs.MapLemmas.{inserted, removed}
 use Rattle.be_volume.proofs.pairs.Pairs.insert.Goals as goal

@@ -1,4 +1,4 @@
-use Rattle.std.proofs.Common.{◌≡◌, ℕ, List, sym, ap, subst, ◌∙◌, refl, Some, None}
+use Rattle.std.proofs.Common.{ℕ, List, sym, ap, subst, ◌∙◌, refl, Some}
 use Rattle.std.specs.BTreeSet.{contains}
 use Rattle.std.specs.Cmp.{nat_cmp_total}
 use Rattle.std.specs.FinMap as map
@@ -7,7 +7,7 @@ use Rattle.std.specs.Ordering.{nat_cmp}
 use Rattle.std.specs.declared.option.Option.{Option}
 use Rattle.be_value.specs.declared.values.Value.{Value}
 use Rattle.be_volume.specs.Maps.{name_cmp}
-use Rattle.be_volume.specs.PairKeys.{AreKeysOf, own_key}
+use Rattle.be_volume.specs.PairKeys.{AreKeysOf}
 use Rattle.be_volume.proofs.KeyLemmas.{kept_without, Loses}
 use Rattle.be_volume.proofs.MapLemmas.{get_made, removed}
 use Rattle.be_volume.proofs.pairs.Pairs.remove.Goals as goal
