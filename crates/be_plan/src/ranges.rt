@@ -3,11 +3,10 @@
 //! A walk for a pick begins with all keys of the index and leaves out what can't be an answer by way of this pick: each comparison on the picked
 //! name that stands beside it under `&&` gives a bound, and a pattern gives its literal prefix. A comparison on the other side of an `||`
 //! gives none, since it need not be true. A number outside the index's kind leaves out all keys or none, by the side on which it lies, and a
-//! literal that spells no number leaves out all. A bound that can't be had, as of a text longer than any value's, is not applied: the range is
-//! then wider, and never too narrow.
+//! literal that spells no number leaves out all. Of a text longer than any value's, the bytes that a value may have tell.
 //!
 //! Bounds are keys, both included: a value's key with the least node number or the greatest. So an end costs one idle key at most.
-ghost use Rattle.std.specs.Prelude.{◌≡◌, ◌<◌, ◌≤◌, ◌+◌, ◌^◌, ℕ, ℤ, ◌≤ℤ◌, true, false, List, [], IfSome, IsTrue, IsUtf8, ◌++◌};
+ghost use Rattle.std.specs.Prelude.{◌≡◌, ◌<◌, ◌≤◌, ◌+◌, ◌^◌, ℕ, ℤ, ◌≤ℤ◌, true, false, List, [], IfSome, IsTrue, IsUtf8, ◌++◌, length};
 ghost use Rattle.std.specs.Option.{option_map};
 ghost use Rattle.std.specs.Str.{chars};
 ghost use Rattle.be_pattern.specs.Match.{matches};
@@ -211,15 +210,39 @@ fn limit_of(pattern: &Pattern) -> u8
     if pattern.is_plain() { 1 } else { 255 }
 }
 
-/// Leaves out keys of texts that don't begin with the pattern's literal characters.
+/// Leaves out keys of texts that don't begin with the pattern's literal characters: all keys, where those are more than a value may have.
 fn narrow_by_pattern(range: &mut Range, pattern: &Pattern)
-    ensures { (text : List ℕ) (n : ℕ) → IsUtf8 text → matches pattern.now (chars text) ≡ true →
+    ensures { (text : List ℕ) (n : ℕ) → IsUtf8 text → length text ≤ 255 → matches pattern.now (chars text) ≡ true →
         Within range.old.low.items (option_map (λ b. b.items) range.old.high) (key_bytes (AnyValue.Cstr text) n) →
         Within range.new.low.items (option_map (λ b. b.items) range.new.high) (key_bytes (AnyValue.Cstr text) n) }
 {
+    if pattern.prefix().len() > 255 {
+        range.close();
+        return;
+    }
     let limit = limit_of(pattern);
     raise_to(range, pattern.prefix().as_bytes(), &[]);
     lower_to(range, pattern.prefix().as_bytes(), &[limit]);
+}
+
+/// Leaves out keys of texts at which the operator with a text longer than any value's is false. Its first 255 bytes tell, unless a zero byte is
+/// among them.
+fn narrow_by_long(range: &mut Range, op: Cmp, words: &[u8])
+    requires { 255 < length words.now }
+    ensures { (text : List ℕ) (n : ℕ) → length text ≤ 255 → is_true_of op (name_cmp text words.now) ≡ true →
+        Within range.old.low.items (option_map (λ b. b.items) range.old.high) (key_bytes (AnyValue.Cstr text) n) →
+        Within range.new.low.items (option_map (λ b. b.items) range.new.high) (key_bytes (AnyValue.Cstr text) n) }
+{
+    let front = &words[..255];
+    match op {
+        Cmp::Eq | Cmp::Ne => {}
+        Cmp::Lt | Cmp::Le => {
+            if !front.contains(&0) {
+                lower_to(range, front, &[1]);
+            }
+        }
+        Cmp::Gt | Cmp::Ge => raise_to(range, front, &[1]),
+    }
 }
 
 /// Leaves out keys of values at which the comparison is false.
@@ -230,6 +253,9 @@ fn narrow(range: &mut Range, comparison: &Comparison, kind: Kind)
 {
     match (kind, comparison.op, &comparison.literal) {
         (Kind::Cstr, Cmp::Eq, Literal::Pattern(pattern)) => narrow_by_pattern(range, pattern),
+        (Kind::Cstr, op, Literal::Text(words)) if words.as_str().len() > 255 => {
+            narrow_by_long(range, op, words.as_str().as_bytes());
+        }
         (_, op, given) => {
             if let Some(bound) = bound_of(given, kind) {
                 narrow_by(range, op, &bound);

@@ -4,6 +4,8 @@
 //! what the query is answered from, and `query` for its nodes by these picks. Digits are a command too: the nodes by these picks, a digit for
 //! each. Behind the nodes stands of which indices a key was asked, the first letter of the name for each call: `nodes 2 3 asks nnn`.
 
+ghost use Rattle.be_volume.specs.Volume.{State};
+
 use crate::{Cover, Picks, Source, VolumeSource, choose, covers, explain, run, volume_source};
 use arrayvec::{ArrayString, ArrayVec};
 use be_query::{Query, parse};
@@ -11,6 +13,10 @@ use be_value::{Kind, Name, Refusal, Value, key_of, number_of, word_of};
 use be_volume::{Op, Volume};
 use std::alloc::Global;
 use std::test::Fail;
+
+fn first_letter(name: &Name) -> char {
+    name.as_str().chars().next().unwrap_or('?')
+}
 
 /// A volume's source that writes down of which index it is asked for a key.
 #[derive(Drop)]
@@ -36,9 +42,7 @@ impl Source for Recording<'_> {
     }
 
     fn next_key(&mut self, name: &Name, from: &[u8], after: bool) -> Option<ArrayVec<u8, 264>> {
-        if let Some(letter) = name.as_str().chars().next() {
-            let _full = self.asked.try_push(letter);
-        }
+        let _full = self.asked.try_push(first_letter(name));
         self.source.next_key(name, from, after)
     }
 
@@ -382,6 +386,31 @@ set 6 t CSTR é";
     replies(rt.alloc(), &volume_of(rt.alloc(), lines)?, requests)
 }
 
+/// The kind that a source gives to an index.
+fn kind_by<S: Source + Drop>(mut source: S, name: &Name) -> Option<Kind>
+    ghost volume: { State }
+    requires { S.answers_for source volume }
+{
+    source.kind_of(name)
+}
+
+/// Whether the next key that a source gives is this one.
+fn is_next<S: Source + Drop>(
+    mut source: S,
+    name: &Name,
+    from: &[u8],
+    after: bool,
+    key: &[u8],
+) -> bool
+    ghost volume: { State }
+    requires { S.answers_for source volume }
+{
+    match source.next_key(name, from, after) {
+        Some(next) => next.as_slice() == key,
+        None => key.is_empty(),
+    }
+}
+
 #[test]
 fn plan_source(rt: HostRuntime) -> Result<(), Fail> {
     let lines = "mkindex k CSTR
@@ -394,26 +423,36 @@ set 3 k CSTR x
 drop 2
 new";
     let volume = volume_of(rt.alloc(), lines)?;
-    let mut source = volume_source(&volume);
     let k = Name::new("k")?;
     let q = Name::new("q")?;
-    let last = [0x78, 0, 0, 0, 0, 0, 0, 0, 0, 3];
-    assert!(rt; matches!(source.kind_of(&k), Some(Kind::Cstr)));
     let first = key_of(&Value::text("x")?, 1);
-    let Some(next) = source.next_key(&k, first.as_slice(), true) else {
-        return Err(Fail::new("no next key"));
-    };
-    assert_eq!(rt; next.as_slice(), last.as_slice());
-    assert!(rt; source.next_key(&k, &last, true).is_none());
-    let Some(same) = source.next_key(&k, &last, false) else {
-        return Err(Fail::new("no key"));
-    };
-    assert_eq!(rt; same.as_slice(), last.as_slice());
-    assert!(rt; source.next_key(&q, &last, false).is_none());
-    assert!(rt; source.kind_of(&q).is_none());
-    assert!(rt; source.has_key(&k, &last));
-    assert!(rt; !source.has_key(&q, &last));
-    assert!(rt; matches!(source.value(3, &k), Some(Value::Cstr(_))));
-    assert!(rt; source.value(2, &k).is_none());
+    let last = [0x78, 0, 0, 0, 0, 0, 0, 0, 0, 3];
+    assert!(rt; matches!(kind_by(volume_source(&volume), &k), Some(Kind::Cstr)));
+    assert!(rt; kind_by(volume_source(&volume), &q).is_none());
+    assert!(rt; is_next(volume_source(&volume), &k, first.as_slice(), true, &last));
+    assert!(rt; is_next(volume_source(&volume), &k, &last, true, &[]));
+    assert!(rt; is_next(volume_source(&volume), &k, &last, false, &last));
+    assert!(rt; is_next(volume_source(&volume), &q, &last, false, &[]));
     Ok(())
+}
+
+/// A text longer than any value's bounds a walk by the bytes that a value may have, and a pattern of more literal bytes leaves out all keys.
+#[test]
+fn bounds_of_long_texts(rt: HostRuntime) -> Result<(), Fail> {
+    let alloc = rt.alloc();
+    let m = "m".repeat(alloc, 254)?;
+    let lines = format!(in alloc;
+        "mkindex t CSTR\nnew\nnew\nnew\nnew\nset 1 t CSTR a\nset 2 t CSTR {m}m\nset 3 t CSTR {m}n\nset 4 t CSTR z"
+    )?;
+    let requests = format!(in alloc;
+        "0 t>={m}mm => nodes 3 4 asks ttt
+0 t>{m}mm => nodes 3 4 asks ttt
+0 t<{m}mm => nodes 1 2 asks ttt
+0 t<={m}nn => nodes 1 2 3 asks tttt
+0 t=={m}m => nodes 2 asks tt
+0 t==\"{m}m*\" => nodes 2 asks tt
+0 t=={m}mm => nodes asks t
+0 t==\"{m}mm*\" => nodes asks t\n0 t==\"{m}{m}*\" => nodes asks t"
+    )?;
+    replies(alloc, &volume_of(alloc, lines.as_str())?, requests.as_str())
 }
