@@ -2,6 +2,7 @@ pub mod Answering
 pub mod Bounds
 pub mod Choice
 pub mod Listed
+pub mod LongTexts
 pub mod Passing
 pub mod Prefixes
 pub mod Reaching

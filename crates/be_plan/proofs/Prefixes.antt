@@ -1,5 +1,5 @@
 -- Keys of texts that a pattern matches.
-use Rattle.std.proofs.Common.{◌≡◌, ◌<◌, ◌+◌, ◌/◌, ℕ, Bool, true, false, cond, ◌==◌, List, [], ◌∷◌, ◌++◌, length, nat_lt, append_assoc, refl, sym, ap, ◌∙◌, arith, inl, inr, suc}
+use Rattle.std.proofs.Common.{◌≡◌, ◌<◌, ◌≤◌, ◌+◌, ◌/◌, ℕ, Bool, true, false, cond, ◌==◌, List, [], ◌∷◌, ◌++◌, length, length-append, nat_lt, append_assoc, refl, sym, ap, ◌∙◌, arith, inl, inr, suc}
 use Rattle.std.proofs.lemmas.Bool.Decides.{nat_tests}
 use borrow.Author.Tests.{ltb-true}
 use lib.Dec.{ltb}
@@ -127,6 +127,9 @@ module _ (parts : List Part) (text : List ℕ) (n : ℕ) (utf8 : IsUtf8 text) (m
       ap (λ t. (t ++ 0 ∷ []) ++ to_be_bytes w64 n) (sym (encodes-chars text utf8) ∙ front.is)
       ∙ ap (λ t. t ++ to_be_bytes w64 n) (append_assoc (front_bytes parts) (encodes front.rest) (0 ∷ []))
       ∙ append_assoc (front_bytes parts) (encodes front.rest ++ 0 ∷ []) (to_be_bytes w64 n)
+
+  pub not_shorter : length (front_bytes parts) ≤ length text
+  not_shorter = omega (arith, ap length (sym (encodes-chars text utf8) ∙ front.is), length-append (front_bytes parts) (encodes front.rest))
 
   pub key_not_below : (low : List ℕ) → low ≡ front_bytes parts ++ [] → is_lt (name_cmp (key (Cstr text) n) low) ≡ false
   key_not_below low e = ap (λ l. is_lt (name_cmp (key (Cstr text) n) l)) e ∙ ap (λ k. is_lt (name_cmp k (front_bytes parts ++ []))) key_is

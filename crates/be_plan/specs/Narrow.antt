@@ -1,11 +1,12 @@
 -- Which values and keys a walk over an index has to pass.
-use Rattle.std.specs.Prelude.{◌≡◌, ◌<◌, ◌≤◌, ◌+◌, ◌^◌, ℕ, Bool, true, false, List, Some, None, IsTrue}
+use Rattle.std.specs.Prelude.{◌≡◌, ◌<◌, ◌≤◌, ◌+◌, ◌^◌, ℕ, ℤ, pos, ◌≤ℤ◌, Bool, true, false, List, Some, None, IsTrue}
 use Rattle.std.specs.Ordering.{is_lt, is_gt}
 use Rattle.std.specs.declared.option.Option.{Option}
 use Rattle.be_value.specs.Key.{IsValue}
 use Rattle.be_value.specs.Value.{kind_of, is_indexable, value_cmp}
 use Rattle.be_value.specs.declared.values.Kind.{Kind}
 use Rattle.be_value.specs.declared.values.Value.{Value}
+use Rattle.be_value.specs.declared.values.Value.TheVariants.{Cstr, Long, Llng, Mims, Rawt, Ulng, Ullg}
 use Rattle.be_query.specs.Grammar.{Formula, Leaf, And, Or, comparisons}
 use Rattle.be_query.specs.declared.tree.Cmp.{Cmp}
 use Rattle.be_query.specs.Grammar.{Literal}
@@ -42,6 +43,16 @@ pub record StandsFor (literal : Literal) (kind : Kind) (bound : Value) : Type 0 
   pub kind_is : kind_of bound ≡ kind
   pub indexable : IsTrue (is_indexable kind)
   pub compares : (op : Cmp) (value : Value) → kind_of value ≡ kind → holds op value literal ≡ true → is_true_of op (value_cmp value bound) ≡ true
+
+-- the value is a number from the least to the greatest
+abbrev pub IsBetween : ℤ → ℤ → Value → Type 0
+IsBetween least greatest (Long n) = (least ≤ℤ n) × (n ≤ℤ greatest)
+IsBetween least greatest (Llng n) = (least ≤ℤ n) × (n ≤ℤ greatest)
+IsBetween least greatest (Ulng n) = (least ≤ℤ pos n) × (pos n ≤ℤ greatest)
+IsBetween least greatest (Ullg n) = (least ≤ℤ pos n) × (pos n ≤ℤ greatest)
+IsBetween least greatest (Cstr text) = ⊥
+IsBetween least greatest (Mims text) = ⊥
+IsBetween least greatest (Rawt bytes) = ⊥
 
 -- what is above the byte behind a pattern's literal characters
 abbrev pub limit : Bool → ℕ

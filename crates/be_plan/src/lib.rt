@@ -18,6 +18,8 @@ mod plans;
 mod ranges;
 mod running;
 mod source;
+#[cfg(test)]
+mod tests;
 mod walks;
 
 pub use choosing::choose;

@@ -2,11 +2,11 @@
 //!
 //! A walk for a pick begins with all keys of the index and leaves out what can't be an answer by way of this pick: each comparison on the picked
 //! name that stands beside it under `&&` gives a bound, and a pattern gives its literal prefix. A comparison on the other side of an `||`
-//! gives none, since it need not be true. A bound that can't be had, as of a number outside the index's kind, is not applied: the range is then
-//! wider, and never too narrow.
+//! gives none, since it need not be true. A number outside the index's kind leaves out all keys or none, by the side on which it lies, and a
+//! literal that spells no number leaves out all. Of a text longer than any value's, the bytes that a value may have tell.
 //!
 //! Bounds are keys, both included: a value's key with the least node number or the greatest. So an end costs one idle key at most.
-ghost use Rattle.std.specs.Prelude.{◌≡◌, ◌<◌, ◌≤◌, ◌+◌, ◌^◌, ℕ, true, false, List, IfSome, IsTrue, IsUtf8, ◌++◌};
+ghost use Rattle.std.specs.Prelude.{◌≡◌, ◌<◌, ◌≤◌, ◌+◌, ◌^◌, ℕ, ℤ, ◌≤ℤ◌, true, false, List, [], IfSome, IsTrue, IsUtf8, ◌++◌, length};
 ghost use Rattle.std.specs.Option.{option_map};
 ghost use Rattle.std.specs.Str.{chars};
 ghost use Rattle.be_pattern.specs.Match.{matches};
@@ -18,8 +18,8 @@ ghost use Rattle.be_value.specs.declared.values.Value.{Value as AnyValue};
 ghost use Rattle.be_query.specs.Grammar.{comparisons};
 ghost use Rattle.be_query.specs.View.{formula, literal};
 ghost use Rattle.be_volume.specs.Maps.{name_cmp};
-ghost use Rattle.be_volume.specs.Query.{holds, is_true_of};
-ghost use Rattle.be_plan.specs.Narrow.{Within, IsPair, StandsFor, Allows, is_above, limit};
+ghost use Rattle.be_volume.specs.Query.{holds, holds_of_number, is_true_of, literal_number};
+ghost use Rattle.be_plan.specs.Narrow.{Within, IsBetween, IsPair, StandsFor, Allows, is_above, limit};
 
 use crate::choosing::count;
 use arrayvec::ArrayVec;
@@ -71,6 +71,13 @@ impl Range {
             self.high = Some(key);
         }
     }
+
+    /// Leaves out all keys, since none is without bytes. The walk then ends at the first key that it asks for.
+    fn close(&mut self)
+        ensures { (k : List ℕ) → Within self.new.low.items (option_map (λ b. b.items) self.new.high) k → k ≡ [] }
+    {
+        self.high = Some(ArrayVec::new());
+    }
 }
 
 /// Whether the key is above the bound, if there is one.
@@ -98,6 +105,49 @@ fn bound_of(given: &Literal, kind: Kind) -> Option<Value>
         Kind::Ullg => Some(Value::uint64(u64::try_from(literal_number(given)?).ok()?)),
         Kind::Mims | Kind::Rawt => None,
     }
+}
+
+/// The least and the greatest number of an integer kind.
+fn numbers_of(kind: Kind) -> Option<(i128, i128)>
+    ensures { IfSome result (λ ends. (v : AnyValue) → IsValue v → kind_of v ≡ kind → IsBetween ends.0 ends.1 v) }
+{
+    match kind {
+        Kind::Long => Some((i128::from(i32::MIN), i128::from(i32::MAX))),
+        Kind::Llng => Some((i128::from(i64::MIN), i128::from(i64::MAX))),
+        Kind::Ulng => Some((0, i128::from(u32::MAX))),
+        Kind::Ullg => Some((0, i128::from(u64::MAX))),
+        Kind::Cstr | Kind::Mims | Kind::Rawt => None,
+    }
+}
+
+/// Whether the operator with this number is false of all numbers from the least to the greatest, as it is with no number.
+fn is_false_between(op: Cmp, number: Option<i128>, least: i128, greatest: i128) -> bool
+    ensures { result ≡ true → (n : ℤ) → least ≤ℤ n → n ≤ℤ greatest → holds_of_number op n number ≡ false }
+{
+    let Some(number) = number else {
+        return true;
+    };
+    match op {
+        Cmp::Eq => number < least || greatest < number,
+        Cmp::Ne => false,
+        Cmp::Lt | Cmp::Le => number < least,
+        Cmp::Gt | Cmp::Ge => greatest < number,
+    }
+}
+
+/// Whether the comparison is false of all values of an integer kind, as its literal spells no number or one on the wrong side of them all.
+fn is_false_of_all(comparison: &Comparison, kind: Kind) -> bool
+    ensures { result ≡ true → (v : AnyValue) → IsValue v → kind_of v ≡ kind → holds comparison.now.op v (literal comparison.now.literal) ≡ false }
+{
+    let Some((least, greatest)) = numbers_of(kind) else {
+        return false;
+    };
+    is_false_between(
+        comparison.op,
+        literal_number(&comparison.literal),
+        least,
+        greatest,
+    )
 }
 
 /// Leaves out keys of values at which the operator with the bound is false.
@@ -160,15 +210,39 @@ fn limit_of(pattern: &Pattern) -> u8
     if pattern.is_plain() { 1 } else { 255 }
 }
 
-/// Leaves out keys of texts that don't begin with the pattern's literal characters.
+/// Leaves out keys of texts that don't begin with the pattern's literal characters: all keys, where those are more than a value may have.
 fn narrow_by_pattern(range: &mut Range, pattern: &Pattern)
-    ensures { (text : List ℕ) (n : ℕ) → IsUtf8 text → matches pattern.now (chars text) ≡ true →
+    ensures { (text : List ℕ) (n : ℕ) → IsUtf8 text → length text ≤ 255 → matches pattern.now (chars text) ≡ true →
         Within range.old.low.items (option_map (λ b. b.items) range.old.high) (key_bytes (AnyValue.Cstr text) n) →
         Within range.new.low.items (option_map (λ b. b.items) range.new.high) (key_bytes (AnyValue.Cstr text) n) }
 {
+    if pattern.prefix().len() > 255 {
+        range.close();
+        return;
+    }
     let limit = limit_of(pattern);
     raise_to(range, pattern.prefix().as_bytes(), &[]);
     lower_to(range, pattern.prefix().as_bytes(), &[limit]);
+}
+
+/// Leaves out keys of texts at which the operator with a text longer than any value's is false. Its first 255 bytes tell, unless a zero byte is
+/// among them.
+fn narrow_by_long(range: &mut Range, op: Cmp, words: &[u8])
+    requires { 255 < length words.now }
+    ensures { (text : List ℕ) (n : ℕ) → length text ≤ 255 → is_true_of op (name_cmp text words.now) ≡ true →
+        Within range.old.low.items (option_map (λ b. b.items) range.old.high) (key_bytes (AnyValue.Cstr text) n) →
+        Within range.new.low.items (option_map (λ b. b.items) range.new.high) (key_bytes (AnyValue.Cstr text) n) }
+{
+    let front = &words[..255];
+    match op {
+        Cmp::Eq | Cmp::Ne => {}
+        Cmp::Lt | Cmp::Le => {
+            if !front.contains(&0) {
+                lower_to(range, front, &[1]);
+            }
+        }
+        Cmp::Gt | Cmp::Ge => raise_to(range, front, &[1]),
+    }
 }
 
 /// Leaves out keys of values at which the comparison is false.
@@ -179,9 +253,14 @@ fn narrow(range: &mut Range, comparison: &Comparison, kind: Kind)
 {
     match (kind, comparison.op, &comparison.literal) {
         (Kind::Cstr, Cmp::Eq, Literal::Pattern(pattern)) => narrow_by_pattern(range, pattern),
+        (Kind::Cstr, op, Literal::Text(words)) if words.as_str().len() > 255 => {
+            narrow_by_long(range, op, words.as_str().as_bytes());
+        }
         (_, op, given) => {
             if let Some(bound) = bound_of(given, kind) {
                 narrow_by(range, op, &bound);
+            } else if is_false_of_all(comparison, kind) {
+                range.close();
             }
         }
     }

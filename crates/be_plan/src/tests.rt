@@ -1,0 +1,458 @@
+//! Worked examples, over a plain volume's source that writes down its calls.
+//!
+//! A volume is made by lines such as `set 1 n LONG 5`. What is asked of it stands in lines `COMMAND QUERY => REPLY`. The command `explain` asks
+//! what the query is answered from, and `query` for its nodes by these picks. Digits are a command too: the nodes by these picks, a digit for
+//! each. Behind the nodes stands of which indices a key was asked, the first letter of the name for each call: `nodes 2 3 asks nnn`.
+
+ghost use Rattle.be_volume.specs.Volume.{State};
+
+use crate::{Cover, Picks, Source, VolumeSource, choose, covers, explain, run, volume_source};
+use arrayvec::{ArrayString, ArrayVec};
+use be_query::{Query, parse};
+use be_value::{Kind, Name, Refusal, Value, key_of, number_of, word_of};
+use be_volume::{Op, Volume};
+use std::alloc::Global;
+use std::test::Fail;
+
+fn first_letter(name: &Name) -> char {
+    name.as_str().chars().next().unwrap_or('?')
+}
+
+/// A volume's source that writes down of which index it is asked for a key.
+#[derive(Drop)]
+struct Recording<'a> {
+    source: VolumeSource<'a>,
+    asked: ArrayString<64>,
+}
+
+impl Source for Recording<'_> {
+    ghost use Rattle.be_volume.specs.Volume.{State};
+    ghost use Rattle.be_plan.specs.Sources.{IsVolume};
+
+    ghost Kept = { State };
+
+    ghost kept = { λ s. s.source };
+
+    ghost answers_for = { λ s volume. IsVolume s.source volume };
+
+    ghost sound = { λ s volume is. is.sound };
+
+    fn kind_of(&mut self, name: &Name) -> Option<Kind> {
+        self.source.kind_of(name)
+    }
+
+    fn next_key(&mut self, name: &Name, from: &[u8], after: bool) -> Option<ArrayVec<u8, 264>> {
+        let _full = self.asked.try_push(first_letter(name));
+        self.source.next_key(name, from, after)
+    }
+
+    fn has_key(&mut self, name: &Name, key: &[u8]) -> bool {
+        self.source.has_key(name, key)
+    }
+
+    fn value(&mut self, node: u64, name: &Name) -> Option<Value> {
+        self.source.value(node, name)
+    }
+}
+
+fn read_kind(word: &str) -> Option<Kind> {
+    if word == "CSTR" {
+        Some(Kind::Cstr)
+    } else if word == "LONG" {
+        Some(Kind::Long)
+    } else if word == "LLNG" {
+        Some(Kind::Llng)
+    } else if word == "ULNG" {
+        Some(Kind::Ulng)
+    } else if word == "ULLG" {
+        Some(Kind::Ullg)
+    } else {
+        None
+    }
+}
+
+fn read_value(kind: Kind, word: &str) -> Option<Value> {
+    match kind {
+        Kind::Long => Some(Value::int32(i32::try_from(number_of(word)?).ok()?)),
+        Kind::Llng => Some(Value::int64(i64::try_from(number_of(word)?).ok()?)),
+        Kind::Ulng => Some(Value::uint32(u32::try_from(number_of(word)?).ok()?)),
+        Kind::Ullg => Some(Value::uint64(u64::try_from(number_of(word)?).ok()?)),
+        Kind::Cstr | Kind::Mims | Kind::Rawt => Value::text(word).ok(),
+    }
+}
+
+/// The operation of a line.
+fn read_op(line: &str) -> Option<Op> {
+    let mut words = line.split(' ');
+    let command = words.next()?;
+    if command == "new" {
+        return Some(Op::New);
+    }
+    let first = words.next()?;
+    if command == "drop" {
+        return Some(Op::Drop(word_of(first.as_bytes())?));
+    }
+    let second = words.next()?;
+    if command == "mkindex" {
+        return Some(Op::MkIndex(Name::new(first).ok()?, read_kind(second)?));
+    }
+    let node = word_of(first.as_bytes())?;
+    let kind = read_kind(words.next()?)?;
+    Some(Op::Set(
+        node,
+        Name::new(second).ok()?,
+        read_value(kind, words.next()?)?,
+    ))
+}
+
+/// Does the operation of a line, which has to be accepted.
+fn write(volume: &mut Volume, line: &str) -> Result<(), Refusal> {
+    let Some(op) = read_op(line) else {
+        return Err(Refusal::BadLimits);
+    };
+    if volume.next() > u64::MAX - 64 {
+        return Err(Refusal::BadLimits);
+    }
+    volume.apply(&[op])?;
+    Ok(())
+}
+
+/// Makes a volume. A line that is refused memory is run again.
+fn volume_of(alloc: Global, lines: &str) -> Result<Volume, Refusal> {
+    let mut volume = Volume::new(alloc);
+    for line in lines.lines() {
+        match write(&mut volume, line) {
+            Err(Refusal::OutOfMemory) => write(&mut volume, line)?,
+            done => done?,
+        }
+    }
+    Ok(volume)
+}
+
+/// The picks of digits.
+fn picks_of(alloc: Global, digits: &str) -> Result<Picks, Refusal> {
+    let mut places = Vec::new(alloc);
+    for digit in digits.bytes() {
+        places.push(usize::from(digit.wrapping_sub(b'0')))?;
+    }
+    Ok(Picks::new(places))
+}
+
+/// The words `nodes` and each number.
+fn nodes_text(alloc: Global, nodes: &[u64]) -> Result<String, Refusal> {
+    let mut text = String::from_str(alloc, "nodes")?;
+    for node in nodes {
+        text.push_str(" ")?;
+        text.push_str(node.to_string(alloc)?.as_str())?;
+    }
+    Ok(text)
+}
+
+/// The nodes by the cover, and what was asked for them.
+fn found(alloc: Global, volume: &Volume, query: &Query, cover: &Cover) -> Result<String, Refusal> {
+    let mut source = Recording {
+        source: volume_source(volume),
+        asked: ArrayString::new(),
+    };
+    if !covers(cover, query, &mut source) {
+        return Ok(String::from_str(alloc, "not covered")?);
+    }
+    let nodes = run(alloc, cover, query, &mut source)?;
+    let mut text = nodes_text(alloc, &nodes)?;
+    text.push_str(" asks ")?;
+    text.push_str(source.asked.as_str())?;
+    Ok(text)
+}
+
+/// The answer to a command.
+fn answer(alloc: Global, volume: &Volume, command: &str, query: &Query) -> Result<String, Refusal> {
+    if command == "explain" {
+        return explain(alloc, query, &choose(alloc, query, &volume.indices()?)?);
+    }
+    let cover = if command == "query" {
+        choose(alloc, query, &volume.indices()?)?
+    } else {
+        Cover {
+            picks: picks_of(alloc, command)?,
+            score: 0,
+        }
+    };
+    found(alloc, volume, query, &cover)
+}
+
+/// The reply to a request; refused with 10 alone.
+fn reply_to(alloc: Global, volume: &Volume, request: &str) -> Result<String, Refusal> {
+    let Some((command, text)) = request.split_once(' ') else {
+        return Ok(String::new(alloc));
+    };
+    match answer(alloc, volume, command, &parse(alloc, text)?) {
+        Err(Refusal::NotCovered) => Ok(String::from_str(alloc, "refused 17")?),
+        reply => reply,
+    }
+}
+
+/// Fails unless each request has its reply. A request that is refused memory is made again: so each example passes with any one request for
+/// memory refused.
+fn replies(alloc: Global, volume: &Volume, lines: &str) -> Result<(), Fail> {
+    for line in lines.lines() {
+        let Some((request, expected)) = line.split_once(" => ") else {
+            return Err(Fail::new("no reply"));
+        };
+        let reply = match reply_to(alloc, volume, request) {
+            Err(Refusal::OutOfMemory) => reply_to(alloc, volume, request)?,
+            reply => reply?,
+        };
+        if reply.as_str() != expected {
+            return Err(Fail::new(line));
+        }
+    }
+    Ok(())
+}
+
+/// Each pick asks for keys of its own index alone.
+#[test]
+fn two_indices(rt: HostRuntime) -> Result<(), Fail> {
+    let lines = "new
+set 1 a LONG 1
+mkindex a LONG
+mkindex b LONG
+new
+set 1 b LONG 2
+set 2 a LONG 1
+set 2 b LONG 2";
+    let requests = "query a==1 && b==2 => nodes 2 asks aa
+explain a==1 && b==2 => \"a\"==\"1\" score 1
+query b==2 => nodes 1 2 asks bbb
+0 a==1 && b==2 => nodes 2 asks aa
+1 a==1 && b==2 => nodes 2 asks bbb
+01 a==1 && b==2 => nodes 2 asks aabbb
+01 a==1 || b==2 => nodes 1 2 asks aabbb
+10 a==1 || b==2 => nodes 1 2 asks bbbaa
+0 a==1 || b==2 => not covered
+2 a==1 || b==2 => not covered";
+    replies(rt.alloc(), &volume_of(rt.alloc(), lines)?, requests)
+}
+
+#[test]
+fn coverage(rt: HostRuntime) -> Result<(), Fail> {
+    let lines = "mkindex a LONG
+new
+set 1 a LONG 1
+set 1 b LONG 2";
+    let requests = "query a==1||b==2 => refused 17
+query a==1&&b==2 => nodes 1 asks aa
+query b==2 => refused 17
+query !(a==1||b==3) => nodes asks aa
+explain !(a==2||b==3) => \"a\"!=\"2\" score 5
+explain b==2 => refused 17
+0 b==2 => not covered";
+    replies(rt.alloc(), &volume_of(rt.alloc(), lines)?, requests)
+}
+
+/// The cheapest side of an `&&`, the left one at a tie, and both sides of an `||`.
+#[test]
+fn choices(rt: HostRuntime) -> Result<(), Fail> {
+    let lines = "mkindex a LONG
+mkindex b LONG
+mkindex t CSTR";
+    let requests = "explain a==1 && b==2 => \"a\"==\"1\" score 1
+explain b==2 && a==1 => \"b\"==\"2\" score 1
+explain a!=1 && b!=2 => \"a\"!=\"1\" score 5
+explain t==x && t==\"x*\" => \"t\"==\"x\" score 1
+explain a>1 && t==\"x*\" => \"t\"==\"x*\" score 2
+explain t==\"*x\" && a<=1 => \"a\"<=\"1\" score 3
+explain a!=1 && t==\"*x\" => \"t\"==\"*x\" score 4
+explain z==1 && a!=1 => \"a\"!=\"1\" score 5
+explain a==1 || b>2 => \"a\"==\"1\" || \"b\">\"2\" score 4
+explain (a==1 || b==2) && t==\"x*\" => \"a\"==\"1\" || \"b\"==\"2\" score 2
+explain (a==1 || b>2) && t==\"x*\" => \"t\"==\"x*\" score 2
+explain a==1 && (b==2 || z==3) => \"a\"==\"1\" score 1
+explain z==1 && (b==2 || z==3) => refused 17";
+    replies(rt.alloc(), &volume_of(rt.alloc(), lines)?, requests)
+}
+
+/// Six nodes, where m is 7 less n.
+const NUMBERS: &str = "mkindex n LONG
+mkindex m LONG
+new
+new
+new
+new
+new
+new
+set 1 n LONG 1
+set 2 n LONG 2
+set 3 n LONG 3
+set 4 n LONG 4
+set 5 n LONG 5
+set 6 n LONG 6
+set 1 m LONG 6
+set 2 m LONG 5
+set 3 m LONG 4
+set 4 m LONG 3
+set 5 m LONG 2
+set 6 m LONG 1";
+
+/// A walk is bounded by what stands beside its pick under `&&`, and by nothing under an `||` that the pick isn't in.
+#[test]
+fn bounds(rt: HostRuntime) -> Result<(), Fail> {
+    let requests = "0 n==3 => nodes 3 asks nn
+0 n!=3 => nodes 1 2 4 5 6 asks nnnnnnn
+0 n>=2 && n<5 => nodes 2 3 4 asks nnnn
+1 n>=2 && n<5 => nodes 2 3 4 asks nnnn
+0 n>2 && n<=5 => nodes 3 4 5 asks nnnn
+0 !(n<=2 || n>5) => nodes 3 4 5 asks nnnn
+0 n>=2 && (m>=3 && n<5) => nodes 2 3 4 asks nnnn
+1 n>=2 && (m>=3 && n<5) => nodes 2 3 4 asks mmmmm
+0 n>=2 && (n<5 || m==1) => nodes 2 3 4 6 asks nnnnnn
+12 n>=2 && (n<5 || m==1) => nodes 2 3 4 6 asks nnnnmm
+12 (n<5 || m==1) && n>=2 => nodes 2 3 4 6 asks mmnnnnnn
+01 (n<5 || m==1) && n>=2 => nodes 2 3 4 6 asks nnnnmm
+01 n<2 || n>5 => nodes 1 6 asks nnnn
+01 n<4 || n<3 => nodes 1 2 3 asks nnnnnnn
+0 n>4 && n<2 => nodes asks n";
+    replies(rt.alloc(), &volume_of(rt.alloc(), NUMBERS)?, requests)
+}
+
+/// A number outside the kind of the index bounds a walk as well, and so does what spells no number.
+#[test]
+fn bounds_outside_the_kind(rt: HostRuntime) -> Result<(), Fail> {
+    let requests = "0 n>=2147483648 => nodes asks n
+0 n>2147483648 => nodes asks n
+0 n==2147483648 => nodes asks n
+0 n<=-2147483649 => nodes asks n
+0 n<-2147483649 => nodes asks n
+0 n==-2147483649 => nodes asks n
+0 n>=2 && n<abc => nodes asks n
+0 n!=abc => nodes asks n
+0 n==\"3*\" => nodes asks n
+0 n>=5 && n<2147483648 => nodes 5 6 asks nnn
+0 n>-2147483649 && n<=2 => nodes 1 2 asks nnn
+0 n>=5 && n!=2147483648 => nodes 5 6 asks nnn
+0 n<=2147483647 && n>5 => nodes 6 asks nn";
+    replies(rt.alloc(), &volume_of(rt.alloc(), NUMBERS)?, requests)
+}
+
+/// The ranges of the other integer kinds.
+#[test]
+fn bounds_of_each_kind(rt: HostRuntime) -> Result<(), Fail> {
+    let lines = "mkindex l LLNG
+mkindex u ULNG
+mkindex w ULLG
+new
+set 1 l LLNG 5
+set 1 u ULNG 5
+set 1 w ULLG 5";
+    let requests = "0 l<9223372036854775808 => nodes 1 asks ll
+0 l>=9223372036854775808 => nodes asks l
+0 l>=-9223372036854775808 => nodes 1 asks ll
+0 u>=-1 => nodes 1 asks uu
+0 u<0 => nodes asks u
+0 u<=-1 => nodes asks u
+0 u<4294967296 => nodes 1 asks uu
+0 u>=4294967296 => nodes asks u
+0 w>-1 => nodes 1 asks ww
+0 w==-5 => nodes asks w
+0 w<=18446744073709551615 => nodes 1 asks ww
+0 w<=18446744073709551616 => nodes asks w";
+    replies(rt.alloc(), &volume_of(rt.alloc(), lines)?, requests)
+}
+
+/// Texts are bounded by their bytes, and patterns by their literal characters before the first wildcard.
+#[test]
+fn bounds_of_texts(rt: HostRuntime) -> Result<(), Fail> {
+    let lines = "mkindex t CSTR
+new
+new
+new
+new
+new
+new
+set 1 t CSTR a
+set 2 t CSTR ab
+set 3 t CSTR abc
+set 4 t CSTR ac
+set 5 t CSTR b
+set 6 t CSTR é";
+    let requests = "0 t==ab => nodes 2 asks tt
+0 t==\"ab*\" => nodes 2 3 asks ttt
+0 t==\"a?\" => nodes 2 4 asks ttttt
+0 t==\"[ab]*\" => nodes 1 2 3 4 5 asks ttttttt
+0 t==\"é*\" => nodes 6 asks tt
+0 t!=ab => nodes 1 3 4 5 6 asks ttttttt
+0 t>=ab && t<b => nodes 2 3 4 asks tttt
+0 t==\"a*\" && t>ab => nodes 3 4 asks ttt
+1 t==\"a*\" && t>ab => nodes 3 4 asks ttt";
+    replies(rt.alloc(), &volume_of(rt.alloc(), lines)?, requests)
+}
+
+/// The kind that a source gives to an index.
+fn kind_by<S: Source + Drop>(mut source: S, name: &Name) -> Option<Kind>
+    ghost volume: { State }
+    requires { S.answers_for source volume }
+{
+    source.kind_of(name)
+}
+
+/// Whether the next key that a source gives is this one.
+fn is_next<S: Source + Drop>(
+    mut source: S,
+    name: &Name,
+    from: &[u8],
+    after: bool,
+    key: &[u8],
+) -> bool
+    ghost volume: { State }
+    requires { S.answers_for source volume }
+{
+    match source.next_key(name, from, after) {
+        Some(next) => next.as_slice() == key,
+        None => key.is_empty(),
+    }
+}
+
+#[test]
+fn plan_source(rt: HostRuntime) -> Result<(), Fail> {
+    let lines = "mkindex k CSTR
+new
+new
+new
+set 1 k CSTR x
+set 2 k CSTR x
+set 3 k CSTR x
+drop 2
+new";
+    let volume = volume_of(rt.alloc(), lines)?;
+    let k = Name::new("k")?;
+    let q = Name::new("q")?;
+    let first = key_of(&Value::text("x")?, 1);
+    let last = [0x78, 0, 0, 0, 0, 0, 0, 0, 0, 3];
+    assert!(rt; matches!(kind_by(volume_source(&volume), &k), Some(Kind::Cstr)));
+    assert!(rt; kind_by(volume_source(&volume), &q).is_none());
+    assert!(rt; is_next(volume_source(&volume), &k, first.as_slice(), true, &last));
+    assert!(rt; is_next(volume_source(&volume), &k, &last, true, &[]));
+    assert!(rt; is_next(volume_source(&volume), &k, &last, false, &last));
+    assert!(rt; is_next(volume_source(&volume), &q, &last, false, &[]));
+    Ok(())
+}
+
+/// A text longer than any value's bounds a walk by the bytes that a value may have, and a pattern of more literal bytes leaves out all keys.
+#[test]
+fn bounds_of_long_texts(rt: HostRuntime) -> Result<(), Fail> {
+    let alloc = rt.alloc();
+    let m = "m".repeat(alloc, 254)?;
+    let lines = format!(in alloc;
+        "mkindex t CSTR\nnew\nnew\nnew\nnew\nset 1 t CSTR a\nset 2 t CSTR {m}m\nset 3 t CSTR {m}n\nset 4 t CSTR z"
+    )?;
+    let requests = format!(in alloc;
+        "0 t>={m}mm => nodes 3 4 asks ttt
+0 t>{m}mm => nodes 3 4 asks ttt
+0 t<{m}mm => nodes 1 2 asks ttt
+0 t<={m}nn => nodes 1 2 3 asks tttt
+0 t=={m}m => nodes 2 asks tt
+0 t==\"{m}m*\" => nodes 2 asks tt
+0 t=={m}mm => nodes asks t
+0 t==\"{m}mm*\" => nodes asks t\n0 t==\"{m}{m}*\" => nodes asks t"
+    )?;
+    replies(alloc, &volume_of(alloc, lines.as_str())?, requests.as_str())
+}
