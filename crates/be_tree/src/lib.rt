@@ -11,6 +11,7 @@ mod laws;
 mod lookup;
 mod page;
 mod removal;
+mod siblings;
 mod slot;
 mod walk;
 
