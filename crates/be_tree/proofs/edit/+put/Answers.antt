@@ -87,7 +87,6 @@ put_at-slots_with-requires-clause-readable g t c =
     let still : IsUnchanged g.R.Look.kept g.R.Look.standing g.R.Look.words old old = record { kept = refl; standing = refl; words = refl } in
     let inside = at_item g.R.Look.kept g.R.Look.standing g.R.Look.words level page pair c.rank.result at old old c.requires.tree still ranked c.saturating_sub-at.ensures in
     let lt : i + 2 ≤ words page 1 = omega (arith, is, inside) in
-    let one = key_in g.R.Look.kept g.R.Look.standing g.R.Look.words level page pair c.rank.result at old old c.requires.tree still ranked c.saturating_sub-at.ensures (level - 1) e in
     let here = c.rank.new.look in
     let read = c.sharing_children.new.look in
     let mid = c.put_shared.new.room in
@@ -110,7 +109,6 @@ put_at-slots_with-requires-clause-page g t c =
     let still : IsUnchanged g.R.Look.kept g.R.Look.standing g.R.Look.words old old = record { kept = refl; standing = refl; words = refl } in
     let inside = at_item g.R.Look.kept g.R.Look.standing g.R.Look.words level page pair c.rank.result at old old c.requires.tree still ranked c.saturating_sub-at.ensures in
     let lt : i + 2 ≤ words page 1 = omega (arith, is, inside) in
-    let one = key_in g.R.Look.kept g.R.Look.standing g.R.Look.words level page pair c.rank.result at old old c.requires.tree still ranked c.saturating_sub-at.ensures (level - 1) e in
     let here = c.rank.new.look in
     let read = c.sharing_children.new.look in
     let mid = c.put_shared.new.room in
@@ -133,7 +131,6 @@ put_at-slots_with-requires-clause-in_page g t c =
     let still : IsUnchanged g.R.Look.kept g.R.Look.standing g.R.Look.words old old = record { kept = refl; standing = refl; words = refl } in
     let inside = at_item g.R.Look.kept g.R.Look.standing g.R.Look.words level page pair c.rank.result at old old c.requires.tree still ranked c.saturating_sub-at.ensures in
     let lt : i + 2 ≤ words page 1 = omega (arith, is, inside) in
-    let one = key_in g.R.Look.kept g.R.Look.standing g.R.Look.words level page pair c.rank.result at old old c.requires.tree still ranked c.saturating_sub-at.ensures (level - 1) e in
     let here = c.rank.new.look in
     let read = c.sharing_children.new.look in
     let mid = c.put_shared.new.room in
@@ -180,7 +177,6 @@ put_at-returns-in-Some-clause-some g t c =
     let still : IsUnchanged g.R.Look.kept g.R.Look.standing g.R.Look.words old old = record { kept = refl; standing = refl; words = refl } in
     let inside = at_item g.R.Look.kept g.R.Look.standing g.R.Look.words level page pair c.rank.result at old old c.requires.tree still ranked c.saturating_sub-at.ensures in
     let lt : i + 2 ≤ words page 1 = omega (arith, is, inside) in
-    let one = key_in g.R.Look.kept g.R.Look.standing g.R.Look.words level page pair c.rank.result at old old c.requires.tree still ranked c.saturating_sub-at.ensures (level - 1) e in
     let here = c.rank.new.look in
     let read = c.sharing_children.new.look in
     let mid = c.put_shared.new.room in
@@ -584,10 +580,7 @@ put_below-pack-requires-clause-enough g t c =
 
 pub put_below-returns-in_err-branches-clause-err : goal.put_below-returns-in_err-branches-clause-err
 put_below-returns-in_err-branches-clause-err g t c =
-    let e : c.args.level ≡ suc (c.args.level - 1) = omega (arith, c.if-level-eq0.false) in
     let read = c.child_at-child.new.look in
-    let item = item_at (g.R.Look.words c.args.room.now c.args.page) c.args.place in
-    let child_tree = child_read g.R.Look.kept g.R.Look.standing g.R.Look.words c.args.level (c.args.level - 1) item c.child_at-child.result c.args.room.now read e c.requires.below c.child_at-child.ensures.child c.child_at-child.ensures.unchanged in
     let first = swaps_start g.R.Look.kept g.R.Look.standing g.R.Look.words (pages_below (c.args.level - 1) (g.R.Look.words read) (items_of (g.R.Look.words read c.child_at-child.result))) (pages_below (c.args.level - 1) (g.R.Look.words c.put_at.new.room) (pairs_of (g.R.Look.words c.put_at.new.room) c.args.pair.now c.in_ok-slots.slots.items)) read c.put_at.new.room c.in_ok-slots.ensures.ok.swaps in
     on_err _ (start_trans g.R.Look.kept g.R.Look.standing g.R.Look.words c.args.room.now read c.pack.new.room (unchanged_start g.R.Look.kept g.R.Look.standing g.R.Look.words c.args.room.now read c.child_at-child.ensures.unchanged)
     (start_trans g.R.Look.kept g.R.Look.standing g.R.Look.words read c.put_at.new.room c.pack.new.room first c.in_err-branches.ensures.err))
