@@ -13,6 +13,8 @@ mod page;
 mod removal;
 mod siblings;
 mod slot;
+#[cfg(test)]
+mod tests;
 mod walk;
 
 pub use clearing::clear;

@@ -87,12 +87,10 @@ put_at-slots_with-requires-clause-readable g t c =
     let still : IsUnchanged g.R.Look.kept g.R.Look.standing g.R.Look.words old old = record { kept = refl; standing = refl; words = refl } in
     let inside = at_item g.R.Look.kept g.R.Look.standing g.R.Look.words level page pair c.rank.result at old old c.requires.tree still ranked c.saturating_sub-at.ensures in
     let lt : i + 2 ≤ words page 1 = omega (arith, is, inside) in
-    let here = c.rank.new.look in
-    let read = c.sharing_children.new.look in
     let mid = c.put_shared.new.room in
     let f = λ (xs ys : List Pair). xs ++ put pair ys in
     let us = pairs_of (g.R.Look.words mid) pair c.in_ok-two.two.items in
-    page_readable g.R.Look.kept g.R.Look.standing g.R.Look.words level (level - 1) 1 page i c.in-Some.left c.in-Some.right old here read e c.requires.tree lt c.rank.ensures.unchanged c.sharing_children.ensures.unchanged c.in-Some.ensures.left c.in-Some.ensures.right f us mid c.in_ok-two.ensures.ok
+    page_readable g.R.Look.kept g.R.Look.standing g.R.Look.words level (level - 1) 1 page i c.in-Some.left c.in-Some.right old c.rank.new.look c.sharing_children.new.look e c.requires.tree lt c.rank.ensures.unchanged c.sharing_children.ensures.unchanged c.in-Some.ensures.left c.in-Some.ensures.right f us mid c.in_ok-two.ensures.ok
 
 pub put_at-slots_with-requires-clause-page : goal.put_at-slots_with-requires-clause-page
 put_at-slots_with-requires-clause-page g t c =
@@ -109,12 +107,10 @@ put_at-slots_with-requires-clause-page g t c =
     let still : IsUnchanged g.R.Look.kept g.R.Look.standing g.R.Look.words old old = record { kept = refl; standing = refl; words = refl } in
     let inside = at_item g.R.Look.kept g.R.Look.standing g.R.Look.words level page pair c.rank.result at old old c.requires.tree still ranked c.saturating_sub-at.ensures in
     let lt : i + 2 ≤ words page 1 = omega (arith, is, inside) in
-    let here = c.rank.new.look in
-    let read = c.sharing_children.new.look in
     let mid = c.put_shared.new.room in
     let f = λ (xs ys : List Pair). xs ++ put pair ys in
     let us = pairs_of (g.R.Look.words mid) pair c.in_ok-two.two.items in
-    page_is g.R.Look.kept g.R.Look.standing g.R.Look.words level (level - 1) 1 page i c.in-Some.left c.in-Some.right old here read e c.requires.tree lt c.rank.ensures.unchanged c.sharing_children.ensures.unchanged c.in-Some.ensures.left c.in-Some.ensures.right f us mid c.in_ok-two.ensures.ok
+    page_is g.R.Look.kept g.R.Look.standing g.R.Look.words level (level - 1) 1 page i c.in-Some.left c.in-Some.right old c.rank.new.look c.sharing_children.new.look e c.requires.tree lt c.rank.ensures.unchanged c.sharing_children.ensures.unchanged c.in-Some.ensures.left c.in-Some.ensures.right f us mid c.in_ok-two.ensures.ok
 
 pub put_at-slots_with-requires-clause-in_page : goal.put_at-slots_with-requires-clause-in_page
 put_at-slots_with-requires-clause-in_page g t c =
@@ -131,12 +127,10 @@ put_at-slots_with-requires-clause-in_page g t c =
     let still : IsUnchanged g.R.Look.kept g.R.Look.standing g.R.Look.words old old = record { kept = refl; standing = refl; words = refl } in
     let inside = at_item g.R.Look.kept g.R.Look.standing g.R.Look.words level page pair c.rank.result at old old c.requires.tree still ranked c.saturating_sub-at.ensures in
     let lt : i + 2 ≤ words page 1 = omega (arith, is, inside) in
-    let here = c.rank.new.look in
-    let read = c.sharing_children.new.look in
     let mid = c.put_shared.new.room in
     let f = λ (xs ys : List Pair). xs ++ put pair ys in
     let us = pairs_of (g.R.Look.words mid) pair c.in_ok-two.two.items in
-    omega (arith, lt, page_count g.R.Look.kept g.R.Look.standing g.R.Look.words level (level - 1) 1 page i c.in-Some.left c.in-Some.right old here read e c.requires.tree lt c.rank.ensures.unchanged c.sharing_children.ensures.unchanged c.in-Some.ensures.left c.in-Some.ensures.right f us mid c.in_ok-two.ensures.ok)
+    omega (arith, lt, page_count g.R.Look.kept g.R.Look.standing g.R.Look.words level (level - 1) 1 page i c.in-Some.left c.in-Some.right old c.rank.new.look c.sharing_children.new.look e c.requires.tree lt c.rank.ensures.unchanged c.sharing_children.ensures.unchanged c.in-Some.ensures.left c.in-Some.ensures.right f us mid c.in_ok-two.ensures.ok)
 
 pub put_at-returns-in-Some-clause-ok : goal.put_at-returns-in-Some-clause-ok
 put_at-returns-in-Some-clause-ok g t c =
@@ -154,13 +148,11 @@ put_at-returns-in-Some-clause-ok g t c =
     let inside = at_item g.R.Look.kept g.R.Look.standing g.R.Look.words level page pair c.rank.result at old old c.requires.tree still ranked c.saturating_sub-at.ensures in
     let lt : i + 2 ≤ words page 1 = omega (arith, is, inside) in
     let one = key_in g.R.Look.kept g.R.Look.standing g.R.Look.words level page pair c.rank.result at old old c.requires.tree still ranked c.saturating_sub-at.ensures (level - 1) e in
-    let here = c.rank.new.look in
-    let read = c.sharing_children.new.look in
     let mid = c.put_shared.new.room in
     let f = λ (xs ys : List Pair). xs ++ put pair ys in
     let us = pairs_of (g.R.Look.words mid) pair c.in_ok-two.two.items in
     let all = second_changed level (level - 1) 1 page (g.R.Look.standing old) words e c.requires.tree i lt at is (put pair (pairs_at level words page)) (put pair) one in
-    two_changed g.R.Look.kept g.R.Look.standing g.R.Look.words level (level - 1) 1 page i c.in-Some.left c.in-Some.right old here read e c.requires.tree lt c.rank.ensures.unchanged c.sharing_children.ensures.unchanged c.in-Some.ensures.left c.in-Some.ensures.right f us mid c.in_ok-two.ensures.ok (put pair) (rising_put pair) all pair c.slots_with.result.items c.slots_with.new.look (c.slots_with.ensures.items pair) c.slots_with.ensures.unchanged
+    two_changed g.R.Look.kept g.R.Look.standing g.R.Look.words level (level - 1) 1 page i c.in-Some.left c.in-Some.right old c.rank.new.look c.sharing_children.new.look e c.requires.tree lt c.rank.ensures.unchanged c.sharing_children.ensures.unchanged c.in-Some.ensures.left c.in-Some.ensures.right f us mid c.in_ok-two.ensures.ok (put pair) (rising_put pair) all pair c.slots_with.result.items c.slots_with.new.look (c.slots_with.ensures.items pair) c.slots_with.ensures.unchanged
 
 pub put_at-returns-in-Some-clause-some : goal.put_at-returns-in-Some-clause-some
 put_at-returns-in-Some-clause-some g t c =
@@ -177,12 +169,10 @@ put_at-returns-in-Some-clause-some g t c =
     let still : IsUnchanged g.R.Look.kept g.R.Look.standing g.R.Look.words old old = record { kept = refl; standing = refl; words = refl } in
     let inside = at_item g.R.Look.kept g.R.Look.standing g.R.Look.words level page pair c.rank.result at old old c.requires.tree still ranked c.saturating_sub-at.ensures in
     let lt : i + 2 ≤ words page 1 = omega (arith, is, inside) in
-    let here = c.rank.new.look in
-    let read = c.sharing_children.new.look in
     let mid = c.put_shared.new.room in
     let f = λ (xs ys : List Pair). xs ++ put pair ys in
     let us = pairs_of (g.R.Look.words mid) pair c.in_ok-two.two.items in
-    let count = page_count g.R.Look.kept g.R.Look.standing g.R.Look.words level (level - 1) 1 page i c.in-Some.left c.in-Some.right old here read e c.requires.tree lt c.rank.ensures.unchanged c.sharing_children.ensures.unchanged c.in-Some.ensures.left c.in-Some.ensures.right f us mid c.in_ok-two.ensures.ok in
+    let count = page_count g.R.Look.kept g.R.Look.standing g.R.Look.words level (level - 1) 1 page i c.in-Some.left c.in-Some.right old c.rank.new.look c.sharing_children.new.look e c.requires.tree lt c.rank.ensures.unchanged c.sharing_children.ensures.unchanged c.in-Some.ensures.left c.in-Some.ensures.right f us mid c.in_ok-two.ensures.ok in
     let n = items_count (words page) in
     (omega (arith, c.slots_with.ensures.len, c.in_ok-two.ensures.two, count, n), omega (arith, c.slots_with.ensures.len, c.in_ok-two.ensures.two, count, c.requires.tree.node.is_page.few))
 
@@ -255,31 +245,21 @@ pub put_shared-slots_of-slots-requires-clause-readable : goal.put_shared-slots_o
 put_shared-slots_of-slots-requires-clause-readable g t c =
     let old = c.args.room.now in
     let words = g.R.Look.words old in
-    let l = c.args.left in
     let r = c.args.right in
     let level = c.args.level in
     let pair = c.args.pair.now in
-    let two = c.requires.neighbours in
-    let mid = c.put_at.new.room in
-    let sub = c.in_ok-more.more.items in
     let all = put pair (pairs_at level words r) in
-    let first = c.in_ok-more.ensures.ok in
-    left_readable g.R.Look.kept g.R.Look.standing g.R.Look.words level l r old two all pair sub mid first
+    left_readable g.R.Look.kept g.R.Look.standing g.R.Look.words level c.args.left r old c.requires.neighbours all pair c.in_ok-more.more.items c.put_at.new.room c.in_ok-more.ensures.ok
 
 pub put_shared-slots_of-slots-requires-clause-page : goal.put_shared-slots_of-slots-requires-clause-page
 put_shared-slots_of-slots-requires-clause-page g t c =
     let old = c.args.room.now in
     let words = g.R.Look.words old in
-    let l = c.args.left in
     let r = c.args.right in
     let level = c.args.level in
     let pair = c.args.pair.now in
-    let two = c.requires.neighbours in
-    let mid = c.put_at.new.room in
-    let sub = c.in_ok-more.more.items in
     let all = put pair (pairs_at level words r) in
-    let first = c.in_ok-more.ensures.ok in
-    left_page g.R.Look.kept g.R.Look.standing g.R.Look.words level l r old two all pair sub mid first
+    left_page g.R.Look.kept g.R.Look.standing g.R.Look.words level c.args.left r old c.requires.neighbours all pair c.in_ok-more.more.items c.put_at.new.room c.in_ok-more.ensures.ok
 
 pub put_shared-append-requires : goal.put_shared-append-requires
 put_shared-append-requires g t c =
@@ -289,12 +269,9 @@ put_shared-append-requires g t c =
     let r = c.args.right in
     let level = c.args.level in
     let pair = c.args.pair.now in
-    let two = c.requires.neighbours in
     let mid = c.put_at.new.room in
-    let sub = c.in_ok-more.more.items in
     let all = put pair (pairs_at level words r) in
-    let first = c.in_ok-more.ensures.ok in
-    let count = left_count g.R.Look.kept g.R.Look.standing g.R.Look.words level l r old two all pair sub mid first in
+    let count = left_count g.R.Look.kept g.R.Look.standing g.R.Look.words level l r old c.requires.neighbours all pair c.in_ok-more.more.items mid c.in_ok-more.ensures.ok in
     let len = ap length c.slots_of-slots.ensures.slots ∙ length-map-range_with_len (λ (j : ℕ). At l (place_of j)) 0 (g.R.Look.words mid l 1) in
     omega (arith, len, count, c.requires.roomy, c.in_ok-more.ensures.some, ap length c.deref.ensures.0)
 
@@ -302,44 +279,30 @@ pub put_shared-pack_two-requires-clause-below : goal.put_shared-pack_two-require
 put_shared-pack_two-requires-clause-below g t c =
     let old = c.args.room.now in
     let words = g.R.Look.words old in
-    let l = c.args.left in
     let r = c.args.right in
     let level = c.args.level in
     let pair = c.args.pair.now in
-    let two = c.requires.neighbours in
-    let mid = c.put_at.new.room in
     let sub = c.in_ok-more.more.items in
     let all = put pair (pairs_at level words r) in
-    let first = c.in_ok-more.ensures.ok in
-    let read = c.slots_of-slots.new.look in
-    let same = c.slots_of-slots.ensures.unchanged in
     let other = c.slots_of-slots.result.items in
-    let loaded = c.slots_of-slots.ensures.slots in
     let slots = c.deref-2.result.now in
     let e : slots ≡ other ++ sub = c.deref-2.ensures.0 ∙ c.append.ensures ∙ ap (λ (xs : List Slot). other ++ xs) c.deref.ensures.0 in
-    let joined = right_changed g.R.Look.kept g.R.Look.standing g.R.Look.words level l r old two all pair sub other slots mid read same first loaded e c.requires.rising in
+    let joined = right_changed g.R.Look.kept g.R.Look.standing g.R.Look.words level c.args.left r old c.requires.neighbours all pair sub other slots c.put_at.new.room c.slots_of-slots.new.look c.slots_of-slots.ensures.unchanged c.in_ok-more.ensures.ok c.slots_of-slots.ensures.slots e c.requires.rising in
     joined.below
 
 pub put_shared-pack_two-requires-clause-ready : goal.put_shared-pack_two-requires-clause-ready
 put_shared-pack_two-requires-clause-ready g t c =
     let old = c.args.room.now in
     let words = g.R.Look.words old in
-    let l = c.args.left in
     let r = c.args.right in
     let level = c.args.level in
     let pair = c.args.pair.now in
-    let two = c.requires.neighbours in
-    let mid = c.put_at.new.room in
     let sub = c.in_ok-more.more.items in
     let all = put pair (pairs_at level words r) in
-    let first = c.in_ok-more.ensures.ok in
-    let read = c.slots_of-slots.new.look in
-    let same = c.slots_of-slots.ensures.unchanged in
     let other = c.slots_of-slots.result.items in
-    let loaded = c.slots_of-slots.ensures.slots in
     let slots = c.deref-2.result.now in
     let e : slots ≡ other ++ sub = c.deref-2.ensures.0 ∙ c.append.ensures ∙ ap (λ (xs : List Slot). other ++ xs) c.deref.ensures.0 in
-    right_in_hand g.R.Look.kept g.R.Look.standing g.R.Look.words level l r old two all pair sub other slots mid read same first loaded e c.in_ok-more.ensures.ready
+    right_in_hand g.R.Look.kept g.R.Look.standing g.R.Look.words level c.args.left r old c.requires.neighbours all pair sub other slots c.put_at.new.room c.slots_of-slots.new.look c.slots_of-slots.ensures.unchanged c.in_ok-more.ensures.ok c.slots_of-slots.ensures.slots e c.in_ok-more.ensures.ready
 
 pub put_shared-pack_two-requires-clause-enough : goal.put_shared-pack_two-requires-clause-enough
 put_shared-pack_two-requires-clause-enough g t c =
@@ -350,127 +313,87 @@ put_shared-pack_two-requires-clause-enough g t c =
     let level = c.args.level in
     let pair = c.args.pair.now in
     let two = c.requires.neighbours in
-    let mid = c.put_at.new.room in
     let sub = c.in_ok-more.more.items in
     let all = put pair (pairs_at level words r) in
-    let first = c.in_ok-more.ensures.ok in
-    let read = c.slots_of-slots.new.look in
-    let same = c.slots_of-slots.ensures.unchanged in
     let other = c.slots_of-slots.result.items in
-    let loaded = c.slots_of-slots.ensures.slots in
     let slots = c.deref-2.result.now in
     let e : slots ≡ other ++ sub = c.deref-2.ensures.0 ∙ c.append.ensures ∙ ap (λ (xs : List Slot). other ++ xs) c.deref.ensures.0 in
-    let len = right_length g.R.Look.kept g.R.Look.standing g.R.Look.words level l r old two all pair sub other slots mid read same first loaded e in
+    let len = right_length g.R.Look.kept g.R.Look.standing g.R.Look.words level l r old two all pair sub other slots c.put_at.new.room c.slots_of-slots.new.look c.slots_of-slots.ensures.unchanged c.in_ok-more.ensures.ok c.slots_of-slots.ensures.slots e in
     omega (arith, len, c.in_ok-more.ensures.some, items_count (words l), two.left_tree.node.enough)
 
 pub put_shared-pack_two-requires-clause-few : goal.put_shared-pack_two-requires-clause-few
 put_shared-pack_two-requires-clause-few g t c =
     let old = c.args.room.now in
     let words = g.R.Look.words old in
-    let l = c.args.left in
     let r = c.args.right in
     let level = c.args.level in
     let pair = c.args.pair.now in
-    let two = c.requires.neighbours in
-    let mid = c.put_at.new.room in
     let sub = c.in_ok-more.more.items in
     let all = put pair (pairs_at level words r) in
-    let first = c.in_ok-more.ensures.ok in
-    let read = c.slots_of-slots.new.look in
-    let same = c.slots_of-slots.ensures.unchanged in
     let other = c.slots_of-slots.result.items in
-    let loaded = c.slots_of-slots.ensures.slots in
     let slots = c.deref-2.result.now in
     let e : slots ≡ other ++ sub = c.deref-2.ensures.0 ∙ c.append.ensures ∙ ap (λ (xs : List Slot). other ++ xs) c.deref.ensures.0 in
-    let len = right_length g.R.Look.kept g.R.Look.standing g.R.Look.words level l r old two all pair sub other slots mid read same first loaded e in
+    let len = right_length g.R.Look.kept g.R.Look.standing g.R.Look.words level c.args.left r old c.requires.neighbours all pair sub other slots c.put_at.new.room c.slots_of-slots.new.look c.slots_of-slots.ensures.unchanged c.in_ok-more.ensures.ok c.slots_of-slots.ensures.slots e in
     omega (arith, len, c.in_ok-more.ensures.some, c.requires.roomy)
 
 pub put_shared-pack_two-requires-clause-left_kept : goal.put_shared-pack_two-requires-clause-left_kept
 put_shared-pack_two-requires-clause-left_kept g t c =
     let old = c.args.room.now in
     let words = g.R.Look.words old in
-    let l = c.args.left in
     let r = c.args.right in
     let level = c.args.level in
     let pair = c.args.pair.now in
-    let two = c.requires.neighbours in
-    let mid = c.put_at.new.room in
     let sub = c.in_ok-more.more.items in
     let all = put pair (pairs_at level words r) in
-    let first = c.in_ok-more.ensures.ok in
-    let read = c.slots_of-slots.new.look in
-    let same = c.slots_of-slots.ensures.unchanged in
     let other = c.slots_of-slots.result.items in
-    let loaded = c.slots_of-slots.ensures.slots in
     let slots = c.deref-2.result.now in
     let e : slots ≡ other ++ sub = c.deref-2.ensures.0 ∙ c.append.ensures ∙ ap (λ (xs : List Slot). other ++ xs) c.deref.ensures.0 in
-    let joined = right_changed g.R.Look.kept g.R.Look.standing g.R.Look.words level l r old two all pair sub other slots mid read same first loaded e c.requires.rising in
+    let joined = right_changed g.R.Look.kept g.R.Look.standing g.R.Look.words level c.args.left r old c.requires.neighbours all pair sub other slots c.put_at.new.room c.slots_of-slots.new.look c.slots_of-slots.ensures.unchanged c.in_ok-more.ensures.ok c.slots_of-slots.ensures.slots e c.requires.rising in
     joined.left_is_kept
 
 pub put_shared-pack_two-requires-clause-right_kept : goal.put_shared-pack_two-requires-clause-right_kept
 put_shared-pack_two-requires-clause-right_kept g t c =
     let old = c.args.room.now in
     let words = g.R.Look.words old in
-    let l = c.args.left in
     let r = c.args.right in
     let level = c.args.level in
     let pair = c.args.pair.now in
-    let two = c.requires.neighbours in
-    let mid = c.put_at.new.room in
     let sub = c.in_ok-more.more.items in
     let all = put pair (pairs_at level words r) in
-    let first = c.in_ok-more.ensures.ok in
-    let read = c.slots_of-slots.new.look in
-    let same = c.slots_of-slots.ensures.unchanged in
     let other = c.slots_of-slots.result.items in
-    let loaded = c.slots_of-slots.ensures.slots in
     let slots = c.deref-2.result.now in
     let e : slots ≡ other ++ sub = c.deref-2.ensures.0 ∙ c.append.ensures ∙ ap (λ (xs : List Slot). other ++ xs) c.deref.ensures.0 in
-    let joined = right_changed g.R.Look.kept g.R.Look.standing g.R.Look.words level l r old two all pair sub other slots mid read same first loaded e c.requires.rising in
+    let joined = right_changed g.R.Look.kept g.R.Look.standing g.R.Look.words level c.args.left r old c.requires.neighbours all pair sub other slots c.put_at.new.room c.slots_of-slots.new.look c.slots_of-slots.ensures.unchanged c.in_ok-more.ensures.ok c.slots_of-slots.ensures.slots e c.requires.rising in
     joined.right_is_kept
 
 pub put_shared-pack_two-requires-clause-left_apart : goal.put_shared-pack_two-requires-clause-left_apart
 put_shared-pack_two-requires-clause-left_apart g t c =
     let old = c.args.room.now in
     let words = g.R.Look.words old in
-    let l = c.args.left in
     let r = c.args.right in
     let level = c.args.level in
     let pair = c.args.pair.now in
-    let two = c.requires.neighbours in
-    let mid = c.put_at.new.room in
     let sub = c.in_ok-more.more.items in
     let all = put pair (pairs_at level words r) in
-    let first = c.in_ok-more.ensures.ok in
-    let read = c.slots_of-slots.new.look in
-    let same = c.slots_of-slots.ensures.unchanged in
     let other = c.slots_of-slots.result.items in
-    let loaded = c.slots_of-slots.ensures.slots in
     let slots = c.deref-2.result.now in
     let e : slots ≡ other ++ sub = c.deref-2.ensures.0 ∙ c.append.ensures ∙ ap (λ (xs : List Slot). other ++ xs) c.deref.ensures.0 in
-    let joined = right_changed g.R.Look.kept g.R.Look.standing g.R.Look.words level l r old two all pair sub other slots mid read same first loaded e c.requires.rising in
+    let joined = right_changed g.R.Look.kept g.R.Look.standing g.R.Look.words level c.args.left r old c.requires.neighbours all pair sub other slots c.put_at.new.room c.slots_of-slots.new.look c.slots_of-slots.ensures.unchanged c.in_ok-more.ensures.ok c.slots_of-slots.ensures.slots e c.requires.rising in
     joined.left_beside
 
 pub put_shared-pack_two-requires-clause-right_apart : goal.put_shared-pack_two-requires-clause-right_apart
 put_shared-pack_two-requires-clause-right_apart g t c =
     let old = c.args.room.now in
     let words = g.R.Look.words old in
-    let l = c.args.left in
     let r = c.args.right in
     let level = c.args.level in
     let pair = c.args.pair.now in
-    let two = c.requires.neighbours in
-    let mid = c.put_at.new.room in
     let sub = c.in_ok-more.more.items in
     let all = put pair (pairs_at level words r) in
-    let first = c.in_ok-more.ensures.ok in
-    let read = c.slots_of-slots.new.look in
-    let same = c.slots_of-slots.ensures.unchanged in
     let other = c.slots_of-slots.result.items in
-    let loaded = c.slots_of-slots.ensures.slots in
     let slots = c.deref-2.result.now in
     let e : slots ≡ other ++ sub = c.deref-2.ensures.0 ∙ c.append.ensures ∙ ap (λ (xs : List Slot). other ++ xs) c.deref.ensures.0 in
-    let joined = right_changed g.R.Look.kept g.R.Look.standing g.R.Look.words level l r old two all pair sub other slots mid read same first loaded e c.requires.rising in
+    let joined = right_changed g.R.Look.kept g.R.Look.standing g.R.Look.words level c.args.left r old c.requires.neighbours all pair sub other slots c.put_at.new.room c.slots_of-slots.new.look c.slots_of-slots.ensures.unchanged c.in_ok-more.ensures.ok c.slots_of-slots.ensures.slots e c.requires.rising in
     joined.right_beside
 
 pub put_shared-pack_two-requires-clause-different : goal.put_shared-pack_two-requires-clause-different
@@ -481,44 +404,31 @@ pub put_shared-returns-in_err-branches-clause-err : goal.put_shared-returns-in_e
 put_shared-returns-in_err-branches-clause-err g t c =
     let old = c.args.room.now in
     let words = g.R.Look.words old in
-    let l = c.args.left in
     let r = c.args.right in
     let level = c.args.level in
     let pair = c.args.pair.now in
-    let two = c.requires.neighbours in
-    let mid = c.put_at.new.room in
     let sub = c.in_ok-more.more.items in
     let all = put pair (pairs_at level words r) in
-    let first = c.in_ok-more.ensures.ok in
     let read = c.slots_of-slots.new.look in
-    let same = c.slots_of-slots.ensures.unchanged in
     let other = c.slots_of-slots.result.items in
-    let loaded = c.slots_of-slots.ensures.slots in
     let slots = c.deref-2.result.now in
     let e : slots ≡ other ++ sub = c.deref-2.ensures.0 ∙ c.append.ensures ∙ ap (λ (xs : List Slot). other ++ xs) c.deref.ensures.0 in
-    let joined = right_changed g.R.Look.kept g.R.Look.standing g.R.Look.words level l r old two all pair sub other slots mid read same first loaded e c.requires.rising in
+    let joined = right_changed g.R.Look.kept g.R.Look.standing g.R.Look.words level c.args.left r old c.requires.neighbours all pair sub other slots c.put_at.new.room read c.slots_of-slots.ensures.unchanged c.in_ok-more.ensures.ok c.slots_of-slots.ensures.slots e c.requires.rising in
     on_err _ (start_trans g.R.Look.kept g.R.Look.standing g.R.Look.words old read c.pack_two.new.room joined.start c.in_err-branches.ensures.err)
 
 pub put_shared-returns-clause-ok : goal.put_shared-returns-clause-ok
 put_shared-returns-clause-ok g t c =
     let old = c.args.room.now in
     let words = g.R.Look.words old in
-    let l = c.args.left in
     let r = c.args.right in
     let level = c.args.level in
     let pair = c.args.pair.now in
-    let two = c.requires.neighbours in
-    let mid = c.put_at.new.room in
     let sub = c.in_ok-more.more.items in
     let all = put pair (pairs_at level words r) in
-    let first = c.in_ok-more.ensures.ok in
-    let read = c.slots_of-slots.new.look in
-    let same = c.slots_of-slots.ensures.unchanged in
     let other = c.slots_of-slots.result.items in
-    let loaded = c.slots_of-slots.ensures.slots in
     let slots = c.deref-2.result.now in
     let e : slots ≡ other ++ sub = c.deref-2.ensures.0 ∙ c.append.ensures ∙ ap (λ (xs : List Slot). other ++ xs) c.deref.ensures.0 in
-    let joined = right_changed g.R.Look.kept g.R.Look.standing g.R.Look.words level l r old two all pair sub other slots mid read same first loaded e c.requires.rising in
+    let joined = right_changed g.R.Look.kept g.R.Look.standing g.R.Look.words level c.args.left r old c.requires.neighbours all pair sub other slots c.put_at.new.room c.slots_of-slots.new.look c.slots_of-slots.ensures.unchanged c.in_ok-more.ensures.ok c.slots_of-slots.ensures.slots e c.requires.rising in
     joined.written (pairs_of (g.R.Look.words c.pack_two.new.room) pair c.in_ok-branches.branches.items) c.pack_two.new.room c.in_ok-branches.ensures.ok
 
 pub put_shared-returns-clause-two : goal.put_shared-returns-clause-two
@@ -530,17 +440,12 @@ put_shared-returns-clause-two g t c =
     let level = c.args.level in
     let pair = c.args.pair.now in
     let two = c.requires.neighbours in
-    let mid = c.put_at.new.room in
     let sub = c.in_ok-more.more.items in
     let all = put pair (pairs_at level words r) in
-    let first = c.in_ok-more.ensures.ok in
-    let read = c.slots_of-slots.new.look in
-    let same = c.slots_of-slots.ensures.unchanged in
     let other = c.slots_of-slots.result.items in
-    let loaded = c.slots_of-slots.ensures.slots in
     let slots = c.deref-2.result.now in
     let e : slots ≡ other ++ sub = c.deref-2.ensures.0 ∙ c.append.ensures ∙ ap (λ (xs : List Slot). other ++ xs) c.deref.ensures.0 in
-    let len = right_length g.R.Look.kept g.R.Look.standing g.R.Look.words level l r old two all pair sub other slots mid read same first loaded e in
+    let len = right_length g.R.Look.kept g.R.Look.standing g.R.Look.words level l r old two all pair sub other slots c.put_at.new.room c.slots_of-slots.new.look c.slots_of-slots.ensures.unchanged c.in_ok-more.ensures.ok c.slots_of-slots.ensures.slots e in
     c.in_ok-branches.ensures.two (omega (arith, len, c.in_ok-more.ensures.some, c.requires.crowded, items_count (words l), items_count (words r), two.left_tree.node.enough))
 
 pub put_below-returns-then-level-eq0-clause-ok : goal.put_below-returns-then-level-eq0-clause-ok
@@ -573,9 +478,8 @@ put_below-put_at-requires g t c κs within =
 pub put_below-pack-requires-clause-enough : goal.put_below-pack-requires-clause-enough
 put_below-pack-requires-clause-enough g t c =
     let e : c.args.level ≡ suc (c.args.level - 1) = omega (arith, c.if-level-eq0.false) in
-    let read = c.child_at-child.new.look in
     let item = item_at (g.R.Look.words c.args.room.now c.args.page) c.args.place in
-    let child_tree = child_read g.R.Look.kept g.R.Look.standing g.R.Look.words c.args.level (c.args.level - 1) item c.child_at-child.result c.args.room.now read e c.requires.below c.child_at-child.ensures.child c.child_at-child.ensures.unchanged in
+    let child_tree = child_read g.R.Look.kept g.R.Look.standing g.R.Look.words c.args.level (c.args.level - 1) item c.child_at-child.result c.args.room.now c.child_at-child.new.look e c.requires.below c.child_at-child.ensures.child c.child_at-child.ensures.unchanged in
     omega (arith, child_tree.node.enough, c.in_ok-slots.ensures.some, ap length c.deref.ensures.0)
 
 pub put_below-returns-in_err-branches-clause-err : goal.put_below-returns-in_err-branches-clause-err

@@ -18,17 +18,9 @@ use Rattle.be_tree.proofs.removal.+removal.Goals as goal
 
 pub remove_at-slots_without-requires-clause-in_page : goal.remove_at-slots_without-requires-clause-in_page
 remove_at-slots_without-requires-clause-in_page g t c =
-    let old = c.args.room.now in
     let page = c.args.page in
-    let level = c.args.level in
-    let k = c.args.key.now in
-    let at = c.saturating_sub-at.result in
-    let tree = c.requires.tree in
-    let rank = c.rank.ensures.rank in
-    let place = c.saturating_sub-at.ensures in
-    let same1 = c.rank.ensures.unchanged in
-    let inside = at_in g.R.Look.kept g.R.Look.standing g.R.Look.words level page k c.rank.result at old tree rank place in
-    omega (arith, inside, ap (λ (w : ℕ → ℕ → ℕ). w page 1) same1.words)
+    let inside = at_in g.R.Look.kept g.R.Look.standing g.R.Look.words c.args.level page c.args.key.now c.rank.result c.saturating_sub-at.result c.args.room.now c.requires.tree c.rank.ensures.rank c.saturating_sub-at.ensures in
+    omega (arith, inside, ap (λ (w : ℕ → ℕ → ℕ). w page 1) c.rank.ensures.unchanged.words)
 
 pub remove_at-returns-then-level-eq0-clause-ok : goal.remove_at-returns-then-level-eq0-clause-ok
 remove_at-returns-then-level-eq0-clause-ok g t c =
@@ -39,23 +31,18 @@ remove_at-returns-then-level-eq0-clause-ok g t c =
     let k = c.args.key.now in
     let pair = c.args.pair.now in
     let at = c.saturating_sub-at.result in
-    let tree = c.requires.tree in
-    let rank = c.rank.ensures.rank in
-    let place = c.saturating_sub-at.ensures in
     let same1 = c.rank.ensures.unchanged in
     let slots = c.slots_without.result.items in
     let final = c.slots_without.new.look in
     let is = subst (λ (w : ℕ → ℕ → ℕ). pairs_of w pair slots ≡ take at (items_of (w page)) ++ (without k (item_at (w page) (place_of at) ∷ []) ++ drop (suc at) (items_of (w page)))) same1.words (c.slots_without.ensures.items pair) in
     slots_until g.R.Look.kept g.R.Look.standing g.R.Look.words (pages_below level words (items_of (words page))) (without k (pairs_at level words page)) level pair slots old old final (unchanged_trans g.R.Look.kept g.R.Look.standing g.R.Look.words old c.rank.new.look final same1 c.slots_without.ensures.unchanged)
-    (leaf_removed g.R.Look.kept g.R.Look.standing g.R.Look.words level page k c.rank.result at old tree rank place c.if-level-eq0.true (pairs_of words pair slots) is)
+    (leaf_removed g.R.Look.kept g.R.Look.standing g.R.Look.words level page k c.rank.result at old c.requires.tree c.rank.ensures.rank c.saturating_sub-at.ensures c.if-level-eq0.true (pairs_of words pair slots) is)
 
 pub remove_at-returns-then-level-eq0-clause-some : goal.remove_at-returns-then-level-eq0-clause-some
 remove_at-returns-then-level-eq0-clause-some g t c =
-    let old = c.args.room.now in
-    let words = g.R.Look.words old in
+    let words = g.R.Look.words c.args.room.now in
     let page = c.args.page in
-    let same1 = c.rank.ensures.unchanged in
-    let count = ap (λ (w : ℕ → ℕ → ℕ). w page 1) same1.words in
+    let count = ap (λ (w : ℕ → ℕ → ℕ). w page 1) c.rank.ensures.unchanged.words in
     (omega (arith, c.slots_without.ensures.some, count, items_count (words page)), c.slots_without.ensures.some.1)
 
 pub remove_at-slots_with-requires-clause-readable : goal.remove_at-slots_with-requires-clause-readable
@@ -64,21 +51,16 @@ remove_at-slots_with-requires-clause-readable g t c =
     let words = g.R.Look.words old in
     let page = c.args.page in
     let level = c.args.level in
-    let k = c.args.key.now in
-    let at = c.saturating_sub-at.result in
-    let tree = c.requires.tree in
     let e : level ≡ suc (level - 1) = omega (arith, c.if-level-eq0.false) in
     let here = c.count_of.new.look in
     let same = unchanged_trans g.R.Look.kept g.R.Look.standing g.R.Look.words old c.rank.new.look here c.rank.ensures.unchanged c.count_of.ensures.unchanged in
     let count : c.count_of.result ≡ words page 1 = c.count_of.ensures.count ∙ ap (λ (w : ℕ → ℕ → ℕ). w page 1) c.rank.ensures.unchanged.words in
-    let i : ℕ = at in
+    let i : ℕ = c.saturating_sub-at.result in
     let lt : i + 2 ≤ words page 1 = omega (arith, c.if-at-count_of.true, count) in
-    let read = c.two_children-here.new.look in
     let mid = c.remove_left.new.room in
-    let pair = c.args.pair.now in
-    let f = λ (xs ys : List Pair). without k xs ++ ys in
-    let us = pairs_of (g.R.Look.words mid) pair c.in_ok-two.two.items in
-    page_readable g.R.Look.kept g.R.Look.standing g.R.Look.words level (level - 1) (least_of_root level) page i c.two_children-here.result.0 c.two_children-here.result.1 old here read e tree lt same c.two_children-here.ensures.unchanged c.two_children-here.ensures.left c.two_children-here.ensures.right f us mid c.in_ok-two.ensures.ok
+    let f = λ (xs ys : List Pair). without c.args.key.now xs ++ ys in
+    let us = pairs_of (g.R.Look.words mid) c.args.pair.now c.in_ok-two.two.items in
+    page_readable g.R.Look.kept g.R.Look.standing g.R.Look.words level (level - 1) (least_of_root level) page i c.two_children-here.result.0 c.two_children-here.result.1 old here c.two_children-here.new.look e c.requires.tree lt same c.two_children-here.ensures.unchanged c.two_children-here.ensures.left c.two_children-here.ensures.right f us mid c.in_ok-two.ensures.ok
 
 pub remove_at-slots_with-requires-clause-page : goal.remove_at-slots_with-requires-clause-page
 remove_at-slots_with-requires-clause-page g t c =
@@ -86,21 +68,16 @@ remove_at-slots_with-requires-clause-page g t c =
     let words = g.R.Look.words old in
     let page = c.args.page in
     let level = c.args.level in
-    let k = c.args.key.now in
-    let at = c.saturating_sub-at.result in
-    let tree = c.requires.tree in
     let e : level ≡ suc (level - 1) = omega (arith, c.if-level-eq0.false) in
     let here = c.count_of.new.look in
     let same = unchanged_trans g.R.Look.kept g.R.Look.standing g.R.Look.words old c.rank.new.look here c.rank.ensures.unchanged c.count_of.ensures.unchanged in
     let count : c.count_of.result ≡ words page 1 = c.count_of.ensures.count ∙ ap (λ (w : ℕ → ℕ → ℕ). w page 1) c.rank.ensures.unchanged.words in
-    let i : ℕ = at in
+    let i : ℕ = c.saturating_sub-at.result in
     let lt : i + 2 ≤ words page 1 = omega (arith, c.if-at-count_of.true, count) in
-    let read = c.two_children-here.new.look in
     let mid = c.remove_left.new.room in
-    let pair = c.args.pair.now in
-    let f = λ (xs ys : List Pair). without k xs ++ ys in
-    let us = pairs_of (g.R.Look.words mid) pair c.in_ok-two.two.items in
-    page_is g.R.Look.kept g.R.Look.standing g.R.Look.words level (level - 1) (least_of_root level) page i c.two_children-here.result.0 c.two_children-here.result.1 old here read e tree lt same c.two_children-here.ensures.unchanged c.two_children-here.ensures.left c.two_children-here.ensures.right f us mid c.in_ok-two.ensures.ok
+    let f = λ (xs ys : List Pair). without c.args.key.now xs ++ ys in
+    let us = pairs_of (g.R.Look.words mid) c.args.pair.now c.in_ok-two.two.items in
+    page_is g.R.Look.kept g.R.Look.standing g.R.Look.words level (level - 1) (least_of_root level) page i c.two_children-here.result.0 c.two_children-here.result.1 old here c.two_children-here.new.look e c.requires.tree lt same c.two_children-here.ensures.unchanged c.two_children-here.ensures.left c.two_children-here.ensures.right f us mid c.in_ok-two.ensures.ok
 
 pub remove_at-slots_with-requires-clause-in_page : goal.remove_at-slots_with-requires-clause-in_page
 remove_at-slots_with-requires-clause-in_page g t c =
@@ -108,21 +85,16 @@ remove_at-slots_with-requires-clause-in_page g t c =
     let words = g.R.Look.words old in
     let page = c.args.page in
     let level = c.args.level in
-    let k = c.args.key.now in
-    let at = c.saturating_sub-at.result in
-    let tree = c.requires.tree in
     let e : level ≡ suc (level - 1) = omega (arith, c.if-level-eq0.false) in
     let here = c.count_of.new.look in
     let same = unchanged_trans g.R.Look.kept g.R.Look.standing g.R.Look.words old c.rank.new.look here c.rank.ensures.unchanged c.count_of.ensures.unchanged in
     let count : c.count_of.result ≡ words page 1 = c.count_of.ensures.count ∙ ap (λ (w : ℕ → ℕ → ℕ). w page 1) c.rank.ensures.unchanged.words in
-    let i : ℕ = at in
+    let i : ℕ = c.saturating_sub-at.result in
     let lt : i + 2 ≤ words page 1 = omega (arith, c.if-at-count_of.true, count) in
-    let read = c.two_children-here.new.look in
     let mid = c.remove_left.new.room in
-    let pair = c.args.pair.now in
-    let f = λ (xs ys : List Pair). without k xs ++ ys in
-    let us = pairs_of (g.R.Look.words mid) pair c.in_ok-two.two.items in
-    omega (arith, lt, page_count g.R.Look.kept g.R.Look.standing g.R.Look.words level (level - 1) (least_of_root level) page i c.two_children-here.result.0 c.two_children-here.result.1 old here read e tree lt same c.two_children-here.ensures.unchanged c.two_children-here.ensures.left c.two_children-here.ensures.right f us mid c.in_ok-two.ensures.ok)
+    let f = λ (xs ys : List Pair). without c.args.key.now xs ++ ys in
+    let us = pairs_of (g.R.Look.words mid) c.args.pair.now c.in_ok-two.two.items in
+    omega (arith, lt, page_count g.R.Look.kept g.R.Look.standing g.R.Look.words level (level - 1) (least_of_root level) page i c.two_children-here.result.0 c.two_children-here.result.1 old here c.two_children-here.new.look e c.requires.tree lt same c.two_children-here.ensures.unchanged c.two_children-here.ensures.left c.two_children-here.ensures.right f us mid c.in_ok-two.ensures.ok)
 
 pub remove_at-returns-then-at-count_of-clause-ok : goal.remove_at-returns-then-at-count_of-clause-ok
 remove_at-returns-then-at-count_of-clause-ok g t c =
@@ -133,22 +105,19 @@ remove_at-returns-then-at-count_of-clause-ok g t c =
     let k = c.args.key.now in
     let at = c.saturating_sub-at.result in
     let tree = c.requires.tree in
-    let rank = c.rank.ensures.rank in
-    let place = c.saturating_sub-at.ensures in
     let e : level ≡ suc (level - 1) = omega (arith, c.if-level-eq0.false) in
     let here = c.count_of.new.look in
     let same = unchanged_trans g.R.Look.kept g.R.Look.standing g.R.Look.words old c.rank.new.look here c.rank.ensures.unchanged c.count_of.ensures.unchanged in
     let count : c.count_of.result ≡ words page 1 = c.count_of.ensures.count ∙ ap (λ (w : ℕ → ℕ → ℕ). w page 1) c.rank.ensures.unchanged.words in
     let i : ℕ = at in
     let lt : i + 2 ≤ words page 1 = omega (arith, c.if-at-count_of.true, count) in
-    let read = c.two_children-here.new.look in
     let mid = c.remove_left.new.room in
     let pair = c.args.pair.now in
     let f = λ (xs ys : List Pair). without k xs ++ ys in
     let us = pairs_of (g.R.Look.words mid) pair c.in_ok-two.two.items in
-    let one = key_out g.R.Look.kept g.R.Look.standing g.R.Look.words level page k c.rank.result at old tree rank place (level - 1) e in
+    let one = key_out g.R.Look.kept g.R.Look.standing g.R.Look.words level page k c.rank.result at old tree c.rank.ensures.rank c.saturating_sub-at.ensures (level - 1) e in
     let all = first_changed level (level - 1) (least_of_root level) page (g.R.Look.standing old) words e tree i lt (without k (pairs_at level words page)) (without k) one in
-    two_changed g.R.Look.kept g.R.Look.standing g.R.Look.words level (level - 1) (least_of_root level) page i c.two_children-here.result.0 c.two_children-here.result.1 old here read e tree lt same c.two_children-here.ensures.unchanged c.two_children-here.ensures.left c.two_children-here.ensures.right f us mid c.in_ok-two.ensures.ok (without k) (rising_without k) all pair c.slots_with.result.items c.slots_with.new.look (c.slots_with.ensures.items pair) c.slots_with.ensures.unchanged
+    two_changed g.R.Look.kept g.R.Look.standing g.R.Look.words level (level - 1) (least_of_root level) page i c.two_children-here.result.0 c.two_children-here.result.1 old here c.two_children-here.new.look e tree lt same c.two_children-here.ensures.unchanged c.two_children-here.ensures.left c.two_children-here.ensures.right f us mid c.in_ok-two.ensures.ok (without k) (rising_without k) all pair c.slots_with.result.items c.slots_with.new.look (c.slots_with.ensures.items pair) c.slots_with.ensures.unchanged
 
 pub remove_at-returns-then-at-count_of-clause-some : goal.remove_at-returns-then-at-count_of-clause-some
 remove_at-returns-then-at-count_of-clause-some g t c =
@@ -156,21 +125,17 @@ remove_at-returns-then-at-count_of-clause-some g t c =
     let words = g.R.Look.words old in
     let page = c.args.page in
     let level = c.args.level in
-    let k = c.args.key.now in
-    let at = c.saturating_sub-at.result in
     let tree = c.requires.tree in
     let e : level ≡ suc (level - 1) = omega (arith, c.if-level-eq0.false) in
     let here = c.count_of.new.look in
     let same = unchanged_trans g.R.Look.kept g.R.Look.standing g.R.Look.words old c.rank.new.look here c.rank.ensures.unchanged c.count_of.ensures.unchanged in
     let count : c.count_of.result ≡ words page 1 = c.count_of.ensures.count ∙ ap (λ (w : ℕ → ℕ → ℕ). w page 1) c.rank.ensures.unchanged.words in
-    let i : ℕ = at in
+    let i : ℕ = c.saturating_sub-at.result in
     let lt : i + 2 ≤ words page 1 = omega (arith, c.if-at-count_of.true, count) in
-    let read = c.two_children-here.new.look in
     let mid = c.remove_left.new.room in
-    let pair = c.args.pair.now in
-    let f = λ (xs ys : List Pair). without k xs ++ ys in
-    let us = pairs_of (g.R.Look.words mid) pair c.in_ok-two.two.items in
-    let page_kept = page_count g.R.Look.kept g.R.Look.standing g.R.Look.words level (level - 1) (least_of_root level) page i c.two_children-here.result.0 c.two_children-here.result.1 old here read e tree lt same c.two_children-here.ensures.unchanged c.two_children-here.ensures.left c.two_children-here.ensures.right f us mid c.in_ok-two.ensures.ok in
+    let f = λ (xs ys : List Pair). without c.args.key.now xs ++ ys in
+    let us = pairs_of (g.R.Look.words mid) c.args.pair.now c.in_ok-two.two.items in
+    let page_kept = page_count g.R.Look.kept g.R.Look.standing g.R.Look.words level (level - 1) (least_of_root level) page i c.two_children-here.result.0 c.two_children-here.result.1 old here c.two_children-here.new.look e tree lt same c.two_children-here.ensures.unchanged c.two_children-here.ensures.left c.two_children-here.ensures.right f us mid c.in_ok-two.ensures.ok in
     (omega (arith, c.slots_with.ensures.len, c.in_ok-two.ensures.some, page_kept, items_count (words page)), omega (arith, c.slots_with.ensures.len, c.in_ok-two.ensures.some, page_kept, tree.node.is_page.few))
 
 pub remove_at-overflow_sub-at : goal.remove_at-overflow_sub-at
@@ -179,14 +144,10 @@ remove_at-overflow_sub-at g t c =
     let words = g.R.Look.words old in
     let page = c.args.page in
     let level = c.args.level in
-    let k = c.args.key.now in
     let at = c.saturating_sub-at.result in
-    let tree = c.requires.tree in
-    let rank = c.rank.ensures.rank in
-    let place = c.saturating_sub-at.ensures in
     let e : level ≡ suc (level - 1) = omega (arith, c.if-level-eq0.false) in
     let count : c.count_of.result ≡ words page 1 = c.count_of.ensures.count ∙ ap (λ (w : ℕ → ℕ → ℕ). w page 1) c.rank.ensures.unchanged.words in
-    let two = least_two g.R.Look.kept g.R.Look.standing g.R.Look.words level page k c.rank.result at old tree rank place (level - 1) e in
+    let two = least_two g.R.Look.kept g.R.Look.standing g.R.Look.words level page c.args.key.now c.rank.result at old c.requires.tree c.rank.ensures.rank c.saturating_sub-at.ensures (level - 1) e in
     let is : at ≡ at - 1 + 1 = omega (arith, c.if-at-count_of.false, count, two) in
     omega (arith, is)
 
@@ -203,8 +164,7 @@ remove_at-two_children-before-requires-clause-in_page g t c =
     let place = c.saturating_sub-at.ensures in
     let inside = at_in g.R.Look.kept g.R.Look.standing g.R.Look.words level page k c.rank.result at old tree rank place in
     let e : level ≡ suc (level - 1) = omega (arith, c.if-level-eq0.false) in
-    let here = c.count_of.new.look in
-    let same = unchanged_trans g.R.Look.kept g.R.Look.standing g.R.Look.words old c.rank.new.look here c.rank.ensures.unchanged c.count_of.ensures.unchanged in
+    let same = unchanged_trans g.R.Look.kept g.R.Look.standing g.R.Look.words old c.rank.new.look c.count_of.new.look c.rank.ensures.unchanged c.count_of.ensures.unchanged in
     let count : c.count_of.result ≡ words page 1 = c.count_of.ensures.count ∙ ap (λ (w : ℕ → ℕ → ℕ). w page 1) c.rank.ensures.unchanged.words in
     let two = least_two g.R.Look.kept g.R.Look.standing g.R.Look.words level page k c.rank.result at old tree rank place (level - 1) e in
     let is : at ≡ at - 1 + 1 = omega (arith, c.if-at-count_of.false, count, two) in
@@ -218,14 +178,10 @@ remove_at-overflow_sub-at-2 g t c =
     let words = g.R.Look.words old in
     let page = c.args.page in
     let level = c.args.level in
-    let k = c.args.key.now in
     let at = c.saturating_sub-at.result in
-    let tree = c.requires.tree in
-    let rank = c.rank.ensures.rank in
-    let place = c.saturating_sub-at.ensures in
     let e : level ≡ suc (level - 1) = omega (arith, c.if-level-eq0.false) in
     let count : c.count_of.result ≡ words page 1 = c.count_of.ensures.count ∙ ap (λ (w : ℕ → ℕ → ℕ). w page 1) c.rank.ensures.unchanged.words in
-    let two = least_two g.R.Look.kept g.R.Look.standing g.R.Look.words level page k c.rank.result at old tree rank place (level - 1) e in
+    let two = least_two g.R.Look.kept g.R.Look.standing g.R.Look.words level page c.args.key.now c.rank.result at old c.requires.tree c.rank.ensures.rank c.saturating_sub-at.ensures (level - 1) e in
     let is : at ≡ at - 1 + 1 = omega (arith, c.if-at-count_of.false, count, two) in
     omega (arith, is)
 
@@ -249,12 +205,10 @@ remove_at-slots_with-requires-2-clause-readable g t c =
     let is : at ≡ at - 1 + 1 = omega (arith, c.if-at-count_of.false, count, two) in
     let i : ℕ = at - 1 in
     let lt : i + 2 ≤ words page 1 = omega (arith, inside, is) in
-    let read = c.two_children-before.new.look in
     let mid = c.remove_right.new.room in
-    let pair = c.args.pair.now in
     let f = λ (xs ys : List Pair). xs ++ without k ys in
-    let us = pairs_of (g.R.Look.words mid) pair c.in_ok-two-2.two.items in
-    page_readable g.R.Look.kept g.R.Look.standing g.R.Look.words level (level - 1) (least_of_root level) page i c.two_children-before.result.0 c.two_children-before.result.1 old here read e tree lt same c.two_children-before.ensures.unchanged c.two_children-before.ensures.left c.two_children-before.ensures.right f us mid c.in_ok-two-2.ensures.ok
+    let us = pairs_of (g.R.Look.words mid) c.args.pair.now c.in_ok-two-2.two.items in
+    page_readable g.R.Look.kept g.R.Look.standing g.R.Look.words level (level - 1) (least_of_root level) page i c.two_children-before.result.0 c.two_children-before.result.1 old here c.two_children-before.new.look e tree lt same c.two_children-before.ensures.unchanged c.two_children-before.ensures.left c.two_children-before.ensures.right f us mid c.in_ok-two-2.ensures.ok
 
 pub remove_at-slots_with-requires-2-clause-page : goal.remove_at-slots_with-requires-2-clause-page
 remove_at-slots_with-requires-2-clause-page g t c =
@@ -276,12 +230,10 @@ remove_at-slots_with-requires-2-clause-page g t c =
     let is : at ≡ at - 1 + 1 = omega (arith, c.if-at-count_of.false, count, two) in
     let i : ℕ = at - 1 in
     let lt : i + 2 ≤ words page 1 = omega (arith, inside, is) in
-    let read = c.two_children-before.new.look in
     let mid = c.remove_right.new.room in
-    let pair = c.args.pair.now in
     let f = λ (xs ys : List Pair). xs ++ without k ys in
-    let us = pairs_of (g.R.Look.words mid) pair c.in_ok-two-2.two.items in
-    page_is g.R.Look.kept g.R.Look.standing g.R.Look.words level (level - 1) (least_of_root level) page i c.two_children-before.result.0 c.two_children-before.result.1 old here read e tree lt same c.two_children-before.ensures.unchanged c.two_children-before.ensures.left c.two_children-before.ensures.right f us mid c.in_ok-two-2.ensures.ok
+    let us = pairs_of (g.R.Look.words mid) c.args.pair.now c.in_ok-two-2.two.items in
+    page_is g.R.Look.kept g.R.Look.standing g.R.Look.words level (level - 1) (least_of_root level) page i c.two_children-before.result.0 c.two_children-before.result.1 old here c.two_children-before.new.look e tree lt same c.two_children-before.ensures.unchanged c.two_children-before.ensures.left c.two_children-before.ensures.right f us mid c.in_ok-two-2.ensures.ok
 
 pub remove_at-slots_with-requires-2-clause-in_page : goal.remove_at-slots_with-requires-2-clause-in_page
 remove_at-slots_with-requires-2-clause-in_page g t c =
@@ -303,12 +255,10 @@ remove_at-slots_with-requires-2-clause-in_page g t c =
     let is : at ≡ at - 1 + 1 = omega (arith, c.if-at-count_of.false, count, two) in
     let i : ℕ = at - 1 in
     let lt : i + 2 ≤ words page 1 = omega (arith, inside, is) in
-    let read = c.two_children-before.new.look in
     let mid = c.remove_right.new.room in
-    let pair = c.args.pair.now in
     let f = λ (xs ys : List Pair). xs ++ without k ys in
-    let us = pairs_of (g.R.Look.words mid) pair c.in_ok-two-2.two.items in
-    omega (arith, lt, page_count g.R.Look.kept g.R.Look.standing g.R.Look.words level (level - 1) (least_of_root level) page i c.two_children-before.result.0 c.two_children-before.result.1 old here read e tree lt same c.two_children-before.ensures.unchanged c.two_children-before.ensures.left c.two_children-before.ensures.right f us mid c.in_ok-two-2.ensures.ok)
+    let us = pairs_of (g.R.Look.words mid) c.args.pair.now c.in_ok-two-2.two.items in
+    omega (arith, lt, page_count g.R.Look.kept g.R.Look.standing g.R.Look.words level (level - 1) (least_of_root level) page i c.two_children-before.result.0 c.two_children-before.result.1 old here c.two_children-before.new.look e tree lt same c.two_children-before.ensures.unchanged c.two_children-before.ensures.left c.two_children-before.ensures.right f us mid c.in_ok-two-2.ensures.ok)
 
 pub remove_at-returns-clause-ok : goal.remove_at-returns-clause-ok
 remove_at-returns-clause-ok g t c =
@@ -330,14 +280,13 @@ remove_at-returns-clause-ok g t c =
     let is : at ≡ at - 1 + 1 = omega (arith, c.if-at-count_of.false, count, two) in
     let i : ℕ = at - 1 in
     let lt : i + 2 ≤ words page 1 = omega (arith, inside, is) in
-    let read = c.two_children-before.new.look in
     let mid = c.remove_right.new.room in
     let pair = c.args.pair.now in
     let f = λ (xs ys : List Pair). xs ++ without k ys in
     let us = pairs_of (g.R.Look.words mid) pair c.in_ok-two-2.two.items in
     let one = key_out g.R.Look.kept g.R.Look.standing g.R.Look.words level page k c.rank.result at old tree rank place (level - 1) e in
     let all = second_changed level (level - 1) (least_of_root level) page (g.R.Look.standing old) words e tree i lt at is (without k (pairs_at level words page)) (without k) one in
-    two_changed g.R.Look.kept g.R.Look.standing g.R.Look.words level (level - 1) (least_of_root level) page i c.two_children-before.result.0 c.two_children-before.result.1 old here read e tree lt same c.two_children-before.ensures.unchanged c.two_children-before.ensures.left c.two_children-before.ensures.right f us mid c.in_ok-two-2.ensures.ok (without k) (rising_without k) all pair c.slots_with-2.result.items c.slots_with-2.new.look (c.slots_with-2.ensures.items pair) c.slots_with-2.ensures.unchanged
+    two_changed g.R.Look.kept g.R.Look.standing g.R.Look.words level (level - 1) (least_of_root level) page i c.two_children-before.result.0 c.two_children-before.result.1 old here c.two_children-before.new.look e tree lt same c.two_children-before.ensures.unchanged c.two_children-before.ensures.left c.two_children-before.ensures.right f us mid c.in_ok-two-2.ensures.ok (without k) (rising_without k) all pair c.slots_with-2.result.items c.slots_with-2.new.look (c.slots_with-2.ensures.items pair) c.slots_with-2.ensures.unchanged
 
 pub remove_at-returns-clause-some : goal.remove_at-returns-clause-some
 remove_at-returns-clause-some g t c =
@@ -359,12 +308,10 @@ remove_at-returns-clause-some g t c =
     let is : at ≡ at - 1 + 1 = omega (arith, c.if-at-count_of.false, count, two) in
     let i : ℕ = at - 1 in
     let lt : i + 2 ≤ words page 1 = omega (arith, inside, is) in
-    let read = c.two_children-before.new.look in
     let mid = c.remove_right.new.room in
-    let pair = c.args.pair.now in
     let f = λ (xs ys : List Pair). xs ++ without k ys in
-    let us = pairs_of (g.R.Look.words mid) pair c.in_ok-two-2.two.items in
-    let page_kept = page_count g.R.Look.kept g.R.Look.standing g.R.Look.words level (level - 1) (least_of_root level) page i c.two_children-before.result.0 c.two_children-before.result.1 old here read e tree lt same c.two_children-before.ensures.unchanged c.two_children-before.ensures.left c.two_children-before.ensures.right f us mid c.in_ok-two-2.ensures.ok in
+    let us = pairs_of (g.R.Look.words mid) c.args.pair.now c.in_ok-two-2.two.items in
+    let page_kept = page_count g.R.Look.kept g.R.Look.standing g.R.Look.words level (level - 1) (least_of_root level) page i c.two_children-before.result.0 c.two_children-before.result.1 old here c.two_children-before.new.look e tree lt same c.two_children-before.ensures.unchanged c.two_children-before.ensures.left c.two_children-before.ensures.right f us mid c.in_ok-two-2.ensures.ok in
     (omega (arith, c.slots_with-2.ensures.len, c.in_ok-two-2.ensures.some, page_kept, items_count (words page)), omega (arith, c.slots_with-2.ensures.len, c.in_ok-two-2.ensures.some, page_kept, tree.node.is_page.few))
 
 pub remove_left-slots_of-others-requires-clause-readable : goal.remove_left-slots_of-others-requires-clause-readable
@@ -372,30 +319,18 @@ remove_left-slots_of-others-requires-clause-readable g t c =
     let old = c.args.room.now in
     let words = g.R.Look.words old in
     let l = c.args.left in
-    let r = c.args.right in
     let level = c.args.level in
-    let pair = c.args.pair.now in
-    let two = c.requires.neighbours in
-    let mid = c.remove_at.new.room in
-    let sub = c.in_ok-slots.slots.items in
     let all = without c.args.key.now (pairs_at level words l) in
-    let first = c.in_ok-slots.ensures.ok in
-    right_readable g.R.Look.kept g.R.Look.standing g.R.Look.words level l r old two all pair sub mid first
+    right_readable g.R.Look.kept g.R.Look.standing g.R.Look.words level l c.args.right old c.requires.neighbours all c.args.pair.now c.in_ok-slots.slots.items c.remove_at.new.room c.in_ok-slots.ensures.ok
 
 pub remove_left-slots_of-others-requires-clause-page : goal.remove_left-slots_of-others-requires-clause-page
 remove_left-slots_of-others-requires-clause-page g t c =
     let old = c.args.room.now in
     let words = g.R.Look.words old in
     let l = c.args.left in
-    let r = c.args.right in
     let level = c.args.level in
-    let pair = c.args.pair.now in
-    let two = c.requires.neighbours in
-    let mid = c.remove_at.new.room in
-    let sub = c.in_ok-slots.slots.items in
     let all = without c.args.key.now (pairs_at level words l) in
-    let first = c.in_ok-slots.ensures.ok in
-    right_page g.R.Look.kept g.R.Look.standing g.R.Look.words level l r old two all pair sub mid first
+    right_page g.R.Look.kept g.R.Look.standing g.R.Look.words level l c.args.right old c.requires.neighbours all c.args.pair.now c.in_ok-slots.slots.items c.remove_at.new.room c.in_ok-slots.ensures.ok
 
 pub remove_left-append-requires : goal.remove_left-append-requires
 remove_left-append-requires g t c =
@@ -404,13 +339,10 @@ remove_left-append-requires g t c =
     let l = c.args.left in
     let r = c.args.right in
     let level = c.args.level in
-    let pair = c.args.pair.now in
     let two = c.requires.neighbours in
     let mid = c.remove_at.new.room in
-    let sub = c.in_ok-slots.slots.items in
     let all = without c.args.key.now (pairs_at level words l) in
-    let first = c.in_ok-slots.ensures.ok in
-    let count = right_count g.R.Look.kept g.R.Look.standing g.R.Look.words level l r old two all pair sub mid first in
+    let count = right_count g.R.Look.kept g.R.Look.standing g.R.Look.words level l r old two all c.args.pair.now c.in_ok-slots.slots.items mid c.in_ok-slots.ensures.ok in
     let len = ap length c.slots_of-others.ensures.slots ∙ length-map-range_with_len (λ (j : ℕ). At r (place_of j)) 0 (g.R.Look.words mid r 1) in
     omega (arith, len, count, two.right_tree.node.is_page.few, c.in_ok-slots.ensures.some, ap length c.deref.ensures.0)
 
@@ -421,19 +353,13 @@ remove_left-pack_two-requires-clause-below g t c =
     let l = c.args.left in
     let r = c.args.right in
     let level = c.args.level in
-    let pair = c.args.pair.now in
     let two = c.requires.neighbours in
-    let mid = c.remove_at.new.room in
     let sub = c.in_ok-slots.slots.items in
     let all = without c.args.key.now (pairs_at level words l) in
-    let first = c.in_ok-slots.ensures.ok in
-    let read = c.slots_of-others.new.look in
-    let same = c.slots_of-others.ensures.unchanged in
     let other = c.slots_of-others.result.items in
-    let loaded = c.slots_of-others.ensures.slots in
     let slots = c.deref-2.result.now in
     let e : slots ≡ sub ++ other = c.deref-2.ensures.0 ∙ c.append.ensures ∙ ap (λ (xs : List Slot). sub ++ xs) c.deref.ensures.0 in
-    let joined = left_changed g.R.Look.kept g.R.Look.standing g.R.Look.words level l r old two all pair sub other slots mid read same first loaded e (rising_without_left c.args.key.now (pairs_at level words l) (pairs_at level words r) two.rising) in
+    let joined = left_changed g.R.Look.kept g.R.Look.standing g.R.Look.words level l r old two all c.args.pair.now sub other slots c.remove_at.new.room c.slots_of-others.new.look c.slots_of-others.ensures.unchanged c.in_ok-slots.ensures.ok c.slots_of-others.ensures.slots e (rising_without_left c.args.key.now (pairs_at level words l) (pairs_at level words r) two.rising) in
     joined.below
 
 pub remove_left-pack_two-requires-clause-ready : goal.remove_left-pack_two-requires-clause-ready
@@ -441,21 +367,13 @@ remove_left-pack_two-requires-clause-ready g t c =
     let old = c.args.room.now in
     let words = g.R.Look.words old in
     let l = c.args.left in
-    let r = c.args.right in
     let level = c.args.level in
-    let pair = c.args.pair.now in
-    let two = c.requires.neighbours in
-    let mid = c.remove_at.new.room in
     let sub = c.in_ok-slots.slots.items in
     let all = without c.args.key.now (pairs_at level words l) in
-    let first = c.in_ok-slots.ensures.ok in
-    let read = c.slots_of-others.new.look in
-    let same = c.slots_of-others.ensures.unchanged in
     let other = c.slots_of-others.result.items in
-    let loaded = c.slots_of-others.ensures.slots in
     let slots = c.deref-2.result.now in
     let e : slots ≡ sub ++ other = c.deref-2.ensures.0 ∙ c.append.ensures ∙ ap (λ (xs : List Slot). sub ++ xs) c.deref.ensures.0 in
-    left_in_hand g.R.Look.kept g.R.Look.standing g.R.Look.words level l r old two all pair sub other slots mid read same first loaded e c.in_ok-slots.ensures.ready
+    left_in_hand g.R.Look.kept g.R.Look.standing g.R.Look.words level l c.args.right old c.requires.neighbours all c.args.pair.now sub other slots c.remove_at.new.room c.slots_of-others.new.look c.slots_of-others.ensures.unchanged c.in_ok-slots.ensures.ok c.slots_of-others.ensures.slots e c.in_ok-slots.ensures.ready
 
 pub remove_left-pack_two-requires-clause-enough : goal.remove_left-pack_two-requires-clause-enough
 remove_left-pack_two-requires-clause-enough g t c =
@@ -464,19 +382,13 @@ remove_left-pack_two-requires-clause-enough g t c =
     let l = c.args.left in
     let r = c.args.right in
     let level = c.args.level in
-    let pair = c.args.pair.now in
     let two = c.requires.neighbours in
-    let mid = c.remove_at.new.room in
     let sub = c.in_ok-slots.slots.items in
     let all = without c.args.key.now (pairs_at level words l) in
-    let first = c.in_ok-slots.ensures.ok in
-    let read = c.slots_of-others.new.look in
-    let same = c.slots_of-others.ensures.unchanged in
     let other = c.slots_of-others.result.items in
-    let loaded = c.slots_of-others.ensures.slots in
     let slots = c.deref-2.result.now in
     let e : slots ≡ sub ++ other = c.deref-2.ensures.0 ∙ c.append.ensures ∙ ap (λ (xs : List Slot). sub ++ xs) c.deref.ensures.0 in
-    let len = left_length g.R.Look.kept g.R.Look.standing g.R.Look.words level l r old two all pair sub other slots mid read same first loaded e in
+    let len = left_length g.R.Look.kept g.R.Look.standing g.R.Look.words level l r old two all c.args.pair.now sub other slots c.remove_at.new.room c.slots_of-others.new.look c.slots_of-others.ensures.unchanged c.in_ok-slots.ensures.ok c.slots_of-others.ensures.slots e in
     omega (arith, len, c.in_ok-slots.ensures.some, items_count (words l), items_count (words r), two.left_tree.node.enough, two.right_tree.node.enough)
 
 pub remove_left-pack_two-requires-clause-left_kept : goal.remove_left-pack_two-requires-clause-left_kept
@@ -486,19 +398,13 @@ remove_left-pack_two-requires-clause-left_kept g t c =
     let l = c.args.left in
     let r = c.args.right in
     let level = c.args.level in
-    let pair = c.args.pair.now in
     let two = c.requires.neighbours in
-    let mid = c.remove_at.new.room in
     let sub = c.in_ok-slots.slots.items in
     let all = without c.args.key.now (pairs_at level words l) in
-    let first = c.in_ok-slots.ensures.ok in
-    let read = c.slots_of-others.new.look in
-    let same = c.slots_of-others.ensures.unchanged in
     let other = c.slots_of-others.result.items in
-    let loaded = c.slots_of-others.ensures.slots in
     let slots = c.deref-2.result.now in
     let e : slots ≡ sub ++ other = c.deref-2.ensures.0 ∙ c.append.ensures ∙ ap (λ (xs : List Slot). sub ++ xs) c.deref.ensures.0 in
-    let joined = left_changed g.R.Look.kept g.R.Look.standing g.R.Look.words level l r old two all pair sub other slots mid read same first loaded e (rising_without_left c.args.key.now (pairs_at level words l) (pairs_at level words r) two.rising) in
+    let joined = left_changed g.R.Look.kept g.R.Look.standing g.R.Look.words level l r old two all c.args.pair.now sub other slots c.remove_at.new.room c.slots_of-others.new.look c.slots_of-others.ensures.unchanged c.in_ok-slots.ensures.ok c.slots_of-others.ensures.slots e (rising_without_left c.args.key.now (pairs_at level words l) (pairs_at level words r) two.rising) in
     joined.left_is_kept
 
 pub remove_left-pack_two-requires-clause-right_kept : goal.remove_left-pack_two-requires-clause-right_kept
@@ -508,19 +414,13 @@ remove_left-pack_two-requires-clause-right_kept g t c =
     let l = c.args.left in
     let r = c.args.right in
     let level = c.args.level in
-    let pair = c.args.pair.now in
     let two = c.requires.neighbours in
-    let mid = c.remove_at.new.room in
     let sub = c.in_ok-slots.slots.items in
     let all = without c.args.key.now (pairs_at level words l) in
-    let first = c.in_ok-slots.ensures.ok in
-    let read = c.slots_of-others.new.look in
-    let same = c.slots_of-others.ensures.unchanged in
     let other = c.slots_of-others.result.items in
-    let loaded = c.slots_of-others.ensures.slots in
     let slots = c.deref-2.result.now in
     let e : slots ≡ sub ++ other = c.deref-2.ensures.0 ∙ c.append.ensures ∙ ap (λ (xs : List Slot). sub ++ xs) c.deref.ensures.0 in
-    let joined = left_changed g.R.Look.kept g.R.Look.standing g.R.Look.words level l r old two all pair sub other slots mid read same first loaded e (rising_without_left c.args.key.now (pairs_at level words l) (pairs_at level words r) two.rising) in
+    let joined = left_changed g.R.Look.kept g.R.Look.standing g.R.Look.words level l r old two all c.args.pair.now sub other slots c.remove_at.new.room c.slots_of-others.new.look c.slots_of-others.ensures.unchanged c.in_ok-slots.ensures.ok c.slots_of-others.ensures.slots e (rising_without_left c.args.key.now (pairs_at level words l) (pairs_at level words r) two.rising) in
     joined.right_is_kept
 
 pub remove_left-pack_two-requires-clause-left_apart : goal.remove_left-pack_two-requires-clause-left_apart
@@ -530,19 +430,13 @@ remove_left-pack_two-requires-clause-left_apart g t c =
     let l = c.args.left in
     let r = c.args.right in
     let level = c.args.level in
-    let pair = c.args.pair.now in
     let two = c.requires.neighbours in
-    let mid = c.remove_at.new.room in
     let sub = c.in_ok-slots.slots.items in
     let all = without c.args.key.now (pairs_at level words l) in
-    let first = c.in_ok-slots.ensures.ok in
-    let read = c.slots_of-others.new.look in
-    let same = c.slots_of-others.ensures.unchanged in
     let other = c.slots_of-others.result.items in
-    let loaded = c.slots_of-others.ensures.slots in
     let slots = c.deref-2.result.now in
     let e : slots ≡ sub ++ other = c.deref-2.ensures.0 ∙ c.append.ensures ∙ ap (λ (xs : List Slot). sub ++ xs) c.deref.ensures.0 in
-    let joined = left_changed g.R.Look.kept g.R.Look.standing g.R.Look.words level l r old two all pair sub other slots mid read same first loaded e (rising_without_left c.args.key.now (pairs_at level words l) (pairs_at level words r) two.rising) in
+    let joined = left_changed g.R.Look.kept g.R.Look.standing g.R.Look.words level l r old two all c.args.pair.now sub other slots c.remove_at.new.room c.slots_of-others.new.look c.slots_of-others.ensures.unchanged c.in_ok-slots.ensures.ok c.slots_of-others.ensures.slots e (rising_without_left c.args.key.now (pairs_at level words l) (pairs_at level words r) two.rising) in
     joined.left_beside
 
 pub remove_left-pack_two-requires-clause-right_apart : goal.remove_left-pack_two-requires-clause-right_apart
@@ -552,19 +446,13 @@ remove_left-pack_two-requires-clause-right_apart g t c =
     let l = c.args.left in
     let r = c.args.right in
     let level = c.args.level in
-    let pair = c.args.pair.now in
     let two = c.requires.neighbours in
-    let mid = c.remove_at.new.room in
     let sub = c.in_ok-slots.slots.items in
     let all = without c.args.key.now (pairs_at level words l) in
-    let first = c.in_ok-slots.ensures.ok in
-    let read = c.slots_of-others.new.look in
-    let same = c.slots_of-others.ensures.unchanged in
     let other = c.slots_of-others.result.items in
-    let loaded = c.slots_of-others.ensures.slots in
     let slots = c.deref-2.result.now in
     let e : slots ≡ sub ++ other = c.deref-2.ensures.0 ∙ c.append.ensures ∙ ap (λ (xs : List Slot). sub ++ xs) c.deref.ensures.0 in
-    let joined = left_changed g.R.Look.kept g.R.Look.standing g.R.Look.words level l r old two all pair sub other slots mid read same first loaded e (rising_without_left c.args.key.now (pairs_at level words l) (pairs_at level words r) two.rising) in
+    let joined = left_changed g.R.Look.kept g.R.Look.standing g.R.Look.words level l r old two all c.args.pair.now sub other slots c.remove_at.new.room c.slots_of-others.new.look c.slots_of-others.ensures.unchanged c.in_ok-slots.ensures.ok c.slots_of-others.ensures.slots e (rising_without_left c.args.key.now (pairs_at level words l) (pairs_at level words r) two.rising) in
     joined.right_beside
 
 pub remove_left-pack_two-requires-clause-different : goal.remove_left-pack_two-requires-clause-different
@@ -578,19 +466,14 @@ remove_left-returns-in_err-branches-clause-err g t c =
     let l = c.args.left in
     let r = c.args.right in
     let level = c.args.level in
-    let pair = c.args.pair.now in
     let two = c.requires.neighbours in
-    let mid = c.remove_at.new.room in
     let sub = c.in_ok-slots.slots.items in
     let all = without c.args.key.now (pairs_at level words l) in
-    let first = c.in_ok-slots.ensures.ok in
     let read = c.slots_of-others.new.look in
-    let same = c.slots_of-others.ensures.unchanged in
     let other = c.slots_of-others.result.items in
-    let loaded = c.slots_of-others.ensures.slots in
     let slots = c.deref-2.result.now in
     let e : slots ≡ sub ++ other = c.deref-2.ensures.0 ∙ c.append.ensures ∙ ap (λ (xs : List Slot). sub ++ xs) c.deref.ensures.0 in
-    let joined = left_changed g.R.Look.kept g.R.Look.standing g.R.Look.words level l r old two all pair sub other slots mid read same first loaded e (rising_without_left c.args.key.now (pairs_at level words l) (pairs_at level words r) two.rising) in
+    let joined = left_changed g.R.Look.kept g.R.Look.standing g.R.Look.words level l r old two all c.args.pair.now sub other slots c.remove_at.new.room read c.slots_of-others.ensures.unchanged c.in_ok-slots.ensures.ok c.slots_of-others.ensures.slots e (rising_without_left c.args.key.now (pairs_at level words l) (pairs_at level words r) two.rising) in
     on_err _ (start_trans g.R.Look.kept g.R.Look.standing g.R.Look.words old read c.pack_two.new.room joined.start c.in_err-branches.ensures.err)
 
 pub remove_left-returns-clause-ok : goal.remove_left-returns-clause-ok
@@ -602,48 +485,31 @@ remove_left-returns-clause-ok g t c =
     let level = c.args.level in
     let pair = c.args.pair.now in
     let two = c.requires.neighbours in
-    let mid = c.remove_at.new.room in
     let sub = c.in_ok-slots.slots.items in
     let all = without c.args.key.now (pairs_at level words l) in
-    let first = c.in_ok-slots.ensures.ok in
-    let read = c.slots_of-others.new.look in
-    let same = c.slots_of-others.ensures.unchanged in
     let other = c.slots_of-others.result.items in
-    let loaded = c.slots_of-others.ensures.slots in
     let slots = c.deref-2.result.now in
     let e : slots ≡ sub ++ other = c.deref-2.ensures.0 ∙ c.append.ensures ∙ ap (λ (xs : List Slot). sub ++ xs) c.deref.ensures.0 in
-    let joined = left_changed g.R.Look.kept g.R.Look.standing g.R.Look.words level l r old two all pair sub other slots mid read same first loaded e (rising_without_left c.args.key.now (pairs_at level words l) (pairs_at level words r) two.rising) in
+    let joined = left_changed g.R.Look.kept g.R.Look.standing g.R.Look.words level l r old two all pair sub other slots c.remove_at.new.room c.slots_of-others.new.look c.slots_of-others.ensures.unchanged c.in_ok-slots.ensures.ok c.slots_of-others.ensures.slots e (rising_without_left c.args.key.now (pairs_at level words l) (pairs_at level words r) two.rising) in
     joined.written (pairs_of (g.R.Look.words c.pack_two.new.room) pair c.in_ok-branches.branches.items) c.pack_two.new.room c.in_ok-branches.ensures.ok
 
 pub remove_right-slots_of-slots-requires-clause-readable : goal.remove_right-slots_of-slots-requires-clause-readable
 remove_right-slots_of-slots-requires-clause-readable g t c =
     let old = c.args.room.now in
     let words = g.R.Look.words old in
-    let l = c.args.left in
     let r = c.args.right in
     let level = c.args.level in
-    let pair = c.args.pair.now in
-    let two = c.requires.neighbours in
-    let mid = c.remove_at.new.room in
-    let sub = c.in_ok-less.less.items in
     let all = without c.args.key.now (pairs_at level words r) in
-    let first = c.in_ok-less.ensures.ok in
-    left_readable g.R.Look.kept g.R.Look.standing g.R.Look.words level l r old two all pair sub mid first
+    left_readable g.R.Look.kept g.R.Look.standing g.R.Look.words level c.args.left r old c.requires.neighbours all c.args.pair.now c.in_ok-less.less.items c.remove_at.new.room c.in_ok-less.ensures.ok
 
 pub remove_right-slots_of-slots-requires-clause-page : goal.remove_right-slots_of-slots-requires-clause-page
 remove_right-slots_of-slots-requires-clause-page g t c =
     let old = c.args.room.now in
     let words = g.R.Look.words old in
-    let l = c.args.left in
     let r = c.args.right in
     let level = c.args.level in
-    let pair = c.args.pair.now in
-    let two = c.requires.neighbours in
-    let mid = c.remove_at.new.room in
-    let sub = c.in_ok-less.less.items in
     let all = without c.args.key.now (pairs_at level words r) in
-    let first = c.in_ok-less.ensures.ok in
-    left_page g.R.Look.kept g.R.Look.standing g.R.Look.words level l r old two all pair sub mid first
+    left_page g.R.Look.kept g.R.Look.standing g.R.Look.words level c.args.left r old c.requires.neighbours all c.args.pair.now c.in_ok-less.less.items c.remove_at.new.room c.in_ok-less.ensures.ok
 
 pub remove_right-append-requires : goal.remove_right-append-requires
 remove_right-append-requires g t c =
@@ -652,13 +518,10 @@ remove_right-append-requires g t c =
     let l = c.args.left in
     let r = c.args.right in
     let level = c.args.level in
-    let pair = c.args.pair.now in
     let two = c.requires.neighbours in
     let mid = c.remove_at.new.room in
-    let sub = c.in_ok-less.less.items in
     let all = without c.args.key.now (pairs_at level words r) in
-    let first = c.in_ok-less.ensures.ok in
-    let count = left_count g.R.Look.kept g.R.Look.standing g.R.Look.words level l r old two all pair sub mid first in
+    let count = left_count g.R.Look.kept g.R.Look.standing g.R.Look.words level l r old two all c.args.pair.now c.in_ok-less.less.items mid c.in_ok-less.ensures.ok in
     let len = ap length c.slots_of-slots.ensures.slots ∙ length-map-range_with_len (λ (j : ℕ). At l (place_of j)) 0 (g.R.Look.words mid l 1) in
     omega (arith, len, count, two.left_tree.node.is_page.few, c.in_ok-less.ensures.some, ap length c.deref.ensures.0)
 
@@ -669,41 +532,27 @@ remove_right-pack_two-requires-clause-below g t c =
     let l = c.args.left in
     let r = c.args.right in
     let level = c.args.level in
-    let pair = c.args.pair.now in
     let two = c.requires.neighbours in
-    let mid = c.remove_at.new.room in
     let sub = c.in_ok-less.less.items in
     let all = without c.args.key.now (pairs_at level words r) in
-    let first = c.in_ok-less.ensures.ok in
-    let read = c.slots_of-slots.new.look in
-    let same = c.slots_of-slots.ensures.unchanged in
     let other = c.slots_of-slots.result.items in
-    let loaded = c.slots_of-slots.ensures.slots in
     let slots = c.deref-2.result.now in
     let e : slots ≡ other ++ sub = c.deref-2.ensures.0 ∙ c.append.ensures ∙ ap (λ (xs : List Slot). other ++ xs) c.deref.ensures.0 in
-    let joined = right_changed g.R.Look.kept g.R.Look.standing g.R.Look.words level l r old two all pair sub other slots mid read same first loaded e (rising_without_right c.args.key.now (pairs_at level words l) (pairs_at level words r) two.rising) in
+    let joined = right_changed g.R.Look.kept g.R.Look.standing g.R.Look.words level l r old two all c.args.pair.now sub other slots c.remove_at.new.room c.slots_of-slots.new.look c.slots_of-slots.ensures.unchanged c.in_ok-less.ensures.ok c.slots_of-slots.ensures.slots e (rising_without_right c.args.key.now (pairs_at level words l) (pairs_at level words r) two.rising) in
     joined.below
 
 pub remove_right-pack_two-requires-clause-ready : goal.remove_right-pack_two-requires-clause-ready
 remove_right-pack_two-requires-clause-ready g t c =
     let old = c.args.room.now in
     let words = g.R.Look.words old in
-    let l = c.args.left in
     let r = c.args.right in
     let level = c.args.level in
-    let pair = c.args.pair.now in
-    let two = c.requires.neighbours in
-    let mid = c.remove_at.new.room in
     let sub = c.in_ok-less.less.items in
     let all = without c.args.key.now (pairs_at level words r) in
-    let first = c.in_ok-less.ensures.ok in
-    let read = c.slots_of-slots.new.look in
-    let same = c.slots_of-slots.ensures.unchanged in
     let other = c.slots_of-slots.result.items in
-    let loaded = c.slots_of-slots.ensures.slots in
     let slots = c.deref-2.result.now in
     let e : slots ≡ other ++ sub = c.deref-2.ensures.0 ∙ c.append.ensures ∙ ap (λ (xs : List Slot). other ++ xs) c.deref.ensures.0 in
-    right_in_hand g.R.Look.kept g.R.Look.standing g.R.Look.words level l r old two all pair sub other slots mid read same first loaded e c.in_ok-less.ensures.ready
+    right_in_hand g.R.Look.kept g.R.Look.standing g.R.Look.words level c.args.left r old c.requires.neighbours all c.args.pair.now sub other slots c.remove_at.new.room c.slots_of-slots.new.look c.slots_of-slots.ensures.unchanged c.in_ok-less.ensures.ok c.slots_of-slots.ensures.slots e c.in_ok-less.ensures.ready
 
 pub remove_right-pack_two-requires-clause-enough : goal.remove_right-pack_two-requires-clause-enough
 remove_right-pack_two-requires-clause-enough g t c =
@@ -712,19 +561,13 @@ remove_right-pack_two-requires-clause-enough g t c =
     let l = c.args.left in
     let r = c.args.right in
     let level = c.args.level in
-    let pair = c.args.pair.now in
     let two = c.requires.neighbours in
-    let mid = c.remove_at.new.room in
     let sub = c.in_ok-less.less.items in
     let all = without c.args.key.now (pairs_at level words r) in
-    let first = c.in_ok-less.ensures.ok in
-    let read = c.slots_of-slots.new.look in
-    let same = c.slots_of-slots.ensures.unchanged in
     let other = c.slots_of-slots.result.items in
-    let loaded = c.slots_of-slots.ensures.slots in
     let slots = c.deref-2.result.now in
     let e : slots ≡ other ++ sub = c.deref-2.ensures.0 ∙ c.append.ensures ∙ ap (λ (xs : List Slot). other ++ xs) c.deref.ensures.0 in
-    let len = right_length g.R.Look.kept g.R.Look.standing g.R.Look.words level l r old two all pair sub other slots mid read same first loaded e in
+    let len = right_length g.R.Look.kept g.R.Look.standing g.R.Look.words level l r old two all c.args.pair.now sub other slots c.remove_at.new.room c.slots_of-slots.new.look c.slots_of-slots.ensures.unchanged c.in_ok-less.ensures.ok c.slots_of-slots.ensures.slots e in
     omega (arith, len, c.in_ok-less.ensures.some, items_count (words l), items_count (words r), two.left_tree.node.enough, two.right_tree.node.enough)
 
 pub remove_right-pack_two-requires-clause-left_kept : goal.remove_right-pack_two-requires-clause-left_kept
@@ -734,19 +577,13 @@ remove_right-pack_two-requires-clause-left_kept g t c =
     let l = c.args.left in
     let r = c.args.right in
     let level = c.args.level in
-    let pair = c.args.pair.now in
     let two = c.requires.neighbours in
-    let mid = c.remove_at.new.room in
     let sub = c.in_ok-less.less.items in
     let all = without c.args.key.now (pairs_at level words r) in
-    let first = c.in_ok-less.ensures.ok in
-    let read = c.slots_of-slots.new.look in
-    let same = c.slots_of-slots.ensures.unchanged in
     let other = c.slots_of-slots.result.items in
-    let loaded = c.slots_of-slots.ensures.slots in
     let slots = c.deref-2.result.now in
     let e : slots ≡ other ++ sub = c.deref-2.ensures.0 ∙ c.append.ensures ∙ ap (λ (xs : List Slot). other ++ xs) c.deref.ensures.0 in
-    let joined = right_changed g.R.Look.kept g.R.Look.standing g.R.Look.words level l r old two all pair sub other slots mid read same first loaded e (rising_without_right c.args.key.now (pairs_at level words l) (pairs_at level words r) two.rising) in
+    let joined = right_changed g.R.Look.kept g.R.Look.standing g.R.Look.words level l r old two all c.args.pair.now sub other slots c.remove_at.new.room c.slots_of-slots.new.look c.slots_of-slots.ensures.unchanged c.in_ok-less.ensures.ok c.slots_of-slots.ensures.slots e (rising_without_right c.args.key.now (pairs_at level words l) (pairs_at level words r) two.rising) in
     joined.left_is_kept
 
 pub remove_right-pack_two-requires-clause-right_kept : goal.remove_right-pack_two-requires-clause-right_kept
@@ -756,19 +593,13 @@ remove_right-pack_two-requires-clause-right_kept g t c =
     let l = c.args.left in
     let r = c.args.right in
     let level = c.args.level in
-    let pair = c.args.pair.now in
     let two = c.requires.neighbours in
-    let mid = c.remove_at.new.room in
     let sub = c.in_ok-less.less.items in
     let all = without c.args.key.now (pairs_at level words r) in
-    let first = c.in_ok-less.ensures.ok in
-    let read = c.slots_of-slots.new.look in
-    let same = c.slots_of-slots.ensures.unchanged in
     let other = c.slots_of-slots.result.items in
-    let loaded = c.slots_of-slots.ensures.slots in
     let slots = c.deref-2.result.now in
     let e : slots ≡ other ++ sub = c.deref-2.ensures.0 ∙ c.append.ensures ∙ ap (λ (xs : List Slot). other ++ xs) c.deref.ensures.0 in
-    let joined = right_changed g.R.Look.kept g.R.Look.standing g.R.Look.words level l r old two all pair sub other slots mid read same first loaded e (rising_without_right c.args.key.now (pairs_at level words l) (pairs_at level words r) two.rising) in
+    let joined = right_changed g.R.Look.kept g.R.Look.standing g.R.Look.words level l r old two all c.args.pair.now sub other slots c.remove_at.new.room c.slots_of-slots.new.look c.slots_of-slots.ensures.unchanged c.in_ok-less.ensures.ok c.slots_of-slots.ensures.slots e (rising_without_right c.args.key.now (pairs_at level words l) (pairs_at level words r) two.rising) in
     joined.right_is_kept
 
 pub remove_right-pack_two-requires-clause-left_apart : goal.remove_right-pack_two-requires-clause-left_apart
@@ -778,19 +609,13 @@ remove_right-pack_two-requires-clause-left_apart g t c =
     let l = c.args.left in
     let r = c.args.right in
     let level = c.args.level in
-    let pair = c.args.pair.now in
     let two = c.requires.neighbours in
-    let mid = c.remove_at.new.room in
     let sub = c.in_ok-less.less.items in
     let all = without c.args.key.now (pairs_at level words r) in
-    let first = c.in_ok-less.ensures.ok in
-    let read = c.slots_of-slots.new.look in
-    let same = c.slots_of-slots.ensures.unchanged in
     let other = c.slots_of-slots.result.items in
-    let loaded = c.slots_of-slots.ensures.slots in
     let slots = c.deref-2.result.now in
     let e : slots ≡ other ++ sub = c.deref-2.ensures.0 ∙ c.append.ensures ∙ ap (λ (xs : List Slot). other ++ xs) c.deref.ensures.0 in
-    let joined = right_changed g.R.Look.kept g.R.Look.standing g.R.Look.words level l r old two all pair sub other slots mid read same first loaded e (rising_without_right c.args.key.now (pairs_at level words l) (pairs_at level words r) two.rising) in
+    let joined = right_changed g.R.Look.kept g.R.Look.standing g.R.Look.words level l r old two all c.args.pair.now sub other slots c.remove_at.new.room c.slots_of-slots.new.look c.slots_of-slots.ensures.unchanged c.in_ok-less.ensures.ok c.slots_of-slots.ensures.slots e (rising_without_right c.args.key.now (pairs_at level words l) (pairs_at level words r) two.rising) in
     joined.left_beside
 
 pub remove_right-pack_two-requires-clause-right_apart : goal.remove_right-pack_two-requires-clause-right_apart
@@ -800,19 +625,13 @@ remove_right-pack_two-requires-clause-right_apart g t c =
     let l = c.args.left in
     let r = c.args.right in
     let level = c.args.level in
-    let pair = c.args.pair.now in
     let two = c.requires.neighbours in
-    let mid = c.remove_at.new.room in
     let sub = c.in_ok-less.less.items in
     let all = without c.args.key.now (pairs_at level words r) in
-    let first = c.in_ok-less.ensures.ok in
-    let read = c.slots_of-slots.new.look in
-    let same = c.slots_of-slots.ensures.unchanged in
     let other = c.slots_of-slots.result.items in
-    let loaded = c.slots_of-slots.ensures.slots in
     let slots = c.deref-2.result.now in
     let e : slots ≡ other ++ sub = c.deref-2.ensures.0 ∙ c.append.ensures ∙ ap (λ (xs : List Slot). other ++ xs) c.deref.ensures.0 in
-    let joined = right_changed g.R.Look.kept g.R.Look.standing g.R.Look.words level l r old two all pair sub other slots mid read same first loaded e (rising_without_right c.args.key.now (pairs_at level words l) (pairs_at level words r) two.rising) in
+    let joined = right_changed g.R.Look.kept g.R.Look.standing g.R.Look.words level l r old two all c.args.pair.now sub other slots c.remove_at.new.room c.slots_of-slots.new.look c.slots_of-slots.ensures.unchanged c.in_ok-less.ensures.ok c.slots_of-slots.ensures.slots e (rising_without_right c.args.key.now (pairs_at level words l) (pairs_at level words r) two.rising) in
     joined.right_beside
 
 pub remove_right-pack_two-requires-clause-different : goal.remove_right-pack_two-requires-clause-different
@@ -826,19 +645,14 @@ remove_right-returns-in_err-branches-clause-err g t c =
     let l = c.args.left in
     let r = c.args.right in
     let level = c.args.level in
-    let pair = c.args.pair.now in
     let two = c.requires.neighbours in
-    let mid = c.remove_at.new.room in
     let sub = c.in_ok-less.less.items in
     let all = without c.args.key.now (pairs_at level words r) in
-    let first = c.in_ok-less.ensures.ok in
     let read = c.slots_of-slots.new.look in
-    let same = c.slots_of-slots.ensures.unchanged in
     let other = c.slots_of-slots.result.items in
-    let loaded = c.slots_of-slots.ensures.slots in
     let slots = c.deref-2.result.now in
     let e : slots ≡ other ++ sub = c.deref-2.ensures.0 ∙ c.append.ensures ∙ ap (λ (xs : List Slot). other ++ xs) c.deref.ensures.0 in
-    let joined = right_changed g.R.Look.kept g.R.Look.standing g.R.Look.words level l r old two all pair sub other slots mid read same first loaded e (rising_without_right c.args.key.now (pairs_at level words l) (pairs_at level words r) two.rising) in
+    let joined = right_changed g.R.Look.kept g.R.Look.standing g.R.Look.words level l r old two all c.args.pair.now sub other slots c.remove_at.new.room read c.slots_of-slots.ensures.unchanged c.in_ok-less.ensures.ok c.slots_of-slots.ensures.slots e (rising_without_right c.args.key.now (pairs_at level words l) (pairs_at level words r) two.rising) in
     on_err _ (start_trans g.R.Look.kept g.R.Look.standing g.R.Look.words old read c.pack_two.new.room joined.start c.in_err-branches.ensures.err)
 
 pub remove_right-returns-clause-ok : goal.remove_right-returns-clause-ok
@@ -850,15 +664,10 @@ remove_right-returns-clause-ok g t c =
     let level = c.args.level in
     let pair = c.args.pair.now in
     let two = c.requires.neighbours in
-    let mid = c.remove_at.new.room in
     let sub = c.in_ok-less.less.items in
     let all = without c.args.key.now (pairs_at level words r) in
-    let first = c.in_ok-less.ensures.ok in
-    let read = c.slots_of-slots.new.look in
-    let same = c.slots_of-slots.ensures.unchanged in
     let other = c.slots_of-slots.result.items in
-    let loaded = c.slots_of-slots.ensures.slots in
     let slots = c.deref-2.result.now in
     let e : slots ≡ other ++ sub = c.deref-2.ensures.0 ∙ c.append.ensures ∙ ap (λ (xs : List Slot). other ++ xs) c.deref.ensures.0 in
-    let joined = right_changed g.R.Look.kept g.R.Look.standing g.R.Look.words level l r old two all pair sub other slots mid read same first loaded e (rising_without_right c.args.key.now (pairs_at level words l) (pairs_at level words r) two.rising) in
+    let joined = right_changed g.R.Look.kept g.R.Look.standing g.R.Look.words level l r old two all pair sub other slots c.remove_at.new.room c.slots_of-slots.new.look c.slots_of-slots.ensures.unchanged c.in_ok-less.ensures.ok c.slots_of-slots.ensures.slots e (rising_without_right c.args.key.now (pairs_at level words l) (pairs_at level words r) two.rising) in
     joined.written (pairs_of (g.R.Look.words c.pack_two.new.room) pair c.in_ok-branches.branches.items) c.pack_two.new.room c.in_ok-branches.ensures.ok
