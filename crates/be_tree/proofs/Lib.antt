@@ -15,6 +15,8 @@ mod SlotLists
 mod Writes
 pub mod Levels
 mod Neighbours
+mod Children
+mod Joins
 pub mod Ranges
 mod Heights
 mod Cursors

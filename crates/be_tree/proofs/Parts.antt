@@ -13,6 +13,7 @@ use Rattle.be_tree.specs.Pair.{Pair}
 use Rattle.be_tree.specs.Key.{IsRising, StartsAt, put}
 use Rattle.be_tree.specs.Page.{items_of}
 use Rattle.be_tree.specs.Tree.{child, pairs_at, pairs_below, pages_at, pages_below, IsNode, IsBranch, AreShaped, IsBelow, IsTreeAt, IsWritten, Becomes}
+use Rattle.be_tree.proofs.Order.{IsRising_right}
 use Rattle.be_tree.proofs.Frame.{times_append, times-cons, times_tail, times_itself, same_page, swaps_trans, swaps_frame, swaps_same, swaps_stands, swaps_after, swaps_fresh, readable_kept}
 use Rattle.be_tree.proofs.Below.{pairs_append, pages_append, times_pages, below_left, below_right, below_append, beside_pairs, beside_pages, beside_below, beside_apart}
 
@@ -161,6 +162,23 @@ module _ {S K : Type 0} (kept_of : S → K) (standing_of : S → ℕ → Standin
     back_pairs first =
         beside_pairs kept_of standing_of words_of (pages_below level (words_of old) xs) (pages_below next (words_of mid) us) old mid first.swaps level ys
         (below_right level (standing_of old) (words_of old) xs ys both_below) halves_apart
+
+  -- some items become others, between those before and after them
+  pub becomes_part : (level : ℕ) (xs ys zs us : List Pair) (ps : List Pair) (old new : S)
+      → IsBelow level (standing_of old) (words_of old) (xs ++ (ys ++ zs))
+      → Becomes kept_of standing_of words_of (pages_below level (words_of old) ys) ps level us old new
+      → IsRising (pairs_below level (words_of old) xs ++ (ps ++ pairs_below level (words_of old) zs))
+      → Becomes kept_of standing_of words_of (pages_below level (words_of old) (xs ++ (ys ++ zs))) (pairs_below level (words_of old) xs ++ (ps ++ pairs_below level (words_of old) zs)) level (xs ++ (us ++ zs)) old new
+  becomes_part level xs ys zs us ps old new below middle rising =
+      let front = below_left level (standing_of old) (words_of old) xs (ys ++ zs) below in
+      let rest = below_right level (standing_of old) (words_of old) xs (ys ++ zs) below in
+      let same = back_pairs level (ys ++ zs) ys zs us ps level refl old new rest middle in
+      let end = becomes_same level zs new (back_below level (ys ++ zs) ys zs us ps level refl old new rest middle) in
+      let back = becomes_append level level ys zs us zs ps (pairs_below level (words_of new) zs) old new new rest middle end
+      (subst (λ qs. IsRising (ps ++ qs)) (sym same) (IsRising_right (pairs_below level (words_of old) xs) (ps ++ pairs_below level (words_of old) zs) rising)) in
+      let back' = subst (λ qs. Becomes kept_of standing_of words_of (pages_below level (words_of old) (ys ++ zs)) (ps ++ qs) level (us ++ zs) old new) same back in
+      becomes_append level level xs (ys ++ zs) xs (us ++ zs) (pairs_below level (words_of old) xs) (ps ++ pairs_below level (words_of old) zs) old old new below
+      (becomes_same level xs old front) back' rising
 
   pub becomes_halves : (level next : ℕ) (items xs ys us bs : List Pair) → items ≡ xs ++ ys → (old mid new : S) → IsBelow level (standing_of old) (words_of old) items
       → Becomes kept_of standing_of words_of (pages_below level (words_of old) xs) (pairs_below level (words_of old) xs) next us old mid

@@ -1,7 +1,7 @@
 -- A pair put below a page whose items stay where they stand until they are written.
 use Rattle.std.proofs.Common.{◌≡◌, ℕ, zero, suc, ◌+◌, ◌-◌, ◌*◌, ◌<◌, ◌≤◌, List, [], ◌∷◌, ◌++◌, length, get_or, take, drop, map, All, IsTrue, ap, sym, subst, ◌∙◌, refl, arith, zero-add}
 use Rattle.std.specs.List.{remove, range_with_len, take-map, drop-map}
-use Rattle.std.proofs.lemmas.List.{map-append, length-append, take-append-drop}
+use Rattle.std.proofs.lemmas.List.{append-nil, map-append, length-append, take-append-drop}
 use Rattle.std.proofs.lemmas.List.Edits.{length-remove}
 use Rattle.std.proofs.lemmas.List.Elements.{All-append}
 use Rattle.std.proofs.lemmas.List.FromFn.{length-map-range_with_len}
@@ -13,10 +13,10 @@ use Rattle.be_tree.specs.Pair.{Pair}
 use Rattle.be_tree.specs.Key.{IsRank, put}
 use Rattle.be_tree.specs.Page.{item_at, items_of, IsItem, IsPage, place_of}
 use Rattle.be_tree.specs.Slot.{pair_of, pairs_of, IsReady}
-use Rattle.be_tree.specs.Tree.{pairs_at, pairs_below, pages_below, IsBelow, IsTreeAt, Becomes}
+use Rattle.be_tree.specs.Tree.{child, pairs_at, pairs_below, pages_below, IsBelow, IsTreeAt, Becomes}
 use Rattle.be_tree.proofs.Frame.{swaps_same, swaps_stands, readable_kept}
 use Rattle.be_tree.proofs.Below.{all_left, all_right}
-use Rattle.be_tree.proofs.Puts.{item_below, item_apart, tree_read, becomes_put}
+use Rattle.be_tree.proofs.Puts.{put_at_item, item_below, item_apart, tree_read, becomes_put}
 use Rattle.be_tree.proofs.Slots.{item_get, items_count, loaded_pairs, loaded_ready}
 
 out_length : {A : Type 0} (slots more out : List A) (at : ℕ) → at < length slots → out ≡ take at (remove slots at) ++ (more ++ drop at (remove slots at)) → length out + 1 ≡ length slots + length more
@@ -77,6 +77,15 @@ module _ {S K : Type 0} (kept_of : S → K) (standing_of : S → ℕ → Standin
   pub slot_below : IsBelow level (standing_of read) (words_of read) (item_at (words_of read page) (2 + 42 * at) ∷ [])
   unfolding items item
   slot_below = item_below kept_of standing_of words_of level page pair item items (remove items at) r at old read tree same refl rank place is_item refl
+
+  -- where the pair goes
+  pub key_in : (below : ℕ) → level ≡ suc below → put pair (pairs_at level (words_of read) page)
+      ≡ pairs_below (suc below) (words_of read) (take at (items_of (words_of read page))) ++ (put pair (pairs_at below (words_of read) (child (item_at (words_of read page) (place_of at)))) ++ pairs_below (suc below) (words_of read) (drop (suc at) (items_of (words_of read page))))
+  unfolding items item
+  key_in below e =
+      let all = (put_at_item level (standing_of read) (words_of read) items pair r at item here.below (omega (arith, here.node.enough)) rank place is_item).all in
+      subst (λ (n : ℕ). put pair (pairs_at level (words_of read) page) ≡ pairs_below n (words_of read) (take at items) ++ (put pair (pairs_below n (words_of read) (item ∷ [])) ++ pairs_below n (words_of read) (drop (suc at) items))) e all
+      ∙ ap (λ xs. pairs_below (suc below) (words_of read) (take at items) ++ (put pair xs ++ pairs_below (suc below) (words_of read) (drop (suc at) items))) (append-nil (pairs_at below (words_of read) (child item)))
 
   -- what the slots become where `more` stand in the place of one
   module _ (slots more out : List Slot) (n : ℕ) (mid : S) (count : n ≡ words_of read page 1) (loaded : slots ≡ map (λ j. At page (place_of j)) (range_with_len 0 n))

@@ -21,7 +21,7 @@ use Rattle.be_tree.proofs.Order.{key_exact, key_total, key_cmp_flip_less, AllAbo
 use Rattle.be_tree.proofs.Frame.{times_append, times-cons, times_other, same_page, swaps_after, swaps_fresh, swaps_trans, swaps_stands, readable_kept}
 use Rattle.be_tree.proofs.TreeFacts.{in_three, IsSplit, put_split, inner_split, leaf_split, as_branches, branch_tree}
 use Rattle.be_tree.proofs.Below.{pairs_append, pages_append, times_pages, below_left, below_right}
-use Rattle.be_tree.proofs.Parts.{becomes_same, becomes_append, back_below, back_pairs, all_one}
+use Rattle.be_tree.proofs.Parts.{becomes_part, all_one}
 
 -- a page has as many items as it says
 pub items_length : (words : ℕ → ℕ) → length (items_of words) ≡ words 1
@@ -83,23 +83,6 @@ given_up_page kept_of standing_of words_of before after page old mid swaps none 
 ]
 
 module _ {S K : Type 0} (kept_of : S → K) (standing_of : S → ℕ → Standing) (words_of : S → ℕ → ℕ → ℕ) where
-  -- one item becomes others, between those before and after it
-  pub becomes_splice : (level : ℕ) (xs zs us : List Pair) (item : Pair) (ps : List Pair) (old new : S)
-      → IsBelow level (standing_of old) (words_of old) (xs ++ item ∷ zs)
-      → Becomes kept_of standing_of words_of (pages_below level (words_of old) (item ∷ [])) ps level us old new
-      → IsRising (pairs_below level (words_of old) xs ++ (ps ++ pairs_below level (words_of old) zs))
-      → Becomes kept_of standing_of words_of (pages_below level (words_of old) (xs ++ item ∷ zs)) (pairs_below level (words_of old) xs ++ (ps ++ pairs_below level (words_of old) zs)) level (xs ++ (us ++ zs)) old new
-  becomes_splice level xs zs us item ps old new below middle rising =
-      let front = below_left level (standing_of old) (words_of old) xs (item ∷ zs) below in
-      let rest = below_right level (standing_of old) (words_of old) xs (item ∷ zs) below in
-      let same = back_pairs kept_of standing_of words_of level (item ∷ zs) (item ∷ []) zs us ps level refl old new rest middle in
-      let end = becomes_same kept_of standing_of words_of level zs new (back_below kept_of standing_of words_of level (item ∷ zs) (item ∷ []) zs us ps level refl old new rest middle) in
-      let back = becomes_append kept_of standing_of words_of level level (item ∷ []) zs us zs ps (pairs_below level (words_of new) zs) old new new rest middle end
-      (subst (λ qs. IsRising (ps ++ qs)) (sym same) (IsRising_right (pairs_below level (words_of old) xs) (ps ++ pairs_below level (words_of old) zs) rising)) in
-      let back' = subst (λ qs. Becomes kept_of standing_of words_of (pages_below level (words_of old) (item ∷ zs)) (ps ++ qs) level (us ++ zs) old new) same back in
-      becomes_append kept_of standing_of words_of level level xs (item ∷ zs) xs (us ++ zs) (pairs_below level (words_of old) xs) (ps ++ pairs_below level (words_of old) zs) old old new below
-      (becomes_same kept_of standing_of words_of level xs old front) back' rising
-
   -- a page in use is given up besides
   pub swaps_given_up : (before after : List ℕ) (page : ℕ) (old mid new : S) → Swaps kept_of standing_of words_of before after old mid
       → times page before ≡ 0 → IsTrue (is_kept (standing_of old page))
@@ -280,7 +263,7 @@ module _ {S K : Type 0} (kept_of : S → K) (standing_of : S → ℕ → Standin
         → out ≡ take at rest ++ (us ++ drop at rest)
         → Becomes kept_of standing_of words_of (pages_below level (words_of old) (items_of (words_of old page))) (put pair (pairs_at level (words_of old) page)) level out old mid
     becomes_put us out mid becomes inserted =
-        let spliced = becomes_splice level (take at items) (drop (suc at) items) us item (put pair (pairs_below level (words_of read) (item ∷ []))) read mid below_three becomes (subst IsRising parts.all (rising_put pair (pairs_below level (words_of read) items) below.rising)) in
+        let spliced = becomes_part kept_of standing_of words_of level (take at items) (item ∷ []) (drop (suc at) items) us (put pair (pairs_below level (words_of read) (item ∷ []))) read mid below_three becomes (subst IsRising parts.all (rising_put pair (pairs_below level (words_of read) items) below.rising)) in
         let seam : take at rest ++ (us ++ drop at rest) ≡ take at items ++ (us ++ drop (suc at) items) = seams in
         let all = subst (λ ps. Becomes kept_of standing_of words_of (pages_below level (words_of read) (take at items ++ item ∷ drop (suc at) items)) ps level (take at items ++ (us ++ drop (suc at) items)) read mid) (sym parts.all) spliced in
         let before = subst (λ xs. Becomes kept_of standing_of words_of (pages_below level (words_of read) xs) (put pair (pairs_below level (words_of read) items)) level (take at items ++ (us ++ drop (suc at) items)) read mid) (sym three) all in

@@ -65,24 +65,6 @@ without_split f k items at split d =
     ∙ without_right k (flat_map f (take at items)) (f (get_or items at d) ++ flat_map f (drop (suc at) items)) split.below
     ∙ ap (λ ys. flat_map f (take at items) ++ ys) (without_left k (f (get_or items at d)) (flat_map f (drop (suc at) items)) split.above)
 
-module _ {S K : Type 0} (kept_of : S → K) (standing_of : S → ℕ → Standing) (words_of : S → ℕ → ℕ → ℕ) where
-  -- some items become others, between those before and after them
-  pub becomes_part : (level : ℕ) (xs ys zs us : List Pair) (ps : List Pair) (old new : S)
-      → IsBelow level (standing_of old) (words_of old) (xs ++ (ys ++ zs))
-      → Becomes kept_of standing_of words_of (pages_below level (words_of old) ys) ps level us old new
-      → IsRising (pairs_below level (words_of old) xs ++ (ps ++ pairs_below level (words_of old) zs))
-      → Becomes kept_of standing_of words_of (pages_below level (words_of old) (xs ++ (ys ++ zs))) (pairs_below level (words_of old) xs ++ (ps ++ pairs_below level (words_of old) zs)) level (xs ++ (us ++ zs)) old new
-  becomes_part level xs ys zs us ps old new below middle rising =
-      let front = below_left level (standing_of old) (words_of old) xs (ys ++ zs) below in
-      let rest = below_right level (standing_of old) (words_of old) xs (ys ++ zs) below in
-      let same = back_pairs kept_of standing_of words_of level (ys ++ zs) ys zs us ps level refl old new rest middle in
-      let end = becomes_same kept_of standing_of words_of level zs new (back_below kept_of standing_of words_of level (ys ++ zs) ys zs us ps level refl old new rest middle) in
-      let back = becomes_append kept_of standing_of words_of level level ys zs us zs ps (pairs_below level (words_of new) zs) old new new rest middle end
-      (subst (λ qs. IsRising (ps ++ qs)) (sym same) (IsRising_right (pairs_below level (words_of old) xs) (ps ++ pairs_below level (words_of old) zs) rising)) in
-      let back' = subst (λ qs. Becomes kept_of standing_of words_of (pages_below level (words_of old) (ys ++ zs)) (ps ++ qs) level (us ++ zs) old new) same back in
-      becomes_append kept_of standing_of words_of level level xs (ys ++ zs) xs (us ++ zs) (pairs_below level (words_of old) xs) (ps ++ pairs_below level (words_of old) zs) old old new below
-      (becomes_same kept_of standing_of words_of level xs old front) back' rising
-
 above_append : (m : List ℕ) (xs ys : List Pair) → AllAbove m xs → AllAbove m ys → AllAbove m (xs ++ ys)
 above_append m [] ys h g = g
 above_append m (x ∷ xs) ys h g = (h.0, above_append m xs ys h.1 g)
@@ -175,74 +157,10 @@ module _ {S K : Type 0} (kept_of : S → K) (standing_of : S → ℕ → Standin
       subst (λ (n : ℕ). Becomes kept_of standing_of words_of (pages_below n (words_of old) items) (without k (pairs_below n (words_of old) items)) n out old old) (sym e)
       (subst (λ xs. Becomes kept_of standing_of words_of [] (without k items) 0 xs old old) (sym (is ∙ sym (leaf_pairs below.rising))) (leaf_becomes below))
 
-  -- two neighbours of an inner node
-  module _ (i : ℕ) (lt : i + 2 ≤ words_of old page 1) where
-    pub two_in_three : items_of (words_of old page)
-        ≡ take i (items_of (words_of old page)) ++ (item_at (words_of old page) (place_of i) ∷ item_at (words_of old page) (place_of (i + 1)) ∷ drop (i + 2) (items_of (words_of old page)))
-    two_in_three =
-        let items = items_of (words_of old page) in
-        let d = item_at (words_of old page) (place_of i) in
-        let e = item_at (words_of old page) (place_of (i + 1)) in
-        let len = items_count (words_of old page) in
-        let next : i + 1 + 1 ≡ i + 2 = omega arith in
-        sym (take-append-drop i items)
-        ∙ ap (λ ys. take i items ++ ys) (drop_more items i d (omega (arith, lt, len))
-        ∙ ap (λ x. x ∷ drop (i + 1) items) (item_get (words_of old page) i d (omega (arith, lt)))
-        ∙ ap (λ ys. d ∷ ys) (drop_more items (i + 1) e (omega (arith, lt, len))
-        ∙ ap (λ x. x ∷ drop (i + 1 + 1) items) (item_get (words_of old page) (i + 1) e (omega (arith, lt)))
-        ∙ ap (λ (n : ℕ). e ∷ drop n items) next))
-
-    whole_below : IsBelow level (standing_of old) (words_of old) (take i (items_of (words_of old page)) ++ ((item_at (words_of old page) (place_of i) ∷ item_at (words_of old page) (place_of (i + 1)) ∷ []) ++ drop (i + 2) (items_of (words_of old page))))
-    whole_below = subst (IsBelow level (standing_of old) (words_of old)) two_in_three tree.below
-
-    pub two_below : IsBelow level (standing_of old) (words_of old) (item_at (words_of old page) (place_of i) ∷ item_at (words_of old page) (place_of (i + 1)) ∷ [])
-    two_below =
-        let items = items_of (words_of old page) in
-        let two = item_at (words_of old page) (place_of i) ∷ item_at (words_of old page) (place_of (i + 1)) ∷ [] in
-        below_left level (standing_of old) (words_of old) two (drop (i + 2) items) (below_right level (standing_of old) (words_of old) (take i items) (two ++ drop (i + 2) items) whole_below)
-
-    page_none : times page (pages_below level (words_of old) (item_at (words_of old page) (place_of i) ∷ item_at (words_of old page) (place_of (i + 1)) ∷ [])) ≡ 0
-    page_none =
-        let items = items_of (words_of old page) in
-        let two = item_at (words_of old page) (place_of i) ∷ item_at (words_of old page) (place_of (i + 1)) ∷ [] in
-        omega (
-          arith,
-          tree.page_once,
-          ap (λ xs. times page (pages_below level (words_of old) xs)) two_in_three,
-          times_pages level (words_of old) (take i items) (two ++ drop (i + 2) items) page,
-          times_pages level (words_of old) two (drop (i + 2) items) page,
-        )
-
-    module _ (us ps : List Pair) (mid : S) (becomes : Becomes kept_of standing_of words_of (pages_below level (words_of old) (item_at (words_of old page) (place_of i) ∷ item_at (words_of old page) (place_of (i + 1)) ∷ [])) ps level us old mid) where
-      pub page_same : words_of mid page ≡ words_of old page
-      page_same = swaps_same kept_of standing_of words_of (pages_below level (words_of old) (item_at (words_of old page) (place_of i) ∷ item_at (words_of old page) (place_of (i + 1)) ∷ [])) (pages_below level (words_of mid) us) old mid becomes.swaps page page_none readable
-
-      pub page_readable : IsTrue (is_readable (standing_of mid page))
-      page_readable =
-          subst (λ s. IsTrue (is_readable s)) (sym (swaps_stands kept_of standing_of words_of (pages_below level (words_of old) (item_at (words_of old page) (place_of i) ∷ item_at (words_of old page) (place_of (i + 1)) ∷ [])) (pages_below level (words_of mid) us) old mid becomes.swaps page page_none readable))
-          readable
-
-      pub two_removed : without k (pairs_below level (words_of old) (items_of (words_of old page)))
-          ≡ pairs_below level (words_of old) (take i (items_of (words_of old page))) ++ (ps ++ pairs_below level (words_of old) (drop (i + 2) (items_of (words_of old page))))
-          → Becomes kept_of standing_of words_of (pages_below level (words_of old) (items_of (words_of old page))) (without k (pairs_at level (words_of old) page)) level
-          (take i (items_of (words_of old page)) ++ (us ++ drop (i + 2) (items_of (words_of old page)))) old mid
-      two_removed all =
-          let items = items_of (words_of old page) in
-          let two = item_at (words_of old page) (place_of i) ∷ item_at (words_of old page) (place_of (i + 1)) ∷ [] in
-          let zs = drop (i + 2) items in
-          let part = becomes_part kept_of standing_of words_of level (take i items) two zs us ps old mid whole_below becomes (subst IsRising all (rising_without k (pairs_below level (words_of old) items) tree.below.rising)) in
-          subst (λ xs. Becomes kept_of standing_of words_of (pages_below level (words_of old) xs) (without k (pairs_below level (words_of old) items)) level (take i items ++ (us ++ zs)) old mid) (sym two_in_three)
-          (subst (λ qs. Becomes kept_of standing_of words_of (pages_below level (words_of old) (take i items ++ (two ++ zs))) qs level (take i items ++ (us ++ zs)) old mid) (sym all) part)
-
   -- where the key goes
   module _ (below : ℕ) (e : level ≡ suc below) where
     inner : IsBelow (suc below) (standing_of old) (words_of old) (items_of (words_of old page))
     inner = subst (λ (n : ℕ). IsBelow n (standing_of old) (words_of old) (items_of (words_of old page))) e tree.below
-
-    pub names_page : (i : ℕ) → i < words_of old page 1 → length (item_at (words_of old page) (place_of i)).payload ≡ 8
-    names_page i lt =
-        let d = item_at (words_of old page) (place_of i) in
-        subst (λ (x : Pair). length x.payload ≡ 8) (item_get (words_of old page) i d lt) (inner.shaped i d (omega (arith, lt, items_count (words_of old page)))).1.names_page
 
     pub least_two : 2 ≤ words_of old page 1
     least_two = omega (arith, items_count (words_of old page), tree.node.enough, ap least_of_root e)
@@ -258,37 +176,6 @@ module _ {S K : Type 0} (kept_of : S → K) (standing_of : S → ℕ → Standin
         let d = item_at (words_of old page) (place_of at) in
         without_split f k items at split d ∙ ap (λ x. flat_map f (take at items) ++ (without k (f x) ++ flat_map f (drop (suc at) items))) (item_get (words_of old page) at d at_in)
 
-    pub key_left : at + 2 ≤ words_of old page 1 → without k (pairs_below level (words_of old) (items_of (words_of old page)))
-        ≡ pairs_below level (words_of old) (take at (items_of (words_of old page))) ++ ((without k (pairs_at below (words_of old) (child (item_at (words_of old page) (place_of at)))) ++ pairs_at below (words_of old) (child (item_at (words_of old page) (place_of (at + 1)))))
-        ++ pairs_below level (words_of old) (drop (at + 2) (items_of (words_of old page))))
-    key_left lt =
-        let items = items_of (words_of old page) in
-        let f = λ (b : Pair). pairs_at below (words_of old) (child b) in
-        let d = item_at (words_of old page) (place_of at) in
-        let n = item_at (words_of old page) (place_of (at + 1)) in
-        let one : suc at ≡ at + 1 = omega arith in
-        let two : at + 1 + 1 ≡ at + 2 = omega arith in
-        let rest : drop (suc at) items ≡ n ∷ drop (at + 2) items =
-        ap (λ (m : ℕ). drop m items) one ∙ drop_more items (at + 1) n (omega (arith, lt, items_count (words_of old page))) ∙ ap (λ x. x ∷ drop (at + 1 + 1) items) (item_get (words_of old page) (at + 1) n (omega (arith, lt))) ∙ ap (λ (m : ℕ). n ∷ drop m items) two in
-        subst (λ (m : ℕ). without k (pairs_below m (words_of old) items) ≡ pairs_below m (words_of old) (take at items) ++ ((without k (f d) ++ f n) ++ pairs_below m (words_of old) (drop (at + 2) items))) (sym e)
-        (key_split ∙ ap (λ xs. flat_map f (take at items) ++ (without k (f d) ++ flat_map f xs)) rest ∙ ap (λ xs. flat_map f (take at items) ++ xs) (sym (append_assoc (without k (f d)) (f n) (flat_map f (drop (at + 2) items)))))
-
-    pub key_right : (i : ℕ) → at ≡ i + 1 → without k (pairs_below level (words_of old) (items_of (words_of old page)))
-        ≡ pairs_below level (words_of old) (take i (items_of (words_of old page))) ++ ((pairs_at below (words_of old) (child (item_at (words_of old page) (place_of i))) ++ without k (pairs_at below (words_of old) (child (item_at (words_of old page) (place_of (i + 1))))))
-        ++ pairs_below level (words_of old) (drop (i + 2) (items_of (words_of old page))))
-    key_right i is =
-        let items = items_of (words_of old page) in
-        let f = λ (b : Pair). pairs_at below (words_of old) (child b) in
-        let b = item_at (words_of old page) (place_of i) in
-        let d = item_at (words_of old page) (place_of (i + 1)) in
-        let two : suc at ≡ i + 2 = omega (arith, is) in
-        let in_items : i < length items = omega (arith, at_in, is, items_count (words_of old page)) in
-        let front : take at items ≡ take i items ++ b ∷ [] = ap (λ (m : ℕ). take m items) is ∙ take_more items i b in_items ∙ ap (λ x. take i items ++ x ∷ []) (item_get (words_of old page) i b (omega (arith, at_in, is))) in
-        let parts : flat_map f (take at items) ≡ flat_map f (take i items) ++ f b = ap (flat_map f) front ∙ flat_map-append f (take i items) (b ∷ []) ∙ ap (λ ys. flat_map f (take i items) ++ ys) (append-nil (f b)) in
-        subst (λ (m : ℕ). without k (pairs_below m (words_of old) items) ≡ pairs_below m (words_of old) (take i items) ++ ((f b ++ without k (f d)) ++ pairs_below m (words_of old) (drop (i + 2) items))) (sym e)
-        (key_split
-        ∙ ap (λ xs. xs ++ (without k (f (item_at (words_of old page) (place_of at))) ++ flat_map f (drop (suc at) items))) parts
-        ∙ ap (λ (m : ℕ). (flat_map f (take i items) ++ f b) ++ (without k (f (item_at (words_of old page) (place_of m))) ++ flat_map f (drop (suc at) items))) is
-        ∙ ap (λ (m : ℕ). (flat_map f (take i items) ++ f b) ++ (without k (f d) ++ flat_map f (drop m items))) two
-        ∙ append_assoc (flat_map f (take i items)) (f b) (without k (f d) ++ flat_map f (drop (i + 2) items))
-        ∙ ap (λ xs. flat_map f (take i items) ++ xs) (sym (append_assoc (f b) (without k (f d)) (flat_map f (drop (i + 2) items)))))
+    pub key_out : without k (pairs_at level (words_of old) page)
+        ≡ pairs_below (suc below) (words_of old) (take at (items_of (words_of old page))) ++ (without k (pairs_at below (words_of old) (child (item_at (words_of old page) (place_of at)))) ++ pairs_below (suc below) (words_of old) (drop (suc at) (items_of (words_of old page))))
+    key_out = ap (λ (n : ℕ). without k (pairs_below n (words_of old) (items_of (words_of old page)))) e ∙ key_split

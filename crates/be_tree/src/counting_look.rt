@@ -1,11 +1,13 @@
 //! Look-ups and walks serve any reader of pages: here one that owns a room and counts the words that are read.
-ghost use Rattle.std.specs.Prelude.{◌≡◌, IfOk, IsTrue, OnOk};
+ghost use Rattle.std.specs.Prelude.{◌≡◌, ℕ, IfOk, IsTrue, OnOk};
+ghost use Rattle.be_pages.specs.declared.room.Standing.TheVariants.{Free};
 ghost use Rattle.be_pages.specs.Pages.{IsUnchanged};
 ghost use Rattle.be_tree.specs.Tree.{IsTree};
 
 use crate::{Cursor, clear, find, has_key, insert, range};
 use be_pages::{Look, Room, VecRoom};
 use be_value::Refusal;
+use std::alloc::Global;
 use std::test::Fail;
 
 /// A reader that counts its calls. Its facts are those of the reader that it owns.
@@ -34,6 +36,16 @@ impl<L: Look> Look for Counting<L> {
     }
 }
 
+/// A room, at the second call where memory is refused at the first.
+pub(crate) fn room_of(alloc: Global, pages: u64) -> Result<VecRoom, Refusal>
+    ensures { IfOk result (λ r. (q : ℕ) → ⟦<VecRoom as Look>⟧.standing r q ≡ Free) }
+{
+    match VecRoom::new(alloc, pages) {
+        Err(Refusal::OutOfMemory) => VecRoom::new(alloc, pages),
+        answer => answer,
+    }
+}
+
 /// Inserts the numbers below `count` in order, and gives the root.
 fn filled<R: Room>(room: &mut R, count: u64) -> Result<u64, Refusal>
     requires { IsTrue (R.is_open (R.kept room.old)) }
@@ -42,18 +54,22 @@ fn filled<R: Room>(room: &mut R, count: u64) -> Result<u64, Refusal>
 {
     let mut root = 0;
     for i in 0..count {
-        root = insert(room, root, &i.to_be_bytes(), &[7])?;
+        root = insert(room, root, &i.to_be_bytes(), &i.to_le_bytes())?;
     }
     Ok(root)
 }
 
-/// Whether each number below `count` is found, and the next one is not.
-fn finds<L: Look>(look: &mut L, root: u64, count: u64) -> bool
+/// Whether each number below `count` is found with its payload, and the next one is not.
+pub(crate) fn finds<L: Look>(look: &mut L, root: u64, count: u64) -> bool
     requires { IsTree (L.standing look.old) (L.words look.old) root }
     ensures { IsUnchanged L.kept L.standing L.words look.old look.new }
 {
     for i in 0..count {
-        if find(look, root, &i.to_be_bytes()).is_none() || !has_key(look, root, &i.to_be_bytes()) {
+        match find(look, root, &i.to_be_bytes()) {
+            Some(payload) if &payload[..] == &i.to_le_bytes()[..] => {}
+            _ => return false,
+        }
+        if !has_key(look, root, &i.to_be_bytes()) {
             return false;
         }
     }
@@ -61,7 +77,7 @@ fn finds<L: Look>(look: &mut L, root: u64, count: u64) -> bool
 }
 
 /// Whether `range` meets the numbers below `count` one after the other, and nothing else.
-fn ranges<L: Look>(look: &mut L, root: u64, count: u64) -> bool
+pub(crate) fn ranges<L: Look>(look: &mut L, root: u64, count: u64) -> bool
     requires { IsTree (L.standing look.old) (L.words look.old) root }
     ensures { IsUnchanged L.kept L.standing L.words look.old look.new }
 {
@@ -96,7 +112,7 @@ fn steps<L: Look>(look: &mut L, root: u64, count: u64) -> bool
 // A hundred pairs stand in two levels: some thirty words a look-up, one word a step and the pair's own.
 #[test]
 fn counting_look(rt: HostRuntime) -> Result<(), Fail> {
-    let mut room = VecRoom::new(rt.alloc(), 64)?;
+    let mut room = room_of(rt.alloc(), 64)?;
     let root = filled(&mut room, 100)?;
     let mut look = Counting {
         look: room,

@@ -3,14 +3,15 @@ ghost use Rattle.std.specs.Prelude.{◌≡◌, ℕ, suc, ◌+◌, ◌-◌, ◌^�
 ghost use Rattle.std.specs.Prelude.{◌≢◌};
 ghost use Rattle.be_pages.specs.Pages.{IsUnchanged, is_kept, is_readable, times, Swaps, KeepsStart};
 ghost use Rattle.be_pages.specs.Refusal.{IsFullOf};
-ghost use Rattle.be_tree.specs.Key.{IsPrepared, put};
+ghost use Rattle.be_tree.specs.Key.{IsPrepared, IsRising, put};
 ghost use Rattle.be_tree.specs.Page.{IsItem, item_at, items_of};
 ghost use Rattle.be_tree.specs.Slot.{IsBranchSlot, IsReady, branch_to, pairs_of};
-ghost use Rattle.be_tree.specs.Tree.{IsBelow, IsTreeAt, IsWritten, Becomes, BecomesTree, IsTree, least_of_root, pairs, pages, pairs_at, pairs_below, pages_below};
+ghost use Rattle.be_tree.specs.Tree.{AreNeighbours, IsBelow, IsTreeAt, IsWritten, Becomes, BecomesTree, IsTree, least_of_root, pairs, pages, pairs_at, pairs_below, pages_below};
 
 use crate::item::Item;
 use crate::lookup::rank;
 use crate::page::{child_at, cmp_at, key_words, slots_of, store_node};
+use crate::siblings::{append, sharing_children, slots_with};
 use crate::slot::Slot;
 use arrayvec::ArrayVec;
 use be_pages::{Look, Room};
@@ -157,6 +158,7 @@ fn pack<R: Room>(
     ensures ok { IfOk result (λ branches. Becomes R.kept R.standing R.words (pages_below level (R.words room.old) (pairs_of (R.words room.old) pair.now slots.now)) (pairs_below level (R.words room.old) (pairs_of (R.words room.old) pair.now slots.now)) (suc level) (pairs_of (R.words room.new) pair.now branches.items) room.old room.new) }
     ensures branches { IfOk result (λ branches. All IsBranchSlot branches.items) }
     ensures some { IfOk result (λ branches. (0 < length branches.items) × (length branches.items ≤ 2)) }
+    ensures two { IfOk result (λ branches. 12 < length slots.now → length branches.items ≡ 2) }
     ensures err { OnErr result (KeepsStart R.kept R.standing R.words room.old room.new) }
     ensures full { IfErr result (IsFullOf (R.full room.new)) }
 {
@@ -195,6 +197,7 @@ pub(crate) fn pack_two<R: Room>(
     ensures ok { IfOk result (λ branches. Becomes R.kept R.standing R.words (left ∷ right ∷ pages_below level (R.words room.old) (pairs_of (R.words room.old) pair.now slots.now)) (pairs_below level (R.words room.old) (pairs_of (R.words room.old) pair.now slots.now)) (suc level) (pairs_of (R.words room.new) pair.now branches.items) room.old room.new) }
     ensures ready { IfOk result (λ branches. All (IsReady (R.standing room.new) (R.words room.new)) branches.items) }
     ensures some { IfOk result (λ branches. (0 < length branches.items) × (length branches.items ≤ 2)) }
+    ensures two { IfOk result (λ branches. 12 < length slots.now → length branches.items ≡ 2) }
     ensures err { OnErr result (KeepsStart R.kept R.standing R.words room.old room.new) }
     ensures full { IfErr result (IsFullOf (R.full room.new)) }
 {
@@ -238,7 +241,8 @@ fn put_below<R: Room>(
 }
 
 /// Puts a pair below a page, and gives the page's items with the pair put, still to be written. The page is not given up
-/// yet, since some of them stand there.
+/// yet, since some of them stand there. A full child first gives items to its left neighbour, and is split only where that
+/// one is full too.
 #[cycle(put)]
 fn put_at<R: Room>(
     room: &mut R,
@@ -257,12 +261,48 @@ fn put_at<R: Room>(
     ensures err { OnErr result (KeepsStart R.kept R.standing R.words room.old room.new) }
     ensures full { IfErr result (IsFullOf (R.full room.new)) }
 {
-    let mut slots = slots_of(room, page);
     let at = rank(room, page, pair.key(), words).saturating_sub(1);
+    if let Some((left, right)) = sharing_children(room, level, page, at) {
+        let two = put_shared(room, level - 1, left, right, pair, words)?;
+        return Ok(slots_with(room, page, at - 1, two));
+    }
+    let mut slots = slots_of(room, page);
     let beside = put_below(room, level, page, 2 + 42 * at, pair, words)?;
     slots.remove(at);
     insert_all(&mut slots, at, beside);
     Ok(slots)
+}
+
+/// Puts a pair below the second of two neighbours, which is full, and writes both anew: the first one takes all the items
+/// that it can hold.
+#[cycle(put)]
+fn put_shared<R: Room>(
+    room: &mut R,
+    level: u64,
+    left: u64,
+    right: u64,
+    pair: &Item,
+    words: &[u64],
+) -> Result<ArrayVec<Slot, 2>, Refusal>
+    requires neighbours { AreNeighbours level (R.standing room.old) (R.words room.old) left right }
+    requires roomy { R.words room.old left 1 < 12 }
+    requires crowded { R.words room.old right 1 ≡ 12 }
+    requires rising { IsRising (pairs_at level (R.words room.old) left ++ put pair.now (pairs_at level (R.words room.old) right)) }
+    requires key_fits { length pair.now.key ≤ 264 }
+    requires prepared { IsPrepared words.now pair.now.key }
+    requires open { IsTrue (R.is_open (R.kept room.old)) }
+    ensures ok { IfOk result (λ slots. Becomes R.kept R.standing R.words (left ∷ right ∷ pages_below level (R.words room.old) (items_of (R.words room.old left) ++ items_of (R.words room.old right)))
+        (pairs_at level (R.words room.old) left ++ put pair.now (pairs_at level (R.words room.old) right)) (suc level) (pairs_of (R.words room.new) pair.now slots.items) room.old room.new) }
+    ensures ready { IfOk result (λ slots. All (IsReady (R.standing room.new) (R.words room.new)) slots.items) }
+    ensures two { IfOk result (λ slots. length slots.items ≡ 2) }
+    ensures err { OnErr result (KeepsStart R.kept R.standing R.words room.old room.new) }
+    ensures full { IfErr result (IsFullOf (R.full room.new)) }
+{
+    let more = put_at(room, level, right, pair, words)?;
+    let mut slots = slots_of(room, left);
+    append(&mut slots, &more);
+    let branches = pack_two(room, level, left, right, &slots, pair)?;
+    Ok(branches)
 }
 
 /// Writes items as a tree of their own, and gives its root.

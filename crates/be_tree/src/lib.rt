@@ -11,7 +11,10 @@ mod laws;
 mod lookup;
 mod page;
 mod removal;
+mod siblings;
 mod slot;
+#[cfg(test)]
+mod tests;
 mod walk;
 
 pub use clearing::clear;

@@ -13,10 +13,11 @@ ghost use Rattle.be_tree.specs.Pair.{Pair};
 ghost use Rattle.be_tree.specs.Slot.{IsReady, pair_of, pairs_of};
 ghost use Rattle.be_tree.specs.Tree.{AreNeighbours, Becomes, BecomesTree, IsBelow, IsTree, IsTreeAt, child, least_of_root, pages, pages_below, pairs, pairs_at, pairs_below};
 
-use crate::edit::{insert_all, pack_two, write_root};
+use crate::edit::{pack_two, write_root};
 use crate::item::Item;
 use crate::lookup::{has_key, rank};
 use crate::page::{child_at, cmp_at, key_words, slots_of};
+use crate::siblings::{append, count_of, slots_with, two_children};
 use crate::slot::Slot;
 use arrayvec::ArrayVec;
 use be_pages::{Look, Room};
@@ -114,48 +115,6 @@ fn slots_without<L: Look>(
     slots
 }
 
-/// The slots of a node's items, with others in the place of two neighbours.
-fn slots_with<L: Look>(
-    look: &mut L,
-    page: u64,
-    at: usize,
-    two: ArrayVec<Slot, 2>,
-) -> ArrayVec<Slot, 24>
-    requires readable { IsTrue (is_readable (L.standing look.old page)) }
-    requires page { IsPage (L.words look.old page) }
-    requires in_page { at + 2 ≤ L.words look.old page 1 }
-    requires ready { All (IsReady (L.standing look.old) (L.words look.old)) two.items }
-    ensures items { (given : Pair) → pairs_of (L.words look.old) given result.items
-        ≡ take at (items_of (L.words look.old page)) ++ (pairs_of (L.words look.old) given two.items ++ drop (at + 2) (items_of (L.words look.old page))) }
-    ensures ready { All (IsReady (L.standing look.old) (L.words look.old)) result.items }
-    ensures len { length result.items + 2 ≡ L.words look.old page 1 + length two.items }
-    ensures unchanged { IsUnchanged L.kept L.standing L.words look.old look.new }
-{
-    let mut slots = slots_of(look, page);
-    slots.remove(at);
-    slots.remove(at);
-    insert_all(&mut slots, at, two);
-    slots
-}
-
-/// How many items a page has.
-fn count_of<L: Look>(look: &mut L, page: u64) -> usize
-    requires readable { IsTrue (is_readable (L.standing look.old page)) }
-    requires page { IsPage (L.words look.old page) }
-    ensures count { result ≡ L.words look.old page 1 }
-    ensures unchanged { IsUnchanged L.kept L.standing L.words look.old look.new }
-{
-    look.word(page, 1) as usize
-}
-
-/// Appends slots.
-fn append(slots: &mut ArrayVec<Slot, 24>, more: &[Slot])
-    requires { length slots.old.items + length more.now ≤ 24 }
-    ensures { slots.new.items ≡ slots.old.items ++ more.now }
-{
-    let _ = slots.try_extend_from_slice(more);
-}
-
 /// Takes a key out below a page, and gives the page's items without it, still to be written. The page is not given up
 /// yet, since some of them stand there.
 #[cycle(removal)]
@@ -181,14 +140,12 @@ fn remove_at<R: Room>(
     if level == 0 {
         return Ok(slots_without(room, page, at, key, words));
     }
-    let count = count_of(room, page);
-    let here = child_at(room, page, 2 + 42 * at);
-    if at + 1 < count {
-        let next = child_at(room, page, 2 + 42 * (at + 1));
+    if at + 1 < count_of(room, page) {
+        let (here, next) = two_children(room, level, page, at);
         let two = remove_left(room, level - 1, here, next, key, words, pair)?;
         return Ok(slots_with(room, page, at, two));
     }
-    let before = child_at(room, page, 2 + 42 * (at - 1));
+    let (before, here) = two_children(room, level, page, at - 1);
     let two = remove_right(room, level - 1, before, here, key, words, pair)?;
     Ok(slots_with(room, page, at - 1, two))
 }

@@ -8,7 +8,7 @@ use Rattle.be_tree.specs.Page.{items_of, place_of}
 use Rattle.be_tree.specs.Slot.{pair_of, pairs_of, IsReady}
 use Rattle.be_tree.proofs.Slots.{loaded_pairs, loaded_ready}
 use Rattle.be_tree.proofs.SlotLists.{two_mapped, two_all, two_length}
-use Rattle.be_tree.proofs.removal.slots_with.Goals as goal
+use Rattle.be_tree.proofs.siblings.slots_with.Goals as goal
 
 pub remove-requires : goal.remove-requires
 remove-requires g c =

@@ -1,0 +1,97 @@
+//! Two neighbours among the children of a node.
+ghost use Rattle.std.specs.Prelude.{◌≡◌, ℕ, suc, ◌+◌, ◌-◌, ◌<◌, ◌≤◌, ◌++◌, length, take, drop, All, IfSome, IsTrue};
+ghost use Rattle.be_pages.specs.Pages.{IsUnchanged, is_readable};
+ghost use Rattle.be_tree.specs.Page.{IsPage, item_at, items_of, place_of};
+ghost use Rattle.be_tree.specs.Pair.{Pair};
+ghost use Rattle.be_tree.specs.Slot.{IsReady, pairs_of};
+ghost use Rattle.be_tree.specs.Tree.{AreNeighbours, IsTreeAt, child};
+
+use crate::edit::insert_all;
+use crate::page::{child_at, slots_of};
+use crate::slot::Slot;
+use arrayvec::ArrayVec;
+use be_pages::Look;
+
+/// The child at a number of an inner node, and the next one.
+pub(crate) fn two_children<L: Look>(look: &mut L, level: u64, page: u64, at: usize) -> (u64, u64)
+    requires tree { IsTreeAt level 1 (L.standing look.old) (L.words look.old) page }
+    requires inner { 0 < level }
+    requires in_page { at + 2 ≤ L.words look.old page 1 }
+    ensures left { result.0 ≡ child (item_at (L.words look.old page) (place_of at)) }
+    ensures right { result.1 ≡ child (item_at (L.words look.old page) (place_of (at + 1))) }
+    ensures neighbours { AreNeighbours (level - 1) (L.standing look.old) (L.words look.old) result.0 result.1 }
+    ensures unchanged { IsUnchanged L.kept L.standing L.words look.old look.new }
+{
+    let left = child_at(look, page, 2 + 42 * at);
+    let right = child_at(look, page, 2 + 42 * (at + 1));
+    (left, right)
+}
+
+/// The child at a number with its left neighbour before it, where the child is full and the neighbour is not.
+pub(crate) fn sharing_children<L: Look>(
+    look: &mut L,
+    level: u64,
+    page: u64,
+    at: usize,
+) -> Option<(u64, u64)>
+    requires tree { IsTreeAt level 1 (L.standing look.old) (L.words look.old) page }
+    requires in_page { at < L.words look.old page 1 }
+    ensures inner { IfSome result (λ both. (0 < level) × (0 < at)) }
+    ensures left { IfSome result (λ both. both.0 ≡ child (item_at (L.words look.old page) (place_of (at - 1)))) }
+    ensures right { IfSome result (λ both. both.1 ≡ child (item_at (L.words look.old page) (place_of (at - 1 + 1)))) }
+    ensures neighbours { IfSome result (λ both. AreNeighbours (level - 1) (L.standing look.old) (L.words look.old) both.0 both.1) }
+    ensures roomy { IfSome result (λ both. L.words look.old both.0 1 < 12) }
+    ensures crowded { IfSome result (λ both. L.words look.old both.1 1 ≡ 12) }
+    ensures unchanged { IsUnchanged L.kept L.standing L.words look.old look.new }
+{
+    if level == 0 || at == 0 {
+        return None;
+    }
+    let (left, right) = two_children(look, level, page, at - 1);
+    if count_of(look, right) < 12 || count_of(look, left) == 12 {
+        return None;
+    }
+    Some((left, right))
+}
+
+/// The slots of a node's items, with others in the place of two neighbours.
+pub(crate) fn slots_with<L: Look>(
+    look: &mut L,
+    page: u64,
+    at: usize,
+    two: ArrayVec<Slot, 2>,
+) -> ArrayVec<Slot, 24>
+    requires readable { IsTrue (is_readable (L.standing look.old page)) }
+    requires page { IsPage (L.words look.old page) }
+    requires in_page { at + 2 ≤ L.words look.old page 1 }
+    requires ready { All (IsReady (L.standing look.old) (L.words look.old)) two.items }
+    ensures items { (given : Pair) → pairs_of (L.words look.old) given result.items
+        ≡ take at (items_of (L.words look.old page)) ++ (pairs_of (L.words look.old) given two.items ++ drop (at + 2) (items_of (L.words look.old page))) }
+    ensures ready { All (IsReady (L.standing look.old) (L.words look.old)) result.items }
+    ensures len { length result.items + 2 ≡ L.words look.old page 1 + length two.items }
+    ensures unchanged { IsUnchanged L.kept L.standing L.words look.old look.new }
+{
+    let mut slots = slots_of(look, page);
+    slots.remove(at);
+    slots.remove(at);
+    insert_all(&mut slots, at, two);
+    slots
+}
+
+/// How many items a page has.
+pub(crate) fn count_of<L: Look>(look: &mut L, page: u64) -> usize
+    requires readable { IsTrue (is_readable (L.standing look.old page)) }
+    requires page { IsPage (L.words look.old page) }
+    ensures count { result ≡ L.words look.old page 1 }
+    ensures unchanged { IsUnchanged L.kept L.standing L.words look.old look.new }
+{
+    look.word(page, 1) as usize
+}
+
+/// Appends slots.
+pub(crate) fn append(slots: &mut ArrayVec<Slot, 24>, more: &[Slot])
+    requires { length slots.old.items + length more.now ≤ 24 }
+    ensures { slots.new.items ≡ slots.old.items ++ more.now }
+{
+    let _ = slots.try_extend_from_slice(more);
+}
