@@ -11,6 +11,7 @@ use Rattle.be_table.specs.declared.limits.Limits.{Limits}
 use Rattle.be_table.specs.declared.pass.Knowledge.{Knowledge}
 use Rattle.be_journal.specs.Journal.{IsLegal}
 use Rattle.be_table.specs.History.{AllBelow}
+use Rattle.be_table.specs.Laws.{ArrivalIsNoEvent}
 use Rattle.be_table.specs.Place.{Place}
 use Rattle.be_table.specs.Rule.{Board, entries, is_holder, IsHome, AllFit, Shows, everyone, counted, joined}
 use Rattle.be_table.specs.Steps.{Arrived, Has, AllIdle, Keeps}
@@ -106,9 +107,13 @@ closes limits known i v words slots ledger items g all f at is =
     subst (Closes limits known) (ap (λ (l : Ledger). l.journal.entries) it ∙ sym is) record { legal = e.2; by_passes = e.3; keeps = g.keeps e.0.journal.entries e.4 }
 
 -- a seat with no pass may arrive
-pub arrives : (limits : Limits) (slots : ℕ) → Enters (Shows limits) slots 0 (λ n w. Arrived (step slots 0 0 0 none) (everyone limits, []) n (w, []))
-arrives limits slots s h sized fits = (
-  [],
-  (h.0, record { table = record { words = h.1.table.words; home = h.1.table.home; version = h.1.table.version }; sound = h.1.sound; views = λ j u e. ⊎_elim (λ there. h.1.views j u there) (λ (p : (j ≡ length s.views) × ([] ≡ u)). subst (AllFit limits h.0 j) p.1 tt) (at_snoc_place s.views [] u j e) }),
+pub arrive_by : (limits : Limits) → ArrivalIsNoEvent limits
+arrive_by limits s b h = (
+  b,
+  record { table = record { words = h.table.words; home = h.table.home; version = h.table.version }; sound = h.sound; views = λ j u e. ⊎_elim (λ there. h.views j u there) (λ (p : (j ≡ length s.views) × ([] ≡ u)). subst (AllFit limits b j) p.1 tt) (at_snoc_place s.views [] u j e) },
+  refl,
   refl,
 )
+
+pub arrives : (limits : Limits) (slots : ℕ) → Enters (Shows limits) slots 0 (λ n w. Arrived (step slots 0 0 0 none) (everyone limits, []) n (w, []))
+arrives limits slots s h sized fits = let d = arrive_by limits s h.0 h.1 in ([], (d.0, d.1), refl)

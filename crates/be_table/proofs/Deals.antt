@@ -17,6 +17,7 @@ use Rattle.be_pages.specs.declared.page_pool.Place.TheVariants.{Free, Current}
 use Rattle.be_table.specs.declared.limits.Limits.{Limits}
 use Rattle.be_table.specs.declared.pass.Knowledge.{Knowledge}
 use Rattle.be_pages.specs.Place.{undone_place, place_of}
+use Rattle.be_table.specs.Laws.{SplitIsNoEvent, JoinIsNoEvent}
 use Rattle.be_table.specs.Ledger.{ShowsPlaces, is_free, is_taken, retired_with}
 use Rattle.be_table.specs.Place.{Place}
 use Rattle.be_table.specs.Rule.{ledger_places, Board, IsWithin, IsSound, AreInside, reach_at, page_at, word_place, Fits, IsAbsent, AllFit, Shows, newcomer, newcomers, everyone, counted, first_seat, other_seats, joined}
@@ -85,9 +86,8 @@ all_others limits b d i k (a ∷ v) f n h = (fits_counted limits d i a (f a n.0 
 
 module _ (limits : Limits) where
   -- the first pass of a seat gets a seat of its own
-  pub deals : (i : ℕ) (a : Knowledge) (v : List Knowledge) → Splits (Shows limits) i (a ∷ v) (other_seats (a ∷ v)) (first_seat (a ∷ v))
-  deals i a v s h at =
-      let b = h.0 in let t = h.1 in
+  pub split_by : (i : ℕ) (a : Knowledge) (v : List Knowledge) → SplitIsNoEvent limits i a v
+  split_by i a v s b t at =
       let n = length s.views in
       let d : Board = record b { seat_of = moved a.number n b.seat_of } in
       let f = t.views i (a ∷ v) at in
@@ -104,12 +104,16 @@ module _ (limits : Limits) where
               (λ (p : (j ≡ length (set s.views i (map counted v))) × (counted a ∷ [] ≡ u)). subst (λ (q : ℕ × List Knowledge). AllFit limits d q.0 q.1) (λ k. (sym (p.0 ∙ sized) k, p.1 k)) new)
               (at_snoc_place (set s.views i (map counted v)) (counted a ∷ []) u j e);
         },
+        refl,
+        refl,
       )
 
+  pub deals : (i : ℕ) (a : Knowledge) (v : List Knowledge) → Splits (Shows limits) i (a ∷ v) (other_seats (a ∷ v)) (first_seat (a ∷ v))
+  deals i a v s h at = let d = split_by i a v s h.0 h.1 at in (d.0, d.1)
+
   -- two seats become one
-  pub joins : (i : ℕ) (v : List Knowledge) (other : ℕ) (w : List Knowledge) → Joins (Shows limits) i v other w (joined v w) []
-  joins i v other w s h at ne there =
-      let b = h.0 in let t = h.1 in
+  pub join_by : (i : ℕ) (v : List Knowledge) (other : ℕ) (w : List Knowledge) → JoinIsNoEvent limits i v other w
+  join_by i v other w s b t at ne there =
       let d : Board = record b { seat_of = gathered other i b.seat_of } in
       let was : get_elem? s.views other ≡ some w = sym (set_else s.views i other (joined v w) ne) ∙ there in
       let to_i = λ (x : Knowledge) (fx : Fits limits b other x). reseat limits b d.seat_of other i x (choose_then (b.seat_of x.number) other i (b.seat_of x.number) fx.seat_is) fx in
@@ -126,7 +130,12 @@ module _ (limits : Limits) where
               (at_set s.views i j (joined v w) u p.1))
               (at_set (set s.views i (joined v w)) other j [] u e);
         },
+        refl,
+        refl,
       )
+
+  pub joins : (i : ℕ) (v : List Knowledge) (other : ℕ) (w : List Knowledge) → Joins (Shows limits) i v other w (joined v w) []
+  joins i v other w s h at ne there = let d = join_by i v other w s h.0 h.1 at ne there in (d.0, d.1)
 
 -- the passes from k on are all different
 newcomers-absent : (limits : Limits) (j k n : ℕ) → j < k → IsAbsent j (newcomers limits 0 k n)

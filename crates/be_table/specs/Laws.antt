@@ -1,5 +1,5 @@
 -- What a step on a word is allowed to do, with the event that it is.
-use Rattle.std.specs.Prelude.{◌≡◌, ◌⊎◌, ℕ, ◌+◌, ◌*◌, ◌<◌, ◌==◌, List, [], ◌∷◌, length, map, slice_index, Option, Some, true, false, IsTrue, MatchBool}
+use Rattle.std.specs.Prelude.{◌≡◌, ◌⊎◌, ℕ, ◌+◌, ◌*◌, ◌<◌, ◌==◌, List, [], ◌∷◌, ◌++◌, length, map, slice_index, slice_set, Option, Some, true, false, IsTrue, MatchBool}
 use prog.Atomic.{either}
 use mathlib.Core.Option.{some, none}
 use lib.ListN.{get_elem?}
@@ -13,7 +13,7 @@ use Rattle.be_journal.specs.declared.entries.Entry.{Entry}
 use Rattle.be_pages.specs.declared.page_pool.Place.TheVariants.{Free}
 use Rattle.be_pages.specs.Place.{undone_place, is_held_page, place_of}
 use Rattle.be_table.specs.Ledger.{is_given}
-use Rattle.be_table.specs.Rule.{ledger_places, Board, Stands, entries, page_at, reach_at, word_place, current_word}
+use Rattle.be_table.specs.Rule.{ledger_places, Board, Stands, entries, page_at, reach_at, word_place, current_word, counted, joined}
 use Rattle.be_table.specs.Steps.{LookTold, Told, PinnedAt, Unpinned, PinnedRead, Locked, Unlocked, Scanned, OwnRead, FilledAt, PageTaken, PageGivenUp, MayBeFilled, MayPublish, Published, Compared, pages_from}
 
 -- ## The events: what a step that found the number n does to the machine
@@ -126,3 +126,29 @@ UnlockIsItsEvent limits slots id a ledger = a.writes ≡ true → ledger.journal
 abbrev pub CompareIsNoEvent : Limits → ℕ → ℕ → Knowledge → Knowledge → List (ℕ × Option Ledger) → Type 0
 CompareIsNoEvent limits slots id a c carried = a.writes ≡ false → c.writes ≡ false
     → AllowsBy limits slots id (a ∷ c ∷ [], carried) 0 (λ n. n) NoEvent (Compared (step slots 0 0 0 none) (a ∷ c ∷ [], carried))
+
+-- ## Seats
+
+-- the table with other views of its seats
+abbrev pub with_views : State (Option Ledger) (List Knowledge) → List (List Knowledge) → State (Option Ledger) (List Knowledge)
+with_views s views = record { words = s.words; homes = s.homes; views = views }
+
+-- the rule holds of the table, which shows the same machine and the same journal as before
+abbrev pub StaysShown : Limits → Board → State (Option Ledger) (List Knowledge) → Type 0
+StaysShown limits b s = (d : Board) × Stands limits s d × (d.world ≡ b.world) × (d.log ≡ b.log)
+
+-- the first pass of a seat gets a new seat, and the others keep theirs
+abbrev pub SplitIsNoEvent : Limits → ℕ → Knowledge → List Knowledge → Type 0
+SplitIsNoEvent limits id a v =
+    (s : State (Option Ledger) (List Knowledge)) (b : Board) → Stands limits s b → get_elem? s.views id ≡ some (a ∷ v)
+    → StaysShown limits b (with_views s (slice_set s.views id (map counted v) ++ (counted a ∷ []) ∷ []))
+
+-- the passes of the seat `other` go to the seat `id`, and `other` is left with none
+abbrev pub JoinIsNoEvent : Limits → ℕ → List Knowledge → ℕ → List Knowledge → Type 0
+JoinIsNoEvent limits id v other w =
+    (s : State (Option Ledger) (List Knowledge)) (b : Board) → Stands limits s b → get_elem? s.views id ≡ some v → ¬ (other ≡ id) → get_elem? (slice_set s.views id (joined v w)) other ≡ some w
+    → StaysShown limits b (with_views s (slice_set (slice_set s.views id (joined v w)) other []))
+
+-- there is one seat more, with no pass
+abbrev pub ArrivalIsNoEvent : Limits → Type 0
+ArrivalIsNoEvent limits = (s : State (Option Ledger) (List Knowledge)) (b : Board) → Stands limits s b → StaysShown limits b (with_views s (s.views ++ [] ∷ []))

@@ -5,7 +5,7 @@ ghost use Rattle.std.specs.Prelude.{ℕ, List, Option};
 ghost use Rattle.be_table.specs.declared.ledger.Ledger.{Ledger};
 ghost use Rattle.be_table.specs.declared.limits.Limits.{Limits};
 ghost use Rattle.be_table.specs.declared.pass.Knowledge.{Knowledge};
-ghost use Rattle.be_table.specs.Laws.{LookIsItsEvent, AnnounceIsItsEvent, LookAgainIsItsEvent, UnpinIsItsEvent, PinnedReadIsItsEvent, LockIsItsEvent, ScanIsItsEvent, FillIsItsEvent, OwnReadIsNoEvent, TakeIsNoEvent, GiveUpIsNoEvent, PublishIsItsEvent, UnlockIsItsEvent, CompareIsNoEvent};
+ghost use Rattle.be_table.specs.Laws.{LookIsItsEvent, AnnounceIsItsEvent, LookAgainIsItsEvent, UnpinIsItsEvent, PinnedReadIsItsEvent, LockIsItsEvent, ScanIsItsEvent, FillIsItsEvent, OwnReadIsNoEvent, TakeIsNoEvent, GiveUpIsNoEvent, PublishIsItsEvent, UnlockIsItsEvent, CompareIsNoEvent, SplitIsNoEvent, JoinIsNoEvent, ArrivalIsNoEvent};
 
 /// A load of the current number is Look.
 pub fn look()
@@ -75,4 +75,19 @@ pub fn unlock()
 /// The load by which two passes of one seat compare what they have seen is no event.
 pub fn compare()
     ensures { (limits : Limits) (slots id : ℕ) (a c : Knowledge) (carried : List (ℕ × Option Ledger)) → CompareIsNoEvent limits slots id a c carried }
+{}
+
+/// The load by which a seat is cut in two is no event: its first pass gets a new seat.
+pub fn split()
+    ensures { (limits : Limits) (id : ℕ) (a : Knowledge) (v : List Knowledge) → SplitIsNoEvent limits id a v }
+{}
+
+/// The load by which two seats are joined is no event: one has the passes of both, and the other has none.
+pub fn join()
+    ensures { (limits : Limits) (id : ℕ) (v : List Knowledge) (other : ℕ) (w : List Knowledge) → JoinIsNoEvent limits id v other w }
+{}
+
+/// The load by which a seat with no pass is made is no event.
+pub fn arrive()
+    ensures { (limits : Limits) → ArrivalIsNoEvent limits }
 {}

@@ -24,6 +24,8 @@ mod rooms;
 mod rule;
 mod seat;
 mod table;
+#[cfg(test)]
+mod tests;
 mod writing;
 
 pub use limits::Limits;

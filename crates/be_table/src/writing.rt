@@ -24,7 +24,7 @@ pub struct Writing<'a> {
     table: &'a VersionTable,
     base: Base,
     marks: Marks,
-    ledger: Ledger,
+    pub(crate) ledger: Ledger,
     reserved: usize,
 }
 
