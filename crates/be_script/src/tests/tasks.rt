@@ -1,0 +1,83 @@
+//! Command lines.
+use super::LIMITS;
+use crate::{Limits, Task, task};
+use clap::Error;
+use clap::error::ErrorKind;
+use std::alloc::Global;
+use std::test::Fail;
+
+fn wants_memory(task: &Result<Task, Error>) -> bool {
+    match task {
+        Ok(_) => false,
+        Err(error) => matches!(error.kind(), ErrorKind::OutOfMemory),
+    }
+}
+
+/// The task of a command line, asked again where memory was wanted.
+fn task_of(alloc: Global, words: &'static [&'static str]) -> Result<Task, Error> {
+    let result = task(alloc, words);
+    if wants_memory(&result) {
+        return task(alloc, words);
+    }
+    result
+}
+
+/// The words of a run, with the defaults and without.
+#[test]
+fn plan_source(rt: HostRuntime) -> Result<(), Fail> {
+    let Ok(found) = task_of(rt.alloc(), &["bestore", "run", "f"]) else {
+        return Err(Fail::new("no task"));
+    };
+    assert!(rt; !found.race);
+    assert_eq!(rt; found.limits, LIMITS);
+    assert_eq!(rt; found.files.len(), 1);
+    assert_eq!(rt; found.files[0].as_str(), "f");
+    let Ok(found) = task_of(
+        rt.alloc(),
+        &["bestore", "run", "--pages", "8", "--commits", "1", "f"],
+    ) else {
+        return Err(Fail::new("no task"));
+    };
+    let least = Limits {
+        pages: 8,
+        passes: 1,
+        commits: 1,
+    };
+    assert_eq!(rt; found.limits, least);
+    Ok(())
+}
+
+/// Command lines that ask for nothing, each with the kind of its fault.
+#[test]
+fn faults(rt: HostRuntime) -> Result<(), Fail> {
+    for (words, kind) in [
+        (
+            ["bestore", "run", "--pages", "7", "f"].as_slice(),
+            ErrorKind::ValueValidation,
+        ),
+        (
+            &["bestore", "run", "--pages", "16385", "f"],
+            ErrorKind::ValueValidation,
+        ),
+        (
+            &["bestore", "run", "--commits", "0", "f"],
+            ErrorKind::ValueValidation,
+        ),
+        (
+            &["bestore", "run", "--commits", "4294967296", "f"],
+            ErrorKind::ValueValidation,
+        ),
+        (&["bestore", "run"], ErrorKind::MissingRequiredArgument),
+        (&["bestore", "run", "f", "g"], ErrorKind::UnknownArgument),
+        (&["bestore", "walk", "f"], ErrorKind::InvalidSubcommand),
+        (&["bestore"], ErrorKind::MissingSubcommand),
+        (&["bestore", "--help"], ErrorKind::DisplayHelp),
+        (&["bestore", "run", "--help"], ErrorKind::DisplayHelp),
+    ] {
+        match task_of(rt.alloc(), words) {
+            Ok(_) => return Err(Fail::new("a task")),
+            Err(error) => assert_eq!(rt; error.kind(), kind),
+        }
+    }
+    Ok(())
+}
