@@ -4,7 +4,8 @@
 //! can be done, and 1, with one line on standard error, where the run stopped before its end.
 #![tactic(auto)]
 
-use be_script::{Limits, RunFault, run, task};
+use be_script::{Limits, RunFault, Task, run, task};
+use clap::Error;
 use clap::error::ErrorKind;
 use std::process::ExitCode;
 use std::{env, fs, io};
@@ -34,22 +35,47 @@ fn run_file(rt: &HostRuntime, file: &str, limits: Limits) -> io::Result<ExitCode
     }
 }
 
-fn main(rt: HostRuntime) -> io::Result<ExitCode> {
+fn run_task(rt: &HostRuntime, task: &Task) -> io::Result<ExitCode> {
+    match task.files.first() {
+        Some(file) => run_file(rt, file.as_str(), task.limits),
+        None => Ok(ExitCode::SUCCESS),
+    }
+}
+
+/// Help goes to standard output, what is wrong with a command line to standard error.
+fn tell(rt: &HostRuntime, error: &Error) -> io::Result<ExitCode> {
+    match error.print(rt) {
+        Err(_) if error.exit_code() == 0 => fail(rt, "write failed"),
+        _ => Ok(ExitCode::from(error.exit_code() as u8)),
+    }
+}
+
+fn obey(rt: &HostRuntime, given: &[String]) -> io::Result<ExitCode> {
     let alloc = rt.alloc();
-    let given: Vec<String> = env::args(&rt)?.collect(alloc)?;
     let mut words = Vec::new(alloc);
-    for word in &given {
-        words.push(word.as_str())?;
+    for word in given {
+        if words.push(word.as_str()).is_err() {
+            return fail(rt, "out of memory");
+        }
     }
     match task(alloc, words.as_slice()) {
-        Ok(task) => match task.files.first() {
-            Some(file) => run_file(&rt, file.as_str(), task.limits),
-            None => Ok(ExitCode::SUCCESS),
-        },
-        Err(error) if matches!(error.kind(), ErrorKind::OutOfMemory) => fail(&rt, "out of memory"),
-        Err(error) => {
-            error.print(&rt)?;
-            Ok(ExitCode::from(error.exit_code() as u8))
+        Ok(task) => run_task(rt, &task),
+        Err(error) if matches!(error.kind(), ErrorKind::OutOfMemory) => fail(rt, "out of memory"),
+        Err(error) => tell(rt, &error),
+    }
+}
+
+fn read_words(rt: &HostRuntime) -> io::Result<Vec<String>> {
+    Ok(env::args(rt)?.collect(rt.alloc())?)
+}
+
+fn main(rt: HostRuntime) -> io::Result<ExitCode> {
+    match read_words(&rt) {
+        Ok(given) => obey(&rt, &given),
+        Err(error) if matches!(error.kind(), io::ErrorKind::InvalidData) => {
+            eprintln!(rt; "bestore: a word of the command line isn't UTF-8")?;
+            Ok(ExitCode::from(2))
         }
+        Err(_) => fail(&rt, "out of memory"),
     }
 }
