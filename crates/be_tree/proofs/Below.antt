@@ -1,20 +1,18 @@
 -- What stands below the items of a node, in parts and while other pages change.
-use Rattle.std.proofs.Common.{◌≡◌, ℕ, zero, suc, ◌+◌, ◌-◌, ◌<◌, ◌≤◌, List, [], ◌∷◌, ◌++◌, length, get_or, take, drop, All, IsTrue, ap, sym, subst, ◌∙◌, refl, inl, inr, arith}
+use Rattle.std.proofs.Common.{◌≡◌, ℕ, zero, suc, ◌+◌, ◌<◌, ◌≤◌, List, [], ◌∷◌, ◌++◌, length, get_or, All, IsTrue, ap, sym, subst, ◌∙◌, refl, arith}
 use mathlib.Core.Bool.{false≢true}
 use Rattle.std.specs.List.{flat_map}
-use Rattle.std.proofs.lemmas.Bool.{cases_eq}
-use Rattle.std.proofs.lemmas.List.{append-nil, append_assoc, get_or_append_left, get_or-append-add, length-append}
+use Rattle.std.proofs.lemmas.List.{get_or_append_left, get_or-append-add, length-append}
 use Rattle.std.proofs.lemmas.List.Concat.{flat_map-append}
 use Rattle.std.proofs.lemmas.List.Elements.{All-append}
 use Rattle.be_pages.specs.declared.room.Standing.{Standing}
-use Rattle.be_pages.specs.declared.room.Standing.TheVariants.{Free}
-use Rattle.be_pages.specs.Pages.{is_readable, is_kept, times, Swaps, KeepsStart}
+use Rattle.be_pages.specs.Pages.{is_kept, times, Swaps}
 use Rattle.be_tree.specs.Pair.{Pair}
-use Rattle.be_tree.specs.Key.{IsRising, StartsAt}
+use Rattle.be_tree.specs.Key.{IsRising}
 use Rattle.be_tree.specs.Page.{items_of}
-use Rattle.be_tree.specs.Tree.{child, pairs_at, pairs_below, pages_at, pages_below, IsNode, IsBranch, AreShaped, IsBelow, IsTreeAt, IsWritten, Becomes}
+use Rattle.be_tree.specs.Tree.{child, pairs_at, pairs_below, pages_at, pages_below, IsNode, IsBranch, AreShaped, IsBelow}
 use Rattle.be_tree.proofs.Order.{IsRising_left, IsRising_right}
-use Rattle.be_tree.proofs.Frame.{times_append, times-cons, times_tail, same_page, swaps_trans, swaps_frame, swaps_same, swaps_stands, swaps_after, swaps_fresh, readable_kept}
+use Rattle.be_tree.proofs.Frame.{times_append, times-cons, times_tail, same_page, swaps_same, swaps_stands, swaps_fresh, readable_kept}
 use Rattle.be_tree.proofs.TreeFacts.{times_part}
 
 -- what stands below two lists of items

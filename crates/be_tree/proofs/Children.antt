@@ -1,5 +1,5 @@
 -- Two neighbours among the items of an inner node, whose children became others.
-use Rattle.std.proofs.Common.{◌≡◌, ℕ, zero, suc, ◌+◌, ◌-◌, ◌<◌, ◌≤◌, List, [], ◌∷◌, ◌++◌, length, get_or, take, drop, All, IsTrue, ap, sym, subst, ◌∙◌, refl, arith}
+use Rattle.std.proofs.Common.{◌≡◌, ℕ, suc, ◌+◌, ◌<◌, ◌≤◌, List, [], ◌∷◌, ◌++◌, length, take, drop, IsTrue, ap, sym, subst, ◌∙◌, arith}
 use Rattle.std.specs.List.{flat_map}
 use Rattle.std.proofs.lemmas.List.{append-nil, append_assoc, drop_more, take_more, take-append-drop}
 use Rattle.std.proofs.lemmas.List.Concat.{flat_map-append}
@@ -8,7 +8,7 @@ use Rattle.be_pages.specs.Pages.{is_readable, times, IsUnchanged}
 use Rattle.be_tree.specs.declared.slot.Slot.{Slot}
 use Rattle.be_tree.specs.Pair.{Pair}
 use Rattle.be_tree.specs.Key.{IsRising}
-use Rattle.be_tree.specs.Page.{item_at, items_of, place_of, IsItem, IsPage}
+use Rattle.be_tree.specs.Page.{item_at, items_of, place_of, IsPage}
 use Rattle.be_tree.specs.Slot.{pairs_of}
 use Rattle.be_tree.specs.Tree.{AreNeighbours, child, pairs_at, pairs_below, pages_below, IsBelow, IsTreeAt, Becomes}
 use Rattle.be_tree.proofs.Order.{IsRising_left, IsRising_right}
@@ -16,7 +16,6 @@ use Rattle.be_tree.proofs.Frame.{readable_kept, swaps_same, swaps_stands, unchan
 use Rattle.be_tree.proofs.Below.{below_left, below_right, times_pages}
 use Rattle.be_tree.proofs.Slots.{item_get, items_count}
 use Rattle.be_tree.proofs.Parts.{becomes_part}
-use Rattle.be_tree.proofs.Puts.{becomes_since}
 use Rattle.be_tree.proofs.Neighbours.{are_neighbours, becomes_children, slots_until}
 
 module _ (level below least page : ℕ) (standing : ℕ → Standing) (words : ℕ → ℕ → ℕ) (e : level ≡ suc below) (tree : IsTreeAt level least standing words page) where

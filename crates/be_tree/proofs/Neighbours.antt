@@ -1,24 +1,24 @@
 -- Two neighbours under one parent, of which one changed, written together.
-use Rattle.std.proofs.Common.{◌≡◌, ◌≢◌, ℕ, zero, suc, ◌+◌, ◌-◌, ◌<◌, ◌≤◌, ◌==◌, List, [], ◌∷◌, ◌++◌, length, map, get_or, take, drop, cond, All, IsTrue, ap, sym, subst, ◌∙◌, refl, inl, inr, arith, zero-add}
+use Rattle.std.proofs.Common.{◌≡◌, ◌≢◌, ℕ, suc, ◌+◌, ◌<◌, ◌==◌, List, [], ◌∷◌, ◌++◌, map, cond, All, IsTrue, ap, sym, subst, ◌∙◌, refl, inl, inr, arith}
 use Rattle.std.specs.List.{range_with_len}
 use Rattle.std.proofs.lemmas.Bool.{cases_eq}
-use Rattle.std.proofs.lemmas.List.{append-nil, map-append, length-append}
+use Rattle.std.proofs.lemmas.List.{append-nil, map-append}
 use Rattle.std.proofs.lemmas.List.Elements.{All-append}
 use Rattle.be_pages.specs.declared.room.Standing.{Standing}
-use Rattle.be_pages.specs.Pages.{is_readable, is_kept, times, PageStep, Swaps, IsUnchanged}
+use Rattle.be_pages.specs.Pages.{is_readable, is_kept, times, PageStep, IsUnchanged}
 use Rattle.be_tree.specs.declared.slot.Slot.{Slot}
 use Rattle.be_tree.specs.declared.slot.Slot.TheVariants.{At}
 use Rattle.be_tree.specs.Pair.{Pair}
-use Rattle.be_tree.specs.Key.{IsRising, without}
+use Rattle.be_tree.specs.Key.{IsRising}
 use Rattle.be_tree.specs.Page.{items_of, place_of, IsPage}
 use Rattle.be_tree.specs.Slot.{pair_of, pairs_of, IsReady}
-use Rattle.be_tree.specs.Tree.{AreNeighbours, child, pairs_at, pairs_below, pages_at, pages_below, IsBelow, IsTreeAt, Becomes}
-use Rattle.be_tree.proofs.Frame.{times_append, times-cons, times_tail, times_itself, times_other, same_page, swaps_trans, swaps_frame, swaps_same, swaps_stands, readable_kept}
+use Rattle.be_tree.specs.Tree.{AreNeighbours, child, pairs_at, pairs_below, pages_below, IsBelow, Becomes}
+use Rattle.be_tree.proofs.Frame.{times_append, times-cons, times_itself, times_other, same_page, swaps_trans, swaps_frame, swaps_same, swaps_stands, readable_kept}
 use Rattle.be_tree.proofs.TreeFacts.{branch_tree}
-use Rattle.be_tree.proofs.Below.{below_append, below_left, below_right, beside_below, beside_pairs, pages_append, times_pages}
+use Rattle.be_tree.proofs.Below.{below_append, times_pages}
 use Rattle.be_tree.proofs.Parts.{becomes_same, becomes_append, back_below, back_pairs}
 use Rattle.be_tree.proofs.Puts.{becomes_since, becomes_until, given_up_page}
-use Rattle.be_tree.proofs.Slots.{items_count, loaded_pairs, loaded_ready}
+use Rattle.be_tree.proofs.Slots.{loaded_pairs, loaded_ready}
 
 -- how often a page is among those of two branches
 pub times_both : (level : ℕ) (words : ℕ → ℕ → ℕ) (left right : Pair) (q : ℕ) → times q (pages_below (suc level) words (left ∷ right ∷ []))

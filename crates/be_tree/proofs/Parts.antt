@@ -1,21 +1,17 @@
 -- How the pages in use become others, part by part.
-use Rattle.std.proofs.Common.{◌≡◌, ℕ, zero, suc, ◌+◌, ◌-◌, ◌<◌, ◌≤◌, ◌==◌, if◌then◌else◌, List, [], ◌∷◌, ◌++◌, length, get_or, take, drop, All, IsTrue, Result, Ok, Err, OnErr, ap, sym, subst, ◌∙◌, refl, inl, inr, arith}
-use mathlib.Core.Bool.{false≢true}
-use Rattle.std.specs.List.{flat_map}
-use Rattle.std.proofs.lemmas.Bool.{cases_eq}
+use Rattle.std.proofs.Common.{◌≡◌, ℕ, zero, suc, ◌+◌, ◌<◌, ◌≤◌, List, [], ◌∷◌, ◌++◌, length, get_or, All, Result, Ok, Err, OnErr, ap, sym, subst, ◌∙◌, refl, arith}
 use Rattle.std.proofs.lemmas.Bool.Decides.{nat_tests}
-use Rattle.std.proofs.lemmas.List.{append-nil, append_assoc}
+use Rattle.std.proofs.lemmas.List.{append-nil}
 use Rattle.std.proofs.lemmas.List.Elements.{All-nil, All-cons}
 use Rattle.be_pages.specs.declared.room.Standing.{Standing}
-use Rattle.be_pages.specs.declared.room.Standing.TheVariants.{Free, Old, GivenUp, Taken, Filled}
-use Rattle.be_pages.specs.Pages.{is_readable, is_kept, times, after_give_up, StandsAt, PageStep, untouched, unused, fresh, given_old, given_new, stays_old, stays_new, Swaps, KeepsStart}
+use Rattle.be_pages.specs.Pages.{times, untouched, Swaps}
 use Rattle.be_tree.specs.Pair.{Pair}
-use Rattle.be_tree.specs.Key.{IsRising, StartsAt, put}
+use Rattle.be_tree.specs.Key.{IsRising, StartsAt}
 use Rattle.be_tree.specs.Page.{items_of}
-use Rattle.be_tree.specs.Tree.{child, pairs_at, pairs_below, pages_at, pages_below, IsNode, IsBranch, AreShaped, IsBelow, IsTreeAt, IsWritten, Becomes}
+use Rattle.be_tree.specs.Tree.{child, pairs_at, pairs_below, pages_below, IsNode, IsBranch, AreShaped, IsBelow, IsWritten, Becomes}
 use Rattle.be_tree.proofs.Order.{IsRising_right}
-use Rattle.be_tree.proofs.Frame.{times_append, times-cons, times_tail, times_itself, same_page, swaps_trans, swaps_frame, swaps_same, swaps_stands, swaps_after, swaps_fresh, readable_kept}
-use Rattle.be_tree.proofs.Below.{pairs_append, pages_append, times_pages, below_left, below_right, below_append, beside_pairs, beside_pages, beside_below, beside_apart}
+use Rattle.be_tree.proofs.Frame.{times_append, times-cons, swaps_trans, swaps_frame, swaps_after}
+use Rattle.be_tree.proofs.Below.{pairs_append, times_pages, below_left, below_right, below_append, beside_pairs, beside_pages, beside_below, beside_apart}
 
 starts_append : (k : List ℕ) (xs ys : List Pair) → StartsAt k xs → StartsAt k (xs ++ ys)
 starts_append k [] ys h = absurd h

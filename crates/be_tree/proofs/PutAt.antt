@@ -1,12 +1,12 @@
 -- A pair put below a page whose items stay where they stand until they are written.
-use Rattle.std.proofs.Common.{◌≡◌, ℕ, zero, suc, ◌+◌, ◌-◌, ◌*◌, ◌<◌, ◌≤◌, List, [], ◌∷◌, ◌++◌, length, get_or, take, drop, map, All, IsTrue, ap, sym, subst, ◌∙◌, refl, arith, zero-add}
+use Rattle.std.proofs.Common.{◌≡◌, ℕ, suc, ◌+◌, ◌-◌, ◌*◌, ◌<◌, ◌≤◌, List, [], ◌∷◌, ◌++◌, length, get_or, take, drop, map, All, IsTrue, ap, sym, subst, ◌∙◌, refl, arith}
 use Rattle.std.specs.List.{remove, range_with_len, take-map, drop-map}
 use Rattle.std.proofs.lemmas.List.{append-nil, map-append, length-append, take-append-drop}
 use Rattle.std.proofs.lemmas.List.Edits.{length-remove}
 use Rattle.std.proofs.lemmas.List.Elements.{All-append}
 use Rattle.std.proofs.lemmas.List.FromFn.{length-map-range_with_len}
 use Rattle.be_pages.specs.declared.room.Standing.{Standing}
-use Rattle.be_pages.specs.Pages.{is_readable, is_kept, is_held, times, Swaps, IsUnchanged}
+use Rattle.be_pages.specs.Pages.{is_readable, times, IsUnchanged}
 use Rattle.be_tree.specs.declared.slot.Slot.{Slot}
 use Rattle.be_tree.specs.declared.slot.Slot.TheVariants.{At}
 use Rattle.be_tree.specs.Pair.{Pair}
@@ -16,7 +16,7 @@ use Rattle.be_tree.specs.Slot.{pair_of, pairs_of, IsReady}
 use Rattle.be_tree.specs.Tree.{child, pairs_at, pairs_below, pages_below, IsBelow, IsTreeAt, Becomes}
 use Rattle.be_tree.proofs.Frame.{swaps_same, swaps_stands, readable_kept}
 use Rattle.be_tree.proofs.Below.{all_left, all_right}
-use Rattle.be_tree.proofs.Puts.{put_at_item, item_below, item_apart, tree_read, becomes_put}
+use Rattle.be_tree.proofs.Puts.{put_at_item, item_below, item_apart, becomes_put}
 use Rattle.be_tree.proofs.Slots.{item_get, items_count, loaded_pairs, loaded_ready}
 
 out_length : {A : Type 0} (slots more out : List A) (at : ℕ) → at < length slots → out ≡ take at (remove slots at) ++ (more ++ drop at (remove slots at)) → length out + 1 ≡ length slots + length more

@@ -1,10 +1,10 @@
 -- A pair put below a page.
-use Rattle.std.proofs.Common.{◌≡◌, ℕ, zero, suc, ◌+◌, ◌-◌, ◌<◌, ◌≤◌, List, [], ◌∷◌, ◌++◌, length, get_or, take, drop, All, IsTrue, ◌==◌, if◌then◌else◌, ap, sym, subst, ◌∙◌, refl, inl, inr, arith}
+use Rattle.std.proofs.Common.{◌≡◌, ℕ, zero, suc, ◌+◌, ◌-◌, ◌<◌, ◌≤◌, List, [], ◌∷◌, ◌++◌, length, get_or, take, drop, All, IsTrue, ap, sym, subst, ◌∙◌, refl, inl, inr, arith}
 use mathlib.Core.Bool.{false≢true}
 use Rattle.std.specs.List.{flat_map, remove}
 use Rattle.std.specs.declared.cmp.Ordering.TheVariants.{Less, Equal, Greater}
 use Rattle.std.proofs.lemmas.Bool.{cases_eq}
-use Rattle.std.proofs.lemmas.List.{append-nil, append_assoc, length-append, take-append-drop, length-take-le}
+use Rattle.std.proofs.lemmas.List.{append-nil, length-append, take-append-drop, length-take-le}
 use Rattle.std.proofs.lemmas.List.Edits.{length-remove}
 use Rattle.std.proofs.Math.Seq.{take-append_seam, drop-append_seam}
 use Rattle.std.proofs.lemmas.List.Elements.{All-cons}
@@ -16,11 +16,11 @@ use Rattle.be_tree.specs.Pair.{Pair}
 use Rattle.be_tree.specs.Key.{key_cmp, AllAbove, IsRising, IsRank, put, put_before}
 use Rattle.be_tree.specs.Page.{items_of, item_at, place_of}
 use Rattle.std.proofs.lemmas.List.FromFn.{length-map-range_with_len}
-use Rattle.be_tree.specs.Tree.{child, pairs_at, pairs_below, pages_at, pages_below, IsNode, AreShaped, IsBelow, IsTreeAt, Becomes}
-use Rattle.be_tree.proofs.Order.{key_exact, key_total, key_cmp_flip_less, AllAbove_trans, IsRising_right}
-use Rattle.be_tree.proofs.Frame.{times_append, times-cons, times_other, same_page, swaps_after, swaps_fresh, swaps_trans, swaps_stands, readable_kept}
+use Rattle.be_tree.specs.Tree.{child, pairs_at, pairs_below, pages_at, pages_below, AreShaped, IsBelow, IsTreeAt, Becomes}
+use Rattle.be_tree.proofs.Order.{key_exact, key_cmp_flip_less, AllAbove_trans}
+use Rattle.be_tree.proofs.Frame.{times_append, times-cons, times_other, same_page, swaps_fresh, swaps_trans, swaps_stands, readable_kept}
 use Rattle.be_tree.proofs.TreeFacts.{in_three, IsSplit, put_split, inner_split, leaf_split, as_branches, branch_tree}
-use Rattle.be_tree.proofs.Below.{pairs_append, pages_append, times_pages, below_left, below_right}
+use Rattle.be_tree.proofs.Below.{times_pages, below_left, below_right}
 use Rattle.be_tree.proofs.Parts.{becomes_part, all_one}
 
 -- a page has as many items as it says

@@ -1,14 +1,13 @@
 -- The pairs of a rising list from a key on.
-use Rattle.std.proofs.Common.{◌≡◌, ℕ, suc, ◌+◌, ◌-◌, ◌<◌, List, [], ◌∷◌, ◌++◌, length, get_or, take, drop, ap, sym, subst, ◌∙◌, refl, arith, Bool, true, false, not, cond, Some, None, drop-cons, ◌⊎◌, inl, inr}
-use Rattle.std.specs.List.{flat_map, filter, slice_get}
-use Rattle.std.specs.declared.cmp.Ordering.{Ordering}
+use Rattle.std.proofs.Common.{◌≡◌, ℕ, suc, ◌+◌, ◌-◌, ◌<◌, List, [], ◌∷◌, ◌++◌, length, get_or, take, drop, ap, sym, subst, ◌∙◌, refl, arith, Bool, true, false, not, cond, Some, drop-cons}
+use Rattle.std.specs.List.{flat_map, slice_get}
 use Rattle.std.specs.declared.cmp.Ordering.TheVariants.{Less, Equal, Greater}
 use Rattle.std.specs.Ordering.{is_ge, is_gt}
 use Rattle.std.proofs.lemmas.List.Elements.{filter-append}
 use Rattle.std.proofs.lemmas.Bool.{false≢true}
 use Rattle.std.proofs.lemmas.Cmp.{tied_itself}
 use Rattle.be_tree.specs.Pair.{Pair}
-use Rattle.be_tree.specs.Key.{key_cmp, AllBelow, AllAbove, IsRising, IsRank, payload_at}
+use Rattle.be_tree.specs.Key.{key_cmp, AllBelow, AllAbove, IsRising, IsRank}
 use Rattle.be_tree.specs.Range.{is_from, pairs_from, first_from}
 use Rattle.be_tree.proofs.Order.{key_total, key_exact, key_cmp_flip, AllAbove_trans}
 use Rattle.be_tree.proofs.TreeFacts.{IsSplit, flat_map_in_three, leaf_split, as_branches}

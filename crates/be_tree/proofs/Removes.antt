@@ -1,24 +1,20 @@
 -- A key taken out below a page: what a removal stands on.
-use Rattle.std.proofs.Common.{◌≡◌, ℕ, zero, suc, ◌+◌, ◌-◌, ◌<◌, ◌≤◌, List, [], ◌∷◌, ◌++◌, length, get_or, take, drop, All, IsTrue, if◌then◌else◌, ap, sym, subst, ◌∙◌, refl, inl, inr, arith}
+use Rattle.std.proofs.Common.{◌≡◌, ℕ, zero, suc, ◌-◌, ◌<◌, ◌≤◌, List, [], ◌∷◌, ◌++◌, length, get_or, take, drop, All, IsTrue, if◌then◌else◌, ap, sym, subst, ◌∙◌, refl, arith}
 use Rattle.std.specs.List.{flat_map}
 use Rattle.std.specs.Ordering.{is_eq}
 use Rattle.std.specs.declared.cmp.Ordering.TheVariants.{Less, Equal, Greater}
-use Rattle.std.proofs.lemmas.List.{append-nil, append_assoc, drop_more, take_more, take-append-drop}
 use Rattle.std.proofs.lemmas.List.Elements.{All-cons}
-use Rattle.std.proofs.lemmas.List.Concat.{flat_map-append}
 use Rattle.be_pages.specs.declared.room.Standing.{Standing}
-use Rattle.be_pages.specs.Pages.{is_kept, is_readable, times, PageStep, untouched, Swaps}
+use Rattle.be_pages.specs.Pages.{is_readable, untouched}
 use Rattle.be_tree.specs.Pair.{Pair}
 use Rattle.be_tree.specs.Key.{key_cmp, AllAbove, AllBelow, IsRising, IsRank, without}
 use Rattle.be_tree.specs.Page.{item_at, items_of, place_of}
-use Rattle.be_tree.specs.Tree.{child, pairs_at, pairs_below, pages_at, pages_below, least_of_root, IsBelow, IsTreeAt, Becomes}
-use Rattle.be_tree.proofs.Order.{AllAbove_left, AllAbove_right, IsRising_right}
+use Rattle.be_tree.specs.Tree.{child, pairs_at, pairs_below, pages_below, least_of_root, IsBelow, IsTreeAt, Becomes}
+use Rattle.be_tree.proofs.Order.{AllAbove_left, AllAbove_right}
 use Rattle.be_tree.proofs.TreeFacts.{flat_map_in_three, IsSplit, inner_split, leaf_split, as_branches}
-use Rattle.be_tree.proofs.Frame.{readable_kept, swaps_same, swaps_stands}
-use Rattle.be_tree.proofs.Below.{below_left, below_right, times_pages}
+use Rattle.be_tree.proofs.Frame.{readable_kept}
 use Rattle.be_tree.proofs.Roots.{root_some}
 use Rattle.be_tree.proofs.Slots.{item_get, items_count}
-use Rattle.be_tree.proofs.Parts.{becomes_same, becomes_append, back_below, back_pairs}
 
 -- a key out of a list in three parts
 without_above : (k : List ℕ) (xs : List Pair) → AllAbove k xs → without k xs ≡ xs

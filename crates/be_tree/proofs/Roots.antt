@@ -1,5 +1,5 @@
 -- A node that is written as the root of a tree.
-use Rattle.std.proofs.Common.{◌≡◌, ℕ, zero, suc, ◌+◌, ◌-◌, ◌<◌, ◌≤◌, List, [], ◌∷◌, ◌++◌, length, get_or, All, IsTrue, ap, sym, subst, ◌∙◌, refl, inl, inr, arith, cond, ◌==◌, if◌then◌else◌}
+use Rattle.std.proofs.Common.{◌≡◌, ℕ, zero, suc, ◌+◌, ◌≤◌, List, [], ◌∷◌, length, IsTrue, ap, sym, subst, ◌∙◌, inl, inr, arith, cond, ◌==◌, if◌then◌else◌}
 use Rattle.be_pages.specs.declared.room.Standing.{Standing}
 use Rattle.std.proofs.lemmas.Bool.{cases_eq}
 use Rattle.std.proofs.lemmas.Bool.Decides.{nat_tests}

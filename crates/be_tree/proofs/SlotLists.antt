@@ -1,5 +1,5 @@
 -- Lists of slots, from which some were taken.
-use Rattle.std.proofs.Common.{◌≡◌, ℕ, zero, suc, ◌+◌, ◌-◌, ◌<◌, ◌≤◌, List, [], ◌∷◌, ◌++◌, length, get_or, take, drop, map, All, ap, sym, subst, ◌∙◌, refl, arith}
+use Rattle.std.proofs.Common.{◌≡◌, ℕ, suc, ◌+◌, ◌≤◌, List, ◌++◌, length, take, drop, map, All, ap, sym, subst, ◌∙◌, arith}
 use Rattle.std.specs.List.{remove, take-map, drop-map}
 use Rattle.std.proofs.lemmas.List.{map-append, length-append, length-take-le, take_at, drop_at, drop-drop, take-append-drop}
 use Rattle.std.proofs.lemmas.List.Edits.{length-remove}

@@ -1,22 +1,20 @@
 -- Nodes in hand, while pages change.
-use Rattle.std.proofs.Common.{◌≡◌, ◌≢◌, ℕ, zero, suc, ◌+◌, ◌*◌, ◌<◌, ◌≤◌, ◌^◌, List, [], ◌∷◌, ◌++◌, length, get_or, take, drop, map, All, IsTrue, ap, sym, subst, ◌∙◌, refl, inl, inr, arith, zero-add}
+use Rattle.std.proofs.Common.{◌≡◌, ◌≢◌, ℕ, suc, ◌+◌, ◌<◌, ◌≤◌, ◌^◌, List, [], ◌∷◌, length, get_or, map, All, IsTrue, ap, sym, subst, ◌∙◌, refl, arith, zero-add}
 use Rattle.std.specs.List.{range_with_len}
-use Rattle.std.specs.Int.{to_be_bytes, from_be_bytes, w64}
-use Rattle.std.proofs.lemmas.Bool.{cases_eq}
+use Rattle.std.specs.Int.{to_be_bytes, w64}
 use Rattle.std.proofs.lemmas.Nat.{from_be_bytes-to_be_bytes_8}
-use Rattle.std.proofs.lemmas.List.Elements.{All-append, All-cons, All-nil, All-map}
 use Rattle.std.proofs.lemmas.List.FromFn.{get_or-map-range_with_len, length-map-range_with_len}
 use Rattle.std.proofs.lemmas.List.{get_or-map, length-map}
 use Rattle.std.proofs.lemmas.Simd.{map-map}
 use mathlib.Core.Bool.{false≢true}
 use Rattle.be_pages.specs.declared.room.Standing.{Standing}
-use Rattle.be_pages.specs.declared.room.Standing.TheVariants.{Free, Filled}
+use Rattle.be_pages.specs.declared.room.Standing.TheVariants.{Free}
 use Rattle.be_pages.specs.Pages.{is_readable, is_kept, times, Swaps}
 use Rattle.be_tree.specs.declared.slot.Slot.{Slot}
 use Rattle.be_tree.specs.declared.slot.Slot.TheVariants.{At, Branch, New}
 use Rattle.be_tree.specs.Pair.{Pair}
 use Rattle.be_tree.specs.Page.{item_at, items_of, level_of, IsItem, IsPage, place_of}
-use Rattle.be_tree.specs.Tree.{child, pages_below, IsBelow, IsNode, IsWritten}
+use Rattle.be_tree.specs.Tree.{child, IsBelow, IsNode, IsWritten}
 use Rattle.be_tree.proofs.Frame.{swaps_stands, swaps_same, readable_kept}
 use Rattle.be_tree.proofs.Below.{child_page}
 use Rattle.be_tree.specs.Slot.{branch_to, pair_of, pairs_of, IsReady, IsBeside, IsBranchSlot}

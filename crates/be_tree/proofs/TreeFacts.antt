@@ -1,21 +1,19 @@
 -- The branch of a node on the way to a key.
-use Rattle.std.proofs.Common.{◌≡◌, ◌≢◌, ℕ, zero, suc, ◌+◌, ◌-◌, ◌<◌, ◌≤◌, List, [], ◌∷◌, ◌++◌, length, get_or, take, drop, map, All, Some, None, IsTrue, ap, sym, subst, ◌∙◌, refl, inl, inr, if◌then◌else◌, cond, ◌==◌, arith, zero-add, drop-cons}
-use Rattle.std.specs.List.{flat_map, count_by, range_with_len}
-use Rattle.std.specs.declared.cmp.Ordering.TheVariants.{Less, Equal, Greater}
+use Rattle.std.proofs.Common.{◌≡◌, ◌≢◌, ℕ, zero, suc, ◌+◌, ◌-◌, ◌<◌, ◌≤◌, List, [], ◌∷◌, ◌++◌, length, get_or, take, drop, All, Some, None, ap, sym, subst, ◌∙◌, refl, inl, inr, if◌then◌else◌, arith, zero-add, drop-cons}
+use Rattle.std.specs.List.{flat_map, range_with_len}
+use Rattle.std.specs.declared.cmp.Ordering.TheVariants.{Greater}
 use Rattle.std.specs.Ordering.{is_eq}
 use Rattle.std.proofs.lemmas.Bool.{cases_lt}
-use Rattle.std.proofs.lemmas.Bool.Decides.{nat_tests}
-use Rattle.std.proofs.lemmas.List.{take-append-drop, append-nil, map-id, length-take}
+use Rattle.std.proofs.lemmas.List.{take-append-drop, map-id, length-take}
 use Rattle.std.proofs.lemmas.List.Concat.{flat_map-append, flat_map_single}
-use Rattle.std.proofs.lemmas.List.Sums.{sum_by-append, sum_by-cons}
 use Rattle.be_pages.specs.declared.room.Standing.{Standing}
-use Rattle.be_pages.specs.Pages.{is_kept, times}
+use Rattle.be_pages.specs.Pages.{times}
 use Rattle.be_tree.specs.Pair.{Pair}
 use Rattle.be_tree.specs.Key.{key_cmp, AllBelow, AllAbove, IsRising, payload_at, put, StartsAt, IsRank}
 use Rattle.be_tree.specs.Page.{items_of, item_at, bytes_at, place_of, key_len, payload_len, IsItem, IsPage}
 use Rattle.std.proofs.lemmas.List.Elements.{All-map}
 use Rattle.std.proofs.lemmas.List.FromFn.{get_or-range_with_len, length-range_with_len}
-use Rattle.be_tree.specs.Tree.{child, pairs_at, pairs_below, pages_at, pages_below, IsNode, IsBranch, AreShaped, IsBelow, IsTreeAt}
+use Rattle.be_tree.specs.Tree.{child, pairs_at, pages_at, pages_below, IsBelow, IsTreeAt}
 use Rattle.be_tree.proofs.Frame.{times_append, times-cons, times_tail, same_page}
 use Rattle.be_tree.proofs.Order.{AllAbove_right, IsRising_left, IsRising_right, AllBelow_before, AllAbove_from, payload_at_left, payload_at_right, put_left, put_right}
 

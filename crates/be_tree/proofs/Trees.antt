@@ -1,9 +1,7 @@
 -- Several trees of one room, of which one changes.
 use Rattle.std.proofs.Common.{◌≡◌, ℕ, zero, suc, ◌+◌, ◌<◌, ◌≤◌, List, [], ◌∷◌, ◌++◌, length, get_or, All, IsTrue, ap, sym, subst, ◌∙◌, refl, inl, inr, arith}
 use mathlib.Core.Bool.{false≢true}
-use Rattle.std.specs.List.{flat_map}
 use Rattle.std.proofs.lemmas.Bool.{cases_eq}
-use Rattle.std.proofs.lemmas.List.{length-append}
 use Rattle.std.proofs.lemmas.List.Concat.{flat_map-append}
 use Rattle.std.proofs.lemmas.List.Elements.{All-append}
 use Rattle.be_pages.specs.declared.room.Standing.{Standing}

@@ -1,5 +1,5 @@
 -- What a cursor has still to give.
-use Rattle.std.specs.Prelude.{◌≡◌, ℕ, ◌+◌, ◌<◌, ◌≤◌, List, [], ◌∷◌, ◌++◌, length, drop, slice_index_or, All}
+use Rattle.std.specs.Prelude.{ℕ, ◌+◌, ◌<◌, ◌≤◌, List, [], ◌∷◌, ◌++◌, length, drop, slice_index_or, All}
 use Rattle.be_pages.specs.declared.room.Standing.{Standing}
 use Rattle.be_tree.specs.Pair.{Pair}
 use Rattle.be_tree.specs.Page.{items_of}

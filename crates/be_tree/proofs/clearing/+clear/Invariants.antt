@@ -1,4 +1,4 @@
-use Rattle.std.proofs.Common.{◌≡◌, ℕ, ◌+◌, ◌*◌, [], take}
+use Rattle.std.proofs.Common.{◌≡◌, ◌+◌, ◌*◌, [], take}
 use Rattle.be_pages.specs.Pages.{Swaps}
 use Rattle.be_tree.specs.Page.{items_of}
 use Rattle.be_tree.specs.Tree.{pages_below}

@@ -1,4 +1,4 @@
-use Rattle.std.proofs.Common.{◌≡◌, [], sym, subst, refl}
+use Rattle.std.proofs.Common.{[], sym, subst, refl}
 use Rattle.be_pages.specs.Pages.{Swaps}
 use Rattle.be_tree.specs.Tree.{pages}
 use Rattle.be_tree.proofs.Clears.{swaps_none}

@@ -1,4 +1,4 @@
-use Rattle.std.proofs.Common.{◌≡◌, ℕ, ◌+◌, ◌*◌, ◌<◌, ◌∙◌, subst, sym, ap, arith, refl, drop, Bool, true, false, not}
+use Rattle.std.proofs.Common.{◌≡◌, ℕ, ◌+◌, ◌*◌, ◌<◌, ◌∙◌, subst, sym, ap, arith, drop, true, false, not}
 use Rattle.be_tree.specs.Key.{key_cmp}
 use Rattle.be_tree.specs.Page.{items_of, item_at, IsItem}
 use Rattle.be_tree.specs.Range.{is_from, pairs_from}

@@ -1,6 +1,5 @@
 use Rattle.std.specs.Prelude.{IsTrue}
-use Rattle.std.proofs.Common.{◌≡◌, ℕ, suc, [], ◌∷◌, ◌++◌, ◌-◌, ◌+◌, ◌<◌, ◌≤◌, List, get_or, take, drop, ap, sym, subst, ◌∙◌, refl, length, arith, rules}
-use Rattle.std.proofs.lemmas.List.{length-map}
+use Rattle.std.proofs.Common.{◌≡◌, ℕ, suc, [], ◌∷◌, ◌++◌, ◌-◌, ◌+◌, ◌<◌, ◌≤◌, List, take, drop, ap, sym, subst, ◌∙◌, refl, length, arith}
 use Rattle.std.proofs.lemmas.List.FromFn.{length-map-range_with_len}
 use Rattle.be_pages.specs.Pages.{IsUnchanged}
 use Rattle.be_tree.specs.declared.slot.Slot.{Slot}
@@ -8,9 +7,9 @@ use Rattle.be_tree.specs.declared.slot.Slot.TheVariants.{At}
 use Rattle.be_tree.specs.Pair.{Pair}
 use Rattle.be_tree.specs.Key.{IsRank, IsRising, put}
 use Rattle.be_tree.specs.Page.{items_of, item_at, place_of}
-use Rattle.be_tree.specs.Slot.{pair_of, pairs_of}
-use Rattle.be_tree.specs.Tree.{AreNeighbours, child, pairs_at, pairs_below, pages_at, pages_below, Becomes, IsBelow, IsTreeAt}
-use Rattle.be_tree.proofs.Puts.{becomes_beside, branch_child, tree_weaker, becomes_below, becomes_since, becomes_until, child_read, held_after, becomes_trans, rising_put}
+use Rattle.be_tree.specs.Slot.{pairs_of}
+use Rattle.be_tree.specs.Tree.{AreNeighbours, child, pairs_at, pairs_below, pages_below, Becomes, IsBelow}
+use Rattle.be_tree.proofs.Puts.{becomes_beside, tree_weaker, becomes_below, becomes_since, becomes_until, child_read, held_after, becomes_trans, rising_put}
 use Rattle.be_tree.proofs.PutAt.{at_item, key_in, slot_readable, slot_in_page, slot_item, slot_below, slots_count, slots_length, slots_put, slots_ready}
 use Rattle.be_tree.proofs.Children.{page_count, page_is, page_readable, second_changed, second_rising, two_changed}
 use Rattle.be_tree.proofs.Joins.{right_changed, right_in_hand, right_length}

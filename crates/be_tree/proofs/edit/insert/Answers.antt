@@ -1,11 +1,10 @@
-use Rattle.std.proofs.Common.{◌≡◌, ℕ, suc, [], ◌∷◌, ◌+◌, ◌-◌, ◌^◌, List, ap, sym, subst, ◌∙◌, arith}
-use Rattle.std.proofs.lemmas.Result.{IfOk-weaker, on_err_weaker}
+use Rattle.std.proofs.Common.{◌-◌, ◌^◌, List, sym, subst, arith}
 use Rattle.be_pages.specs.Pages.{IsUnchanged}
 use Rattle.be_tree.specs.declared.slot.Slot.{Slot}
 use Rattle.be_tree.specs.Key.{put}
 use Rattle.be_tree.specs.Page.{items_of}
 use Rattle.be_tree.specs.Slot.{pairs_of}
-use Rattle.be_tree.specs.Tree.{child, pages, pairs_at, pages_at, pairs_below, pages_below, IsTreeAt, BecomesTree, least_of_root}
+use Rattle.be_tree.specs.Tree.{pages, pairs_at, pairs_below, pages_below, IsTreeAt, BecomesTree, least_of_root}
 use Rattle.be_tree.proofs.Frame.{swaps_start, start_trans, unchanged_start}
 use Rattle.be_tree.proofs.Puts.{tree_weaker, held_after}
 use Rattle.be_tree.proofs.Parts.{on_err}

@@ -1,4 +1,4 @@
-use Rattle.std.proofs.Common.{suc, [], ◌∷◌, ◌++◌, ◌≡◌, ℕ, List, ap, sym, subst, ◌∙◌}
+use Rattle.std.proofs.Common.{suc, [], ◌∷◌, ◌++◌, ◌≡◌, List, ap, sym, subst, ◌∙◌}
 use Rattle.be_tree.specs.declared.slot.Slot.{Slot}
 use Rattle.be_tree.specs.declared.slot.Slot.TheVariants.{Branch}
 use Rattle.be_tree.specs.Slot.{pairs_of}

@@ -1,4 +1,4 @@
-use Rattle.std.proofs.Common.{◌≡◌, ℕ, List, [], ◌∷◌, sym, subst, length, arith}
+use Rattle.std.proofs.Common.{ℕ, [], ◌∷◌, sym, subst, arith}
 use Rattle.std.proofs.lemmas.List.{length-map}
 use Rattle.be_pages.specs.Pages.{Swaps}
 use Rattle.be_tree.specs.Slot.{branch_to, pair_of, pairs_of}

@@ -1,7 +1,5 @@
-use Rattle.std.proofs.Common.{suc, [], ◌∷◌, ◌++◌, ◌≡◌, ℕ, List, All, IsTrue, ap, sym, subst, ◌∙◌, get_or, length, arith}
+use Rattle.std.proofs.Common.{suc, [], ◌∷◌, ◌++◌, ◌≡◌, List, All, ap, sym, subst, ◌∙◌, arith}
 use Rattle.std.proofs.lemmas.List.{map-append}
-use Rattle.be_pages.specs.Pages.{is_kept}
-use Rattle.be_tree.specs.declared.slot.Slot.{Slot}
 use Rattle.be_tree.specs.Pair.{Pair}
 use Rattle.be_tree.specs.Slot.{branch_to, pair_of, pairs_of, IsReady}
 use Rattle.be_tree.specs.Tree.{pairs_below, pages_below, IsBelow, Becomes}

@@ -1,10 +1,9 @@
-use Rattle.std.proofs.Common.{◌≡◌, ℕ, suc, [], ◌∷◌, ◌+◌, List, All, ap, sym, subst, ◌∙◌, length, arith}
+use Rattle.std.proofs.Common.{◌≡◌, ℕ, suc, [], ◌∷◌, ◌+◌, sym, subst, arith}
 use Rattle.std.proofs.lemmas.List.{length-map}
 use Rattle.std.proofs.lemmas.List.Elements.{All-nil, All-cons}
 use Rattle.be_pages.specs.Pages.{Swaps}
-use Rattle.be_tree.specs.declared.slot.Slot.{Slot}
 use Rattle.be_tree.specs.declared.slot.Slot.TheVariants.{Branch}
-use Rattle.be_tree.specs.Slot.{branch_to, pair_of, pairs_of, IsReady, IsBranchSlot}
+use Rattle.be_tree.specs.Slot.{branch_to, pair_of, pairs_of, IsBranchSlot}
 use Rattle.be_tree.specs.Tree.{child, pairs_below, pages_below, IsWritten, BecomesTree}
 use Rattle.be_tree.proofs.Frame.{swaps_start, start_trans}
 use Rattle.be_tree.proofs.Parts.{on_err}

@@ -1,6 +1,4 @@
-use Rattle.std.proofs.Common.{arith, ◌≡◌, ◌/◌, ◌%◌, ◌+◌, ◌^◌, ap, ◌∙◌, sym}
-use Rattle.std.proofs.lemmas.Grind.{common_steps}
-use Rattle.be_tree.specs.Page.{key_len, payload_len}
+use Rattle.std.proofs.Common.{arith}
 use Rattle.be_tree.proofs.Codec.{item_at_copied}
 use Rattle.be_tree.proofs.page.copy_item.Goals as goal
 

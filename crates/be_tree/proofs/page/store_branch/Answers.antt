@@ -1,7 +1,6 @@
-use Rattle.std.proofs.Common.{arith, ◌≡◌, ℕ, List, ◌/◌, ◌%◌, ◌+◌, ◌*◌, ◌^◌, ◌<◌, ◌++◌, ap, ◌∙◌, sym, length}
-use Rattle.std.specs.Int.{to_be_bytes, w64}
+use Rattle.std.proofs.Common.{arith, ◌≡◌, ℕ, List, ◌/◌, ◌+◌, ◌^◌, ◌++◌, ap, ◌∙◌, sym, length}
 use Rattle.std.proofs.lemmas.Bool.Decides.{nat_tests}
-use Rattle.be_tree.specs.Page.{key_len, payload_len, bytes_at}
+use Rattle.be_tree.specs.Page.{key_len, bytes_at}
 use Rattle.be_tree.specs.Slot.{branch_to}
 use Rattle.be_tree.proofs.Codec.{item_at_stored, key_at}
 use Rattle.be_tree.proofs.page.store_branch.Goals as goal

@@ -1,8 +1,7 @@
-use Rattle.std.proofs.Common.{ℕ, ◌≡◌, ◌≢◌, ◌+◌, ◌<◌, ◌∙◌, ap, sym, subst, inl, inr, get_or, [], arith, length, map}
+use Rattle.std.proofs.Common.{ℕ, ◌≡◌, ◌∙◌, ap, subst, inl, inr, get_or, arith}
 use Rattle.std.proofs.lemmas.List.{get_or_default}
 use Rattle.std.proofs.lemmas.Bool.{cases_lt}
 use Rattle.be_tree.specs.declared.slot.Slot.{Slot}
-use Rattle.be_tree.specs.declared.slot.Slot.TheVariants.{New}
 use Rattle.be_tree.specs.Page.{IsItem, item_at, place_of}
 use Rattle.be_tree.specs.Slot.{pair_of}
 use Rattle.be_tree.proofs.Codec.{item_at_same, IsItem_same}

@@ -1,10 +1,10 @@
-use Rattle.std.proofs.Common.{◌≡◌, ℕ, suc, ◌+◌, ◌≤◌, ◌++◌, ◌∷◌, [], ◌∙◌, List, ap, sym, subst, refl, length, take, drop, map, All, arith}
-use Rattle.std.specs.List.{range_with_len, remove}
+use Rattle.std.proofs.Common.{ℕ, ◌+◌, ◌++◌, ◌∙◌, List, ap, sym, subst, refl, length, take, drop, All, arith}
+use Rattle.std.specs.List.{remove}
 use Rattle.std.proofs.lemmas.List.FromFn.{length-map-range_with_len}
 use Rattle.be_tree.specs.declared.slot.Slot.{Slot}
 use Rattle.be_tree.specs.declared.slot.Slot.TheVariants.{At}
 use Rattle.be_tree.specs.Pair.{Pair}
-use Rattle.be_tree.specs.Page.{items_of, place_of}
+use Rattle.be_tree.specs.Page.{place_of}
 use Rattle.be_tree.specs.Slot.{pair_of, pairs_of, IsReady}
 use Rattle.be_tree.proofs.Slots.{loaded_pairs, loaded_ready}
 use Rattle.be_tree.proofs.SlotLists.{two_mapped, two_all, two_length}

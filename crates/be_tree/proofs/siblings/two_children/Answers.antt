@@ -1,4 +1,4 @@
-use Rattle.std.proofs.Common.{◌≡◌, ℕ, suc, ◌+◌, ◌-◌, ◌∙◌, ap, sym, subst, length, arith}
+use Rattle.std.proofs.Common.{◌≡◌, ℕ, ◌+◌, ◌-◌, ◌∙◌, ap, sym, subst, length, arith}
 use Rattle.be_tree.specs.Page.{item_at, place_of}
 use Rattle.be_tree.specs.Tree.{child}
 use Rattle.be_tree.proofs.Children.{names_page, two_neighbours}

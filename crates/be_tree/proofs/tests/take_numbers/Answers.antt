@@ -1,4 +1,3 @@
-use Rattle.std.proofs.Common.{ℕ}
 use Rattle.be_pages.specs.PagePool.{places}
 use Rattle.be_pages.specs.VecRoom.{standing_in, word_in}
 use Rattle.be_tree.proofs.Trees.{tree_kept}

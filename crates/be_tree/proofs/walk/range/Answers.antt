@@ -1,4 +1,4 @@
-use Rattle.std.proofs.Common.{◌≡◌, ℕ, ap, ◌∙◌}
+use Rattle.std.proofs.Common.{ℕ, ap, ◌∙◌}
 use Rattle.std.specs.List.{slice_get}
 use Rattle.be_tree.specs.Tree.{pairs}
 use Rattle.be_tree.specs.Cursor.{remaining}

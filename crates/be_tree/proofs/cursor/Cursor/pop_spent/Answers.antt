@@ -1,6 +1,5 @@
-use Rattle.std.proofs.Common.{◌≡◌, ℕ, ◌++◌, ◌≤◌, List, length, ap, sym, subst, ◌∙◌, arith}
-use Rattle.be_pages.specs.Pages.{IsUnchanged}
-use Rattle.be_tree.specs.Cursor.{IsPath, pairs_along, pairs_past}
+use Rattle.std.proofs.Common.{ℕ, ◌++◌, ◌≤◌, length, ap, sym, subst, ◌∙◌, arith}
+use Rattle.be_tree.specs.Cursor.{IsPath, pairs_along}
 use Rattle.be_tree.specs.Page.{items_of}
 use Rattle.be_tree.proofs.Cursors.{along_push, path_front, past_end}
 use Rattle.be_tree.proofs.Frame.{unchanged_trans}

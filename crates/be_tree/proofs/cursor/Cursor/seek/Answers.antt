@@ -1,12 +1,11 @@
-use Rattle.std.proofs.Common.{◌≡◌, ℕ, suc, [], ◌∷◌, ◌++◌, ◌+◌, ◌-◌, ◌*◌, ◌<◌, ◌≤◌, List, length, drop, ap, sym, subst, ◌∙◌, arith, append_assoc}
+use Rattle.std.proofs.Common.{◌≡◌, ℕ, suc, [], ◌∷◌, ◌++◌, ◌+◌, ◌-◌, ◌*◌, ◌<◌, ◌≤◌, length, drop, ap, sym, subst, ◌∙◌, arith, append_assoc}
 use Rattle.std.proofs.lemmas.List.{append-nil, length-append}
-use Rattle.be_pages.specs.Pages.{IsUnchanged}
 use Rattle.be_tree.specs.declared.cursor.Place.{Place}
-use Rattle.be_tree.specs.Cursor.{IsPath, IsPlace, pairs_along, pairs_past}
+use Rattle.be_tree.specs.Cursor.{IsPath, pairs_along, pairs_past}
 use Rattle.be_tree.specs.Key.{IsRank}
-use Rattle.be_tree.specs.Page.{items_of, item_at, level_of, IsItem}
+use Rattle.be_tree.specs.Page.{items_of, item_at, IsItem}
 use Rattle.be_tree.specs.Range.{pairs_from}
-use Rattle.be_tree.specs.Tree.{IsTreeAt, child, pairs, pairs_at, least_of_root}
+use Rattle.be_tree.specs.Tree.{IsTreeAt, child, pairs_at, least_of_root}
 use Rattle.be_tree.proofs.Cursors.{along_push, path_push, from_branch, leads_down, LeadsDown, root_pairs}
 use Rattle.be_tree.proofs.Frame.{unchanged_trans}
 use Rattle.be_tree.proofs.Heights.{height}

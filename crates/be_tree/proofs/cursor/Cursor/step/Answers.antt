@@ -1,12 +1,11 @@
-use Rattle.std.proofs.Common.{◌≡◌, ℕ, suc, [], ◌∷◌, ◌++◌, ◌+◌, ◌-◌, ◌*◌, ◌<◌, ◌≤◌, List, length, drop, ap, sym, subst, ◌∙◌, arith, append_assoc}
+use Rattle.std.proofs.Common.{◌≡◌, ℕ, [], ◌∷◌, ◌++◌, ◌+◌, ◌-◌, ◌*◌, ◌<◌, length, drop, ap, sym, subst, ◌∙◌, arith, append_assoc}
 use Rattle.std.specs.List.{slice_get}
 use Rattle.std.proofs.lemmas.List.{length-append}
 use Rattle.be_tree.specs.declared.cursor.Place.{Place}
-use Rattle.be_tree.specs.Cursor.{IsPath, IsPlace, pairs_along, pairs_past}
-use Rattle.be_tree.specs.Pair.{Pair}
+use Rattle.be_tree.specs.Cursor.{IsPath, pairs_along, pairs_past}
 use Rattle.be_tree.specs.Page.{items_of, item_at}
 use Rattle.be_tree.specs.Tree.{IsTreeAt, child, pairs_at, pairs_below}
-use Rattle.be_tree.proofs.Cursors.{along_push, path_push, leads_down, LeadsDown, leaf_step}
+use Rattle.be_tree.proofs.Cursors.{along_push, path_push, leads_down, leaf_step}
 use Rattle.be_tree.proofs.Frame.{unchanged_trans}
 use Rattle.be_tree.proofs.Slots.{items_count}
 use Rattle.be_tree.proofs.cursor.Cursor.step.Given.{Over}
