@@ -5,7 +5,7 @@ use Rattle.std.specs.List.{list_all}
 use Rattle.std.specs.Option.{option_map_or}
 use Rattle.be_query.specs.Grammar.{Formula, comparisons}
 use Rattle.be_query.specs.Printing.{leaf_text}
-use Rattle.be_plan.specs.Cover.{Comparison, leaves}
+use Rattle.be_plan.specs.Cover.{leaves}
 use Rattle.be_plan.specs.declared.plans.Cover.{Cover}
 
 -- each pick is the place of a comparison

@@ -436,13 +436,19 @@ new";
     Ok(())
 }
 
-/// A text longer than any value's bounds a walk by the bytes that a value may have, and a pattern of more literal bytes leaves out all keys.
-#[test]
-fn bounds_of_long_texts(rt: HostRuntime) -> Result<(), Fail> {
-    let alloc = rt.alloc();
+/// The lines of a volume of texts of 255 bytes, and requests with longer ones.
+fn long_texts(alloc: Global) -> Result<(String, String), Refusal> {
     let m = "m".repeat(alloc, 254)?;
     let lines = format!(in alloc;
-        "mkindex t CSTR\nnew\nnew\nnew\nnew\nset 1 t CSTR a\nset 2 t CSTR {m}m\nset 3 t CSTR {m}n\nset 4 t CSTR z"
+        "mkindex t CSTR
+new
+new
+new
+new
+set 1 t CSTR a
+set 2 t CSTR {m}m
+set 3 t CSTR {m}n
+set 4 t CSTR z"
     )?;
     let requests = format!(in alloc;
         "0 t>={m}mm => nodes 3 4 asks ttt
@@ -452,7 +458,19 @@ fn bounds_of_long_texts(rt: HostRuntime) -> Result<(), Fail> {
 0 t=={m}m => nodes 2 asks tt
 0 t==\"{m}m*\" => nodes 2 asks tt
 0 t=={m}mm => nodes asks t
-0 t==\"{m}mm*\" => nodes asks t\n0 t==\"{m}{m}*\" => nodes asks t"
+0 t==\"{m}mm*\" => nodes asks t
+0 t==\"{m}{m}*\" => nodes asks t"
     )?;
+    Ok((lines, requests))
+}
+
+/// A text longer than any value's bounds a walk by the bytes that a value may have, and a pattern of more literal bytes leaves out all keys.
+#[test]
+fn bounds_of_long_texts(rt: HostRuntime) -> Result<(), Fail> {
+    let alloc = rt.alloc();
+    let (lines, requests) = match long_texts(alloc) {
+        Err(Refusal::OutOfMemory) => long_texts(alloc)?,
+        texts => texts?,
+    };
     replies(alloc, &volume_of(alloc, lines.as_str())?, requests.as_str())
 }

@@ -1,4 +1,4 @@
-use Rattle.std.proofs.Common.{◌≡◌, List, ℕ, Some, true, false, IsTrue, sym, subst, ap, ◌∙◌}
+use Rattle.std.proofs.Common.{◌≡◌, List, ℕ, true, false, IsTrue, sym, subst, ◌∙◌}
 use Rattle.be_value.specs.Value.{is_indexable}
 use Rattle.be_value.specs.declared.values.Kind.{Kind}
 use Rattle.be_volume.specs.Keys.{IsKey}

@@ -1,10 +1,10 @@
-use Rattle.std.proofs.Common.{◌≡◌, ◌<◌, ℕ, true, length, slice_index, sym, ap, subst, ◌∙◌, arith, rules}
+use Rattle.std.proofs.Common.{◌≡◌, ◌<◌, ℕ, length, slice_index, sym, ap, subst, ◌∙◌, arith, rules}
 use borrow.Author.Count.{below_more}
 use Rattle.be_query.specs.View.{formula}
 use Rattle.be_volume.specs.Query.{scan, has_index}
 use Rattle.be_plan.specs.Cover.{rests_on}
 use Rattle.be_plan.specs.Walk.{HasReached}
-use Rattle.be_plan.proofs.Answering.{scanned, at_place, pick_place, some_pick, covers_parts}
+use Rattle.be_plan.proofs.Answering.{scanned, at_place, pick_place, covers_parts}
 use Rattle.be_plan.proofs.running.run.Goals as goal
 
 pub walk_pick-requires : goal.walk_pick-requires
