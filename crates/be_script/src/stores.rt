@@ -1,6 +1,6 @@
 //! What serves a script.
 //!
-//! A script's lines need six calls. [`Server`] names them, and tells by one ghost member what they are answered from: a
+//! A script's lines need five calls. [`Server`] names them, and tells by one ghost member what they are answered from: a
 //! journal, the volume that it stands for, and the limit on its entries. What runs scripts is proved over that trait, so
 //! it holds for whatever serves. [`PlainStore`] is a volume with its journal on one thread.
 ghost use Rattle.std.specs.Prelude.{◌≡◌, ◌≤◌, ◌<◌, ◌+◌, ◌^◌, Ok, length};

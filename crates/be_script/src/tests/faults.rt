@@ -18,7 +18,7 @@ const REPLIES: &str =
 
 /// Gives its bytes one at a time, then fails where it is to, and counts its reads.
 #[derive(Drop)]
-pub struct Dripping<'a> {
+struct Dripping<'a> {
     bytes: &'a [u8],
     fails: bool,
     reads: usize,
