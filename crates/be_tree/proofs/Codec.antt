@@ -92,12 +92,6 @@ item_at_stored words at item header small bytes =
     pair_same : {a b c d : List ℕ} → a ≡ c → b ≡ d → ◌≡◌ {A = Pair} (record { key = a; payload = b }) (record { key = c; payload = d })
     pair_same p q = cc
 
-pub IsItem_stored : (words : ℕ → ℕ) (at k p : ℕ) → words at ≡ k * 2 ^ 32 + p → p < 2 ^ 32 → k ≤ 264 → k + p ≤ 328 → IsItem words at
-IsItem_stored words at k p header small key_fits fits =
-    let ek : key_len words at ≡ k = ap (λ (h : ℕ). h / 2 ^ 32) header ∙ div-mul-add k (2 ^ 32) p small in
-    let ep : payload_len words at ≡ p = ap (λ (h : ℕ). h % 2 ^ 32) header ∙ mod-mul-add k (2 ^ 32) p small in
-    record { key_fits = omega arith; fits = omega arith }
-
 -- an item whose header and used words were copied from another place
 pub item_at_copied : (v w : ℕ → ℕ) (from at : ℕ) → w at ≡ v from → ((j : ℕ) → j < words_for (key_len v from + payload_len v from) → w (at + 1 + j) ≡ v (from + 1 + j)) → item_at w at ≡ item_at v from
 unfolding item_at

@@ -6,14 +6,14 @@ use Rattle.be_pages.specs.declared.room.Standing.{Standing}
 use Rattle.be_tree.specs.declared.cursor.Place.{Place}
 use Rattle.be_tree.specs.Pair.{Pair}
 use Rattle.be_tree.specs.Key.{IsRank}
-use Rattle.be_tree.specs.Page.{items_of, item_at, level_of, place_of, IsItem}
+use Rattle.be_tree.specs.Page.{items_of, item_at, level_of, place_of}
 use Rattle.be_tree.specs.Tree.{child, pairs, pairs_at, pairs_below, IsTreeAt}
 use Rattle.be_tree.specs.Cursor.{pairs_past, pairs_along, IsPlace, IsPath}
 use Rattle.be_tree.specs.Range.{pairs_from}
 use Rattle.be_tree.proofs.Slots.{item_get, items_count}
 use Rattle.be_tree.proofs.TreeFacts.{branch_tree, inner_split}
 use Rattle.be_tree.proofs.Puts.{tree_weaker}
-use Rattle.be_tree.proofs.Below.{all_left, all_right}
+use Rattle.be_tree.proofs.Below.{all_left}
 use Rattle.be_tree.proofs.Ranges.{from_split}
 
 -- a path with one more place gives what stands past it first
@@ -48,15 +48,6 @@ module _ (standing : ℕ → Standing) (words : ℕ → ℕ → ℕ) (path : Lis
     short = λ i d lt. subst (λ (p : Place). p.level + i ≤ 13) (get_or_append_left path (place ∷ []) d i lt) (is_path.short i d (omega (arith, lt, length-append path (place ∷ []))));
   }
 
-  pub path_last : IsPath standing words (path ++ place ∷ []) → IsPlace standing words place
-  path_last is_path = all_right (IsPlace standing words) path (place ∷ []) is_path.places 0 place (omega arith)
-
-  pub path_short : IsPath standing words (path ++ place ∷ []) → place.level + length path ≤ 13
-  path_short is_path =
-      let e : length path + 0 ≡ length path = omega arith in
-      let last = is_path.short (length path + 0) place (omega (arith, length-append path (place ∷ []))) in
-      omega (arith, subst (λ (p : Place). p.level + (length path + 0) ≤ 13) (get_or-append-add path (place ∷ []) 0 place) last)
-
 -- nothing stands past a place at its page's end
 pub past_end : (words : ℕ → ℕ → ℕ) (place : Place) → length (items_of (words place.page)) ≤ place.next → pairs_past words place ≡ []
 past_end words place end = ap (λ xs. pairs_below place.level words xs) (nothing_past (items_of (words place.page)) place.next end) ∙ none place.level
@@ -78,12 +69,6 @@ module _ (standing : ℕ → Standing) (words : ℕ → ℕ → ℕ) (level leas
 
   is_here : get_or (items_of (words page)) next (item_at (words page) (place_of next)) ≡ item_at (words page) (place_of next)
   is_here = item_get (words page) next (item_at (words page) (place_of next)) lt
-
-  pub item_fits : IsItem (words page) (place_of next)
-  item_fits = tree.node.is_page.each next lt
-
-  pub place_fits : place_of next + 42 ≤ 512
-  place_fits = omega (arith, lt, tree.node.is_page.few)
 
   pub at_rest : drop next (items_of (words page)) ≡ item_at (words page) (place_of next) ∷ drop (next + 1) (items_of (words page))
   at_rest =

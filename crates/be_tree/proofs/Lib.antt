@@ -12,7 +12,6 @@ mod Roots
 mod Removes
 mod Rests
 mod SlotLists
-mod Writes
 pub mod Levels
 mod Neighbours
 mod Children

@@ -1,11 +1,10 @@
 -- A pair put below a page.
-use Rattle.std.proofs.Common.{◌≡◌, ℕ, zero, suc, ◌+◌, ◌-◌, ◌<◌, ◌≤◌, List, [], ◌∷◌, ◌++◌, length, get_or, take, drop, All, IsTrue, ap, sym, subst, ◌∙◌, refl, inl, inr, arith}
+use Rattle.std.proofs.Common.{◌≡◌, ℕ, zero, suc, ◌-◌, ◌<◌, ◌≤◌, List, [], ◌∷◌, ◌++◌, length, get_or, take, drop, All, IsTrue, ap, sym, subst, ◌∙◌, refl, inl, inr, arith}
 use mathlib.Core.Bool.{false≢true}
 use Rattle.std.specs.List.{flat_map, remove}
 use Rattle.std.specs.declared.cmp.Ordering.TheVariants.{Less, Equal, Greater}
 use Rattle.std.proofs.lemmas.Bool.{cases_eq}
-use Rattle.std.proofs.lemmas.List.{append-nil, length-append, take-append-drop, length-take-le}
-use Rattle.std.proofs.lemmas.List.Edits.{length-remove}
+use Rattle.std.proofs.lemmas.List.{append-nil, length-take-le}
 use Rattle.std.proofs.Math.Seq.{take-append_seam, drop-append_seam}
 use Rattle.std.proofs.lemmas.List.Elements.{All-cons}
 use Rattle.std.proofs.lemmas.Bool.Decides.{nat_tests}
@@ -14,18 +13,13 @@ use Rattle.be_pages.specs.declared.room.Standing.TheVariants.{Free, Old, GivenUp
 use Rattle.be_pages.specs.Pages.{is_kept, is_held, times, after_give_up, PageStep, untouched, unused, fresh, given_old, given_new, stays_old, stays_new, Swaps, StandsAt, IsUnchanged}
 use Rattle.be_tree.specs.Pair.{Pair}
 use Rattle.be_tree.specs.Key.{key_cmp, AllAbove, IsRising, IsRank, put, put_before}
-use Rattle.be_tree.specs.Page.{items_of, item_at, place_of}
-use Rattle.std.proofs.lemmas.List.FromFn.{length-map-range_with_len}
+use Rattle.be_tree.specs.Page.{items_of}
 use Rattle.be_tree.specs.Tree.{child, pairs_at, pairs_below, pages_at, pages_below, AreShaped, IsBelow, IsTreeAt, Becomes}
 use Rattle.be_tree.proofs.Order.{key_exact, key_cmp_flip_less, AllAbove_trans}
 use Rattle.be_tree.proofs.Frame.{times_append, times-cons, times_other, same_page, swaps_fresh, swaps_trans, swaps_stands, readable_kept}
 use Rattle.be_tree.proofs.TreeFacts.{in_three, IsSplit, put_split, inner_split, leaf_split, as_branches, branch_tree}
 use Rattle.be_tree.proofs.Below.{times_pages, below_left, below_right}
 use Rattle.be_tree.proofs.Parts.{becomes_part, all_one}
-
--- a page has as many items as it says
-pub items_length : (words : ℕ → ℕ) → length (items_of words) ≡ words 1
-items_length words = length-map-range_with_len (λ (j : ℕ). item_at words (place_of j)) 0 (words 1)
 
 -- a put keeps the order
 above_put : (k : List ℕ) (pair : Pair) (xs : List Pair) → key_cmp pair.key k ≡ Greater → AllAbove k xs → AllAbove k (put pair xs)
@@ -254,10 +248,6 @@ module _ {S K : Type 0} (kept_of : S → K) (standing_of : S → ℕ → Standin
       times_pages level (words_of read) (take at items) (item ∷ drop (suc at) items) page,
       times_pages level (words_of read) (item ∷ []) (drop (suc at) items) page,
     )
-
-    pub put_lengths : (us out : List Pair) → out ≡ take at rest ++ (us ++ drop at rest) → length out + 1 ≡ length items + length us
-    put_lengths us out put =
-        omega (arith, ap length put, length-append (take at rest) (us ++ drop at rest), length-append us (drop at rest), ap length (take-append-drop at rest), length-append (take at rest) (drop at rest), ap length removed, length-remove items at parts.in_range)
 
     pub becomes_put : (us out : List Pair) (mid : S) → Becomes kept_of standing_of words_of (pages_below level (words_of read) (item ∷ [])) (put pair (pairs_below level (words_of read) (item ∷ []))) level us read mid
         → out ≡ take at rest ++ (us ++ drop at rest)

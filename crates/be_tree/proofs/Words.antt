@@ -72,14 +72,6 @@ bytes_cmp i (suc r) (suc k) a b x y e high =
     by_byte u v p q top (inr ge) (inr ne) less more same =
         ap (λ o. ordering_then o u) (more_cmp (p % 256) (q % 256) (omega (arith, ge, ne))) ∙ sym (ap (λ o. ordering_then o v) (more_cmp (a / 256 ^ i) (b / 256 ^ i) (more (omega (arith, ge, ne, top)))))
 
--- whole words
-pub word_cmp : (a b : ℕ) (x y : List ℕ) → a < 2 ^ 64 → b < 2 ^ 64 → slice_cmp nat_cmp (to_be_bytes w64 a ++ x) (to_be_bytes w64 b ++ y) ≡ ordering_then (nat_cmp a b) (slice_cmp nat_cmp x y)
-word_cmp a b x y la lb =
-    bytes_cmp 0 8 8 a b x y refl (div_same a b la lb) ∙ ap (λ o. ordering_then o (slice_cmp nat_cmp x y)) (ap2 (div-one a) (div-one b))
-  where
-    ap2 : {p q s t : ℕ} → p ≡ s → q ≡ t → nat_cmp p q ≡ nat_cmp s t
-    ap2 p q = cc
-
     div_same : (a b : ℕ) → a < 2 ^ 64 → b < 2 ^ 64 → a / 256 ^ 8 ≡ b / 256 ^ 8
     div_same a b la lb = omega (arith, la, lb)
 

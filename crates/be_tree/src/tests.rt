@@ -86,7 +86,10 @@ fn full_tree(rt: HostRuntime) -> Result<(), Fail> {
     let mut room = room_of(rt.alloc(), 8)?;
     let (root, accepted) = put_numbers(&mut room, 0, 0, 61);
     assert!(rt; accepted >= 20 && accepted < 61);
-    assert_eq!(rt; put_number(&mut room, root, accepted), Err(Refusal::Full(0)));
+    assert_eq!(rt;
+        put_number(&mut room, root, accepted),
+        Err(Refusal::Full(0))
+    );
     assert!(rt; finds(&mut room, root, accepted));
     assert!(rt; ranges(&mut room, root, accepted));
     Ok(())
