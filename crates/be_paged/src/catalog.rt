@@ -86,3 +86,36 @@ pub(crate) fn read_payload(bytes: &[u8]) -> Option<Value>
         _ => None,
     }
 }
+
+/// The payload of a value.
+pub(crate) fn payload_of(value: &Value) -> ArrayVec<u8, 264>
+    ensures payload { result.items ≡ payload value.now }
+    ensures short { length result.items ≤ 256 }
+    ensures valid { IsValue value.now }
+{
+    let mut bytes = ArrayVec::new();
+    bytes.push(value.kind().number());
+    match value {
+        Value::Cstr(text) | Value::Mims(text) => {
+            bytes
+                .try_extend_from_slice(text.as_str().as_bytes())
+                .unwrap();
+        }
+        Value::Long(n) => {
+            bytes.try_extend_from_slice(&n.to_be_bytes()).unwrap();
+        }
+        Value::Llng(n) => {
+            bytes.try_extend_from_slice(&n.to_be_bytes()).unwrap();
+        }
+        Value::Rawt(raw) => {
+            bytes.try_extend_from_slice(raw.as_slice()).unwrap();
+        }
+        Value::Ulng(n) => {
+            bytes.try_extend_from_slice(&n.to_be_bytes()).unwrap();
+        }
+        Value::Ullg(n) => {
+            bytes.try_extend_from_slice(&n.to_be_bytes()).unwrap();
+        }
+    }
+    bytes
+}

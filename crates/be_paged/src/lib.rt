@@ -14,11 +14,19 @@
 //! the pages that the old version has and the new one lacks, and the other way round.
 #![tactic(auto)]
 
+mod attributes;
 mod catalog;
+mod changes;
+mod edits;
 mod entries;
+mod facts;
 mod first;
+mod paged_source;
 mod reading;
 mod version;
+mod writes;
 
 pub use first::first_page;
-pub use reading::get;
+pub use paged_source::{PagedSource, source};
+pub use reading::{attrs, get, indices};
+pub use writes::apply;

@@ -1,5 +1,7 @@
 //! Version pages, read and written.
-ghost use Rattle.std.specs.Prelude.{◌≡◌, ◌≢◌, ℕ, ◌+◌, ◌≤◌, ◌<◌, IsTrue};
+ghost use Rattle.std.specs.Prelude.{◌≡◌, ◌≢◌, ℕ, ◌+◌, ◌≤◌, ◌<◌, All, IsTrue, Ok};
+ghost use Rattle.be_value.specs.Name.{name_from};
+ghost use Rattle.be_volume.specs.Sound.{IsName};
 ghost use Rattle.be_pages.specs.Pages.{is_readable, is_taken, IsUnchanged, OnlyWrites, StandsAt};
 ghost use Rattle.be_pages.specs.declared.room.Standing.TheVariants.{Filled};
 ghost use Rattle.be_paged.specs.Page.{kind_numbered as kind_of_number, entry_at, contents, contents_of, IsEntry, IsVersionPage};
@@ -95,5 +97,44 @@ pub(crate) fn load_version<L: Look>(look: &mut L, page: u64) -> Version
         next,
         catalog,
         entries,
+    }
+}
+
+/// Writes an index at a place, of a page that has a word filled.
+#[tactic(auto, unfolding(crate::specs::Page::entry_at))]
+fn store_entry<R: Room>(room: &mut R, page: u64, at: usize, entry: &Entry)
+    requires filled { R.standing room.old page ≡ Filled }
+    requires in_page { at + 42 ≤ 512 }
+    requires open { IsTrue (R.is_open (R.kept room.old)) }
+    ensures entry { entry_at (R.words room.new page) at ≡ entry.now }
+    ensures named { name_from entry.now.name ≡ Ok entry.now.name }
+    ensures short { R.words room.new page at ≤ 63 }
+    ensures kind { (1 ≤ R.words room.new page (at + 9)) × (R.words room.new page (at + 9) ≤ 7) }
+    ensures only { OnlyWrites R.kept R.standing R.words page at (at + 42) room.old room.new }
+{
+    let name = entry.name.as_str().as_bytes();
+    room.fill(page, at, name.len() as u64);
+    store_bytes(room, page, at + 1, name);
+    room.fill(page, at + 9, kind_number(entry.kind));
+    room.fill(page, at + 10, entry.root);
+}
+
+/// Writes a version page that was taken: the words that it uses, and no others.
+pub(crate) fn store_version<R: Room>(room: &mut R, page: u64, version: &Version)
+    requires taken { IsTrue (is_taken (R.standing room.old page)) }
+    requires named { All (λ e. IsName e.name) version.now.entries.items }
+    requires open { IsTrue (R.is_open (R.kept room.old)) }
+    ensures contents { contents_of (R.words room.new page) ≡ contents version.now }
+    ensures page { IsVersionPage (R.words room.new page) }
+    ensures standing { StandsAt (R.standing room.old) (R.standing room.new) page Filled }
+    ensures others { (q : ℕ) → q ≢ page → R.words room.new q ≡ R.words room.old q }
+    ensures kept { R.kept room.new ≡ R.kept room.old }
+{
+    room.fill(page, 0, 255);
+    room.fill(page, 1, version.entries.len() as u64);
+    room.fill(page, 2, version.next);
+    room.fill(page, 3, version.catalog);
+    for i in 0..version.entries.len() {
+        store_entry(room, page, 4 + 11 * i, &version.entries[i]);
     }
 }
