@@ -1,5 +1,5 @@
 -- An index that is made, and one that is removed, among the entries of a version.
-use Rattle.std.proofs.Common.{◌≡◌, ℕ, zero, suc, ◌+◌, ◌<◌, ◌≤◌, Bool, true, false, cond, not, List, [], ◌∷◌, ◌++◌, length, map, take, drop, get_or, All, IsTrue, Some, None, Ok, Err, ap, sym, subst, ◌∙◌, refl, arith, is_some, nat_le, T, ◌&&◌}
+use Rattle.std.proofs.Common.{◌≡◌, ℕ, zero, suc, ◌+◌, ◌<◌, ◌≤◌, Bool, true, false, cond, not, List, [], ◌∷◌, ◌++◌, length, map, take, drop, get_or, All, IsTrue, Some, None, Ok, Err, ap, sym, subst, ◌∙◌, refl, arith, is_some, nat_le, T, ◌&&◌, IsOk}
 use Rattle.std.proofs.lemmas.Bool.Decides.{nat_tests}
 use Rattle.std.proofs.lemmas.List.{map-append}
 use Rattle.std.proofs.lemmas.List.Elements.{All-append}
@@ -23,16 +23,20 @@ use Rattle.be_value.specs.declared.values.Value.{Value}
 use Rattle.be_volume.specs.Indices.{Indices}
 use Rattle.be_volume.specs.Maps.{name_cmp}
 use Rattle.be_volume.specs.Sound.{IsName}
-use Rattle.be_volume.specs.Volume.{State}
+use Rattle.be_volume.specs.Volume.{State, step}
+use Rattle.be_volume.specs.declared.ops.Done.TheVariants.{Unit as Nothing}
+use Rattle.be_volume.specs.declared.ops.Op.TheVariants.{MkIndex, RmIndex}
+use Rattle.be_volume.proofs.StepLemmas.{made, accepted}
 use Rattle.be_volume.specs.declared.maps.Index.{Index}
 use Rattle.be_volume.proofs.MapLemmas.{names_total, exact_names}
 use Rattle.be_paged.specs.declared.version.Entry.{Entry}
 use Rattle.be_paged.specs.Page.{Contents, IsNamedAt, IsGapAt, roots}
 use Rattle.be_paged.specs.Catalog.{IsPairOf}
 use Rattle.be_paged.specs.Version.{IsEntryOf, AreEntriesOf, IsInHand, Spells}
-use Rattle.be_paged.specs.Changes.{Changes}
+use Rattle.be_paged.specs.Changes.{Changes, Steps}
 use Rattle.be_paged.proofs.Composing.{swaps_none}
-use Rattle.be_paged.proofs.Indexing.{gap_entries, inserted_pages, inserted_all, inserted_roots}
+use Rattle.be_paged.proofs.Stepping.{stepped_is}
+use Rattle.be_paged.proofs.Indexing.{entries_len, named_found, gap_none, gap_entries, inserted_pages, inserted_all, inserted_roots}
 use Rattle.be_tree.proofs.Trees.{trees_in_use}
 
 abbrev pub new_index : Kind → Index
@@ -195,3 +199,43 @@ named_gone w (e ∷ es) (x ∷ is) name (suc i) h sorted at =
 
 pub gone_entries : (w : ℕ → ℕ → ℕ) (es : List Entry) (m : Indices) (name : List ℕ) (i : ℕ) → AreEntriesOf w es (fin.entries m) → IsNamedAt es name i → AreEntriesOf w (take i es ++ drop (suc i) es) (fin.entries (fin.remove m name))
 gone_entries w es m name i h at = subst (AreEntriesOf w (take i es ++ drop (suc i) es)) (sym (entries_without m name)) (named_gone w es (fin.entries m) name i h (fin.entries_sorted m) at)
+
+-- what an accepted operation on an index found
+pub made_steps : (w : ℕ → ℕ → ℕ) (c : Contents) (volume : State) (name : List ℕ) (kind : Kind) (i : ℕ) (entry : Entry) → Spells w c volume → IsOk (step volume (MkIndex name kind)) → IsGapAt c.entries name i
+    → entry.name ≡ name → entry.kind ≡ kind → entry.root ≡ 0 → Steps w (with_entry c i entry) volume (MkIndex name kind) Nothing
+made_steps w c volume name kind i entry spells ok at n k r = record {
+  made = made volume (MkIndex name kind);
+  stepped = stepped_is volume (MkIndex name kind) ok;
+  spells = made_spells w c volume name kind i entry spells at n k r;
+}
+
+never : {A : Type 0} → true ≡ false → A
+never e = cc
+
+pub not_there : {A : Type 0} (w : ℕ → ℕ → ℕ) (c : Contents) (volume : State) (name : List ℕ) (kind : Kind) (i : ℕ) → Spells w c volume → IsOk (step volume (MkIndex name kind)) → IsNamedAt c.entries name i → A
+not_there w c volume name kind i spells ok at =
+    let found = (accepted volume (MkIndex name kind) ok).found in
+    never (sym (ap is_some (fin.get-entries volume.indices name ∙ (named_found w c.entries (fin.entries volume.indices) name i spells.indices at).found)) ∙ found.0)
+
+pub not_full : {A : Type 0} (w : ℕ → ℕ → ℕ) (c : Contents) (volume : State) (name : List ℕ) (kind : Kind) → Spells w c volume → IsOk (step volume (MkIndex name kind)) → 32 ≤ length c.entries → A
+not_full w c volume name kind spells ok many =
+    let found = (accepted volume (MkIndex name kind) ok).found in
+    let count : fin.len volume.indices ≡ length c.entries = fin.len-entries volume.indices ∙ sym (entries_len w c.entries (fin.entries volume.indices) spells.indices) in
+    let full : nat_le 32 (fin.len volume.indices) ≡ true = ap (nat_le 32) count ∙ grind (arith, nat_tests, many) in
+    never (sym full ∙ found.1)
+
+pub is_there : {A : Type 0} (w : ℕ → ℕ → ℕ) (c : Contents) (volume : State) (name : List ℕ) (i : ℕ) → Spells w c volume → IsOk (step volume (RmIndex name)) → IsGapAt c.entries name i → A
+is_there w c volume name i spells ok at =
+    let found = (accepted volume (RmIndex name) ok).found in
+    never (sym found ∙ ap is_some (fin.get-entries volume.indices name ∙ gap_none w c.entries (fin.entries volume.indices) name i spells.indices (fin.entries_sorted volume.indices) at))
+
+pub gone_steps : (v w : ℕ → ℕ → ℕ) (c : Contents) (volume : State) (name : List ℕ) (i : ℕ) → w ≡ v → Spells v c volume → IsOk (step volume (RmIndex name)) → IsNamedAt c.entries name i
+    → Steps w (record { next = c.next; catalog = c.catalog; entries = take i c.entries ++ drop (suc i) c.entries }) volume (RmIndex name) Nothing
+gone_steps v w c volume name i same spells ok at =
+    let left : Contents = record { next = c.next; catalog = c.catalog; entries = take i c.entries ++ drop (suc i) c.entries } in
+    record {
+      made = made volume (RmIndex name);
+      stepped = stepped_is volume (RmIndex name) ok;
+      spells = subst (λ (u : ℕ → ℕ → ℕ). Spells u left (made volume (RmIndex name))) (sym same)
+          (record { next = spells.next; catalog = spells.catalog; indices = gone_entries v c.entries volume.indices name i spells.indices at });
+    }

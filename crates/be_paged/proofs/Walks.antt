@@ -2,7 +2,7 @@
 use Rattle.std.proofs.Common.{◌≡◌, ℕ, zero, suc, ◌+◌, ◌<◌, ◌≤◌, ◌^◌, Bool, true, false, cond, List, [], ◌∷◌, ◌++◌, length, map, take, drop, get_or, All, Some, None, inl, inr, ap, sym, subst, ◌∙◌, refl, arith, T, ◌&&◌}
 use Rattle.std.specs.Int.{to_be_bytes, w64}
 use Rattle.std.specs.List.{slice_get}
-use Rattle.std.specs.Option.{option_map}
+use Rattle.std.specs.Option.{option_map, IfSome}
 use Rattle.std.specs.Ordering.{is_eq, is_lt, eq_by_cmp, ordering_reverse}
 use Rattle.std.specs.Cmp.{tied_itself}
 use Rattle.std.specs.declared.cmp.Ordering.{Ordering}
@@ -177,3 +177,14 @@ one_listed {A} es list i x listed some =
 pub cursor_since : (s t : ℕ → Standing) (v w : ℕ → ℕ → ℕ) (cursor : Cursor) → t ≡ s → w ≡ v → IsCursor s v cursor → IsCursor t w cursor
 cursor_since s t v w cursor standing words h =
     subst (λ (u : ℕ → Standing). IsCursor u w cursor) (sym standing) (subst (λ (x : ℕ → ℕ → ℕ). IsCursor s x cursor) (sym words) h)
+
+-- what holds anyway holds of an answer
+pub always : {A P : Type 0} (r : Option A) → P → IfSome r (λ _. P)
+always None p = tt
+always (Some x) p = p
+
+pub some_same : (a b : Pair) → Some a ≡ Some b → a ≡ b
+some_same a b e = cc
+
+pub none_some : {A : Type 0} (x : Pair) → None ≡ Some x → A
+none_some x e = cc

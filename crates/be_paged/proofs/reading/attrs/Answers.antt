@@ -1,4 +1,4 @@
-use Rattle.std.proofs.Common.{◌≡◌, ℕ, ◌∙◌, ap, sym, subst, Ok}
+use Rattle.std.proofs.Common.{◌≡◌, ℕ, ◌∙◌, inr, ap, sym, subst, Ok}
 use Rattle.std.specs.FinMap as fin
 use Rattle.be_tree.specs.Key.{payload_at}
 use Rattle.be_tree.specs.Tree.{pairs}
@@ -12,7 +12,7 @@ returns-then-not-has_key-clause-answer g c = λ volume version.
     let root = subst (λ (r : ℕ). IsCatalog (pairs (g.L.Look.words c.args.look.now) r) volume.nodes) (sym c.word-catalog.ensures.value) version.spells.catalog in
     let catalog = subst (λ (w : ℕ → ℕ → ℕ). IsCatalog (pairs w c.word-catalog.result) volume.nodes) (sym c.word-catalog.ensures.words) root in
     let there = node_there (pairs (g.L.Look.words c.word-catalog.new.self) c.word-catalog.result) volume.nodes c.args.node c.to_be_bytes.result catalog c.ranges.node.fits c.to_be_bytes.ensures in
-    attributes_none volume c.args.node (sym there ∙ sym c.has_key.ensures.found ∙ c.if-not-has_key.true)
+    inr (attributes_none volume c.args.node (sym there ∙ sym c.has_key.ensures.found ∙ c.if-not-has_key.true))
 
 pub returns-clause-answer : goal.returns-clause-answer
 returns-clause-answer g c = λ volume version.
