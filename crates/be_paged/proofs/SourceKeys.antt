@@ -1,5 +1,5 @@
 -- The keys of an index as a source of queries sees them.
-use Rattle.std.proofs.Common.{◌≡◌, ℕ, zero, suc, ◌+◌, ◌<◌, ◌≤◌, Bool, true, false, cond, not, List, [], ◌∷◌, length, map, get_or, All, Some, None, ap, sym, subst, ◌∙◌, refl, arith, is_some}
+use Rattle.std.proofs.Common.{◌≡◌, ℕ, zero, suc, ◌+◌, ◌<◌, ◌≤◌, Bool, true, false, cond, not, List, [], ◌∷◌, length, map, drop, get_or, All, Some, None, ap, sym, subst, ◌∙◌, refl, arith, is_some}
 use Rattle.std.specs.List.{slice_get}
 use Rattle.std.specs.Option.{option_map}
 use Rattle.std.specs.Ordering.{is_eq, is_lt, is_gt, is_ge, nat_cmp}
@@ -15,6 +15,7 @@ use Rattle.be_tree.specs.Key.{key_cmp, payload_at, IsRising}
 use Rattle.be_tree.specs.Range.{is_from, pairs_from}
 use Rattle.be_tree.specs.Tree.{IsTree, pairs}
 use Rattle.be_tree.proofs.Order.{key_total, key_cmp_flip_less, AllAbove_trans, payload_at_above}
+use Rattle.be_tree.proofs.Ranges.{next_from}
 use Rattle.be_volume.specs.Keys.{IsKey, IsNextKey}
 use Rattle.be_volume.specs.PairKeys.{IsNext}
 use Rattle.be_volume.specs.PairKeys as pair_keys
@@ -23,6 +24,7 @@ use Rattle.be_volume.specs.declared.maps.Index.{Index}
 use Rattle.be_paged.specs.declared.version.Entry.{Entry}
 use Rattle.be_paged.specs.Page.{Contents, IsNamedAt, IsGapAt}
 use Rattle.be_paged.specs.Catalog.{IsPairOf}
+use Rattle.be_paged.specs.Facts.{AnswersFor}
 use Rattle.be_paged.specs.Version.{IsInHand, Spells}
 use Rattle.be_paged.proofs.Indexing.{named_found, gap_none}
 use Rattle.be_paged.proofs.Finding.{found_pair}
@@ -128,3 +130,26 @@ module _ (Is : List ℕ → Type 0) (all : List Pair) (rising : IsRising all) (f
           by Less t = never (sym (ap is_some (payload_at_above k (x ∷ xs) (key_cmp_flip_less k x.key t, AllAbove_trans x.key k xs (key_cmp_flip_less k x.key t) rises.0))) ∙ ap (λ ys. is_some (payload_at ys k)) (sym e) ∙ has k is f)
           by Equal t = refl
           by Greater t = refl
+
+-- the least key from there on, as a walk reads it
+pub is_next_key : (w : ℕ → ℕ → ℕ) (c : Contents) (volume : State) (name : List ℕ) (i : ℕ) (d : Entry) → Spells w c volume → IsNamedAt c.entries name i → IsRising (pairs w (get_or c.entries i d).root)
+    → (from : List ℕ) (after : Bool) (now : List Pair) (r : Option (List ℕ)) → now ≡ pairs_from (pairs w (get_or c.entries i d).root) from after → r ≡ option_map (λ (x : Pair). x.key) (slice_get now 0) → IsNextKey volume name from after r
+is_next_key w c volume name i d spells at rising from after now r stands read =
+    subst (IsNextKey volume name from after) (sym read)
+    (next_is_first (IsKey volume name) (pairs w (get_or c.entries i d).root) rising (key_found w c volume name i spells d at) (key_finds w c volume name i spells d at) from after now (sym stands))
+
+-- behind the key that was read stand the pairs after it
+pub behind_next : (all : List Pair) → IsRising all → (from : List ℕ) (after : Bool) (now : List Pair) (k : List ℕ) → now ≡ pairs_from all from after → Some k ≡ option_map (λ (x : Pair). x.key) (slice_get now 0) → drop 1 now ≡ pairs_from all k true
+behind_next all rising from after [] k stands read = absurd (clash read)
+  where
+    clash : Some k ≡ None → ⊥
+    clash e = cc
+behind_next all rising from after (x ∷ xs) k stands read = sym (ap (λ q. pairs_from all q true) (same k x.key read) ∙ next_from all from after x xs rising (sym stands))
+  where
+    same : (a b : List ℕ) → Some a ≡ Some b → a ≡ b
+    same a b e = cc
+
+-- what a version in hand tells after reads
+pub answers_since : (s t : ℕ → Standing) (v w : ℕ → ℕ → ℕ) (c : Contents) (volume : State) → t ≡ s → w ≡ v → AnswersFor s v c volume → AnswersFor t w c volume
+answers_since s t v w c volume standing words h =
+    subst (λ (u : ℕ → Standing). AnswersFor u w c volume) (sym standing) (subst (λ (x : ℕ → ℕ → ℕ). AnswersFor s x c volume) (sym words) h)

@@ -13,8 +13,7 @@ ghost use Rattle.be_paged.specs.Source.{StandsBehind};
 ghost use Rattle.be_paged.specs.Version.{IsInHand, IsVersion};
 ghost use Rattle.be_paged.specs.declared.version.Entry.{Entry as AnyEntry};
 
-use crate::catalog::catalog_key;
-use crate::entries::search;
+use crate::entries::{index_at, search};
 use crate::reading::value_in;
 use crate::version::{Version, load_version};
 use arrayvec::ArrayVec;
@@ -73,12 +72,30 @@ impl<L: Look> PagedSource<L> {
         ensures version { self.new.version ≡ self.old.version }
         ensures unchanged { IsUnchanged L.kept L.standing L.words self.old.look self.new.look }
     {
-        if after && place == self.place && &self.last[..] == from {
-            return;
+        if after {
+            if self.stands_behind(place, from) {
+                return;
+            }
         }
-        let root = self.version.entries[place].root;
+        let (_, root) = index_at(&self.version.entries, place);
         self.cursor = Cursor::seek(&mut self.look, root, from, after);
     }
+
+    /// Whether the cursor stands behind this key of this index.
+    fn stands_behind(&self, place: usize, key: &[u8]) -> bool
+        ensures { result ≡ true → (place ≡ self.now.place) × (self.now.last.items ≡ key.now) }
+    {
+        place == self.place && self.last.as_slice() == key
+    }
+}
+
+/// An equal key.
+fn copy_key(key: &ArrayVec<u8, 264>) -> ArrayVec<u8, 264>
+    ensures { result.items ≡ key.now.items }
+{
+    let mut copy = ArrayVec::new();
+    copy.try_extend_from_slice(key.as_slice()).unwrap();
+    copy
 }
 
 impl<L: Look> Source for PagedSource<L> {
@@ -110,8 +127,7 @@ impl<L: Look> Source for PagedSource<L> {
         self.place = NOWHERE;
         let key = self.cursor.next_key(&mut self.look)?;
         self.place = place;
-        self.last.clear();
-        self.last.try_extend_from_slice(&key).unwrap();
+        self.last = copy_key(&key);
         Some(key)
     }
 
