@@ -20,17 +20,10 @@ use Rattle.be_volume.proofs.MapLemmas.{names_total, exact_names}
 use Rattle.be_volume.proofs.StepLemmas.{made}
 use Rattle.be_volume.proofs.Soundness.{step_sound}
 use Rattle.be_paged.specs.Catalog.{value_at}
+use Rattle.be_paged.specs.Changes.{Leaves}
 use Rattle.be_paged.proofs.Items.{get_here, get_other, gone_here, gone_other, keys_tell}
 use Rattle.be_paged.proofs.Segments.{value_there}
 use Rattle.be_paged.proofs.Stepping.{stepped_found}
-
--- what is left to drop of a volume: the same volume once the node has left
-pub record Leaves (volume left : State) (node : ℕ) : Type 0 where
-  pub sound : IsSound left
-  pub there : fin.contains_key left.nodes node ≡ true
-  pub next : left.next ≡ volume.next
-  pub nodes : fin.remove left.nodes node ≡ fin.remove volume.nodes node
-  pub indices : without_node left.indices node ≡ without_node volume.indices node
 
 pub leaves_first : (volume : State) (node : ℕ) → IsSound volume → fin.contains_key volume.nodes node ≡ true → Leaves volume volume node
 leaves_first volume node sound there = record { sound = sound; there = there; next = refl; nodes = refl; indices = refl }

@@ -15,6 +15,7 @@ use Rattle.std.specs.FinMap.Entries.{find, put, by_order, below_all}
 use Rattle.be_pages.specs.declared.room.Standing.{Standing}
 use Rattle.be_pages.specs.Pages.{is_kept, times}
 use Rattle.be_tree.specs.Tree.{IsTree, pages}
+use Rattle.be_value.specs.declared.values.Kind.{Kind}
 use Rattle.be_volume.specs.Maps.{name_cmp}
 use Rattle.be_volume.specs.declared.maps.Index.{Index}
 use Rattle.be_paged.specs.declared.version.Entry.{Entry}
@@ -144,3 +145,19 @@ kind_found w es m name i d h at =
 
 pub kind_absent : (w : ℕ → ℕ → ℕ) (es : List Entry) (m : Indices) (name : List ℕ) (i : ℕ) → AreEntriesOf w es (fin.entries m) → IsGapAt es name i → None ≡ option_map (λ (index : Index). index.kind) (fin.get m name)
 kind_absent w es m name i h at = ap (option_map (λ (index : Index). index.kind)) (sym (fin.get-entries m name ∙ gap_none w es (fin.entries m) name i h (fin.entries_sorted m) at))
+
+-- the names and kinds of the entries are those of the indices
+abbrev pub listed_entry : Entry → List ℕ × Kind
+listed_entry e = (e.name, e.kind)
+
+abbrev pub listed_index : List ℕ × Index → List ℕ × Kind
+listed_index i = (i.0, i.1.kind)
+
+pub kinds_are : (w : ℕ → ℕ → ℕ) (es : List Entry) (is : List (List ℕ × Index)) → AreEntriesOf w es is → map listed_entry es ≡ map listed_index is
+kinds_are w [] [] h = refl
+kinds_are w [] (i ∷ is) h = absurd h
+kinds_are w (e ∷ es) [] h = absurd h
+kinds_are w (e ∷ es) (i ∷ is) h = join h.0.name_is h.0.kind_is (kinds_are w es is h.1)
+  where
+    join : {m n : List ℕ} {k l : Kind} {xs ys : List (List ℕ × Kind)} → m ≡ n → k ≡ l → xs ≡ ys → (m, k) ∷ xs ≡ (n, l) ∷ ys
+    join p q r = cc

@@ -1,5 +1,5 @@
 -- What a write does to the contents in hand, and to the version that it began with.
-use Rattle.std.specs.Prelude.{◌≡◌, ◌⊎◌, ℕ, ◌^◌, ◌<◌, List, [], ◌∷◌, Some, IsTrue, IsOk, Ok, Err, if◌then◌else◌}
+use Rattle.std.specs.Prelude.{◌≡◌, ◌⊎◌, ℕ, ◌^◌, ◌<◌, List, [], ◌∷◌, Some, IsTrue, IsOk, Ok, Err, true, if◌then◌else◌}
 use Rattle.std.specs.FinMap as map
 use Rattle.std.specs.declared.option.Option.{Option}
 use Rattle.std.specs.declared.option.Option.TheVariants as options
@@ -15,7 +15,8 @@ use Rattle.be_tree.specs.Forest.{pages_of}
 use Rattle.be_tree.specs.Key.{put, without}
 use Rattle.be_tree.specs.Pair.{Pair}
 use Rattle.be_value.specs.Key.{IsValue}
-use Rattle.be_volume.specs.Indices.{Indices, paired, unpaired, with_pair, without_pair}
+use Rattle.be_volume.specs.Indices.{Indices, paired, unpaired, with_pair, without_node, without_pair}
+use Rattle.be_volume.specs.Maps.{attributes_of}
 use Rattle.be_volume.specs.Sound.{IsSound}
 use Rattle.be_volume.specs.Volume.{State, step, steps}
 use Rattle.be_volume.specs.declared.maps.Index.{Index}
@@ -48,6 +49,14 @@ abbrev pub key_put : Option (List ℕ) → List Pair → List Pair
 key_put options.None pairs = pairs
 key_put (options.Some k) pairs = put (record { key = k; payload = [] }) pairs
 
+-- what is left to drop of a volume: it is the same volume once the node has left
+pub record Leaves (volume left : State) (node : ℕ) : Type 0 where
+  pub sound : IsSound left
+  pub there : map.contains_key left.nodes node ≡ true
+  pub next : left.next ≡ volume.next
+  pub nodes : map.remove left.nodes node ≡ map.remove volume.nodes node
+  pub indices : without_node left.indices node ≡ without_node volume.indices node
+
 -- what is known of an index before its node's pair changes: the pair, if there is one, is of the old value
 pub record IsReady (index : Index) (kind : Kind) (node : ℕ) (old : Option Value) : Type 0 where
   pub kind_is : index.kind ≡ kind
@@ -74,6 +83,13 @@ pub record Reaches (words : ℕ → ℕ → ℕ) (after : Contents) (volume : St
   pub stepped : steps volume ops ≡ Ok (made, dones)
   pub spells : Spells words after made
   pub sound : IsSound made
+
+-- the contents spell a volume that differs from another only in what a node has, which is bare: without attributes
+pub record IsBare (words : ℕ → ℕ → ℕ) (c : Contents) (volume : State) (node : ℕ) : Type 0 where
+  pub left : State
+  pub spells : Spells words c left
+  pub leaves : Leaves volume left node
+  pub bare : map.len (attributes_of left.nodes node) ≡ 0
 
 -- A list of operations on a version: the new version page spells what the steps make of the volume. The pages of the old version have become
 -- exactly those of the new one, each of which is old or filled, and the new version page is one that this write has taken.

@@ -8,7 +8,7 @@ ghost use Rattle.be_pages.specs.Refusal.{IsFullOf};
 ghost use Rattle.be_volume.specs.Sound.{IsSound};
 ghost use Rattle.be_volume.specs.Volume.{State, step, steps};
 ghost use Rattle.be_volume.specs.declared.ops.Op.TheVariants as ops;
-ghost use Rattle.be_paged.specs.Changes.{Changes, Steps, Reaches};
+ghost use Rattle.be_paged.specs.Changes.{Changes, IsBare, Steps, Reaches};
 ghost use Rattle.be_paged.specs.Page.{contents};
 ghost use Rattle.be_paged.specs.Version.{IsInHand, Spells};
 
@@ -134,6 +134,26 @@ fn remove_index<R: Room>(room: &mut R, version: &mut Version, name: &Name) -> Do
     Done::Unit
 }
 
+/// Takes all attributes of a node away, each with its pair.
+fn unset_all<R: Room>(room: &mut R, version: &mut Version, node: u64) -> Result<(), Refusal>
+    requires in_hand { IsInHand (R.standing room.old) (R.words room.old) (contents version.old) }
+    requires open { IsTrue (R.is_open (R.kept room.old)) }
+    ensures changes { OnOk result (Changes R.kept R.standing R.words (contents version.old) (contents version.new) room.old room.new) }
+    ensures bare { OnOk result ((volume : State) → Spells (R.words room.old) (contents version.old) volume → IsSound volume →
+        volume.next + 1 < 2 ^ 64 → IsOk (step volume (ops.Drop node)) → IsBare (R.words room.new) (contents version.new) volume node) }
+    ensures next { OnOk result (version.new.next ≡ version.old.next) }
+    ensures err { OnErr result (KeepsStart R.kept R.standing R.words room.old room.new) }
+    ensures full { IfErr result (IsFullOf (R.full room.new)) }
+{
+    for _ in 0..MAX_ATTRIBUTES {
+        let Some(name) = first_attribute(room, version.catalog, node) else {
+            return Ok(());
+        };
+        unset_value(room, version, node, &name)?;
+    }
+    Ok(())
+}
+
 /// Drops a node: each of its attributes with its pair, and then its mark.
 fn drop_node<R: Room>(room: &mut R, version: &mut Version, node: u64) -> Result<Done, Refusal>
     requires in_hand { IsInHand (R.standing room.old) (R.words room.old) (contents version.old) }
@@ -145,12 +165,7 @@ fn drop_node<R: Room>(room: &mut R, version: &mut Version, node: u64) -> Result<
     ensures err { OnErr result (KeepsStart R.kept R.standing R.words room.old room.new) }
     ensures full { IfErr result (IsFullOf (R.full room.new)) }
 {
-    for _ in 0..MAX_ATTRIBUTES {
-        let Some(name) = first_attribute(room, version.catalog, node) else {
-            break;
-        };
-        unset_value(room, version, node, &name)?;
-    }
+    unset_all(room, version, node)?;
     version.catalog = remove(room, version.catalog, &node.to_be_bytes())?;
     Ok(Done::Unit)
 }
