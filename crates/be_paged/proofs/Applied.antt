@@ -1,4 +1,4 @@
--- A version after a list of operations, from the changes of its trees and the new version page.
+-- The version that a write leaves, put together from the changes of its trees and its new page.
 use Rattle.std.proofs.Common.{◌≡◌, ℕ, zero, suc, ◌+◌, ◌<◌, ◌≤◌, List, [], ◌∷◌, ◌++◌, length, map, All, IsTrue, Ok, ap, sym, subst, ◌∙◌, refl, inl, inr, arith}
 use mathlib.Core.Bool.{false≢true}
 use Rattle.std.proofs.lemmas.Bool.{cases_eq}
@@ -39,7 +39,7 @@ spells_beside s t v w c volume h beside = record {
 }
 
 module _ {S K : Type 0} (kept_of : S → K) (standing_of : S → ℕ → Standing) (words_of : S → ℕ → ℕ → ℕ) where
-  -- the version page is replaced
+  -- one version page for another, beside trees that stay
   module _ (page new_page : ℕ) (c : Contents) (old new : S) (h : IsInHand (standing_of old) (words_of old) c) (used : IsTrue (is_kept (standing_of old page)))
       (apart : times page (pages_of (words_of old) (roots c)) ≡ 0) (swaps : Swaps kept_of standing_of words_of (page ∷ []) (new_page ∷ []) old new)
       (written : contents_of (words_of new new_page) ≡ c) (is_page : IsVersionPage (words_of new new_page)) (filled : standing_of new new_page ≡ Filled) where

@@ -23,7 +23,7 @@ same_step Taken (suc n) p used = never (used (omega arith))
 same_step Filled (suc n) p used = stays_new
 
 module _ {S K : Type 0} (kept_of : S → K) (standing_of : S → ℕ → Standing) (words_of : S → ℕ → ℕ → ℕ) where
-  -- nothing changes
+  -- pages in use that stay as they are
   pub swaps_none : (ps : List ℕ) (room : S) → ((q : ℕ) → 0 < times q ps → IsTrue (is_kept (standing_of room q))) → Swaps kept_of standing_of words_of ps ps room room
   swaps_none ps room used = record { kept = refl; each = λ q. same_step (standing_of room q) (times q ps) refl (used q) }
 

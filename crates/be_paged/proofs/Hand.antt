@@ -30,7 +30,7 @@ use Rattle.be_paged.specs.Changes.{Changes}
 abbrev root_of : Entry → ℕ
 root_of e = e.root
 
--- the indices, where their trees have the same pairs
+-- entries tell the same indices while the pairs of their trees stay
 pub entries_same : (v w : ℕ → ℕ → ℕ) (es : List Entry) (is : List (List ℕ × Index)) → AreEntriesOf v es is → All (λ r. pairs w r ≡ pairs v r) (map (λ e. e.root) es) → AreEntriesOf w es is
 entries_same v w [] [] h same = tt
 entries_same v w [] (i ∷ is) h same = h

@@ -21,7 +21,7 @@ use Rattle.be_paged.specs.Catalog.{IsPairOf, IsIndexOf}
 use Rattle.be_paged.specs.Changes.{IsReady, repaired}
 use Rattle.be_paged.proofs.Items.{put_here, put_other, all_put, without_other, all_without, get_here, get_other, gone_here, gone_other}
 
--- keys of two nodes differ
+-- a key tells its node
 pub key_last : (v w : Value) (m n : ℕ) → m < 2 ^ 64 → n < 2 ^ 64 → key v m ≡ key w n → m ≡ n
 key_last v w m n p q e = same_node (value_key v) (value_key w) m n p q e
 
@@ -55,7 +55,7 @@ Fits index = (n : ℕ) (value : Value) → fin.get index.pairs n ≡ Some value 
 abbrev with_value : Index → ℕ → Value → Index
 with_value index node value = record { kind = index.kind; pairs = fin.insert index.pairs node value }
 
--- the pair of a node leaves, if it is of that value
+-- a key is taken out, which is the node's if the node has one
 pub index_without : (items : List Pair) (index : Index) (node : ℕ) (old : Value) (k : List ℕ) → node < 2 ^ 64 → Fits index → ((w : Value) → fin.get index.pairs node ≡ Some w → w ≡ old)
     → k ≡ key old node → IsIndexOf items index → IsIndexOf (without k items) (unpaired index node)
 index_without items index node old k fits small only is h = record {
@@ -74,7 +74,7 @@ index_without items index node old k fits small only is h = record {
   }) h.only;
 }
 
--- the same where the node has none
+-- a node without a pair loses nothing
 pub index_bare : (items : List Pair) (index : Index) (node : ℕ) → fin.get index.pairs node ≡ None → IsIndexOf items index → IsIndexOf items (unpaired index node)
 index_bare items index node none h = record {
   each = λ n w e. h.each n w (keeps n ∙ e);
@@ -87,7 +87,7 @@ index_bare items index node none h = record {
       | inr ne ↦ sym (left index.pairs node n ne)
     ]
 
--- the pair of a node that has none enters
+-- a key is put in for a node without a pair
 pub index_with : (items : List Pair) (index : Index) (node : ℕ) (v : Value) (pair : Pair) → node < 2 ^ 64 → Fits index → pair.key ≡ key v node → pair.payload ≡ [] → IsIndexOf items (unpaired index node)
     → IsIndexOf (put pair items) (with_value index node v)
 index_with items index node v pair fits small is empty h = record {

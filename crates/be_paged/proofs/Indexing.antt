@@ -1,3 +1,4 @@
+-- How the entries of a version stand for the indices of its volume.
 use Rattle.std.proofs.Common.{◌≡◌, ℕ, zero, suc, ◌+◌, ◌<◌, ◌≤◌, Bool, true, false, cond, not, List, [], ◌∷◌, ◌++◌, length, map, take, drop, get_or, All, IsTrue, Some, None, Ok, Err, ap, sym, subst, ◌∙◌, refl, arith, is_some, nat_le, T, ◌&&◌}
 use Rattle.std.proofs.Common.{inl, inr}
 use Rattle.std.proofs.lemmas.Bool.{cases_lt}

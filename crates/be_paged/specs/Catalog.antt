@@ -26,7 +26,7 @@ payload_of (Rawt bytes) = 5 ∷ bytes
 payload_of (Ulng n) = 6 ∷ to_be_bytes w32 n
 payload_of (Ullg n) = 7 ∷ to_be_bytes w64 n
 
--- a node's value at a name
+-- the value that a node has at a name
 abbrev pub value_at : Nodes → ℕ → List ℕ → Option Value
 value_at nodes node name = option_and_then (λ attributes. map.get attributes name) (map.get nodes node)
 

@@ -46,14 +46,14 @@ pub record IsEntry (words : ℕ → ℕ) (at : ℕ) : Type 0 where
   pub named : IsName (entry_at words at).name
   pub kind : (1 ≤ words (at + 9)) × (words (at + 9) ≤ 7)
 
--- the words are those of a version page
+-- the words make a version page
 pub record IsVersionPage (words : ℕ → ℕ) : Type 0 where
   pub tag : words 0 ≡ 255
   pub few : words 1 ≤ 32
   pub fits : words 2 < 2 ^ 64
   pub each : (i : ℕ) → i < words 1 → IsEntry words (place_of i)
 
--- the roots of the catalog and of the indices
+-- all roots: that of the catalog, and then one for each index
 abbrev pub roots : Contents → List ℕ
 roots c = c.catalog ∷ map (λ e. e.root) c.entries
 

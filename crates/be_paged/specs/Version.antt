@@ -18,7 +18,7 @@ pub record IsEntryOf (words : ℕ → ℕ → ℕ) (entry : Entry) (name : List 
   pub kind_is : entry.kind ≡ index.kind
   pub keys : IsIndexOf (pairs words entry.root) index
 
--- the entries are these indices, one by one
+-- each entry is the index that stands at its place in the list
 abbrev pub AreEntriesOf : (words : ℕ → ℕ → ℕ) → List Entry → List (List ℕ × Index) → Type 0
 AreEntriesOf words [] [] = Unit {0}
 AreEntriesOf words [] (i ∷ is) = ⊥

@@ -70,7 +70,7 @@ fn read_signed64(bytes: &[u8]) -> Option<i64>
     ]))
 }
 
-/// The value whose payload these bytes are.
+/// The value that a payload tells, if it tells one.
 pub(crate) fn read_payload(bytes: &[u8]) -> Option<Value>
     ensures { (v : AnyValue) → IsValue v → bytes.now ≡ payload v → result ≡ Some v }
 {

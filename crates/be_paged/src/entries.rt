@@ -11,7 +11,7 @@ use be_value::{Kind, Name};
 use std::alloc::{AllocError, Global};
 use std::cmp::Ordering;
 
-/// The place of the index of a name, or else the place where it would stand.
+/// Where the index of a name stands among the entries; an error tells where it would be inserted.
 pub(crate) fn search(entries: &[Entry], name: &Name) -> Result<usize, usize>
     ensures found { IfOk result (IsNamedAt entries.now name.now) }
     ensures absent { IfErr result (IsGapAt entries.now name.now) }

@@ -1,4 +1,4 @@
-//! The first version page.
+//! The version page with which a table begins.
 ghost use Rattle.std.specs.Prelude.{◌≡◌, ℕ, ◌<◌, IsTrue, slice_index};
 ghost use Rattle.be_pages.specs.declared.room.Standing.{Standing};
 ghost use Rattle.be_pages.specs.Pages.{is_kept};
