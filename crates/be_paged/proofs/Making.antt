@@ -143,7 +143,7 @@ abbrev is_other : List ℕ → List ℕ → Bool
 is_other name x = not (eq_by_cmp name_cmp name x)
 
 entries_without : (m : Indices) (name : List ℕ) → fin.entries (fin.remove m name) ≡ filter (λ e. not (eq_by_cmp name_cmp name e.0)) (fin.entries m)
-entries_without m name = ap fin.entries same ∙ fin.entries-from_sorted others sorted
+entries_without m name = ap fin.entries same ∙ fin.entries-from_sorted name_cmp others sorted
   where
     others : List (List ℕ × Index)
     others = where_key name_cmp (is_other name) (fin.entries m)
@@ -156,7 +156,7 @@ entries_without m name = ap fin.entries same ∙ fin.entries-from_sorted others 
 
     same : fin.remove m name ≡ fin.from_sorted (where_key name_cmp (is_other name) (fin.entries m))
     same = fin.same_map names_total exact_names _ _ (λ q. fin.get-remove names_total m name q
-        ∙ sym (fin.get-from_sorted (where_key name_cmp (is_other name) (fin.entries m)) q sorted ∙ find-where_key name_cmp (is_other name) q (alike q) (fin.entries m)
+        ∙ sym (fin.get-from_sorted name_cmp (where_key name_cmp (is_other name) (fin.entries m)) q sorted ∙ find-where_key name_cmp (is_other name) q (alike q) (fin.entries m)
         ∙ turned (eq_by_cmp name_cmp name q) (find name_cmp q (fin.entries m)) None ∙ ap (λ b. cond b None (find name_cmp q (fin.entries m))) ((eq_by_cmp_equiv names_total).symm name q)
         ∙ ap (cond (eq_by_cmp name_cmp q name) None) (sym (fin.get-entries m q))))
 

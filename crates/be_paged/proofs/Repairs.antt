@@ -133,11 +133,11 @@ seen_none f P None h = h
 seen_none f P (Some x) h = h
 
 pub seen_at : {B : Type 0} (P : B → Type 0) (r : Option B) (x : B) → IfSome r P → r ≡ Some x → P x
-seen_at P None x h e = absurd (clash e)
+seen_at {B} P None x h e = absurd (clash e)
   where
     clash : None ≡ Some x → ⊥
     clash e = cc
-seen_at P (Some y) x h e = subst P (same y x e) h
+seen_at {B} P (Some y) x h e = subst P (same y x e) h
   where
     same : (a b : B) → Some a ≡ Some b → a ≡ b
     same a b e = cc

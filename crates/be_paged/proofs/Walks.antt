@@ -58,7 +58,9 @@ later (x ∷ xs) zero = refl
 later (x ∷ xs) (suc i) = later xs i
 
 pub drop_next : {A : Type 0} (xs : List A) (i : ℕ) → drop 1 (drop i xs) ≡ drop (i + 1) xs
-drop_next xs i = later xs i ∙ ap (λ (n : ℕ). drop n xs) (omega arith)
+drop_next xs i =
+    let e : suc i ≡ i + 1 = omega arith in
+    later xs i ∙ ap (λ (n : ℕ). drop n xs) e
 
 pub more_left : {A : Type 0} (xs : List A) (i : ℕ) → 0 < length (drop i xs) → i < length xs
 more_left [] zero h = h

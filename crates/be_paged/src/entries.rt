@@ -1,5 +1,5 @@
 //! The indices of a version in hand, ascending by name.
-ghost use Rattle.std.specs.Prelude.{◌≡◌, ◌<◌, IfOk, IfErr, map, length, slice_index_or};
+ghost use Rattle.std.specs.Prelude.{◌≡◌, ◌<◌, ◌≤◌, IfOk, IfErr, map, length, slice_index_or};
 ghost use Rattle.be_paged.specs.Entries.{with_root};
 ghost use Rattle.be_paged.specs.declared.version.Entry.{Entry as AnyEntry};
 ghost use Rattle.be_volume.specs.Sound.{IsName};
@@ -38,7 +38,8 @@ pub(crate) fn index_at(entries: &[Entry], at: usize) -> (Kind, u64)
 
 /// Gives the index at a place another root.
 pub(crate) fn set_root(entries: &mut ArrayVec<Entry, 32>, at: usize, root: u64)
-    requires { at < length entries.old.items }
+    requires in_range { at < length entries.old.items }
+    requires few { length entries.old.items ≤ 32 }
     ensures { (d : AnyEntry) → entries.new.items ≡ with_root entries.old.items at (slice_index_or entries.old.items at d) root }
 {
     let entry = entries.remove(at);

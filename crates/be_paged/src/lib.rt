@@ -6,8 +6,8 @@
 //! All calls read or write through `Look` and `Room`, so they serve a pool in memory and a shared table alike.
 //!
 //! # What a page says
-//! That a page spells a volume is a relation, `IsVersion`: its pairs are exactly the volume's nodes, attributes and index keys. A page spells
-//! one volume at most, so each contract speaks of every volume that the page spells.
+//! That a page spells a volume is a relation, `IsVersion`: its pairs are exactly the volume's nodes, attributes and index keys. A reader
+//! can't compute that volume, so a contract speaks of every volume that the page spells.
 //!
 //! # A write
 //! The trees are copied on write, page by page, and the version page is written once, at the end. What a write gives up and takes are exactly

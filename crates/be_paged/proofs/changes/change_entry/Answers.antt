@@ -31,6 +31,6 @@ pub change_root-requires-clause-tree : goal.change_root-requires-clause-tree
 change_root-requires-clause-tree g c =
     let es = c.args.version.now.entries.items in
     let at : IsNamedAt es c.args.name.now c.in-Ok.at = subst (λ (xs : List Entry). IsNamedAt xs c.args.name.now c.in-Ok.at) c.deref.ensures.0 c.in-Ok.ensures.found in
-    let root = c.index_at.ensures.root nowhere ∙ ap (λ (xs : List Entry). (get_or xs c.in-Ok.at nowhere).root) c.deref-2.ensures.0 in
+    let root = c.index_at-kind.ensures.root nowhere ∙ ap (λ (xs : List Entry). (get_or xs c.in-Ok.at nowhere).root) c.deref-2.ensures.0 in
     subst (λ (r : ℕ). IsTree (g.R.Look.standing c.args.room.now) (g.R.Look.words c.args.room.now) r) (sym root)
     (entry_tree (g.R.Look.standing c.args.room.now) (g.R.Look.words c.args.room.now) (contents c.args.version.now) c.in-Ok.at nowhere c.requires.in_hand at.in_range)

@@ -1,5 +1,6 @@
 use Rattle.std.proofs.Common.{◌≡◌, ℕ, ◌+◌, [], ap, sym, refl, ◌∙◌, subst, Ok, Some, rules, arith}
 use Rattle.std.specs.FinMap as fin
+use Rattle.be_value.specs.declared.values.Value.{Value}
 use Rattle.be_tree.specs.Pair.{Pair}
 use Rattle.be_tree.specs.Key.{put}
 use Rattle.be_tree.specs.Tree.{IsTree, pairs}
@@ -49,7 +50,8 @@ returns-clause-steps g c = λ volume spells sound ok.
     let catalog0 = c.args.version.now.catalog in
     let old = c.value_in-old.ensures.value volume.nodes spells.catalog (values_valid volume sound) in
     let read = subst (λ (w : ℕ → ℕ → ℕ). Spells w (contents c.args.version.now) volume) (sym c.value_in-old.ensures.unchanged.words) spells in
-    let between = c.in_ok-change_entry.ensures.spells volume read sound old in
+    let between = subst (λ (v : Value). Spells (g.R.Look.words c.change_entry.new.room) (contents c.change_entry.new.version) (with_indices volume name node (Some v))) c.copy.ensures
+    (c.in_ok-change_entry.ensures.spells volume read sound old) in
     let pair : Pair = record { key = c.deref.result.now; payload = c.deref-2.result.now } in
     let found = (accepted volume op ok).found in
     let catalog = catalog_set (pairs (g.R.Look.words c.change_entry.new.room) mid.catalog) volume.nodes node name value pair c.ranges.node.fits found.0 c.catalog_key-key.ensures.valid

@@ -31,7 +31,7 @@ pub seek-self-requires : goal.seek-self-requires
 seek-self-requires g c =
     let s = g.L.Look.standing c.args.self.now.look in
     let w = g.L.Look.words c.args.self.now.look in
-    let root = c.index_at.ensures.root nowhere ∙ ap (λ (xs : List Entry). (get_or xs c.args.place nowhere).root) c.deref.ensures.0 in
+    let root = c.index_at-root.ensures.root nowhere ∙ ap (λ (xs : List Entry). (get_or xs c.args.place nowhere).root) c.deref.ensures.0 in
     record { tree = subst (λ (r : ℕ). IsTree s w r) (sym root) (entry_tree s w (contents c.args.self.now.version) c.args.place nowhere c.requires.in_hand c.requires.in_range) }
 
 pub returns-clause-cursor : goal.returns-clause-cursor
@@ -44,7 +44,7 @@ returns-clause-rest g c = λ d.
     let v = g.L.Look.words c.args.self.now.look in
     let w = g.L.Look.words c.seek-self.new.look in
     let es = c.args.self.now.version.entries.items in
-    let root = c.index_at.ensures.root d ∙ ap (λ (xs : List Entry). (get_or xs c.args.place d).root) c.deref.ensures.0 in
+    let root = c.index_at-root.ensures.root d ∙ ap (λ (xs : List Entry). (get_or xs c.args.place d).root) c.deref.ensures.0 in
     ap (λ (u : ℕ → ℕ → ℕ). remaining u c.seek-self.result) c.seek-self.ensures.unchanged.words ∙ c.seek-self.ensures.remaining
     ∙ ap (λ (r : ℕ). pairs_from (pairs v r) c.args.from.now c.args.after) root
     ∙ ap (λ (u : ℕ → ℕ → ℕ). pairs_from (pairs u (get_or es c.args.place d).root) c.args.from.now c.args.after) (sym c.seek-self.ensures.unchanged.words)
