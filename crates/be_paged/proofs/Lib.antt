@@ -16,6 +16,7 @@ pub mod Replacing
 pub mod Making
 pub mod Applied
 pub mod Dropping
+pub mod Emptying
 pub mod SourceKeys
 pub mod RootSetting
 pub mod Composing

@@ -1,5 +1,5 @@
 -- What a write does to the contents in hand, and to the version that it began with.
-use Rattle.std.specs.Prelude.{◌≡◌, ◌⊎◌, ℕ, ◌^◌, ◌<◌, List, [], ◌∷◌, Some, IsTrue, IsOk, Ok, Err, true, if◌then◌else◌}
+use Rattle.std.specs.Prelude.{◌≡◌, ◌⊎◌, ℕ, ◌+◌, ◌^◌, ◌<◌, ◌≤◌, List, [], ◌∷◌, Some, IsTrue, IsOk, Ok, Err, true, if◌then◌else◌}
 use Rattle.std.specs.FinMap as map
 use Rattle.std.specs.declared.option.Option.{Option}
 use Rattle.std.specs.declared.option.Option.TheVariants as options
@@ -83,6 +83,13 @@ pub record Reaches (words : ℕ → ℕ → ℕ) (after : Contents) (volume : St
   pub stepped : steps volume ops ≡ Ok (made, dones)
   pub spells : Spells words after made
   pub sound : IsSound made
+
+-- the contents spell a volume that differs from another only in what a node has: so many of its attributes are gone
+pub record IsThinned (words : ℕ → ℕ → ℕ) (c : Contents) (volume : State) (node gone : ℕ) : Type 0 where
+  pub left : State
+  pub spells : Spells words c left
+  pub leaves : Leaves volume left node
+  pub counted : map.len (attributes_of left.nodes node) + gone ≤ 64
 
 -- the contents spell a volume that differs from another only in what a node has, which is bare: without attributes
 pub record IsBare (words : ℕ → ℕ → ℕ) (c : Contents) (volume : State) (node : ℕ) : Type 0 where

@@ -7,14 +7,6 @@ use Rattle.be_paged.specs.Page.{contents}
 use Rattle.be_paged.proofs.Composing.{changes_none, changes_trans, start_after}
 use Rattle.be_paged.proofs.edits.edit_all.Goals as goal
 
-pub loop-op-init : goal.loop-op-init
-loop-op-init g c = record {
-  changes = changes_none g.R.Look.kept g.R.Look.standing g.R.Look.words (contents c.args.version.now) c.args.room.now c.requires.in_hand;
-  steps = λ volume spells sound ok. record { made = volume; stepped = refl; spells = spells; sound = sound };
-  next = omega arith;
-  counted = refl;
-}
-
 pub loop-op-preserved : goal.loop-op-preserved
 loop-op-preserved g c =
     let few : length c.args.ops.now ≤ 64 = c.requires.few in
