@@ -38,6 +38,7 @@ fn add_node<R: Room>(room: &mut R, version: &mut Version) -> Result<Done, Refusa
     ensures changes { OnOk result (Changes R.kept R.standing R.words (contents version.old) (contents version.new) room.old room.new) }
     ensures steps { IfOk result (λ done. (volume : State) → Spells (R.words room.old) (contents version.old) volume → IsSound volume →
         Steps (R.words room.new) (contents version.new) volume ops.New done) }
+    ensures next { OnOk result (version.new.next ≡ version.old.next + 1) }
     ensures err { OnErr result (KeepsStart R.kept R.standing R.words room.old room.new) }
     ensures full { IfErr result (IsFullOf (R.full room.new)) }
 {
