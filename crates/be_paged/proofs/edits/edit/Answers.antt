@@ -2,6 +2,7 @@ use Rattle.std.proofs.Common.{◌≡◌, ℕ, sym, subst, IsOk}
 use Rattle.std.proofs.lemmas.Result.{IfOk-weaker}
 use Rattle.be_volume.specs.Volume.{step}
 use Rattle.be_volume.specs.declared.ops.Op.{Op}
+use Rattle.be_volume.specs.declared.ops.Op.TheVariants.{MkIndex}
 use Rattle.be_paged.specs.Changes.{Steps}
 use Rattle.be_paged.specs.Page.{contents}
 use Rattle.be_paged.proofs.edits.edit.Goals as goal
@@ -25,7 +26,7 @@ returns-in-Unset-clause-steps g c = IfOk-weaker c.unset_value.result _ _ (λ don
 pub returns-in-MkIndex-clause-steps : goal.returns-in-MkIndex-clause-steps
 returns-in-MkIndex-clause-steps g c = λ volume spells sound fits ok.
     subst (λ (op : Op). Steps (g.R.Look.words c.make_index.new.room) (contents c.make_index.new.version) volume op c.make_index.result) (sym c.in-MkIndex.is)
-    (subst (λ room. Steps (g.R.Look.words room) (contents c.make_index.new.version) volume _ c.make_index.result) (sym c.make_index.ensures.room)
+    (subst (λ room. Steps (g.R.Look.words room) (contents c.make_index.new.version) volume (MkIndex c.in-MkIndex.name c.in-MkIndex.kind) c.make_index.result) (sym c.make_index.ensures.room)
     (c.make_index.ensures.steps volume spells (subst (λ (op : Op). IsOk (step volume op)) c.in-MkIndex.is ok)))
 
 pub returns-in-RmIndex-clause-steps : goal.returns-in-RmIndex-clause-steps
