@@ -1,0 +1,41 @@
+use Rattle.std.proofs.Common.{◌≡◌, ℕ, ◌+◌, ◌<◌, ◌^◌, [], ap, sym, refl, ◌∙◌, subst, Ok, arith}
+use Rattle.std.specs.Int.{to_be_bytes, w64}
+use Rattle.std.specs.FinMap as fin
+use Rattle.std.proofs.lemmas.List.{append-nil}
+use Rattle.be_tree.specs.Pair.{Pair}
+use Rattle.be_tree.specs.Key.{put}
+use Rattle.be_tree.specs.Tree.{pairs}
+use Rattle.be_volume.specs.Volume.{State}
+use Rattle.be_volume.specs.declared.ops.Op.TheVariants.{New}
+use Rattle.be_volume.specs.declared.ops.Done.TheVariants.{Node}
+use Rattle.be_volume.proofs.StepLemmas.{made}
+use Rattle.be_paged.specs.Page.{contents}
+use Rattle.be_paged.specs.Catalog.{IsCatalog, catalog_key}
+use Rattle.be_paged.proofs.Hand.{catalog_changes, catalog_spells}
+use Rattle.be_paged.proofs.Items.{catalog_new}
+use Rattle.be_paged.proofs.Validity.{none_at_next}
+use Rattle.be_paged.proofs.edits.add_node.Goals as goal
+
+pub insert-requires-clause-tree : goal.insert-requires-clause-tree
+insert-requires-clause-tree g c = c.requires.in_hand.trees.each 0 0 (omega arith)
+
+pub returns-clause-changes : goal.returns-clause-changes
+returns-clause-changes g c =
+    catalog_changes g.R.Look.kept g.R.Look.standing g.R.Look.words c.args.room.now c.insert.new.room (contents c.args.version.now) c.requires.in_hand c.in_ok-version.field-0
+    c.in_ok-version.ensures.ok.tree c.in_ok-version.ensures.ok.swaps (c.args.version.now.next + 1) c.requires.next
+
+pub returns-clause-steps : goal.returns-clause-steps
+returns-clause-steps g c = λ volume spells sound.
+    let next = c.args.version.now.next in
+    let pair : Pair = record { key = c.to_be_bytes.result; payload = [] } in
+    let items = pairs (g.R.Look.words c.args.room.now) c.args.version.now.catalog in
+    let fits : volume.next < 2 ^ 64 = omega (arith, c.requires.next, spells.next) in
+    let catalog = catalog_new items volume.nodes volume.next pair fits (none_at_next volume sound)
+    (c.to_be_bytes.ensures ∙ sym (append-nil (to_be_bytes w64 next)) ∙ ap (λ (n : ℕ). catalog_key n []) spells.next) refl spells.catalog in
+    record {
+      made = made volume New;
+      stepped = ap (λ (n : ℕ). Ok (made volume New, Node n)) (sym spells.next);
+      spells = catalog_spells g.R.Look.kept g.R.Look.standing g.R.Look.words c.args.room.now c.insert.new.room (contents c.args.version.now) c.requires.in_hand c.in_ok-version.field-0
+          c.in_ok-version.ensures.ok.tree c.in_ok-version.ensures.ok.swaps volume (next + 1) (volume.next + 1) (fin.insert volume.nodes volume.next fin.empty) (ap (λ (n : ℕ). n + 1) spells.next) spells
+          (subst (λ xs. IsCatalog xs (fin.insert volume.nodes volume.next fin.empty)) (sym c.in_ok-version.ensures.ok.has_pairs) catalog);
+    }

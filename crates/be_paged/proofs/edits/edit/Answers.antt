@@ -1,0 +1,35 @@
+use Rattle.std.proofs.Common.{◌≡◌, ℕ, sym, subst, IsOk}
+use Rattle.std.proofs.lemmas.Result.{IfOk-weaker}
+use Rattle.be_volume.specs.Volume.{step}
+use Rattle.be_volume.specs.declared.ops.Op.{Op}
+use Rattle.be_volume.specs.declared.ops.Op.TheVariants.{MkIndex}
+use Rattle.be_paged.specs.Changes.{Steps}
+use Rattle.be_paged.specs.Page.{contents}
+use Rattle.be_paged.proofs.edits.edit.Goals as goal
+
+pub returns-in-New-clause-steps : goal.returns-in-New-clause-steps
+returns-in-New-clause-steps g c = IfOk-weaker c.add_node.result _ _ (λ done e volume spells sound fits ok.
+    subst (λ (op : Op). Steps (g.R.Look.words c.add_node.new.room) (contents c.add_node.new.version) volume op done) (sym c.in-New.is) (e volume spells sound)) c.add_node.ensures.steps
+
+pub returns-in-Drop-clause-steps : goal.returns-in-Drop-clause-steps
+returns-in-Drop-clause-steps g c = IfOk-weaker c.drop_node.result _ _ (λ done e volume spells sound fits ok.
+    subst (λ (op : Op). Steps (g.R.Look.words c.drop_node.new.room) (contents c.drop_node.new.version) volume op done) (sym c.in-Drop.is) (e volume spells sound fits (subst (λ (op : Op). IsOk (step volume op)) c.in-Drop.is ok))) c.drop_node.ensures.steps
+
+pub returns-in-Set-clause-steps : goal.returns-in-Set-clause-steps
+returns-in-Set-clause-steps g c = IfOk-weaker c.set_value.result _ _ (λ done e volume spells sound fits ok.
+    subst (λ (op : Op). Steps (g.R.Look.words c.set_value.new.room) (contents c.set_value.new.version) volume op done) (sym c.in-Set.is) (e volume spells sound (subst (λ (op : Op). IsOk (step volume op)) c.in-Set.is ok))) c.set_value.ensures.steps
+
+pub returns-in-Unset-clause-steps : goal.returns-in-Unset-clause-steps
+returns-in-Unset-clause-steps g c = IfOk-weaker c.unset_value.result _ _ (λ done e volume spells sound fits ok.
+    subst (λ (op : Op). Steps (g.R.Look.words c.unset_value.new.room) (contents c.unset_value.new.version) volume op done) (sym c.in-Unset.is) (e volume spells sound (subst (λ (op : Op). IsOk (step volume op)) c.in-Unset.is ok))) c.unset_value.ensures.steps
+
+pub returns-in-MkIndex-clause-steps : goal.returns-in-MkIndex-clause-steps
+returns-in-MkIndex-clause-steps g c = λ volume spells sound fits ok.
+    subst (λ (op : Op). Steps (g.R.Look.words c.make_index.new.room) (contents c.make_index.new.version) volume op c.make_index.result) (sym c.in-MkIndex.is)
+    (subst (λ room. Steps (g.R.Look.words room) (contents c.make_index.new.version) volume (MkIndex c.in-MkIndex.name c.in-MkIndex.kind) c.make_index.result) (sym c.make_index.ensures.room)
+    (c.make_index.ensures.steps volume spells (subst (λ (op : Op). IsOk (step volume op)) c.in-MkIndex.is ok)))
+
+pub returns-in-RmIndex-clause-steps : goal.returns-in-RmIndex-clause-steps
+returns-in-RmIndex-clause-steps g c = λ volume spells sound fits ok.
+    subst (λ (op : Op). Steps (g.R.Look.words c.remove_index.new.room) (contents c.remove_index.new.version) volume op c.remove_index.result) (sym c.in-RmIndex.is)
+    (c.remove_index.ensures.steps volume spells (subst (λ (op : Op). IsOk (step volume op)) c.in-RmIndex.is ok))

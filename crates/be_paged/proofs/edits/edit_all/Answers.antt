@@ -1,0 +1,56 @@
+use Rattle.std.proofs.Common.{◌≡◌, ℕ, ◌≤◌, ◌<◌, ◌+◌, ◌^◌, IsOk, Ok, zero, suc, List, [], ◌∷◌, take, length, subst, sym, ap, ◌∙◌, refl, rules, arith, length-append}
+use Rattle.be_volume.specs.Volume.{State, step}
+use Rattle.be_volume.specs.Ahead.{reached}
+use Rattle.be_volume.proofs.StepLemmas.{turn, performed}
+use Rattle.be_volume.proofs.Soundness.{step_sound}
+use Rattle.be_paged.specs.Changes.{Reaches}
+use Rattle.be_paged.specs.Page.{contents}
+use Rattle.be_paged.proofs.Composing.{changes_none, changes_trans, start_after}
+use Rattle.be_paged.proofs.edits.edit_all.Goals as goal
+
+pub loop-op-init : goal.loop-op-init
+loop-op-init g c = record {
+  changes = changes_none g.R.Look.kept g.R.Look.standing g.R.Look.words (contents c.args.version.now) c.args.room.now c.requires.in_hand;
+  steps = λ volume spells sound ok. record { made = volume; stepped = ap (λ xs. Ok (volume, xs)) (sym c.new-dones.ensures); spells = spells; sound = sound };
+  next = omega arith;
+  counted = ap length c.new-dones.ensures;
+}
+
+pub loop-op-preserved : goal.loop-op-preserved
+loop-op-preserved g c =
+    let few : length c.args.ops.now ≤ 64 = c.requires.few in
+    let more : c.loop-op.op-index < length c.args.ops.now = c.loop-op-test.true in
+    record {
+      changes = changes_trans g.R.Look.kept g.R.Look.standing g.R.Look.words (contents c.args.version.now) (contents c.loop-op.version) (contents c.edit.new.version) c.args.room.now c.loop-op.room c.edit.new.room
+          c.loop-op.invariant.changes c.in_ok-edit.ensures.changes;
+      steps = λ volume spells sound ok.
+          let r = c.loop-op.invariant.steps volume spells sound ok in
+          let now = turn volume c.args.ops.now c.loop-op.op-index c.op-item.result c.loop-op-test.true c.op-item.is ok in
+          let accepted = subst (λ (s : State). IsOk (step s c.op-item.result)) (ap (reached volume) r.stepped) now.accepted in
+          let fits : r.made.next + 1 < 2 ^ 64 = omega (arith, r.spells.next, c.loop-op.invariant.next, c.requires.fits, few, more) in
+          let e = c.in_ok-edit.ensures.steps r.made r.spells r.sound fits accepted in
+          record {
+            made = e.made;
+            stepped = performed volume r.made e.made _ c.args.ops.now c.loop-op.op-index c.op-item.result _ c.loop-op-test.true c.op-item.is r.stepped e.stepped ∙ ap (λ xs. Ok (e.made, xs)) (sym c.push.ensures.items);
+            spells = e.spells;
+            sound = step_sound r.made e.made c.op-item.result _ r.sound fits c.valid.ensures e.stepped;
+          };
+      next = omega (arith, c.loop-op.invariant.next, c.in_ok-edit.ensures.next);
+      counted = ap length c.push.ensures.items ∙ length-append _ _ ∙ ap (λ n. n + 1) c.loop-op.invariant.counted;
+    }
+
+pub returns-in_err-edit-clause-err : goal.returns-in_err-edit-clause-err
+returns-in_err-edit-clause-err g c =
+    let k = start_after g.R.Look.kept g.R.Look.standing g.R.Look.words (contents c.args.version.now) (contents c.loop-op.version) c.args.room.now c.loop-op.room c.edit.new.room c.loop-op.invariant.changes c.in_err-edit.ensures.err in
+    search (rules, k)
+
+take_past : {A : Type 0} (xs : List A) (i : ℕ) → length xs ≤ i → take i xs ≡ xs
+take_past [] zero le = refl
+take_past [] (suc i) le = refl
+take_past (x ∷ xs) zero le = absurd (omega (arith, le))
+take_past (x ∷ xs) (suc i) le = ap (λ ys. x ∷ ys) (take_past xs i (omega (arith, le)))
+
+pub returns-clause-steps : goal.returns-clause-steps
+returns-clause-steps g c = λ volume spells sound ok.
+    subst (λ ops. Reaches (g.R.Look.words c.loop-op.room) (contents c.loop-op.version) volume ops c.loop-op.dones.items) (take_past c.args.ops.now c.loop-op.op-index c.loop-op-test.false)
+    (c.loop-op.invariant.steps volume spells sound ok)

@@ -1,0 +1,81 @@
+use Rattle.std.proofs.Common.{◌≡◌, ℕ, ◌+◌, ◌<◌, ◌^◌, ap, sym, subst, ◌∙◌, refl, rules, arith}
+use Rattle.std.specs.FinMap as fin
+use Rattle.be_volume.specs.Maps.{attributes_of}
+use Rattle.be_volume.specs.Volume.{State}
+use Rattle.be_volume.specs.declared.ops.Op.TheVariants.{Drop}
+use Rattle.be_volume.proofs.StepLemmas.{accepted}
+use Rattle.be_paged.specs.Page.{contents}
+use Rattle.be_paged.specs.Version.{Spells}
+use Rattle.be_paged.proofs.Composing.{changes_none, changes_trans, changes_since, in_hand_since, start_since, start_after}
+use Rattle.be_paged.proofs.Dropping.{leaves_first}
+use Rattle.be_paged.proofs.Emptying.{first_has, bare_of, unset_ok, thinner, some_there}
+use Rattle.be_paged.proofs.Validity.{values_valid}
+use Rattle.be_paged.proofs.edits.unset_all.Goals as goal
+
+pub loop-init : goal.loop-init
+loop-init g c = record {
+  changes = changes_none g.R.Look.kept g.R.Look.standing g.R.Look.words (contents c.args.version.now) c.args.room.now c.requires.in_hand;
+  next = refl;
+  thinned = λ volume spells sound fits ok. record {
+    left = volume;
+    spells = spells;
+    leaves = leaves_first volume c.args.node sound (accepted volume (Drop c.args.node) ok).found;
+    counted = omega (arith, sound.few_attributes c.args.node);
+  };
+}
+
+pub first_attribute-requires : goal.first_attribute-requires
+first_attribute-requires g c = record { tree = c.loop.invariant.changes.in_hand.trees.each 0 0 (omega arith) }
+
+pub unset_value-requires-clause-in_hand : goal.unset_value-requires-clause-in_hand
+unset_value-requires-clause-in_hand g c =
+    in_hand_since g.R.Look.kept g.R.Look.standing g.R.Look.words (contents c.loop.version) c.loop.room c.first_attribute.new.look c.first_attribute.ensures.unchanged c.loop.invariant.changes.in_hand
+
+pub loop-preserved : goal.loop-preserved
+loop-preserved g c =
+    let step = changes_since g.R.Look.kept g.R.Look.standing g.R.Look.words (contents c.loop.version) (contents c.unset_value.new.version) c.loop.room c.first_attribute.new.look c.unset_value.new.room
+    c.first_attribute.ensures.unchanged c.in_ok-unset_value.ensures.changes in
+    record {
+      changes = changes_trans g.R.Look.kept g.R.Look.standing g.R.Look.words (contents c.args.version.now) (contents c.loop.version) (contents c.unset_value.new.version) c.args.room.now c.loop.room c.unset_value.new.room
+          c.loop.invariant.changes step;
+      next = c.in_ok-unset_value.ensures.next ∙ c.loop.invariant.next;
+      thinned = λ volume spells sound fits ok.
+          let r = c.loop.invariant.thinned volume spells sound fits ok in
+          let first = c.in-Some.ensures.name r.left.nodes r.spells.catalog (values_valid r.left r.leaves.sound) in
+          let has = first_has r.left.nodes c.args.node c.in-Some.name (values_valid r.left r.leaves.sound) first in
+          let read = subst (λ (w : ℕ → ℕ → ℕ). Spells w (contents c.loop.version) r.left) (sym c.first_attribute.ensures.unchanged.words) r.spells in
+          let more : r.left.next + 1 < 2 ^ 64 = omega (arith, r.leaves.next, fits) in
+          thinner volume r.left c.args.node c.in-Some.name r.leaves has.1 (g.R.Look.words c.unset_value.new.room) (contents c.unset_value.new.version) _ c.loop.counter has.0 more
+          (some_there r.left.nodes c.args.node c.in-Some.name first) r.counted
+          (c.in_ok-unset_value.ensures.steps r.left read r.leaves.sound (unset_ok volume r.left c.args.node c.in-Some.name r.leaves has.1));
+    }
+
+pub returns-in_default-clause-changes : goal.returns-in_default-clause-changes
+returns-in_default-clause-changes g c =
+    let v = contents c.loop.version in
+    let read = c.first_attribute.new.look in
+    let same = c.first_attribute.ensures.unchanged in
+    changes_trans g.R.Look.kept g.R.Look.standing g.R.Look.words (contents c.args.version.now) v v c.args.room.now c.loop.room read c.loop.invariant.changes
+    (changes_since g.R.Look.kept g.R.Look.standing g.R.Look.words v v c.loop.room read read same
+    (changes_none g.R.Look.kept g.R.Look.standing g.R.Look.words v read (in_hand_since g.R.Look.kept g.R.Look.standing g.R.Look.words v c.loop.room read same c.loop.invariant.changes.in_hand)))
+
+pub returns-in_default-clause-bare : goal.returns-in_default-clause-bare
+returns-in_default-clause-bare g c = λ volume spells sound fits ok.
+    let r = c.loop.invariant.thinned volume spells sound fits ok in
+    record {
+      left = r.left;
+      spells = subst (λ (w : ℕ → ℕ → ℕ). Spells w (contents c.loop.version) r.left) (sym c.first_attribute.ensures.unchanged.words) r.spells;
+      leaves = r.leaves;
+      bare = bare_of r.left.nodes c.args.node (c.in_default.ensures.name r.left.nodes r.spells.catalog (values_valid r.left r.leaves.sound));
+    }
+
+pub returns-clause-bare : goal.returns-clause-bare
+returns-clause-bare g c = λ volume spells sound fits ok.
+    let r = c.loop.invariant.thinned volume spells sound fits ok in
+    record { left = r.left; spells = r.spells; leaves = r.leaves; bare = omega (arith, r.counted, c.loop-test.false) }
+
+pub returns-in_err-unset_value-clause-err : goal.returns-in_err-unset_value-clause-err
+returns-in_err-unset_value-clause-err g c =
+    let more = start_since g.R.Look.kept g.R.Look.standing g.R.Look.words c.loop.room c.first_attribute.new.look c.unset_value.new.room c.first_attribute.ensures.unchanged c.in_err-unset_value.ensures.err in
+    let k = start_after g.R.Look.kept g.R.Look.standing g.R.Look.words (contents c.args.version.now) (contents c.loop.version) c.args.room.now c.loop.room c.unset_value.new.room c.loop.invariant.changes more in
+    search (rules, k)

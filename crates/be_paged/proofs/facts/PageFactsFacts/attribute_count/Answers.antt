@@ -1,0 +1,6 @@
+use Rattle.be_paged.proofs.Validity.{values_valid}
+use Rattle.be_paged.proofs.facts.PageFactsFacts.attribute_count.Goals as goal
+
+pub returns-clause-answer : goal.returns-clause-answer
+returns-clause-answer g c = λ volume answers.
+    c.attribute_count.ensures.count volume.nodes answers.spells.catalog (values_valid volume answers.sound) (answers.sound.few_attributes c.args.node)

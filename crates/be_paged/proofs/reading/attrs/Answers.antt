@@ -1,0 +1,24 @@
+use Rattle.std.proofs.Common.{◌≡◌, ℕ, ◌∙◌, inr, ap, sym, subst, Ok}
+use Rattle.std.specs.FinMap as fin
+use Rattle.be_tree.specs.Key.{payload_at}
+use Rattle.be_tree.specs.Tree.{pairs}
+use Rattle.be_paged.specs.Catalog.{IsCatalog}
+use Rattle.be_paged.proofs.FactValues.{attributes_none, attributes_some, node_there}
+use Rattle.be_paged.proofs.Validity.{values_valid}
+use Rattle.be_paged.proofs.reading.attrs.Goals as goal
+
+pub returns-then-not-has_key-clause-answer : goal.returns-then-not-has_key-clause-answer
+returns-then-not-has_key-clause-answer g c = λ volume version.
+    let root = subst (λ (r : ℕ). IsCatalog (pairs (g.L.Look.words c.args.look.now) r) volume.nodes) (sym c.word-catalog.ensures.value) version.spells.catalog in
+    let catalog = subst (λ (w : ℕ → ℕ → ℕ). IsCatalog (pairs w c.word-catalog.result) volume.nodes) (sym c.word-catalog.ensures.words) root in
+    let there = node_there (pairs (g.L.Look.words c.word-catalog.new.self) c.word-catalog.result) volume.nodes c.args.node c.to_be_bytes.result catalog c.ranges.node.fits c.to_be_bytes.ensures in
+    inr (attributes_none volume c.args.node (sym there ∙ sym c.has_key.ensures.found ∙ c.if-not-has_key.true))
+
+pub returns-clause-answer : goal.returns-clause-answer
+returns-clause-answer g c = λ volume version.
+    let root = subst (λ (r : ℕ). IsCatalog (pairs (g.L.Look.words c.args.look.now) r) volume.nodes) (sym c.word-catalog.ensures.value) version.spells.catalog in
+    let catalog = subst (λ (w : ℕ → ℕ → ℕ). IsCatalog (pairs w c.word-catalog.result) volume.nodes) (sym c.word-catalog.ensures.words) root in
+    let read = subst (λ (w : ℕ → ℕ → ℕ). IsCatalog (pairs w c.word-catalog.result) volume.nodes) (sym c.has_key.ensures.unchanged.words) catalog in
+    let there = node_there (pairs (g.L.Look.words c.word-catalog.new.self) c.word-catalog.result) volume.nodes c.args.node c.to_be_bytes.result catalog c.ranges.node.fits c.to_be_bytes.ensures in
+    attributes_some volume c.args.node (sym there ∙ sym c.has_key.ensures.found ∙ c.if-not-has_key.false)
+    ∙ ap Ok (sym (c.in_ok-list_attributes.ensures.list volume.nodes read (values_valid volume version.sound) (version.sound.few_attributes c.args.node)))

@@ -1,0 +1,15 @@
+use Rattle.std.proofs.Common.{◌≡◌, ℕ, List, ◌∙◌, ap, sym, map, Ok}
+use Rattle.std.specs.FinMap as fin
+use Rattle.be_paged.specs.declared.version.Entry.{Entry}
+use Rattle.be_paged.specs.Page.{Contents, contents_of}
+use Rattle.be_paged.proofs.Indexing.{kinds_are, listed_entry}
+use Rattle.be_paged.proofs.reading.indices.Goals as goal
+
+abbrev entries_of : Contents → List Entry
+entries_of d = d.entries
+
+pub returns-clause-answer : goal.returns-clause-answer
+returns-clause-answer g c = λ volume version.
+    let w = g.L.Look.words c.args.look.now in
+    ap Ok (sym (c.in_ok-kinds.ensures ∙ ap (map listed_entry) (c.deref.ensures.0 ∙ ap entries_of c.load_version-version.ensures.contents)
+    ∙ kinds_are w (contents_of (w c.args.version_page)).entries (fin.entries volume.indices) version.spells.indices))

@@ -1,0 +1,13 @@
+use Rattle.std.proofs.Common.{◌≡◌, ℕ, ap, sym, ◌∙◌, arith}
+use Rattle.std.proofs.lemmas.Bool.Decides.{nat_tests}
+use Rattle.be_tree.proofs.Frame.{written_swaps}
+use Rattle.be_paged.proofs.writes.write_version.Goals as goal
+
+pub returns-clause-swaps : goal.returns-clause-swaps
+returns-clause-swaps g c =
+    written_swaps g.R.Look.kept g.R.Look.standing g.R.Look.words c.in_ok-page.page c.args.room.now c.store_version.new.room
+    (c.store_version.ensures.kept ∙ c.in_ok-page.ensures.kept)
+    c.in_ok-page.ensures.page.1
+    (grind (arith, nat_tests, c.store_version.ensures.standing c.in_ok-page.page))
+    (λ q ne. grind (arith, nat_tests, c.store_version.ensures.standing q, c.in_ok-page.ensures.ok q))
+    (λ q ne. c.store_version.ensures.others q ne ∙ ap (λ (w : ℕ → ℕ → ℕ). w q) c.in_ok-page.ensures.words)

@@ -1,0 +1,117 @@
+-- What a write does to the contents in hand, and to the version that it began with.
+use Rattle.std.specs.Prelude.{◌≡◌, ◌⊎◌, ℕ, ◌+◌, ◌^◌, ◌<◌, ◌≤◌, List, [], ◌∷◌, Some, IsTrue, IsOk, Ok, Err, true, if◌then◌else◌}
+use Rattle.std.specs.FinMap as map
+use Rattle.std.specs.declared.option.Option.{Option}
+use Rattle.std.specs.declared.option.Option.TheVariants as options
+use Rattle.be_value.specs.Value.{kind_of, is_indexable}
+use Rattle.be_value.specs.declared.refusals.Refusal.{Refusal}
+use Rattle.be_value.specs.declared.values.Kind.{Kind}
+use Rattle.be_value.specs.declared.values.Value.{Value}
+use Rattle.be_pages.specs.declared.room.Standing.{Standing}
+use Rattle.be_pages.specs.declared.room.Standing.TheVariants.{Filled}
+use Rattle.be_pages.specs.Pages.{Swaps, KeepsStart, IsUnchanged}
+use Rattle.be_pages.specs.Refusal.{IsFullOf}
+use Rattle.be_tree.specs.Forest.{pages_of}
+use Rattle.be_tree.specs.Key.{put, without}
+use Rattle.be_tree.specs.Pair.{Pair}
+use Rattle.be_value.specs.Key.{IsValue}
+use Rattle.be_volume.specs.Indices.{Indices, paired, unpaired, with_pair, without_node, without_pair}
+use Rattle.be_volume.specs.Maps.{attributes_of}
+use Rattle.be_volume.specs.Sound.{IsSound}
+use Rattle.be_volume.specs.Volume.{State, step, steps}
+use Rattle.be_volume.specs.declared.maps.Index.{Index}
+use Rattle.be_volume.specs.declared.ops.Done.{Done}
+use Rattle.be_volume.specs.declared.ops.Op.{Op}
+use Rattle.be_paged.specs.Page.{Contents, roots, reach}
+use Rattle.be_paged.specs.Version.{IsInHand, IsVersion, Spells}
+
+-- an index after the node got the value there, or lost the one that it had
+abbrev pub repaired : Index → ℕ → Option Value → Index
+repaired index node options.None = unpaired index node
+repaired index node (options.Some value) = paired index node value
+
+-- the indices after that at a name
+abbrev pub with_change : Indices → List ℕ → ℕ → Option Value → Indices
+with_change indices name node options.None = without_pair indices name node
+with_change indices name node (options.Some value) = with_pair indices name node value
+
+-- the volume after that: its nodes are as they were
+abbrev pub with_indices : State → List ℕ → ℕ → Option Value → State
+with_indices s name node value = record { next = s.next; nodes = s.nodes; indices = with_change s.indices name node value }
+
+-- a list of pairs without a key, if there is one to take
+abbrev pub key_taken : Option (List ℕ) → List Pair → List Pair
+key_taken options.None pairs = pairs
+key_taken (options.Some k) pairs = without k pairs
+
+-- and with a key that has no payload, if there is one to put
+abbrev pub key_put : Option (List ℕ) → List Pair → List Pair
+key_put options.None pairs = pairs
+key_put (options.Some k) pairs = put (record { key = k; payload = [] }) pairs
+
+-- what is left to drop of a volume: it is the same volume once the node has left
+pub record Leaves (volume left : State) (node : ℕ) : Type 0 where
+  pub sound : IsSound left
+  pub there : map.contains_key left.nodes node ≡ true
+  pub next : left.next ≡ volume.next
+  pub nodes : map.remove left.nodes node ≡ map.remove volume.nodes node
+  pub indices : without_node left.indices node ≡ without_node volume.indices node
+
+-- what is known of an index before its node's pair changes: the pair, if there is one, is of the old value
+pub record IsReady (index : Index) (kind : Kind) (node : ℕ) (old : Option Value) : Type 0 where
+  pub kind_is : index.kind ≡ kind
+  pub indexable : IsTrue (is_indexable kind)
+  pub fits : (n : ℕ) (value : Value) → map.get index.pairs n ≡ Some value → n < 2 ^ 64
+  pub valid : (n : ℕ) (value : Value) → map.get index.pairs n ≡ Some value → IsValue value × (kind_of value ≡ kind)
+  pub own : (value : Value) → map.get index.pairs node ≡ Some value → old ≡ Some value
+
+-- the contents in hand have become others, and the pages of their trees those of the others' trees
+pub record Changes {S K : Type 0} (kept_of : S → K) (standing_of : S → ℕ → Standing) (words_of : S → ℕ → ℕ → ℕ)
+    (before after : Contents) (old new : S) : Type 0 where
+  pub in_hand : IsInHand (standing_of new) (words_of new) after
+  pub swaps : Swaps kept_of standing_of words_of (pages_of (words_of old) (roots before)) (pages_of (words_of new) (roots after)) old new
+
+-- an accepted operation on contents in hand: they spell what the step makes of the volume
+pub record Steps (words : ℕ → ℕ → ℕ) (after : Contents) (volume : State) (op : Op) (done : Done) : Type 0 where
+  pub made : State
+  pub stepped : step volume op ≡ Ok (made, done)
+  pub spells : Spells words after made
+
+-- the same of a list of them; the volume that is reached is sound
+pub record Reaches (words : ℕ → ℕ → ℕ) (after : Contents) (volume : State) (ops : List Op) (dones : List Done) : Type 0 where
+  pub made : State
+  pub stepped : steps volume ops ≡ Ok (made, dones)
+  pub spells : Spells words after made
+  pub sound : IsSound made
+
+-- the contents spell a volume that differs from another only in what a node has: so many of its attributes are gone
+pub record IsThinned (words : ℕ → ℕ → ℕ) (c : Contents) (volume : State) (node gone : ℕ) : Type 0 where
+  pub left : State
+  pub spells : Spells words c left
+  pub leaves : Leaves volume left node
+  pub counted : map.len (attributes_of left.nodes node) + gone ≤ 64
+
+-- the contents spell a volume that differs from another only in what a node has, which is bare: without attributes
+pub record IsBare (words : ℕ → ℕ → ℕ) (c : Contents) (volume : State) (node : ℕ) : Type 0 where
+  pub left : State
+  pub spells : Spells words c left
+  pub leaves : Leaves volume left node
+  pub bare : map.len (attributes_of left.nodes node) ≡ 0
+
+-- A list of operations on a version: the new version page spells what the steps make of the volume. The pages of the old version have become
+-- exactly those of the new one, each of which is old or filled, and the new version page is one that this write has taken.
+pub record Applies {S K : Type 0} (kept_of : S → K) (standing_of : S → ℕ → Standing) (words_of : S → ℕ → ℕ → ℕ)
+    (page new_page : ℕ) (volume : State) (ops : List Op) (dones : List Done) (old new : S) : Type 0 where
+  pub made : State
+  pub stepped : steps volume ops ≡ Ok (made, dones)
+  pub version : IsVersion (standing_of new) (words_of new) new_page made
+  pub swaps : Swaps kept_of standing_of words_of (reach (words_of old) page) (reach (words_of new) new_page) old new
+  pub taken : standing_of new new_page ≡ Filled
+
+-- A refused list: the steps refuse it so, and no page was taken, filled or given up; or the steps accept it and no page was left, and what
+-- stood when the write began stands once it is undone.
+abbrev pub IsRefused : {S K : Type 0} (kept_of : S → K) (standing_of : S → ℕ → Standing) (words_of : S → ℕ → ℕ → ℕ) (full_of : S → ℕ → Type 0)
+    (volume : State) (ops : List Op) (e : Refusal) (old new : S) → Type 0
+IsRefused kept_of standing_of words_of full_of volume ops e old new =
+    ((steps volume ops ≡ Err e) × IsUnchanged kept_of standing_of words_of old new)
+    ⊎ (IsFullOf (full_of new) e × IsOk (steps volume ops) × KeepsStart kept_of standing_of words_of old new)

@@ -1,0 +1,118 @@
+//! Walks over the attributes of a node.
+//!
+//! In the catalog a node's mark comes first and its attributes follow by ascending names, so a walk begins behind the mark and ends at the
+//! first key of another node. A node has at most 64 attributes, which bounds the walk.
+ghost use Rattle.std.specs.Prelude.{◌≡◌, ◌≤◌, ◌<◌, ℕ, IsTrue, IfOk, IfSome, length, option_map, drop, slice_get, Some, None, List};
+ghost use Rattle.std.specs.FinMap as map;
+ghost use Rattle.be_pages.specs.Pages.{IsUnchanged};
+ghost use Rattle.be_value.specs.Key.{IsValue};
+ghost use Rattle.be_value.specs.declared.values.Value.{Value as AnyValue};
+ghost use Rattle.be_tree.specs.Cursor.{IsCursor, remaining};
+ghost use Rattle.be_tree.specs.Range.{pair_in};
+ghost use Rattle.be_tree.specs.Tree.{IsTree, pairs};
+ghost use Rattle.be_volume.specs.Maps.{Nodes as AllNodes, attributes_of};
+ghost use Rattle.be_volume.specs.Sound.{IsName};
+ghost use Rattle.be_paged.specs.Catalog.{IsCatalog};
+ghost use Rattle.be_paged.specs.Reading.{AreValid, attribute_pair, front};
+
+use crate::catalog::read_payload;
+use be_pages::Look;
+use be_tree::{Cursor, TreeItem};
+use be_value::{Name, Value};
+use std::alloc::{AllocError, Global};
+use std::str;
+
+/// The most attributes that a node has.
+const MAX_ATTRIBUTES: usize = 64;
+
+/// The pair of the node's next attribute, and a step past it; none once all were given.
+fn next_attribute<L: Look>(look: &mut L, cursor: &mut Cursor, node: u64) -> Option<TreeItem>
+    requires cursor { IsCursor (L.standing look.old) (L.words look.old) cursor.old }
+    ensures item { option_map pair_in result ≡ slice_get (front node (remaining (L.words look.old) cursor.old)) 0 }
+    ensures cursor { IsCursor (L.standing look.old) (L.words look.old) cursor.new }
+    ensures rest { IfSome result (λ _. front node (remaining (L.words look.old) cursor.new) ≡ drop 1 (front node (remaining (L.words look.old) cursor.old))) }
+    ensures unchanged { IsUnchanged L.kept L.standing L.words look.old look.new }
+{
+    let item = cursor.next(look)?;
+    if item.key.starts_with(&node.to_be_bytes()) {
+        Some(item)
+    } else {
+        None
+    }
+}
+
+/// How many attributes the node has. It walks over them.
+pub(crate) fn attribute_count<L: Look>(look: &mut L, catalog: u64, node: u64) -> usize
+    requires tree { IsTree (L.standing look.old) (L.words look.old) catalog }
+    ensures count { (nodes : AllNodes) → IsCatalog (pairs (L.words look.old) catalog) nodes → AreValid nodes →
+        map.len (attributes_of nodes node) ≤ 64 → result ≡ map.len (attributes_of nodes node) }
+    ensures unchanged { IsUnchanged L.kept L.standing L.words look.old look.new }
+{
+    let mut cursor = Cursor::seek(look, catalog, &node.to_be_bytes(), true);
+    for count in 0..MAX_ATTRIBUTES {
+        let Some(_) = next_attribute(look, &mut cursor, node) else {
+            return count;
+        };
+    }
+    MAX_ATTRIBUTES
+}
+
+/// The attribute that a pair of the catalog tells.
+fn read_attribute(item: &TreeItem) -> Option<(Name, Value)>
+    ensures { (node : ℕ) (name : List ℕ) (value : AnyValue) → IsName name → IsValue value →
+        pair_in item.now ≡ attribute_pair node (name, value) → result ≡ Some (name, value) }
+{
+    let name = Name::new(str::from_utf8(item.key.get(8..)?).ok()?).ok()?;
+    let value = read_payload(&item.payload)?;
+    Some((name, value))
+}
+
+/// The node's next attribute, and a step past it; none once all were given.
+fn next_value<L: Look>(look: &mut L, cursor: &mut Cursor, node: u64) -> Option<(Name, Value)>
+    requires cursor { IsCursor (L.standing look.old) (L.words look.old) cursor.old }
+    ensures value { (name : List ℕ) (value : AnyValue) → IsName name → IsValue value →
+        slice_get (front node (remaining (L.words look.old) cursor.old)) 0 ≡ Some (attribute_pair node (name, value)) → result ≡ Some (name, value) }
+    ensures none { slice_get (front node (remaining (L.words look.old) cursor.old)) 0 ≡ None → result ≡ None }
+    ensures more { IfSome result (λ _. 0 < length (front node (remaining (L.words look.old) cursor.old))) }
+    ensures cursor { IsCursor (L.standing look.old) (L.words look.old) cursor.new }
+    ensures rest { IfSome result (λ _. front node (remaining (L.words look.old) cursor.new) ≡ drop 1 (front node (remaining (L.words look.old) cursor.old))) }
+    ensures unchanged { IsUnchanged L.kept L.standing L.words look.old look.new }
+{
+    let item = next_attribute(look, cursor, node)?;
+    read_attribute(&item)
+}
+
+/// The node's attributes by ascending names, in a vector.
+pub(crate) fn list_attributes<L: Look>(
+    alloc: Global,
+    look: &mut L,
+    catalog: u64,
+    node: u64,
+) -> Result<Vec<(Name, Value)>, AllocError>
+    requires tree { IsTree (L.standing look.old) (L.words look.old) catalog }
+    ensures list { (nodes : AllNodes) → IsCatalog (pairs (L.words look.old) catalog) nodes → AreValid nodes →
+        map.len (attributes_of nodes node) ≤ 64 → IfOk result (λ list. list.items ≡ map.entries (attributes_of nodes node)) }
+    ensures unchanged { IsUnchanged L.kept L.standing L.words look.old look.new }
+{
+    let mut list = Vec::new(alloc);
+    let mut cursor = Cursor::seek(look, catalog, &node.to_be_bytes(), true);
+    for _ in 0..MAX_ATTRIBUTES {
+        let Some(attribute) = next_value(look, &mut cursor, node) else {
+            return Ok(list);
+        };
+        list.push(attribute)?;
+    }
+    Ok(list)
+}
+
+/// The name of the node's first attribute, if it has one.
+pub(crate) fn first_attribute<L: Look>(look: &mut L, catalog: u64, node: u64) -> Option<Name>
+    requires tree { IsTree (L.standing look.old) (L.words look.old) catalog }
+    ensures name { (nodes : AllNodes) → IsCatalog (pairs (L.words look.old) catalog) nodes → AreValid nodes →
+        result ≡ option_map (λ e. e.0) (slice_get (map.entries (attributes_of nodes node)) 0) }
+    ensures unchanged { IsUnchanged L.kept L.standing L.words look.old look.new }
+{
+    let mut cursor = Cursor::seek(look, catalog, &node.to_be_bytes(), true);
+    let (name, _) = next_value(look, &mut cursor, node)?;
+    Some(name)
+}

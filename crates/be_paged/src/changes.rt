@@ -1,0 +1,151 @@
+//! Changes of the trees that a version in hand names.
+//!
+//! An attribute and its pair in an index change one after the other. Between the two the contents spell a volume of which an index says other
+//! than the attribute, so what is kept from one change to the next is that the trees stand, apart from what they say.
+ghost use Rattle.std.specs.Prelude.{◌≡◌, ℕ, ◌+◌, ◌≤◌, length, IsTrue, IfOk, IfErr, OnOk, OnErr, IfSome, IfNone, Some, option_map, true, is_some, List};
+ghost use Rattle.be_value.specs.Key.{key, IsValue};
+ghost use Rattle.be_value.specs.Value.{kind_of as kind_in, is_indexable};
+ghost use Rattle.be_value.specs.declared.values.Value.{Value as AnyValue};
+ghost use Rattle.be_pages.specs.Pages.{IsUnchanged, KeepsStart, Swaps};
+ghost use Rattle.be_pages.specs.Refusal.{IsFullOf};
+ghost use Rattle.be_tree.specs.Key.{payload_at};
+ghost use Rattle.be_tree.specs.Tree.{BecomesTree, IsTree, pages, pairs};
+ghost use Rattle.be_volume.specs.Reading.{attribute};
+ghost use Rattle.be_volume.specs.Sound.{IsSound};
+ghost use Rattle.be_volume.specs.Volume.{State};
+ghost use Rattle.be_volume.specs.declared.maps.Index.{Index as AnyIndex};
+ghost use Rattle.be_paged.specs.Catalog.{IsIndexOf};
+ghost use Rattle.be_paged.specs.Changes.{Changes, IsReady, repaired, with_indices, key_taken, key_put};
+ghost use Rattle.be_paged.specs.Page.{contents};
+ghost use Rattle.be_paged.specs.Version.{IsInHand, Spells};
+
+use crate::entries::{index_at, search, set_root};
+use crate::version::Version;
+use arrayvec::ArrayVec;
+use be_pages::{Look, Room};
+use be_tree::{has_key, insert, remove};
+use be_value::{Kind, Name, Refusal, Value, key_of, valid};
+
+/// The key of a pair in an index of this kind, if there is a value and it is of the kind.
+fn key_in(kind: Kind, value: &Option<Value>, node: u64) -> Option<ArrayVec<u8, 264>>
+    ensures some { IfSome result (λ k. (v : AnyValue) × (value.now ≡ Some v) × (kind_in v ≡ kind) × IsValue v × (k.items ≡ key v node)) }
+    ensures none { IfNone result ((v : AnyValue) → value.now ≡ Some v → kind_in v ≡ kind → IsTrue (is_indexable kind) → ⊥) }
+{
+    if !kind.indexable() {
+        return None;
+    }
+    match value {
+        Some(value) if value.kind() == kind => {
+            valid(value);
+            Some(key_of(value, node))
+        }
+        _ => None,
+    }
+}
+
+/// Whether a tree has a key, if there is one to look for.
+fn holds_key<L: Look>(look: &mut L, root: u64, key: &Option<ArrayVec<u8, 264>>) -> bool
+    requires tree { IsTree (L.standing look.old) (L.words look.old) root }
+    ensures found { result ≡ true → (k : List ℕ) × (option_map (λ k. k.items) key.now ≡ Some k) × (is_some (payload_at (pairs (L.words look.old) root) k) ≡ true) }
+    ensures unchanged { IsUnchanged L.kept L.standing L.words look.old look.new }
+{
+    match key {
+        Some(key) => has_key(look, root, key),
+        None => false,
+    }
+}
+
+/// Takes a key out of a tree, if there is one to take.
+fn take_key<R: Room>(
+    room: &mut R,
+    root: u64,
+    key: &Option<ArrayVec<u8, 264>>,
+) -> Result<u64, Refusal>
+    requires tree { IsTree (R.standing room.old) (R.words room.old) root }
+    requires open { IsTrue (R.is_open (R.kept room.old)) }
+    ensures ok { IfOk result (λ new. BecomesTree R.kept R.standing R.words (pages (R.words room.old) root)
+        (key_taken (option_map (λ k. k.items) key.now) (pairs (R.words room.old) root)) new room.old room.new) }
+    ensures err { OnErr result (KeepsStart R.kept R.standing R.words room.old room.new) }
+    ensures full { IfErr result (IsFullOf (R.full room.new)) }
+{
+    match key {
+        Some(key) => remove(room, root, key),
+        None => Ok(root),
+    }
+}
+
+/// Puts a key without a payload into a tree, if there is one to put.
+fn put_key<R: Room>(
+    room: &mut R,
+    root: u64,
+    key: &Option<ArrayVec<u8, 264>>,
+) -> Result<u64, Refusal>
+    requires tree { IsTree (R.standing room.old) (R.words room.old) root }
+    requires open { IsTrue (R.is_open (R.kept room.old)) }
+    ensures ok { IfOk result (λ new. BecomesTree R.kept R.standing R.words (pages (R.words room.old) root)
+        (key_put (option_map (λ k. k.items) key.now) (pairs (R.words room.old) root)) new room.old room.new) }
+    ensures err { OnErr result (KeepsStart R.kept R.standing R.words room.old room.new) }
+    ensures full { IfErr result (IsFullOf (R.full room.new)) }
+{
+    match key {
+        Some(key) => insert(room, root, key, &[]),
+        None => Ok(root),
+    }
+}
+
+/// Changes the node's pair in the tree of an index: that of the old value leaves, and that of the new one enters, each if it is of the index's
+/// kind. A pair that stands already isn't touched.
+fn change_root<R: Room>(
+    room: &mut R,
+    root: u64,
+    kind: Kind,
+    node: u64,
+    old: &Option<Value>,
+    new: &Option<Value>,
+) -> Result<u64, Refusal>
+    requires tree { IsTree (R.standing room.old) (R.words room.old) root }
+    requires open { IsTrue (R.is_open (R.kept room.old)) }
+    ensures tree { IfOk result (λ r. IsTree (R.standing room.new) (R.words room.new) r) }
+    ensures swaps { IfOk result (λ r. Swaps R.kept R.standing R.words (pages (R.words room.old) root) (pages (R.words room.new) r) room.old room.new) }
+    ensures keys { IfOk result (λ r. (index : AnyIndex) → IsIndexOf (pairs (R.words room.old) root) index → IsReady index kind node old.now →
+        IsIndexOf (pairs (R.words room.new) r) (repaired index node new.now)) }
+    ensures err { OnErr result (KeepsStart R.kept R.standing R.words room.old room.new) }
+    ensures full { IfErr result (IsFullOf (R.full room.new)) }
+{
+    let leaves = key_in(kind, old, node);
+    let enters = key_in(kind, new, node);
+    if holds_key(room, root, &enters) {
+        return Ok(root);
+    }
+    let rest = take_key(room, root, &leaves)?;
+    let last = put_key(room, rest, &enters)?;
+    Ok(last)
+}
+
+/// Changes the node's pair in the index of a name, if there is one.
+pub(crate) fn change_entry<R: Room>(
+    room: &mut R,
+    version: &mut Version,
+    node: u64,
+    name: &Name,
+    old: &Option<Value>,
+    new: &Option<Value>,
+) -> Result<(), Refusal>
+    requires in_hand { IsInHand (R.standing room.old) (R.words room.old) (contents version.old) }
+    requires open { IsTrue (R.is_open (R.kept room.old)) }
+    ensures changes { OnOk result (Changes R.kept R.standing R.words (contents version.old) (contents version.new) room.old room.new) }
+    ensures spells { OnOk result ((volume : State) → Spells (R.words room.old) (contents version.old) volume → IsSound volume → old.now ≡ attribute volume node name.now →
+        Spells (R.words room.new) (contents version.new) (with_indices volume name.now node new.now)) }
+    ensures catalog { OnOk result (version.new.catalog ≡ version.old.catalog) }
+    ensures next { OnOk result (version.new.next ≡ version.old.next) }
+    ensures err { OnErr result (KeepsStart R.kept R.standing R.words room.old room.new) }
+    ensures full { IfErr result (IsFullOf (R.full room.new)) }
+{
+    let Ok(at) = search(&version.entries, name) else {
+        return Ok(());
+    };
+    let (kind, root) = index_at(&version.entries, at);
+    let changed = change_root(room, root, kind, node, old, new)?;
+    set_root(&mut version.entries, at, changed);
+    Ok(())
+}

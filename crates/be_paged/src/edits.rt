@@ -1,0 +1,218 @@
+//! Operations on a version in hand.
+//!
+//! Refusals are found before, so each operation only does its work and fails for want of pages alone. What it leaves then is not said: the write
+//! is undone.
+ghost use Rattle.std.specs.Prelude.{◌≡◌, ℕ, ◌+◌, ◌≤◌, ◌<◌, ◌^◌, length, All, IsTrue, IfOk, IfErr, OnOk, OnErr, IsOk};
+ghost use Rattle.be_pages.specs.Pages.{KeepsStart};
+ghost use Rattle.be_pages.specs.Refusal.{IsFullOf};
+ghost use Rattle.be_volume.specs.Sound.{IsSound};
+ghost use Rattle.be_volume.specs.Volume.{State, step, steps};
+ghost use Rattle.be_volume.specs.declared.ops.Op.TheVariants as ops;
+ghost use Rattle.be_paged.specs.Changes.{Changes, IsBare, Steps, Reaches};
+ghost use Rattle.be_paged.specs.Page.{contents};
+ghost use Rattle.be_paged.specs.Version.{IsInHand, Spells};
+
+use crate::attributes::first_attribute;
+use crate::catalog::{catalog_key, payload_of};
+use crate::changes::change_entry;
+use crate::entries::{copy_name, search};
+use crate::reading::value_in;
+use crate::version::{Entry, Version};
+use arrayvec::ArrayVec;
+use be_pages::Room;
+use be_tree::{clear, insert, remove};
+use be_value::{Kind, Name, Refusal, Value};
+use be_volume::{Done, Op};
+
+/// The most attributes that a node has.
+const MAX_ATTRIBUTES: usize = 64;
+
+/// The most indices that a volume has.
+const MAX_INDICES: usize = 32;
+
+/// A new node: its mark enters the catalog.
+fn add_node<R: Room>(room: &mut R, version: &mut Version) -> Result<Done, Refusal>
+    requires in_hand { IsInHand (R.standing room.old) (R.words room.old) (contents version.old) }
+    requires next { version.old.next + 1 < 2 ^ 64 }
+    requires open { IsTrue (R.is_open (R.kept room.old)) }
+    ensures changes { OnOk result (Changes R.kept R.standing R.words (contents version.old) (contents version.new) room.old room.new) }
+    ensures steps { IfOk result (λ done. (volume : State) → Spells (R.words room.old) (contents version.old) volume → IsSound volume →
+        Steps (R.words room.new) (contents version.new) volume ops.New done) }
+    ensures next { OnOk result (version.new.next ≡ version.old.next + 1) }
+    ensures err { OnErr result (KeepsStart R.kept R.standing R.words room.old room.new) }
+    ensures full { IfErr result (IsFullOf (R.full room.new)) }
+{
+    let node = version.next;
+    version.catalog = insert(room, version.catalog, &node.to_be_bytes(), &[])?;
+    version.next = node + 1;
+    Ok(Done::Node(node))
+}
+
+/// Sets an attribute: its pair changes first, and then what the catalog has.
+fn set_value<R: Room>(
+    room: &mut R,
+    version: &mut Version,
+    node: u64,
+    name: &Name,
+    value: &Value,
+) -> Result<Done, Refusal>
+    requires in_hand { IsInHand (R.standing room.old) (R.words room.old) (contents version.old) }
+    requires open { IsTrue (R.is_open (R.kept room.old)) }
+    ensures changes { OnOk result (Changes R.kept R.standing R.words (contents version.old) (contents version.new) room.old room.new) }
+    ensures steps { IfOk result (λ done. (volume : State) → Spells (R.words room.old) (contents version.old) volume → IsSound volume →
+        IsOk (step volume (ops.Set node name.now value.now)) → Steps (R.words room.new) (contents version.new) volume (ops.Set node name.now value.now) done) }
+    ensures next { OnOk result (version.new.next ≡ version.old.next) }
+    ensures err { OnErr result (KeepsStart R.kept R.standing R.words room.old room.new) }
+    ensures full { IfErr result (IsFullOf (R.full room.new)) }
+{
+    let old = value_in(room, version.catalog, node, name);
+    change_entry(room, version, node, name, &old, &Some(value.copy()))?;
+    let key = catalog_key(node, name);
+    version.catalog = insert(room, version.catalog, &key, &payload_of(value))?;
+    Ok(Done::Unit)
+}
+
+/// Takes an attribute away, and its pair before it.
+fn unset_value<R: Room>(
+    room: &mut R,
+    version: &mut Version,
+    node: u64,
+    name: &Name,
+) -> Result<Done, Refusal>
+    requires in_hand { IsInHand (R.standing room.old) (R.words room.old) (contents version.old) }
+    requires open { IsTrue (R.is_open (R.kept room.old)) }
+    ensures changes { OnOk result (Changes R.kept R.standing R.words (contents version.old) (contents version.new) room.old room.new) }
+    ensures steps { IfOk result (λ done. (volume : State) → Spells (R.words room.old) (contents version.old) volume → IsSound volume →
+        IsOk (step volume (ops.Unset node name.now)) → Steps (R.words room.new) (contents version.new) volume (ops.Unset node name.now) done) }
+    ensures next { OnOk result (version.new.next ≡ version.old.next) }
+    ensures err { OnErr result (KeepsStart R.kept R.standing R.words room.old room.new) }
+    ensures full { IfErr result (IsFullOf (R.full room.new)) }
+{
+    let old = value_in(room, version.catalog, node, name);
+    change_entry(room, version, node, name, &old, &None)?;
+    let key = catalog_key(node, name);
+    version.catalog = remove(room, version.catalog, &key)?;
+    Ok(Done::Unit)
+}
+
+/// A new index, which is empty whatever the nodes have: it takes no page.
+fn make_index<R: Room>(room: &mut R, version: &mut Version, name: &Name, kind: Kind) -> Done
+    requires in_hand { IsInHand (R.standing room.old) (R.words room.old) (contents version.old) }
+    ensures room { room.new ≡ room.old }
+    ensures changes { Changes R.kept R.standing R.words (contents version.old) (contents version.new) room.old room.old }
+    ensures steps { (volume : State) → Spells (R.words room.old) (contents version.old) volume →
+        IsOk (step volume (ops.MkIndex name.now kind)) → Steps (R.words room.old) (contents version.new) volume (ops.MkIndex name.now kind) result }
+    ensures next { version.new.next ≡ version.old.next }
+{
+    if let Err(at) = search(&version.entries, name) {
+        if version.entries.len() < MAX_INDICES {
+            version.entries.insert(
+                at,
+                Entry {
+                    name: copy_name(name),
+                    kind,
+                    root: 0,
+                },
+            );
+        }
+    }
+    Done::Unit
+}
+
+/// Removes an index, and gives up every page of its tree.
+fn remove_index<R: Room>(room: &mut R, version: &mut Version, name: &Name) -> Done
+    requires in_hand { IsInHand (R.standing room.old) (R.words room.old) (contents version.old) }
+    requires open { IsTrue (R.is_open (R.kept room.old)) }
+    ensures changes { Changes R.kept R.standing R.words (contents version.old) (contents version.new) room.old room.new }
+    ensures steps { (volume : State) → Spells (R.words room.old) (contents version.old) volume →
+        IsOk (step volume (ops.RmIndex name.now)) → Steps (R.words room.new) (contents version.new) volume (ops.RmIndex name.now) result }
+    ensures next { version.new.next ≡ version.old.next }
+{
+    if let Ok(at) = search(&version.entries, name) {
+        let entry = version.entries.remove(at);
+        clear(room, entry.root);
+    }
+    Done::Unit
+}
+
+/// Takes all attributes of a node away, each with its pair.
+fn unset_all<R: Room>(room: &mut R, version: &mut Version, node: u64) -> Result<(), Refusal>
+    requires in_hand { IsInHand (R.standing room.old) (R.words room.old) (contents version.old) }
+    requires open { IsTrue (R.is_open (R.kept room.old)) }
+    ensures changes { OnOk result (Changes R.kept R.standing R.words (contents version.old) (contents version.new) room.old room.new) }
+    ensures bare { OnOk result ((volume : State) → Spells (R.words room.old) (contents version.old) volume → IsSound volume →
+        volume.next + 1 < 2 ^ 64 → IsOk (step volume (ops.Drop node)) → IsBare (R.words room.new) (contents version.new) volume node) }
+    ensures next { OnOk result (version.new.next ≡ version.old.next) }
+    ensures err { OnErr result (KeepsStart R.kept R.standing R.words room.old room.new) }
+    ensures full { IfErr result (IsFullOf (R.full room.new)) }
+{
+    for _ in 0..MAX_ATTRIBUTES {
+        let Some(name) = first_attribute(room, version.catalog, node) else {
+            return Ok(());
+        };
+        unset_value(room, version, node, &name)?;
+    }
+    Ok(())
+}
+
+/// Drops a node: each of its attributes with its pair, and then its mark.
+fn drop_node<R: Room>(room: &mut R, version: &mut Version, node: u64) -> Result<Done, Refusal>
+    requires in_hand { IsInHand (R.standing room.old) (R.words room.old) (contents version.old) }
+    requires open { IsTrue (R.is_open (R.kept room.old)) }
+    ensures changes { OnOk result (Changes R.kept R.standing R.words (contents version.old) (contents version.new) room.old room.new) }
+    ensures steps { IfOk result (λ done. (volume : State) → Spells (R.words room.old) (contents version.old) volume → IsSound volume →
+        volume.next + 1 < 2 ^ 64 → IsOk (step volume (ops.Drop node)) → Steps (R.words room.new) (contents version.new) volume (ops.Drop node) done) }
+    ensures next { OnOk result (version.new.next ≡ version.old.next) }
+    ensures err { OnErr result (KeepsStart R.kept R.standing R.words room.old room.new) }
+    ensures full { IfErr result (IsFullOf (R.full room.new)) }
+{
+    unset_all(room, version, node)?;
+    version.catalog = remove(room, version.catalog, &node.to_be_bytes())?;
+    Ok(Done::Unit)
+}
+
+/// One operation.
+fn edit<R: Room>(room: &mut R, version: &mut Version, op: &Op) -> Result<Done, Refusal>
+    requires in_hand { IsInHand (R.standing room.old) (R.words room.old) (contents version.old) }
+    requires next { version.old.next + 1 < 2 ^ 64 }
+    requires open { IsTrue (R.is_open (R.kept room.old)) }
+    ensures changes { OnOk result (Changes R.kept R.standing R.words (contents version.old) (contents version.new) room.old room.new) }
+    ensures steps { IfOk result (λ done. (volume : State) → Spells (R.words room.old) (contents version.old) volume → IsSound volume →
+        volume.next + 1 < 2 ^ 64 → IsOk (step volume op.now) → Steps (R.words room.new) (contents version.new) volume op.now done) }
+    ensures next { OnOk result (version.new.next ≤ version.old.next + 1) }
+    ensures err { OnErr result (KeepsStart R.kept R.standing R.words room.old room.new) }
+    ensures full { IfErr result (IsFullOf (R.full room.new)) }
+{
+    match op {
+        Op::New => add_node(room, version),
+        Op::Drop(node) => drop_node(room, version, *node),
+        Op::Set(node, name, value) => set_value(room, version, *node, name, value),
+        Op::Unset(node, name) => unset_value(room, version, *node, name),
+        Op::MkIndex(name, kind) => Ok(make_index(room, version, name, *kind)),
+        Op::RmIndex(name) => Ok(remove_index(room, version, name)),
+    }
+}
+
+/// A list of operations that are accepted, one after the other.
+pub(crate) fn edit_all<R: Room>(
+    room: &mut R,
+    version: &mut Version,
+    ops: &[Op],
+) -> Result<ArrayVec<Done, 64>, Refusal>
+    requires few { length ops.now ≤ 64 }
+    requires in_hand { IsInHand (R.standing room.old) (R.words room.old) (contents version.old) }
+    requires fits { version.old.next + 64 < 2 ^ 64 }
+    requires open { IsTrue (R.is_open (R.kept room.old)) }
+    ensures changes { OnOk result (Changes R.kept R.standing R.words (contents version.old) (contents version.new) room.old room.new) }
+    ensures steps { IfOk result (λ dones. (volume : State) → Spells (R.words room.old) (contents version.old) volume → IsSound volume →
+        IsOk (steps volume ops.now) → Reaches (R.words room.new) (contents version.new) volume ops.now dones.items) }
+    ensures err { OnErr result (KeepsStart R.kept R.standing R.words room.old room.new) }
+    ensures full { IfErr result (IsFullOf (R.full room.new)) }
+{
+    let mut dones = ArrayVec::new();
+    for op in ops {
+        op.valid();
+        dones.push(edit(room, version, op)?);
+    }
+    Ok(dones)
+}

@@ -1,0 +1,54 @@
+//! The facts of a version in hand on which refusals rest.
+use crate::attributes::attribute_count;
+use crate::catalog::catalog_key;
+use crate::entries::search;
+use crate::version::Version;
+use be_pages::Look;
+use be_tree::has_key;
+use be_value::Name;
+use be_volume::Facts;
+
+/// A reader of these facts.
+#[derive(Drop)]
+pub(crate) struct PageFacts<'a, L: Look> {
+    pub(crate) look: &'a mut L,
+    pub(crate) version: &'a Version,
+}
+
+impl<L: Look> Facts for PageFacts<'_, L> {
+    ghost use Rattle.std.specs.Prelude.{ℕ};
+    ghost use base.Fml.{GName};
+    ghost use Rattle.be_pages.specs.declared.room.Standing.{Standing as Stands};
+    ghost use Rattle.be_paged.specs.Page.{contents};
+    ghost use Rattle.be_paged.specs.Facts.{AnswersFor};
+
+    ghost Kept = { GName × (L.Kept × ((ℕ → Stands) × (ℕ → ℕ → ℕ))) };
+
+    ghost kept = { λ f. (f.look.ghost_name, (L.kept f.look.now, (L.standing f.look.now, L.words f.look.now))) };
+
+    ghost answers_for = { λ f volume. AnswersFor (L.standing f.look.now) (L.words f.look.now) (contents f.version.now) volume };
+
+    fn next(&mut self) -> u64 {
+        self.version.next
+    }
+
+    fn has_node(&mut self, node: u64) -> bool {
+        has_key(self.look, self.version.catalog, &node.to_be_bytes())
+    }
+
+    fn has_attribute(&mut self, node: u64, name: &Name) -> bool {
+        has_key(self.look, self.version.catalog, &catalog_key(node, name))
+    }
+
+    fn attribute_count(&mut self, node: u64) -> usize {
+        attribute_count(self.look, self.version.catalog, node)
+    }
+
+    fn has_index(&mut self, name: &Name) -> bool {
+        search(&self.version.entries, name).is_ok()
+    }
+
+    fn index_count(&mut self) -> usize {
+        self.version.entries.len()
+    }
+}

@@ -1,0 +1,144 @@
+//! A version as a source of queries.
+//!
+//! A walk over an index asks for one key after the other. So the source keeps a cursor of the tree that it walked last: where the next key is
+//! asked from the very key that it gave, it goes on from there and makes no descent.
+ghost use Rattle.std.specs.Prelude.{◌≡◌, ◌<◌, ℕ, List, true, IfOk, OnOk, length, slice_index_or};
+ghost use Rattle.be_pages.specs.Pages.{IsUnchanged};
+ghost use Rattle.be_tree.specs.Cursor.{IsCursor, remaining};
+ghost use Rattle.be_tree.specs.Range.{pairs_from};
+ghost use Rattle.be_tree.specs.Tree.{IsTree, pairs};
+ghost use Rattle.be_volume.specs.Volume.{State};
+ghost use Rattle.be_paged.specs.Page.{contents};
+ghost use Rattle.be_paged.specs.Source.{StandsBehind};
+ghost use Rattle.be_paged.specs.Version.{IsInHand, IsVersion};
+ghost use Rattle.be_paged.specs.declared.version.Entry.{Entry as AnyEntry};
+
+use crate::entries::{index_at, search};
+use crate::reading::value_in;
+use crate::version::{Version, load_version};
+use arrayvec::ArrayVec;
+use be_pages::Look;
+use be_plan::Source;
+use be_tree::{Cursor, has_key};
+use be_value::{Kind, Name, Value};
+
+/// A place that no index has.
+const NOWHERE: usize = 32;
+
+/// A reader of one version, which it has loaded, and its look. It takes no memory besides its own.
+#[derive(Drop)]
+pub struct PagedSource<L> {
+    look: L,
+    version: Version,
+    cursor: Cursor,
+    place: usize,
+    last: ArrayVec<u8, 264>,
+}
+
+/// The version of a page as a source. It reads the version page once, and keeps the look until `into_look`.
+pub fn source<L: Look>(look: L, version_page: u64) -> PagedSource<L>
+    requires version { (volume : State) × IsVersion (L.standing look) (L.words look) version_page volume }
+    ensures answers { (volume : State) → IsVersion (L.standing look) (L.words look) version_page volume → ⟦<PagedSource<L> as Source>⟧.answers_for result volume }
+    ensures look { ⟦<PagedSource<L> as Source>⟧.kept result ≡ (L.kept look, (L.standing look, L.words look)) }
+{
+    let mut look = look;
+    let version = load_version(&mut look, version_page);
+    PagedSource {
+        look,
+        version,
+        cursor: Cursor::new(),
+        place: NOWHERE,
+        last: ArrayVec::new(),
+    }
+}
+
+impl<L: Look> PagedSource<L> {
+    /// The look back, with the facts that it had.
+    pub fn into_look(self) -> L
+        ensures look { (L.kept result, (L.standing result, L.words result)) ≡ ⟦<PagedSource<L> as Source>⟧.kept self }
+    {
+        self.look
+    }
+
+    /// Brings the cursor before the least key of an index at `from` or after it, or strictly after it. Where it stands behind that very key
+    /// nothing moves.
+    fn walk_to(&mut self, place: usize, from: &[u8], after: bool)
+        requires in_hand { IsInHand (L.standing self.old.look) (L.words self.old.look) (contents self.old.version) }
+        requires behind { StandsBehind (L.standing self.old.look) (L.words self.old.look) self.old.version.entries.items self.old.cursor self.old.place self.old.last.items }
+        requires in_range { place < length self.old.version.entries.items }
+        ensures cursor { IsCursor (L.standing self.new.look) (L.words self.new.look) self.new.cursor }
+        ensures rest { (d : AnyEntry) → remaining (L.words self.new.look) self.new.cursor ≡
+            pairs_from (pairs (L.words self.new.look) (slice_index_or self.old.version.entries.items place d).root) from.now after }
+        ensures version { self.new.version ≡ self.old.version }
+        ensures unchanged { IsUnchanged L.kept L.standing L.words self.old.look self.new.look }
+    {
+        if after {
+            if self.stands_behind(place, from) {
+                return;
+            }
+        }
+        let (_, root) = index_at(&self.version.entries, place);
+        self.cursor = Cursor::seek(&mut self.look, root, from, after);
+    }
+
+    /// Whether the cursor stands behind this key of this index.
+    fn stands_behind(&self, place: usize, key: &[u8]) -> bool
+        ensures { result ≡ true → (place ≡ self.now.place) × (self.now.last.items ≡ key.now) }
+    {
+        place == self.place && self.last.as_slice() == key
+    }
+}
+
+/// An equal key.
+fn copy_key(key: &ArrayVec<u8, 264>) -> ArrayVec<u8, 264>
+    ensures { result.items ≡ key.now.items }
+{
+    let mut copy = ArrayVec::new();
+    copy.try_extend_from_slice(key.as_slice()).unwrap();
+    copy
+}
+
+impl<L: Look> Source for PagedSource<L> {
+    ghost use Rattle.std.specs.Prelude.{ℕ};
+    ghost use Rattle.be_pages.specs.declared.room.Standing.{Standing as Stands};
+    ghost use Rattle.be_paged.specs.Page.{contents};
+    ghost use Rattle.be_paged.specs.Source.{SourceOf};
+
+    ghost Kept = { L.Kept × ((ℕ → Stands) × (ℕ → ℕ → ℕ)) };
+
+    ghost kept = { λ s. (L.kept s.look, (L.standing s.look, L.words s.look)) };
+
+    ghost answers_for = { λ s volume. SourceOf (L.standing s.look) (L.words s.look) (contents s.version) s.cursor s.place s.last.items volume };
+
+    ghost sound = { λ s volume is. is.answers.sound };
+
+    fn kind_of(&mut self, name: &Name) -> Option<Kind> {
+        match search(&self.version.entries, name) {
+            Ok(place) => Some(self.version.entries[place].kind),
+            Err(_) => None,
+        }
+    }
+
+    fn next_key(&mut self, name: &Name, from: &[u8], after: bool) -> Option<ArrayVec<u8, 264>> {
+        let Ok(place) = search(&self.version.entries, name) else {
+            return None;
+        };
+        self.walk_to(place, from, after);
+        self.place = NOWHERE;
+        let key = self.cursor.next_key(&mut self.look)?;
+        self.place = place;
+        self.last = copy_key(&key);
+        Some(key)
+    }
+
+    fn has_key(&mut self, name: &Name, key: &[u8]) -> bool {
+        match search(&self.version.entries, name) {
+            Ok(place) => has_key(&mut self.look, self.version.entries[place].root, key),
+            Err(_) => false,
+        }
+    }
+
+    fn value(&mut self, node: u64, name: &Name) -> Option<Value> {
+        value_in(&mut self.look, self.version.catalog, node, name)
+    }
+}

@@ -1,0 +1,76 @@
+//! Reading a volume from its version page.
+ghost use Rattle.std.specs.Prelude.{◌≡◌, Ok};
+ghost use Rattle.be_pages.specs.Pages.{IsUnchanged};
+ghost use Rattle.be_tree.specs.Tree.{IsTree, pairs};
+ghost use Rattle.be_volume.specs.Maps.{Nodes as AllNodes};
+ghost use Rattle.be_value.specs.Refusal.{Answers};
+ghost use Rattle.be_volume.specs.Reading.{attribute, attributes_at, index_kinds};
+ghost use Rattle.be_volume.specs.Volume.{State};
+ghost use Rattle.be_paged.specs.Catalog.{IsCatalog, value_at};
+ghost use Rattle.be_paged.specs.Reading.{AreValid};
+ghost use Rattle.be_paged.specs.Version.{IsVersion};
+
+use crate::attributes::list_attributes;
+use crate::catalog::{catalog_key, read_payload};
+use crate::entries::kinds;
+use crate::version::load_version;
+use be_pages::Look;
+use be_tree::{find, has_key};
+use be_value::{Kind, Name, Refusal, Value};
+use std::alloc::Global;
+
+/// A node's value at a name, from the catalog's tree.
+pub(crate) fn value_in<L: Look>(look: &mut L, catalog: u64, node: u64, name: &Name) -> Option<Value>
+    requires tree { IsTree (L.standing look.old) (L.words look.old) catalog }
+    ensures value { (nodes : AllNodes) → IsCatalog (pairs (L.words look.old) catalog) nodes → AreValid nodes → result ≡ value_at nodes node name.now }
+    ensures unchanged { IsUnchanged L.kept L.standing L.words look.old look.new }
+{
+    let key = catalog_key(node, name);
+    let payload = find(look, catalog, &key)?;
+    read_payload(&payload)
+}
+
+/// The value of an attribute, if the node is there and has it. It costs one descent of the catalog's tree, and takes no memory.
+pub fn get<L: Look>(look: &mut L, version_page: u64, node: u64, name: &Name) -> Option<Value>
+    requires version { (volume : State) × IsVersion (L.standing look.old) (L.words look.old) version_page volume }
+    ensures value { (volume : State) → IsVersion (L.standing look.old) (L.words look.old) version_page volume → result ≡ attribute volume node name.now }
+    ensures unchanged { IsUnchanged L.kept L.standing L.words look.old look.new }
+{
+    let catalog = look.word(version_page, 3);
+    value_in(look, catalog, node, name)
+}
+
+/// The attributes of a node, by ascending bytes of their names. It is refused with 2 where the node isn't there, and with 10. It walks over the
+/// node's pairs in the catalog's tree.
+pub fn attrs<L: Look>(
+    alloc: Global,
+    look: &mut L,
+    version_page: u64,
+    node: u64,
+) -> Result<Vec<(Name, Value)>, Refusal>
+    requires version { (volume : State) × IsVersion (L.standing look.old) (L.words look.old) version_page volume }
+    ensures answer { (volume : State) → IsVersion (L.standing look.old) (L.words look.old) version_page volume →
+        Answers (λ list. list.items) result (attributes_at volume node) }
+    ensures unchanged { IsUnchanged L.kept L.standing L.words look.old look.new }
+{
+    let catalog = look.word(version_page, 3);
+    if !has_key(look, catalog, &node.to_be_bytes()) {
+        return Err(Refusal::NoNode);
+    }
+    Ok(list_attributes(alloc, look, catalog, node)?)
+}
+
+/// The names and kinds of the indices, by ascending bytes of the names; refused with 10 alone. It reads the version page and no other.
+pub fn indices<L: Look>(
+    alloc: Global,
+    look: &mut L,
+    version_page: u64,
+) -> Result<Vec<(Name, Kind)>, Refusal>
+    requires version { (volume : State) × IsVersion (L.standing look.old) (L.words look.old) version_page volume }
+    ensures answer { (volume : State) → IsVersion (L.standing look.old) (L.words look.old) version_page volume →
+        Answers (λ list. list.items) result (Ok (index_kinds volume)) }
+    ensures unchanged { IsUnchanged L.kept L.standing L.words look.old look.new }
+{
+    let version = load_version(look, version_page);
+    Ok(kinds(alloc, &version.entries)?)
+}

@@ -1,0 +1,93 @@
+//! Writes: a list of operations on a version.
+ghost use Rattle.std.specs.Prelude.{◌≡◌, ◌+◌, ◌≤◌, ◌<◌, ◌^◌, [], ◌∷◌, length, All, IsTrue, IfOk, IfErr, OnErr};
+ghost use Rattle.std.specs.Result.{result_err};
+ghost use Rattle.be_pages.specs.Pages.{is_kept, IsUnchanged, KeepsStart, Swaps};
+ghost use Rattle.be_pages.specs.Refusal.{IsFullOf};
+ghost use Rattle.be_pages.specs.declared.room.Standing.TheVariants.{Filled};
+ghost use Rattle.be_volume.specs.Sound.{IsName};
+ghost use Rattle.be_volume.specs.Volume.{State, steps};
+ghost use Rattle.be_paged.specs.Changes.{Applies, IsRefused};
+ghost use Rattle.be_paged.specs.Facts.{AnswersFor};
+ghost use Rattle.be_paged.specs.Version.{IsVersion};
+ghost use Rattle.be_paged.specs.Page.{contents, contents_of, IsVersionPage};
+
+use crate::edits::edit_all;
+use crate::facts::PageFacts;
+use crate::version::{Version, load_version, store_version};
+use arrayvec::ArrayVec;
+use be_pages::{Look, Room};
+use be_value::Refusal;
+use be_volume::{Done, Op, first_refusal};
+
+/// The refusal of 2 to 8 that the list meets, if it meets one. It is found from the list and the old version, and nothing changes.
+fn refusal<L: Look>(look: &mut L, version: &Version, ops: &[Op]) -> Option<Refusal>
+    ghost volume: { State }
+    requires answers { AnswersFor (L.standing look.old) (L.words look.old) (contents version.now) volume }
+    requires fits { volume.next + length ops.now < 2 ^ 64 }
+    ensures answer { result ≡ result_err (steps volume ops.now) }
+    ensures unchanged { IsUnchanged L.kept L.standing L.words look.old look.new }
+{
+    let mut facts = PageFacts { look, version };
+    first_refusal(&mut facts, ops)
+}
+
+/// Writes a version page.
+fn write_version<R: Room>(room: &mut R, version: &Version) -> Result<u64, Refusal>
+    requires named { All (λ e. IsName e.name) version.now.entries.items }
+    requires open { IsTrue (R.is_open (R.kept room.old)) }
+    ensures contents { IfOk result (λ page. contents_of (R.words room.new page) ≡ contents version.now) }
+    ensures page { IfOk result (λ page. IsVersionPage (R.words room.new page)) }
+    ensures taken { IfOk result (λ page. R.standing room.new page ≡ Filled) }
+    ensures swaps { IfOk result (λ page. Swaps R.kept R.standing R.words [] (page ∷ []) room.old room.new) }
+    ensures err { OnErr result (KeepsStart R.kept R.standing R.words room.old room.new) }
+    ensures full { IfErr result (IsFullOf (R.full room.new)) }
+{
+    let page = room.take()?;
+    store_version(room, page, version);
+    Ok(page)
+}
+
+/// Gives the old version page up, and writes the new one.
+fn replace_version<R: Room>(room: &mut R, old_page: u64, version: &Version) -> Result<u64, Refusal>
+    requires in_use { IsTrue (is_kept (R.standing room.old old_page)) }
+    requires named { All (λ e. IsName e.name) version.now.entries.items }
+    requires open { IsTrue (R.is_open (R.kept room.old)) }
+    ensures contents { IfOk result (λ page. contents_of (R.words room.new page) ≡ contents version.now) }
+    ensures page { IfOk result (λ page. IsVersionPage (R.words room.new page)) }
+    ensures taken { IfOk result (λ page. R.standing room.new page ≡ Filled) }
+    ensures swaps { IfOk result (λ page. Swaps R.kept R.standing R.words (old_page ∷ []) (page ∷ []) room.old room.new) }
+    ensures err { OnErr result (KeepsStart R.kept R.standing R.words room.old room.new) }
+    ensures full { IfErr result (IsFullOf (R.full room.new)) }
+{
+    room.give_up(old_page);
+    let page = write_version(room, version)?;
+    Ok(page)
+}
+
+/// Applies 1 to 64 operations to the version of a page, all or none, and gives the new version page with an answer for each operation. The new
+/// page is one that this write has taken, also where nothing changed.
+///
+/// The list is refused with 2 to 8 as the plain volume refuses it, before a page is taken, and the room is as it was; or with 11 where no page is
+/// left, and what stood when the write began stands once it is undone. It takes no memory.
+pub fn apply<R: Room>(
+    room: &mut R,
+    version_page: u64,
+    ops: &[Op],
+) -> Result<(u64, ArrayVec<Done, 64>), Refusal>
+    ghost volume: { State }
+    requires version { IsVersion (R.standing room.old) (R.words room.old) version_page volume }
+    requires some { 1 ≤ length ops.now }
+    requires few { length ops.now ≤ 64 }
+    requires fits { volume.next + 64 < 2 ^ 64 }
+    requires open { IsTrue (R.is_open (R.kept room.old)) }
+    ensures ok { IfOk result (λ r. Applies R.kept R.standing R.words version_page r.0 volume ops.now r.1.items room.old room.new) }
+    ensures err { IfErr result (λ e. IsRefused R.kept R.standing R.words R.full volume ops.now e room.old room.new) }
+{
+    let mut version = load_version(room, version_page);
+    if let Some(reason) = refusal(room, &version, ops) {
+        return Err(reason);
+    }
+    let dones = edit_all(room, &mut version, ops)?;
+    let page = replace_version(room, version_page, &version)?;
+    Ok((page, dones))
+}
