@@ -1,10 +1,10 @@
 -- The version that a write leaves, put together from the changes of its trees and its new page.
-use Rattle.std.proofs.Common.{◌≡◌, ℕ, zero, suc, ◌+◌, ◌<◌, ◌≤◌, List, [], ◌∷◌, ◌++◌, length, map, All, IsTrue, Ok, ap, sym, subst, ◌∙◌, refl, inl, inr, arith}
+use Rattle.std.proofs.Common.{◌≡◌, ℕ, zero, suc, ◌<◌, ◌≤◌, List, [], ◌∷◌, IsTrue, Ok, ap, sym, subst, ◌∙◌, refl, inl, inr, arith}
 use mathlib.Core.Bool.{false≢true}
 use Rattle.std.proofs.lemmas.Bool.{cases_eq}
 use Rattle.be_pages.specs.declared.room.Standing.{Standing}
 use Rattle.be_pages.specs.declared.room.Standing.TheVariants.{Free, Filled}
-use Rattle.be_pages.specs.Pages.{is_kept, times, Swaps, KeepsStart, IsUnchanged}
+use Rattle.be_pages.specs.Pages.{is_kept, times, Swaps}
 use Rattle.be_tree.proofs.Frame.{times-cons, times_itself, times_other, same_page, swaps_trans, swaps_frame, swaps_fresh, swaps_stands, readable_kept}
 use Rattle.be_tree.proofs.Trees.{AreBeside, trees_beside, trees_in_use}
 use Rattle.be_tree.specs.Forest.{pages_of}
@@ -16,7 +16,6 @@ use Rattle.be_paged.specs.Catalog.{IsCatalog}
 use Rattle.be_paged.specs.Changes.{Changes, Applies}
 use Rattle.be_paged.specs.Page.{Contents, contents_of, IsVersionPage, roots, reach}
 use Rattle.be_paged.specs.Version.{IsInHand, IsVersion, Spells}
-use Rattle.be_paged.proofs.Composing.{changes_since}
 use Rattle.be_paged.proofs.Hand.{entries_same}
 
 free_unused : (s : Standing) → s ≡ Free → IsTrue (is_kept s) → ⊥

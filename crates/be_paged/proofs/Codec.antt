@@ -1,10 +1,9 @@
 -- The words of an index on a version page, and what they tell.
-use Rattle.std.proofs.Common.{◌≡◌, ℕ, ◌+◌, ◌*◌, ◌<◌, ◌≤◌, List, length, map, take, ap, sym, ◌∙◌, refl, arith, Ok, Err}
+use Rattle.std.proofs.Common.{◌≡◌, ℕ, ◌+◌, ◌<◌, ◌≤◌, List, length, take, ap, ◌∙◌, arith, Ok}
 use Rattle.std.proofs.lemmas.Bool.Decides.{nat_tests}
-use Rattle.std.proofs.lemmas.Grind.{common_steps}
 use Rattle.be_value.specs.Name.{name_from}
 use Rattle.std.specs.Int.{to_be_bytes, w64}
-use Rattle.std.specs.List.{flat_map, range_with_len}
+use Rattle.std.specs.List.{flat_map}
 use Rattle.be_value.specs.declared.values.Kind.{Kind}
 use Rattle.be_tree.specs.Page.{bytes_at, words_for}
 use Rattle.be_tree.proofs.Codec.{map_same}

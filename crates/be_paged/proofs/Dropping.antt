@@ -1,7 +1,7 @@
 -- A node that loses its attributes one after another, and then leaves.
-use Rattle.std.proofs.Common.{◌≡◌, ℕ, zero, suc, ◌+◌, ◌-◌, ◌<◌, ◌≤◌, ◌^◌, Bool, true, false, cond, List, [], ◌∷◌, length, map, Some, None, Ok, ap, sym, subst, ◌∙◌, refl, arith, is_some, inl, inr, unwrap_or, IsOk}
-use Rattle.std.specs.Option.{option_map, option_and_then}
-use Rattle.std.specs.Ordering.{nat_cmp, is_eq, eq_by_cmp}
+use Rattle.std.proofs.Common.{◌≡◌, ℕ, ◌+◌, ◌-◌, ◌<◌, ◌^◌, Bool, true, false, cond, List, [], ◌∷◌, map, Some, None, ap, sym, subst, ◌∙◌, refl, is_some, inl, inr, unwrap_or}
+use Rattle.std.specs.Option.{option_map}
+use Rattle.std.specs.Ordering.{nat_cmp, eq_by_cmp}
 use Rattle.std.specs.Cmp.{nat_cmp_total}
 use Rattle.std.specs.declared.option.Option.{Option}
 use Rattle.std.specs.FinMap as fin
@@ -11,11 +11,10 @@ use Rattle.std.proofs.lemmas.Bool.{cases_eq}
 use Rattle.be_value.specs.declared.values.Value.{Value}
 use Rattle.be_volume.specs.Indices.{Indices, unpaired, unpaired_at, without_pair, without_node}
 use Rattle.be_volume.specs.Maps.{name_cmp, Nodes, Attributes, attributes_of}
-use Rattle.be_volume.specs.Reading.{attribute}
-use Rattle.be_volume.specs.Sound.{IsSound, IsPaired, IsName}
-use Rattle.be_volume.specs.Volume.{State, step}
+use Rattle.be_volume.specs.Sound.{IsSound, IsName}
+use Rattle.be_volume.specs.Volume.{State}
 use Rattle.be_volume.specs.declared.maps.Index.{Index}
-use Rattle.be_volume.specs.declared.ops.Op.TheVariants.{Drop, Unset}
+use Rattle.be_volume.specs.declared.ops.Op.TheVariants.{Unset}
 use Rattle.be_volume.proofs.MapLemmas.{names_total, exact_names}
 use Rattle.be_volume.proofs.StepLemmas.{made}
 use Rattle.be_volume.proofs.Soundness.{step_sound}

@@ -1,5 +1,5 @@
 -- The first version page spells the empty volume.
-use Rattle.std.proofs.Common.{◌≡◌, ℕ, zero, suc, ◌+◌, ◌<◌, ◌≤◌, List, [], ◌∷◌, length, map, All, IsTrue, Some, None, ap, sym, subst, ◌∙◌, refl, arith}
+use Rattle.std.proofs.Common.{◌≡◌, ℕ, zero, suc, List, [], ◌∷◌, length, map, All, IsTrue, None, ap, sym, subst, ◌∙◌, refl, arith}
 use Rattle.std.specs.Option.{option_map, option_and_then}
 use Rattle.std.specs.Ordering.{nat_cmp}
 use Rattle.std.specs.List.{range_with_len}
@@ -9,11 +9,11 @@ use Rattle.be_pages.specs.declared.room.Standing.{Standing}
 use Rattle.be_pages.specs.Pages.{is_kept, times}
 use Rattle.be_tree.specs.Tree.{IsTree}
 use Rattle.be_tree.specs.Forest.{pages_of}
-use Rattle.be_volume.specs.Volume.{State, empty}
+use Rattle.be_volume.specs.Volume.{empty}
 use Rattle.be_volume.specs.Maps.{name_cmp, Attributes}
 use Rattle.be_volume.specs.declared.maps.Index.{Index}
 use Rattle.be_volume.proofs.Soundness.{empty_sound}
-use Rattle.be_paged.specs.Page.{Contents, contents_of, entry_at, place_of, IsVersionPage, roots}
+use Rattle.be_paged.specs.Page.{Contents, contents_of, entry_at, place_of, roots}
 use Rattle.be_paged.specs.Catalog.{payload_of, value_at, stored}
 use Rattle.be_paged.specs.Version.{IsInHand, IsVersion, AreEntriesOf, Spells}
 use Rattle.be_paged.proofs.Codec.{same_contents}

@@ -1,10 +1,9 @@
 -- A node's first attribute, and the volume without it.
-use Rattle.std.proofs.Common.{◌≡◌, ℕ, zero, suc, ◌+◌, ◌-◌, ◌<◌, ◌≤◌, ◌^◌, Bool, true, false, cond, List, [], ◌∷◌, length, Some, None, Ok, ap, sym, subst, ◌∙◌, refl, arith, is_some, IsOk}
+use Rattle.std.proofs.Common.{◌≡◌, ℕ, ◌+◌, ◌<◌, ◌≤◌, ◌^◌, true, cond, List, [], ◌∷◌, length, Some, None, Ok, ap, sym, subst, ◌∙◌, refl, arith, is_some, IsOk}
 use Rattle.std.specs.List.{slice_get}
 use Rattle.std.specs.Option.{option_map}
 use Rattle.std.specs.Ordering.{is_eq}
 use Rattle.std.specs.Cmp.{tied_itself}
-use Rattle.std.specs.declared.option.Option.{Option}
 use Rattle.std.specs.declared.result.Result.{Result}
 use Rattle.std.specs.declared.result.Result.TheVariants.{Err}
 use Rattle.std.specs.FinMap as fin
@@ -25,7 +24,6 @@ use Rattle.be_paged.specs.Version.{Spells}
 use Rattle.be_paged.proofs.Dropping.{leaves_more, less_to_count}
 use Rattle.be_paged.proofs.Segments.{value_there}
 use Rattle.be_paged.proofs.Stepping.{stepped_found}
-use Rattle.be_paged.proofs.Validity.{values_valid}
 
 abbrev name_of : List ℕ × Value → List ℕ
 name_of e = e.0

@@ -1,10 +1,9 @@
 -- What contents spell after the pair of a node changed in the index of a name.
-use Rattle.std.proofs.Common.{◌≡◌, ℕ, ◌+◌, ◌<◌, ◌≤◌, ◌^◌, Bool, true, false, cond, List, length, get_or, Some, None, ap, sym, subst, ◌∙◌, refl, arith}
+use Rattle.std.proofs.Common.{◌≡◌, ℕ, Bool, true, false, cond, List, get_or, Some, None, ap, sym, subst, ◌∙◌, refl}
 use Rattle.std.specs.declared.option.Option.{Option}
 use Rattle.std.specs.FinMap as fin
 use Rattle.be_value.specs.Value.{kind_of}
 use Rattle.be_value.specs.declared.values.Value.{Value}
-use Rattle.be_tree.specs.Pair.{Pair}
 use Rattle.be_tree.specs.Tree.{pairs}
 use Rattle.be_volume.specs.Indices.{Indices, paired_at, unpaired_at, same_kind}
 use Rattle.be_volume.specs.Reading.{attribute}

@@ -1,5 +1,5 @@
 -- What the trees of a version in hand answer about its volume.
-use Rattle.std.proofs.Common.{◌≡◌, ℕ, ◌<◌, ◌^◌, true, false, unwrap_or, List, [], ◌∷◌, length, Some, None, Ok, Err, ap, sym, ◌∙◌, refl, is_some, arith}
+use Rattle.std.proofs.Common.{◌≡◌, ℕ, ◌<◌, ◌^◌, true, false, unwrap_or, List, [], ◌∷◌, length, Some, None, Ok, Err, ap, sym, ◌∙◌, refl, is_some}
 use Rattle.std.specs.Int.{to_be_bytes, w64}
 use Rattle.std.specs.Option.{option_map, option_map_or}
 use Rattle.std.specs.Result.{IfOk, IfErr, is_ok}
@@ -8,7 +8,6 @@ use Rattle.std.specs.declared.result.Result.{Result}
 use Rattle.std.specs.FinMap as fin
 use Rattle.std.proofs.lemmas.List.{append-nil}
 use Rattle.be_value.specs.Name.{name_from}
-use Rattle.be_value.specs.declared.values.Value.{Value}
 use Rattle.be_tree.specs.Pair.{Pair}
 use Rattle.be_tree.specs.Key.{payload_at}
 use Rattle.be_value.specs.declared.refusals.Refusal.TheVariants.{NoNode}

@@ -1,28 +1,25 @@
 -- Contents in hand of which one tree is replaced.
-use Rattle.std.proofs.Common.{◌≡◌, ℕ, zero, suc, ◌+◌, ◌<◌, ◌≤◌, ◌^◌, List, [], ◌∷◌, ◌++◌, length, map, take, drop, get_or, All, IsTrue, ap, sym, subst, ◌∙◌, refl, arith, T, ◌&&◌, Bool, true, false, not, cond}
+use Rattle.std.proofs.Common.{◌≡◌, ℕ, zero, suc, ◌<◌, ◌^◌, List, [], ◌∷◌, ◌++◌, length, map, take, drop, get_or, All, ap, sym, subst, ◌∙◌, refl, arith}
 use Rattle.std.proofs.lemmas.List.{map-append}
-use Rattle.std.specs.List.{filter}
-use Rattle.std.specs.Ordering.{is_eq, is_lt, eq_by_cmp, ordering_reverse}
+use Rattle.std.specs.Ordering.{ordering_reverse}
 use Rattle.std.specs.Cmp.{tied_itself}
 use Rattle.std.specs.declared.cmp.Ordering.{Ordering}
 use Rattle.std.specs.declared.cmp.Ordering.TheVariants.{Less, Equal, Greater}
 use Rattle.std.specs.FinMap as fin
-use Rattle.std.specs.FinMap.{is_sorted}
-use Rattle.std.specs.FinMap.Entries.{put, by_order, below_all}
+use Rattle.std.specs.FinMap.Entries.{put, by_order}
 use Rattle.be_pages.specs.declared.room.Standing.{Standing}
-use Rattle.be_pages.specs.Pages.{times, Swaps}
+use Rattle.be_pages.specs.Pages.{Swaps}
 use Rattle.be_tree.specs.Tree.{IsTree, pairs, pages}
 use Rattle.be_tree.specs.Forest.{pages_of, AreTrees, Replaces}
 use Rattle.be_tree.proofs.TreeFacts.{in_three}
 use Rattle.be_tree.proofs.Trees.{all_cons, replaces}
 use Rattle.be_volume.specs.Maps.{name_cmp, Nodes}
-use Rattle.be_volume.specs.Indices.{Indices}
 use Rattle.be_volume.specs.Sound.{IsName}
 use Rattle.be_volume.specs.Volume.{State}
 use Rattle.be_volume.specs.declared.maps.Index.{Index}
 use Rattle.be_volume.proofs.MapLemmas.{names_total}
 use Rattle.be_paged.specs.declared.version.Entry.{Entry}
-use Rattle.be_paged.specs.Page.{Contents, IsNamedAt, roots}
+use Rattle.be_paged.specs.Page.{Contents, IsNamedAt}
 use Rattle.be_paged.specs.Catalog.{IsCatalog, IsIndexOf}
 use Rattle.be_paged.specs.Version.{IsEntryOf, AreEntriesOf, Spells, IsInHand}
 use Rattle.be_paged.specs.Changes.{Changes}

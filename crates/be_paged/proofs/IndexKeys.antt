@@ -1,24 +1,18 @@
 -- The keys of an index after a node's pair left or entered.
-use Rattle.std.proofs.Common.{◌≡◌, ℕ, zero, suc, ◌+◌, ◌<◌, ◌≤◌, ◌^◌, Bool, true, false, cond, List, [], ◌∷◌, ◌++◌, length, drop, get_or, All, Some, None, ap, sym, subst, ◌∙◌, refl, inl, inr, arith, nat_eq}
+use Rattle.std.proofs.Common.{◌≡◌, ℕ, ◌<◌, ◌^◌, List, [], get_or, Some, None, ap, sym, subst, ◌∙◌, inl, inr}
 use Rattle.std.proofs.lemmas.Bool.{cases_eq}
 use Rattle.std.specs.Cmp.{nat_cmp_total}
 use Rattle.std.specs.Ordering.{nat_cmp}
-use Rattle.std.specs.declared.option.Option.{Option}
 use Rattle.std.specs.FinMap as fin
 use Rattle.std.specs.FinMap.{FinMap, nat_cmp-IsAntisymmetric, same_map}
-use Rattle.std.specs.Int.{to_be_bytes, w64}
 use Rattle.be_value.specs.Key.{key, value_key}
-use Rattle.be_value.specs.Value.{kind_of, code_of}
-use Rattle.be_value.specs.declared.values.Kind.{Kind}
-use Rattle.be_value.specs.declared.values.Kind.TheVariants as kinds
 use Rattle.be_value.specs.declared.values.Value.{Value}
 use Rattle.be_value.proofs.KeyOrder.{same_node}
 use Rattle.be_tree.specs.Pair.{Pair}
 use Rattle.be_tree.specs.Key.{payload_at, put, without}
-use Rattle.be_volume.specs.Indices.{paired, unpaired, same_kind}
+use Rattle.be_volume.specs.Indices.{unpaired}
 use Rattle.be_volume.specs.declared.maps.Index.{Index}
 use Rattle.be_paged.specs.Catalog.{IsPairOf, IsIndexOf}
-use Rattle.be_paged.specs.Changes.{IsReady, repaired}
 use Rattle.be_paged.proofs.Items.{put_here, put_other, all_put, without_other, all_without, get_here, get_other, gone_here, gone_other}
 
 -- a key tells its node

@@ -1,8 +1,8 @@
 -- Look-ups and pairs of a list after a put or a removal, and the catalog after one.
-use Rattle.std.proofs.Common.{◌≡◌, ℕ, zero, suc, ◌+◌, ◌<◌, ◌≤◌, ◌^◌, Bool, true, false, cond, List, [], ◌∷◌, ◌++◌, length, take, drop, get_or, All, Some, None, Ok, ap, sym, subst, ◌∙◌, refl, inl, inr, arith, ◌⊎◌, is_some}
-use Rattle.std.specs.Int.{to_be_bytes, from_be_bytes, w64}
+use Rattle.std.proofs.Common.{◌≡◌, ℕ, zero, suc, ◌<◌, ◌^◌, true, cond, List, [], ◌∷◌, take, drop, All, Some, None, Ok, ap, sym, subst, ◌∙◌, refl, inl, inr, arith, ◌⊎◌, is_some}
+use Rattle.std.specs.Int.{from_be_bytes, w64}
 use Rattle.std.specs.Option.{option_map, option_and_then}
-use Rattle.std.specs.Ordering.{nat_cmp, is_eq}
+use Rattle.std.specs.Ordering.{is_eq}
 use Rattle.std.specs.Cmp.{IsTotalOrder, tied_itself, nat_cmp_total}
 use Rattle.std.specs.declared.cmp.Ordering.{Ordering}
 use Rattle.std.specs.declared.cmp.Ordering.TheVariants.{Less, Equal, Greater}

@@ -11,7 +11,6 @@ pub mod Hand
 pub mod Walks
 pub mod Repairs
 pub mod EntryChange
-pub mod Unique
 pub mod Replacing
 pub mod Making
 pub mod Applied

@@ -1,22 +1,18 @@
 -- An index that is made, and one that is removed, among the entries of a version.
-use Rattle.std.proofs.Common.{◌≡◌, ℕ, zero, suc, ◌+◌, ◌<◌, ◌≤◌, Bool, true, false, cond, not, List, [], ◌∷◌, ◌++◌, length, map, take, drop, get_or, All, IsTrue, Some, None, Ok, Err, ap, sym, subst, ◌∙◌, refl, arith, is_some, nat_le, T, ◌&&◌, IsOk}
+use Rattle.std.proofs.Common.{◌≡◌, ℕ, zero, suc, ◌+◌, ◌<◌, ◌≤◌, Bool, true, false, cond, not, List, [], ◌∷◌, ◌++◌, length, map, take, drop, All, Some, None, ap, sym, subst, ◌∙◌, refl, arith, is_some, nat_le, T, ◌&&◌, IsOk}
 use Rattle.std.proofs.lemmas.Bool.Decides.{nat_tests}
-use Rattle.std.proofs.lemmas.List.{map-append}
-use Rattle.std.proofs.lemmas.List.Elements.{All-append}
 use Rattle.std.specs.List.{filter}
 use Rattle.std.specs.Ordering.{is_eq, is_lt, eq_by_cmp, nat_cmp, ordering_reverse}
 use Rattle.std.specs.Cmp.{tied_itself, eq_by_cmp_equiv}
 use Rattle.std.specs.declared.cmp.Ordering.{Ordering}
 use Rattle.std.specs.declared.cmp.Ordering.TheVariants.{Less, Equal, Greater}
-use Rattle.std.specs.declared.option.Option.{Option}
 use Rattle.std.specs.FinMap as fin
 use Rattle.std.specs.FinMap.{is_sorted, get-empty}
 use Rattle.std.specs.FinMap.Entries.{below_all, find, where_key, is_sorted-where_key, find-where_key}
 use Rattle.be_pages.specs.declared.room.Standing.{Standing}
 use Rattle.be_pages.specs.Pages.{times, Swaps}
 use Rattle.be_tree.specs.Tree.{IsTree, pages, pairs}
-use Rattle.be_tree.specs.Forest.{pages_of, AreTrees}
-use Rattle.be_tree.proofs.Below.{all_left, all_right}
+use Rattle.be_tree.specs.Forest.{pages_of}
 use Rattle.be_tree.proofs.Trees.{all_cons}
 use Rattle.be_value.specs.declared.values.Kind.{Kind}
 use Rattle.be_value.specs.declared.values.Value.{Value}

@@ -1,21 +1,16 @@
 -- The pair of a node in an index, where the old value's leaves and the new one's enters.
-use Rattle.std.proofs.Common.{◌≡◌, ℕ, zero, suc, ◌+◌, ◌<◌, ◌≤◌, ◌^◌, Bool, true, false, cond, List, [], ◌∷◌, length, get_or, All, IsTrue, Some, None, ap, sym, subst, ◌∙◌, refl, arith, is_some, nat_eq}
+use Rattle.std.proofs.Common.{◌≡◌, ℕ, ◌<◌, ◌^◌, Bool, true, false, cond, List, [], IsTrue, Some, None, ap, sym, subst, ◌∙◌, refl, is_some}
 use Rattle.std.specs.Option.{IfSome, IfNone, option_map}
-use Rattle.std.specs.Ordering.{is_eq}
-use Rattle.std.specs.Cmp.{tied_itself}
-use Rattle.std.specs.declared.cmp.Ordering.{Ordering}
-use Rattle.std.specs.declared.cmp.Ordering.TheVariants.{Less, Equal, Greater}
 use Rattle.std.specs.declared.option.Option.{Option}
 use Rattle.std.specs.FinMap as fin
 use Rattle.be_value.specs.Key.{key, IsValue}
-use Rattle.be_value.specs.Value.{kind_of, code_of, is_indexable}
+use Rattle.be_value.specs.Value.{kind_of, is_indexable}
 use Rattle.be_value.specs.declared.values.Kind.{Kind}
 use Rattle.be_value.specs.declared.values.Kind.TheVariants as kinds
 use Rattle.be_value.specs.declared.values.Value.{Value}
 use Rattle.be_value.proofs.KeyPairs.{one_pair_of}
 use Rattle.be_tree.specs.Pair.{Pair}
-use Rattle.be_tree.specs.Key.{key_cmp, payload_at, put, without}
-use Rattle.be_tree.proofs.Order.{key_exact}
+use Rattle.be_tree.specs.Key.{payload_at, put}
 use Rattle.be_volume.specs.Indices.{paired, unpaired, same_kind}
 use Rattle.be_volume.specs.Sound.{IsSound}
 use Rattle.be_volume.specs.Reading.{attribute}

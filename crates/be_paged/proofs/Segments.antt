@@ -1,10 +1,9 @@
 -- The pairs of a node in the catalog are those of its attributes, one after another.
-use Rattle.std.proofs.Common.{◌≡◌, ℕ, zero, suc, ◌+◌, ◌<◌, ◌≤◌, ◌^◌, ◌%◌, Bool, true, false, cond, not, List, [], ◌∷◌, ◌++◌, length, map, take, drop, All, Some, None, Ok, ap, sym, subst, ◌∙◌, refl, inl, inr, arith, unwrap_or, T, ◌&&◌, nat_eq, is_some}
+use Rattle.std.proofs.Common.{◌≡◌, ℕ, zero, suc, ◌<◌, ◌^◌, ◌%◌, Bool, true, false, cond, List, [], ◌∷◌, map, drop, All, Some, None, Ok, ap, sym, subst, ◌∙◌, refl, arith, unwrap_or, T, ◌&&◌}
 use Rattle.std.specs.Int.{to_be_bytes, w64}
 use Rattle.std.specs.Option.{option_map, option_and_then}
-use Rattle.std.specs.Ordering.{nat_cmp, is_eq, is_lt, eq_by_cmp, ordering_then, ordering_reverse, MatchOrdering}
-use Rattle.std.specs.Cmp.{IsTotalOrder, tied_itself, nat_cmp_total, ranked, eq_by_cmp_equiv}
-use Rattle.std.specs.Cmp.Lexicographic.{nat_list_cmp_total, pointwise}
+use Rattle.std.specs.Ordering.{nat_cmp, is_eq, is_lt, eq_by_cmp, ordering_then, ordering_reverse}
+use Rattle.std.specs.Cmp.{tied_itself, nat_cmp_total, ranked, eq_by_cmp_equiv}
 use Rattle.std.specs.declared.cmp.Ordering.{Ordering}
 use Rattle.std.specs.declared.cmp.Ordering.TheVariants.{Less, Equal, Greater}
 use Rattle.std.specs.declared.option.Option.{Option}
@@ -19,10 +18,10 @@ use Rattle.be_value.proofs.KeyOrder.{bytes_order}
 use Rattle.be_tree.specs.Pair.{Pair}
 use Rattle.be_tree.specs.Key.{key_cmp, payload_at, AllAbove, IsRising}
 use Rattle.be_tree.specs.Range.{is_from, pairs_from}
-use Rattle.be_tree.proofs.Order.{key_total, key_exact, key_cmp_flip, key_cmp_flip_less, AllAbove_trans, payload_at_above}
+use Rattle.be_tree.proofs.Order.{key_total, key_exact, key_cmp_flip_less, AllAbove_trans, payload_at_above}
 use Rattle.be_tree.proofs.Ranges.{from_greater, from_less, from_equal}
 use Rattle.be_volume.specs.Maps.{name_cmp, Nodes, Attributes, attributes_of}
-use Rattle.be_volume.proofs.MapLemmas.{names_total, exact_names}
+use Rattle.be_volume.proofs.MapLemmas.{names_total}
 use Rattle.be_paged.specs.Catalog.{catalog_key, payload_of, value_at, stored, IsCatalogKey, IsCatalog}
 use Rattle.be_paged.specs.Reading.{AreValid, is_of, front, attribute_pair, attribute_pairs}
 

@@ -1,15 +1,14 @@
 -- The keys of an index as a source of queries sees them.
-use Rattle.std.proofs.Common.{◌≡◌, ℕ, zero, suc, ◌+◌, ◌<◌, ◌≤◌, Bool, true, false, cond, not, List, [], ◌∷◌, length, map, drop, get_or, All, Some, None, ap, sym, subst, ◌∙◌, refl, arith, is_some}
+use Rattle.std.proofs.Common.{◌≡◌, ℕ, zero, suc, ◌<◌, Bool, true, false, cond, not, List, [], ◌∷◌, length, map, drop, get_or, Some, None, ap, sym, subst, ◌∙◌, refl, arith, is_some}
 use Rattle.std.specs.List.{slice_get}
 use Rattle.std.specs.Option.{option_map}
-use Rattle.std.specs.Ordering.{is_eq, is_lt, is_gt, is_ge, nat_cmp}
+use Rattle.std.specs.Ordering.{is_eq, is_lt, is_ge}
 use Rattle.std.specs.Cmp.{tied_itself}
 use Rattle.std.specs.declared.cmp.Ordering.{Ordering}
 use Rattle.std.specs.declared.cmp.Ordering.TheVariants.{Less, Equal, Greater}
 use Rattle.std.specs.declared.option.Option.{Option}
 use Rattle.std.specs.FinMap as fin
 use Rattle.be_pages.specs.declared.room.Standing.{Standing}
-use Rattle.be_value.specs.Key.{key}
 use Rattle.be_tree.specs.Pair.{Pair}
 use Rattle.be_tree.specs.Key.{key_cmp, payload_at, IsRising}
 use Rattle.be_tree.specs.Range.{is_from, pairs_from}

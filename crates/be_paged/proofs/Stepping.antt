@@ -1,5 +1,5 @@
 -- An accepted operation, and what it answers.
-use Rattle.std.proofs.Common.{◌≡◌, ℕ, refl, Ok, IsOk}
+use Rattle.std.proofs.Common.{◌≡◌, refl, Ok, IsOk}
 use Rattle.be_volume.specs.Volume.{State, step}
 use Rattle.be_volume.specs.declared.ops.Done.{Done}
 use Rattle.be_volume.specs.declared.ops.Done.TheVariants.{Node, Unit as Nothing}

@@ -1,5 +1,5 @@
 -- What a sound volume has.
-use Rattle.std.proofs.Common.{◌≡◌, ℕ, true, refl, List, [], ◌∷◌, Some, None, Ok, is_some, ap, arith}
+use Rattle.std.proofs.Common.{◌≡◌, ℕ, refl, List, [], ◌∷◌, Some, None, Ok, is_some, ap, arith}
 use Rattle.std.specs.declared.option.Option.{Option}
 use Rattle.std.specs.FinMap as fin
 use Rattle.be_value.specs.Name.{name_from}

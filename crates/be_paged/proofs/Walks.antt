@@ -1,9 +1,9 @@
 -- How far a walk over a node's attributes has come.
-use Rattle.std.proofs.Common.{◌≡◌, ℕ, zero, suc, ◌+◌, ◌<◌, ◌≤◌, ◌^◌, Bool, true, false, cond, List, [], ◌∷◌, ◌++◌, length, map, take, drop, get_or, All, Some, None, inl, inr, ap, sym, subst, ◌∙◌, refl, arith, T, ◌&&◌}
+use Rattle.std.proofs.Common.{◌≡◌, ℕ, zero, suc, ◌+◌, ◌<◌, ◌≤◌, ◌^◌, Bool, true, false, cond, List, [], ◌∷◌, ◌++◌, length, map, take, drop, get_or, Some, None, inl, inr, ap, sym, subst, ◌∙◌, refl, arith, T, ◌&&◌}
 use Rattle.std.specs.Int.{to_be_bytes, w64}
 use Rattle.std.specs.List.{slice_get}
-use Rattle.std.specs.Option.{option_map, IfSome}
-use Rattle.std.specs.Ordering.{is_eq, is_lt, eq_by_cmp, ordering_reverse}
+use Rattle.std.specs.Option.{IfSome}
+use Rattle.std.specs.Ordering.{is_eq, is_lt, ordering_reverse}
 use Rattle.std.specs.Cmp.{tied_itself}
 use Rattle.std.specs.declared.cmp.Ordering.{Ordering}
 use Rattle.std.specs.declared.cmp.Ordering.TheVariants.{Less, Equal, Greater}
@@ -25,7 +25,7 @@ use Rattle.be_tree.specs.Range.{pairs_from}
 use Rattle.be_volume.specs.Maps.{name_cmp, Nodes, attributes_of}
 use Rattle.be_volume.specs.Sound.{IsName}
 use Rattle.be_volume.proofs.MapLemmas.{names_total}
-use Rattle.be_paged.specs.Catalog.{value_at, IsCatalog}
+use Rattle.be_paged.specs.Catalog.{IsCatalog}
 use Rattle.be_paged.specs.Reading.{AreValid, front, attribute_pair, attribute_pairs}
 use Rattle.be_paged.proofs.Segments.{segment, value_there}
 

@@ -1,5 +1,5 @@
 -- What a write does to the contents in hand, and to the version that it began with.
-use Rattle.std.specs.Prelude.{◌≡◌, ◌⊎◌, ℕ, ◌+◌, ◌^◌, ◌<◌, ◌≤◌, List, [], ◌∷◌, Some, IsTrue, IsOk, Ok, Err, true, if◌then◌else◌}
+use Rattle.std.specs.Prelude.{◌≡◌, ◌⊎◌, ℕ, ◌+◌, ◌^◌, ◌<◌, ◌≤◌, List, [], Some, IsTrue, IsOk, Ok, Err, true}
 use Rattle.std.specs.FinMap as map
 use Rattle.std.specs.declared.option.Option.{Option}
 use Rattle.std.specs.declared.option.Option.TheVariants as options

@@ -2,7 +2,6 @@ use Rattle.std.proofs.Common.{◌≡◌, ℕ, ◌∙◌, ap, sym, drop, Some, Li
 use Rattle.std.specs.FinMap as fin
 use Rattle.std.specs.Int.{to_be_bytes, w64}
 use Rattle.std.specs.List.{slice_get}
-use Rattle.be_pages.specs.Pages.{IsUnchanged}
 use Rattle.be_tree.specs.Cursor.{remaining}
 use Rattle.be_tree.specs.Pair.{Pair}
 use Rattle.be_tree.specs.Range.{pairs_from, pair_in}

@@ -1,10 +1,7 @@
-use Rattle.std.proofs.Common.{◌≡◌, ℕ, ◌∙◌, ap, sym, Some, None, List, true}
-use Rattle.std.specs.Int.{to_be_bytes, w64}
+use Rattle.std.proofs.Common.{ℕ, ◌∙◌, ap, Some, None, List, true}
 use Rattle.std.specs.Option.{option_map}
-use Rattle.std.specs.declared.option.Option.{Option}
 use Rattle.be_value.specs.declared.values.Value.{Value}
 use Rattle.be_tree.specs.Cursor.{remaining}
-use Rattle.be_tree.specs.Pair.{Pair}
 use Rattle.be_tree.specs.Range.{pairs_from}
 use Rattle.be_tree.specs.Tree.{pairs}
 use Rattle.be_tree.proofs.Trees.{tree_rising}

@@ -1,4 +1,4 @@
-use Rattle.std.proofs.Common.{◌≡◌, ℕ, ◌+◌, ◌≤◌, ◌∙◌, ap, sym, drop, take, length, Some, None, List, true, arith}
+use Rattle.std.proofs.Common.{ℕ, ◌≤◌, ◌∙◌, ap, drop, length, Some, None, List, true, arith}
 use Rattle.std.specs.FinMap as fin
 use Rattle.std.specs.Int.{to_be_bytes, w64}
 use Rattle.be_tree.specs.Cursor.{remaining}

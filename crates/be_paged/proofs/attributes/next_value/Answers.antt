@@ -1,4 +1,4 @@
-use Rattle.std.proofs.Common.{◌≡◌, ℕ, ◌∙◌, sym}
+use Rattle.std.proofs.Common.{◌∙◌, sym}
 use Rattle.be_tree.specs.Cursor.{remaining}
 use Rattle.be_tree.specs.Range.{pair_in}
 use Rattle.be_paged.specs.Reading.{front, attribute_pair}

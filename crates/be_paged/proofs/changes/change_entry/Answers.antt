@@ -1,5 +1,4 @@
-use Rattle.std.proofs.Common.{◌≡◌, ℕ, ◌<◌, List, [], length, get_or, ap, sym, subst, ◌∙◌, IsTrue, arith}
-use Rattle.be_value.specs.Value.{is_indexable}
+use Rattle.std.proofs.Common.{ℕ, List, [], get_or, ap, sym, subst, ◌∙◌}
 use Rattle.be_value.specs.declared.values.Kind.{Kind}
 use Rattle.be_value.specs.declared.values.Kind.TheVariants as kinds
 use Rattle.be_pages.specs.Pages.{Swaps}
@@ -7,7 +6,7 @@ use Rattle.be_tree.specs.Tree.{IsTree, pairs, pages}
 use Rattle.be_paged.specs.declared.version.Entry.{Entry}
 use Rattle.be_paged.specs.Catalog.{IsIndexOf}
 use Rattle.be_paged.specs.Changes.{Changes, IsReady, repaired, with_change}
-use Rattle.be_paged.specs.Page.{Contents, IsNamedAt, IsGapAt, contents}
+use Rattle.be_paged.specs.Page.{IsNamedAt, IsGapAt, contents}
 use Rattle.be_paged.specs.Version.{Spells}
 use Rattle.be_volume.specs.Indices.{Indices}
 use Rattle.be_paged.proofs.Composing.{changes_none}

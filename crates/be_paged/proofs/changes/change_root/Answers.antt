@@ -1,12 +1,12 @@
-use Rattle.std.proofs.Common.{◌≡◌, ℕ, List, Some, ap, sym, subst, ◌∙◌, is_some, rules}
-use Rattle.std.specs.Option.{option_map, IfSome, IfNone}
+use Rattle.std.proofs.Common.{ℕ, List, ap, sym, subst, ◌∙◌, rules}
+use Rattle.std.specs.Option.{option_map}
 use Rattle.be_pages.specs.Pages.{Swaps}
 use Rattle.be_tree.specs.Pair.{Pair}
-use Rattle.be_tree.specs.Tree.{IsTree, pairs, pages}
+use Rattle.be_tree.specs.Tree.{pairs, pages}
 use Rattle.be_tree.proofs.Frame.{swaps_trans, swaps_since, swaps_start, start_trans}
 use Rattle.be_volume.specs.Indices.{unpaired}
 use Rattle.be_paged.specs.Catalog.{IsIndexOf}
-use Rattle.be_paged.specs.Changes.{repaired, key_taken, key_put}
+use Rattle.be_paged.specs.Changes.{repaired, key_taken}
 use Rattle.be_paged.proofs.Composing.{tree_read, start_since}
 use Rattle.be_paged.proofs.Repairs.{taken, entered, stands, Leaves, HasNone, seen_some, seen_none, seen_at}
 use Rattle.be_paged.proofs.changes.change_root.Goals as goal

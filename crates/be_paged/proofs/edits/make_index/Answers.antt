@@ -1,10 +1,10 @@
-use Rattle.std.proofs.Common.{◌≡◌, ℕ, ◌<◌, List, length, take, drop, ◌++◌, ◌∷◌, ap, sym, subst, ◌∙◌, refl, arith}
+use Rattle.std.proofs.Common.{List, sym, subst, refl, arith}
 use Rattle.be_volume.specs.Sound.{IsName}
 use Rattle.be_volume.specs.declared.ops.Op.TheVariants.{MkIndex}
 use Rattle.be_volume.specs.declared.ops.Done.TheVariants.{Unit as Nothing}
 use Rattle.be_paged.specs.declared.version.Entry.{Entry}
 use Rattle.be_paged.specs.Changes.{Changes, Steps}
-use Rattle.be_paged.specs.Page.{Contents, IsNamedAt, IsGapAt, contents}
+use Rattle.be_paged.specs.Page.{IsNamedAt, IsGapAt, contents}
 use Rattle.be_paged.proofs.Composing.{changes_none}
 use Rattle.be_paged.proofs.Making.{made_changes, made_steps, not_there, not_full}
 use Rattle.be_paged.proofs.edits.make_index.Goals as goal

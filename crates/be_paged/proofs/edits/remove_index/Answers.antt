@@ -1,11 +1,11 @@
-use Rattle.std.proofs.Common.{◌≡◌, ℕ, suc, [], List, length, take, drop, get_or, ◌++◌, ◌∷◌, ap, sym, subst, ◌∙◌, refl, arith}
+use Rattle.std.proofs.Common.{suc, [], List, take, drop, get_or, sym, subst, refl}
 use Rattle.be_pages.specs.Pages.{Swaps}
 use Rattle.be_tree.specs.Tree.{IsTree, pages}
 use Rattle.be_volume.specs.declared.ops.Op.TheVariants.{RmIndex}
 use Rattle.be_volume.specs.declared.ops.Done.TheVariants.{Unit as Nothing}
 use Rattle.be_paged.specs.declared.version.Entry.{Entry}
 use Rattle.be_paged.specs.Changes.{Changes, Steps}
-use Rattle.be_paged.specs.Page.{Contents, IsNamedAt, IsGapAt, contents}
+use Rattle.be_paged.specs.Page.{IsNamedAt, IsGapAt, contents}
 use Rattle.be_paged.proofs.Composing.{changes_none}
 use Rattle.be_paged.proofs.Hand.{entry_changes}
 use Rattle.be_paged.proofs.Making.{left_changes, is_there, gone_steps}

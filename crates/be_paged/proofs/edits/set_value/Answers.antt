@@ -1,11 +1,8 @@
-use Rattle.std.proofs.Common.{◌≡◌, ℕ, ◌+◌, [], ap, sym, refl, ◌∙◌, subst, Ok, Some, rules, arith}
-use Rattle.std.specs.FinMap as fin
+use Rattle.std.proofs.Common.{ℕ, sym, ◌∙◌, subst, Some, rules, arith}
 use Rattle.be_value.specs.declared.values.Value.{Value}
 use Rattle.be_tree.specs.Pair.{Pair}
-use Rattle.be_tree.specs.Key.{put}
-use Rattle.be_tree.specs.Tree.{IsTree, pairs}
+use Rattle.be_tree.specs.Tree.{pairs}
 use Rattle.be_volume.specs.Maps.{with_attribute}
-use Rattle.be_volume.specs.Volume.{State}
 use Rattle.be_volume.specs.declared.ops.Op.TheVariants.{Set}
 use Rattle.be_volume.proofs.StepLemmas.{made, accepted}
 use Rattle.be_paged.specs.Page.{Contents, contents}

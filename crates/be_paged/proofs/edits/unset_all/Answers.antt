@@ -1,7 +1,4 @@
-use Rattle.std.proofs.Common.{◌≡◌, ℕ, ◌+◌, ◌<◌, ◌^◌, ap, sym, subst, ◌∙◌, refl, rules, arith}
-use Rattle.std.specs.FinMap as fin
-use Rattle.be_volume.specs.Maps.{attributes_of}
-use Rattle.be_volume.specs.Volume.{State}
+use Rattle.std.proofs.Common.{ℕ, ◌+◌, ◌<◌, ◌^◌, sym, subst, ◌∙◌, refl, rules, arith}
 use Rattle.be_volume.specs.declared.ops.Op.TheVariants.{Drop}
 use Rattle.be_volume.proofs.StepLemmas.{accepted}
 use Rattle.be_paged.specs.Page.{contents}

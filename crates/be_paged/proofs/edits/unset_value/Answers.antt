@@ -1,8 +1,7 @@
-use Rattle.std.proofs.Common.{◌≡◌, ℕ, ap, sym, ◌∙◌, subst, None, rules, arith}
+use Rattle.std.proofs.Common.{ℕ, sym, ◌∙◌, subst, None, rules, arith}
 use Rattle.std.specs.FinMap as fin
-use Rattle.be_tree.specs.Tree.{IsTree, pairs}
+use Rattle.be_tree.specs.Tree.{pairs}
 use Rattle.be_volume.specs.Maps.{attributes_of}
-use Rattle.be_volume.specs.Volume.{State}
 use Rattle.be_volume.specs.declared.ops.Op.TheVariants.{Unset}
 use Rattle.be_volume.proofs.StepLemmas.{made, accepted}
 use Rattle.be_paged.specs.Page.{Contents, contents}

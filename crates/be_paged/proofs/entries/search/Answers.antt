@@ -1,9 +1,5 @@
-use Rattle.std.proofs.Common.{◌≡◌, ℕ, ◌<◌, ◌∙◌, ap, sym, subst, arith, get_or}
-use Rattle.std.proofs.lemmas.List.{get_or_default}
-use Rattle.std.specs.declared.cmp.Ordering.{Ordering}
+use Rattle.std.proofs.Common.{◌∙◌, sym, arith}
 use Rattle.std.specs.declared.cmp.Ordering.TheVariants.{Less, Equal, Greater}
-use Rattle.be_volume.specs.Maps.{name_cmp}
-use Rattle.be_paged.specs.declared.version.Entry.{Entry}
 use Rattle.be_paged.proofs.Indexing.{names_exact, below_next, entry_compared}
 use Rattle.be_paged.proofs.entries.search.Goals as goal
 

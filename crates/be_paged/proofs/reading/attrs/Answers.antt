@@ -1,6 +1,4 @@
-use Rattle.std.proofs.Common.{◌≡◌, ℕ, ◌∙◌, inr, ap, sym, subst, Ok}
-use Rattle.std.specs.FinMap as fin
-use Rattle.be_tree.specs.Key.{payload_at}
+use Rattle.std.proofs.Common.{ℕ, ◌∙◌, inr, ap, sym, subst, Ok}
 use Rattle.be_tree.specs.Tree.{pairs}
 use Rattle.be_paged.specs.Catalog.{IsCatalog}
 use Rattle.be_paged.proofs.FactValues.{attributes_none, attributes_some, node_there}

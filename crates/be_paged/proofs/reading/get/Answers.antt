@@ -1,4 +1,4 @@
-use Rattle.std.proofs.Common.{◌≡◌, ℕ, sym, subst}
+use Rattle.std.proofs.Common.{ℕ, sym, subst}
 use Rattle.be_tree.specs.Tree.{pairs}
 use Rattle.be_paged.specs.Catalog.{IsCatalog}
 use Rattle.be_paged.proofs.Validity.{values_valid}

@@ -1,4 +1,4 @@
-use Rattle.std.proofs.Common.{◌≡◌, ℕ, List, ◌∙◌, ap, sym, map, Ok}
+use Rattle.std.proofs.Common.{List, ◌∙◌, ap, sym, map, Ok}
 use Rattle.std.specs.FinMap as fin
 use Rattle.be_paged.specs.declared.version.Entry.{Entry}
 use Rattle.be_paged.specs.Page.{Contents, contents_of}

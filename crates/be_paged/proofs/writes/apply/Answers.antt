@@ -1,15 +1,13 @@
-use Rattle.std.proofs.Common.{◌≡◌, ℕ, ap, sym, subst, ◌∙◌, IsOk, rules}
-use Rattle.std.specs.Result.{result_err}
+use Rattle.std.proofs.Common.{ℕ, sym, subst, ◌∙◌, rules}
 use Rattle.be_tree.proofs.Frame.{unchanged_trans}
 use Rattle.be_volume.specs.Volume.{steps}
 use Rattle.be_volume.proofs.StepLemmas.{is_accepted}
 use Rattle.be_paged.specs.Changes.{Changes}
-use Rattle.be_paged.specs.Page.{Contents, contents, contents_of}
+use Rattle.be_paged.specs.Page.{Contents, contents}
 use Rattle.be_paged.specs.Version.{Spells}
 use Rattle.be_paged.proofs.Applied.{page_stays, applied}
 use Rattle.be_paged.proofs.Composing.{changes_since, start_after}
 use Rattle.be_paged.proofs.writes.apply.Goals as goal
-use Rattle.be_paged.proofs.writes.apply.Given.{Over}
 
 pub replace_version-requires-clause-in_use : goal.replace_version-requires-clause-in_use
 replace_version-requires-clause-in_use g c =

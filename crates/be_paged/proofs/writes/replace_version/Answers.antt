@@ -1,4 +1,4 @@
-use Rattle.std.proofs.Common.{◌≡◌, ℕ, [], ◌∷◌, ap, sym, ◌∙◌, arith}
+use Rattle.std.proofs.Common.{[], ◌∷◌}
 use Rattle.be_tree.proofs.Frame.{swaps_trans}
 use Rattle.be_paged.proofs.Replacing.{given_swaps}
 use Rattle.be_paged.proofs.writes.replace_version.Goals as goal

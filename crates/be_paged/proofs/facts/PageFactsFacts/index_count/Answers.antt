@@ -1,4 +1,4 @@
-use Rattle.std.proofs.Common.{◌≡◌, ◌∙◌}
+use Rattle.std.proofs.Common.{◌∙◌}
 use Rattle.be_paged.proofs.FactValues.{index_count}
 use Rattle.be_paged.proofs.facts.PageFactsFacts.index_count.Goals as goal
 

@@ -1,4 +1,4 @@
-use Rattle.std.proofs.Common.{◌≡◌, ℕ, ◌<◌, List, [], Bool, true, length, get_or, ap, sym, subst, ◌∙◌}
+use Rattle.std.proofs.Common.{ℕ, ◌<◌, List, [], Bool, true, length, get_or, ap, sym, subst, ◌∙◌}
 use Rattle.be_tree.specs.Cursor.{remaining}
 use Rattle.be_tree.specs.Range.{pairs_from}
 use Rattle.be_tree.specs.Tree.{IsTree, pairs}

@@ -1,4 +1,4 @@
-use Rattle.std.proofs.Common.{◌≡◌, ℕ, List, Some, get_or, ap, sym, ◌∙◌, subst, is_some}
+use Rattle.std.proofs.Common.{List, get_or, ap, sym, ◌∙◌, subst, is_some}
 use Rattle.be_tree.specs.Key.{payload_at}
 use Rattle.be_tree.specs.Tree.{IsTree, pairs}
 use Rattle.be_paged.specs.declared.version.Entry.{Entry}

@@ -1,4 +1,4 @@
-use Rattle.std.proofs.Common.{◌≡◌, ℕ, List, Some, get_or, ap, sym, ◌∙◌, subst}
+use Rattle.std.proofs.Common.{List, Some, get_or, ap, ◌∙◌, subst}
 use Rattle.be_paged.specs.declared.version.Entry.{Entry}
 use Rattle.be_paged.specs.Page.{IsNamedAt, IsGapAt}
 use Rattle.be_paged.proofs.Indexing.{kind_found, kind_absent}

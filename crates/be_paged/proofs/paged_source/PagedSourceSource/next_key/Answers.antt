@@ -1,14 +1,9 @@
-use Rattle.std.proofs.Common.{◌≡◌, ℕ, ◌<◌, ◌≤◌, List, [], Bool, true, length, get_or, Some, None, ap, sym, subst, ◌∙◌, arith}
-use Rattle.std.specs.List.{slice_get}
-use Rattle.std.specs.Option.{option_map}
-use Rattle.std.specs.declared.option.Option.{Option}
+use Rattle.std.proofs.Common.{ℕ, List, [], true, get_or, Some, None, ap, sym, subst, ◌∙◌, arith}
 use Rattle.be_tree.specs.Cursor.{remaining}
-use Rattle.be_tree.specs.Pair.{Pair}
 use Rattle.be_tree.specs.Range.{pairs_from}
-use Rattle.be_tree.specs.Tree.{IsTree, pairs}
+use Rattle.be_tree.specs.Tree.{pairs}
 use Rattle.be_tree.proofs.Trees.{tree_rising}
 use Rattle.be_value.specs.declared.values.Kind.TheVariants as kinds
-use Rattle.be_volume.specs.Keys.{IsNextKey}
 use Rattle.be_paged.specs.declared.version.Entry.{Entry}
 use Rattle.be_paged.specs.Page.{IsNamedAt, IsGapAt, contents}
 use Rattle.be_paged.proofs.SourceKeys.{entry_tree, no_key, is_next_key, behind_next, answers_since}
