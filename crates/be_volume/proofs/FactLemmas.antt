@@ -266,6 +266,58 @@ made_indices_fits s (Unset node name) h k = k
 made_indices_fits s (MkIndex name kind) h k = let few : nat_le 32 (fin.len s.indices) ≡ false = h.1 in grind (arith, nat_tests)
 made_indices_fits s (RmIndex name) h k = omega arith
 
+-- an accepted operation keeps the limits
+counted : (has full : Bool) (n : ℕ) → not has && full ≡ false → nat_le 64 n ≡ full → n ≤ 64 → (if not has then n + 1 else n) ≤ 64
+counted true full n h e k = k
+counted false true n h e k = cc
+counted false false n h e k = grind (arith, nat_tests)
+
+few_if : (b : Bool) (n m : ℕ) → m ≤ 64 → n ≤ 64 → (if b then m else n) ≤ 64
+few_if true n m h k = h
+few_if false n m h k = k
+
+set_few : (m : Nodes) (n q : ℕ) (has b : Bool) → nat_eq q n ≡ b →
+    (not has && nat_le 64 (fin.len (attributes_of m n))) ≡ false → fin.len (attributes_of m q) ≤ 64 →
+    (if b && not has then fin.len (attributes_of m q) + 1 else fin.len (attributes_of m q)) ≤ 64
+set_few m n q has false e h k = k
+set_few m n q has true e h k =
+    counted has _ (fin.len (attributes_of m q)) h (ap (λ x. nat_le 64 (fin.len (attributes_of m x))) (same_number q n e)) k
+
+few_counted : (s : State) (op : Op) (q : ℕ) (has : Bool) → Found s op → IsThere s op has → fin.len (attributes_of s.nodes q) ≤ 64 →
+    count_after op s.next (fin.len (attributes_of s.nodes q)) q has ≤ 64
+few_counted s New q has h t k = few_if (nat_eq q s.next) _ 0 (omega arith) k
+few_counted s (Drop node) q has h t k = few_if (nat_eq q node) _ 0 (omega arith) k
+few_counted s (Set node set value) q has h t k =
+    set_few s.nodes node q has (nat_eq q node) refl (ap (λ b. not b && nat_le 64 (fin.len (attributes_of s.nodes node))) t ∙ h.1) k
+few_counted s (Unset node unset) q has h t k = few_if (nat_eq q node) _ _ (omega arith) k
+few_counted s (MkIndex name kind) q has h t k = k
+few_counted s (RmIndex name) q has h t k = k
+
+is_there : (s : State) (op : Op) → (has : Bool) × IsThere s op has
+is_there s New = (false, tt)
+is_there s (Drop node) = (false, tt)
+is_there s (Set node name value) = (fin.contains_key (attributes_of s.nodes node) name, refl)
+is_there s (Unset node name) = (false, tt)
+is_there s (MkIndex name kind) = (false, tt)
+is_there s (RmIndex name) = (false, tt)
+
+pub few_attributes_stay : (s : State) (op : Op) → Found s op → ((node : ℕ) → fin.len (attributes_of s.nodes node) ≤ 64) →
+    (node : ℕ) → fin.len (attributes_of (made s op).nodes node) ≤ 64
+few_attributes_stay s op h few node =
+    let there = is_there s op in
+    subst (λ n. n ≤ 64) (sym (made_count s op node there.0 h there.1)) (few_counted s op node there.0 h there.1 (few node))
+
+few_indexed : (s : State) (op : Op) → Found s op → fin.len s.indices ≤ 32 → indices_after op (fin.len s.indices) ≤ 32
+few_indexed s New h k = k
+few_indexed s (Drop node) h k = k
+few_indexed s (Set node name value) h k = k
+few_indexed s (Unset node name) h k = k
+few_indexed s (MkIndex name kind) h k = let few : nat_le 32 (fin.len s.indices) ≡ false = h.1 in grind (arith, nat_tests)
+few_indexed s (RmIndex name) h k = omega arith
+
+pub few_indices_stay : (s : State) (op : Op) → Found s op → fin.len s.indices ≤ 32 → fin.len (made s op).indices ≤ 32
+few_indices_stay s op h few = subst (λ n. n ≤ 32) (sym (made_indices s op h)) (few_indexed s op h few)
+
 -- and in the state that an accepted operation reaches
 pub next_is : (s : State) (op : Op) → IsOk (step s op) → (reached s (step s op)).next ≡ next_after op s.next
 next_is s op h = ap (λ t. t.next) (accepted s op h).is ∙ made_next s op

@@ -30,7 +30,7 @@ use Rattle.be_volume.specs.declared.ops.Op.{Op}
 use Rattle.be_volume.specs.declared.ops.Op.TheVariants.{New, Drop, Set, Unset, MkIndex, RmIndex}
 use Rattle.be_volume.proofs.MapLemmas.{names_total, exact_names}
 use Rattle.be_volume.proofs.StepLemmas.{made, Found, accepted, refused_stays, not_both}
-use Rattle.be_volume.proofs.FactLemmas.{next_bound, get_changed}
+use Rattle.be_volume.proofs.FactLemmas.{next_bound, get_changed, few_attributes_stay, few_indices_stay}
 
 tied : (r : Ordering) → is_eq r ≡ true → r ≡ Equal
 tied Less h = cc
@@ -124,11 +124,22 @@ record Descends (s t : State) (name : List ℕ) (index : Index) : Type 0 where
   each : (n : ℕ) (v : Value) → fin.get index.pairs n ≡ Some v →
       ((fin.get old.pairs n ≡ Some v) × (attribute t n name ≡ attribute s n name)) ⊎ ((attribute t n name ≡ Some v) × (kind_of v ≡ index.kind))
 
+-- the limits
+record Few (s : State) : Type 0 where
+  attributes : (node : ℕ) → fin.len (attributes_of s.nodes node) ≤ 64
+  indices : fin.len s.indices ≤ 32
+
+few : (s : State) (op : Op) → IsSound s → Found s op → Few (made s op)
+few s op sound found = record {
+  attributes = few_attributes_stay s op found sound.few_attributes;
+  indices = few_indices_stay s op found sound.few_indices;
+}
+
 -- or it is new and empty
 abbrev Comes : State → State → List ℕ → Index → Type 0
 Comes s t name index = Descends s t name index ⊎ (((n : ℕ) → fin.get index.pairs n ≡ None) × IsTrue (is_indexable index.kind) × IsName name)
 
-module _ (s t : State) (sound : IsSound s) (fits : t.next < 2 ^ 64) (below : (n : ℕ) → fin.contains_key t.nodes n ≡ true → n < t.next)
+module _ (s t : State) (sound : IsSound s) (limits : Few t) (fits : t.next < 2 ^ 64) (below : (n : ℕ) → fin.contains_key t.nodes n ≡ true → n < t.next)
     (valid : (n : ℕ) (name : List ℕ) (v : Value) → attribute t n name ≡ Some v → IsName name × IsValue v)
     (comes : (name : List ℕ) (index : Index) → fin.get t.indices name ≡ Some index → Comes s t name index) where
   pair : (name : List ℕ) (index : Index) (n : ℕ) (v : Value) → fin.get index.pairs n ≡ Some v → Comes s t name index → (attribute t n name ≡ Some v) × (kind_of v ≡ index.kind)
@@ -158,6 +169,8 @@ module _ (s t : State) (sound : IsSound s) (fits : t.next < 2 ^ 64) (below : (n 
     names = λ name index there. is_named name index (comes name index there);
     attributes = valid;
     nodes = below;
+    few_attributes = limits.attributes;
+    few_indices = limits.indices;
   }
 
 -- an index that stays, where the attributes of its pairs do
@@ -167,7 +180,7 @@ stays s t name index there same = inl (record { old = index; there = there; kind
 
 module _ (s : State) (sound : IsSound s) (fits : s.next + 1 < 2 ^ 64) where
   new_sound : IsSound (made s New)
-  new_sound = finished s (made s New) sound fits (λ n h. below n h (eq_by_cmp nat_cmp n s.next) refl)
+  new_sound = finished s (made s New) sound (few s New sound tt) fits (λ n h. below n h (eq_by_cmp nat_cmp n s.next) refl)
       (λ n name v h. valid n name v h (eq_by_cmp nat_cmp n s.next) refl)
       (λ name index there. stays s (made s New) name index there (λ n v got. put_apart s.nodes s.next fin.empty n name (apart n (sound.pairs name index n v there got).node_below)))
     where
@@ -182,8 +195,8 @@ module _ (s : State) (sound : IsSound s) (fits : s.next + 1 < 2 ^ 64) where
       valid n name v h true e = let none : None ≡ Some v = sym (put_here s.nodes s.next fin.empty n name e ∙ fin.get-empty name_cmp name) ∙ h in cc
       valid n name v h false e = sound.attributes n name v (sym (put_apart s.nodes s.next fin.empty n name e) ∙ h)
 
-  drop_sound : (node : ℕ) → IsSound (made s (Drop node))
-  drop_sound node = finished s (made s (Drop node)) sound (omega (arith, fits)) (λ n h. below n h (eq_by_cmp nat_cmp n node) refl)
+  drop_sound : (node : ℕ) → Few (made s (Drop node)) → IsSound (made s (Drop node))
+  drop_sound node limits = finished s (made s (Drop node)) sound limits (omega (arith, fits)) (λ n h. below n h (eq_by_cmp nat_cmp n node) refl)
       (λ n name v h. valid n name v h (eq_by_cmp nat_cmp n node) refl) (λ name index there. comes name index (fin.get s.indices name) refl
       (sym (get_changed names_total exact_names (λ i. unpaired i node) s.indices name) ∙ there))
     where
@@ -272,8 +285,8 @@ module _ (s : State) (sound : IsSound s) (fits : s.next + 1 < 2 ^ 64) where
           subst P (sym (exact_names other name (tied _ e))) (inl (own old g index (same_kind old.kind (kind_of value)) refl
           (same_Some _ _ (sym (get_there names_total s.indices name other (paired old node value) e) ∙ there))))
 
-      set_sound : IsSound (made s (Set node name value))
-      set_sound = finished s (made s (Set node name value)) sound (omega (arith, fits)) (λ n h. sound.nodes n (again s.nodes node _ exists n h))
+      set_sound : Few (made s (Set node name value)) → IsSound (made s (Set node name value))
+      set_sound limits = finished s (made s (Set node name value)) sound limits (omega (arith, fits)) (λ n h. sound.nodes n (again s.nodes node _ exists n h))
           (λ n other v h. valid n other v h (eq_by_cmp name_cmp other name) (eq_by_cmp nat_cmp n node) refl refl)
           (λ other index there. comes other index (fin.get s.indices name) refl there (eq_by_cmp name_cmp other name) refl)
 
@@ -306,13 +319,13 @@ module _ (s : State) (sound : IsSound s) (fits : s.next + 1 < 2 ^ 64) where
         subst P (sym (exact_names other name (tied _ e))) (inl (lost (made s (Unset node name)) old g (λ n f. away n name f) index
         (same_Some _ _ (sym (get_there names_total s.indices name other (unpaired old node) e) ∙ there))))
 
-    unset_sound : IsSound (made s (Unset node name))
-    unset_sound = finished s (made s (Unset node name)) sound (omega (arith, fits)) (λ n h. sound.nodes n (again s.nodes node _ exists n h))
+    unset_sound : Few (made s (Unset node name)) → IsSound (made s (Unset node name))
+    unset_sound limits = finished s (made s (Unset node name)) sound limits (omega (arith, fits)) (λ n h. sound.nodes n (again s.nodes node _ exists n h))
         (λ n other v h. left_valid n other v h (eq_by_cmp name_cmp other name) (eq_by_cmp nat_cmp n node) refl refl)
         (λ other index there. left_comes other index (fin.get s.indices name) refl there (eq_by_cmp name_cmp other name) refl)
 
-  index_sound : (name : List ℕ) (kind : Kind) → IsName name → is_indexable kind ≡ true → IsSound (made s (MkIndex name kind))
-  index_sound name kind named ix = finished s (made s (MkIndex name kind)) sound (omega (arith, fits)) sound.nodes sound.attributes
+  index_sound : (name : List ℕ) (kind : Kind) → IsName name → is_indexable kind ≡ true → Few (made s (MkIndex name kind)) → IsSound (made s (MkIndex name kind))
+  index_sound name kind named ix limits = finished s (made s (MkIndex name kind)) sound limits (omega (arith, fits)) sound.nodes sound.attributes
       (λ other index there. comes other index there (eq_by_cmp name_cmp other name) refl)
     where
       comes : (other : List ℕ) (index : Index) → fin.get (fin.insert s.indices name (record { kind = kind; pairs = fin.empty })) other ≡ Some index →
@@ -327,17 +340,17 @@ module _ (s : State) (sound : IsSound s) (fits : s.next + 1 < 2 ^ 64) where
           let N : List ℕ → Type 0 = IsName in
           inr ((λ n. ap (λ (i : Index). fin.get i.pairs n) (sym is) ∙ fin.get-empty nat_cmp n), subst K is ix, subst N (sym (exact_names other name (tied _ e))) named)
 
-  remove_sound : (name : List ℕ) → IsSound (made s (RmIndex name))
-  remove_sound name = finished s (made s (RmIndex name)) sound (omega (arith, fits)) sound.nodes sound.attributes
+  remove_sound : (name : List ℕ) → Few (made s (RmIndex name)) → IsSound (made s (RmIndex name))
+  remove_sound name limits = finished s (made s (RmIndex name)) sound limits (omega (arith, fits)) sound.nodes sound.attributes
       (λ other index there. stays s (made s (RmIndex name)) other index (left names_total s.indices name other index there).1 (λ n v got. refl))
 
   made_sound : (op : Op) → IsOperation op → Found s op → IsSound (made s op)
   made_sound New v h = new_sound
-  made_sound (Drop node) v h = drop_sound node
-  made_sound (Set node name value) v h = set_sound node name h.0 value v.0 v.1
-  made_sound (Unset node name) v h = unset_sound node name h.0
-  made_sound (MkIndex name kind) v h = index_sound name kind v h.2
-  made_sound (RmIndex name) v h = remove_sound name
+  made_sound (Drop node) v h = drop_sound node (few s (Drop node) sound h)
+  made_sound (Set node name value) v h = set_sound node name h.0 value v.0 v.1 (few s (Set node name value) sound h)
+  made_sound (Unset node name) v h = unset_sound node name h.0 (few s (Unset node name) sound h)
+  made_sound (MkIndex name kind) v h = index_sound name kind v h.2 (few s (MkIndex name kind) sound h)
+  made_sound (RmIndex name) v h = remove_sound name (few s (RmIndex name) sound h)
 
 -- an accepted operation keeps a volume sound
 pub step_sound : (s t : State) (op : Op) (done : Done) → IsSound s → s.next + 1 < 2 ^ 64 → IsOperation op → step s op ≡ Ok (t, done) → IsSound t
@@ -371,4 +384,6 @@ empty_sound = record {
   names = λ name index there. let none : None ≡ Some index = sym (fin.get-empty name_cmp name) ∙ there in cc;
   attributes = λ n name v h. let none : None ≡ Some v = sym (ap (option_and_then (λ (a : Attributes). fin.get a name)) (fin.get-empty nat_cmp n)) ∙ h in cc;
   nodes = λ n h. let no : false ≡ true = sym (ap is_some (fin.get-empty nat_cmp n)) ∙ h in cc;
+  few_attributes = λ n. let none : fin.len (attributes_of fin.empty n) ≡ 0 = ap (λ (o : Option Attributes). fin.len (unwrap_or o fin.empty)) (fin.get-empty nat_cmp n) ∙ fin.len-empty name_cmp Value in omega arith;
+  few_indices = subst (λ n. n ≤ 32) (sym (fin.len-empty name_cmp Index)) (omega arith);
 }

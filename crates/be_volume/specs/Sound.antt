@@ -1,11 +1,12 @@
 -- What is true of every volume that operations made.
-use Rattle.std.specs.Prelude.{◌≡◌, ◌<◌, ◌^◌, ⊤, ℕ, true, List, Some, Ok, IsTrue, IsUtf8}
+use Rattle.std.specs.Prelude.{◌≡◌, ◌<◌, ◌≤◌, ◌^◌, ⊤, ℕ, true, List, Some, Ok, IsTrue, IsUtf8}
 use Rattle.std.specs.FinMap as map
 use Rattle.be_value.specs.Key.{IsValue}
 use Rattle.be_value.specs.Name.{name_from}
 use Rattle.be_value.specs.Value.{kind_of, is_indexable}
 use Rattle.be_value.specs.declared.values.Kind.{Kind}
 use Rattle.be_value.specs.declared.values.Value.{Value}
+use Rattle.be_volume.specs.Maps.{attributes_of}
 use Rattle.be_volume.specs.Reading.{attribute}
 use Rattle.be_volume.specs.Volume.{State}
 use Rattle.be_volume.specs.declared.maps.Index.{Index}
@@ -34,7 +35,7 @@ pub record IsPaired (s : State) (name : List ℕ) (kind : Kind) (node : ℕ) (va
   pub node_below : node < s.next
 
 -- Each pair of an index is its node's attribute of that name and has the index's kind, which is indexable. Attributes have names
--- and values of the program, and each node is below the next.
+-- and values of the program, and each node is below the next. A node has at most 64 attributes, and there are at most 32 indices.
 pub record IsSound (s : State) : Type 0 where
   pub pairs : (name : List ℕ) (index : Index) (node : ℕ) (value : Value) → map.get s.indices name ≡ Some index → map.get index.pairs node ≡ Some value →
       IsPaired s name index.kind node value
@@ -42,3 +43,5 @@ pub record IsSound (s : State) : Type 0 where
   pub names : (name : List ℕ) (index : Index) → map.get s.indices name ≡ Some index → IsName name
   pub attributes : (node : ℕ) (name : List ℕ) (value : Value) → attribute s node name ≡ Some value → IsName name × IsValue value
   pub nodes : (node : ℕ) → map.contains_key s.nodes node ≡ true → node < s.next
+  pub few_attributes : (node : ℕ) → map.len (attributes_of s.nodes node) ≤ 64
+  pub few_indices : map.len s.indices ≤ 32

@@ -1,0 +1,4 @@
+pub mod Codec
+pub mod Indexing
+pub mod EmptyVolume
+pub mod Validity

@@ -1,0 +1,4 @@
+pub mod Page
+pub mod Catalog
+pub mod Version
+pub mod Reading
