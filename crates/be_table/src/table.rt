@@ -58,6 +58,9 @@ impl VersionTable {
     ghost use Rattle.be_table.specs.Steps.{announces, unpins, met, longer, Has, Keeps};
     ghost use Rattle.be_journal.specs.Journal.{IsLegal};
     ghost use Rattle.be_table.specs.History.{StartsWith, AllBelow};
+    ghost use Rattle.std.specs.Prelude.{[], ◌∷◌};
+    ghost use Rattle.be_table.specs.Versions.{SpellsVolume, in_pages};
+    ghost use Rattle.be_volume.specs.Volume.{empty};
 
     /// A table with an empty journal, and the seats of its passes in the order of their numbers. Version 0 is the page `first`, at page 0; the other pages are free.
     ///
@@ -67,6 +70,7 @@ impl VersionTable {
         limits: Limits,
         first: &[u64; 512],
     ) -> Result<(VersionTable, Vec<Seat>), Refusal>
+        requires { SpellsVolume (0 ∷ []) (in_pages (λ q i. slice_index first.now i)) 0 empty }
         ensures { MatchResult result
             (λ r. (r.0.limits ≡ limits) × (length r.1.items ≡ limits.passes) × AreNew r.0 0 r.1.items)
             (λ r. IsUnopened limits r) }

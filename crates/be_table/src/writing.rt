@@ -48,6 +48,12 @@ impl<'a> Writing<'a> {
     ghost use Rattle.be_journal.specs.Journal.{Agrees, replay};
     ghost use Rattle.be_table.specs.Steps.{leaves};
     ghost use Rattle.be_table.specs.Seats.{pin_of};
+    ghost use Rattle.be_table.specs.Reading.{word_in};
+    ghost use Rattle.be_core.specs.Machine.{bit};
+    ghost use Rattle.be_pages.specs.Pages.{is_kept, times};
+    ghost use Rattle.be_paged.specs.Page.{reach};
+    ghost use Rattle.be_paged.specs.Version.{IsVersion};
+    ghost use Rattle.be_volume.specs.Ahead.{after};
 
     pub(crate) fn of(
         table: &'a VersionTable,
@@ -187,6 +193,8 @@ impl<'a> Writing<'a> {
         requires entry { Agrees (replay (entries self.old.knows.seen)) (entry_of self.old.knows ops.now dones.now) }
         requires page { standing_in self.old.knows.places page ≡ Full }
         requires filled { (q : ℕ) → standing_in self.old.knows.places q ≢ Taken }
+        requires volume { IsVersion (standing_in self.old.knows.places) (word_in self.old.knows.words) page (after (replay (entries self.old.knows.seen)) ops.now) }
+        requires exact { (q : ℕ) → times q (reach (word_in self.old.knows.words) page) ≡ bit (is_kept (standing_in self.old.knows.places q)) }
         ensures write { self.new ≡ record self.old { knows = publishes self.old.knows (entry_of self.old.knows ops.now dones.now) page; reserved = 0 } }
         ensures result { result ≡ length self.new.knows.seen }
     {

@@ -7,7 +7,12 @@ use Rattle.be_table.specs.declared.pass.Knowledge.{Knowledge}
 use Rattle.be_table.specs.Place.{Work}
 use Rattle.be_table.specs.Rule.{entries, ledger_places, page_at, pass_of}
 use Rattle.be_table.specs.Seats.{pin_of}
-use Rattle.be_table.specs.Steps.{IsPass, commit_of, publishes}
+use Rattle.be_table.specs.Ledger.{is_kept}
+use Rattle.be_table.specs.Reading.{word_in}
+use Rattle.be_table.specs.Steps.{IsPass, commit_of, pages_from, publishes}
+use Rattle.be_table.specs.Versions.{SpellsVolume}
+use Rattle.be_table.proofs.Keeping.{spells_kept}
+use Rattle.be_journal.proofs.LegalLemmas.{replay_push}
 use Rattle.be_table.proofs.Frames.{entries-append}
 use Rattle.be_table.proofs.Opened.{seen_length}
 use Rattle.be_table.proofs.PinMarks.{pin_stays}
@@ -19,6 +24,8 @@ announce-requires-clause-pass c =
     let i = c.self.invariant in let w = c.self.inside in let a = pass_of w.base.me.0 in
     let k : a ≡ c.args.self.now.knows = ap (λ (x : Work). x.knows) c.self.view_is in
     let e : Entry = record { by = w.marks.number; ops = c.args.ops.now; dones = c.args.dones.now } in
+    let n0 : Knowledge = c.args.self.now.knows in
+    let few : length n0.places ≤ 16384 = (let p = ap length i.places in let pages = c.table.invariant.3.few_pages in let n = ap (λ (x : Knowledge). length x.places) k in let count = i.count in omega arith) in
     let reserved : w.reserved ≡ c.args.self.now.reserved = ap (λ (x : Work). x.reserved) c.self.view_is in (
       ap (λ m. m.0) i.me_is,
       record {
@@ -30,6 +37,9 @@ announce-requires-clause-pass c =
         room = (i.room (let n = c.requires.count.0 in let r = c.requires.reserved.0 in omega arith)).1;
         inside = subst (λ (n : Knowledge). c.args.page < length n.places) (sym k) c.is_filled.ensures.0;
         filled = ap (λ (n : Knowledge). place_of n.places c.args.page) k ∙ c.is_filled.ensures.1;
+        spelt = subst (λ (n : Knowledge). SpellsVolume (pages_from is_kept 0 n.places) (word_in n.words) c.args.page (replay (entries n.seen ++ e ∷ []))) (sym k)
+            (subst (λ s. SpellsVolume (pages_from is_kept 0 n0.places) (word_in n0.words) c.args.page s) (sym (replay_push (entries n0.seen) e))
+            (spells_kept n0.places few c.requires.filled (word_in n0.words) c.args.page _ c.requires.volume c.requires.exact));
       },
     )
 
