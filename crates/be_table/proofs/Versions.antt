@@ -40,7 +40,7 @@ spells_same pages v w page volume same h = record {
     was = record { standing = λ q. undone_start (has pages q); same_words = λ q h. same q (from_before (has pages q) h) }
 
 -- the words of one page, which agree at its places
-pub clipped : (f g : ℕ → ℕ) → ((i : ℕ) → i < 512 → f i ≡ g i) → (λ (i : ℕ). if nat_lt i 512 then f i else 0) ≡ (λ (i : ℕ). if nat_lt i 512 then g i else 0)
+pub clipped : (f g : ℕ → ℕ) → ((i : ℕ) → i < 512 → f i ≡ g i) → ◌≡◌ {A = ℕ → ℕ} (λ (i : ℕ). if nat_lt i 512 then f i else 0) (λ (i : ℕ). if nat_lt i 512 then g i else 0)
 clipped f g same = λ k i. at i k
   where
     at : (i : ℕ) → (if nat_lt i 512 then f i else 0) ≡ (if nat_lt i 512 then g i else 0)

@@ -1,4 +1,4 @@
-use Rattle.std.proofs.Common.{length, ap, ◌∙◌, arith, refl}
+use Rattle.std.proofs.Common.{◌+◌, length, ap, ◌∙◌, arith, refl}
 use Rattle.std.specs.Prelude.{slice_index}
 use Rattle.std.proofs.lemmas.List.{get_or-replicate}
 use Rattle.be_table.proofs.Deals.{begins_as, only_one}
