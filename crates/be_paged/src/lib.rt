@@ -21,6 +21,7 @@ mod edits;
 mod entries;
 mod facts;
 mod first;
+pub mod laws;
 mod paged_source;
 mod reading;
 mod version;
@@ -30,3 +31,6 @@ pub use first::first_page;
 pub use paged_source::{PagedSource, source};
 pub use reading::{attrs, get, indices};
 pub use writes::apply;
+
+#[cfg(test)]
+mod tests;
