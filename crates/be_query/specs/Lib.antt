@@ -8,3 +8,4 @@ pub mod View
 pub mod Printing
 pub mod Rpn
 pub mod Coded
+pub mod Turning

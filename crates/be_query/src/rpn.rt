@@ -8,7 +8,7 @@ ghost use Rattle.be_query.specs.View.{IsMemory, formula, literal};
 
 use crate::parser::read_literal;
 use crate::query::Query;
-use crate::tree::{Cmp, Comparison, Literal, Tree, complement};
+use crate::tree::{Cmp, Comparison, Literal, Tree};
 use be_pattern::Pattern;
 use be_value::{Name, Refusal};
 use std::alloc::Global;
@@ -220,7 +220,7 @@ fn work(alloc: Global, stack: Stack, at: usize, item: &Item) -> Result<Stack, Re
             let Some((tree, things)) = pop_tree(things) else {
                 return Err(Refusal::BadRpn(at));
             };
-            let tree = complement(alloc, tree)?;
+            let tree = tree.complement(alloc)?;
             push(
                 Stack {
                     things,

@@ -194,6 +194,26 @@ fn query_limits(rt: HostRuntime) {
     }
 }
 
+/// A refusal gives up what was built: a tree that leans to the left, levels that wait, a tree that leans to the right.
+#[test]
+fn trees_given_up(rt: HostRuntime) {
+    for (front, count, back, want) in [
+        ("a==1||", 255, "", 1535),
+        ("(a==1&&", 64, "", 453),
+        ("(a==1&&", 64, ")", 517),
+        ("(a==1||a==1&&", 64, ")", 901),
+        ("!(a==1||a==1&&", 32, ")", 485),
+    ] {
+        let mut text = repeated(&rt, front, count, "a==1", back);
+        append(&mut text, " b");
+        assert_eq!(rt;
+            refusal(read(&rt, &text)),
+            Some(Refusal::Syntax(want)),
+            "at {count} times {front}"
+        );
+    }
+}
+
 /// Example `printing`, and each reading of a text that has a tree.
 #[test]
 fn printing(rt: HostRuntime) {

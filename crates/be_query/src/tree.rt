@@ -1,11 +1,13 @@
 //! The tree of a query: comparisons under `&&` and `||`. A `!` is never in it, since the complement of a tree is one.
-ghost use Rattle.std.specs.Prelude.{◌≡◌, IfOk};
-ghost use Rattle.be_query.specs.Grammar.{complement, opposite};
+ghost use Rattle.std.specs.Prelude.{◌≡◌, ◌<◌, true, false, IfOk};
+ghost use Rattle.be_query.specs.Grammar.{And, complement, opposite};
+ghost use Rattle.be_query.specs.Turning.{rounds, IsLeaf, BeginsWithLeaf};
 ghost use Rattle.be_query.specs.View.{formula};
 
 use be_pattern::Pattern;
 use be_value::Name;
 use std::alloc::{AllocError, Global};
+use std::mem;
 
 /// A comparison's operator.
 #[derive(Clone, Copy, Debug, PartialEq, Eq)]
@@ -35,8 +37,7 @@ pub struct Comparison {
     pub literal: Literal,
 }
 
-/// Comparisons under `&&` and `||`. It is dropped by recursion on its joints, of which a query's tree has at most 255.
-#[derive(Drop)]
+/// Comparisons under `&&` and `||`. It is dropped in a loop: no tree makes that recurse, however deep it is.
 pub enum Tree {
     Leaf(Comparison),
     And(Box<Tree>, Box<Tree>),
@@ -59,26 +60,100 @@ impl Cmp {
     }
 }
 
-/// The tree that holds where this one does not. It recurses on the tree's joints, which `from_rpn` keeps to 255 at most,
-/// and makes each anew.
-pub(crate) fn complement(alloc: Global, tree: Tree) -> Result<Tree, AllocError>
-    ensures { IfOk result (λ t. formula t ≡ complement (formula tree)) }
+impl Drop for Tree {
+    // The joints on the left are turned to the right one by one, and the comparison that comes to stand left is let go:
+    // at most two rounds for each joint.
+    fn drop(mut self) {
+        'joints: loop {
+            if turn(&mut self) {
+                continue 'joints;
+            }
+            match self {
+                Tree::Leaf(_) => return,
+                Tree::And(left, right) => {
+                    Box::into_inner(left).end();
+                    self = Box::into_inner(right);
+                }
+                Tree::Or(left, right) => {
+                    Box::into_inner(left).end();
+                    self = Box::into_inner(right);
+                }
+            }
+        }
+    }
+}
+
+/// Makes the joint on the left of a joint, if there is one, the joint on its right, and says whether it did. The
+/// comparisons keep their order, but the joints do not keep what they join.
+fn turn(tree: &mut Tree) -> bool
+    ensures turned { result ≡ true → rounds (formula tree.new) < rounds (formula tree.old) }
+    ensures kept { result ≡ false → formula tree.new ≡ formula tree.old }
+    ensures leaf { result ≡ false → BeginsWithLeaf (formula tree.new) }
 {
     match tree {
-        Tree::Leaf(comparison) => {
-            let Comparison { name, op, literal } = comparison;
-            let op = op.opposite();
-            Ok(Tree::Leaf(Comparison { name, op, literal }))
+        Tree::Leaf(_) => false,
+        Tree::And(left, right) => turn_sides(left, right),
+        Tree::Or(left, right) => turn_sides(left, right),
+    }
+}
+
+/// Does so for the sides of a joint.
+fn turn_sides(left: &mut Box<Tree>, right: &mut Box<Tree>) -> bool
+    ensures turned { result ≡ true → rounds (And (formula left.new.value) (formula right.new.value)) < rounds (And (formula left.old.value) (formula right.old.value)) }
+    ensures kept { result ≡ false → (formula left.new.value ≡ formula left.old.value) × (formula right.new.value ≡ formula right.old.value) }
+    ensures leaf { result ≡ false → IsLeaf (formula left.new.value) }
+{
+    let turns = match &mut **left {
+        Tree::Leaf(_) => false,
+        Tree::And(first, second) => {
+            mem::swap(first, second);
+            mem::swap(second, right);
+            true
         }
-        Tree::And(left, right) => {
-            let left = complement(alloc, Box::into_inner(left))?;
-            let right = complement(alloc, Box::into_inner(right))?;
-            Ok(Tree::Or(Box::new(alloc, left)?, Box::new(alloc, right)?))
+        Tree::Or(first, second) => {
+            mem::swap(first, second);
+            mem::swap(second, right);
+            true
         }
-        Tree::Or(left, right) => {
-            let left = complement(alloc, Box::into_inner(left))?;
-            let right = complement(alloc, Box::into_inner(right))?;
-            Ok(Tree::And(Box::new(alloc, left)?, Box::new(alloc, right)?))
+    };
+    if turns {
+        mem::swap(left, right);
+    }
+    turns
+}
+
+impl Tree {
+    /// Lets a comparison go.
+    fn end(self)
+        requires { IsLeaf (formula self) }
+    {
+        match self {
+            Tree::Leaf(_) => {}
+            Tree::And(_left, _right) | Tree::Or(_left, _right) => unreachable!(),
+        }
+    }
+
+    /// The tree that holds where this one does not. It recurses on the tree's joints, which `from_rpn` keeps to 255 at
+    /// most, and makes each anew.
+    pub(crate) fn complement(self, alloc: Global) -> Result<Tree, AllocError>
+        ensures { IfOk result (λ t. formula t ≡ complement (formula self)) }
+    {
+        match self {
+            Tree::Leaf(comparison) => {
+                let Comparison { name, op, literal } = comparison;
+                let op = op.opposite();
+                Ok(Tree::Leaf(Comparison { name, op, literal }))
+            }
+            Tree::And(left, right) => {
+                let left = Box::into_inner(left).complement(alloc)?;
+                let right = Box::into_inner(right).complement(alloc)?;
+                Ok(Tree::Or(Box::new(alloc, left)?, Box::new(alloc, right)?))
+            }
+            Tree::Or(left, right) => {
+                let left = Box::into_inner(left).complement(alloc)?;
+                let right = Box::into_inner(right).complement(alloc)?;
+                Ok(Tree::And(Box::new(alloc, left)?, Box::new(alloc, right)?))
+            }
         }
     }
 }
