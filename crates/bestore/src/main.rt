@@ -79,3 +79,6 @@ fn main(rt: HostRuntime) -> io::Result<ExitCode> {
         Err(_) => fail(&rt, "out of memory"),
     }
 }
+
+#[cfg(test)]
+mod tests;

@@ -1,0 +1,33 @@
+//! The exit status of each command line. What it prints goes where the program's goes.
+use crate::obey;
+use std::alloc::{AllocError, Global};
+use std::process::ExitCode;
+use std::test::Fail;
+
+/// The words of a line.
+fn words_of(alloc: Global, line: &str) -> Result<Vec<String>, AllocError> {
+    let mut words = Vec::new(alloc);
+    for word in line.split(' ') {
+        words.push(String::from_str(alloc, word)?)?;
+    }
+    Ok(words)
+}
+
+#[test]
+fn exit_statuses(rt: HostRuntime) -> Result<(), Fail> {
+    let statuses = [
+        ("bestore --help", 0),
+        ("bestore run --help", 0),
+        ("bestore", 2),
+        ("bestore run", 2),
+        ("bestore walk script", 2),
+        ("bestore run --pages 7 script", 2),
+        ("bestore run --commits 4294967296 script", 2),
+        ("bestore run no-such-folder/script", 1),
+    ];
+    for (line, status) in statuses {
+        let words = words_of(rt.alloc(), line)?;
+        assert!(rt; matches!(obey(&rt, &words), Ok(code) if code == ExitCode::from(status)));
+    }
+    Ok(())
+}
