@@ -27,11 +27,6 @@ standing_at (Retired r) = Nowhere
 abbrev pub standing_in : List Place → ℕ → Standing
 standing_in places q = if nat_lt q 16384 then standing_at (slice_index_or places q Free) else Nowhere
 
--- when a write begins: a page of the current version, and any other
-abbrev pub at_start : Bool → Standing
-at_start true = Old
-at_start false = Nowhere
-
 -- word i of the page q
 abbrev pub word_in : List ℕ → ℕ → ℕ → ℕ
 word_in words q i = if nat_lt i 512 then slice_index words (word_place q i) else 0
