@@ -13,11 +13,12 @@ use Rattle.be_pages.specs.Pages.{after_keep, times, is_kept as stands_kept, Page
 use Rattle.be_pages.specs.Place.{place_of}
 use Rattle.be_paged.specs.Page.{reach}
 use Rattle.be_paged.specs.Version.{IsVersion}
-use Rattle.be_paged.proofs.Standing.{version_kept}
+use Rattle.be_paged.proofs.Standing.{version_kept, reaches_once}
 use Rattle.be_volume.specs.Volume.{State}
 use Rattle.be_table.specs.Ledger.{is_kept}
 use Rattle.be_table.specs.declared.pass.Knowledge.{Knowledge}
-use Rattle.be_table.specs.Reading.{standing_at, standing_in, word_in}
+use Rattle.be_table.specs.Place.{Work}
+use Rattle.be_table.specs.Reading.{open_of, standing_at, standing_in, standing_of, word_in, words_of}
 use Rattle.be_table.specs.Rule.{reach_at}
 use Rattle.be_table.specs.Steps.{pages_from}
 use Rattle.be_table.specs.Versions.{at_start, SpellsVolume}
@@ -74,3 +75,12 @@ pub kept_exactly : {S K : Type 0} (kept_of : S → K) (standing_of : S → ℕ �
     → Swaps kept_of standing_of words_of before now old new → ((q : ℕ) → standing_of old q ≡ at_start (has pages q)) → ((q : ℕ) → times q before ≡ bit (has pages q)) → ((q : ℕ) → times q now ≤ 1)
     → (q : ℕ) → (times q now ≡ bit (stands_kept (standing_of new q))) × (standing_of new q ≢ Taken)
 kept_exactly kept_of standing_of words_of pages before now old new swaps begun exact once q = kept_once (has pages q) (exact q) (begun q) (once q) (swaps.each q)
+
+-- the same of an open write that began with a version and has made another
+module _ (old new : Work) (from page : ℕ) (volume made : State) (begun : (q : ℕ) → standing_in old.knows.places q ≡ at_start (has (reach_at old.knows.seen (length old.knows.seen)) q))
+    (spelt : SpellsVolume (reach_at old.knows.seen (length old.knows.seen)) (word_in old.knows.words) from volume)
+    (version : IsVersion (standing_in new.knows.places) (word_in new.knows.words) page made)
+    (swaps : Swaps open_of standing_of words_of (reach (word_in old.knows.words) from) (reach (word_in new.knows.words) page) old new) where
+  pub keeps_exactly : (q : ℕ) → (times q (reach (word_in new.knows.words) page) ≡ bit (stands_kept (standing_in new.knows.places q))) × (standing_in new.knows.places q ≢ Taken)
+  keeps_exactly q = kept_exactly open_of standing_of words_of (reach_at old.knows.seen (length old.knows.seen))
+      (reach (word_in old.knows.words) from) (reach (word_in new.knows.words) page) old new swaps begun spelt.exact (reaches_once (standing_in new.knows.places) (word_in new.knows.words) page made version) q

@@ -31,6 +31,13 @@ standing_in places q = if nat_lt q 16384 then standing_at (slice_index_or places
 abbrev pub word_in : List ℕ → ℕ → ℕ → ℕ
 word_in words q i = if nat_lt i 512 then slice_index words (word_place q i) else 0
 
+-- where the pages of an open write stand, and their words
+abbrev pub standing_of : Work → ℕ → Standing
+standing_of w q = standing_in w.knows.places q
+
+abbrev pub words_of : Work → ℕ → ℕ → ℕ
+words_of w q i = word_in w.knows.words q i
+
 -- what no call on an open write changes
 pub record StaysOpen : Type 0 where
   pub table : Opened
