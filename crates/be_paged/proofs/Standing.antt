@@ -1,5 +1,5 @@
 -- A version stands where its pages do, with their words.
-use Rattle.std.proofs.Common.{◌≡◌, ℕ, zero, suc, ◌+◌, ◌<◌, ◌≤◌, List, [], ◌∷◌, ◌++◌, length, map, refl, sym, ap, ◌∙◌, subst, inl, inr, arith, IsTrue}
+use Rattle.std.proofs.Common.{◌≡◌, ℕ, zero, suc, ◌≤◌, List, [], ◌∷◌, ◌++◌, map, refl, sym, ap, ◌∙◌, subst, inl, inr, arith, IsTrue}
 use Rattle.std.proofs.lemmas.Bool.{cases_eq}
 use Rattle.std.specs.Prelude.{All, slice_index_or}
 use Rattle.be_pages.specs.declared.room.Standing.{Standing}
@@ -100,9 +100,9 @@ pub reaches_once : (s : ℕ → Standing) (w : ℕ → ℕ → ℕ) (page : ℕ)
 reaches_once s w page volume h q =
     let ps = pages_of w (roots (contents_of (w page))) in
     elim (cases_eq q page) [
-    | inl e ↦ subst (λ p. times p (reach w page) ≤ 1) (sym e) (omega (arith, times-cons page page ps, times-cons page page [], times_itself page, h.apart))
-    | inr ne ↦ omega (arith, times-cons q page ps, times-cons q page [], times_other q page ne, h.in_hand.trees.once q)
-  ]
+      | inl e ↦ subst (λ p. times p (reach w page) ≤ 1) (sym e) (omega (arith, times-cons page page ps, times-cons page page [], times_itself page, h.apart))
+      | inr ne ↦ omega (arith, times-cons q page ps, times-cons q page [], times_other q page ne, h.in_hand.trees.once q)
+    ]
 
 -- where no other page is in use it reaches its own alone
 pub reaches_alone : (s : ℕ → Standing) (w : ℕ → ℕ → ℕ) (page : ℕ) (volume : State) → IsVersion s w page volume → ((q : ℕ) → IsTrue (is_kept (s q)) → q ≡ page) → (q : ℕ) → times q (reach w page) ≡ times q (page ∷ [])

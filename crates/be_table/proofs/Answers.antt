@@ -1,5 +1,5 @@
 -- What accepted lists of operations answer, and how far they count.
-use Rattle.std.proofs.Common.{◌≡◌, ◌<◌, ◌≤◌, ◌+◌, ◌*◌, ◌^◌, ℕ, List, [], ◌∷◌, ◌++◌, length, Ok, Err, fold, refl, sym, ap, ◌∙◌, arith, length-append, All}
+use Rattle.std.proofs.Common.{◌≡◌, ◌<◌, ◌≤◌, ◌+◌, ◌*◌, ◌^◌, List, [], ◌∷◌, ◌++◌, length, Ok, Err, fold, refl, sym, ap, ◌∙◌, arith, length-append, All}
 use Rattle.std.proofs.lemmas.List.Elements.{All-head, All-tail}
 use Rattle.std.specs.Prelude.{Result}
 use Rattle.std.specs.Result.{result_map_both}

@@ -1,4 +1,4 @@
-use Rattle.std.proofs.Common.{ℕ, [], ◌∷◌, slice_index, refl}
+use Rattle.std.proofs.Common.{[], ◌∷◌, slice_index, refl}
 use Rattle.be_core.specs.Machine.{has}
 use Rattle.be_table.specs.Versions.{at_start}
 use Rattle.be_table.proofs.tests.open.Goals as goal

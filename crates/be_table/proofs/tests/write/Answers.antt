@@ -1,4 +1,4 @@
-use Rattle.std.proofs.Common.{◌≡◌, ℕ, ◌∷◌, length, Ok, refl, sym, ap, ◌∙◌, subst, arith}
+use Rattle.std.proofs.Common.{◌≡◌, ℕ, length, Ok, sym, ap, ◌∙◌, subst}
 use Rattle.be_core.specs.Machine.{bit}
 use Rattle.be_journal.specs.Journal.{replay}
 use Rattle.be_pages.specs.Pages.{is_kept, times}
@@ -7,9 +7,8 @@ use Rattle.be_paged.specs.Version.{IsVersion}
 use Rattle.be_volume.specs.Ahead.{after, reached}
 use Rattle.be_volume.specs.Volume.{State, steps}
 use Rattle.be_table.specs.declared.pass.Knowledge.{Knowledge}
-use Rattle.be_table.specs.Place.{Work}
 use Rattle.be_table.specs.Reading.{standing_in, word_in, StaysOpen}
-use Rattle.be_table.specs.Rule.{entries, page_at, reach_at}
+use Rattle.be_table.specs.Rule.{entries, reach_at}
 use Rattle.be_table.specs.Versions.{SpellsVolume}
 use Rattle.be_table.proofs.Keeping.{begun_version, keeps_exactly}
 use Rattle.be_table.proofs.tests.write.Goals as goal

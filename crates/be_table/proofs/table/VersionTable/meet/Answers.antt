@@ -1,4 +1,4 @@
-use Rattle.std.proofs.Common.{◌≡◌, ◌<◌, length, sym, ap, ◌∙◌, arith}
+use Rattle.std.proofs.Common.{◌≡◌, length, sym, ap, ◌∙◌, arith}
 use Rattle.be_table.specs.Rule.{counted}
 use Rattle.be_table.proofs.Deals.{joins}
 use Rattle.be_table.specs.Steps.{longer}

@@ -1,4 +1,4 @@
-use Rattle.std.proofs.Common.{◌+◌, ◌^◌, ◌<◌, length, ap, arith, subst}
+use Rattle.std.proofs.Common.{◌+◌, ◌^◌, ◌<◌, ap, arith, subst}
 use Rattle.be_journal.specs.Journal.{replay}
 use Rattle.be_table.specs.declared.pass.Knowledge.{Knowledge}
 use Rattle.be_table.specs.Place.{Work}
