@@ -1,5 +1,5 @@
 -- Seats are cut and joined, and the rule at the start.
-use Rattle.std.proofs.Common.{◌≡◌, ◌≢◌, ◌⊎◌, ℕ, zero, suc, ◌+◌, ◌*◌, ◌<◌, ◌≤◌, ◌==◌, eqb, eq-eqb, ne_eqb, List, [], ◌∷◌, ◌++◌, map, length, set, false, true≢false, if◌then◌else◌, Option, Some, None, refl, sym, ap, ◌∙◌, subst, inl, inr, ⊎_elim, arith, IsTrue, nat_lt, ◌&&◌, not}
+use Rattle.std.proofs.Common.{◌≡◌, ◌≢◌, ◌⊎◌, ℕ, zero, suc, ◌+◌, ◌*◌, ◌<◌, ◌≤◌, ◌==◌, eqb, eq-eqb, ne_eqb, List, [], ◌∷◌, ◌++◌, map, length, take, set, false, true≢false, if◌then◌else◌, Option, Some, None, refl, sym, ap, ◌∙◌, subst, inl, inr, ⊎_elim, arith, IsTrue, nat_lt, ◌&&◌, not}
 use Rattle.std.proofs.lemmas.Bool.{cases_lt}
 use borrow.Author.Tests.{lt-ltb, le-ltb}
 use Rattle.std.specs.Prelude.{slice_index}
@@ -19,6 +19,9 @@ use Rattle.be_table.specs.declared.pass.Knowledge.{Knowledge}
 use Rattle.be_pages.specs.Place.{undone_place, place_of}
 use Rattle.be_table.specs.Laws.{SplitIsNoEvent, JoinIsNoEvent}
 use Rattle.be_table.specs.Ledger.{ShowsPlaces, is_free, is_taken, retired_with}
+use Rattle.be_journal.specs.Journal.{replay}
+use Rattle.be_volume.specs.Volume.{empty}
+use Rattle.be_table.specs.Versions.{in_pages, SpellsVolume}
 use Rattle.be_table.specs.Place.{Place}
 use Rattle.be_table.specs.Rule.{ledger_places, Board, IsWithin, IsSound, AreInside, reach_at, page_at, word_place, Fits, IsAbsent, AllFit, Shows, newcomer, newcomers, everyone, counted, first_seat, other_seats, joined}
 use Rattle.be_table.specs.Seats.{IsTold}
@@ -54,7 +57,7 @@ reseat : (limits : Limits) (b : Board) (f : ℕ → ℕ) (i j : ℕ) (a : Knowle
 reseat limits b f i j a e h = record { number = h.number; limits_are = h.limits_are; seat_is = e; seen = h.seen; mine = h.mine; own = h.own; writes = h.writes; whole = λ t. let x = h.whole t in record { log = x.log; holder = x.holder; turn = x.turn; count = x.count; shown = x.shown; size = x.size; words = x.words }; phase = h.phase; pin = h.pin; image = h.image }
 
 sound_seats : (limits : Limits) (b : Board) (f : ℕ → ℕ) → IsSound limits b → IsSound limits (record b { seat_of = f })
-sound_seats limits b f s = record { within = s.within; legal = s.legal; by_passes = s.by_passes; room = s.room; page = s.page; inside = s.inside; own_pages = s.own_pages; pages = s.pages; passes = s.passes; commits = s.commits; holder = s.holder; reaches = s.reaches; machine = s.machine }
+sound_seats limits b f s = record { within = s.within; legal = s.legal; by_passes = s.by_passes; room = s.room; page = s.page; inside = s.inside; own_pages = s.own_pages; pages = s.pages; passes = s.passes; commits = s.commits; holder = s.holder; reaches = s.reaches; machine = s.machine; spelt = s.spelt }
 
 absent_counted : (k : ℕ) (v : List Knowledge) → IsAbsent k v → IsAbsent k (map counted v)
 absent_counted k [] h = tt
@@ -174,13 +177,14 @@ zero_first (suc p) = rw (ne_eqb 0 (suc p) (λ z. absurd (omega arith)), ne_eqb (
 
 pub begins : (limits : Limits) (words : List ℕ) (ledger : Ledger) → IsWithin limits → length words ≡ 528 + 512 * limits.pages → ((k : ℕ) → k < 528 → slice_index words k ≡ 0)
     → ledger.journal.entries ≡ [] → ledger.journal.limit ≡ limits.commits → ledger.page ≡ 0 → length (ledger_places ledger) ≡ limits.pages → ShowsPlaces (ledger_places ledger) (first_board limits words).world → map undone_place (ledger_places ledger) ≡ (ledger_places ledger)
+    → SpellsVolume (0 ∷ []) (in_pages (λ p i. slice_index words (word_place p i))) 0 empty
     → Shows limits (opening words (Some ledger ∷ []) (everyone limits))
-begins limits words ledger within size blank empty limit page count shown idle = (
+begins limits words ledger within size blank none limit page count shown idle first = (
   first_board limits words,
   record {
     table = record {
       words = record { size = size; lock = blank 0 (omega arith); current = blank 8 (omega arith); announced = λ k lt. blank (16 + 8 * k) (let f = within.few in omega arith); pages = λ p i a b. refl };
-      home = (ledger, refl, record { journal = empty; limit = limit; page = page; count = count; shown = shown; idle = idle });
+      home = (ledger, refl, record { journal = none; limit = limit; page = page; count = count; shown = shown; idle = idle });
       version = refl;
     };
     sound = record {
@@ -197,11 +201,16 @@ begins limits words ledger within size blank empty limit page count shown idle =
       holder = λ h e. absurd (cc);
       reaches = λ n p le. reached n p le;
       machine = first-sound limits.pages limits.passes limits.commits (λ p i. slice_index words (word_place p i)) (some_page limits within);
+      spelt = λ n le. spelt n le;
     };
     views = one;
   },
 )
   where
+    spelt : (n : ℕ) → n ≤ 0 → SpellsVolume (reach_at [] n) (in_pages ((first_board limits words).world.image n)) (page_at [] n) (replay (take n []))
+    spelt zero le = first
+    spelt (suc n) le = absurd (omega arith)
+
     reached : (n p : ℕ) → n ≤ 0 → (first_board limits words).world.reach n p ≡ has (reach_at [] n) p
     reached zero p le = zero_first p
     reached (suc n) p le = absurd (omega arith)
@@ -232,7 +241,7 @@ abbrev pub Me2 : Type 0
 Me2 = Me (Option Ledger) (List Knowledge)
 
 pub newcomer_told : (limits : Limits) (t k : ℕ) → IsWithin limits → k < limits.passes → IsTold (newcomer limits t k) k 0
-newcomer_told limits t k within lt = record { number_is = refl; seen_is = refl; writes = refl; pass = record { within = within; legal = legal-nil; number_below = lt; by_passes = below-nil limits.passes; room = omega arith; inside = first_inside limits.pages (some_page limits within); own_pages = first_own; pin = tt; mine = by_pass-nil k } }
+newcomer_told limits t k within lt = record { number_is = refl; seen_is = refl; writes = refl; pass = record { within = within; legal = legal-nil; number_below = lt; by_passes = below-nil limits.passes; room = omega arith; inside = first_inside limits.pages (some_page limits within); own_pages = first_own; pin = tt; mine = by_pass-nil k; spelt = λ x n e. absurd (cc) } }
 
 pub AreNewAt-push : (id : TableId) (limits : Limits) (k : ℕ) (ss : List Place) (s : Place) → AreNewAt id limits k ss → (s.blank ≡ false) × (s.table ≡ id) × (s.knows ≡ newcomer limits (k + length ss + 1) (k + length ss)) → AreNewAt id limits k (ss ++ s ∷ [])
 AreNewAt-push id limits k [] s h new = (subst (λ n. (s.blank ≡ false) × (s.table ≡ id) × (s.knows ≡ newcomer limits (n + 1) n)) (let e : k + length {A = Place} [] ≡ k = omega arith in e) new, tt)
@@ -261,10 +270,10 @@ first_places limits words places within count used unused = (record { free = λ 
     ]
 
 pub begins_as : (limits : Limits) (words : List ℕ) (slots : List (Option Ledger)) (ledger : Ledger) → slots ≡ Some ledger ∷ [] → IsWithin limits → length words ≡ 528 + 512 * limits.pages → ((k : ℕ) → k < 528 → slice_index words k ≡ 0)
-    → ledger.journal.entries ≡ [] → ledger.journal.limit ≡ limits.commits → ledger.page ≡ 0 → length (ledger_places ledger) ≡ limits.pages → ((q : ℕ) → q < 1 → place_of (ledger_places ledger) q ≡ Current) → ((q : ℕ) → 1 ≤ q → q < limits.pages → place_of (ledger_places ledger) q ≡ Free) → Shows limits (opening words slots (everyone limits))
-begins_as limits words slots ledger e within size blank empty limit page count used unused =
+    → ledger.journal.entries ≡ [] → ledger.journal.limit ≡ limits.commits → ledger.page ≡ 0 → length (ledger_places ledger) ≡ limits.pages → ((q : ℕ) → q < 1 → place_of (ledger_places ledger) q ≡ Current) → ((q : ℕ) → 1 ≤ q → q < limits.pages → place_of (ledger_places ledger) q ≡ Free) → SpellsVolume (0 ∷ []) (in_pages (λ p i. slice_index words (word_place p i))) 0 empty → Shows limits (opening words slots (everyone limits))
+begins_as limits words slots ledger e within size blank none limit page count used unused first =
     let x = first_places limits words (ledger_places ledger) within count used unused in
-    subst (λ (xs : List (Option Ledger)). Shows limits (opening words xs (everyone limits))) (sym e) (begins limits words ledger within size blank empty limit page count x.0 x.1)
+    subst (λ (xs : List (Option Ledger)). Shows limits (opening words xs (everyone limits))) (sym e) (begins limits words ledger within size blank none limit page count x.0 x.1 first)
 
 pub only_one : (r l : List (Option Ledger)) (x : Option Ledger) → r ≡ l ++ x ∷ [] → l ≡ [] → r ≡ x ∷ []
 only_one r l x e f = e ∙ ap (λ xs. xs ++ x ∷ []) f

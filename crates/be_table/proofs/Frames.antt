@@ -1,8 +1,8 @@
 -- What a step leaves: other seats, other words, other versions.
-use Rattle.std.proofs.Common.{◌≡◌, ◌≢◌, ℕ, zero, suc, ◌+◌, ◌*◌, ◌<◌, ◌≤◌, eqb, ne_eqb, List, [], ◌∷◌, ◌++◌, length, set, true, false, Option, Some, None, refl, sym, ap, ◌∙◌, subst, ⊎_elim, inl, inr, arith, length-append, IsTrue, slice_index}
+use Rattle.std.proofs.Common.{◌≡◌, ◌≢◌, ℕ, zero, suc, ◌+◌, ◌*◌, ◌<◌, ◌≤◌, eqb, ne_eqb, List, [], ◌∷◌, ◌++◌, length, set, true, false, Option, Some, None, refl, sym, ap, ◌∙◌, subst, ⊎_elim, inl, inr, arith, length-append, take, IsTrue, slice_index}
 use Rattle.std.specs.Prelude.{slice_index_or}
 use Rattle.std.proofs.lemmas.Bool.Decides.{eqb_tells}
-use Rattle.std.proofs.lemmas.List.{get_or-set_same, get_or-set_other, set-get_or, length-set}
+use Rattle.std.proofs.lemmas.List.{get_or-set_same, get_or-set_other, set-get_or, length-set, length-map}
 use mathlib.Core.Option.{some, none}
 use lib.ListN.{get_elem?}
 use Rattle.atomic_table.specs.Table.{State, Me}
@@ -15,11 +15,15 @@ use Rattle.be_table.specs.declared.ledger.Ledger.{Ledger}
 use Rattle.be_table.specs.declared.limits.Limits.{Limits}
 use Rattle.be_table.specs.declared.pass.Commit.{Commit}
 use Rattle.be_table.specs.declared.pass.Knowledge.{Knowledge}
-use Rattle.be_journal.specs.Journal.{by_pass}
+use Rattle.be_journal.specs.declared.entries.Entry.{Entry}
+use Rattle.be_journal.specs.Journal.{by_pass, replay}
 use Rattle.be_table.specs.History.{StartsWith, AllBelow}
 use Rattle.be_table.specs.Rule.{Board, entries, nothing, reach_at, page_at, lock_word, announce_word, word_place, PagesAgree, is_holder, holder_of, WordsAgree, IsHome, IsWithin, ReachesAgree, AreInside, IsSound, Holds, ImageIs, Fits, AllFit, ViewsFit, Stands, counted}
 use Rattle.be_table.specs.Steps.{IsPass}
+use Rattle.be_table.specs.Reading.{word_in}
+use Rattle.be_table.specs.Versions.{in_pages, SpellsVolume}
 use Rattle.be_table.proofs.Histories.{legal-front, below-front}
+use Rattle.be_table.proofs.Versions.{spells_same, clipped, take_front}
 
 abbrev pub Table : Type 0
 Table = State (Option Ledger) (List Knowledge)
@@ -87,6 +91,25 @@ page-front log seen s n le = ap (λ l. page_at l n) s.1 ∙ page-append seen s.0
 inside-front : (pages : ℕ) (log seen : List Commit) → StartsWith log seen → AreInside pages log → AreInside pages seen
 inside-front pages log seen s h n p le r = h n p (let l = longer_seen log seen s in omega arith) (subst (λ l. IsTrue (has l p)) (sym (reach-front log seen s n le)) r)
 
+-- what is so of the journal at a version that the pass has seen
+spelt_front : (log seen : List Commit) (words : ℕ → ℕ → ℕ) → StartsWith log seen → (n : ℕ) → n ≤ length seen → SpellsVolume (reach_at log n) words (page_at log n) (replay (take n (entries log)))
+    → SpellsVolume (reach_at seen n) words (page_at seen n) (replay (take n (entries seen)))
+spelt_front log seen words s n le h =
+    let more = entries-start log seen s in
+    let front : take n (entries log) ≡ take n (entries seen) = ap (take n) more.1 ∙ take_front (entries seen) more.0 n (let l = length-map seen (λ (c : Commit). c.entry) in omega (arith, l, le)) in
+    subst (λ (q : List ℕ × ℕ × List Entry). SpellsVolume q.0 words q.1 (replay q.2)) (λ k. (reach-front log seen s n le k, page-front log seen s n le k, front k)) h
+
+-- the image of a pinned version spells the volume
+pinned_spelt : (limits : Limits) (b : Board) (i : ℕ) (a : Knowledge) → IsSound limits b → Fits limits b i a → (x n : ℕ) → a.phase ≡ Pinned x n → SpellsVolume (reach_at a.seen n) (word_in a.image) (page_at a.seen n) (replay (take n (entries a.seen)))
+pinned_spelt limits b i a s f x n e =
+    let low : (x ≤ n) × (n ≤ length a.seen) = subst (InTime (length a.seen)) e f.pin in
+    let late : (x ≤ n) × (n ≤ b.world.current) = subst (InTime b.world.current) (f.phase ∙ e) (s.machine.in_time a.number) in
+    let l = longer_seen b.log a.seen f.seen in
+    spelt_front b.log a.seen (word_in a.image) f.seen n low.1
+    (spells_same (reach_at b.log n) (in_pages (b.world.image n)) (word_in a.image) (page_at b.log n) (replay (take n (entries b.log)))
+    (λ q r. clipped (λ j. slice_index a.image (word_place q j)) (b.world.image n q) (λ j lt. f.image x n q j e (subst IsTrue (sym (s.reaches n q late.1)) r) lt))
+    (s.spelt n (omega (arith, low.1, l))))
+
 pub is_pass : (limits : Limits) (b : Board) (i : ℕ) (a : Knowledge) → IsSound limits b → Fits limits b i a → IsPass a
 is_pass limits b i a s f = record {
   within = subst IsWithin (sym f.limits_are) s.within;
@@ -98,6 +121,7 @@ is_pass limits b i a s f = record {
   own_pages = λ n le. subst (λ (q : List ℕ × ℕ). IsTrue (has q.0 q.1)) (λ k. (reach-front b.log a.seen f.seen n le k, page-front b.log a.seen f.seen n le k)) (s.own_pages n (let l = longer_seen b.log a.seen f.seen in omega arith));
   pin = f.pin;
   mine = f.own;
+  spelt = λ x n e. pinned_spelt limits b i a s f x n e;
 }
 
 pub in_time_later : (c d : ℕ) (p : Phase) → c ≤ d → InTime c p → InTime d p
@@ -200,8 +224,8 @@ fits_world limits b w j x h p whole image f = record {
 pub not_other : (k j : ℕ) → j ≢ k → eqb k j ≡ false
 not_other k j ne = ne_eqb k j (λ q. ne (sym q))
 
-pub sound_world : (limits : Limits) (b : Board) (w : World) → IsSound limits b → w.pages ≡ b.world.pages → w.passes ≡ b.world.passes → w.commits ≡ b.world.commits → ((h : Holder) → w.holder ≡ Some h → h.pass < limits.passes) → ReachesAgree w b.log → Sound w → IsSound limits (record b { world = w })
-sound_world limits b w h pages passes commits holder reaches sound = record { within = h.within; legal = h.legal; by_passes = h.by_passes; room = h.room; page = h.page; inside = h.inside; own_pages = h.own_pages; pages = pages ∙ h.pages; passes = passes ∙ h.passes; commits = commits ∙ h.commits; holder = holder; reaches = reaches; machine = sound }
+pub sound_world : (limits : Limits) (b : Board) (w : World) → IsSound limits b → w.pages ≡ b.world.pages → w.passes ≡ b.world.passes → w.commits ≡ b.world.commits → w.image ≡ b.world.image → ((h : Holder) → w.holder ≡ Some h → h.pass < limits.passes) → ReachesAgree w b.log → Sound w → IsSound limits (record b { world = w })
+sound_world limits b w h pages passes commits image holder reaches sound = record { within = h.within; legal = h.legal; by_passes = h.by_passes; room = h.room; page = h.page; inside = h.inside; own_pages = h.own_pages; pages = pages ∙ h.pages; passes = passes ∙ h.passes; commits = commits ∙ h.commits; holder = holder; reaches = reaches; machine = sound; spelt = λ n le. subst (λ (f : ℕ → ℕ → ℕ → ℕ). SpellsVolume (reach_at b.log n) (in_pages (f n)) (page_at b.log n) (replay (take n (entries b.log)))) (sym image) (h.spelt n le) }
 
 home_phases : (o : Option Holder) (w : World) (phases : ℕ → Phase) (log : List Commit) (homes : List (mathlib.Core.Option.Option (Option Ledger))) → IsHome o w log homes → IsHome o (record w { phases = phases }) log homes
 home_phases None w phases log homes h = let x = h.2 in (h.0, h.1, record { journal = x.journal; limit = x.limit; page = x.page; count = x.count; shown = record { free = x.shown.free; taken = x.shown.taken; retired = x.shown.retired }; idle = x.idle })
@@ -237,7 +261,7 @@ stands_phase limits s b i a p q seen image ws pq h at sound words pin starts own
     } in (
       record {
         table = record { words = words; home = home_phases b.world.holder b.world w.phases b.log s.homes h.table.home; version = h.table.version };
-        sound = sound_world limits b w h.sound refl refl refl h.sound.holder h.sound.reaches sound;
+        sound = sound_world limits b w h.sound refl refl refl refl h.sound.holder h.sound.reaches sound;
         views = views_step limits b (record b { world = w }) s.views i a c h.views at (λ j x ne f. fits_world limits b w j x refl (rw (test-other x.number a.number ne) refl) (holds_phases b w.phases x) (λ g. g) f) fc;
       },
       fc,

@@ -45,7 +45,7 @@ module _ (limits : Limits) (s : Table) (b0 : Board) (i : ℕ) (a : Knowledge) wh
       let fc : Fits limits (record b { world = w }) i c = record { number = fa.number; limits_are = fa.limits_are; seat_is = fa.seat_is; seen = fa.seen; mine = fa.mine; own = fa.own; writes = fa.writes; whole = λ _. holds; phase = fa.phase; pin = fa.pin; image = fa.image } in
       record {
         table = record { words = agree; home = h.table.home; version = h.table.version };
-        sound = sound_world limits b w h.sound refl refl refl (λ g e. subst (λ (g : Holder). g.pass < limits.passes) (same_some _ _ e) fa.number) h.sound.reaches sound;
+        sound = sound_world limits b w h.sound refl refl refl refl (λ g e. subst (λ (g : Holder). g.pass < limits.passes) (same_some _ _ e) fa.number) h.sound.reaches sound;
         views = views_step limits b (record b { world = w }) s.views i a c h.views at (λ j y ne f. fits_world limits b w j y refl refl (λ z. absurd (not_holder b a y ne refl z)) (λ g. g) f) fc;
       }
 

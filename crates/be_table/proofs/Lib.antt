@@ -1,3 +1,4 @@
+pub mod Versions
 pub mod Frames
 pub mod Histories
 pub mod Holding
@@ -15,3 +16,5 @@ pub mod Meetings
 pub mod Closing
 pub mod Standings
 pub mod Told
+pub mod Keeping
+pub mod Answers

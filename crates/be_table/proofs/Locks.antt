@@ -1,5 +1,5 @@
 -- The lock is taken and given back.
-use Rattle.std.proofs.Common.{◌≡◌, ◌≢◌, ℕ, ◌+◌, ◌*◌, ◌<◌, ◌≤◌, eqb, eq-eqb, ne_eqb, MatchBool, List, [], ◌∷◌, length, set, Bool, true, false, true≢false, Option, Some, None, refl, sym, ap, ◌∙◌, subst, arith, slice_index, map}
+use Rattle.std.proofs.Common.{◌≡◌, ◌≢◌, ℕ, ◌+◌, ◌*◌, ◌<◌, ◌≤◌, eqb, eq-eqb, ne_eqb, MatchBool, List, [], ◌∷◌, length, set, Bool, true, false, true≢false, Option, Some, None, refl, sym, ap, ◌∙◌, subst, arith, slice_index, map, take, IsTrue}
 use Rattle.std.proofs.lemmas.List.{length-map}
 use mathlib.Core.Option.{some, none}
 use mathlib.Core.Logic.{dite}
@@ -11,16 +11,20 @@ use Rattle.be_core.specs.Machine.{has, World, Holder, MayLock, after_lock, after
 use Rattle.be_core.proofs.Writers.{after_lock-sound, after_unlock-sound}
 use Rattle.be_table.specs.declared.ledger.Ledger.{Ledger}
 use Rattle.be_table.specs.declared.limits.Limits.{Limits}
+use Rattle.be_journal.specs.Journal.{replay}
+use Rattle.be_table.specs.declared.pass.Commit.{Commit}
 use Rattle.be_table.specs.declared.pass.Knowledge.{Knowledge}
 use Rattle.be_table.specs.Laws.{AllowsBy, IsLock, IsUnlock}
 use Rattle.be_pages.specs.Place.{undone_place}
 use Rattle.be_table.specs.Ledger.{ShowsPlaces}
-use Rattle.be_table.specs.Rule.{ledger_places, Board, entries, reach_at, page_at, lock_word, is_holder, holder_of, IsHome, IsSound, Holds, Fits, Stands, Shows, counted}
+use Rattle.be_table.specs.Rule.{ledger_places, Board, entries, reach_at, page_at, word_place, lock_word, is_holder, holder_of, IsHome, IsSound, Holds, Fits, Stands, Shows, counted}
 use Rattle.be_table.specs.Steps.{takes_lock, leaves, Gets, IsLate, Locked, Unlocked}
 use Rattle.be_table.proofs.Histories.{starts_itself}
 use Rattle.be_table.proofs.Frames.{Table, Me1, views_step, fits_counted, longer_seen, is_pass, in_time_later, words_load, words_lock, not_holder, fits_world, not_other, sound_world}
 use Rattle.std.proofs.Math.Nat.{le_refl}
-use Rattle.be_table.specs.Reading.{at_start}
+use Rattle.be_table.specs.Versions.{at_start, in_pages, SpellsVolume}
+use Rattle.be_table.specs.Reading.{word_in}
+use Rattle.be_table.proofs.Versions.{spells_same, clipped, take_all}
 use Rattle.be_table.proofs.Standings.{begun}
 use Rattle.be_table.proofs.Moves.{forget}
 use Rattle.be_table.proofs.Ledgers.{shows-unlock, idle-idle}
@@ -50,6 +54,19 @@ at_work limits s b i a h at writes =
 -- what a step owes
 abbrev pub Goes : Limits → Table → Board → ℕ → ℕ → ℕ → List (ℕ × Option Ledger) → (World → World → Type 0) → (Me1 → Type 0) → Type 0
 Goes limits s b word n i carried event then = (w : List Knowledge) × (x : Act (Option Ledger)) × Valid s.homes carried x × ((d : Board) × Stands limits (stepped s word n i carried w x) d × event b.world d.world) × then (w, carried_after carried x)
+
+-- the table's words spell the volume after the journal
+now_spelt : (limits : Limits) (s : Table) (b : Board) → Stands limits s b → SpellsVolume (reach_at b.log (length b.log)) (word_in s.words) (page_at b.log (length b.log)) (replay (entries b.log))
+now_spelt limits s b h =
+    let n = length b.log in let w = b.world in let version = h.table.version in
+    let all : take n (entries b.log) ≡ entries b.log = ap (λ m. take m (entries b.log)) (sym (length-map b.log (λ (c : Commit). c.entry))) ∙ take_all (entries b.log) in
+    subst (λ es. SpellsVolume (reach_at b.log n) (word_in s.words) (page_at b.log n) (replay es)) all
+    (spells_same (reach_at b.log n) (in_pages (w.image n)) (word_in s.words) (page_at b.log n) (replay (take n (entries b.log)))
+    (λ q r.
+    let reached : IsTrue (w.reach w.current q) = subst IsTrue (sym (h.sound.reaches w.current q (le_refl w.current) ∙ ap (λ m. has (reach_at b.log m) q) version)) r in
+    let inside : q < w.pages = h.sound.machine.inside w.current q reached in
+    clipped (λ j. slice_index s.words (word_place q j)) (w.image n q) (λ j lt. h.table.words.pages q j inside lt ∙ h.sound.machine.now q j reached ∙ ap (λ m. w.image m q j) version))
+    (h.sound.spelt n (le_refl n)))
 
 module _ (limits : Limits) (slots i : ℕ) (a : Knowledge) (carried : List (ℕ × Option Ledger)) where
   lock_free : (s : Table) (b : Board) → Stands limits s (held_by b None) → get_elem? s.views i ≡ some (a ∷ []) → Goes limits s (held_by b None) 0 (a.number + 1) i carried (λ v w. MayLock v a.number × (w ≡ after_lock v a.number)) (Gets (a ∷ [], carried))
@@ -88,7 +105,7 @@ module _ (limits : Limits) (slots i : ℕ) (a : Knowledge) (carried : List (ℕ 
         pin = in_time_later (length a.seen) (length b.log) a.phase (longer_seen b.log a.seen fa.seen) fa.pin;
         image = fa.image;
       } in
-      let sd : IsSound limits d = sound_world limits b w h.sound refl refl refl (λ g e. subst (λ (g : Holder). g.pass < limits.passes) (same_some _ _ e) fa.number) h.sound.reaches (after_lock-sound b.world h.sound.machine k (below, refl)) in (
+      let sd : IsSound limits d = sound_world limits b w h.sound refl refl refl refl (λ g e. subst (λ (g : Holder). g.pass < limits.passes) (same_some _ _ e) fa.number) h.sound.reaches (after_lock-sound b.world h.sound.machine k (below, refl)) in (
         c ∷ [],
         takes 0 (Some ledger),
         ap (λ hs. get_elem? hs 0) home.1,
@@ -101,7 +118,7 @@ module _ (limits : Limits) (slots i : ℕ) (a : Knowledge) (carried : List (ℕ 
           },
           ((below, refl), refl),
         ),
-        (ledger, b.log, s.words, (refl, fa.seen, is_pass limits d i c sd fc, record { journal = x.journal; limit = x.limit ∙ h.sound.commits ∙ ap (λ (l : Limits). l.commits) (sym fa.limits_are); page = x.page; places = refl; idle = x.idle; count = x.count ∙ h.sound.pages ∙ ap (λ (l : Limits). l.pages) (sym fa.limits_are); size = t.words.size ∙ ap (λ n. 528 + 512 * n) (h.sound.pages ∙ ap (λ (l : Limits). l.pages) (sym fa.limits_are)); begun = λ q. begun (ledger_places ledger) b.world h.sound.machine x.shown x.count (let few = h.sound.within.few_pages in let count = x.count in let pages = h.sound.pages in omega arith) x.idle q ∙ ap at_start (h.sound.reaches b.world.current q (le_refl b.world.current) ∙ ap (λ n. has (reach_at b.log n) q) t.version) })),
+        (ledger, b.log, s.words, (refl, fa.seen, is_pass limits d i c sd fc, record { journal = x.journal; limit = x.limit ∙ h.sound.commits ∙ ap (λ (l : Limits). l.commits) (sym fa.limits_are); page = x.page; places = refl; idle = x.idle; count = x.count ∙ h.sound.pages ∙ ap (λ (l : Limits). l.pages) (sym fa.limits_are); size = t.words.size ∙ ap (λ n. 528 + 512 * n) (h.sound.pages ∙ ap (λ (l : Limits). l.pages) (sym fa.limits_are)); begun = λ q. begun (ledger_places ledger) b.world h.sound.machine x.shown x.count (let few = h.sound.within.few_pages in let count = x.count in let pages = h.sound.pages in omega arith) x.idle q ∙ ap at_start (h.sound.reaches b.world.current q (le_refl b.world.current) ∙ ap (λ n. has (reach_at b.log n) q) t.version); spelt = now_spelt limits s b h })),
       )
 
   taken : (o : Option Holder) (passes : ℕ) → lock_word o ≢ 0 → ((g : Holder) → o ≡ Some g → g.pass < passes) → is_holder o a.number ≡ false → (lock_word o ≢ a.number + 1) × (lock_word o < passes + 1)
@@ -178,7 +195,7 @@ module _ (limits : Limits) (slots i : ℕ) (a : Knowledge) (ledger : Ledger) whe
               );
               version = t.version;
             };
-            sound = sound_world limits b w h.sound refl refl refl (λ g e. absurd (cc)) h.sound.reaches (after_unlock-sound b.world h.sound.machine a.number (holder_of a, refl, refl));
+            sound = sound_world limits b w h.sound refl refl refl refl (λ g e. absurd (cc)) h.sound.reaches (after_unlock-sound b.world h.sound.machine a.number (holder_of a, refl, refl));
             views = views_step limits b d s.views i a c h.views at (λ j y ne f. fits_world limits b w j y (sym (not_other a.number y.number ne)) refl (λ z. absurd (not_holder b a y ne refl z)) (λ g. g) f) fc;
           },
           ((holder_of a, ((h0.views i (a ∷ []) at).0.whole writes).holder, refl), refl),

@@ -1,5 +1,5 @@
 -- Two passes of one seat compare what they have seen.
-use Rattle.std.proofs.Common.{◌≡◌, ℕ, ◌≤◌, List, [], ◌∷◌, ◌++◌, length, Bool, false, true≢false, if◌then◌else◌, Option, refl, sym, ◌∙◌, subst, arith}
+use Rattle.std.proofs.Common.{◌≡◌, ℕ, ◌<◌, ◌≤◌, List, [], ◌∷◌, ◌++◌, length, Bool, false, true≢false, if◌then◌else◌, Option, refl, sym, ap, ◌∙◌, subst, arith}
 use mathlib.Core.Option.{none}
 use mathlib.Core.Logic.{dite}
 use native.Mathlib.Decide.{dec_lt}
@@ -12,14 +12,15 @@ use Rattle.be_table.specs.declared.pass.Commit.{Commit}
 use Rattle.be_table.specs.declared.pass.Knowledge.{Knowledge}
 use Rattle.be_table.specs.History.{StartsWith}
 use Rattle.be_table.specs.Laws.{AllowsBy, NoEvent}
-use Rattle.be_table.specs.Rule.{Board, entries, page_at, Fits, Shows, counted, joined, first_seat, other_seats}
-use Rattle.be_table.specs.Seats.{pin_of}
+use Rattle.be_table.specs.Rule.{Board, entries, page_at, Fits, Shows, counted, pass_of, joined, first_seat, other_seats}
+use Rattle.be_table.specs.Seats.{IsTold, pin_of}
 use Rattle.be_table.specs.Steps.{IsPass, Compared, sees, longer}
 use Rattle.be_table.proofs.Histories.{starts_itself, by_pass-between}
 use Rattle.be_table.proofs.Deals.{deals}
 use Rattle.be_table.proofs.Frames.{Me1, views_change, entries-start, longer_seen, is_pass, in_time_later, words_load}
 use Rattle.be_table.proofs.Moves.{forget}
 use Rattle.be_table.proofs.PinMarks.{pin_stays}
+use Rattle.be_table.proofs.Told.{told_as, stepped_pass}
 
 -- two beginnings of one journal
 two_fronts : (p r q z : List Commit) → p ++ r ≡ q ++ z → length p ≤ length q → StartsWith q p
@@ -97,3 +98,23 @@ told a c m r st n e t = subst (λ (x : Me1). Compared st x n r) e t
 
 pub met_pin : (a : Knowledge) (log : List Commit) (pin : Option PinnedVersion) → IsPass a → pin ≡ pin_of a.phase a.seen → StartsWith log a.seen → pin ≡ pin_of a.phase log
 met_pin a log pin pass is more = is ∙ sym (pin_stays a.phase a.seen log pass.pin more)
+
+-- the longer of two journals
+pub right_longer : (p q : List Commit) → length p < length q → length (longer p q) ≡ length q
+right_longer p q lt = rw (lt-ltb (length p) (length q) lt) refl
+
+pub left_longer : (p q : List Commit) → length q ≤ length p → length (longer p q) ≡ length p
+left_longer p q le = rw (le-ltb (length p) (length q) le) refl
+
+-- what the seats tell once they are cut apart
+module _ (a c : Knowledge) (m n j l f : Me1) (number seen both : ℕ) (left : m ≡ (a ∷ [], [])) (right : n ≡ (c ∷ [], [])) (pair : j ≡ (joined m.0 n.0, m.1)) (compared : Compared (step 0 0 0 0 none) j 0 l) (long : length (longer a.seen c.seen) ≡ both) where
+  after_all : Compared (step 0 0 0 0 none) (counted a ∷ counted c ∷ [], []) 0 l
+  after_all = told (counted a) (counted c) j l (step 0 0 0 0 none) 0 (joined_pair a c m n j left right pair) compared
+
+  pub met_left : f.0 ≡ first_seat l.0 → IsTold a number seen → IsTold (pass_of f.0) number both
+  met_left e t = told_as (counted (sees (counted a) (longer a.seen c.seen))) f number both (ap pass_of e ∙ ap (λ (x : Me1). pass_of (first_seat x.0)) after_all.0)
+      (record { number_is = t.number_is; seen_is = long; writes = t.writes; pass = stepped_pass (sees (counted a) (longer a.seen c.seen)) _ after_all.3 })
+
+  pub met_right : f.0 ≡ other_seats l.0 → IsTold c number seen → IsTold (pass_of f.0) number both
+  met_right e t = told_as (counted (sees (counted c) (longer a.seen c.seen))) f number both (ap pass_of e ∙ ap (λ (x : Me1). pass_of (other_seats x.0)) after_all.0)
+      (record { number_is = t.number_is; seen_is = long; writes = t.writes; pass = stepped_pass (sees (counted c) (longer a.seen c.seen)) _ after_all.4 })

@@ -30,7 +30,7 @@ may_fill GivenUp h = h
 may_fill (Retired r) h = h
 
 pub filled_pass : (a : Knowledge) (p i x : ℕ) → IsPass a → IsPass (fills a p i x)
-filled_pass a p i x h = record { within = h.within; legal = h.legal; number_below = h.number_below; by_passes = h.by_passes; room = h.room; inside = h.inside; own_pages = h.own_pages; pin = h.pin; mine = h.mine }
+filled_pass a p i x h = record { within = h.within; legal = h.legal; number_below = h.number_below; by_passes = h.by_passes; room = h.room; inside = h.inside; own_pages = h.own_pages; pin = h.pin; mine = h.mine; spelt = h.spelt }
 
 in_hand_of : (x : Place) → IsTrue (is_free x || is_taken x) → x ≢ Free → IsTrue (is_in_hand x)
 in_hand_of Free h ne = absurd (ne refl)
@@ -62,8 +62,9 @@ all_held old new least h none p lp un =
     let y = unswept least (place_of old.knows.places p) (subst (λ z. IsTrue (is_in_hand z)) same x) in
     ap (λ l. has l p) h.held ∙ listed is_in_hand old.knows.places p ∙ tested is_in_hand old.knows.places p inside ∙ y
 
-going_pass : (a : Knowledge) (scanned least : ℕ) (places : List Place) (words held : List ℕ) (steps : ℕ) → IsPass a → IsPass (record a { scanned = scanned; least = least; places = places; words = words; held = held; steps = steps })
-going_pass a scanned least places words held steps h = record { within = h.within; legal = h.legal; number_below = h.number_below; by_passes = h.by_passes; room = h.room; inside = h.inside; own_pages = h.own_pages; pin = h.pin; mine = h.mine }
+-- what a write does to the pages leaves the rest of what is so of the pass
+pub going_pass : (a : Knowledge) (scanned least : ℕ) (places : List Place) (words held : List ℕ) (steps : ℕ) → IsPass a → IsPass (record a { scanned = scanned; least = least; places = places; words = words; held = held; steps = steps })
+going_pass a scanned least places words held steps h = record { within = h.within; legal = h.legal; number_below = h.number_below; by_passes = h.by_passes; room = h.room; inside = h.inside; own_pages = h.own_pages; pin = h.pin; mine = h.mine; spelt = h.spelt }
 
 -- the journal in hand is as long as what the pass has seen
 pub seen_length : (log : List Commit) → length (entries log) ≡ length log

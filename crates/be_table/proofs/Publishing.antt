@@ -1,5 +1,5 @@
 -- A version is published.
-use Rattle.std.proofs.Common.{◌≡◌, ℕ, zero, suc, ◌+◌, ◌*◌, ◌<◌, ◌≤◌, List, [], ◌∷◌, ◌++◌, length, set, Bool, false, not, ◌&&◌, ◌||◌, Option, Some, refl, sym, ap, ◌∙◌, subst, inl, inr, arith, map, get_or, IsTrue, length-append, if◌then◌else◌, get_or-set_same, get_or-set_other, length-set}
+use Rattle.std.proofs.Common.{◌≡◌, ℕ, zero, suc, ◌+◌, ◌*◌, ◌<◌, ◌≤◌, List, [], ◌∷◌, ◌++◌, length, set, Bool, false, not, ◌&&◌, ◌||◌, Option, Some, refl, sym, ap, ◌∙◌, subst, inl, inr, arith, map, take, slice_index, get_or, IsTrue, length-append, if◌then◌else◌, get_or-set_same, get_or-set_other, length-set}
 use Rattle.std.specs.Prelude.{slice_index_or}
 use Rattle.std.proofs.lemmas.Bool.{cases_lt}
 use Rattle.std.proofs.lemmas.List.{length-map}
@@ -15,13 +15,16 @@ use Rattle.be_pages.specs.declared.page_pool.Place.TheVariants.{Free, Reserved, 
 use Rattle.be_table.specs.declared.limits.Limits.{Limits}
 use Rattle.be_table.specs.declared.pass.Commit.{Commit}
 use Rattle.be_table.specs.declared.pass.Knowledge.{Knowledge}
-use Rattle.be_journal.specs.Journal.{by_pass}
+use Rattle.be_journal.specs.Journal.{by_pass, replay}
 use Rattle.be_table.specs.History.{AllBelow, StartsWith, IsHistory}
 use Rattle.be_table.specs.Laws.{AllowsBy, IsPublish}
 use Rattle.be_pages.specs.Place.{number_in, place_of, published_place}
 use Rattle.be_table.specs.Ledger.{ShowsPlaces, is_free, is_taken, is_current, is_kept, is_given, retired_with}
-use Rattle.be_table.specs.Rule.{Board, entries, nothing, reach_at, page_at, current_word, holder_of, WordsAgree, IsSound, ImageIs, Fits, Shows}
+use Rattle.be_table.specs.Rule.{Board, entries, nothing, reach_at, page_at, word_place, current_word, holder_of, WordsAgree, IsSound, ImageIs, Fits, Shows}
 use Rattle.be_table.specs.Steps.{pages_from, commit_of, publishes, MayPublish, Published, IsNewest}
+use Rattle.be_table.specs.Reading.{word_in}
+use Rattle.be_table.specs.Versions.{in_pages, SpellsVolume}
+use Rattle.be_table.proofs.Versions.{spells_same, clipped, take_front, take_all}
 use Rattle.be_table.proofs.Histories.{starts_itself, starts_more, by_pass-own, by_pass-other, legal-push, below-push}
 use Rattle.be_table.proofs.Frames.{Me1, views_step, entries-append, reach-append, page-append, is_pass, in_time_later, longer_seen, not_holder, pages_else}
 use Rattle.be_table.proofs.Moves.{as_me, forget}
@@ -123,6 +126,13 @@ module _ (xs : List Place) (w : World) (s : Sound w) (shown : ShowsPlaces xs w) 
     | inr le ↦ absurd (let e : has (pages_from is_kept 0 xs) q ≡ false = listed is_kept xs q ∙ untested is_kept xs q le in cc)
   ]
 
+-- what an older version spells
+older_spelt : (log : List Commit) (c : Commit) (words : ℕ → ℕ → ℕ) (n : ℕ) → n ≤ length log → SpellsVolume (reach_at log n) (in_pages words) (page_at log n) (replay (take n (entries log)))
+    → SpellsVolume (reach_at (log ++ c ∷ []) n) (in_pages words) (page_at (log ++ c ∷ []) n) (replay (take n (entries (log ++ c ∷ []))))
+older_spelt log c words n le h =
+    let front : take n (entries (log ++ c ∷ [])) ≡ take n (entries log) = ap (take n) (entries-append log (c ∷ [])) ∙ take_front (entries log) (entries (c ∷ [])) n (let l = length-map log (λ (x : Commit). x.entry) in omega (arith, l, le)) in
+    subst (λ (q : List ℕ × ℕ × List Entry). SpellsVolume q.0 (in_pages words) q.1 (replay q.2)) (λ k. (sym (reach-append log (c ∷ []) n le) k, sym (page-append log (c ∷ []) n le) k, sym front k)) h
+
 -- a filled page is one of the new version
 kept_filled : (xs : List Place) (v : ℕ) → v < length xs → place_of xs v ≡ Filled → IsTrue (has (pages_from is_kept 0 xs) v)
 kept_filled xs v lt is = listed is_kept xs v ∙ tested is_kept xs v lt ∙ ap is_kept is
@@ -190,6 +200,7 @@ module _ (limits : Limits) (slots i : ℕ) (a : Knowledge) (carried : List (ℕ 
       let page : page_at log (length log) ≡ v = ap (page_at log) long ∙ ap (λ (x : Commit). x.page) (at_end b.log commit) in
       let newest : reach_at log (suc (length b.log)) ≡ commit.reach = ap (λ (x : Commit). x.reach) (at_end b.log commit) in
       let journal : entries log ≡ entries a.seen ++ e ∷ [] = entries-append b.log (commit ∷ []) ∙ ap (λ l. entries l ++ e ∷ []) (sym m.log) in
+      let whole : take (suc (length b.log)) (entries log) ≡ entries a.seen ++ e ∷ [] = ap (λ k. take k (entries log)) (sym (length-map log (λ (x : Commit). x.entry) ∙ long)) ∙ take_all (entries log) ∙ journal in
       let older = λ (n : ℕ) (le : n ≤ g.current). test-other n (suc g.current) (λ z. absurd (omega arith)) in
       let grown : by_pass a.number (entries log) ≡ a.mine ++ e ∷ [] = ap (by_pass a.number) journal ∙ by_pass-own a.number (entries a.seen) e may.by ∙ ap (λ l. l ++ e ∷ []) fa.own in
       let shown : ShowsPlaces c.places w = subst (λ n. ShowsPlaces (map (published_place n) a.places) w) now (shows-publish a.places g h.sound.machine m.shown m.count) in
@@ -239,6 +250,19 @@ module _ (limits : Limits) (slots i : ℕ) (a : Knowledge) (carried : List (ℕ 
               (ap (λ (f : ℕ → Bool). f p) (update-same g.reach (suc g.current) (λ p. (g.reach g.current p && not (has given p)) || g.taken p)) ∙ reach_new a.places g h.sound.machine m.shown m.count p ∙ ap (λ l. has l p) (sym (ap (λ k. reach_at log (suc k)) version ∙ newest)))
         ];
         machine = sound;
+        spelt = λ n le. elim (cases_lt n (suc (length b.log))) [
+          | inl lt ↦ rw (test-other n (suc g.current) (λ z. absurd (omega arith))) (older_spelt b.log commit (g.image n) n (omega arith) (h.sound.spelt n (omega arith)))
+          | inr past ↦
+              let at_new : n ≡ suc (length b.log) = omega arith in
+              subst (λ n. SpellsVolume (reach_at log n) (in_pages (w.image n)) (page_at log n) (replay (take n (entries log)))) (sym at_new)
+              (subst (λ (q : List ℕ × (ℕ → ℕ → ℕ) × ℕ × List Entry). SpellsVolume q.0 (in_pages q.1) q.2 (replay q.3))
+              (λ k. (sym newest k, sym (ap w.image (ap suc (sym version)) ∙ update-same g.image (suc g.current) g.words) k, sym (ap (page_at log) (sym long) ∙ page) k, sym whole k))
+              (spells_same commit.reach (word_in a.words) (in_pages g.words) v (replay (entries a.seen ++ e ∷ []))
+              (λ q r.
+              let z = kept_inside a.places g h.sound.machine m.shown m.count q r in
+              clipped (g.words q) (λ j. slice_index a.words (word_place q j)) (λ j lt. sym (m.words q j (omega (arith, z, m.count)) lt)))
+              may.spelt))
+        ];
       } in (
         c ∷ [],
         keeps,

@@ -10,7 +10,8 @@ use Rattle.be_pages.specs.declared.page_pool.Place.{Place}
 use Rattle.be_pages.specs.declared.page_pool.Place.TheVariants.{Free, Reserved, Filled, Current, GivenUp, Retired}
 use Rattle.be_pages.specs.Place.{place_of, undone_place}
 use Rattle.be_table.specs.Ledger.{ShowsPlaces, is_free, is_taken, is_current, retired_with}
-use Rattle.be_table.specs.Reading.{standing_at, standing_in, at_start}
+use Rattle.be_table.specs.Reading.{standing_at, standing_in}
+use Rattle.be_table.specs.Versions.{at_start}
 use Rattle.be_table.proofs.Ledgers.{place-map}
 
 -- the sets of a page that has this place

@@ -1,7 +1,7 @@
 -- What a seat tells of its pass after a step of its own.
 use Rattle.std.proofs.Common.{◌≡◌, ℕ, ◌+◌, ◌-◌, ◌≤◌, [], ◌∷◌, length, sym, ap, ◌∙◌, subst}
 use Rattle.be_core.specs.declared.event.Phase.{Phase}
-use Rattle.be_core.specs.declared.event.Phase.TheVariants.{Idle, Looked, Announced}
+use Rattle.be_core.specs.declared.event.Phase.TheVariants.{Idle, Looked, Announced, Pinned}
 use Rattle.be_core.specs.Machine.{InTime}
 use Rattle.be_table.specs.declared.pass.Knowledge.{Knowledge}
 use Rattle.be_table.specs.Rule.{pass_of}
@@ -10,17 +10,18 @@ use Rattle.be_table.specs.Steps.{IsPass, announces, unpins, leaves}
 use Rattle.be_table.proofs.Frames.{Me1}
 
 -- the phase changes
-pub phased : (a : Knowledge) (q : Phase) (steps : ℕ) → IsPass a → InTime (length a.seen) q → IsPass (record a { phase = q; steps = steps })
-phased a q steps h t = record { within = h.within; legal = h.legal; number_below = h.number_below; by_passes = h.by_passes; room = h.room; inside = h.inside; own_pages = h.own_pages; pin = t; mine = h.mine }
+pub phased : (a : Knowledge) (q : Phase) (steps : ℕ) → IsPass a → InTime (length a.seen) q → ((x n : ℕ) → q ≡ Pinned x n → ⊥) → IsPass (record a { phase = q; steps = steps })
+phased a q steps h t none = record { within = h.within; legal = h.legal; number_below = h.number_below; by_passes = h.by_passes; room = h.room; inside = h.inside; own_pages = h.own_pages; pin = t; mine = h.mine; spelt = λ x n e. absurd (none x n e) }
 
 -- steps are counted, or the lock is given back
 pub stepped_pass : (a : Knowledge) (steps : ℕ) → IsPass a → IsPass (record a { steps = steps })
-stepped_pass a steps h = record { within = h.within; legal = h.legal; number_below = h.number_below; by_passes = h.by_passes; room = h.room; inside = h.inside; own_pages = h.own_pages; pin = h.pin; mine = h.mine }
+stepped_pass a steps h = record { within = h.within; legal = h.legal; number_below = h.number_below; by_passes = h.by_passes; room = h.room; inside = h.inside; own_pages = h.own_pages; pin = h.pin; mine = h.mine; spelt = h.spelt }
 
 pub left_pass : (a : Knowledge) → IsPass a → IsPass (leaves a)
-left_pass a h = record { within = h.within; legal = h.legal; number_below = h.number_below; by_passes = h.by_passes; room = h.room; inside = h.inside; own_pages = h.own_pages; pin = h.pin; mine = h.mine }
+left_pass a h = record { within = h.within; legal = h.legal; number_below = h.number_below; by_passes = h.by_passes; room = h.room; inside = h.inside; own_pages = h.own_pages; pin = h.pin; mine = h.mine; spelt = h.spelt }
 
-told_as : (c : Knowledge) (r : Me1) (number seen : ℕ) → pass_of r.0 ≡ c → IsTold c number seen → IsTold (pass_of r.0) number seen
+-- the seat has one pass, of which this is known
+pub told_as : (c : Knowledge) (r : Me1) (number seen : ℕ) → pass_of r.0 ≡ c → IsTold c number seen → IsTold (pass_of r.0) number seen
 told_as c r number seen e t = subst (λ x. IsTold x number seen) (sym e) t
 
 -- after an announcement
@@ -28,10 +29,10 @@ pub announced_told : (me r : Me1) (a : Knowledge) (n x number seen : ℕ) → me
 announced_told me r a n x number seen e phase back is t =
     let low : InTime (length a.seen) (Looked x) = subst (InTime (length a.seen)) phase t.pass.pin in
     told_as (announces a (n - 1)) r number seen (ap (λ (m : Me1). pass_of m.0) is ∙ ap (λ (m : Me1). announces (pass_of m.0) (n - 1)) e)
-    (record { number_is = t.number_is; seen_is = t.seen_is; writes = t.writes; pass = phased a (Announced (n - 1)) (a.steps + 1) t.pass (subst (λ k. k ≤ length a.seen) (sym back) low) })
+    (record { number_is = t.number_is; seen_is = t.seen_is; writes = t.writes; pass = phased a (Announced (n - 1)) (a.steps + 1) t.pass (subst (λ k. k ≤ length a.seen) (sym back) low) (λ y m z. cc) })
 
 -- after the announcement was taken back
 pub unpinned_told : (me r : Me1) (a : Knowledge) (number seen : ℕ) → me ≡ (a ∷ [], []) → r ≡ (unpins (pass_of me.0) ∷ [], me.1) → IsTold a number seen → IsTold (pass_of r.0) number seen
 unpinned_told me r a number seen e is t =
     told_as (unpins a) r number seen (ap (λ (m : Me1). pass_of m.0) is ∙ ap (λ (m : Me1). unpins (pass_of m.0)) e)
-    (record { number_is = t.number_is; seen_is = t.seen_is; writes = t.writes; pass = phased a Idle (a.steps + 1) t.pass tt })
+    (record { number_is = t.number_is; seen_is = t.seen_is; writes = t.writes; pass = phased a Idle (a.steps + 1) t.pass tt (λ y m z. cc) })

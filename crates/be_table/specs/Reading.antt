@@ -1,5 +1,5 @@
 -- What a reader of pages sees of an open write, and of a pinned version.
-use Rattle.std.specs.Prelude.{◌≢◌, ℕ, ◌<◌, ◌^◌, ◌&&◌, Bool, true, false, nat_lt, if◌then◌else◌, List, [], slice_index, slice_index_or}
+use Rattle.std.specs.Prelude.{◌≢◌, ℕ, ◌<◌, ◌^◌, ◌&&◌, Bool, nat_lt, if◌then◌else◌, List, [], slice_index, slice_index_or}
 use Rattle.std.proofs.Common.{inl, inr, arith, refl}
 use Rattle.std.proofs.lemmas.Bool.{cases_lt}
 use borrow.Author.Tests.{le-ltb}
@@ -27,14 +27,16 @@ standing_at (Retired r) = Nowhere
 abbrev pub standing_in : List Place → ℕ → Standing
 standing_in places q = if nat_lt q 16384 then standing_at (slice_index_or places q Free) else Nowhere
 
--- when a write begins: a page of the current version, and any other
-abbrev pub at_start : Bool → Standing
-at_start true = Old
-at_start false = Nowhere
-
 -- word i of the page q
 abbrev pub word_in : List ℕ → ℕ → ℕ → ℕ
 word_in words q i = if nat_lt i 512 then slice_index words (word_place q i) else 0
+
+-- where the pages of an open write stand, and their words
+abbrev pub standing_of : Work → ℕ → Standing
+standing_of w q = standing_in w.knows.places q
+
+abbrev pub words_of : Work → ℕ → ℕ → ℕ
+words_of w q i = word_in w.knows.words q i
 
 -- what no call on an open write changes
 pub record StaysOpen : Type 0 where

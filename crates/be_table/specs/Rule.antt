@@ -15,8 +15,9 @@ use Rattle.be_table.specs.declared.pass.Commit.{Commit}
 use Rattle.be_table.specs.declared.pass.Knowledge.{Knowledge}
 use Rattle.be_pages.specs.Place.{undone_place}
 use Rattle.be_table.specs.Ledger.{ShowsPlaces}
-use Rattle.be_journal.specs.Journal.{by_pass}
+use Rattle.be_journal.specs.Journal.{by_pass, replay}
 use Rattle.be_table.specs.History.{StartsWith, AllBelow, IsHistory}
+use Rattle.be_table.specs.Versions.{in_pages, SpellsVolume}
 
 -- what the table shows: the journal with its versions, the machine, and which seat each pass has
 pub record Board : Type 0 where
@@ -134,6 +135,7 @@ pub record IsSound (limits : Limits) (b : Board) : Type 0 where
   pub holder : (h : Holder) → b.world.holder ≡ Some h → h.pass < limits.passes
   pub reaches : ReachesAgree b.world b.log
   pub machine : Sound b.world
+  pub spelt : (n : ℕ) → n ≤ length b.log → SpellsVolume (reach_at b.log n) (in_pages (b.world.image n)) (page_at b.log n) (replay (take n (entries b.log)))
 
 -- ## The third part: what each pass knows is so
 

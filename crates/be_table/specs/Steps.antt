@@ -1,5 +1,5 @@
 -- What each step tells the pass that makes it.
-use Rattle.std.specs.Prelude.{◌≡◌, ◌≢◌, ◌⊎◌, ℕ, zero, suc, ◌+◌, ◌*◌, ◌<◌, ◌≤◌, ◌==◌, true, false, Bool, List, [], ◌∷◌, ◌++◌, length, map, MatchBool, Option, Some, drop, min, ◌-◌, if◌then◌else◌, slice_index, slice_set, IsTrue, IsFalse, ◌||◌, Contains}
+use Rattle.std.specs.Prelude.{◌≡◌, ◌≢◌, ◌⊎◌, ℕ, zero, suc, ◌+◌, ◌*◌, ◌<◌, ◌≤◌, ◌==◌, true, false, Bool, List, [], ◌∷◌, ◌++◌, length, map, MatchBool, Option, Some, drop, take, min, ◌-◌, if◌then◌else◌, slice_index, slice_set, IsTrue, IsFalse, ◌||◌, Contains}
 use lib.Dec.{ltb}
 use Rattle.atomic_table.specs.Table.{Me, Step}
 use Rattle.be_core.specs.declared.event.Phase.TheVariants.{Idle, Announced, Pinned}
@@ -17,7 +17,8 @@ use Rattle.be_pages.specs.Place.{number_of, swept_place, is_in_hand, given_place
 use Rattle.be_table.specs.Ledger.{is_taken, is_free, is_kept}
 use Rattle.be_journal.specs.Journal.{HasOperations, Agrees, by_pass, replay}
 use Rattle.be_table.specs.History.{StartsWith, AllBelow, IsHistory}
-use Rattle.be_table.specs.Reading.{standing_in, at_start}
+use Rattle.be_table.specs.Reading.{standing_in, word_in}
+use Rattle.be_table.specs.Versions.{at_start, SpellsVolume}
 use Rattle.be_table.specs.Rule.{ledger_places, IsWithin, AreInside, OwnPages, pass_of, counted, current_word, page_at, reach_at, entries, word_place}
 
 -- what is always so of a pass
@@ -31,6 +32,7 @@ pub record IsPass (a : Knowledge) : Type 0 where
   pub own_pages : OwnPages a.seen
   pub pin : InTime (length a.seen) a.phase
   pub mine : by_pass a.number (entries a.seen) ≡ a.mine
+  pub spelt : (x n : ℕ) → a.phase ≡ Pinned x n → SpellsVolume (reach_at a.seen n) (word_in a.image) (page_at a.seen n) (replay (take n (entries a.seen)))
 
 -- a pass after a look that found this journal
 abbrev pub looks : Knowledge → List Commit → Knowledge
@@ -128,6 +130,7 @@ pub record MayPublish (limits : Limits) (a : Knowledge) (e : Entry) (v : ℕ) : 
   pub room : length a.seen < limits.commits
   pub inside : v < length a.places
   pub filled : place_of a.places v ≡ Filled
+  pub spelt : SpellsVolume (pages_from is_kept 0 a.places) (word_in a.words) v (replay (entries a.seen ++ e ∷ []))
 
 -- a pass that holds the lock may read the announcement of the pass j
 abbrev pub MayScan : Limits → Me (Option Ledger) (List Knowledge) → ℕ → Type 0
@@ -152,6 +155,7 @@ pub record IsFound (ledger : Ledger) (c : Knowledge) : Type 0 where
   pub count : length c.places ≡ c.limits.pages
   pub size : length c.words ≡ 528 + 512 * c.limits.pages
   pub begun : (q : ℕ) → standing_in c.places q ≡ at_start (has (reach_at c.seen (length c.seen)) q)
+  pub spelt : SpellsVolume (reach_at c.seen (length c.seen)) (word_in c.words) (page_at c.seen (length c.seen)) (replay (entries c.seen))
 
 -- the lock was free: the slot is out with the pass, which has seen the journal in it
 abbrev pub Gets : Me (Option Ledger) (List Knowledge) → Me (Option Ledger) (List Knowledge) → Type 0

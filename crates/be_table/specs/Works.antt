@@ -12,8 +12,10 @@ use Rattle.be_table.specs.History.{StartsWith}
 use Rattle.be_pages.specs.declared.page_pool.Place.TheVariants.{Free}
 use Rattle.be_pages.specs.Place.{undone_place, swept_place, place_of, is_in_hand}
 use Rattle.be_table.specs.Place.{Place, Opened, Work}
-use Rattle.be_table.specs.Reading.{standing_in, at_start}
-use Rattle.be_table.specs.Rule.{reach_at, newcomer}
+use Rattle.be_table.specs.Reading.{standing_in, word_in}
+use Rattle.be_table.specs.Versions.{at_start, SpellsVolume}
+use Rattle.be_journal.specs.Journal.{replay}
+use Rattle.be_table.specs.Rule.{entries, page_at, reach_at, newcomer}
 use Rattle.be_table.specs.Steps.{Has, AllIdle, Keeps, IsPass, looks, takes_lock, pins, takes_page, scans_all, IsLeast, pages_from, LeavesNone, Unreached}
 
 -- a seat of this table
@@ -49,6 +51,7 @@ pub record TakesLock (a c : Knowledge) : Type 0 where
   pub same : c ≡ takes_lock a c.seen c.places c.words
   pub idle : map undone_place c.places ≡ c.places
   pub begun : (q : ℕ) → standing_in c.places q ≡ at_start (has (reach_at c.seen (length c.seen)) q)
+  pub spelt : SpellsVolume (reach_at c.seen (length c.seen)) (word_in c.words) (page_at c.seen (length c.seen)) (replay (entries c.seen))
   pub pass : IsPass c
 
 -- the pass, which had announced x, is pinned at the current number

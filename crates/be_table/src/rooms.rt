@@ -8,7 +8,7 @@ use be_value::Refusal;
 
 impl<'a> Look for Writing<'a> {
     ghost use Rattle.std.specs.Prelude.{not};
-    ghost use Rattle.be_table.specs.Reading.{StaysOpen, open_of, standing_in, word_in, small_open};
+    ghost use Rattle.be_table.specs.Reading.{StaysOpen, open_of, standing_of, words_of, small_open};
 
     ghost Kept = { StaysOpen };
 
@@ -16,9 +16,9 @@ impl<'a> Look for Writing<'a> {
 
     ghost is_open = { λ k. not k.published };
 
-    ghost standing = { λ w q. standing_in w.knows.places q };
+    ghost standing = { standing_of };
 
-    ghost words = { λ w q i. word_in w.knows.words q i };
+    ghost words = { words_of };
 
     ghost pages_small = { small_open };
 

@@ -35,7 +35,13 @@ impl Model for Seat {
 }
 
 impl Seat {
+    ghost use Rattle.std.specs.Prelude.{take};
+    ghost use Rattle.be_journal.specs.Journal.{replay};
+    ghost use Rattle.be_table.specs.Reading.{word_in};
+    ghost use Rattle.be_table.specs.Rule.{entries};
     ghost use Rattle.be_table.specs.Seats.{IsTold, pin_of, pinned_number};
+    ghost use Rattle.be_table.specs.Steps.{IsPass};
+    ghost use Rattle.be_table.specs.Versions.{SpellsVolume};
 
     fn blank() -> Seat
         ensures { result.blank ≡ true }
@@ -101,17 +107,27 @@ impl Seat {
         }
     }
 
-    /// The version page of the version to which the pass is pinned.
+    /// The version page of the version to which the pass is pinned. From there the version's pages, with the words that they had when it was published, spell the volume after so many entries as its number says.
     pub fn version_page(&self) -> u64
         requires seat { self.now.blank ≡ false }
         requires pinned { (x : ℕ) × (n : ℕ) × (self.now.knows.phase ≡ Pinned x n) }
         ensures page { (x n : ℕ) → self.now.knows.phase ≡ Pinned x n → result ≡ page_at self.now.knows.seen n }
         ensures readable { (x n : ℕ) → self.now.knows.phase ≡ Pinned x n → IsTrue (has (reach_at self.now.knows.seen n) result) }
+        ensures spelt { (x n : ℕ) → self.now.knows.phase ≡ Pinned x n → SpellsVolume (reach_at self.now.knows.seen n) (word_in self.now.knows.image) (page_at self.now.knows.seen n) (replay (take n (entries self.now.knows.seen))) }
     {
+        self.is_pass();
         match self.marks.pin {
             Some(pin) => pin.page,
             None => unreachable!(),
         }
+    }
+
+    // What is always so of a pass is so of this one. It does nothing.
+    pub(crate) fn is_pass(&self)
+        requires { self.now.blank ≡ false }
+        ensures { IsPass self.now.knows }
+    {
+        let _ = &self.badge;
     }
 
     /// The seat, of which a blank one is left. No step.

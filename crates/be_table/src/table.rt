@@ -56,10 +56,17 @@ impl Model for VersionTable {
 impl VersionTable {
     ghost use Rattle.be_table.specs.Works.{IsSeatOf, SeesMore, TakesLock, IsBusy, Pins, AreNew, IsUnopened, AllAt, knows_of};
     ghost use Rattle.be_table.specs.Steps.{announces, unpins, met, longer, Has, Keeps};
-    ghost use Rattle.be_journal.specs.Journal.{IsLegal};
+    ghost use Rattle.be_core.specs.declared.event.Phase.TheVariants.{Pinned};
+    ghost use Rattle.be_journal.specs.Journal.{IsLegal, replay};
+    ghost use Rattle.be_table.specs.Reading.{pinned_standing, word_in};
+    ghost use Rattle.be_table.specs.Rule.{entries};
     ghost use Rattle.be_table.specs.History.{StartsWith, AllBelow};
+    ghost use Rattle.std.specs.Prelude.{[], ◌∷◌, take};
+    ghost use Rattle.be_table.specs.Versions.{at_start};
+    ghost use Rattle.be_paged.specs.Version.{IsVersion};
+    ghost use Rattle.be_volume.specs.Volume.{empty};
 
-    /// A table with an empty journal, and the seats of its passes in the order of their numbers. Version 0 is the page `first`, at page 0; the other pages are free.
+    /// A table with an empty journal, and the seats of its passes in the order of their numbers. Version 0 is the page `first`, which spells the empty volume, at page 0; the other pages are free.
     ///
     /// BadLimits where a limit is out of its range, and OutOfMemory where a growth was refused. No later call but `reserve` takes memory.
     pub fn open(
@@ -67,6 +74,7 @@ impl VersionTable {
         limits: Limits,
         first: &[u64; 512],
     ) -> Result<(VersionTable, Vec<Seat>), Refusal>
+        requires { IsVersion (λ q. at_start (has (0 ∷ []) q)) (λ q i. slice_index first.now i) 0 empty }
         ensures { MatchResult result
             (λ r. (r.0.limits ≡ limits) × (length r.1.items ≡ limits.passes) × AreNew r.0 0 r.1.items)
             (λ r. IsUnopened limits r) }
@@ -207,12 +215,14 @@ impl VersionTable {
         found
     }
 
-    /// A reader of the pages of the pinned version. No step.
+    /// A reader of the pages of the pinned version, which spell the volume after the journal's entries up to the version's number. No step.
     pub fn pinned_look(&self, seat: Seat) -> PinnedLook<'_>
         requires seat { IsSeatOf self.now seat }
         requires pinned { (x : ℕ) × (n : ℕ) × (seat.knows.phase ≡ Phase.Pinned x n) }
-        ensures { (result.table ≡ self.now) × (result.knows ≡ seat.knows) }
+        ensures look { (result.table ≡ self.now) × (result.knows ≡ seat.knows) }
+        ensures version { (x n : ℕ) → seat.knows.phase ≡ Pinned x n → IsVersion (pinned_standing result.knows) (word_in result.knows.image) (page_at result.knows.seen n) (replay (take n (entries result.knows.seen))) }
     {
+        seat.is_pass();
         PinnedLook::of(self, seat)
     }
 

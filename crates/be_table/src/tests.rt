@@ -1,36 +1,42 @@
 //! Worked examples of the table, by calls.
 //!
-//! Each write is of one new node, and its version page takes the place of the old one. A call that takes memory is made once more after `OutOfMemory`, and is to give the example's answer then: so the tests also pass where any one request for memory is refused (`rt try --test --fail-alloc N`).
-ghost use Rattle.std.specs.Prelude.{◌≡◌, ℕ, false, length, IfOk, IsTrue};
+//! Writes go through be_paged over the open write, and readers read what it made. A call that takes memory is made once more after `OutOfMemory`, and is to give the example's answer then: so the tests also pass where any one request for memory is refused (`rt try --test --fail-alloc N`).
+ghost use Rattle.std.specs.Prelude.{◌≡◌, ◌≤◌, ◌<◌, ◌+◌, ◌^◌, ℕ, false, length, IfErr, IfOk, IsTrue};
 ghost use Rattle.be_core.specs.declared.event.Phase.TheVariants.{Idle, Pinned};
-ghost use Rattle.be_journal.specs.Journal.{replay};
 ghost use Rattle.be_table.specs.declared.pass.Knowledge.{Knowledge};
-ghost use Rattle.be_table.specs.Rule.{entries, newcomer};
+ghost use Rattle.be_paged.specs.Changes.{Applies};
+ghost use Rattle.be_paged.specs.Version.{IsVersion};
+ghost use Rattle.be_volume.specs.Volume.{State};
+ghost use Rattle.be_table.specs.Reading.{open_of, standing_in, word_in, standing_of, words_of};
+ghost use Rattle.be_table.specs.Rule.{newcomer};
 ghost use Rattle.be_table.specs.Works.{AreNew, IsSeatOf, TakesLock};
 
 use crate::{Limits, Seat, VersionTable, Writing};
+use arrayvec::ArrayVec;
 use be_journal::Journal;
-use be_pages::{Look, Room};
-use be_value::Refusal;
+use be_paged::{apply, first_page, get, source};
+use be_pages::Look;
+use be_plan::Source;
+use be_value::{Kind, Name, Refusal, Value};
 use be_volume::{Done, Op};
 use std::alloc::Global;
 use std::test::Fail;
 use std::thread;
 use std::thread::Threads;
 
-/// The page of version 0.
-fn first_page() -> [u64; 512] {
-    let mut words = [0; 512];
-    words[3] = 33;
-    words
+/// A table with these limits and its seats. Version 0 spells the empty volume.
+fn open(alloc: Global, limits: Limits) -> Result<(VersionTable, Vec<Seat>), Refusal>
+    ensures { IfOk result (λ r. (r.0.limits ≡ limits) × (length r.1.items ≡ limits.passes) × AreNew r.0 0 r.1.items) }
+{
+    VersionTable::open(alloc, limits, &first_page())
 }
 
 /// A table with these limits and its seats, at the second call where memory is refused at the first.
 fn opened(alloc: Global, limits: Limits) -> Result<(VersionTable, Vec<Seat>), Refusal>
     ensures { IfOk result (λ r. (r.0.limits ≡ limits) × (length r.1.items ≡ limits.passes) × AreNew r.0 0 r.1.items) }
 {
-    match VersionTable::open(alloc, limits, &first_page()) {
-        Err(Refusal::OutOfMemory) => VersionTable::open(alloc, limits, &first_page()),
+    match open(alloc, limits) {
+        Err(Refusal::OutOfMemory) => open(alloc, limits),
         answer => answer,
     }
 }
@@ -56,44 +62,57 @@ fn for_two(alloc: Global) -> Result<(VersionTable, Seat, Seat), Refusal>
     Ok((table, first, second))
 }
 
-/// The number that the next node gets.
-fn next_node(writing: &Writing<'_>) -> Result<u64, Refusal>
-    ensures { IfOk result (λ node. node ≡ (replay (entries writing.now.knows.seen)).next) }
-{
-    let journal = &writing.ledger.journal;
-    let volume = match journal.replay() {
-        Err(_) => journal.replay()?,
-        Ok(volume) => volume,
-    };
-    Ok(volume.next())
-}
-
-/// Makes room for one operation, at the second call where memory is refused at the first.
-fn reserve_one(writing: &mut Writing<'_>) -> Result<(), Refusal>
+/// Makes room for so many operations, at the second call where memory is refused at the first.
+fn make_room(writing: &mut Writing<'_>, count: usize) -> Result<(), Refusal>
     requires open { writing.old.knows.published ≡ false }
+    requires count { (1 ≤ count) × (count ≤ 64) }
     ensures knows { writing.new.knows ≡ writing.old.knows }
     ensures table { writing.new.table ≡ writing.old.table }
-    ensures reserved { IfOk result (λ _. writing.new.reserved ≡ 1) }
+    ensures reserved { IfOk result (λ _. writing.new.reserved ≡ count) }
 {
-    match writing.reserve(1) {
-        Err(Refusal::OutOfMemory) => writing.reserve(1),
+    match writing.reserve(count) {
+        Err(Refusal::OutOfMemory) => writing.reserve(count),
         answer => answer,
     }
 }
 
-/// Enters a new node, with a fresh version page in the place of the old one.
+/// Applies a list of operations to a version in an open write.
+fn apply_to(
+    writing: &mut Writing<'_>,
+    page: u64,
+    ops: &[Op],
+) -> Result<(u64, ArrayVec<Done, 64>), Refusal>
+    ghost volume: { State }
+    requires version { IsVersion (standing_in writing.old.knows.places) (word_in writing.old.knows.words) page volume }
+    requires count { (1 ≤ length ops.now) × (length ops.now ≤ 64) }
+    requires fits { volume.next + 64 < 2 ^ 64 }
+    requires open { writing.old.knows.published ≡ false }
+    ensures ok { IfOk result (λ r. Applies open_of standing_of words_of page r.0 volume ops.now r.1.items writing.old writing.new) }
+    ensures err { IfErr result (λ e. open_of writing.new ≡ open_of writing.old) }
+{
+    apply(writing, page, ops)
+}
+
+/// Applies a list of operations to the current version, and publishes the version that it makes. Answers the journal's length.
+fn write(writing: &mut Writing<'_>, ops: &[Op]) -> Result<u64, Refusal>
+    requires begun { (a : Knowledge) × TakesLock a writing.old.knows }
+    requires count { (1 ≤ length ops.now) × (length ops.now ≤ 64) }
+    ensures table { writing.new.table ≡ writing.old.table }
+    ensures pass { (writing.new.knows.number ≡ writing.old.knows.number) × (writing.new.knows.phase ≡ writing.old.knows.phase) }
+{
+    let (_, old) = writing.current();
+    let (page, dones) = apply_to(writing, old, ops)?;
+    make_room(writing, ops.len())?;
+    Ok(writing.publish(page, ops, dones.as_slice()))
+}
+
+/// Enters a new node.
 fn write_node(writing: &mut Writing<'_>) -> Result<u64, Refusal>
     requires begun { (a : Knowledge) × TakesLock a writing.old.knows }
     ensures table { writing.new.table ≡ writing.old.table }
     ensures pass { (writing.new.knows.number ≡ writing.old.knows.number) × (writing.new.knows.phase ≡ writing.old.knows.phase) }
 {
-    let (_, old) = writing.current();
-    let page = Room::take(writing)?;
-    Room::fill(writing, page, 3, 34);
-    Room::give_up(writing, old);
-    let node = next_node(writing)?;
-    reserve_one(writing)?;
-    Ok(writing.publish(page, &[Op::New], &[Done::Node(node)]))
+    write(writing, &[Op::New])
 }
 
 /// Locks, enters a new node, and unlocks. Answers the journal's length.
@@ -170,7 +189,7 @@ fn pin(table: &VersionTable, pass: &mut Seat) -> u64
     table.look_again(pass).0
 }
 
-/// Word 3 of the pinned version's page.
+/// Word 2 of the pinned version's page: the number that the next node gets.
 fn read(table: &VersionTable, pass: &mut Seat) -> u64
     requires seat { IsSeatOf table.now pass.old }
     requires pinned { (x : ℕ) × (n : ℕ) × (pass.old.knows.phase ≡ Pinned x n) }
@@ -178,7 +197,7 @@ fn read(table: &VersionTable, pass: &mut Seat) -> u64
     ensures pinned { (x : ℕ) × (n : ℕ) × (pass.new.knows.phase ≡ Pinned x n) }
 {
     let page = pass.version_page();
-    table.pinned_word(pass, page, 3)
+    table.pinned_word(pass, page, 2)
 }
 
 /// The same word through a reader of pages.
@@ -190,8 +209,40 @@ fn look_at(table: &VersionTable, pass: Seat) -> (Seat, u64)
 {
     let page = pass.version_page();
     let mut look = table.pinned_look(pass);
-    let word = look.word(page, 3);
+    let word = look.word(page, 2);
     (look.into_seat(), word)
+}
+
+/// A node's value at a name, of the pinned version.
+fn value_of(table: &VersionTable, pass: Seat, node: u64, name: &Name) -> (Seat, Option<Value>)
+    requires seat { IsSeatOf table.now pass }
+    requires pinned { (x : ℕ) × (n : ℕ) × (pass.knows.phase ≡ Pinned x n) }
+    ensures seat { IsSeatOf table.now result.0 }
+    ensures pinned { (x : ℕ) × (n : ℕ) × (result.0.knows.phase ≡ Pinned x n) }
+{
+    let page = pass.version_page();
+    let mut look = table.pinned_look(pass);
+    let value = get(&mut look, page, node, name);
+    (look.into_seat(), value)
+}
+
+/// The kind of the index of a name, and a node's value there, of the pinned version as a source of queries.
+fn ask_source(
+    table: &VersionTable,
+    pass: Seat,
+    node: u64,
+    name: &Name,
+) -> (Seat, Option<Kind>, Option<Value>)
+    requires seat { IsSeatOf table.now pass }
+    requires pinned { (x : ℕ) × (n : ℕ) × (pass.knows.phase ≡ Pinned x n) }
+    ensures seat { IsSeatOf table.now result.0 }
+    ensures pinned { (x : ℕ) × (n : ℕ) × (result.0.knows.phase ≡ Pinned x n) }
+{
+    let page = pass.version_page();
+    let mut source = source(table.pinned_look(pass), page);
+    let kind = source.kind_of(name);
+    let value = source.value(node, name);
+    (source.into_look().into_seat(), kind, value)
 }
 
 /// Takes the lock.
@@ -230,10 +281,7 @@ fn has_bad_limits(alloc: Global, pages: u64, passes: u64, commits: u64) -> bool 
         passes,
         commits,
     };
-    matches!(
-        VersionTable::open(alloc, limits, &first_page()),
-        Err(Refusal::BadLimits)
-    )
+    matches!(open(alloc, limits), Err(Refusal::BadLimits))
 }
 
 #[test]
@@ -286,8 +334,44 @@ fn reading_under_held_lock(rt: HostRuntime) -> Result<(), Fail> {
     let new = read(&table, &mut second);
     drop(writing.unlock());
     assert_eq!(rt; entered, Ok(1));
-    assert_eq!(rt; (before, old, same), (0, 33, 33));
-    assert_eq!(rt; (after, new), (1, 34));
+    assert_eq!(rt; (before, old, same), (0, 1, 1));
+    assert_eq!(rt; (after, new), (1, 2));
+    Ok(())
+}
+
+// A pinned version is the volume after the entries up to it, for the reader of pages and for queries, while a later write changes it.
+#[test]
+fn pinned_volume(rt: HostRuntime) -> Result<(), Fail> {
+    let (table, first, mut second) = for_two(rt.alloc())?;
+    let name = Name::new("size")?;
+    let ops = [
+        Op::MkIndex(name.copy(), Kind::Long),
+        Op::New,
+        Op::Set(1, name.copy(), Value::int32(5)),
+    ];
+    let mut writing = locked(&table, first)?;
+    assert_eq!(rt; write(&mut writing, &ops), Ok(1));
+    let first = writing.unlock();
+    assert_eq!(rt; pin(&table, &mut second), 1);
+    let mut writing = locked(&table, first)?;
+    let change = [
+        Op::Set(1, name.copy(), Value::int32(6)),
+        Op::RmIndex(name.copy()),
+    ];
+    assert_eq!(rt; write(&mut writing, &change), Ok(2));
+    drop(writing.unlock());
+    let (second, value) = value_of(&table, second, 1, &name);
+    assert!(rt; matches!(value, Some(Value::Long(5))));
+    let (mut second, kind, value) = ask_source(&table, second, 1, &name);
+    assert_eq!(rt; kind, Some(Kind::Long));
+    assert!(rt; matches!(value, Some(Value::Long(5))));
+    table.unpin(&mut second);
+    assert_eq!(rt; pin(&table, &mut second), 2);
+    let (second, kind, value) = ask_source(&table, second, 1, &name);
+    assert_eq!(rt; kind, None);
+    assert!(rt; matches!(value, Some(Value::Long(6))));
+    let (_, none) = value_of(&table, second, 2, &name);
+    assert!(rt; none.is_none());
     Ok(())
 }
 

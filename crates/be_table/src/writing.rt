@@ -1,7 +1,7 @@
 //! An open write: the lock is held, and the ledger is in hand.
 //!
 //! A write takes pages, fills them, gives pages up, and publishes. Until it publishes, nothing of it can be seen by others, and `unlock` undoes it. It is never let go of but by `unlock`, since it has no `Drop`: so the ledger always comes back.
-ghost use Rattle.std.specs.Prelude.{◌≡◌, ◌≤◌, All, suc, ◌+◌, ◌*◌, ◌<◌, true, false, [], ◌∷◌, length, None, MatchResult, ℕ, map, slice_index, IsTrue, List, IfOk, IfErr, IfSome, IfNone, ◌≢◌};
+ghost use Rattle.std.specs.Prelude.{◌≡◌, ◌≤◌, All, suc, ◌+◌, ◌*◌, ◌^◌, ◌<◌, true, false, [], ◌∷◌, length, None, MatchResult, ℕ, map, slice_index, IsTrue, List, IfOk, IfErr, IfSome, IfNone, ◌≢◌};
 ghost use Rattle.be_volume.specs.Sound.{IsOperation};
 ghost use Rattle.be_pages.specs.declared.room.Standing.TheVariants.{Taken, Filled as Full};
 ghost use Rattle.be_table.specs.Reading.{standing_in};
@@ -48,6 +48,12 @@ impl<'a> Writing<'a> {
     ghost use Rattle.be_journal.specs.Journal.{Agrees, replay};
     ghost use Rattle.be_table.specs.Steps.{leaves};
     ghost use Rattle.be_table.specs.Seats.{pin_of};
+    ghost use Rattle.be_table.specs.Reading.{word_in};
+    ghost use Rattle.be_core.specs.Machine.{bit};
+    ghost use Rattle.be_pages.specs.Pages.{is_kept, times};
+    ghost use Rattle.be_paged.specs.Page.{reach};
+    ghost use Rattle.be_paged.specs.Version.{IsVersion};
+    ghost use Rattle.be_volume.specs.Ahead.{after};
 
     pub(crate) fn of(
         table: &'a VersionTable,
@@ -71,9 +77,10 @@ impl<'a> Writing<'a> {
         }
     }
 
-    /// The length of the journal, and the version page. No step.
+    /// The length of the journal, and the version page. The volume has 64 node numbers left, however long the journal is. No step.
     pub fn current(&self) -> (u64, u64)
-        ensures { (result.0 ≡ length self.now.knows.seen) × (result.1 ≡ page_at self.now.knows.seen (length self.now.knows.seen)) }
+        ensures version { (result.0 ≡ length self.now.knows.seen) × (result.1 ≡ page_at self.now.knows.seen (length self.now.knows.seen)) }
+        ensures next { (replay (entries self.now.knows.seen)).next + 64 < 2 ^ 64 }
     {
         (self.ledger.journal.len(), self.ledger.page)
     }
@@ -183,10 +190,12 @@ impl<'a> Writing<'a> {
     pub fn publish(&mut self, page: u64, ops: &[Op], dones: &[Done]) -> u64
         requires open { self.old.knows.published ≡ false }
         requires count { (1 ≤ length ops.now) × (length ops.now ≤ 64) }
-        requires reserved { (length ops.now ≡ self.old.reserved) × (length dones.now ≡ self.old.reserved) }
+        requires reserved { length ops.now ≡ self.old.reserved }
         requires entry { Agrees (replay (entries self.old.knows.seen)) (entry_of self.old.knows ops.now dones.now) }
         requires page { standing_in self.old.knows.places page ≡ Full }
         requires filled { (q : ℕ) → standing_in self.old.knows.places q ≢ Taken }
+        requires volume { IsVersion (standing_in self.old.knows.places) (word_in self.old.knows.words) page (after (replay (entries self.old.knows.seen)) ops.now) }
+        requires exact { (q : ℕ) → times q (reach (word_in self.old.knows.words) page) ≡ bit (is_kept (standing_in self.old.knows.places q)) }
         ensures write { self.new ≡ record self.old { knows = publishes self.old.knows (entry_of self.old.knows ops.now dones.now) page; reserved = 0 } }
         ensures result { result ≡ length self.new.knows.seen }
     {

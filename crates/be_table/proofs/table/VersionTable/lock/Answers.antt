@@ -1,5 +1,7 @@
 use Rattle.std.proofs.Common.{◌+◌, Some, sym, ap, ◌∙◌, arith}
-use Rattle.be_table.proofs.Locks.{locks_as, got, is_out}
+use Rattle.be_table.proofs.Locks.{locks_as, got, late, is_out}
+use Rattle.be_table.specs.Rule.{counted, pass_of}
+use Rattle.be_table.proofs.Told.{told_as, stepped_pass}
 use Rattle.be_table.proofs.table.VersionTable.lock.Goals as goal
 
 pub compare_exchange-found-requires : goal.compare_exchange-found-requires
@@ -13,3 +15,11 @@ exchange-requires c =
     let e = c.compare_exchange-found.ensures in
     let g = got c.into_base-base.result.0.me c.compare_exchange-found.result c.compare_exchange-found.new.seat.me e.2 c.if-found-eq0.true in
     (e.0 ∙ p.0 ∙ c.requires.1 ∙ sym (ap (λ t. t.id) c.self.view_is), (Some g.0, is_out _ _ (0, Some g.0) (ap (λ m. m.1) g.3.0)))
+
+pub of-requires-else-found-eq0-clause-told : goal.of-requires-else-found-eq0-clause-told
+of-requires-else-found-eq0-clause-told c =
+    let t = c.into_base-base.ensures.told.1 in
+    let l = late c.into_base-base.result.0.me c.compare_exchange-found.result c.compare_exchange-found.new.seat.me c.compare_exchange-found.ensures.2 c.if-found-eq0.false in
+    told_as (counted c.args.seat.knows) c.compare_exchange-found.new.seat.me c.into_base-base.result.1.number c.into_base-base.result.1.seen
+    (ap (λ m. pass_of m.0) l.0 ∙ ap (λ m. counted (pass_of m.0)) c.into_base-base.ensures.pass.1)
+    (record { number_is = t.number_is; seen_is = t.seen_is; writes = t.writes; pass = stepped_pass c.args.seat.knows _ t.pass })

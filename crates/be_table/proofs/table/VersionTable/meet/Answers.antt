@@ -1,8 +1,10 @@
-use Rattle.std.proofs.Common.{sym, ap, ◌∙◌, arith}
+use Rattle.std.proofs.Common.{◌≡◌, length, sym, ap, ◌∙◌, arith}
 use Rattle.be_table.specs.Rule.{counted}
 use Rattle.be_table.proofs.Deals.{joins}
-use Rattle.be_table.proofs.Meetings.{joined_pair, compares_as, deals_as}
+use Rattle.be_table.specs.Steps.{longer}
+use Rattle.be_table.proofs.Meetings.{joined_pair, compares_as, deals_as, left_longer, right_longer, met_left, met_right}
 use Rattle.be_table.proofs.table.VersionTable.meet.Goals as goal
+use Rattle.be_table.proofs.table.VersionTable.meet.Goals.{then-marks-other_marks, else-marks-other_marks}
 
 pub join_seat-requires : goal.join_seat-requires
 join_seat-requires c =
@@ -23,3 +25,23 @@ split_seat-first-requires c =
     let p = c.into_base-base.ensures.pass in let q = c.into_base-other.ensures.pass in let id = sym (ap (λ t. t.id) c.self.view_is) in
     let j = c.join_seat.ensures in let l = c.load.ensures in
     (l.0 ∙ j.0 ∙ p.0 ∙ c.requires.0.1 ∙ id, omega (arith, c.self.invariant.0), deals_as _ _ _ _ _ (ap (λ m. m.0) l.2.0))
+
+pub of-requires-clause-told : goal.of-requires-clause-told
+of-requires-clause-told c =
+    let p = c.into_base-base.ensures in let q = c.into_base-other.ensures in
+    let a = c.args.left.knows in let b = c.args.right.knows in
+    let long : length (longer a.seen b.seen) ≡ c.if-marks-other_marks.both = elim c.if-marks-other_marks.branch [
+      | then-marks-other_marks w ↦ right_longer a.seen b.seen (omega (arith, p.told.1.seen_is, q.told.1.seen_is, w.if-marks-other_marks)) ∙ q.told.1.seen_is ∙ sym w.both-is
+      | else-marks-other_marks w ↦ left_longer a.seen b.seen (omega (arith, p.told.1.seen_is, q.told.1.seen_is, w.if-marks-other_marks)) ∙ p.told.1.seen_is ∙ sym w.both-is
+    ] in
+    met_left a b _ _ _ c.load.new.seat.me c.split_seat-first.result.me _ _ _ p.pass.1 q.pass.1 c.join_seat.ensures.2 c.load.ensures.2 long (ap (λ m. m.0) c.split_seat-first.ensures.4) p.told.1
+
+pub of-requires-2-clause-told : goal.of-requires-2-clause-told
+of-requires-2-clause-told c =
+    let p = c.into_base-base.ensures in let q = c.into_base-other.ensures in
+    let a = c.args.left.knows in let b = c.args.right.knows in
+    let long : length (longer a.seen b.seen) ≡ c.if-marks-other_marks.both = elim c.if-marks-other_marks.branch [
+      | then-marks-other_marks w ↦ right_longer a.seen b.seen (omega (arith, p.told.1.seen_is, q.told.1.seen_is, w.if-marks-other_marks)) ∙ q.told.1.seen_is ∙ sym w.both-is
+      | else-marks-other_marks w ↦ left_longer a.seen b.seen (omega (arith, p.told.1.seen_is, q.told.1.seen_is, w.if-marks-other_marks)) ∙ p.told.1.seen_is ∙ sym w.both-is
+    ] in
+    met_right a b _ _ _ c.load.new.seat.me c.split_seat-first.new.seat.me _ _ _ p.pass.1 q.pass.1 c.join_seat.ensures.2 c.load.ensures.2 long (ap (λ m. m.0) c.split_seat-first.ensures.2) q.told.1

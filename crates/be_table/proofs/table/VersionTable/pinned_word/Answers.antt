@@ -1,6 +1,7 @@
 use Rattle.std.proofs.Common.{◌≡◌, ◌<◌, IsTrue, sym, ap, ◌∙◌, subst, arith}
 use Rattle.be_core.specs.Machine.{has}
-use Rattle.be_table.specs.Rule.{reach_at}
+use Rattle.be_table.specs.Rule.{counted, pass_of, reach_at}
+use Rattle.be_table.proofs.Told.{told_as, stepped_pass}
 use Rattle.be_table.proofs.Moves.{pinned_as}
 use Rattle.be_table.proofs.Pins.{page_inside}
 use Rattle.be_table.proofs.table.VersionTable.pinned_word.Goals as goal
@@ -18,3 +19,11 @@ load-found-requires c =
       omega (arith, i.0, c.requires.place),
       pinned_as _ _ _ c.move_out.result.knows _ _ p.1 r.0 r.1 c.args.page c.args.i _ phase reached c.requires.place (omega arith),
     )
+
+pub of-requires-clause-told : goal.of-requires-clause-told
+of-requires-clause-told c =
+    let t = c.into_base-base.ensures.told.1 in
+    let a = c.move_out.result.knows in
+    told_as (counted a) c.load-found.new.seat.me c.into_base-base.result.1.number c.into_base-base.result.1.seen
+    (ap (λ m. pass_of m.0) c.load-found.ensures.2.0 ∙ ap (λ m. counted (pass_of m.0)) c.into_base-base.ensures.pass.1)
+    (record { number_is = t.number_is; seen_is = t.seen_is; writes = t.writes; pass = stepped_pass a _ t.pass })

@@ -1,14 +1,20 @@
-use Rattle.std.proofs.Common.{◌≡◌, ◌<◌, [], ◌∷◌, ◌++◌, None, length, map, refl, sym, ap, ◌∙◌, subst, arith}
+use Rattle.std.proofs.Common.{◌≡◌, ◌≤◌, ◌<◌, [], ◌∷◌, ◌++◌, None, length, map, refl, sym, ap, ◌∙◌, subst, arith}
 use Rattle.std.proofs.lemmas.List.{length-map}
 use Rattle.be_journal.specs.declared.entries.Entry.{Entry}
 use Rattle.be_journal.specs.Journal.{Agrees, replay}
-use Rattle.be_pages.specs.Place.{place_of, published_place}
+use Rattle.be_pages.specs.Place.{number_of, place_of, published_place}
 use Rattle.be_table.specs.declared.pass.Knowledge.{Knowledge}
 use Rattle.be_table.specs.Place.{Work}
 use Rattle.be_table.specs.Rule.{entries, ledger_places, page_at, pass_of}
 use Rattle.be_table.specs.Seats.{pin_of}
-use Rattle.be_table.specs.Steps.{IsPass, commit_of, publishes}
+use Rattle.be_table.specs.Ledger.{is_kept}
+use Rattle.be_table.specs.Reading.{word_in}
+use Rattle.be_table.specs.Steps.{IsPass, commit_of, pages_from, publishes}
+use Rattle.be_table.specs.Versions.{SpellsVolume}
+use Rattle.be_table.proofs.Keeping.{spells_kept}
+use Rattle.be_journal.proofs.LegalLemmas.{replay_push}
 use Rattle.be_table.proofs.Frames.{entries-append}
+use Rattle.be_table.proofs.Answers.{answers_each}
 use Rattle.be_table.proofs.Opened.{seen_length}
 use Rattle.be_table.proofs.PinMarks.{pin_stays}
 use Rattle.be_table.proofs.Publishing.{last_page}
@@ -19,6 +25,8 @@ announce-requires-clause-pass c =
     let i = c.self.invariant in let w = c.self.inside in let a = pass_of w.base.me.0 in
     let k : a ≡ c.args.self.now.knows = ap (λ (x : Work). x.knows) c.self.view_is in
     let e : Entry = record { by = w.marks.number; ops = c.args.ops.now; dones = c.args.dones.now } in
+    let n0 : Knowledge = c.args.self.now.knows in
+    let few : length n0.places ≤ 16384 = (let p = ap length i.places in let pages = i.pass.within.few_pages in let l = ap (λ x. x.pages) i.limits_are in let n = ap (λ (x : Knowledge). length x.places) k in let count = i.count in omega arith) in
     let reserved : w.reserved ≡ c.args.self.now.reserved = ap (λ (x : Work). x.reserved) c.self.view_is in (
       ap (λ m. m.0) i.me_is,
       record {
@@ -27,9 +35,12 @@ announce-requires-clause-pass c =
         by = sym i.number_is;
         agrees = subst (λ (n : Knowledge). Agrees (replay (entries n.seen)) e) (sym k) c.requires.entry;
         operations = (c.requires.count.1, c.all_valid.ensures);
-        room = (i.room (let n = c.requires.count.0 in let r = c.requires.reserved.0 in omega arith)).1;
+        room = (i.room (let n = c.requires.count.0 in let r = c.requires.reserved in omega arith)).1;
         inside = subst (λ (n : Knowledge). c.args.page < length n.places) (sym k) c.is_filled.ensures.0;
         filled = ap (λ (n : Knowledge). place_of n.places c.args.page) k ∙ c.is_filled.ensures.1;
+        spelt = subst (λ (n : Knowledge). SpellsVolume (pages_from is_kept 0 n.places) (word_in n.words) c.args.page (replay (entries n.seen ++ e ∷ []))) (sym k)
+            (subst (λ s. SpellsVolume (pages_from is_kept 0 n0.places) (word_in n0.words) c.args.page s) (sym (replay_push (entries n0.seen) e))
+            (spells_kept n0.places few c.requires.filled (word_in n0.words) c.args.page _ c.requires.volume c.requires.exact));
       },
     )
 
@@ -61,3 +72,15 @@ invariant_of-self c =
       limit = ap (λ j. j.limit) c.append.ensures.journal ∙ i.limit;
       room = λ some. absurd (omega (arith, some));
     }
+
+pub append-requires-clause-room : goal.append-requires-clause-room
+append-requires-clause-room c =
+    let reserved : c.self.inside.reserved ≡ c.args.self.now.reserved = ap (λ (x : Work). x.reserved) c.self.view_is in
+    let room = (c.self.invariant.room (let n = c.requires.count.0 in let r = c.requires.reserved in omega arith)).0 in
+    let each = answers_each (replay (entries c.args.self.now.knows.seen)) (record { by = c.args.self.now.knows.number; ops = c.args.ops.now; dones = c.args.dones.now }) c.requires.entry in
+    (c.requires.reserved ∙ sym reserved ∙ sym room, each ∙ c.requires.reserved ∙ sym reserved ∙ sym room)
+
+pub append-requires-clause-newest : goal.append-requires-clause-newest
+append-requires-clause-newest c =
+    let i = c.self.invariant in let a = pass_of c.self.inside.base.me.0 in
+    λ q. let n = c.announce.ensures.newest q in let places = ap (λ l. number_of l q) i.places in let long = ap length i.journal ∙ seen_length a.seen in omega arith

@@ -1,9 +1,12 @@
-use Rattle.std.proofs.Common.{[], ◌∷◌, Some, map, sym, ap, ◌∙◌, arith}
+use Rattle.std.proofs.Common.{[], ◌∷◌, length, refl, Some, map, sym, ap, ◌∙◌, arith}
 use Rattle.atomic_table.specs.Table.{rest}
 use Rattle.be_table.specs.Rule.{pass_of}
 use Rattle.be_table.proofs.Frames.{Me1}
 use Rattle.be_pages.specs.Place.{undone_place}
+use Rattle.be_table.specs.Steps.{leaves}
 use Rattle.be_table.proofs.Locks.{unlocks_as}
+use Rattle.be_table.proofs.Opened.{seen_length}
+use Rattle.be_table.proofs.Told.{told_as, left_pass}
 use Rattle.be_table.proofs.writing.Writing.unlock.Goals as goal
 
 pub store-requires : goal.store-requires
@@ -11,3 +14,10 @@ store-requires c =
     let i = c.self.invariant in let e = c.exchange.ensures in
     let w = c.self.inside in
     (e.0 ∙ i.table_is ∙ sym (ap (λ t. t.id) c.table.view_is), omega (arith, c.table.invariant.0), unlocks_as _ _ _ (pass_of w.base.me.0) [] _ c.rest.new.self (e.3 ∙ ap (λ (m : Me1). (m.0, (0, Some c.rest.new.self) ∷ rest m.1)) i.me_is) i.writes (ap (λ j. j.entries) c.rest.ensures.0 ∙ i.journal) (ap (λ j. j.limit) c.rest.ensures.0 ∙ i.limit ∙ ap (λ l. l.commits) (sym i.limits_are)) (c.rest.ensures.1 ∙ i.page) (c.rest.ensures.2 ∙ ap (map undone_place) i.places))
+
+pub of-requires-clause-told : goal.of-requires-clause-told
+of-requires-clause-told c =
+    let i = c.self.invariant in let w = c.self.inside in let a = pass_of w.base.me.0 in
+    told_as (leaves a) c.store.new.seat.me w.marks.number c.len.result
+    (ap (λ m. pass_of m.0) c.store.ensures.2 ∙ ap (λ m. leaves (pass_of m.0)) c.exchange.ensures.3)
+    (record { number_is = i.number_is; seen_is = sym (seen_length a.seen) ∙ sym (ap length i.journal) ∙ sym c.len.ensures.len; writes = refl; pass = left_pass a i.pass })

@@ -1,0 +1,23 @@
+-- The volume that a version of the table spells.
+use Rattle.std.specs.Prelude.{◌≡◌, ℕ, Bool, true, false, nat_lt, if◌then◌else◌, List}
+use Rattle.be_core.specs.Machine.{has, bit}
+use Rattle.be_pages.specs.declared.room.Standing.{Standing}
+use Rattle.be_pages.specs.declared.room.Standing.TheVariants.{Free as Nowhere, Old}
+use Rattle.be_pages.specs.Pages.{times}
+use Rattle.be_paged.specs.Page.{reach}
+use Rattle.be_paged.specs.Version.{IsVersion}
+use Rattle.be_volume.specs.Volume.{State}
+
+-- when a write begins: a page of the current version, and any other
+abbrev pub at_start : Bool → Standing
+at_start true = Old
+at_start false = Nowhere
+
+-- the words of pages, each of 512 places
+abbrev pub in_pages : (ℕ → ℕ → ℕ) → ℕ → ℕ → ℕ
+in_pages words q i = if nat_lt i 512 then words q i else 0
+
+-- The version of these pages, with these words, spells the volume from its version page, and has exactly the pages that it reaches from there.
+pub record SpellsVolume (pages : List ℕ) (words : ℕ → ℕ → ℕ) (page : ℕ) (volume : State) : Type 0 where
+  pub version : IsVersion (λ q. at_start (has pages q)) words page volume
+  pub exact : (q : ℕ) → times q (reach words page) ≡ bit (has pages q)
