@@ -64,7 +64,7 @@ fn put_beside<L: Look>(
     ensures some { (0 < length result.items) × (length result.items ≤ 2) }
     ensures unchanged { IsUnchanged L.kept L.standing L.words look.old look.new }
 {
-    let item = Slot::At(page, place);
+    let item = Slot::At(page as u32, place as u16);
     let mut both = ArrayVec::new();
     match cmp_at(look, page, place, pair.key(), words) {
         Ordering::Less => {
@@ -171,12 +171,12 @@ fn pack<R: Room>(
     let mut branches = ArrayVec::new();
     if slots.len() <= 12 {
         let page = write_branch(room, level, slots, pair)?;
-        branches.push(Slot::Branch(page));
+        branches.push(Slot::Branch(page as u32));
         return Ok(branches);
     }
     let (left, right) = write_parts(room, level, slots, first_of_two(slots.len()), pair)?;
-    branches.push(Slot::Branch(left));
-    branches.push(Slot::Branch(right));
+    branches.push(Slot::Branch(left as u32));
+    branches.push(Slot::Branch(right as u32));
     Ok(branches)
 }
 
@@ -334,7 +334,7 @@ pub(crate) fn write_root<R: Room>(
         return Ok(top + 1);
     }
     let (left, right) = write_parts(room, level, slots, first_of_two(slots.len()), pair)?;
-    let branches = [Slot::Branch(left), Slot::Branch(right)];
+    let branches = [Slot::Branch(left as u32), Slot::Branch(right as u32)];
     let top = write_node(room, level + 1, &branches, pair)?;
     Ok(top + 1)
 }

@@ -150,6 +150,18 @@ fn word_from(bytes: &[u8], from: usize) -> u64
     requires { from ≤ 328 }
     ensures { to_be_bytes w64 result ≡ map (λ k. slice_index bytes.now k) (range_with_len from 8) }
 {
+    if from + 8 <= bytes.len() {
+        return u64::from_be_bytes([
+            bytes[from],
+            bytes[from + 1],
+            bytes[from + 2],
+            bytes[from + 3],
+            bytes[from + 4],
+            bytes[from + 5],
+            bytes[from + 6],
+            bytes[from + 7],
+        ]);
+    }
     u64::from_be_bytes([
         byte_or_zero(bytes, from),
         byte_or_zero(bytes, from + 1),
@@ -232,7 +244,7 @@ fn store_branch<R: Room>(room: &mut R, page: u64, at: usize, child: u64)
     ensures only { OnlyWrites R.kept R.standing R.words page at (at + 42) room.old room.new }
 {
     let key_len = (room.word(child, 2) >> 32) as usize;
-    let mut bytes: ArrayVec<u8, 328> = load_bytes(room, child, 3, key_len);
+    let mut bytes: ArrayVec<u8, 272> = load_bytes(room, child, 3, key_len);
     extend(&mut bytes, &child.to_be_bytes());
     room.fill(page, at, ((key_len as u64) << 32) + 8);
     store_bytes(room, page, at + 1, &bytes);
@@ -251,8 +263,8 @@ fn store_slot<R: Room>(room: &mut R, page: u64, at: usize, slot: Slot, pair: &It
     ensures only { OnlyWrites R.kept R.standing R.words page at (at + 42) room.old room.new }
 {
     match slot {
-        Slot::At(from, place) => copy_item(room, page, at, from, place),
-        Slot::Branch(child) => store_branch(room, page, at, child),
+        Slot::At(from, place) => copy_item(room, page, at, from as u64, place as usize),
+        Slot::Branch(child) => store_branch(room, page, at, child as u64),
         Slot::New => store_item(room, page, at, pair),
     }
 }
@@ -267,7 +279,7 @@ pub(crate) fn slots_of<L: Look>(look: &mut L, page: u64) -> ArrayVec<Slot, 24>
     let count = look.word(page, 1) as usize;
     let mut slots: ArrayVec<Slot, 24> = ArrayVec::new();
     for j in 0..count {
-        slots.push(Slot::At(page, 2 + 42 * j));
+        slots.push(Slot::At(page as u32, (2 + 42 * j) as u16));
     }
     slots
 }
