@@ -81,13 +81,30 @@ fn put_beside<L: Look>(
 }
 
 /// Inserts slots at a place.
-pub(crate) fn insert_all(slots: &mut ArrayVec<Slot, 24>, at: usize, mut more: ArrayVec<Slot, 2>)
+fn insert_all(slots: &mut ArrayVec<Slot, 24>, at: usize, mut more: ArrayVec<Slot, 2>)
     requires in_range { at ≤ length slots.old.items }
     requires room { length slots.old.items + length more.items ≤ 24 }
     ensures { slots.new.items ≡ take at slots.old.items ++ (more.items ++ drop at slots.old.items) }
 {
     while let Some(slot) = more.pop() {
         slots.insert(at, slot);
+    }
+}
+
+/// Puts slots in the place of the one at a number. Where one replaces one, as mostly, no other is moved.
+pub(crate) fn replace_at(slots: &mut ArrayVec<Slot, 24>, at: usize, mut more: ArrayVec<Slot, 2>)
+    requires in_range { at < length slots.old.items }
+    requires room { length slots.old.items + length more.items ≤ 25 }
+    ensures { slots.new.items ≡ take at slots.old.items ++ (more.items ++ drop (suc at) slots.old.items) }
+{
+    match more.pop() {
+        Some(last) => {
+            slots[at] = last;
+            insert_all(slots, at, more);
+        }
+        None => {
+            slots.remove(at);
+        }
     }
 }
 
@@ -274,8 +291,7 @@ fn put_at<R: Room>(
     }
     let mut slots = slots_of(room, page);
     let beside = put_below(room, level, page, 2 + 42 * at, pair, words)?;
-    slots.remove(at);
-    insert_all(&mut slots, at, beside);
+    replace_at(&mut slots, at, beside);
     Ok(slots)
 }
 
