@@ -117,11 +117,14 @@ impl PagePool {
         Some(page)
     }
 
-    /// Marks a page that was taken as one with a word filled.
+    /// Marks a page that was taken as one with a word filled. Most calls find it marked, and then write nothing.
     pub fn fill(&mut self, page: u64)
         requires { IsTrue (is_in_hand (place_of (places self.old) page)) }
         ensures { places self.new ≡ slice_set (places self.old) page Filled }
     {
+        if matches!(self.places[page as usize], Place::Filled) {
+            return;
+        }
         self.places[page as usize] = Place::Filled;
     }
 

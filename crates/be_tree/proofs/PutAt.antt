@@ -16,6 +16,7 @@ use Rattle.be_tree.specs.Slot.{pair_of, pairs_of, IsReady}
 use Rattle.be_tree.specs.Tree.{child, pairs_at, pairs_below, pages_below, IsBelow, IsTreeAt, Becomes}
 use Rattle.be_tree.proofs.Frame.{swaps_same, swaps_stands, readable_kept}
 use Rattle.be_tree.proofs.Below.{all_left, all_right}
+use Rattle.be_tree.proofs.SlotLists.{as_taken}
 use Rattle.be_tree.proofs.Puts.{put_at_item, item_below, item_apart, becomes_put}
 use Rattle.be_tree.proofs.Slots.{item_get, items_count, loaded_pairs, loaded_ready}
 
@@ -89,9 +90,12 @@ module _ {S K : Type 0} (kept_of : S → K) (standing_of : S → ℕ → Standin
 
   -- what the slots become where `more` stand in the place of one
   module _ (slots more out : List Slot) (n : ℕ) (mid : S) (count : n ≡ words_of read page 1) (loaded : slots ≡ map (λ j. At page (place_of j)) (range_with_len 0 n))
-      (inserted : out ≡ take at (remove slots at) ++ (more ++ drop at (remove slots at))) where
+      (replaced : out ≡ take at slots ++ (more ++ drop (suc at) slots)) where
     pub slots_count : length slots ≡ words_of read page 1
     slots_count = ap length loaded ∙ length-map-range_with_len (λ j. At page (place_of j)) 0 n ∙ count
+
+    inserted : out ≡ take at (remove slots at) ++ (more ++ drop at (remove slots at))
+    inserted = as_taken slots more out at (omega (arith, at_item, slots_count)) replaced
 
     pub slots_length : length out + 1 ≡ length slots + length more
     slots_length = out_length slots more out at (omega (arith, at_item, slots_count)) inserted

@@ -1,7 +1,7 @@
 -- Lists of slots, from which some were taken.
-use Rattle.std.proofs.Common.{◌≡◌, ℕ, suc, ◌+◌, ◌≤◌, List, ◌++◌, length, take, drop, map, All, ap, sym, subst, ◌∙◌, arith}
-use Rattle.std.specs.List.{remove, take-map, drop-map}
-use Rattle.std.proofs.lemmas.List.{map-append, length-append, length-take-le, take_at, drop_at, drop-drop, take-append-drop}
+use Rattle.std.proofs.Common.{◌≡◌, ℕ, suc, ◌+◌, ◌<◌, ◌≤◌, List, [], ◌∷◌, set, ◌++◌, length, take, drop, map, All, ap, sym, subst, ◌∙◌, arith}
+use Rattle.std.specs.List.{remove, refill, take-map, drop-map}
+use Rattle.std.proofs.lemmas.List.{map-append, length-append, length-take-le, take_at, drop_at, drop-drop, take-append-drop, take-set, drop-set, append_assoc}
 use Rattle.std.proofs.lemmas.List.Edits.{length-remove}
 use Rattle.std.proofs.lemmas.List.Elements.{All-append}
 use Rattle.be_tree.proofs.Below.{all_left, all_right}
@@ -17,6 +17,18 @@ all_removed P slots at all =
     All-append P (take at slots) (drop (suc at) slots) (all_left P (take at slots) (drop at slots) (subst (All P) (sym (take-append-drop at slots)) all))
     (all_right P (take (suc at) slots) (drop (suc at) slots) (subst (All P) (sym (take-append-drop (suc at) slots)) all))
 
+-- a list written over whole
+pub refilled : {A : Type 0} (xs ws : List A) → length ws ≡ length xs → refill (length xs) xs ws ≡ ws
+refilled xs ws len = take_at ws (drop (length ws) xs) (length xs) len
+
+-- one that gave way to others, the last of which was set in its place
+pub replaced : {A : Type 0} (slots front more : List A) (at : ℕ) (last : A) → at < length slots → more ≡ front ++ last ∷ []
+    → take at (set slots at last) ++ (front ++ drop at (set slots at last)) ≡ take at slots ++ (more ++ drop (suc at) slots)
+replaced slots front more at last lt is =
+    let e : at + 1 ≡ suc at = omega arith in
+    both_same (take-set slots at last)
+    (ap (λ xs. front ++ xs) (drop-set slots at last lt ∙ ap (λ n. last ∷ drop n slots) e) ∙ sym (append_assoc front (last ∷ []) (drop (suc at) slots)) ∙ ap (λ xs. xs ++ drop (suc at) slots) (sym is))
+
 -- before and after one that was taken out
 front_kept : {A : Type 0} (slots : List A) (at : ℕ) → at ≤ length slots → take at (remove slots at) ≡ take at slots
 front_kept slots at le = take_at (take at slots) (drop (suc at) slots) at (length-take-le at slots le)
@@ -24,26 +36,26 @@ front_kept slots at le = take_at (take at slots) (drop (suc at) slots) at (lengt
 back_kept : {A : Type 0} (slots : List A) (at : ℕ) → at ≤ length slots → drop at (remove slots at) ≡ drop (suc at) slots
 back_kept slots at le = drop_at (take at slots) (drop (suc at) slots) at (length-take-le at slots le)
 
+-- others in the place of one, as one that was taken out and others put in
+pub as_taken : {A : Type 0} (slots more out : List A) (at : ℕ) → at ≤ length slots → out ≡ take at slots ++ (more ++ drop (suc at) slots) → out ≡ take at (remove slots at) ++ (more ++ drop at (remove slots at))
+as_taken slots more out at le is = is ∙ both_same (sym (front_kept slots at le)) (ap (λ xs. more ++ xs) (sym (back_kept slots at le)))
+
 module _ {A : Type 0} (slots : List A) (at : ℕ) (lt : at + 2 ≤ length slots) where
-  len : length (remove slots at) + 1 ≡ length slots
-  len = omega (arith, length-remove slots at (omega (arith, lt)))
+  two_front : take at (remove slots at) ≡ take at slots
+  two_front = front_kept slots at (omega (arith, lt))
 
-  pub two_front : take at (remove (remove slots at) at) ≡ take at slots
-  two_front = front_kept (remove slots at) at (omega (arith, lt, len)) ∙ front_kept slots at (omega (arith, lt))
-
-  pub two_back : drop at (remove (remove slots at) at) ≡ drop (at + 2) slots
+  two_back : drop (suc at) (remove slots at) ≡ drop (at + 2) slots
   two_back =
       let e : suc at ≡ at + 1 = omega arith in
       let f : suc at + 1 ≡ at + 2 = omega arith in
-      back_kept (remove slots at) at (omega (arith, lt, len))
-      ∙ ap (λ (n : ℕ). drop n (remove slots at)) e
+      ap (λ (n : ℕ). drop n (remove slots at)) e
       ∙ sym (drop-drop 1 at (remove slots at))
       ∙ ap (drop 1) (back_kept slots at (omega (arith, lt)))
       ∙ drop-drop 1 (suc at) slots
       ∙ ap (λ (n : ℕ). drop n slots) f
 
   -- with others in their place
-  module _ (more out : List A) (inserted : out ≡ take at (remove (remove slots at) at) ++ (more ++ drop at (remove (remove slots at) at))) where
+  module _ (more out : List A) (inserted : out ≡ take at (remove slots at) ++ (more ++ drop (suc at) (remove slots at))) where
     pub two_replaced : out ≡ take at slots ++ (more ++ drop (at + 2) slots)
     two_replaced = inserted ∙ both_same two_front (ap (λ xs. more ++ xs) two_back)
 

@@ -64,7 +64,7 @@ fn put_beside<L: Look>(
     ensures some { (0 < length result.items) × (length result.items ≤ 2) }
     ensures unchanged { IsUnchanged L.kept L.standing L.words look.old look.new }
 {
-    let item = Slot::At(page, place);
+    let item = Slot::At(page as u32, place as u16);
     let mut both = ArrayVec::new();
     match cmp_at(look, page, place, pair.key(), words) {
         Ordering::Less => {
@@ -81,13 +81,30 @@ fn put_beside<L: Look>(
 }
 
 /// Inserts slots at a place.
-pub(crate) fn insert_all(slots: &mut ArrayVec<Slot, 24>, at: usize, mut more: ArrayVec<Slot, 2>)
+fn insert_all(slots: &mut ArrayVec<Slot, 24>, at: usize, mut more: ArrayVec<Slot, 2>)
     requires in_range { at ≤ length slots.old.items }
     requires room { length slots.old.items + length more.items ≤ 24 }
     ensures { slots.new.items ≡ take at slots.old.items ++ (more.items ++ drop at slots.old.items) }
 {
     while let Some(slot) = more.pop() {
         slots.insert(at, slot);
+    }
+}
+
+/// Puts slots in the place of the one at a number. Where one replaces one, as mostly, no other is moved.
+pub(crate) fn replace_at(slots: &mut ArrayVec<Slot, 24>, at: usize, mut more: ArrayVec<Slot, 2>)
+    requires in_range { at < length slots.old.items }
+    requires room { length slots.old.items + length more.items ≤ 25 }
+    ensures { slots.new.items ≡ take at slots.old.items ++ (more.items ++ drop (suc at) slots.old.items) }
+{
+    match more.pop() {
+        Some(last) => {
+            slots[at] = last;
+            insert_all(slots, at, more);
+        }
+        None => {
+            slots.remove(at);
+        }
     }
 }
 
@@ -171,12 +188,12 @@ fn pack<R: Room>(
     let mut branches = ArrayVec::new();
     if slots.len() <= 12 {
         let page = write_branch(room, level, slots, pair)?;
-        branches.push(Slot::Branch(page));
+        branches.push(Slot::Branch(page as u32));
         return Ok(branches);
     }
     let (left, right) = write_parts(room, level, slots, first_of_two(slots.len()), pair)?;
-    branches.push(Slot::Branch(left));
-    branches.push(Slot::Branch(right));
+    branches.push(Slot::Branch(left as u32));
+    branches.push(Slot::Branch(right as u32));
     Ok(branches)
 }
 
@@ -274,8 +291,7 @@ fn put_at<R: Room>(
     }
     let mut slots = slots_of(room, page);
     let beside = put_below(room, level, page, 2 + 42 * at, pair, words)?;
-    slots.remove(at);
-    insert_all(&mut slots, at, beside);
+    replace_at(&mut slots, at, beside);
     Ok(slots)
 }
 
@@ -334,7 +350,7 @@ pub(crate) fn write_root<R: Room>(
         return Ok(top + 1);
     }
     let (left, right) = write_parts(room, level, slots, first_of_two(slots.len()), pair)?;
-    let branches = [Slot::Branch(left), Slot::Branch(right)];
+    let branches = [Slot::Branch(left as u32), Slot::Branch(right as u32)];
     let top = write_node(room, level + 1, &branches, pair)?;
     Ok(top + 1)
 }

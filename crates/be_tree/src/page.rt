@@ -1,5 +1,5 @@
 //! Items read from a page and written to it.
-ghost use Rattle.std.specs.Prelude.{◌≡◌, ◌≢◌, ℕ, ◌+◌, ◌*◌, ◌<◌, ◌≤◌, ◌++◌, All, IsTrue, length, take, map, slice_index};
+ghost use Rattle.std.specs.Prelude.{◌≡◌, ◌≢◌, ℕ, ◌+◌, ◌*◌, ◌<◌, ◌≤◌, ◌++◌, All, IsTrue, length, take, drop, map, slice_index};
 ghost use Rattle.std.specs.List.{range_with_len};
 ghost use Rattle.std.specs.Int.{from_be_bytes, to_be_bytes, w64};
 ghost use Rattle.be_pages.specs.Pages.{is_readable, is_taken, IsUnchanged, OnlyWrites, StandsAt};
@@ -129,6 +129,35 @@ pub fn load_bytes<L: Look, const N: usize>(
     bytes
 }
 
+/// The `n` bytes that stand `skip` bytes behind the start of a word.
+pub(crate) fn load_bytes_from<L: Look, const N: usize>(
+    look: &mut L,
+    page: u64,
+    at: usize,
+    skip: usize,
+    n: usize,
+) -> ArrayVec<u8, N>
+    requires readable { IsTrue (is_readable (L.standing look.old page)) }
+    requires skips { skip < 8 }
+    requires in_page { at + words_for (skip + n) ≤ 512 }
+    requires fits { 8 * words_for (skip + n) ≤ N }
+    ensures bytes { result.items ≡ drop skip (bytes_at (L.words look.old page) at (skip + n)) }
+    ensures unchanged { IsUnchanged L.kept L.standing L.words look.old look.new }
+{
+    let mut rest = ArrayVec::new();
+    if n == 0 {
+        return rest;
+    }
+    let first = look.word(page, at).to_be_bytes();
+    extend(&mut rest, &first[skip..]);
+    for i in 1..(skip + n + 7) / 8 {
+        let word = look.word(page, at + i).to_be_bytes();
+        extend(&mut rest, &word);
+    }
+    rest.truncate(n);
+    rest
+}
+
 /// Appends bytes for which there is room.
 pub(crate) fn extend<const N: usize>(bytes: &mut ArrayVec<u8, N>, more: &[u8])
     requires { length bytes.old.items + length more.now ≤ N }
@@ -150,6 +179,18 @@ fn word_from(bytes: &[u8], from: usize) -> u64
     requires { from ≤ 328 }
     ensures { to_be_bytes w64 result ≡ map (λ k. slice_index bytes.now k) (range_with_len from 8) }
 {
+    if from + 8 <= bytes.len() {
+        return u64::from_be_bytes([
+            bytes[from],
+            bytes[from + 1],
+            bytes[from + 2],
+            bytes[from + 3],
+            bytes[from + 4],
+            bytes[from + 5],
+            bytes[from + 6],
+            bytes[from + 7],
+        ]);
+    }
     u64::from_be_bytes([
         byte_or_zero(bytes, from),
         byte_or_zero(bytes, from + 1),
@@ -232,7 +273,7 @@ fn store_branch<R: Room>(room: &mut R, page: u64, at: usize, child: u64)
     ensures only { OnlyWrites R.kept R.standing R.words page at (at + 42) room.old room.new }
 {
     let key_len = (room.word(child, 2) >> 32) as usize;
-    let mut bytes: ArrayVec<u8, 328> = load_bytes(room, child, 3, key_len);
+    let mut bytes: ArrayVec<u8, 272> = load_bytes(room, child, 3, key_len);
     extend(&mut bytes, &child.to_be_bytes());
     room.fill(page, at, ((key_len as u64) << 32) + 8);
     store_bytes(room, page, at + 1, &bytes);
@@ -251,8 +292,8 @@ fn store_slot<R: Room>(room: &mut R, page: u64, at: usize, slot: Slot, pair: &It
     ensures only { OnlyWrites R.kept R.standing R.words page at (at + 42) room.old room.new }
 {
     match slot {
-        Slot::At(from, place) => copy_item(room, page, at, from, place),
-        Slot::Branch(child) => store_branch(room, page, at, child),
+        Slot::At(from, place) => copy_item(room, page, at, from as u64, place as usize),
+        Slot::Branch(child) => store_branch(room, page, at, child as u64),
         Slot::New => store_item(room, page, at, pair),
     }
 }
@@ -267,7 +308,7 @@ pub(crate) fn slots_of<L: Look>(look: &mut L, page: u64) -> ArrayVec<Slot, 24>
     let count = look.word(page, 1) as usize;
     let mut slots: ArrayVec<Slot, 24> = ArrayVec::new();
     for j in 0..count {
-        slots.push(Slot::At(page, 2 + 42 * j));
+        slots.push(Slot::At(page as u32, (2 + 42 * j) as u16));
     }
     slots
 }

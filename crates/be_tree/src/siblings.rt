@@ -6,7 +6,7 @@ ghost use Rattle.be_tree.specs.Pair.{Pair};
 ghost use Rattle.be_tree.specs.Slot.{IsReady, pairs_of};
 ghost use Rattle.be_tree.specs.Tree.{AreNeighbours, IsTreeAt, child};
 
-use crate::edit::insert_all;
+use crate::edit::replace_at;
 use crate::page::{child_at, slots_of};
 use crate::slot::Slot;
 use arrayvec::ArrayVec;
@@ -73,8 +73,7 @@ pub(crate) fn slots_with<L: Look>(
 {
     let mut slots = slots_of(look, page);
     slots.remove(at);
-    slots.remove(at);
-    insert_all(&mut slots, at, two);
+    replace_at(&mut slots, at, two);
     slots
 }
 

@@ -3,14 +3,14 @@
 //! A tree is a sorted list of pairs, so what stands at or after a key is a tail of the list, and its first pair is the
 //! least. One descent finds where that tail begins: at each inner page it takes the last branch whose key isn't above the
 //! key that is sought, and in the leaf a binary search ends it.
-ghost use Rattle.std.specs.Prelude.{◌≡◌, ◌+◌, ◌≤◌, IsTrue, length, option_map};
+ghost use Rattle.std.specs.Prelude.{◌≡◌, ◌+◌, ◌≤◌, IsTrue, option_map};
 ghost use Rattle.be_pages.specs.Pages.{IsUnchanged, is_readable};
 ghost use Rattle.be_tree.specs.Page.{IsItem, item_at};
 ghost use Rattle.be_tree.specs.Range.{first_from, pair_in};
 ghost use Rattle.be_tree.specs.Tree.{IsTree, pairs};
 
 use crate::cursor::Cursor;
-use crate::page::load_bytes;
+use crate::page::{load_bytes, load_bytes_from};
 use arrayvec::ArrayVec;
 use be_pages::Look;
 
@@ -69,22 +69,11 @@ pub(crate) fn load_payload<L: Look>(look: &mut L, page: u64, at: usize) -> Array
 {
     let header = look.word(page, at);
     let key_len = (header >> 32) as usize;
-    let skip = key_len % 8;
-    let bytes: ArrayVec<u8, 328> = load_bytes(
+    load_bytes_from(
         look,
         page,
         at + 1 + key_len / 8,
-        skip + (header % (1 << 32)) as usize,
-    );
-    copy_of(&bytes[skip..])
-}
-
-/// The same bytes in a vector of their own.
-fn copy_of<const N: usize>(bytes: &[u8]) -> ArrayVec<u8, N>
-    requires { length bytes.now ≤ N }
-    ensures { result.items ≡ bytes.now }
-{
-    let mut copy = ArrayVec::new();
-    let _ = copy.try_extend_from_slice(bytes);
-    copy
+        key_len % 8,
+        (header % (1 << 32)) as usize,
+    )
 }

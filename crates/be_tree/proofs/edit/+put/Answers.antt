@@ -200,11 +200,11 @@ put_at-put_below-requires g t c κs within =
       ),
     )
 
-pub put_at-insert_all-requires-clause-room : goal.put_at-insert_all-requires-clause-room
-put_at-insert_all-requires-clause-room g t c =
+pub put_at-replace_at-requires-clause-room : goal.put_at-replace_at-requires-clause-room
+put_at-replace_at-requires-clause-room g t c =
     let len = ap length c.slots_of-slots.ensures.slots ∙ length-map-range_with_len (λ (j : ℕ). At c.args.page (place_of j)) 0 (g.R.Look.words c.sharing_children.new.look c.args.page 1) in
     let read = unchanged_trans g.R.Look.kept g.R.Look.standing g.R.Look.words c.args.room.now c.rank.new.look c.sharing_children.new.look c.rank.ensures.unchanged c.sharing_children.ensures.unchanged in
-    omega (arith, c.remove.ensures.len, c.in_ok-beside.ensures.some, len, ap (λ (w : ℕ → ℕ → ℕ). w c.args.page 1) read.words, c.requires.tree.node.is_page.few)
+    omega (arith, c.in_ok-beside.ensures.some, len, ap (λ (w : ℕ → ℕ → ℕ). w c.args.page 1) read.words, c.requires.tree.node.is_page.few)
 
 pub put_at-returns-clause-ok : goal.put_at-returns-clause-ok
 put_at-returns-clause-ok g t c =
@@ -212,9 +212,8 @@ put_at-returns-clause-ok g t c =
     (unchanged_trans g.R.Look.kept g.R.Look.standing g.R.Look.words c.args.room.now c.rank.new.look c.sharing_children.new.look c.rank.ensures.unchanged c.sharing_children.ensures.unchanged) c.slots_of-slots.ensures.unchanged in
     let ranked = subst (λ (w : ℕ → ℕ → ℕ). IsRank c.args.pair.now.key (items_of (w c.args.page)) c.rank.result) (sym same.words)
     (subst (λ (k : List ℕ). IsRank k (items_of (g.R.Look.words c.args.room.now c.args.page)) c.rank.result) c.key.ensures c.rank.ensures.rank) in
-    let inserted = c.insert_all.ensures ∙ ap (λ (xs : List Slot). take c.saturating_sub-at.result xs ++ (c.in_ok-beside.beside.items ++ drop c.saturating_sub-at.result xs)) c.remove.ensures.items in
     let count = ap (λ (w : ℕ → ℕ → ℕ). w c.args.page 1) (sym c.slots_of-slots.ensures.unchanged.words) in
-    slots_put g.R.Look.kept g.R.Look.standing g.R.Look.words c.args.level c.args.page c.args.pair.now c.rank.result c.saturating_sub-at.result c.args.room.now c.slots_of-slots.new.look c.requires.tree same ranked c.saturating_sub-at.ensures c.slots_of-slots.result.items c.in_ok-beside.beside.items c.insert_all.new.slots.items (g.R.Look.words c.sharing_children.new.look c.args.page 1) c.put_below.new.room count c.slots_of-slots.ensures.slots inserted c.in_ok-beside.ensures.ok
+    slots_put g.R.Look.kept g.R.Look.standing g.R.Look.words c.args.level c.args.page c.args.pair.now c.rank.result c.saturating_sub-at.result c.args.room.now c.slots_of-slots.new.look c.requires.tree same ranked c.saturating_sub-at.ensures c.slots_of-slots.result.items c.in_ok-beside.beside.items c.replace_at.new.slots.items (g.R.Look.words c.sharing_children.new.look c.args.page 1) c.put_below.new.room count c.slots_of-slots.ensures.slots c.replace_at.ensures c.in_ok-beside.ensures.ok
 
 pub put_at-returns-clause-ready : goal.put_at-returns-clause-ready
 put_at-returns-clause-ready g t c =
@@ -222,9 +221,8 @@ put_at-returns-clause-ready g t c =
     (unchanged_trans g.R.Look.kept g.R.Look.standing g.R.Look.words c.args.room.now c.rank.new.look c.sharing_children.new.look c.rank.ensures.unchanged c.sharing_children.ensures.unchanged) c.slots_of-slots.ensures.unchanged in
     let ranked = subst (λ (w : ℕ → ℕ → ℕ). IsRank c.args.pair.now.key (items_of (w c.args.page)) c.rank.result) (sym same.words)
     (subst (λ (k : List ℕ). IsRank k (items_of (g.R.Look.words c.args.room.now c.args.page)) c.rank.result) c.key.ensures c.rank.ensures.rank) in
-    let inserted = c.insert_all.ensures ∙ ap (λ (xs : List Slot). take c.saturating_sub-at.result xs ++ (c.in_ok-beside.beside.items ++ drop c.saturating_sub-at.result xs)) c.remove.ensures.items in
     let count = ap (λ (w : ℕ → ℕ → ℕ). w c.args.page 1) (sym c.slots_of-slots.ensures.unchanged.words) in
-    slots_ready g.R.Look.kept g.R.Look.standing g.R.Look.words c.args.level c.args.page c.args.pair.now c.rank.result c.saturating_sub-at.result c.args.room.now c.slots_of-slots.new.look c.requires.tree same ranked c.saturating_sub-at.ensures c.slots_of-slots.result.items c.in_ok-beside.beside.items c.insert_all.new.slots.items (g.R.Look.words c.sharing_children.new.look c.args.page 1) c.put_below.new.room count c.slots_of-slots.ensures.slots inserted c.in_ok-beside.ensures.ok c.in_ok-beside.ensures.ready
+    slots_ready g.R.Look.kept g.R.Look.standing g.R.Look.words c.args.level c.args.page c.args.pair.now c.rank.result c.saturating_sub-at.result c.args.room.now c.slots_of-slots.new.look c.requires.tree same ranked c.saturating_sub-at.ensures c.slots_of-slots.result.items c.in_ok-beside.beside.items c.replace_at.new.slots.items (g.R.Look.words c.sharing_children.new.look c.args.page 1) c.put_below.new.room count c.slots_of-slots.ensures.slots c.replace_at.ensures c.in_ok-beside.ensures.ok c.in_ok-beside.ensures.ready
 
 pub put_at-returns-clause-some : goal.put_at-returns-clause-some
 put_at-returns-clause-some g t c =
@@ -232,11 +230,10 @@ put_at-returns-clause-some g t c =
     (unchanged_trans g.R.Look.kept g.R.Look.standing g.R.Look.words c.args.room.now c.rank.new.look c.sharing_children.new.look c.rank.ensures.unchanged c.sharing_children.ensures.unchanged) c.slots_of-slots.ensures.unchanged in
     let ranked = subst (λ (w : ℕ → ℕ → ℕ). IsRank c.args.pair.now.key (items_of (w c.args.page)) c.rank.result) (sym same.words)
     (subst (λ (k : List ℕ). IsRank k (items_of (g.R.Look.words c.args.room.now c.args.page)) c.rank.result) c.key.ensures c.rank.ensures.rank) in
-    let inserted = c.insert_all.ensures ∙ ap (λ (xs : List Slot). take c.saturating_sub-at.result xs ++ (c.in_ok-beside.beside.items ++ drop c.saturating_sub-at.result xs)) c.remove.ensures.items in
     let count = ap (λ (w : ℕ → ℕ → ℕ). w c.args.page 1) (sym c.slots_of-slots.ensures.unchanged.words) in
     let whole = ap (λ (w : ℕ → ℕ → ℕ). w c.args.page 1) same.words in
-    let len = slots_length g.R.Look.kept g.R.Look.standing g.R.Look.words c.args.level c.args.page c.args.pair.now c.rank.result c.saturating_sub-at.result c.args.room.now c.slots_of-slots.new.look c.requires.tree same ranked c.saturating_sub-at.ensures c.slots_of-slots.result.items c.in_ok-beside.beside.items c.insert_all.new.slots.items (g.R.Look.words c.sharing_children.new.look c.args.page 1) c.put_below.new.room count c.slots_of-slots.ensures.slots inserted in
-    let all = slots_count g.R.Look.kept g.R.Look.standing g.R.Look.words c.args.level c.args.page c.args.pair.now c.rank.result c.saturating_sub-at.result c.args.room.now c.slots_of-slots.new.look c.requires.tree same ranked c.saturating_sub-at.ensures c.slots_of-slots.result.items c.in_ok-beside.beside.items c.insert_all.new.slots.items (g.R.Look.words c.sharing_children.new.look c.args.page 1) c.put_below.new.room count c.slots_of-slots.ensures.slots inserted in
+    let len = slots_length g.R.Look.kept g.R.Look.standing g.R.Look.words c.args.level c.args.page c.args.pair.now c.rank.result c.saturating_sub-at.result c.args.room.now c.slots_of-slots.new.look c.requires.tree same ranked c.saturating_sub-at.ensures c.slots_of-slots.result.items c.in_ok-beside.beside.items c.replace_at.new.slots.items (g.R.Look.words c.sharing_children.new.look c.args.page 1) c.put_below.new.room count c.slots_of-slots.ensures.slots c.replace_at.ensures in
+    let all = slots_count g.R.Look.kept g.R.Look.standing g.R.Look.words c.args.level c.args.page c.args.pair.now c.rank.result c.saturating_sub-at.result c.args.room.now c.slots_of-slots.new.look c.requires.tree same ranked c.saturating_sub-at.ensures c.slots_of-slots.result.items c.in_ok-beside.beside.items c.replace_at.new.slots.items (g.R.Look.words c.sharing_children.new.look c.args.page 1) c.put_below.new.room count c.slots_of-slots.ensures.slots c.replace_at.ensures in
     let n = items_count (g.R.Look.words c.args.room.now c.args.page) in
     (omega (arith, len, all, n, whole, c.in_ok-beside.ensures.some), omega (arith, len, all, n, whole, c.in_ok-beside.ensures.some, c.requires.tree.node.is_page.few))
 

@@ -1,6 +1,6 @@
 use Rattle.std.proofs.Common.{◌≡◌, ℕ, ◌+◌, ◌/◌, ◌%◌, ◌^◌, drop, ap, sym, ◌∙◌}
 use Rattle.be_tree.specs.Page.{bytes_at, key_len, payload_len}
-use Rattle.be_tree.proofs.Codec.{payload_from, rest_from}
+use Rattle.be_tree.proofs.Codec.{payload_from}
 use Rattle.be_tree.proofs.walk.load_payload.Goals as goal
 
 pub returns-clause-payload : goal.returns-clause-payload
@@ -8,12 +8,8 @@ returns-clause-payload g c =
     let words = g.L.Look.words c.args.look.now c.args.page in
     let at = c.args.at in
     let header = c.word-header.result in
-    let read : c.load_bytes-bytes.result.items ≡ bytes_at words (at + 1 + key_len words at / 8) (key_len words at % 8 + payload_len words at) =
-    c.load_bytes-bytes.ensures.bytes
-    ∙ ap (λ (w : ℕ → ℕ → ℕ). bytes_at (w c.args.page) (at + 1 + header / 2 ^ 32 / 8) (header / 2 ^ 32 % 8 + header % 2 ^ 32)) c.word-header.ensures.words
-    ∙ ap (λ (h : ℕ). bytes_at words (at + 1 + h / 2 ^ 32 / 8) (h / 2 ^ 32 % 8 + h % 2 ^ 32)) c.word-header.ensures.value in
-    c.copy_of.ensures
-    ∙ rest_from c.deref.result.now (header / 2 ^ 32 % 8)
-    ∙ ap (drop (header / 2 ^ 32 % 8)) (c.deref.ensures.0 ∙ read)
-    ∙ ap (λ (h : ℕ). drop (h / 2 ^ 32 % 8) (bytes_at words (at + 1 + key_len words at / 8) (key_len words at % 8 + payload_len words at))) c.word-header.ensures.value
+    let k = c.word-header.ensures.value in
+    c.load_bytes_from.ensures.bytes
+    ∙ ap (λ (w : ℕ → ℕ → ℕ). drop (header / 2 ^ 32 % 8) (bytes_at (w c.args.page) (at + 1 + header / 2 ^ 32 / 8) (header / 2 ^ 32 % 8 + header % 2 ^ 32))) c.word-header.ensures.words
+    ∙ ap (λ (h : ℕ). drop (h / 2 ^ 32 % 8) (bytes_at words (at + 1 + h / 2 ^ 32 / 8) (h / 2 ^ 32 % 8 + h % 2 ^ 32))) k
     ∙ sym (payload_from words at)
