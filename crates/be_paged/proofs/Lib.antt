@@ -20,3 +20,5 @@ pub mod SourceKeys
 pub mod RootSetting
 pub mod Composing
 pub mod Stepping
+pub mod Standing
+pub mod Versions
