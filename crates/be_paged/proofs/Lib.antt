@@ -21,3 +21,4 @@ pub mod RootSetting
 pub mod Composing
 pub mod Stepping
 pub mod Standing
+pub mod Versions

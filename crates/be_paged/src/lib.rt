@@ -21,6 +21,7 @@ mod edits;
 mod entries;
 mod facts;
 mod first;
+pub mod laws;
 mod paged_source;
 mod reading;
 mod version;
@@ -30,3 +31,14 @@ pub use first::first_page;
 pub use paged_source::{PagedSource, source};
 pub use reading::{attrs, get, indices};
 pub use writes::apply;
+
+#[cfg(test)]
+mod both;
+#[cfg(test)]
+mod lines;
+#[cfg(test)]
+mod random_lists;
+#[cfg(test)]
+mod test_looks;
+#[cfg(test)]
+mod tests;
