@@ -43,15 +43,20 @@ fn key_in(kind: Kind, value: &Option<Value>, node: u64) -> Option<ArrayVec<u8, 2
     }
 }
 
-/// Whether a tree has a key, if there is one to look for.
-fn holds_key<L: Look>(look: &mut L, root: u64, key: &Option<ArrayVec<u8, 264>>) -> bool
+/// Whether a tree has the key that both of two are. Where they differ it isn't looked for.
+fn holds_both<L: Look>(
+    look: &mut L,
+    root: u64,
+    other: &Option<ArrayVec<u8, 264>>,
+    key: &Option<ArrayVec<u8, 264>>,
+) -> bool
     requires tree { IsTree (L.standing look.old) (L.words look.old) root }
     ensures found { result ≡ true → (k : List ℕ) × (option_map (λ k. k.items) key.now ≡ Some k) × (is_some (payload_at (pairs (L.words look.old) root) k) ≡ true) }
     ensures unchanged { IsUnchanged L.kept L.standing L.words look.old look.new }
 {
-    match key {
-        Some(key) => has_key(look, root, key),
-        None => false,
+    match (other, key) {
+        (Some(other), Some(key)) => other.as_slice() == key.as_slice() && has_key(look, root, key),
+        _ => false,
     }
 }
 
@@ -94,7 +99,7 @@ fn put_key<R: Room>(
 }
 
 /// Changes the node's pair in the tree of an index: that of the old value leaves, and that of the new one enters, each if it is of the index's
-/// kind. A pair that stands already isn't touched.
+/// kind. A pair that stands already isn't touched: it is looked for only where the old value has it too, since an index has no pair of another value.
 fn change_root<R: Room>(
     room: &mut R,
     root: u64,
@@ -114,7 +119,7 @@ fn change_root<R: Room>(
 {
     let leaves = key_in(kind, old, node);
     let enters = key_in(kind, new, node);
-    if holds_key(room, root, &enters) {
+    if holds_both(room, root, &leaves, &enters) {
         return Ok(root);
     }
     let rest = take_key(room, root, &leaves)?;

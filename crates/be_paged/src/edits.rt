@@ -15,9 +15,10 @@ ghost use Rattle.be_paged.specs.Version.{IsInHand, Spells};
 use crate::attributes::first_attribute;
 use crate::catalog::{catalog_key, payload_of};
 use crate::changes::change_entry;
-use crate::entries::{copy_name, search};
+use crate::entries::search;
+use crate::entry::Entry;
 use crate::reading::value_in;
-use crate::version::{Entry, Version};
+use crate::version::Version;
 use arrayvec::ArrayVec;
 use be_pages::Room;
 use be_tree::{clear, insert, remove};
@@ -106,14 +107,7 @@ fn make_index<R: Room>(room: &mut R, version: &mut Version, name: &Name, kind: K
 {
     if let Err(at) = search(&version.entries, name) {
         if version.entries.len() < MAX_INDICES {
-            version.entries.insert(
-                at,
-                Entry {
-                    name: copy_name(name),
-                    kind,
-                    root: 0,
-                },
-            );
+            version.entries.insert(at, Entry::new(name, kind));
         }
     }
     Done::Unit
@@ -130,7 +124,7 @@ fn remove_index<R: Room>(room: &mut R, version: &mut Version, name: &Name) -> Do
 {
     if let Ok(at) = search(&version.entries, name) {
         let entry = version.entries.remove(at);
-        clear(room, entry.root);
+        clear(room, entry.root());
     }
     Done::Unit
 }
