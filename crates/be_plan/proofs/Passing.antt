@@ -151,10 +151,6 @@ falls s name from after next is =
     k : IsKey s name next
     k = is.0
 
--- a key has a node's eight bytes at least
-pub long_key : (v : Value) (n : ℕ) → 8 ≤ length (key v n)
-long_key v n = let eight : length (to_be_bytes w64 n) ≡ 8 = refl in omega (arith, length-append (value_key v) (to_be_bytes w64 n))
-
 -- the next key under another name of the place
 pub next_moved : (s : State) (name from start : List ℕ) (after : Bool) (next : List ℕ) → from ≡ start →
     IsNextKey s name from after (Some next) → IsNextKey s name start after (Some next)

@@ -1,10 +1,10 @@
 -- What a comparison sees of a node, by the keys of an index.
 use Rattle.std.proofs.Common.{◌≡◌, ◌<◌, ◌^◌, ℕ, IsTrue, List, refl, sym, ap, ◌∙◌, subst, Some, None}
-use Rattle.std.specs.Option.{option_map}
+use Rattle.std.specs.Option.{option_map, IfSome, IfNone}
 use Rattle.std.proofs.lemmas.Option.{same_Some}
 use Rattle.std.specs.FinMap as map
 use Rattle.std.specs.declared.option.Option.{Option}
-use Rattle.be_value.specs.Key.{key, value_key}
+use Rattle.be_value.specs.Key.{key, value_key, IsValue}
 use Rattle.be_value.specs.Value.{kind_of, is_indexable}
 use Rattle.be_value.specs.declared.values.Kind.{Kind}
 use Rattle.be_value.specs.declared.values.Value.{Value}
@@ -61,3 +61,37 @@ kind_indexable s sound name kind is = by (map.get s.indices name) refl is
     by : (found : Option Index) → map.get s.indices name ≡ found → option_map (λ (i : Index). i.kind) found ≡ Some kind → IsTrue (is_indexable kind)
     by None there e = cc
     by (Some index) there e = let P : Kind → Type 0 = λ k. IsTrue (is_indexable k) in subst P (same_Some index.kind kind e) (sound.kinds name index there)
+
+-- the bytes are the key of no pair with a value of this kind
+abbrev pub NoPair : Kind → List ℕ → Type 0
+NoPair kind bytes = (v : Value) (n : ℕ) → IsValue v → n < 2 ^ 64 → IsTrue (is_indexable kind) → kind_of v ≡ kind → bytes ≡ key v n → ⊥
+
+-- they are the key of no other pair
+abbrev pub OnlyPair : Kind → List ℕ → Value × ℕ → Type 0
+OnlyPair kind bytes pair = (v : Value) (n : ℕ) → IsValue v → n < 2 ^ 64 → IsTrue (is_indexable kind) → kind_of v ≡ kind → bytes ≡ key v n → (pair.0 ≡ v) × (pair.1 ≡ n)
+
+module _ (s : State) (sound : IsSound s) (name bytes : List ℕ) (k : IsKey s name bytes) (kind : Kind) (is : index_kind s name ≡ Some kind) where
+  paired : IsPaired s name k.index.kind k.node k.value
+  paired = sound.pairs name k.index k.node k.value k.there k.paired
+
+  kinds : k.index.kind ≡ kind
+  kinds = same_Some _ _ (sym (ap (λ i. option_map (λ (i : Index). i.kind) i) k.there) ∙ is)
+
+  -- each key of a sound index is the key of a pair of its kind
+  pub some_pair : (found : Option (Value × ℕ)) → found ≡ None → IfNone found (NoPair kind bytes) → ⊥
+  some_pair found e none =
+      let P : Option (Value × ℕ) → Type 0 = λ r. IfNone r (NoPair kind bytes) in
+      subst P e none k.value k.node paired.is_value paired.node_fits (kind_indexable s sound name kind is) (paired.kind_is ∙ kinds) k.is
+
+  -- and the value of this pair is seen of its node
+  pub seen_pair : (found : Option (Value × ℕ)) (value : Value) (node : ℕ) → found ≡ Some (value, node) → IfSome found (OnlyPair kind bytes) →
+      (node ≡ k.node) × (sees s node name ≡ Some value)
+  seen_pair found value node e only =
+      let P : Option (Value × ℕ) → Type 0 = λ r. IfSome r (OnlyPair kind bytes) in
+      let same : (value ≡ k.value) × (node ≡ k.node) =
+      subst P e only k.value k.node paired.is_value paired.node_fits (kind_indexable s sound name kind is) (paired.kind_is ∙ kinds) k.is in
+      (same.1, ap (λ n. sees s n name) same.1 ∙ ap (λ i. seen_in i (attribute s k.node name) k.node) k.there ∙ k.paired ∙ ap (λ v. Some v) (sym same.0))
+
+  -- a key that ends with a node is this node's
+  pub own_node : (value : Value) (node : ℕ) → node < 2 ^ 64 → bytes ≡ key value node → k.node ≡ node
+  own_node value node fits e = key_node k.value value k.node node paired.node_fits fits (sym k.is ∙ e)

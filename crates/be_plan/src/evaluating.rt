@@ -2,13 +2,14 @@
 //!
 //! A comparison on an indexed name sees what the index holds. A source has no call for that; but a pair of an index is always its node's
 //! attribute, so the index holds the attribute or nothing, and whether it has the attribute's key tells which.
-ghost use Rattle.std.specs.Prelude.{◌≡◌, ◌<◌, ◌^◌};
-ghost use Rattle.be_query.specs.View.{formula};
+ghost use Rattle.std.specs.Prelude.{◌≡◌, ◌<◌, ◌^◌, Some};
+ghost use Rattle.be_query.specs.Grammar.{Leaf};
+ghost use Rattle.be_query.specs.View.{formula, literal};
 ghost use Rattle.be_volume.specs.Query.{sees, sat};
 ghost use Rattle.be_volume.specs.Volume.{State};
 
 use crate::Source;
-use be_query::Tree;
+use be_query::{Comparison, Tree};
 use be_value::{Name, Value, key_of};
 use be_volume::holds;
 
@@ -31,20 +32,50 @@ fn seen<S: Source>(source: &mut S, node: u64, name: &Name) -> Option<Value>
     }
 }
 
-/// Whether the tree is true of the node.
-pub(crate) fn satisfies<S: Source>(source: &mut S, tree: &Tree, node: u64) -> bool
+/// Whether the comparison is true of what it sees of the node.
+fn is_seen_true<S: Source>(source: &mut S, comparison: &Comparison, node: u64) -> bool
     requires { (volume : State) × S.answers_for source.old volume }
-    ensures answer { (volume : State) → S.answers_for source.old volume → result ≡ sat volume (formula tree.now) node }
+    ensures answer { (volume : State) → S.answers_for source.old volume →
+        result ≡ sat volume (Leaf comparison.now.name comparison.now.op (literal comparison.now.literal)) node }
+    ensures stays { S.kept source.new ≡ S.kept source.old }
+    ensures answers { (volume : State) → S.answers_for source.old volume → S.answers_for source.new volume }
+    ensures still { (volume : State) × S.answers_for source.new volume }
+{
+    match seen(source, node, &comparison.name) {
+        Some(value) => holds(comparison, &value),
+        None => false,
+    }
+}
+
+/// Whether the tree is true of the node, where a comparison on `name` sees this value of it. Only for comparisons on other names the source
+/// is asked.
+pub(crate) fn satisfies<S: Source>(
+    source: &mut S,
+    tree: &Tree,
+    name: &Name,
+    value: &Value,
+    node: u64,
+) -> bool
+    requires { (volume : State) × S.answers_for source.old volume }
+    ensures answer { (volume : State) → S.answers_for source.old volume → sees volume node name.now ≡ Some value.now →
+        result ≡ sat volume (formula tree.now) node }
     ensures stays { S.kept source.new ≡ S.kept source.old }
     ensures answers { (volume : State) → S.answers_for source.old volume → S.answers_for source.new volume }
     ensures still { (volume : State) × S.answers_for source.new volume }
 {
     match tree {
-        Tree::Leaf(comparison) => match seen(source, node, &comparison.name) {
-            Some(value) => holds(comparison, &value),
-            None => false,
-        },
-        Tree::And(a, b) => satisfies(source, a, node) && satisfies(source, b, node),
-        Tree::Or(a, b) => satisfies(source, a, node) || satisfies(source, b, node),
+        Tree::Leaf(comparison) => {
+            if comparison.name == *name {
+                holds(comparison, value)
+            } else {
+                is_seen_true(source, comparison, node)
+            }
+        }
+        Tree::And(a, b) => {
+            satisfies(source, a, name, value, node) && satisfies(source, b, name, value, node)
+        }
+        Tree::Or(a, b) => {
+            satisfies(source, a, name, value, node) || satisfies(source, b, name, value, node)
+        }
     }
 }

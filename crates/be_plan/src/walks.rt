@@ -2,14 +2,16 @@
 //!
 //! A walk goes from key to key by `next_key`, from the range's low end to the first key above its high end, and collects the nodes of which
 //! the query is true. It asks for one key more than it passes.
-ghost use Rattle.std.specs.Prelude.{◌≡◌, ◌<◌, ◌≤◌, ◌^◌, ℕ, true, length, OnOk, IfErr};
+ghost use Rattle.std.specs.Prelude.{◌≡◌, ◌<◌, ◌^◌, ℕ, true, Some, OnOk, IfErr};
 ghost use Rattle.std.specs.List.{Contains};
 ghost use Rattle.std.specs.Option.{option_map};
 ghost use Rattle.be_value.specs.Key.{key as key_bytes};
 ghost use Rattle.be_value.specs.declared.refusals.Refusal.TheVariants.{OutOfMemory};
 ghost use Rattle.be_value.specs.declared.values.Value.{Value as AnyValue};
 ghost use Rattle.be_query.specs.View.{formula};
+ghost use Rattle.be_volume.specs.Keys.{IsKey};
 ghost use Rattle.be_volume.specs.Query.{sat};
+ghost use Rattle.be_volume.specs.Reading.{index_kind};
 ghost use Rattle.be_volume.specs.Volume.{State};
 ghost use Rattle.be_plan.specs.Walk.{AllSatisfy, Keeps, HasWithin};
 
@@ -17,18 +19,21 @@ use crate::Source;
 use crate::evaluating::satisfies;
 use crate::ranges::{Range, is_above};
 use be_query::Tree;
-use be_value::{Name, Refusal, node_of};
+use be_value::{Kind, Name, Refusal, read_key};
 
-/// Adds the node of the key, if the tree is true of it.
+/// Adds the node of a key of the index of that name and kind, if the tree is true of it.
 fn visit<S: Source>(
     source: &mut S,
     tree: &Tree,
+    name: &Name,
+    kind: Kind,
     key: &[u8],
     found: &mut Vec<u64>,
 ) -> Result<(), Refusal>
     ghost volume: { State }
     requires answers { S.answers_for source.old volume }
-    requires has_node { 8 ≤ length key.now }
+    requires kind { index_kind volume name.now ≡ Some kind }
+    requires is_key { IsKey volume name.now key.now }
     ensures stays { S.kept source.new ≡ S.kept source.old }
     ensures answers { S.answers_for source.new volume }
     ensures memory { IfErr result (λ e. e ≡ OutOfMemory) }
@@ -38,9 +43,11 @@ fn visit<S: Source>(
     ensures has { OnOk result ((v : AnyValue) (n : ℕ) → n < 2 ^ 64 → key.now ≡ key_bytes v n →
         sat volume (formula tree.now) n ≡ true → Contains found.new.items n) }
 {
-    let node = node_of(key);
-    if satisfies(source, tree, node) {
-        found.push(node)?;
+    let Some((value, node)) = &read_key(kind, key) else {
+        unreachable!()
+    };
+    if satisfies(source, tree, name, value, *node) {
+        found.push(*node)?;
     }
     Ok(())
 }
@@ -50,11 +57,13 @@ pub(crate) fn walk<S: Source>(
     source: &mut S,
     tree: &Tree,
     name: &Name,
+    kind: Kind,
     range: Range,
     found: &mut Vec<u64>,
 ) -> Result<(), Refusal>
     ghost volume: { State }
-    requires { S.answers_for source.old volume }
+    requires answers { S.answers_for source.old volume }
+    requires kind { index_kind volume name.now ≡ Some kind }
     ensures stays { S.kept source.new ≡ S.kept source.old }
     ensures answers { S.answers_for source.new volume }
     ensures memory { IfErr result (λ e. e ≡ OutOfMemory) }
@@ -71,7 +80,7 @@ pub(crate) fn walk<S: Source>(
         if is_above(&high, key.as_slice()) {
             return Ok(());
         }
-        visit(source, tree, key.as_slice(), found)?;
+        visit(source, tree, name, kind, key.as_slice(), found)?;
         from = key;
         after = true;
     }

@@ -9,7 +9,7 @@ pub kind_of-requires : goal.kind_of-requires
 kind_of-requires g c = (g.volume, c.requires.1.1.0)
 
 pub walk-requires : goal.walk-requires
-walk-requires g c κs within = (within, c.kind_of.ensures.answers g.volume c.requires.1.1.0)
+walk-requires g c κs within = (within, (c.kind_of.ensures.answers g.volume c.requires.1.1.0, sym (c.in-Some-kind_of.ensures.answer g.volume c.requires.1.1.0)))
 
 pub returns-clause-has : goal.returns-clause-has
 returns-clause-has g c =

@@ -1,12 +1,13 @@
-use Rattle.std.proofs.Common.{◌≡◌, ◌≤◌, length, List, subst, ◌∙◌, ◌<◌, ◌^◌, sym, ap, true, ℕ}
+use Rattle.std.proofs.Common.{◌≡◌, List, subst, ◌∙◌, ◌<◌, ◌^◌, sym, ap, true, ℕ}
 use Rattle.std.specs.List.{Contains}
 use Rattle.std.specs.Option.{option_map}
 use Rattle.be_query.specs.View.{formula}
 use Rattle.be_value.specs.Key.{key}
 use Rattle.be_value.specs.declared.values.Value.{Value}
+use Rattle.be_volume.specs.Keys.{IsKey}
 use Rattle.be_volume.specs.Query.{sat}
 use Rattle.be_plan.specs.Narrow.{is_above}
-use Rattle.be_plan.proofs.Passing.{long_key, ends_above, passes, falls, next_moved}
+use Rattle.be_plan.proofs.Passing.{ends_above, passes, falls, next_moved}
 use Rattle.be_plan.proofs.walks.walk.Goals as goal
 
 pub next_key-requires : goal.next_key-requires
@@ -15,8 +16,8 @@ next_key-requires g c = (g.volume, c.keys.invariant.answers)
 pub visit-requires : goal.visit-requires
 visit-requires g c κs within =
     let next = c.in-Some.ensures.answer g.volume c.keys.invariant.answers in
-    let P : List ℕ → Type 0 = λ k. 8 ≤ length k in
-    (within, (c.next_key.ensures.answers g.volume c.keys.invariant.answers, subst P (sym c.as_slice-in-Some-2.ensures.value) (subst P (sym next.0.is) (long_key next.0.value next.0.node))))
+    let P : List ℕ → Type 0 = λ k. IsKey g.volume c.args.name.now k in
+    (within, (c.next_key.ensures.answers g.volume c.keys.invariant.answers, (c.requires.1.1, subst P (sym c.as_slice-in-Some-2.ensures.value) next.0)))
 
 pub returns-then-is_above-clause-answers : goal.returns-then-is_above-clause-answers
 returns-then-is_above-clause-answers g c = c.next_key.ensures.answers g.volume c.keys.invariant.answers
