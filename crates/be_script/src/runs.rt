@@ -168,6 +168,7 @@ pub fn run<R: Read, W: Write>(
     limits: Limits,
 ) -> Result<(), RunFault>
     ensures limits { (result ≡ Err RunFault.Limits) ↔ (are_within limits ≡ false) }
+    ensures unread { result ≡ Err RunFault.Limits → reader.new ≡ reader.old }
     ensures output { OnOk result (IfSome (R.remaining reader.old) (λ script.
         spec.Wrote (W.contents writer.old) (W.contents writer.new) (outputs.IsOutput limits.commits script))) }
     ensures fault { IfErr result (λ e. spec.Leaves e (start limits.commits) (R.remaining reader.old) (W.contents writer.old) (W.contents writer.new)) }

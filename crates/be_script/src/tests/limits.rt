@@ -131,6 +131,8 @@ fn long_queries(rt: HostRuntime) -> Result<(), Fail> {
         mkindex k LONG => ok
         query k==1{255*||k==1} => nodes
         query k==1{256*||k==1} => refused 16 TooMany
+        query k==1{256*||k==1}␀ => refused 16 TooMany
+        query {64*(}k==1( => refused 12 Syntax 68
         query k==1{4092*␠} => nodes
         query k==1{4093*␠} => refused 14 TooLong
         explain {4097*(} => refused 14 TooLong

@@ -70,6 +70,7 @@ fn faults(rt: HostRuntime) -> Result<(), Fail> {
         (&["bestore", "run"], ErrorKind::MissingRequiredArgument),
         (&["bestore", "run", "f", "g"], ErrorKind::UnknownArgument),
         (&["bestore", "walk", "f"], ErrorKind::InvalidSubcommand),
+        (&["bestore", "race", "f", "g"], ErrorKind::InvalidSubcommand),
         (&["bestore"], ErrorKind::MissingSubcommand),
         (&["bestore", "--help"], ErrorKind::DisplayHelp),
         (&["bestore", "run", "--help"], ErrorKind::DisplayHelp),
