@@ -99,7 +99,7 @@ pub record Agrees (b : Board) (s : State (Option Ledger) (List Knowledge)) : Typ
   pub home : IsHome b.world.holder b.world b.log s.homes
   pub version : b.world.current ≡ length b.log
 
--- ## The second part: the journal's and the machine's invariants
+-- ## The second part: the journal's and the machine's invariants, and what each version spells
 
 -- limits that a table may have
 pub record IsWithin (limits : Limits) : Type 0 where

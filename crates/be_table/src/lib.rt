@@ -9,8 +9,11 @@
 //! # How a reader pins a version
 //! It loads CURRENT, announces the number that it found, loads CURRENT again, and has pinned what it found then: three steps, and no wait. A page that a write gave up is retired with the number of the last version that has it, and is free once a scan has found no announcement at or below that number. So the pages of a pinned version are never filled.
 //!
+//! # What a version says
+//! The pages of version n, with the words that they had when it was published, spell from its version page the volume after the first n entries of the journal, and are exactly the pages that be_paged reaches from there (`specs/Versions.antt`). So `publish` asks for both, a pinned pass reads that volume, and a write begins with that of the whole journal.
+//!
 //! # What is proved
-//! Between any two steps one rule holds (`specs/Rule.antt`), in three parts: the words and the slot show a state of be_core's machine and the journal; the journal is legal, and the machine's invariant holds; what each pass knows is so. Each step keeps it, and is the event of the machine that `laws` names.
+//! Between any two steps one rule holds (`specs/Rule.antt`), in three parts: the words and the slot show a state of be_core's machine and the journal; the journal is legal, each version spells its volume, and the machine's invariant holds; what each pass knows is so. Each step keeps it, and is the event of the machine that `laws` names.
 #![tactic(auto)]
 
 mod deal;

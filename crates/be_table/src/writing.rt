@@ -186,7 +186,7 @@ impl<'a> Writing<'a> {
         ensures { (page < length self.now.knows.places) × (place_of self.now.knows.places page ≡ Place.Filled) }
     {}
 
-    /// Enters a write into the journal, with the version of the pages that the write keeps. Answers the journal's length, which is the new version's number. One store, which takes no memory, and work for each page that the write took or gave up.
+    /// Enters a write into the journal, with the version of the pages that the write keeps, which spells the volume after the entry and reaches just these pages. Answers the journal's length, which is the new version's number. One store, which takes no memory, and work for each page that the write took or gave up.
     pub fn publish(&mut self, page: u64, ops: &[Op], dones: &[Done]) -> u64
         requires open { self.old.knows.published ≡ false }
         requires count { (1 ≤ length ops.now) × (length ops.now ≤ 64) }
