@@ -10,7 +10,7 @@ use Rattle.be_volume.specs.Reading.{attribute}
 use Rattle.be_volume.specs.Sound.{IsSound}
 use Rattle.be_volume.specs.Volume.{State}
 use Rattle.be_volume.specs.declared.maps.Index.{Index}
-use Rattle.be_paged.specs.declared.version.Entry.{Entry}
+use Rattle.be_paged.specs.Entry.{Entry}
 use Rattle.be_paged.specs.Page.{Contents, IsNamedAt, IsGapAt}
 use Rattle.be_paged.specs.Catalog.{IsIndexOf}
 use Rattle.be_paged.specs.Changes.{IsReady, repaired, with_change, with_indices}

@@ -15,7 +15,7 @@ use Rattle.be_volume.specs.Maps.{Nodes, Attributes, attributes_of}
 use Rattle.be_volume.specs.Reading.{attributes_at}
 use Rattle.be_volume.specs.Volume.{State}
 use Rattle.be_volume.specs.Indices.{Indices}
-use Rattle.be_paged.specs.declared.version.Entry.{Entry}
+use Rattle.be_paged.specs.Entry.{Entry}
 use Rattle.be_paged.specs.Page.{IsNamedAt, IsGapAt}
 use Rattle.be_paged.specs.Catalog.{catalog_key, payload_of, value_at, stored, IsCatalog}
 use Rattle.be_paged.specs.Version.{AreEntriesOf}

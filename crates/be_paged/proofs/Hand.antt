@@ -18,7 +18,7 @@ use Rattle.be_volume.specs.Sound.{IsName}
 use Rattle.be_volume.specs.Volume.{State}
 use Rattle.be_volume.specs.declared.maps.Index.{Index}
 use Rattle.be_volume.proofs.MapLemmas.{names_total}
-use Rattle.be_paged.specs.declared.version.Entry.{Entry}
+use Rattle.be_paged.specs.Entry.{Entry}
 use Rattle.be_paged.specs.Page.{Contents, IsNamedAt}
 use Rattle.be_paged.specs.Catalog.{IsCatalog, IsIndexOf}
 use Rattle.be_paged.specs.Version.{IsEntryOf, AreEntriesOf, Spells, IsInHand}

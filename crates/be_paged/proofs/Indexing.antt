@@ -16,7 +16,7 @@ use Rattle.be_tree.specs.Tree.{pages}
 use Rattle.be_value.specs.declared.values.Kind.{Kind}
 use Rattle.be_volume.specs.Maps.{name_cmp}
 use Rattle.be_volume.specs.declared.maps.Index.{Index}
-use Rattle.be_paged.specs.declared.version.Entry.{Entry}
+use Rattle.be_paged.specs.Entry.{Entry}
 use Rattle.be_paged.specs.Page.{IsNamedAt, IsGapAt}
 use Rattle.be_tree.specs.Forest.{pages_of}
 use Rattle.be_paged.specs.Version.{IsEntryOf, AreEntriesOf}

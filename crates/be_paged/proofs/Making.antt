@@ -25,7 +25,7 @@ use Rattle.be_volume.specs.declared.ops.Op.TheVariants.{MkIndex, RmIndex}
 use Rattle.be_volume.proofs.StepLemmas.{made, accepted}
 use Rattle.be_volume.specs.declared.maps.Index.{Index}
 use Rattle.be_volume.proofs.MapLemmas.{names_total, exact_names}
-use Rattle.be_paged.specs.declared.version.Entry.{Entry}
+use Rattle.be_paged.specs.Entry.{Entry}
 use Rattle.be_paged.specs.Page.{Contents, IsNamedAt, IsGapAt, roots}
 use Rattle.be_paged.specs.Catalog.{IsPairOf}
 use Rattle.be_paged.specs.Version.{IsEntryOf, AreEntriesOf, IsInHand, Spells}

@@ -1,7 +1,7 @@
 -- An entry that got another root.
 use Rattle.std.proofs.Common.{◌≡◌, ℕ, zero, suc, ◌<◌, List, [], ◌∷◌, ◌++◌, length, take, drop, get_or, ap, ◌∙◌, refl, arith}
 use Rattle.std.proofs.lemmas.List.{get_or_default}
-use Rattle.be_paged.specs.declared.version.Entry.{Entry}
+use Rattle.be_paged.specs.Entry.{Entry}
 use Rattle.be_paged.specs.Entries.{with_root}
 
 moved_back : (es : List Entry) (i : ℕ) (e : Entry) → i < length es → take i (take i es ++ drop (suc i) es) ++ e ∷ drop i (take i es ++ drop (suc i) es) ≡ take i es ++ e ∷ drop (suc i) es

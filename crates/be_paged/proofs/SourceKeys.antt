@@ -20,7 +20,7 @@ use Rattle.be_volume.specs.PairKeys.{IsNext}
 use Rattle.be_volume.specs.PairKeys as pair_keys
 use Rattle.be_volume.specs.Volume.{State}
 use Rattle.be_volume.specs.declared.maps.Index.{Index}
-use Rattle.be_paged.specs.declared.version.Entry.{Entry}
+use Rattle.be_paged.specs.Entry.{Entry}
 use Rattle.be_paged.specs.Page.{Contents, IsNamedAt, IsGapAt}
 use Rattle.be_paged.specs.Catalog.{IsPairOf}
 use Rattle.be_paged.specs.Facts.{AnswersFor}

@@ -1,5 +1,5 @@
 -- How far a walk over a node's attributes has come.
-use Rattle.std.proofs.Common.{◌≡◌, ℕ, zero, suc, ◌+◌, ◌<◌, ◌≤◌, ◌^◌, Bool, true, false, cond, List, [], ◌∷◌, ◌++◌, length, map, take, drop, get_or, Some, None, inl, inr, ap, sym, subst, ◌∙◌, refl, arith, T, ◌&&◌}
+use Rattle.std.proofs.Common.{◌≡◌, ℕ, zero, suc, ◌+◌, ◌<◌, ◌≤◌, ◌^◌, Bool, true, false, cond, List, [], ◌∷◌, ◌++◌, length, map, take, drop, get_or, Some, None, inl, inr, ap, sym, subst, ◌∙◌, refl, arith, T, ◌&&◌, is_some}
 use Rattle.std.specs.Int.{to_be_bytes, w64}
 use Rattle.std.specs.List.{slice_get}
 use Rattle.std.specs.Option.{IfSome}
@@ -50,6 +50,28 @@ not_end [] (suc i) x some = absurd (clash some)
     clash e = cc
 not_end (y ∷ xs) zero x some = omega arith
 not_end (y ∷ xs) (suc i) x some = omega (arith, not_end xs i x some)
+
+-- the same of a test
+pub none_left : {A : Type 0} (xs : List A) (i : ℕ) → i ≤ length xs → is_some (slice_get (drop i xs) 0) ≡ false → i ≡ length xs
+none_left [] zero le none = refl
+none_left [] (suc i) le none = absurd (omega (arith, le))
+none_left (x ∷ xs) zero le none = absurd (clash none)
+  where
+    clash : true ≡ false → ⊥
+    clash e = cc
+none_left (x ∷ xs) (suc i) le none = ap suc (none_left xs i (omega (arith, le)) none)
+
+pub one_left : {A : Type 0} (xs : List A) (i : ℕ) → is_some (slice_get (drop i xs) 0) ≡ true → i < length xs
+one_left [] zero some = absurd (clash some)
+  where
+    clash : false ≡ true → ⊥
+    clash e = cc
+one_left [] (suc i) some = absurd (clash some)
+  where
+    clash : false ≡ true → ⊥
+    clash e = cc
+one_left (x ∷ xs) zero some = omega arith
+one_left (x ∷ xs) (suc i) some = omega (arith, one_left xs i some)
 
 later : {A : Type 0} (xs : List A) (i : ℕ) → drop 1 (drop i xs) ≡ drop (suc i) xs
 later [] zero = refl

@@ -1,3 +1,4 @@
+pub mod Entry
 pub mod Page
 pub mod Catalog
 pub mod Version

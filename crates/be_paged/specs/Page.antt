@@ -8,7 +8,7 @@ use Rattle.be_volume.specs.Maps.{name_cmp}
 use Rattle.be_volume.specs.Sound.{IsName}
 use Rattle.be_tree.specs.Page.{bytes_at}
 use Rattle.be_tree.specs.Forest.{pages_of}
-use Rattle.be_paged.specs.declared.version.Entry.{Entry}
+use Rattle.be_paged.specs.Entry.{Entry, HaveText}
 use Rattle.be_paged.specs.declared.version.Version.{Version}
 
 -- the kind that pages call by a number from 1 to 7
@@ -44,6 +44,7 @@ contents_of words = record {
 pub record IsEntry (words : ℕ → ℕ) (at : ℕ) : Type 0 where
   pub short : words at ≤ 63
   pub named : IsName (entry_at words at).name
+  pub text : HaveText (λ j. words (at + 1 + j)) (entry_at words at).name
   pub kind : (1 ≤ words (at + 9)) × (words (at + 9) ≤ 7)
 
 -- the words make a version page

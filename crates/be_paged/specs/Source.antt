@@ -6,7 +6,7 @@ use Rattle.be_tree.specs.Range.{pairs_from}
 use Rattle.be_tree.specs.Tree.{pairs}
 use Rattle.be_tree.specs.declared.cursor.Cursor.{Cursor}
 use Rattle.be_volume.specs.Volume.{State}
-use Rattle.be_paged.specs.declared.version.Entry.{Entry}
+use Rattle.be_paged.specs.Entry.{Entry}
 use Rattle.be_paged.specs.Facts.{AnswersFor}
 use Rattle.be_paged.specs.Page.{Contents}
 

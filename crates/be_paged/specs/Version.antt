@@ -8,7 +8,7 @@ use Rattle.be_tree.specs.Forest.{pages_of, AreTrees}
 use Rattle.be_volume.specs.Sound.{IsName, IsSound}
 use Rattle.be_volume.specs.Volume.{State}
 use Rattle.be_volume.specs.declared.maps.Index.{Index}
-use Rattle.be_paged.specs.declared.version.Entry.{Entry}
+use Rattle.be_paged.specs.Entry.{Entry}
 use Rattle.be_paged.specs.Page.{Contents, contents_of, IsVersionPage, roots}
 use Rattle.be_paged.specs.Catalog.{IsCatalog, IsIndexOf}
 

@@ -2,7 +2,7 @@
 //!
 //! In the catalog a node's mark comes first and its attributes follow by ascending names, so a walk begins behind the mark and ends at the
 //! first key of another node. A node has at most 64 attributes, which bounds the walk.
-ghost use Rattle.std.specs.Prelude.{◌≡◌, ◌≤◌, ◌<◌, ℕ, IsTrue, IfOk, IfSome, length, option_map, drop, slice_get, Some, None, List};
+ghost use Rattle.std.specs.Prelude.{◌≡◌, ◌≤◌, ◌<◌, ℕ, IsTrue, IfOk, IfSome, length, option_map, drop, slice_get, is_some, true, Some, None, List};
 ghost use Rattle.std.specs.FinMap as map;
 ghost use Rattle.be_pages.specs.Pages.{IsUnchanged};
 ghost use Rattle.be_value.specs.Key.{IsValue};
@@ -41,7 +41,21 @@ fn next_attribute<L: Look>(look: &mut L, cursor: &mut Cursor, node: u64) -> Opti
     }
 }
 
-/// How many attributes the node has. It walks over them.
+/// Whether the node has a next attribute, and a step past it. Its key alone is read.
+fn pass_attribute<L: Look>(look: &mut L, cursor: &mut Cursor, node: u64) -> bool
+    requires cursor { IsCursor (L.standing look.old) (L.words look.old) cursor.old }
+    ensures found { result ≡ is_some (slice_get (front node (remaining (L.words look.old) cursor.old)) 0) }
+    ensures cursor { IsCursor (L.standing look.old) (L.words look.old) cursor.new }
+    ensures rest { result ≡ true → front node (remaining (L.words look.old) cursor.new) ≡ drop 1 (front node (remaining (L.words look.old) cursor.old)) }
+    ensures unchanged { IsUnchanged L.kept L.standing L.words look.old look.new }
+{
+    match cursor.next_key(look) {
+        Some(key) => key.starts_with(&node.to_be_bytes()),
+        None => false,
+    }
+}
+
+/// How many attributes the node has. It walks over their keys.
 pub(crate) fn attribute_count<L: Look>(look: &mut L, catalog: u64, node: u64) -> usize
     requires tree { IsTree (L.standing look.old) (L.words look.old) catalog }
     ensures count { (nodes : AllNodes) → IsCatalog (pairs (L.words look.old) catalog) nodes → AreValid nodes →
@@ -50,9 +64,9 @@ pub(crate) fn attribute_count<L: Look>(look: &mut L, catalog: u64, node: u64) ->
 {
     let mut cursor = Cursor::seek(look, catalog, &node.to_be_bytes(), true);
     for count in 0..MAX_ATTRIBUTES {
-        let Some(_) = next_attribute(look, &mut cursor, node) else {
+        if !pass_attribute(look, &mut cursor, node) {
             return count;
-        };
+        }
     }
     MAX_ATTRIBUTES
 }

@@ -15,9 +15,9 @@ ghost use Rattle.be_paged.specs.Version.{IsInHand, Spells};
 use crate::attributes::first_attribute;
 use crate::catalog::{catalog_key, payload_of};
 use crate::changes::change_entry;
-use crate::entries::{copy_name, search};
-use crate::reading::value_in;
-use crate::version::{Entry, Version};
+use crate::entries::search;
+use crate::entry::Entry;
+use crate::version::Version;
 use arrayvec::ArrayVec;
 use be_pages::Room;
 use be_tree::{clear, insert, remove};
@@ -65,8 +65,7 @@ fn set_value<R: Room>(
     ensures err { OnErr result (KeepsStart R.kept R.standing R.words room.old room.new) }
     ensures full { IfErr result (IsFullOf (R.full room.new)) }
 {
-    let old = value_in(room, version.catalog, node, name);
-    change_entry(room, version, node, name, &old, &Some(value.copy()))?;
+    change_entry(room, version, node, name, &Some(value.copy()))?;
     let key = catalog_key(node, name);
     version.catalog = insert(room, version.catalog, &key, &payload_of(value))?;
     Ok(Done::Unit)
@@ -88,8 +87,7 @@ fn unset_value<R: Room>(
     ensures err { OnErr result (KeepsStart R.kept R.standing R.words room.old room.new) }
     ensures full { IfErr result (IsFullOf (R.full room.new)) }
 {
-    let old = value_in(room, version.catalog, node, name);
-    change_entry(room, version, node, name, &old, &None)?;
+    change_entry(room, version, node, name, &None)?;
     let key = catalog_key(node, name);
     version.catalog = remove(room, version.catalog, &key)?;
     Ok(Done::Unit)
@@ -106,14 +104,7 @@ fn make_index<R: Room>(room: &mut R, version: &mut Version, name: &Name, kind: K
 {
     if let Err(at) = search(&version.entries, name) {
         if version.entries.len() < MAX_INDICES {
-            version.entries.insert(
-                at,
-                Entry {
-                    name: copy_name(name),
-                    kind,
-                    root: 0,
-                },
-            );
+            version.entries.insert(at, Entry::new(name, kind));
         }
     }
     Done::Unit
@@ -130,7 +121,7 @@ fn remove_index<R: Room>(room: &mut R, version: &mut Version, name: &Name) -> Do
 {
     if let Ok(at) = search(&version.entries, name) {
         let entry = version.entries.remove(at);
-        clear(room, entry.root);
+        clear(room, entry.root());
     }
     Done::Unit
 }

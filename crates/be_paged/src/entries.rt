@@ -1,11 +1,11 @@
 //! The indices of a version in hand, ascending by name.
-ghost use Rattle.std.specs.Prelude.{◌≡◌, ◌<◌, ◌≤◌, IfOk, IfErr, map, length, slice_index_or};
+ghost use Rattle.std.specs.Prelude.{◌≡◌, All, ◌<◌, ◌≤◌, IfOk, IfErr, map, length, slice_index_or};
 ghost use Rattle.be_paged.specs.Entries.{with_root};
-ghost use Rattle.be_paged.specs.declared.version.Entry.{Entry as AnyEntry};
+ghost use Rattle.be_paged.specs.Entry.{Entry as AnyEntry};
 ghost use Rattle.be_volume.specs.Sound.{IsName};
 ghost use Rattle.be_paged.specs.Page.{IsNamedAt, IsGapAt};
 
-use crate::version::Entry;
+use crate::entry::Entry;
 use arrayvec::ArrayVec;
 use be_value::{Kind, Name};
 use std::alloc::{AllocError, Global};
@@ -17,7 +17,7 @@ pub(crate) fn search(entries: &[Entry], name: &Name) -> Result<usize, usize>
     ensures absent { IfErr result (IsGapAt entries.now name.now) }
 {
     for (i, entry) in entries.iter().enumerate() {
-        match entry.name.cmp(name) {
+        match entry.compare(name) {
             Ordering::Less => {}
             Ordering::Equal => return Ok(i),
             Ordering::Greater => return Err(i),
@@ -33,7 +33,7 @@ pub(crate) fn index_at(entries: &[Entry], at: usize) -> (Kind, u64)
     ensures root { (d : AnyEntry) → result.1 ≡ (slice_index_or entries.now at d).root }
 {
     let entry = &entries[at];
-    (entry.kind, entry.root)
+    (entry.kind(), entry.root())
 }
 
 /// Gives the index at a place another root.
@@ -43,31 +43,17 @@ pub(crate) fn set_root(entries: &mut ArrayVec<Entry, 32>, at: usize, root: u64)
     ensures { (d : AnyEntry) → entries.new.items ≡ with_root entries.old.items at (slice_index_or entries.old.items at d) root }
 {
     let entry = entries.remove(at);
-    entries.insert(
-        at,
-        Entry {
-            name: entry.name,
-            kind: entry.kind,
-            root,
-        },
-    );
-}
-
-/// An equal name, which is one.
-pub(crate) fn copy_name(name: &Name) -> Name
-    ensures same { result ≡ name.now }
-    ensures valid { IsName name.now }
-{
-    let _text = name.as_str();
-    name.copy()
+    entries.insert(at, entry.with_root(root));
 }
 
 /// The names and kinds of the indices, in a vector.
 pub(crate) fn kinds(alloc: Global, entries: &[Entry]) -> Result<Vec<(Name, Kind)>, AllocError>
+    requires named { All (λ e. IsName e.name) entries.now }
     ensures { IfOk result (λ list. list.items ≡ map (λ e. (e.name, e.kind)) entries.now) }
 {
-    entries
-        .iter()
-        .map(|entry| (entry.name.copy(), entry.kind))
-        .collect(alloc)
+    let mut list = Vec::new(alloc);
+    for entry in entries {
+        list.push((entry.name(), entry.kind()))?;
+    }
+    Ok(list)
 }

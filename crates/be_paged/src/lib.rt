@@ -19,6 +19,7 @@ mod catalog;
 mod changes;
 mod edits;
 mod entries;
+mod entry;
 mod facts;
 mod first;
 pub mod laws;

@@ -11,7 +11,7 @@ ghost use Rattle.be_volume.specs.Volume.{State};
 ghost use Rattle.be_paged.specs.Page.{contents};
 ghost use Rattle.be_paged.specs.Source.{StandsBehind};
 ghost use Rattle.be_paged.specs.Version.{IsInHand, IsVersion};
-ghost use Rattle.be_paged.specs.declared.version.Entry.{Entry as AnyEntry};
+ghost use Rattle.be_paged.specs.Entry.{Entry as AnyEntry};
 
 use crate::entries::{index_at, search};
 use crate::reading::value_in;
@@ -114,7 +114,7 @@ impl<L: Look> Source for PagedSource<L> {
 
     fn kind_of(&mut self, name: &Name) -> Option<Kind> {
         match search(&self.version.entries, name) {
-            Ok(place) => Some(self.version.entries[place].kind),
+            Ok(place) => Some(self.version.entries[place].kind()),
             Err(_) => None,
         }
     }
@@ -133,7 +133,7 @@ impl<L: Look> Source for PagedSource<L> {
 
     fn has_key(&mut self, name: &Name, key: &[u8]) -> bool {
         match search(&self.version.entries, name) {
-            Ok(place) => has_key(&mut self.look, self.version.entries[place].root, key),
+            Ok(place) => has_key(&mut self.look, self.version.entries[place].root(), key),
             Err(_) => false,
         }
     }

@@ -6,29 +6,9 @@ ghost use Rattle.be_pages.specs.Pages.{is_readable, is_taken, IsUnchanged, OnlyW
 ghost use Rattle.be_pages.specs.declared.room.Standing.TheVariants.{Filled};
 ghost use Rattle.be_paged.specs.Page.{kind_numbered as kind_of_number, entry_at, contents, contents_of, IsEntry, IsVersionPage};
 
+use crate::entry::Entry;
 use arrayvec::ArrayVec;
 use be_pages::{Look, Room};
-use be_tree::{load_bytes, store_bytes};
-use be_value::{Kind, Name};
-use std::str;
-
-/// An index of a version.
-#[derive(Drop)]
-pub(crate) struct Entry {
-    pub(crate) name: Name,
-    pub(crate) kind: Kind,
-    pub(crate) root: u64,
-}
-
-impl Default for Entry {
-    fn default() -> Entry {
-        Entry {
-            name: Name::new("-").unwrap(),
-            kind: Kind::Long,
-            root: 0,
-        }
-    }
-}
 
 /// A version page's contents in hand.
 #[derive(Drop)]
@@ -36,47 +16,6 @@ pub(crate) struct Version {
     pub(crate) next: u64,
     pub(crate) catalog: u64,
     pub(crate) entries: ArrayVec<Entry, 32>,
-}
-
-/// The kind that pages call by a number.
-fn kind_numbered(number: u64) -> Kind
-    requires { (1 ≤ number) × (number ≤ 7) }
-    ensures { result ≡ kind_of_number number }
-{
-    match number {
-        1 => Kind::Cstr,
-        2 => Kind::Long,
-        3 => Kind::Llng,
-        4 => Kind::Mims,
-        5 => Kind::Rawt,
-        6 => Kind::Ulng,
-        _ => Kind::Ullg,
-    }
-}
-
-/// The number by which pages call a kind.
-fn kind_number(kind: Kind) -> u64
-    ensures number { (1 ≤ result) × (result ≤ 7) }
-    ensures back { kind_of_number result ≡ kind }
-{
-    u64::from(kind.number())
-}
-
-/// The index that a place of a version page tells.
-#[tactic(auto, unfolding(crate::specs::Page::entry_at))]
-fn load_entry<L: Look>(look: &mut L, page: u64, at: usize) -> Entry
-    requires readable { IsTrue (is_readable (L.standing look.old page)) }
-    requires in_page { at + 11 ≤ 512 }
-    requires entry { IsEntry (L.words look.old page) at }
-    ensures entry { result ≡ entry_at (L.words look.old page) at }
-    ensures unchanged { IsUnchanged L.kept L.standing L.words look.old look.new }
-{
-    let len = look.word(page, at) as usize;
-    let bytes: ArrayVec<u8, 64> = load_bytes(look, page, at + 1, len);
-    let name = Name::new(str::from_utf8(&bytes).unwrap()).unwrap();
-    let kind = kind_numbered(look.word(page, at + 9));
-    let root = look.word(page, at + 10);
-    Entry { name, kind, root }
 }
 
 /// What a version page tells.
@@ -89,34 +28,15 @@ pub(crate) fn load_version<L: Look>(look: &mut L, page: u64) -> Version
     let count = look.word(page, 1) as usize;
     let next = look.word(page, 2);
     let catalog = look.word(page, 3);
-    let mut entries: ArrayVec<Entry, 32> = ArrayVec::new();
-    for i in 0..count {
-        entries.push(load_entry(look, page, 4 + 11 * i));
-    }
-    Version {
+    let mut version = Version {
         next,
         catalog,
-        entries,
+        entries: ArrayVec::new(),
+    };
+    for i in 0..count {
+        version.entries.push(Entry::load(look, page, 4 + 11 * i));
     }
-}
-
-/// Writes an index at a place, of a page that has a word filled.
-#[tactic(auto, unfolding(crate::specs::Page::entry_at))]
-fn store_entry<R: Room>(room: &mut R, page: u64, at: usize, entry: &Entry)
-    requires filled { R.standing room.old page ≡ Filled }
-    requires in_page { at + 42 ≤ 512 }
-    requires open { IsTrue (R.is_open (R.kept room.old)) }
-    ensures entry { entry_at (R.words room.new page) at ≡ entry.now }
-    ensures named { name_from entry.now.name ≡ Ok entry.now.name }
-    ensures short { R.words room.new page at ≤ 63 }
-    ensures kind { (1 ≤ R.words room.new page (at + 9)) × (R.words room.new page (at + 9) ≤ 7) }
-    ensures only { OnlyWrites R.kept R.standing R.words page at (at + 42) room.old room.new }
-{
-    let name = entry.name.as_str().as_bytes();
-    room.fill(page, at, name.len() as u64);
-    store_bytes(room, page, at + 1, name);
-    room.fill(page, at + 9, kind_number(entry.kind));
-    room.fill(page, at + 10, entry.root);
+    version
 }
 
 /// Writes a version page that was taken: the words that it uses, and no others.
@@ -135,6 +55,6 @@ pub(crate) fn store_version<R: Room>(room: &mut R, page: u64, version: &Version)
     room.fill(page, 2, version.next);
     room.fill(page, 3, version.catalog);
     for i in 0..version.entries.len() {
-        store_entry(room, page, 4 + 11 * i, &version.entries[i]);
+        version.entries[i].store(room, page, 4 + 11 * i);
     }
 }

@@ -1,16 +1,16 @@
-use Rattle.std.proofs.Common.{◌≡◌, ℕ, ◌∙◌, ap, sym, drop, Some, List, true, arith}
+use Rattle.std.proofs.Common.{◌≡◌, ℕ, ◌∙◌, ap, sym, drop, List, true, is_some, arith}
 use Rattle.std.specs.FinMap as fin
 use Rattle.std.specs.Int.{to_be_bytes, w64}
 use Rattle.std.specs.List.{slice_get}
 use Rattle.be_tree.specs.Cursor.{remaining}
 use Rattle.be_tree.specs.Pair.{Pair}
-use Rattle.be_tree.specs.Range.{pairs_from, pair_in}
+use Rattle.be_tree.specs.Range.{pairs_from}
 use Rattle.be_tree.specs.Tree.{pairs}
 use Rattle.be_tree.proofs.Frame.{unchanged_trans}
 use Rattle.be_tree.proofs.Trees.{tree_rising}
 use Rattle.be_volume.specs.Maps.{attributes_of}
 use Rattle.be_paged.specs.Reading.{front}
-use Rattle.be_paged.proofs.Walks.{at_end, not_end, drop_next, counted, cursor_since}
+use Rattle.be_paged.proofs.Walks.{none_left, one_left, drop_next, counted, cursor_since}
 use Rattle.be_paged.proofs.attributes.attribute_count.Goals as goal
 
 pub loop-count-preserved : goal.loop-count-preserved
@@ -19,22 +19,22 @@ loop-count-preserved g c =
     let mid = g.L.Look.words c.loop-count.look in
     let node = c.args.node in
     let all = front node (pairs_from (pairs v c.args.catalog) (to_be_bytes w64 node) true) in
-    let step = c.next_attribute.ensures.unchanged in
-    let some : slice_get (drop c.loop-count.count all) 0 ≡ Some (pair_in c.in-Some.field-0) = ap (λ (xs : List Pair). slice_get xs 0) (sym c.loop-count.invariant.rest) ∙ sym c.in-Some.ensures.item in
+    let step = c.pass_attribute.ensures.unchanged in
+    let some : is_some (slice_get (drop c.loop-count.count all) 0) ≡ true = ap (λ (xs : List Pair). is_some (slice_get xs 0)) (sym c.loop-count.invariant.rest) ∙ sym c.pass_attribute.ensures.found ∙ c.if-not-pass_attribute.false in
     record {
-      cursor = cursor_since (g.L.Look.standing c.loop-count.look) (g.L.Look.standing c.next_attribute.new.look) mid (g.L.Look.words c.next_attribute.new.look) c.next_attribute.new.cursor step.standing step.words c.next_attribute.ensures.cursor;
-      rest = ap (λ (w : ℕ → ℕ → ℕ). front node (remaining w c.next_attribute.new.cursor)) step.words ∙ c.in-Some.ensures.rest ∙ ap (λ (xs : List Pair). drop 1 xs) c.loop-count.invariant.rest ∙ drop_next all c.loop-count.count;
-      passed = omega (arith, not_end all c.loop-count.count (pair_in c.in-Some.field-0) some);
-      unchanged = unchanged_trans g.L.Look.kept g.L.Look.standing g.L.Look.words c.args.look.now c.loop-count.look c.next_attribute.new.look c.loop-count.invariant.unchanged step;
+      cursor = cursor_since (g.L.Look.standing c.loop-count.look) (g.L.Look.standing c.pass_attribute.new.look) mid (g.L.Look.words c.pass_attribute.new.look) c.pass_attribute.new.cursor step.standing step.words c.pass_attribute.ensures.cursor;
+      rest = ap (λ (w : ℕ → ℕ → ℕ). front node (remaining w c.pass_attribute.new.cursor)) step.words ∙ c.pass_attribute.ensures.rest c.if-not-pass_attribute.false ∙ ap (λ (xs : List Pair). drop 1 xs) c.loop-count.invariant.rest ∙ drop_next all c.loop-count.count;
+      passed = omega (arith, one_left all c.loop-count.count some);
+      unchanged = unchanged_trans g.L.Look.kept g.L.Look.standing g.L.Look.words c.args.look.now c.loop-count.look c.pass_attribute.new.look c.loop-count.invariant.unchanged step;
     }
 
-pub returns-in_default-clause-count : goal.returns-in_default-clause-count
-returns-in_default-clause-count g c = λ nodes catalog valid few.
+pub returns-then-not-pass_attribute-clause-count : goal.returns-then-not-pass_attribute-clause-count
+returns-then-not-pass_attribute-clause-count g c = λ nodes catalog valid few.
     let v = g.L.Look.words c.args.look.now in
     let node = c.args.node in
     let all = front node (pairs_from (pairs v c.args.catalog) (to_be_bytes w64 node) true) in
     let rising = tree_rising (g.L.Look.standing c.args.look.now) v c.args.catalog c.requires.tree in
-    at_end all c.loop-count.count c.loop-count.invariant.passed (ap (λ (xs : List Pair). slice_get xs 0) (sym c.loop-count.invariant.rest) ∙ sym c.in_default.ensures.item)
+    none_left all c.loop-count.count c.loop-count.invariant.passed (ap (λ (xs : List Pair). is_some (slice_get xs 0)) (sym c.loop-count.invariant.rest) ∙ sym c.pass_attribute.ensures.found ∙ c.if-not-pass_attribute.true)
     ∙ counted (pairs v c.args.catalog) nodes node c.ranges.node.fits rising catalog valid ∙ sym (fin.len-entries (attributes_of nodes node))
 
 pub returns-clause-count : goal.returns-clause-count

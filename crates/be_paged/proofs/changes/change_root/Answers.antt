@@ -11,25 +11,25 @@ use Rattle.be_paged.proofs.Composing.{tree_read, start_since}
 use Rattle.be_paged.proofs.Repairs.{taken, entered, stands, Leaves, HasNone, seen_some, seen_none, seen_at}
 use Rattle.be_paged.proofs.changes.change_root.Goals as goal
 
-pub returns-then-holds_key-clause-swaps : goal.returns-then-holds_key-clause-swaps
-returns-then-holds_key-clause-swaps g c = (tree_read g.R.Look.kept g.R.Look.standing g.R.Look.words c.args.root c.args.room.now c.holds_key.new.look c.holds_key.ensures.unchanged c.requires.tree).swaps
+pub returns-then-holds_both-clause-swaps : goal.returns-then-holds_both-clause-swaps
+returns-then-holds_both-clause-swaps g c = (tree_read g.R.Look.kept g.R.Look.standing g.R.Look.words c.args.root c.args.room.now c.holds_both.new.look c.holds_both.ensures.unchanged c.requires.tree).swaps
 
-pub returns-then-holds_key-clause-keys : goal.returns-then-holds_key-clause-keys
-returns-then-holds_key-clause-keys g c = λ index h ready.
-    let found = c.holds_key.ensures.found c.if-holds_key.true in
+pub returns-then-holds_both-clause-keys : goal.returns-then-holds_both-clause-keys
+returns-then-holds_both-clause-keys g c = λ index h ready.
+    let found = c.holds_both.ensures.found c.if-holds_both.true in
     let leaves = seen_at (Leaves c.args.kind c.args.node c.args.new.now) _ found.0 (seen_some (λ k. k.items) (Leaves c.args.kind c.args.node c.args.new.now) c.key_in-enters.result c.key_in-enters.ensures.some) found.1 in
-    subst (λ (w : ℕ → ℕ → ℕ). IsIndexOf (pairs w c.args.root) (repaired index c.args.node c.args.new.now)) (sym c.holds_key.ensures.unchanged.words)
+    subst (λ (w : ℕ → ℕ → ℕ). IsIndexOf (pairs w c.args.root) (repaired index c.args.node c.args.new.now)) (sym c.holds_both.ensures.unchanged.words)
     (stands index c.args.kind c.args.node c.args.old.now c.ranges.node.fits ready (pairs (g.R.Look.words c.args.room.now) c.args.root) found.0 c.args.new.now leaves ready.indexable found.2 h)
 
 pub returns-clause-swaps : goal.returns-clause-swaps
 returns-clause-swaps g c =
     let w = g.R.Look.words in
-    let read = c.holds_key.new.look in
+    let read = c.holds_both.new.look in
     let mid = c.take_key.new.room in
     let new = c.put_key.new.room in
-    let first = swaps_since g.R.Look.kept g.R.Look.standing g.R.Look.words (pages (w read) c.args.root) (pages (w mid) c.in_ok-rest.rest) c.args.room.now read mid c.holds_key.ensures.unchanged c.in_ok-rest.ensures.ok.swaps in
+    let first = swaps_since g.R.Look.kept g.R.Look.standing g.R.Look.words (pages (w read) c.args.root) (pages (w mid) c.in_ok-rest.rest) c.args.room.now read mid c.holds_both.ensures.unchanged c.in_ok-rest.ensures.ok.swaps in
     swaps_trans g.R.Look.kept g.R.Look.standing g.R.Look.words (pages (w c.args.room.now) c.args.root) (pages (w mid) c.in_ok-rest.rest) (pages (w new) c.in_ok-last.last) c.args.room.now mid new
-    (subst (λ (v : ℕ → ℕ → ℕ). Swaps g.R.Look.kept g.R.Look.standing g.R.Look.words (pages v c.args.root) (pages (w mid) c.in_ok-rest.rest) c.args.room.now mid) c.holds_key.ensures.unchanged.words first)
+    (subst (λ (v : ℕ → ℕ → ℕ). Swaps g.R.Look.kept g.R.Look.standing g.R.Look.words (pages v c.args.root) (pages (w mid) c.in_ok-rest.rest) c.args.room.now mid) c.holds_both.ensures.unchanged.words first)
     c.in_ok-last.ensures.ok.swaps
 
 pub returns-clause-keys : goal.returns-clause-keys
@@ -42,7 +42,7 @@ returns-clause-keys g c = λ index h ready.
     let enters = option_map (λ k. k.items) c.key_in-enters.result in
     let out = taken index kind node c.args.old.now c.ranges.node.fits ready items leaves (seen_some (λ k. k.items) (Leaves kind node c.args.old.now) c.key_in-leaves.result c.key_in-leaves.ensures.some)
     (seen_none (λ k. k.items) (HasNone kind c.args.old.now) c.key_in-leaves.result c.key_in-leaves.ensures.none) h in
-    let mid = c.in_ok-rest.ensures.ok.has_pairs ∙ ap (λ (v : ℕ → ℕ → ℕ). key_taken leaves (pairs v c.args.root)) c.holds_key.ensures.unchanged.words in
+    let mid = c.in_ok-rest.ensures.ok.has_pairs ∙ ap (λ (v : ℕ → ℕ → ℕ). key_taken leaves (pairs v c.args.root)) c.holds_both.ensures.unchanged.words in
     let rest = subst (λ (xs : List Pair). IsIndexOf xs (unpaired index node)) (sym mid) out in
     subst (λ (xs : List Pair). IsIndexOf xs (repaired index node c.args.new.now)) (sym c.in_ok-last.ensures.ok.has_pairs)
     (entered index kind node c.args.old.now c.ranges.node.fits ready (pairs (w c.take_key.new.room) c.in_ok-rest.rest) enters c.args.new.now
@@ -51,13 +51,13 @@ returns-clause-keys g c = λ index h ready.
 
 pub returns-in_err-rest-clause-err : goal.returns-in_err-rest-clause-err
 returns-in_err-rest-clause-err g c =
-    let k = start_since g.R.Look.kept g.R.Look.standing g.R.Look.words c.args.room.now c.holds_key.new.look c.take_key.new.room c.holds_key.ensures.unchanged c.in_err-rest.ensures.err in
+    let k = start_since g.R.Look.kept g.R.Look.standing g.R.Look.words c.args.room.now c.holds_both.new.look c.take_key.new.room c.holds_both.ensures.unchanged c.in_err-rest.ensures.err in
     search (rules, k)
 
 pub returns-in_err-last-clause-err : goal.returns-in_err-last-clause-err
 returns-in_err-last-clause-err g c =
     let mid = c.take_key.new.room in
-    let more = start_trans g.R.Look.kept g.R.Look.standing g.R.Look.words c.holds_key.new.look mid c.put_key.new.room
-    (swaps_start g.R.Look.kept g.R.Look.standing g.R.Look.words _ _ c.holds_key.new.look mid c.in_ok-rest.ensures.ok.swaps) c.in_err-last.ensures.err in
-    let k = start_since g.R.Look.kept g.R.Look.standing g.R.Look.words c.args.room.now c.holds_key.new.look c.put_key.new.room c.holds_key.ensures.unchanged more in
+    let more = start_trans g.R.Look.kept g.R.Look.standing g.R.Look.words c.holds_both.new.look mid c.put_key.new.room
+    (swaps_start g.R.Look.kept g.R.Look.standing g.R.Look.words _ _ c.holds_both.new.look mid c.in_ok-rest.ensures.ok.swaps) c.in_err-last.ensures.err in
+    let k = start_since g.R.Look.kept g.R.Look.standing g.R.Look.words c.args.room.now c.holds_both.new.look c.put_key.new.room c.holds_both.ensures.unchanged more in
     search (rules, k)

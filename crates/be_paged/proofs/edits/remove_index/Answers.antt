@@ -1,9 +1,9 @@
-use Rattle.std.proofs.Common.{suc, [], List, take, drop, get_or, sym, subst, refl}
+use Rattle.std.proofs.Common.{ℕ, suc, [], List, take, drop, get_or, ap, sym, subst, ◌∙◌, refl}
 use Rattle.be_pages.specs.Pages.{Swaps}
 use Rattle.be_tree.specs.Tree.{IsTree, pages}
 use Rattle.be_volume.specs.declared.ops.Op.TheVariants.{RmIndex}
 use Rattle.be_volume.specs.declared.ops.Done.TheVariants.{Unit as Nothing}
-use Rattle.be_paged.specs.declared.version.Entry.{Entry}
+use Rattle.be_paged.specs.Entry.{Entry}
 use Rattle.be_paged.specs.Changes.{Changes, Steps}
 use Rattle.be_paged.specs.Page.{IsNamedAt, IsGapAt, contents}
 use Rattle.be_paged.proofs.Composing.{changes_none}
@@ -16,7 +16,7 @@ pub clear-requires-clause-tree : goal.clear-requires-clause-tree
 clear-requires-clause-tree g c =
     let es = c.args.version.now.entries.items in
     let at : IsNamedAt es c.args.name.now c.in-Ok.at = subst (λ (xs : List Entry). IsNamedAt xs c.args.name.now c.in-Ok.at) c.deref.ensures.0 c.in-Ok.ensures.found in
-    subst (λ (e : Entry). IsTree (g.R.Look.standing c.args.room.now) (g.R.Look.words c.args.room.now) e.root) (sym c.remove-entry.ensures.value)
+    subst (λ (r : ℕ). IsTree (g.R.Look.standing c.args.room.now) (g.R.Look.words c.args.room.now) r) (sym (c.root.ensures ∙ ap (λ (e : Entry). e.root) c.remove-entry.ensures.value))
     (entry_tree (g.R.Look.standing c.args.room.now) (g.R.Look.words c.args.room.now) (contents c.args.version.now) c.in-Ok.at c.remove-entry.result c.requires.in_hand at.in_range)
 
 pub returns-in-Ok-clause-changes : goal.returns-in-Ok-clause-changes
@@ -28,7 +28,7 @@ returns-in-Ok-clause-changes g c =
     let i = c.in-Ok.at in
     let d = c.remove-entry.result in
     let e : Entry = record { name = (get_or es i d).name; kind = (get_or es i d).kind; root = 0 } in
-    let swaps = subst (λ (x : Entry). Swaps g.R.Look.kept g.R.Look.standing g.R.Look.words (pages (w c.args.room.now) x.root) [] c.args.room.now c.clear.new.room) c.remove-entry.ensures.value c.clear.ensures.pages in
+    let swaps = subst (λ (r : ℕ). Swaps g.R.Look.kept g.R.Look.standing g.R.Look.words (pages (w c.args.room.now) r) [] c.args.room.now c.clear.new.room) (c.root.ensures ∙ ap (λ (x : Entry). x.root) c.remove-entry.ensures.value) c.clear.ensures.pages in
     let emptied = entry_changes g.R.Look.kept g.R.Look.standing g.R.Look.words c.args.room.now c.clear.new.room before c.requires.in_hand i e d at.in_range tt swaps (c.requires.in_hand.named i d at.in_range) in
     let left = left_changes g.R.Look.kept g.R.Look.standing g.R.Look.words c.args.room.now c.clear.new.room before before.next before.catalog (take i es) (drop (suc i) es) e refl emptied in
     subst (λ (xs : List Entry). Changes {K = g.R.Look.Kept} g.R.Look.kept g.R.Look.standing g.R.Look.words before (record { next = before.next; catalog = before.catalog; entries = xs }) c.args.room.now c.clear.new.room) (sym c.remove-entry.ensures.items) left

@@ -1,12 +1,18 @@
-use Rattle.std.proofs.Common.{List, ◌∙◌, ap, sym, map, Ok}
+use Rattle.std.proofs.Common.{List, All, ◌∙◌, ap, sym, subst, map, Ok}
 use Rattle.std.specs.FinMap as fin
-use Rattle.be_paged.specs.declared.version.Entry.{Entry}
+use Rattle.be_volume.specs.Sound.{IsName}
+use Rattle.be_paged.specs.Entry.{Entry}
 use Rattle.be_paged.specs.Page.{Contents, contents_of}
 use Rattle.be_paged.proofs.Indexing.{kinds_are, listed_entry}
 use Rattle.be_paged.proofs.reading.indices.Goals as goal
 
 abbrev entries_of : Contents → List Entry
 entries_of d = d.entries
+
+pub kinds-requires : goal.kinds-requires
+kinds-requires g c = record {
+  named = subst (λ (es : List Entry). All (λ e. IsName e.name) es) (sym (c.deref.ensures.0 ∙ ap entries_of c.load_version-version.ensures.contents)) c.requires.version.1.in_hand.named;
+}
 
 pub returns-clause-answer : goal.returns-clause-answer
 returns-clause-answer g c = λ volume version.

@@ -10,18 +10,20 @@ loop-i-preserved g c =
     let same = ap (λ (h : ℕ → ℕ → ℕ). entry_at (h c.args.page) (place_of c.loop-i.i)) c.loop-i.invariant.unchanged.words in
     record {
       entries = c.push.ensures.items
-          ∙ ap (λ xs. xs ++ c.load_entry.result ∷ []) c.loop-i.invariant.entries
-          ∙ ap (λ x. map entry_of (range_with_len 0 c.loop-i.i) ++ x ∷ []) (c.load_entry.ensures.entry ∙ same)
+          ∙ ap (λ xs. xs ++ c.load.result ∷ []) c.loop-i.invariant.entries
+          ∙ ap (λ x. map entry_of (range_with_len 0 c.loop-i.i) ++ x ∷ []) (c.load.ensures.entry ∙ same)
           ∙ sym (map-range_with_len_more entry_of 0 c.loop-i.i c.loop-i.i (omega arith));
       len = omega arith;
+      next = c.loop-i.invariant.next;
+      catalog = c.loop-i.invariant.catalog;
       unchanged = record {
-        kept = c.load_entry.ensures.unchanged.kept ∙ c.loop-i.invariant.unchanged.kept;
-        standing = c.load_entry.ensures.unchanged.standing ∙ c.loop-i.invariant.unchanged.standing;
-        words = c.load_entry.ensures.unchanged.words ∙ c.loop-i.invariant.unchanged.words;
+        kept = c.load.ensures.unchanged.kept ∙ c.loop-i.invariant.unchanged.kept;
+        standing = c.load.ensures.unchanged.standing ∙ c.loop-i.invariant.unchanged.standing;
+        words = c.load.ensures.unchanged.words ∙ c.loop-i.invariant.unchanged.words;
       };
     }
 
-pub load_entry-requires-clause-entry : goal.load_entry-requires-clause-entry
-load_entry-requires-clause-entry g c =
+pub load-requires-clause-entry : goal.load-requires-clause-entry
+load-requires-clause-entry g c =
     subst (λ (h : ℕ → ℕ → ℕ). IsEntry (h c.args.page) (place_of c.loop-i.i)) (sym c.loop-i.invariant.unchanged.words)
     (c.requires.page.each c.loop-i.i (omega (arith, c.loop-i-test.true, ap (λ (h : ℕ → ℕ → ℕ). h c.args.page 1) c.word-next.ensures.words)))

@@ -6,7 +6,9 @@ use Rattle.be_paged.proofs.version.load_version.Given as goal
 
 abbrev pub invariant-loop-i : goal.invariant-loop-i
 invariant-loop-i g l = record {
-  entries : l.entries.items ≡ map (λ k. entry_at (g.L.Look.words l.fn.look l.page) (place_of k)) (range_with_len 0 l.i);
-  len : length l.entries.items ≡ l.i;
+  entries : l.version.entries.items ≡ map (λ k. entry_at (g.L.Look.words l.fn.look l.page) (place_of k)) (range_with_len 0 l.i);
+  len : length l.version.entries.items ≡ l.i;
+  next : l.version.next ≡ g.L.Look.words l.fn.look l.page 2;
+  catalog : l.version.catalog ≡ g.L.Look.words l.fn.look l.page 3;
   unchanged : IsUnchanged g.L.Look.kept g.L.Look.standing g.L.Look.words l.fn.look l.look;
 }

@@ -4,19 +4,19 @@ use Rattle.std.proofs.lemmas.List.FromFn.{fill_by_all}
 use Rattle.std.proofs.lemmas.Bool.{cases_lt}
 use Rattle.be_value.specs.declared.values.Kind.TheVariants as kinds
 use Rattle.be_volume.specs.Sound.{IsName}
-use Rattle.be_paged.specs.declared.version.Entry.{Entry}
-use Rattle.be_paged.specs.Page.{entry_at, place_of}
-use Rattle.be_paged.proofs.Codec.{entry_at_same, same_contents}
+use Rattle.be_paged.specs.Entry.{Entry}
+use Rattle.be_paged.specs.Page.{entry_at, place_of, IsEntry}
+use Rattle.be_paged.proofs.Codec.{entry_at_same, is_entry_same, same_contents}
 use Rattle.be_paged.proofs.version.store_version.Goals as goal
 
 pub loop-i-preserved : goal.loop-i-preserved
 loop-i-preserved g c =
     let v = g.R.Look.words c.loop-i.room c.args.page in
-    let w = g.R.Look.words c.store_entry.new.room c.args.page in
-    let only = c.store_entry.ensures.only in
+    let w = g.R.Look.words c.store.new.room c.args.page in
+    let only = c.store.ensures.only in
     let i = c.loop-i.i in
-    let this = λ (d : Entry). c.store_entry.ensures.entry ∙ (c.index-deref-i.is ∙ ap (λ (xs : List Entry). get_or xs i c.index-deref-i.result) c.deref.ensures.0 ∙ get_or_default c.args.version.now.entries.items i _ d (omega (arith, c.loop-i-test.true))) in
-    let same = λ (k : ℕ) (below : k < i). entry_at_same v w (place_of k) (c.loop-i.invariant.short k below) (λ j ge up. only.before j (omega arith)) in
+    let this = λ (d : Entry). c.store.ensures.stored ∙ (c.index-deref-i.is ∙ ap (λ (xs : List Entry). get_or xs i c.index-deref-i.result) c.deref.ensures.0 ∙ get_or_default c.args.version.now.entries.items i _ d (omega (arith, c.loop-i-test.true))) in
+    let same = λ (k : ℕ) (below : k < i). entry_at_same v w (place_of k) (c.loop-i.invariant.each k below).short (λ j ge up. only.before j (omega arith)) in
     record {
       tag = only.before 0 (omega arith) ∙ c.loop-i.invariant.tag;
       count = only.before 1 (omega arith) ∙ c.loop-i.invariant.count;
@@ -28,17 +28,11 @@ loop-i-preserved g c =
             let e : i ≡ k = omega arith in
             subst (λ n. entry_at w (place_of n) ≡ get_or c.args.version.now.entries.items n d) e (this d)
       ];
-      short = λ k lt. elim (cases_lt k i) [
-        | inl below ↦ subst (λ n. n ≤ 63) (sym (only.before (place_of k) (omega arith))) (c.loop-i.invariant.short k below)
+      each = λ k lt. elim (cases_lt k i) [
+        | inl below ↦ is_entry_same v w (place_of k) (λ j ge up. only.before j (omega arith)) (c.loop-i.invariant.each k below)
         | inr above ↦
             let e : i ≡ k = omega arith in
-            subst (λ n. w (place_of n) ≤ 63) e c.store_entry.ensures.short
-      ];
-      kinds = λ k lt. elim (cases_lt k i) [
-        | inl below ↦ subst (λ n. (1 ≤ n) × (n ≤ 7)) (sym (only.before (place_of k + 9) (omega arith))) (c.loop-i.invariant.kinds k below)
-        | inr above ↦
-            let e : i ≡ k = omega arith in
-            subst (λ n. (1 ≤ w (place_of n + 9)) × (w (place_of n + 9) ≤ 7)) e c.store_entry.ensures.kind
+            subst (λ n. IsEntry w (place_of n)) e c.store.ensures.entry
       ];
       standing = λ q. only.standing q ∙ c.loop-i.invariant.standing q;
       others = λ q ne. only.others q ne ∙ c.loop-i.invariant.others q ne;
@@ -60,9 +54,5 @@ returns-clause-page g c =
       tag = c.loop-i.invariant.tag;
       few = omega (arith, c.loop-i.invariant.count);
       fits = omega (arith, c.loop-i.invariant.next);
-      each = λ i lt. record {
-        short = c.loop-i.invariant.short i (omega (arith, c.loop-i.invariant.count, c.loop-i-test.false, lt));
-        named = subst (λ (e : Entry). IsName e.name) (sym (c.loop-i.invariant.stored i d (omega (arith, c.loop-i.invariant.count, c.loop-i-test.false, lt)))) (c.requires.named i d (omega (arith, c.loop-i.invariant.count, lt)));
-        kind = c.loop-i.invariant.kinds i (omega (arith, c.loop-i.invariant.count, c.loop-i-test.false, lt));
-      };
+      each = λ i lt. c.loop-i.invariant.each i (omega (arith, c.loop-i.invariant.count, c.loop-i-test.false, lt));
     }

@@ -3,7 +3,7 @@ use Rattle.be_tree.specs.Cursor.{remaining}
 use Rattle.be_tree.specs.Range.{pairs_from}
 use Rattle.be_tree.specs.Tree.{IsTree, pairs}
 use Rattle.be_value.specs.declared.values.Kind.TheVariants as kinds
-use Rattle.be_paged.specs.declared.version.Entry.{Entry}
+use Rattle.be_paged.specs.Entry.{Entry}
 use Rattle.be_paged.specs.Page.{contents}
 use Rattle.be_paged.proofs.SourceKeys.{entry_tree}
 use Rattle.be_paged.proofs.Walks.{cursor_since}

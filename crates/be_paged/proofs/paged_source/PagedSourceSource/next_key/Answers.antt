@@ -4,7 +4,7 @@ use Rattle.be_tree.specs.Range.{pairs_from}
 use Rattle.be_tree.specs.Tree.{pairs}
 use Rattle.be_tree.proofs.Trees.{tree_rising}
 use Rattle.be_value.specs.declared.values.Kind.TheVariants as kinds
-use Rattle.be_paged.specs.declared.version.Entry.{Entry}
+use Rattle.be_paged.specs.Entry.{Entry}
 use Rattle.be_paged.specs.Page.{IsNamedAt, IsGapAt, contents}
 use Rattle.be_paged.proofs.SourceKeys.{entry_tree, no_key, is_next_key, behind_next, answers_since}
 use Rattle.be_paged.proofs.Walks.{cursor_since}
