@@ -22,3 +22,4 @@ pub mod Composing
 pub mod Stepping
 pub mod Standing
 pub mod Versions
+pub mod OneVolume

@@ -74,7 +74,7 @@ fn apply_plain(plain: &mut Volume, ops: &[Op]) -> Result<ArrayVec<Done, 64>, Ref
 }
 
 /// Applies a list to the pages. The plain volume isn't asked: it tells which volume they spell.
-fn apply_pages(
+pub(crate) fn apply_pages(
     _plain: &Volume,
     room: &mut VecRoom,
     page: u64,
@@ -92,7 +92,7 @@ fn apply_pages(
 }
 
 /// Applies a list to the plain volume, which has to answer so.
-fn accepts(plain: &mut Volume, ops: &[Op], dones: &[Done]) -> Result<(), Fail>
+pub(crate) fn accepts(plain: &mut Volume, ops: &[Op], dones: &[Done]) -> Result<(), Fail>
     requires some { 1 ≤ length ops.now }
     requires few { length ops.now ≤ 64 }
     requires fits { plain.old.next + 64 < 2 ^ 64 }

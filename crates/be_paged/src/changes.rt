@@ -2,7 +2,7 @@
 //!
 //! An attribute and its pair in an index change one after the other. Between the two the contents spell a volume of which an index says other
 //! than the attribute, so what is kept from one change to the next is that the trees stand, apart from what they say.
-ghost use Rattle.std.specs.Prelude.{◌≡◌, ℕ, ◌+◌, ◌≤◌, length, IsTrue, IfOk, IfErr, OnOk, OnErr, IfSome, IfNone, Some, option_map, true, is_some, List};
+ghost use Rattle.std.specs.Prelude.{◌≡◌, ℕ, ◌+◌, ◌<◌, ◌≤◌, length, IsTrue, IfOk, IfErr, OnOk, OnErr, IfSome, IfNone, Some, option_map, true, is_some, List};
 ghost use Rattle.be_value.specs.Key.{key, IsValue};
 ghost use Rattle.be_value.specs.Value.{kind_of as kind_in, is_indexable};
 ghost use Rattle.be_value.specs.declared.values.Value.{Value as AnyValue};
@@ -16,10 +16,11 @@ ghost use Rattle.be_volume.specs.Volume.{State};
 ghost use Rattle.be_volume.specs.declared.maps.Index.{Index as AnyIndex};
 ghost use Rattle.be_paged.specs.Catalog.{IsIndexOf};
 ghost use Rattle.be_paged.specs.Changes.{Changes, IsReady, repaired, with_indices, key_taken, key_put};
-ghost use Rattle.be_paged.specs.Page.{contents};
+ghost use Rattle.be_paged.specs.Page.{contents, IsNamedAt};
 ghost use Rattle.be_paged.specs.Version.{IsInHand, Spells};
 
 use crate::entries::{index_at, search, set_root};
+use crate::reading::value_in;
 use crate::version::Version;
 use arrayvec::ArrayVec;
 use be_pages::{Look, Room};
@@ -127,19 +128,45 @@ fn change_root<R: Room>(
     Ok(last)
 }
 
-/// Changes the node's pair in the index of a name, if there is one.
+/// Changes the node's pair in the index at a place.
+fn change_at<R: Room>(
+    room: &mut R,
+    version: &mut Version,
+    at: usize,
+    node: u64,
+    old: &Option<Value>,
+    new: &Option<Value>,
+) -> Result<(), Refusal>
+    requires in_hand { IsInHand (R.standing room.old) (R.words room.old) (contents version.old) }
+    requires in_range { at < length version.old.entries.items }
+    requires open { IsTrue (R.is_open (R.kept room.old)) }
+    ensures changes { OnOk result (Changes R.kept R.standing R.words (contents version.old) (contents version.new) room.old room.new) }
+    ensures spells { OnOk result ((volume : State) (name : List ℕ) → IsNamedAt version.old.entries.items name at →
+        Spells (R.words room.old) (contents version.old) volume → IsSound volume → old.now ≡ attribute volume node name →
+        Spells (R.words room.new) (contents version.new) (with_indices volume name node new.now)) }
+    ensures catalog { OnOk result (version.new.catalog ≡ version.old.catalog) }
+    ensures next { OnOk result (version.new.next ≡ version.old.next) }
+    ensures err { OnErr result (KeepsStart R.kept R.standing R.words room.old room.new) }
+    ensures full { IfErr result (IsFullOf (R.full room.new)) }
+{
+    let (kind, root) = index_at(&version.entries, at);
+    let changed = change_root(room, root, kind, node, old, new)?;
+    set_root(&mut version.entries, at, changed);
+    Ok(())
+}
+
+/// Changes the node's pair in the index of a name, if there is one. The value that the node has is read only then.
 pub(crate) fn change_entry<R: Room>(
     room: &mut R,
     version: &mut Version,
     node: u64,
     name: &Name,
-    old: &Option<Value>,
     new: &Option<Value>,
 ) -> Result<(), Refusal>
     requires in_hand { IsInHand (R.standing room.old) (R.words room.old) (contents version.old) }
     requires open { IsTrue (R.is_open (R.kept room.old)) }
     ensures changes { OnOk result (Changes R.kept R.standing R.words (contents version.old) (contents version.new) room.old room.new) }
-    ensures spells { OnOk result ((volume : State) → Spells (R.words room.old) (contents version.old) volume → IsSound volume → old.now ≡ attribute volume node name.now →
+    ensures spells { OnOk result ((volume : State) → Spells (R.words room.old) (contents version.old) volume → IsSound volume →
         Spells (R.words room.new) (contents version.new) (with_indices volume name.now node new.now)) }
     ensures catalog { OnOk result (version.new.catalog ≡ version.old.catalog) }
     ensures next { OnOk result (version.new.next ≡ version.old.next) }
@@ -149,8 +176,7 @@ pub(crate) fn change_entry<R: Room>(
     let Ok(at) = search(&version.entries, name) else {
         return Ok(());
     };
-    let (kind, root) = index_at(&version.entries, at);
-    let changed = change_root(room, root, kind, node, old, new)?;
-    set_root(&mut version.entries, at, changed);
+    let old = value_in(room, version.catalog, node, name);
+    change_at(room, version, at, node, &old, new)?;
     Ok(())
 }

@@ -17,7 +17,6 @@ use crate::catalog::{catalog_key, payload_of};
 use crate::changes::change_entry;
 use crate::entries::search;
 use crate::entry::Entry;
-use crate::reading::value_in;
 use crate::version::Version;
 use arrayvec::ArrayVec;
 use be_pages::Room;
@@ -66,8 +65,7 @@ fn set_value<R: Room>(
     ensures err { OnErr result (KeepsStart R.kept R.standing R.words room.old room.new) }
     ensures full { IfErr result (IsFullOf (R.full room.new)) }
 {
-    let old = value_in(room, version.catalog, node, name);
-    change_entry(room, version, node, name, &old, &Some(value.copy()))?;
+    change_entry(room, version, node, name, &Some(value.copy()))?;
     let key = catalog_key(node, name);
     version.catalog = insert(room, version.catalog, &key, &payload_of(value))?;
     Ok(Done::Unit)
@@ -89,8 +87,7 @@ fn unset_value<R: Room>(
     ensures err { OnErr result (KeepsStart R.kept R.standing R.words room.old room.new) }
     ensures full { IfErr result (IsFullOf (R.full room.new)) }
 {
-    let old = value_in(room, version.catalog, node, name);
-    change_entry(room, version, node, name, &old, &None)?;
+    change_entry(room, version, node, name, &None)?;
     let key = catalog_key(node, name);
     version.catalog = remove(room, version.catalog, &key)?;
     Ok(Done::Unit)

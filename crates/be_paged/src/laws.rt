@@ -1,4 +1,4 @@
-//! What becomes of versions when a write is undone or kept.
+//! What becomes of versions when a write is undone or kept, and that a page tells which volume it spells.
 //!
 //! Each law is a function that does nothing and whose contract is the law, so a caller gets it by a call.
 ghost use Rattle.std.specs.Prelude.{◌≡◌, ℕ};
@@ -20,4 +20,10 @@ pub fn version_undone()
 pub fn version_kept()
     ensures { (standing kept : ℕ → Stands) (words : ℕ → ℕ → ℕ) (page : ℕ) (volume : State) → ((q : ℕ) → kept q ≡ after_keep (standing q))
         → IsVersion standing words page volume → IsVersion kept words page volume }
+{}
+
+/// One page spells one volume: a reader of its words can find no other.
+#[tactic(auto, using(crate::proofs::OneVolume::one_volume))]
+pub fn one_volume()
+    ensures { (standing other : ℕ → Stands) (words : ℕ → ℕ → ℕ) (page : ℕ) (a b : State) → IsVersion standing words page a → IsVersion other words page b → a ≡ b }
 {}

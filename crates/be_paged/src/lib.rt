@@ -38,6 +38,8 @@ mod both;
 #[cfg(test)]
 mod lines;
 #[cfg(test)]
+mod look_tests;
+#[cfg(test)]
 mod random_lists;
 #[cfg(test)]
 mod test_looks;

@@ -1,5 +1,5 @@
-//! Readers for tests: one that counts, and one that sees the room as it was when its write began.
-use be_pages::{Look, VecRoom};
+//! Readers for tests: one that counts its calls, and one that sees the room as it was when its write began.
+use be_pages::Look;
 
 /// A reader that counts its calls. Its facts are those of the reader that it owns.
 #[derive(Drop)]
@@ -23,6 +23,35 @@ impl<L: Look> Look for Counting<L> {
 
     fn word(&mut self, page: u64, i: usize) -> u64 {
         self.reads = self.reads.wrapping_add(1);
+        self.look.word(page, i)
+    }
+}
+
+/// A reader as it was when the open write began. What the write gave up can be read, and what it took can't.
+#[derive(Drop)]
+pub(crate) struct Before<L> {
+    pub look: L,
+}
+
+impl<L: Look> Look for Before<L> {
+    ghost use Rattle.std.specs.Prelude.{ℕ};
+    ghost use Rattle.std.proofs.Common.{ap};
+    ghost use Rattle.be_pages.specs.Pages.{after_undo};
+    ghost use Rattle.be_pages.specs.declared.room.Standing.{Standing as Stands};
+
+    ghost Kept = { L.Kept × (ℕ → Stands) };
+
+    ghost kept = { λ b. (L.kept b.look, L.standing b.look) };
+
+    ghost is_open = { λ k. L.is_open k.0 };
+
+    ghost standing = { λ b q. after_undo (L.standing b.look q) };
+
+    ghost words = { λ b. L.words b.look };
+
+    ghost pages_small = { λ b q some. L.pages_small b.look q (λ free. some (ap after_undo free)) };
+
+    fn word(&mut self, page: u64, i: usize) -> u64 {
         self.look.word(page, i)
     }
 }

@@ -13,10 +13,9 @@ use crate::both::{
 use crate::lines::{
     are_indices, is_answer, is_attribute, is_list, is_number, is_written, read_number, read_ops,
 };
-use crate::test_looks::Counting;
 use be_pages::{Look, VecRoom};
 use be_value::Name;
-use be_volume::Volume;
+use be_volume::{Op, Volume};
 use std::alloc::Global;
 use std::test::Fail;
 
@@ -83,7 +82,7 @@ fn expect_indices<L: Look>(
 }
 
 /// Fails unless both forms give this answer to a query. Gives the look as it was.
-fn expect_nodes<L: Look + Drop>(
+pub(crate) fn expect_nodes<L: Look + Drop>(
     alloc: Global,
     plain: &Volume,
     look: L,
@@ -193,7 +192,7 @@ fn reply(alloc: Global, both: Both, request: &str, expected: &str) -> Result<Bot
 }
 
 /// Does the requests, and gives what stands then.
-fn run_lines(alloc: Global, both: Both, lines: &str) -> Result<Both, Fail>
+pub(crate) fn run_lines(alloc: Global, both: Both, lines: &str) -> Result<Both, Fail>
     requires version { IsVersion (⟦<VecRoom as Look>⟧.standing both.room) (⟦<VecRoom as Look>⟧.words both.room) both.page both.plain }
     requires start { IsWriteStart (⟦<VecRoom as Look>⟧.standing both.room) }
     ensures version { IfOk result (λ r. IsVersion (⟦<VecRoom as Look>⟧.standing r.room) (⟦<VecRoom as Look>⟧.words r.room) r.page r.plain) }
@@ -320,4 +319,37 @@ query k>=5 => nodes 3
 attrs 3 => k LONG 7
 free => 61";
     runs(rt.alloc(), 64, lines)
+}
+
+/// Makes nodes, one list after the other, until one is refused. Gives how many there are.
+fn make_nodes(both: Both, most: u64) -> Result<(Both, u64), Fail>
+    requires version { IsVersion (⟦<VecRoom as Look>⟧.standing both.room) (⟦<VecRoom as Look>⟧.words both.room) both.page both.plain }
+    requires start { IsWriteStart (⟦<VecRoom as Look>⟧.standing both.room) }
+    ensures version { IfOk result (λ r. IsVersion (⟦<VecRoom as Look>⟧.standing r.0.room) (⟦<VecRoom as Look>⟧.words r.0.room) r.0.page r.0.plain) }
+    ensures start { IfOk result (λ r. IsWriteStart (⟦<VecRoom as Look>⟧.standing r.0.room)) }
+{
+    let mut both = both;
+    for i in 0..most {
+        let (next, answer) = write(both, &[Op::New])?;
+        both = next;
+        if answer.is_err() {
+            return Ok((both, i));
+        }
+    }
+    Ok((both, most))
+}
+
+// A room of eight pages takes at least 13 nodes and at most 36. Then it is full, which the version page outlives.
+#[test]
+fn smallest_pool(rt: HostRuntime) -> Result<(), Fail> {
+    let (both, made) = make_nodes(both_of(rt.alloc(), 8)?, 37)?;
+    assert!(rt; made >= 13 && made < 37);
+    let lines = "new => refused 11
+get 1 k => none
+attrs 1 => nothing
+indices => nothing
+new;drop 99 => refused 2
+new => refused 11";
+    let _both = run_lines(rt.alloc(), both, lines)?;
+    Ok(())
 }

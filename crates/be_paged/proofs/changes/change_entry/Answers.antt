@@ -1,71 +1,45 @@
-use Rattle.std.proofs.Common.{ℕ, List, [], get_or, ap, sym, subst, ◌∙◌}
-use Rattle.be_value.specs.declared.values.Kind.{Kind}
-use Rattle.be_value.specs.declared.values.Kind.TheVariants as kinds
-use Rattle.be_pages.specs.Pages.{Swaps}
-use Rattle.be_tree.specs.Tree.{IsTree, pairs, pages}
+use Rattle.std.proofs.Common.{ℕ, List, sym, subst, ◌∙◌, rules, arith}
+use Rattle.be_volume.specs.Volume.{State}
 use Rattle.be_paged.specs.Entry.{Entry}
-use Rattle.be_paged.specs.Catalog.{IsIndexOf}
-use Rattle.be_paged.specs.Changes.{Changes, IsReady, repaired, with_change}
 use Rattle.be_paged.specs.Page.{IsNamedAt, IsGapAt, contents}
 use Rattle.be_paged.specs.Version.{Spells}
-use Rattle.be_volume.specs.Indices.{Indices}
-use Rattle.be_paged.proofs.Composing.{changes_none}
-use Rattle.be_paged.proofs.EntryChange.{spells_unindexed, indexed}
-use Rattle.be_paged.proofs.Hand.{entry_changes, entry_spells, replaced}
-use Rattle.be_paged.proofs.SourceKeys.{entry_tree}
+use Rattle.be_paged.proofs.Composing.{changes_none, changes_since, start_since, in_hand_since}
+use Rattle.be_paged.proofs.EntryChange.{spells_unindexed}
+use Rattle.be_paged.proofs.Validity.{values_valid}
 use Rattle.be_paged.proofs.changes.change_entry.Goals as goal
-
-nowhere : Entry
-nowhere = record { name = []; kind = kinds.Cstr; root = 0 }
 
 pub returns-in_default-clause-changes : goal.returns-in_default-clause-changes
 returns-in_default-clause-changes g c = changes_none g.R.Look.kept g.R.Look.standing g.R.Look.words (contents c.args.version.now) c.args.room.now c.requires.in_hand
 
 pub returns-in_default-clause-spells : goal.returns-in_default-clause-spells
-returns-in_default-clause-spells g c = λ volume spells sound value.
+returns-in_default-clause-spells g c = λ volume spells sound.
     spells_unindexed (g.R.Look.words c.args.room.now) (contents c.args.version.now) volume c.args.name.now c.args.node c.in_default.field-0 c.args.new.now spells
     (subst (λ (es : List Entry). IsGapAt es c.args.name.now c.in_default.field-0) c.deref.ensures.0 c.in_default.ensures.absent)
 
-pub change_root-requires-clause-tree : goal.change_root-requires-clause-tree
-change_root-requires-clause-tree g c =
-    let es = c.args.version.now.entries.items in
-    let at : IsNamedAt es c.args.name.now c.in-Ok.at = subst (λ (xs : List Entry). IsNamedAt xs c.args.name.now c.in-Ok.at) c.deref.ensures.0 c.in-Ok.ensures.found in
-    let root = c.index_at-kind.ensures.root nowhere ∙ ap (λ (xs : List Entry). (get_or xs c.in-Ok.at nowhere).root) c.deref-2.ensures.0 in
-    subst (λ (r : ℕ). IsTree (g.R.Look.standing c.args.room.now) (g.R.Look.words c.args.room.now) r) (sym root)
-    (entry_tree (g.R.Look.standing c.args.room.now) (g.R.Look.words c.args.room.now) (contents c.args.version.now) c.in-Ok.at nowhere c.requires.in_hand at.in_range)
+pub value_in-old-requires : goal.value_in-old-requires
+value_in-old-requires g c = record { tree = c.requires.in_hand.trees.each 0 0 (omega arith) }
+
+pub change_at-requires-clause-in_hand : goal.change_at-requires-clause-in_hand
+change_at-requires-clause-in_hand g c =
+    in_hand_since g.R.Look.kept g.R.Look.standing g.R.Look.words (contents c.args.version.now) c.args.room.now c.value_in-old.new.look c.value_in-old.ensures.unchanged c.requires.in_hand
+
+pub change_at-requires-clause-in_range : goal.change_at-requires-clause-in_range
+change_at-requires-clause-in_range g c =
+    let at = subst (λ (xs : List Entry). IsNamedAt xs c.args.name.now c.in-Ok.at) c.deref.ensures.0 c.in-Ok.ensures.found in
+    at.in_range
 
 pub returns-clause-changes : goal.returns-clause-changes
 returns-clause-changes g c =
-    let before = contents c.args.version.now in
-    let es = c.args.version.now.entries.items in
-    let w = g.R.Look.words in
-    let i = c.in-Ok.at in
-    let new = c.change_root.new.room in
-    let at : IsNamedAt es c.args.name.now i = subst (λ (xs : List Entry). IsNamedAt xs c.args.name.now i) c.deref.ensures.0 c.in-Ok.ensures.found in
-    let root = c.index_at-kind.ensures.root nowhere ∙ ap (λ (xs : List Entry). (get_or xs i nowhere).root) c.deref-2.ensures.0 in
-    let e : Entry = record { name = (get_or es i nowhere).name; kind = (get_or es i nowhere).kind; root = c.in_ok-changed.changed } in
-    let swaps = subst (λ (r : ℕ). Swaps g.R.Look.kept g.R.Look.standing g.R.Look.words (pages (w c.args.room.now) r) (pages (w new) c.in_ok-changed.changed) c.args.room.now new) root c.in_ok-changed.ensures.swaps in
-    subst (λ (xs : List Entry). Changes {K = g.R.Look.Kept} g.R.Look.kept g.R.Look.standing g.R.Look.words before (record { next = before.next; catalog = before.catalog; entries = xs }) c.args.room.now new) (sym (c.set_root.ensures nowhere))
-    (entry_changes g.R.Look.kept g.R.Look.standing g.R.Look.words c.args.room.now new before c.requires.in_hand i e nowhere at.in_range c.in_ok-changed.ensures.tree swaps (c.requires.in_hand.named i nowhere at.in_range))
+    changes_since g.R.Look.kept g.R.Look.standing g.R.Look.words (contents c.args.version.now) (contents c.change_at.new.version) c.args.room.now c.value_in-old.new.look c.change_at.new.room c.value_in-old.ensures.unchanged c.in_ok-change_at.ensures.changes
 
 pub returns-clause-spells : goal.returns-clause-spells
-returns-clause-spells g c = λ volume spells sound value.
-    let before = contents c.args.version.now in
-    let es = c.args.version.now.entries.items in
-    let w = g.R.Look.words in
-    let i = c.in-Ok.at in
-    let name = c.args.name.now in
-    let node = c.args.node in
-    let new = c.change_root.new.room in
-    let at : IsNamedAt es name i = subst (λ (xs : List Entry). IsNamedAt xs name i) c.deref.ensures.0 c.in-Ok.ensures.found in
-    let root = c.index_at-kind.ensures.root nowhere ∙ ap (λ (xs : List Entry). (get_or xs i nowhere).root) c.deref-2.ensures.0 in
-    let kind = c.index_at-kind.ensures.kind nowhere ∙ ap (λ (xs : List Entry). (get_or xs i nowhere).kind) c.deref-2.ensures.0 in
-    let e : Entry = record { name = (get_or es i nowhere).name; kind = (get_or es i nowhere).kind; root = c.in_ok-changed.changed } in
-    let swaps = subst (λ (r : ℕ). Swaps g.R.Look.kept g.R.Look.standing g.R.Look.words (pages (w c.args.room.now) r) (pages (w new) c.in_ok-changed.changed) c.args.room.now new) root c.in_ok-changed.ensures.swaps in
-    let ix = indexed (w c.args.room.now) before volume name node i c.args.old.now c.args.new.now spells sound value at in
-    let keys = c.in_ok-changed.ensures.keys ix.index (subst (λ (r : ℕ). IsIndexOf (pairs (w c.args.room.now) r) ix.index) (sym root) (ix.keys nowhere))
-    (subst (λ (k : Kind). IsReady ix.index k node c.args.old.now) (sym kind) (ix.ready nowhere)) in
-    let told = entry_spells g.R.Look.kept g.R.Look.standing g.R.Look.words c.args.room.now new before c.requires.in_hand i e nowhere at.in_range c.in_ok-changed.ensures.tree swaps volume name (repaired ix.index node c.args.new.now)
-    spells at (at.here nowhere) (ix.kind nowhere ∙ ix.kept) keys in
-    subst (λ (xs : List Entry). Spells (w new) (record { next = before.next; catalog = before.catalog; entries = xs }) (record { next = volume.next; nodes = volume.nodes; indices = with_change volume.indices name node c.args.new.now })) (sym (c.set_root.ensures nowhere))
-    (subst (λ (is : Indices). Spells (w new) (record { next = before.next; catalog = before.catalog; entries = replaced es i e }) (record { next = volume.next; nodes = volume.nodes; indices = is })) (sym ix.changed) told)
+returns-clause-spells g c = λ volume spells sound.
+    let at = subst (λ (xs : List Entry). IsNamedAt xs c.args.name.now c.in-Ok.at) c.deref.ensures.0 c.in-Ok.ensures.found in
+    let old = c.value_in-old.ensures.value volume.nodes spells.catalog (values_valid volume sound) in
+    let read = subst (λ (w : ℕ → ℕ → ℕ). Spells w (contents c.args.version.now) volume) (sym c.value_in-old.ensures.unchanged.words) spells in
+    c.in_ok-change_at.ensures.spells volume c.args.name.now at read sound old
+
+pub returns-in_err-change_at-clause-err : goal.returns-in_err-change_at-clause-err
+returns-in_err-change_at-clause-err g c =
+    let k = start_since g.R.Look.kept g.R.Look.standing g.R.Look.words c.args.room.now c.value_in-old.new.look c.change_at.new.room c.value_in-old.ensures.unchanged c.in_err-change_at.ensures.err in
+    search (rules, k)

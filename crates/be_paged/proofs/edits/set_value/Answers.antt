@@ -9,19 +9,11 @@ use Rattle.be_paged.specs.Page.{Contents, contents}
 use Rattle.be_paged.specs.Catalog.{IsCatalog}
 use Rattle.be_paged.specs.Changes.{with_indices}
 use Rattle.be_paged.specs.Version.{Spells}
-use Rattle.be_paged.proofs.Composing.{changes_trans, changes_since, start_since, start_after, in_hand_since}
+use Rattle.be_paged.proofs.Composing.{changes_trans, start_after}
 use Rattle.be_paged.proofs.Hand.{catalog_changes, catalog_spells}
 use Rattle.be_paged.proofs.Items.{catalog_set}
 use Rattle.be_paged.proofs.Stepping.{stepped_is}
-use Rattle.be_paged.proofs.Validity.{values_valid}
 use Rattle.be_paged.proofs.edits.set_value.Goals as goal
-
-pub value_in-old-requires : goal.value_in-old-requires
-value_in-old-requires g c = record { tree = c.requires.in_hand.trees.each 0 0 (omega arith) }
-
-pub change_entry-requires-clause-in_hand : goal.change_entry-requires-clause-in_hand
-change_entry-requires-clause-in_hand g c =
-    in_hand_since g.R.Look.kept g.R.Look.standing g.R.Look.words (contents c.args.version.now) c.args.room.now c.value_in-old.new.look c.value_in-old.ensures.unchanged c.requires.in_hand
 
 pub insert-requires-clause-tree : goal.insert-requires-clause-tree
 insert-requires-clause-tree g c = c.in_ok-change_entry.ensures.changes.in_hand.trees.each 0 0 (omega arith)
@@ -32,7 +24,7 @@ returns-clause-changes g c =
     let before = contents c.args.version.now in
     let mid = contents c.change_entry.new.version in
     let after : Contents = record { next = mid.next; catalog = c.in_ok-version.field-0; entries = mid.entries } in
-    let first = changes_since g.R.Look.kept g.R.Look.standing g.R.Look.words before mid c.args.room.now c.value_in-old.new.look c.change_entry.new.room c.value_in-old.ensures.unchanged c.in_ok-change_entry.ensures.changes in
+    let first = c.in_ok-change_entry.ensures.changes in
     changes_trans g.R.Look.kept g.R.Look.standing g.R.Look.words before mid after c.args.room.now c.change_entry.new.room c.insert.new.room first
     (catalog_changes g.R.Look.kept g.R.Look.standing g.R.Look.words c.change_entry.new.room c.insert.new.room mid first.in_hand c.in_ok-version.field-0
     c.in_ok-version.ensures.ok.tree c.in_ok-version.ensures.ok.swaps mid.next first.in_hand.fits)
@@ -44,11 +36,8 @@ returns-clause-steps g c = λ volume spells sound ok.
     let value = c.args.value.now in
     let op = Set node name value in
     let mid = contents c.change_entry.new.version in
-    let catalog0 = c.args.version.now.catalog in
-    let old = c.value_in-old.ensures.value volume.nodes spells.catalog (values_valid volume sound) in
-    let read = subst (λ (w : ℕ → ℕ → ℕ). Spells w (contents c.args.version.now) volume) (sym c.value_in-old.ensures.unchanged.words) spells in
     let between = subst (λ (v : Value). Spells (g.R.Look.words c.change_entry.new.room) (contents c.change_entry.new.version) (with_indices volume name node (Some v))) c.copy.ensures
-    (c.in_ok-change_entry.ensures.spells volume read sound old) in
+    (c.in_ok-change_entry.ensures.spells volume spells sound) in
     let pair : Pair = record { key = c.deref.result.now; payload = c.deref-2.result.now } in
     let found = (accepted volume op ok).found in
     let catalog = catalog_set (pairs (g.R.Look.words c.change_entry.new.room) mid.catalog) volume.nodes node name value pair c.ranges.node.fits found.0 c.catalog_key-key.ensures.valid
@@ -64,7 +53,5 @@ returns-clause-steps g c = λ volume spells sound ok.
 pub returns-in_err-version-clause-err : goal.returns-in_err-version-clause-err
 returns-in_err-version-clause-err g c =
     let new = c.insert.new.room in
-    let k = start_since g.R.Look.kept g.R.Look.standing g.R.Look.words c.args.room.now c.value_in-old.new.look new c.value_in-old.ensures.unchanged
-    (start_after g.R.Look.kept g.R.Look.standing g.R.Look.words (contents c.args.version.now) (contents c.change_entry.new.version) c.value_in-old.new.look c.change_entry.new.room new
-    c.in_ok-change_entry.ensures.changes c.in_err-version.ensures.err) in
+    let k = start_after g.R.Look.kept g.R.Look.standing g.R.Look.words (contents c.args.version.now) (contents c.change_entry.new.version) c.args.room.now c.change_entry.new.room new c.in_ok-change_entry.ensures.changes c.in_err-version.ensures.err in
     search (rules, k)

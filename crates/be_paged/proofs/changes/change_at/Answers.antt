@@ -1,0 +1,58 @@
+use Rattle.std.proofs.Common.{ℕ, List, [], get_or, ap, sym, subst, ◌∙◌}
+use Rattle.be_value.specs.declared.values.Kind.{Kind}
+use Rattle.be_value.specs.declared.values.Kind.TheVariants as kinds
+use Rattle.be_pages.specs.Pages.{Swaps}
+use Rattle.be_tree.specs.Tree.{IsTree, pairs, pages}
+use Rattle.be_paged.specs.Entry.{Entry}
+use Rattle.be_paged.specs.Catalog.{IsIndexOf}
+use Rattle.be_paged.specs.Changes.{Changes, IsReady, repaired, with_change}
+use Rattle.be_paged.specs.Page.{contents}
+use Rattle.be_paged.specs.Version.{Spells}
+use Rattle.be_volume.specs.Indices.{Indices}
+use Rattle.be_paged.proofs.EntryChange.{indexed}
+use Rattle.be_paged.proofs.Hand.{entry_changes, entry_spells, replaced}
+use Rattle.be_paged.proofs.SourceKeys.{entry_tree}
+use Rattle.be_paged.proofs.changes.change_at.Goals as goal
+
+nowhere : Entry
+nowhere = record { name = []; kind = kinds.Cstr; root = 0 }
+
+pub change_root-requires-clause-tree : goal.change_root-requires-clause-tree
+change_root-requires-clause-tree g c =
+    let es = c.args.version.now.entries.items in
+    let root = c.index_at-kind.ensures.root nowhere ∙ ap (λ (xs : List Entry). (get_or xs c.args.at nowhere).root) c.deref.ensures.0 in
+    subst (λ (r : ℕ). IsTree (g.R.Look.standing c.args.room.now) (g.R.Look.words c.args.room.now) r) (sym root)
+    (entry_tree (g.R.Look.standing c.args.room.now) (g.R.Look.words c.args.room.now) (contents c.args.version.now) c.args.at nowhere c.requires.in_hand c.requires.in_range)
+
+pub returns-clause-changes : goal.returns-clause-changes
+returns-clause-changes g c =
+    let before = contents c.args.version.now in
+    let es = c.args.version.now.entries.items in
+    let w = g.R.Look.words in
+    let i = c.args.at in
+    let new = c.change_root.new.room in
+    let root = c.index_at-kind.ensures.root nowhere ∙ ap (λ (xs : List Entry). (get_or xs i nowhere).root) c.deref.ensures.0 in
+    let e : Entry = record { name = (get_or es i nowhere).name; kind = (get_or es i nowhere).kind; root = c.in_ok-changed.changed } in
+    let swaps = subst (λ (r : ℕ). Swaps g.R.Look.kept g.R.Look.standing g.R.Look.words (pages (w c.args.room.now) r) (pages (w new) c.in_ok-changed.changed) c.args.room.now new) root c.in_ok-changed.ensures.swaps in
+    subst (λ (xs : List Entry). Changes {K = g.R.Look.Kept} g.R.Look.kept g.R.Look.standing g.R.Look.words before (record { next = before.next; catalog = before.catalog; entries = xs }) c.args.room.now new) (sym (c.set_root.ensures nowhere))
+    (entry_changes g.R.Look.kept g.R.Look.standing g.R.Look.words c.args.room.now new before c.requires.in_hand i e nowhere c.requires.in_range c.in_ok-changed.ensures.tree swaps (c.requires.in_hand.named i nowhere c.requires.in_range))
+
+pub returns-clause-spells : goal.returns-clause-spells
+returns-clause-spells g c = λ volume name at spells sound value.
+    let before = contents c.args.version.now in
+    let es = c.args.version.now.entries.items in
+    let w = g.R.Look.words in
+    let i = c.args.at in
+    let node = c.args.node in
+    let new = c.change_root.new.room in
+    let root = c.index_at-kind.ensures.root nowhere ∙ ap (λ (xs : List Entry). (get_or xs i nowhere).root) c.deref.ensures.0 in
+    let kind = c.index_at-kind.ensures.kind nowhere ∙ ap (λ (xs : List Entry). (get_or xs i nowhere).kind) c.deref.ensures.0 in
+    let e : Entry = record { name = (get_or es i nowhere).name; kind = (get_or es i nowhere).kind; root = c.in_ok-changed.changed } in
+    let swaps = subst (λ (r : ℕ). Swaps g.R.Look.kept g.R.Look.standing g.R.Look.words (pages (w c.args.room.now) r) (pages (w new) c.in_ok-changed.changed) c.args.room.now new) root c.in_ok-changed.ensures.swaps in
+    let ix = indexed (w c.args.room.now) before volume name node i c.args.old.now c.args.new.now spells sound value at in
+    let keys = c.in_ok-changed.ensures.keys ix.index (subst (λ (r : ℕ). IsIndexOf (pairs (w c.args.room.now) r) ix.index) (sym root) (ix.keys nowhere))
+    (subst (λ (k : Kind). IsReady ix.index k node c.args.old.now) (sym kind) (ix.ready nowhere)) in
+    let told = entry_spells g.R.Look.kept g.R.Look.standing g.R.Look.words c.args.room.now new before c.requires.in_hand i e nowhere c.requires.in_range c.in_ok-changed.ensures.tree swaps volume name (repaired ix.index node c.args.new.now)
+    spells at (at.here nowhere) (ix.kind nowhere ∙ ix.kept) keys in
+    subst (λ (xs : List Entry). Spells (w new) (record { next = before.next; catalog = before.catalog; entries = xs }) (record { next = volume.next; nodes = volume.nodes; indices = with_change volume.indices name node c.args.new.now })) (sym (c.set_root.ensures nowhere))
+    (subst (λ (is : Indices). Spells (w new) (record { next = before.next; catalog = before.catalog; entries = replaced es i e }) (record { next = volume.next; nodes = volume.nodes; indices = is })) (sym ix.changed) told)
