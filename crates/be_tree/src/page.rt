@@ -18,7 +18,7 @@ use arrayvec::ArrayVec;
 use be_pages::{Look, Room};
 use std::cmp::Ordering;
 
-/// The page that the branch at a place names.
+/// The page that the branch at a place names. Behind a key of whole words its number is a word.
 pub(crate) fn child_at<L: Look>(look: &mut L, page: u64, at: usize) -> u64
     requires readable { IsTrue (is_readable (L.standing look.old page)) }
     requires in_page { at + 42 ≤ 512 }
@@ -29,7 +29,12 @@ pub(crate) fn child_at<L: Look>(look: &mut L, page: u64, at: usize) -> u64
 {
     let key_len = (look.word(page, at) >> 32) as usize;
     let skip = key_len % 8;
-    let bytes: ArrayVec<u8, 16> = load_bytes(look, page, at + 1 + key_len / 8, skip + 8);
+    let from = at + 1 + key_len / 8;
+    if skip == 0 {
+        return look.word(page, from);
+    }
+    let mut bytes: ArrayVec<u8, 16> = ArrayVec::new();
+    fill_bytes(look, page, from, 0, skip + 8, &mut bytes);
     number_in(&bytes[skip..])
 }
 

@@ -1,5 +1,5 @@
-use Rattle.std.proofs.Common.{◌≡◌, ℕ, ◌+◌, ◌/◌, ◌%◌, ◌^◌, drop, ap, sym, ◌∙◌}
-use Rattle.be_tree.specs.Page.{bytes_at, key_len, payload_len}
+use Rattle.std.proofs.Common.{ℕ, ◌+◌, ◌/◌, ◌%◌, ◌^◌, drop, ap, sym, ◌∙◌}
+use Rattle.be_tree.specs.Page.{bytes_at}
 use Rattle.be_tree.proofs.Codec.{payload_from}
 use Rattle.be_tree.proofs.walk.fill_payload.Goals as goal
 
