@@ -199,3 +199,7 @@ rest_from xs i = all_taken (drop i xs) (length xs - i) (omega (arith, length-dro
     all_taken [] (suc n) le = refl
     all_taken (y ∷ ys) zero le = absurd (omega (arith, le))
     all_taken (y ∷ ys) (suc n) le = ap (λ zs. y ∷ zs) (all_taken ys n (omega (arith, le)))
+
+-- a word's bytes
+pub word_bytes : (words : ℕ → ℕ) (at : ℕ) → bytes_at words at 8 ≡ to_be_bytes w64 (words at)
+word_bytes words at = let e : at + 0 ≡ at = omega arith in ap (λ (i : ℕ). to_be_bytes w64 (words i)) e

@@ -2,7 +2,6 @@
 use Rattle.std.proofs.Common.{◌≡◌, ℕ, suc, ◌+◌, ◌<◌, ◌≤◌, List, [], ◌∷◌, set, ◌++◌, length, take, drop, map, All, ap, sym, subst, ◌∙◌, arith}
 use Rattle.std.specs.List.{remove, refill, take-map, drop-map}
 use Rattle.std.proofs.lemmas.List.{map-append, length-append, length-take-le, take_at, drop_at, drop-drop, take-append-drop, take-set, drop-set, append_assoc}
-use Rattle.std.proofs.lemmas.List.Edits.{length-remove}
 use Rattle.std.proofs.lemmas.List.Elements.{All-append}
 use Rattle.be_tree.proofs.Below.{all_left, all_right}
 

@@ -1,5 +1,5 @@
 //! Items read from a page and written to it.
-ghost use Rattle.std.specs.Prelude.{◌≡◌, ◌≢◌, ℕ, ◌+◌, ◌*◌, ◌<◌, ◌≤◌, ◌++◌, All, IsTrue, length, take, drop, map, slice_index};
+ghost use Rattle.std.specs.Prelude.{◌≡◌, ◌≢◌, ℕ, [], ◌+◌, ◌*◌, ◌<◌, ◌≤◌, ◌++◌, All, IsTrue, length, take, drop, map, slice_index};
 ghost use Rattle.std.specs.List.{range_with_len};
 ghost use Rattle.std.specs.Int.{from_be_bytes, to_be_bytes, w64};
 ghost use Rattle.be_pages.specs.Pages.{is_readable, is_taken, IsUnchanged, OnlyWrites, StandsAt};
@@ -18,7 +18,7 @@ use arrayvec::ArrayVec;
 use be_pages::{Look, Room};
 use std::cmp::Ordering;
 
-/// The page that the branch at a place names.
+/// The page that the branch at a place names. Behind a key of whole words its number is a word.
 pub(crate) fn child_at<L: Look>(look: &mut L, page: u64, at: usize) -> u64
     requires readable { IsTrue (is_readable (L.standing look.old page)) }
     requires in_page { at + 42 ≤ 512 }
@@ -29,7 +29,12 @@ pub(crate) fn child_at<L: Look>(look: &mut L, page: u64, at: usize) -> u64
 {
     let key_len = (look.word(page, at) >> 32) as usize;
     let skip = key_len % 8;
-    let bytes: ArrayVec<u8, 16> = load_bytes(look, page, at + 1 + key_len / 8, skip + 8);
+    let from = at + 1 + key_len / 8;
+    if skip == 0 {
+        return look.word(page, from);
+    }
+    let mut bytes: ArrayVec<u8, 16> = ArrayVec::new();
+    fill_bytes(look, page, from, 0, skip + 8, &mut bytes);
     number_in(&bytes[skip..])
 }
 
@@ -129,33 +134,34 @@ pub fn load_bytes<L: Look, const N: usize>(
     bytes
 }
 
-/// The `n` bytes that stand `skip` bytes behind the start of a word.
-pub(crate) fn load_bytes_from<L: Look, const N: usize>(
+/// Puts the `n` bytes that stand `skip` bytes behind the start of a word into an empty vector. It is filled where it
+/// stands, since a vector that is given by value costs its whole capacity.
+pub(crate) fn fill_bytes<L: Look, const N: usize>(
     look: &mut L,
     page: u64,
     at: usize,
     skip: usize,
     n: usize,
-) -> ArrayVec<u8, N>
+    rest: &mut ArrayVec<u8, N>,
+)
     requires readable { IsTrue (is_readable (L.standing look.old page)) }
     requires skips { skip < 8 }
     requires in_page { at + words_for (skip + n) ≤ 512 }
     requires fits { 8 * words_for (skip + n) ≤ N }
-    ensures bytes { result.items ≡ drop skip (bytes_at (L.words look.old page) at (skip + n)) }
+    requires empty { rest.old.items ≡ [] }
+    ensures bytes { rest.new.items ≡ drop skip (bytes_at (L.words look.old page) at (skip + n)) }
     ensures unchanged { IsUnchanged L.kept L.standing L.words look.old look.new }
 {
-    let mut rest = ArrayVec::new();
     if n == 0 {
-        return rest;
+        return;
     }
     let first = look.word(page, at).to_be_bytes();
-    extend(&mut rest, &first[skip..]);
+    extend(rest, &first[skip..]);
     for i in 1..(skip + n + 7) / 8 {
         let word = look.word(page, at + i).to_be_bytes();
-        extend(&mut rest, &word);
+        extend(rest, &word);
     }
     rest.truncate(n);
-    rest
 }
 
 /// Appends bytes for which there is room.

@@ -3,14 +3,14 @@
 //! A tree is a sorted list of pairs, so what stands at or after a key is a tail of the list, and its first pair is the
 //! least. One descent finds where that tail begins: at each inner page it takes the last branch whose key isn't above the
 //! key that is sought, and in the leaf a binary search ends it.
-ghost use Rattle.std.specs.Prelude.{◌≡◌, ◌+◌, ◌≤◌, IsTrue, option_map};
+ghost use Rattle.std.specs.Prelude.{◌≡◌, [], ◌+◌, ◌≤◌, IsTrue, option_map};
 ghost use Rattle.be_pages.specs.Pages.{IsUnchanged, is_readable};
 ghost use Rattle.be_tree.specs.Page.{IsItem, item_at};
 ghost use Rattle.be_tree.specs.Range.{first_from, pair_in};
 ghost use Rattle.be_tree.specs.Tree.{IsTree, pairs};
 
 use crate::cursor::Cursor;
-use crate::page::{load_bytes, load_bytes_from};
+use crate::page::fill_bytes;
 use arrayvec::ArrayVec;
 use be_pages::Look;
 
@@ -42,9 +42,13 @@ pub(crate) fn load_pair<L: Look>(look: &mut L, page: u64, at: usize) -> TreeItem
     ensures pair { pair_in result ≡ item_at (L.words look.old page) at }
     ensures unchanged { IsUnchanged L.kept L.standing L.words look.old look.new }
 {
-    let key = load_key(look, page, at);
-    let payload = load_payload(look, page, at);
-    TreeItem { key, payload }
+    let mut item = TreeItem {
+        key: ArrayVec::new(),
+        payload: ArrayVec::new(),
+    };
+    fill_key(look, page, at, &mut item.key);
+    fill_payload(look, page, at, &mut item.payload);
+    item
 }
 
 /// The key at a place of a page.
@@ -55,8 +59,9 @@ pub(crate) fn load_key<L: Look>(look: &mut L, page: u64, at: usize) -> ArrayVec<
     ensures key { result.items ≡ (item_at (L.words look.old page) at).key }
     ensures unchanged { IsUnchanged L.kept L.standing L.words look.old look.new }
 {
-    let key_len = (look.word(page, at) >> 32) as usize;
-    load_bytes(look, page, at + 1, key_len)
+    let mut key = ArrayVec::new();
+    fill_key(look, page, at, &mut key);
+    key
 }
 
 /// The payload at a place of a page.
@@ -67,13 +72,36 @@ pub(crate) fn load_payload<L: Look>(look: &mut L, page: u64, at: usize) -> Array
     ensures payload { result.items ≡ (item_at (L.words look.old page) at).payload }
     ensures unchanged { IsUnchanged L.kept L.standing L.words look.old look.new }
 {
+    let mut payload = ArrayVec::new();
+    fill_payload(look, page, at, &mut payload);
+    payload
+}
+
+/// Puts the key at a place of a page into an empty vector.
+fn fill_key<L: Look>(look: &mut L, page: u64, at: usize, key: &mut ArrayVec<u8, 264>)
+    requires readable { IsTrue (is_readable (L.standing look.old page)) }
+    requires in_page { at + 42 ≤ 512 }
+    requires item { IsItem (L.words look.old page) at }
+    requires empty { key.old.items ≡ [] }
+    ensures key { key.new.items ≡ (item_at (L.words look.old page) at).key }
+    ensures unchanged { IsUnchanged L.kept L.standing L.words look.old look.new }
+{
+    let key_len = (look.word(page, at) >> 32) as usize;
+    fill_bytes(look, page, at + 1, 0, key_len, key);
+}
+
+/// Puts the payload at a place of a page into an empty vector.
+fn fill_payload<L: Look>(look: &mut L, page: u64, at: usize, payload: &mut ArrayVec<u8, 328>)
+    requires readable { IsTrue (is_readable (L.standing look.old page)) }
+    requires in_page { at + 42 ≤ 512 }
+    requires item { IsItem (L.words look.old page) at }
+    requires empty { payload.old.items ≡ [] }
+    ensures payload { payload.new.items ≡ (item_at (L.words look.old page) at).payload }
+    ensures unchanged { IsUnchanged L.kept L.standing L.words look.old look.new }
+{
     let header = look.word(page, at);
     let key_len = (header >> 32) as usize;
-    load_bytes_from(
-        look,
-        page,
-        at + 1 + key_len / 8,
-        key_len % 8,
-        (header % (1 << 32)) as usize,
-    )
+    let from = at + 1 + key_len / 8;
+    let payload_len = (header % (1 << 32)) as usize;
+    fill_bytes(look, page, from, key_len % 8, payload_len, payload);
 }

@@ -1,10 +1,10 @@
-use Rattle.std.proofs.Common.{◌≡◌, ℕ, List, ◌+◌, ◌*◌, ◌++◌, ◌∙◌, ap, sym, length, map, take, drop, arith}
+use Rattle.std.proofs.Common.{◌≡◌, ℕ, List, ◌+◌, ◌++◌, ◌∙◌, ap, sym, length, map, take, drop, arith}
 use Rattle.std.specs.Int.{to_be_bytes, w64}
 use Rattle.std.specs.List.{flat_map, range_with_len}
 use Rattle.std.proofs.lemmas.List.{drop-append-le, drop-take}
 use Rattle.be_tree.specs.Page.{words_for}
 use Rattle.be_tree.proofs.Codec.{flat_map_more, flat_map_length}
-use Rattle.be_tree.proofs.page.load_bytes_from.Goals as goal
+use Rattle.be_tree.proofs.page.fill_bytes.Goals as goal
 
 pub loop-i-preserved : goal.loop-i-preserved
 loop-i-preserved g c =

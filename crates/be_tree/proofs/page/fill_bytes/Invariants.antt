@@ -2,7 +2,7 @@ use Rattle.std.proofs.Common.{◌≡◌, ◌+◌, ◌*◌, length, map, drop}
 use Rattle.std.specs.List.{flat_map, range_with_len}
 use Rattle.std.specs.Int.{to_be_bytes, w64}
 use Rattle.be_pages.specs.Pages.{IsUnchanged}
-use Rattle.be_tree.proofs.page.load_bytes_from.Given as goal
+use Rattle.be_tree.proofs.page.fill_bytes.Given as goal
 
 -- the bytes of the words read so far, but the first ones
 abbrev pub invariant-loop-i : goal.invariant-loop-i

@@ -1,7 +1,7 @@
-use Rattle.std.proofs.Common.{◌≡◌, ℕ, ◌+◌, ◌/◌, ◌%◌, ◌^◌, drop, ap, sym, ◌∙◌}
-use Rattle.be_tree.specs.Page.{bytes_at, key_len, payload_len}
+use Rattle.std.proofs.Common.{ℕ, ◌+◌, ◌/◌, ◌%◌, ◌^◌, drop, ap, sym, ◌∙◌}
+use Rattle.be_tree.specs.Page.{bytes_at}
 use Rattle.be_tree.proofs.Codec.{payload_from}
-use Rattle.be_tree.proofs.walk.load_payload.Goals as goal
+use Rattle.be_tree.proofs.walk.fill_payload.Goals as goal
 
 pub returns-clause-payload : goal.returns-clause-payload
 returns-clause-payload g c =
@@ -9,7 +9,7 @@ returns-clause-payload g c =
     let at = c.args.at in
     let header = c.word-header.result in
     let k = c.word-header.ensures.value in
-    c.load_bytes_from.ensures.bytes
+    c.fill_bytes.ensures.bytes
     ∙ ap (λ (w : ℕ → ℕ → ℕ). drop (header / 2 ^ 32 % 8) (bytes_at (w c.args.page) (at + 1 + header / 2 ^ 32 / 8) (header / 2 ^ 32 % 8 + header % 2 ^ 32))) c.word-header.ensures.words
     ∙ ap (λ (h : ℕ). drop (h / 2 ^ 32 % 8) (bytes_at words (at + 1 + h / 2 ^ 32 / 8) (h / 2 ^ 32 % 8 + h % 2 ^ 32))) k
     ∙ sym (payload_from words at)
