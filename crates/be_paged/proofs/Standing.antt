@@ -11,7 +11,7 @@ use Rattle.be_tree.proofs.Frame.{times-cons, times_itself, times_other}
 use Rattle.be_tree.proofs.Trees.{tree_kept, tree_undone, trees_in_use}
 use Rattle.be_volume.specs.Volume.{State}
 use Rattle.be_volume.specs.declared.maps.Index.{Index}
-use Rattle.be_paged.specs.declared.version.Entry.{Entry}
+use Rattle.be_paged.specs.Entry.{Entry}
 use Rattle.be_paged.specs.Page.{contents_of, IsVersionPage, roots, reach}
 use Rattle.be_paged.specs.Catalog.{IsCatalog, IsIndexOf}
 use Rattle.be_paged.specs.Version.{AreEntriesOf, Spells, IsInHand, IsVersion}
