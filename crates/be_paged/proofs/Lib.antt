@@ -20,3 +20,4 @@ pub mod SourceKeys
 pub mod RootSetting
 pub mod Composing
 pub mod Stepping
+pub mod UsedWords
