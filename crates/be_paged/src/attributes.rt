@@ -2,7 +2,7 @@
 //!
 //! In the catalog a node's mark comes first and its attributes follow by ascending names, so a walk begins behind the mark and ends at the
 //! first key of another node. A node has at most 64 attributes, which bounds the walk.
-ghost use Rattle.std.specs.Prelude.{◌≡◌, ◌≤◌, ◌<◌, ℕ, IsTrue, IfOk, IfSome, length, option_map, drop, slice_get, is_some, true, Some, None, List};
+ghost use Rattle.std.specs.Prelude.{◌≡◌, ◌≤◌, ◌<◌, ℕ, IfOk, IfSome, length, option_map, drop, slice_get, is_some, true, Some, None, List};
 ghost use Rattle.std.specs.FinMap as map;
 ghost use Rattle.be_pages.specs.Pages.{IsUnchanged};
 ghost use Rattle.be_value.specs.Key.{IsValue};

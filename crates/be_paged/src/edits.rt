@@ -2,7 +2,7 @@
 //!
 //! Refusals are found before, so each operation only does its work and fails for want of pages alone. What it leaves then is not said: the write
 //! is undone.
-ghost use Rattle.std.specs.Prelude.{◌≡◌, ℕ, ◌+◌, ◌≤◌, ◌<◌, ◌^◌, length, All, IsTrue, IfOk, IfErr, OnOk, OnErr, IsOk};
+ghost use Rattle.std.specs.Prelude.{◌≡◌, ◌+◌, ◌≤◌, ◌<◌, ◌^◌, length, IsTrue, IfOk, IfErr, OnOk, OnErr, IsOk};
 ghost use Rattle.be_pages.specs.Pages.{KeepsStart};
 ghost use Rattle.be_pages.specs.Refusal.{IsFullOf};
 ghost use Rattle.be_volume.specs.Sound.{IsSound};

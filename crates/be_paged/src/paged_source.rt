@@ -2,11 +2,11 @@
 //!
 //! A walk over an index asks for one key after the other. So the source keeps a cursor of the tree that it walked last: where the next key is
 //! asked from the very key that it gave, it goes on from there and makes no descent.
-ghost use Rattle.std.specs.Prelude.{◌≡◌, ◌<◌, ℕ, List, true, IfOk, OnOk, length, slice_index_or};
+ghost use Rattle.std.specs.Prelude.{◌≡◌, ◌<◌, ℕ, true, length, slice_index_or};
 ghost use Rattle.be_pages.specs.Pages.{IsUnchanged};
 ghost use Rattle.be_tree.specs.Cursor.{IsCursor, remaining};
 ghost use Rattle.be_tree.specs.Range.{pairs_from};
-ghost use Rattle.be_tree.specs.Tree.{IsTree, pairs};
+ghost use Rattle.be_tree.specs.Tree.{pairs};
 ghost use Rattle.be_volume.specs.Volume.{State};
 ghost use Rattle.be_paged.specs.Page.{contents};
 ghost use Rattle.be_paged.specs.Source.{StandsBehind};

@@ -1,10 +1,9 @@
 //! Version pages, read and written.
-ghost use Rattle.std.specs.Prelude.{◌≡◌, ◌≢◌, ℕ, ◌+◌, ◌≤◌, ◌<◌, All, IsTrue, Ok};
-ghost use Rattle.be_value.specs.Name.{name_from};
+ghost use Rattle.std.specs.Prelude.{◌≡◌, ◌≢◌, ℕ, ◌+◌, ◌<◌, All, IsTrue};
 ghost use Rattle.be_volume.specs.Sound.{IsName};
-ghost use Rattle.be_pages.specs.Pages.{is_readable, is_taken, IsUnchanged, OnlyWrites, StandsAt};
+ghost use Rattle.be_pages.specs.Pages.{is_readable, is_taken, IsUnchanged, StandsAt};
 ghost use Rattle.be_pages.specs.declared.room.Standing.TheVariants.{Filled};
-ghost use Rattle.be_paged.specs.Page.{kind_numbered as kind_of_number, entry_at, contents, contents_of, IsEntry, IsVersionPage};
+ghost use Rattle.be_paged.specs.Page.{contents, contents_of, IsVersionPage};
 
 use crate::entry::Entry;
 use arrayvec::ArrayVec;
