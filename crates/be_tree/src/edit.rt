@@ -16,7 +16,7 @@ ghost use Rattle.be_tree.specs.Tree.{AreNeighbours, IsBelow, IsTreeAt, IsWritten
 
 use crate::item::Item;
 use crate::lookup::rank;
-use crate::page::{child_at, cmp_at, key_words, slots_of, store_node};
+use crate::page::{child_at, cmp_at, fill_slots, key_words, store_node};
 use crate::siblings::{append, sharing_children, slots_with};
 use crate::slot::Slot;
 use arrayvec::ArrayVec;
@@ -289,7 +289,8 @@ fn put_at<R: Room>(
         let two = put_shared(room, level - 1, left, right, pair, words)?;
         return Ok(slots_with(room, page, at - 1, two));
     }
-    let mut slots = slots_of(room, page);
+    let mut slots = ArrayVec::new();
+    fill_slots(room, page, &mut slots);
     let beside = put_below(room, level, page, 2 + 42 * at, pair, words)?;
     replace_at(&mut slots, at, beside);
     Ok(slots)
@@ -321,7 +322,8 @@ fn put_shared<R: Room>(
     ensures full { IfErr result (IsFullOf (R.full room.new)) }
 {
     let more = put_at(room, level, right, pair, words)?;
-    let mut slots = slots_of(room, left);
+    let mut slots = ArrayVec::new();
+    fill_slots(room, left, &mut slots);
     append(&mut slots, &more);
     let branches = pack_two(room, level, left, right, &slots, pair)?;
     Ok(branches)

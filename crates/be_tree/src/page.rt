@@ -304,19 +304,20 @@ fn store_slot<R: Room>(room: &mut R, page: u64, at: usize, slot: Slot, pair: &It
     }
 }
 
-/// The slots of a page's items.
-pub(crate) fn slots_of<L: Look>(look: &mut L, page: u64) -> ArrayVec<Slot, 24>
+/// Puts the slots of a page's items into an empty list.
+pub(crate) fn fill_slots<L: Look>(look: &mut L, page: u64, slots: &mut ArrayVec<Slot, 24>)
     requires readable { IsTrue (is_readable (L.standing look.old page)) }
     requires page { IsPage (L.words look.old page) }
-    ensures slots { result.items ≡ map (λ j. At page (place_of j)) (range_with_len 0 (L.words look.old page 1)) }
+    requires empty { slots.old.items ≡ [] }
+    ensures slots { slots.new.items ≡ map (λ j. At page (place_of j)) (range_with_len 0 (L.words look.old page 1)) }
+    ensures len { length slots.new.items ≡ L.words look.old page 1 }
+    ensures few { length slots.new.items ≤ 12 }
     ensures unchanged { IsUnchanged L.kept L.standing L.words look.old look.new }
 {
     let count = look.word(page, 1) as usize;
-    let mut slots: ArrayVec<Slot, 24> = ArrayVec::new();
     for j in 0..count {
         slots.push(Slot::At(page as u32, (2 + 42 * j) as u16));
     }
-    slots
 }
 
 /// Writes a node to a page that was taken.

@@ -16,7 +16,7 @@ ghost use Rattle.be_tree.specs.Tree.{AreNeighbours, Becomes, BecomesTree, IsBelo
 use crate::edit::{pack_two, write_root};
 use crate::item::Item;
 use crate::lookup::{has_key, rank};
-use crate::page::{child_at, cmp_at, key_words, slots_of};
+use crate::page::{child_at, cmp_at, fill_slots, key_words};
 use crate::siblings::{append, count_of, slots_with, two_children};
 use crate::slot::Slot;
 use arrayvec::ArrayVec;
@@ -108,7 +108,8 @@ fn slots_without<L: Look>(
     ensures some { (L.words look.old page 1 ≤ length result.items + 1) × (length result.items ≤ 12) }
     ensures unchanged { IsUnchanged L.kept L.standing L.words look.old look.new }
 {
-    let mut slots = slots_of(look, page);
+    let mut slots = ArrayVec::new();
+    fill_slots(look, page, &mut slots);
     if cmp_at(look, page, 2 + 42 * at, key, words).is_eq() {
         slots.remove(at);
     }
@@ -173,7 +174,8 @@ fn remove_left<R: Room>(
     ensures full { IfErr result (IsFullOf (R.full room.new)) }
 {
     let mut slots = remove_at(room, level, left, key, words, pair)?;
-    let others = slots_of(room, right);
+    let mut others = ArrayVec::new();
+    fill_slots(room, right, &mut others);
     append(&mut slots, &others);
     let branches = pack_two(room, level, left, right, &slots, pair)?;
     Ok(branches)
@@ -202,7 +204,8 @@ fn remove_right<R: Room>(
     ensures full { IfErr result (IsFullOf (R.full room.new)) }
 {
     let less = remove_at(room, level, right, key, words, pair)?;
-    let mut slots = slots_of(room, left);
+    let mut slots = ArrayVec::new();
+    fill_slots(room, left, &mut slots);
     append(&mut slots, &less);
     let branches = pack_two(room, level, left, right, &slots, pair)?;
     Ok(branches)

@@ -7,7 +7,7 @@ ghost use Rattle.be_tree.specs.Slot.{IsReady, pairs_of};
 ghost use Rattle.be_tree.specs.Tree.{AreNeighbours, IsTreeAt, child};
 
 use crate::edit::replace_at;
-use crate::page::{child_at, slots_of};
+use crate::page::{child_at, fill_slots};
 use crate::slot::Slot;
 use arrayvec::ArrayVec;
 use be_pages::Look;
@@ -71,7 +71,8 @@ pub(crate) fn slots_with<L: Look>(
     ensures len { length result.items + 2 ≡ L.words look.old page 1 + length two.items }
     ensures unchanged { IsUnchanged L.kept L.standing L.words look.old look.new }
 {
-    let mut slots = slots_of(look, page);
+    let mut slots = ArrayVec::new();
+    fill_slots(look, page, &mut slots);
     slots.remove(at);
     replace_at(&mut slots, at, two);
     slots

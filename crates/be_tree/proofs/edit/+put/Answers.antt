@@ -19,6 +19,18 @@ use Rattle.be_tree.proofs.Parts.{on_err}
 use Rattle.be_tree.proofs.Slots.{items_count, branches_ready}
 use Rattle.be_tree.proofs.edit.+put.Goals as goal
 
+pub put_at-overflow_mul-at : goal.put_at-overflow_mul-at
+put_at-overflow_mul-at g t c =
+    let ranked = subst (λ (k : List ℕ). IsRank k (items_of (g.R.Look.words c.args.room.now c.args.page)) c.rank.result) c.key.ensures c.rank.ensures.rank in
+    let inside = at_item g.R.Look.kept g.R.Look.standing g.R.Look.words c.args.level c.args.page c.args.pair.now c.rank.result c.saturating_sub-at.result c.args.room.now c.args.room.now c.requires.tree (record { kept = refl; standing = refl; words = refl }) ranked c.saturating_sub-at.ensures in
+    omega (arith, inside, c.requires.tree.node.is_page.few)
+
+pub put_at-overflow_add-at : goal.put_at-overflow_add-at
+put_at-overflow_add-at g t c =
+    let ranked = subst (λ (k : List ℕ). IsRank k (items_of (g.R.Look.words c.args.room.now c.args.page)) c.rank.result) c.key.ensures c.rank.ensures.rank in
+    let inside = at_item g.R.Look.kept g.R.Look.standing g.R.Look.words c.args.level c.args.page c.args.pair.now c.rank.result c.saturating_sub-at.result c.args.room.now c.args.room.now c.requires.tree (record { kept = refl; standing = refl; words = refl }) ranked c.saturating_sub-at.ensures in
+    omega (arith, inside, c.requires.tree.node.is_page.few)
+
 pub put_at-sharing_children-requires-clause-in_page : goal.put_at-sharing_children-requires-clause-in_page
 put_at-sharing_children-requires-clause-in_page g t c =
     let ranked = subst (λ (k : List ℕ). IsRank k (items_of (g.R.Look.words c.args.room.now c.args.page)) c.rank.result) c.key.ensures c.rank.ensures.rank in
@@ -177,21 +189,21 @@ put_at-returns-in-Some-clause-some g t c =
 
 pub put_at-put_below-requires : goal.put_at-put_below-requires
 put_at-put_below-requires g t c κs within =
-    let same = unchanged_trans g.R.Look.kept g.R.Look.standing g.R.Look.words c.args.room.now c.sharing_children.new.look c.slots_of-slots.new.look
-    (unchanged_trans g.R.Look.kept g.R.Look.standing g.R.Look.words c.args.room.now c.rank.new.look c.sharing_children.new.look c.rank.ensures.unchanged c.sharing_children.ensures.unchanged) c.slots_of-slots.ensures.unchanged in
+    let same = unchanged_trans g.R.Look.kept g.R.Look.standing g.R.Look.words c.args.room.now c.sharing_children.new.look c.fill_slots.new.look
+    (unchanged_trans g.R.Look.kept g.R.Look.standing g.R.Look.words c.args.room.now c.rank.new.look c.sharing_children.new.look c.rank.ensures.unchanged c.sharing_children.ensures.unchanged) c.fill_slots.ensures.unchanged in
     let ranked = subst (λ (w : ℕ → ℕ → ℕ). IsRank c.args.pair.now.key (items_of (w c.args.page)) c.rank.result) (sym same.words)
     (subst (λ (k : List ℕ). IsRank k (items_of (g.R.Look.words c.args.room.now c.args.page)) c.rank.result) c.key.ensures c.rank.ensures.rank) in (
       omega arith,
       (
         within,
         (
-          slot_readable g.R.Look.kept g.R.Look.standing g.R.Look.words c.args.level c.args.page c.args.pair.now c.rank.result c.saturating_sub-at.result c.args.room.now c.slots_of-slots.new.look c.requires.tree same ranked c.saturating_sub-at.ensures,
+          slot_readable g.R.Look.kept g.R.Look.standing g.R.Look.words c.args.level c.args.page c.args.pair.now c.rank.result c.saturating_sub-at.result c.args.room.now c.fill_slots.new.look c.requires.tree same ranked c.saturating_sub-at.ensures,
           (
-            slot_in_page g.R.Look.kept g.R.Look.standing g.R.Look.words c.args.level c.args.page c.args.pair.now c.rank.result c.saturating_sub-at.result c.args.room.now c.slots_of-slots.new.look c.requires.tree same ranked c.saturating_sub-at.ensures,
+            slot_in_page g.R.Look.kept g.R.Look.standing g.R.Look.words c.args.level c.args.page c.args.pair.now c.rank.result c.saturating_sub-at.result c.args.room.now c.fill_slots.new.look c.requires.tree same ranked c.saturating_sub-at.ensures,
             (
-              slot_item g.R.Look.kept g.R.Look.standing g.R.Look.words c.args.level c.args.page c.args.pair.now c.rank.result c.saturating_sub-at.result c.args.room.now c.slots_of-slots.new.look c.requires.tree same ranked c.saturating_sub-at.ensures,
+              slot_item g.R.Look.kept g.R.Look.standing g.R.Look.words c.args.level c.args.page c.args.pair.now c.rank.result c.saturating_sub-at.result c.args.room.now c.fill_slots.new.look c.requires.tree same ranked c.saturating_sub-at.ensures,
               (
-                slot_below g.R.Look.kept g.R.Look.standing g.R.Look.words c.args.level c.args.page c.args.pair.now c.rank.result c.saturating_sub-at.result c.args.room.now c.slots_of-slots.new.look c.requires.tree same ranked c.saturating_sub-at.ensures,
+                slot_below g.R.Look.kept g.R.Look.standing g.R.Look.words c.args.level c.args.page c.args.pair.now c.rank.result c.saturating_sub-at.result c.args.room.now c.fill_slots.new.look c.requires.tree same ranked c.saturating_sub-at.ensures,
                 (c.requires.key_fits, (c.requires.prepared, subst (λ k. IsTrue (g.R.Look.is_open k)) (sym same.kept) c.requires.open)),
               ),
             ),
@@ -202,43 +214,43 @@ put_at-put_below-requires g t c κs within =
 
 pub put_at-replace_at-requires-clause-room : goal.put_at-replace_at-requires-clause-room
 put_at-replace_at-requires-clause-room g t c =
-    let len = ap length c.slots_of-slots.ensures.slots ∙ length-map-range_with_len (λ (j : ℕ). At c.args.page (place_of j)) 0 (g.R.Look.words c.sharing_children.new.look c.args.page 1) in
+    let len = ap length c.fill_slots.ensures.slots ∙ length-map-range_with_len (λ (j : ℕ). At c.args.page (place_of j)) 0 (g.R.Look.words c.sharing_children.new.look c.args.page 1) in
     let read = unchanged_trans g.R.Look.kept g.R.Look.standing g.R.Look.words c.args.room.now c.rank.new.look c.sharing_children.new.look c.rank.ensures.unchanged c.sharing_children.ensures.unchanged in
     omega (arith, c.in_ok-beside.ensures.some, len, ap (λ (w : ℕ → ℕ → ℕ). w c.args.page 1) read.words, c.requires.tree.node.is_page.few)
 
 pub put_at-returns-clause-ok : goal.put_at-returns-clause-ok
 put_at-returns-clause-ok g t c =
-    let same = unchanged_trans g.R.Look.kept g.R.Look.standing g.R.Look.words c.args.room.now c.sharing_children.new.look c.slots_of-slots.new.look
-    (unchanged_trans g.R.Look.kept g.R.Look.standing g.R.Look.words c.args.room.now c.rank.new.look c.sharing_children.new.look c.rank.ensures.unchanged c.sharing_children.ensures.unchanged) c.slots_of-slots.ensures.unchanged in
+    let same = unchanged_trans g.R.Look.kept g.R.Look.standing g.R.Look.words c.args.room.now c.sharing_children.new.look c.fill_slots.new.look
+    (unchanged_trans g.R.Look.kept g.R.Look.standing g.R.Look.words c.args.room.now c.rank.new.look c.sharing_children.new.look c.rank.ensures.unchanged c.sharing_children.ensures.unchanged) c.fill_slots.ensures.unchanged in
     let ranked = subst (λ (w : ℕ → ℕ → ℕ). IsRank c.args.pair.now.key (items_of (w c.args.page)) c.rank.result) (sym same.words)
     (subst (λ (k : List ℕ). IsRank k (items_of (g.R.Look.words c.args.room.now c.args.page)) c.rank.result) c.key.ensures c.rank.ensures.rank) in
-    let count = ap (λ (w : ℕ → ℕ → ℕ). w c.args.page 1) (sym c.slots_of-slots.ensures.unchanged.words) in
-    slots_put g.R.Look.kept g.R.Look.standing g.R.Look.words c.args.level c.args.page c.args.pair.now c.rank.result c.saturating_sub-at.result c.args.room.now c.slots_of-slots.new.look c.requires.tree same ranked c.saturating_sub-at.ensures c.slots_of-slots.result.items c.in_ok-beside.beside.items c.replace_at.new.slots.items (g.R.Look.words c.sharing_children.new.look c.args.page 1) c.put_below.new.room count c.slots_of-slots.ensures.slots c.replace_at.ensures c.in_ok-beside.ensures.ok
+    let count = ap (λ (w : ℕ → ℕ → ℕ). w c.args.page 1) (sym c.fill_slots.ensures.unchanged.words) in
+    slots_put g.R.Look.kept g.R.Look.standing g.R.Look.words c.args.level c.args.page c.args.pair.now c.rank.result c.saturating_sub-at.result c.args.room.now c.fill_slots.new.look c.requires.tree same ranked c.saturating_sub-at.ensures c.fill_slots.new.slots.items c.in_ok-beside.beside.items c.replace_at.new.slots.items (g.R.Look.words c.sharing_children.new.look c.args.page 1) c.put_below.new.room count c.fill_slots.ensures.slots c.replace_at.ensures c.in_ok-beside.ensures.ok
 
 pub put_at-returns-clause-ready : goal.put_at-returns-clause-ready
 put_at-returns-clause-ready g t c =
-    let same = unchanged_trans g.R.Look.kept g.R.Look.standing g.R.Look.words c.args.room.now c.sharing_children.new.look c.slots_of-slots.new.look
-    (unchanged_trans g.R.Look.kept g.R.Look.standing g.R.Look.words c.args.room.now c.rank.new.look c.sharing_children.new.look c.rank.ensures.unchanged c.sharing_children.ensures.unchanged) c.slots_of-slots.ensures.unchanged in
+    let same = unchanged_trans g.R.Look.kept g.R.Look.standing g.R.Look.words c.args.room.now c.sharing_children.new.look c.fill_slots.new.look
+    (unchanged_trans g.R.Look.kept g.R.Look.standing g.R.Look.words c.args.room.now c.rank.new.look c.sharing_children.new.look c.rank.ensures.unchanged c.sharing_children.ensures.unchanged) c.fill_slots.ensures.unchanged in
     let ranked = subst (λ (w : ℕ → ℕ → ℕ). IsRank c.args.pair.now.key (items_of (w c.args.page)) c.rank.result) (sym same.words)
     (subst (λ (k : List ℕ). IsRank k (items_of (g.R.Look.words c.args.room.now c.args.page)) c.rank.result) c.key.ensures c.rank.ensures.rank) in
-    let count = ap (λ (w : ℕ → ℕ → ℕ). w c.args.page 1) (sym c.slots_of-slots.ensures.unchanged.words) in
-    slots_ready g.R.Look.kept g.R.Look.standing g.R.Look.words c.args.level c.args.page c.args.pair.now c.rank.result c.saturating_sub-at.result c.args.room.now c.slots_of-slots.new.look c.requires.tree same ranked c.saturating_sub-at.ensures c.slots_of-slots.result.items c.in_ok-beside.beside.items c.replace_at.new.slots.items (g.R.Look.words c.sharing_children.new.look c.args.page 1) c.put_below.new.room count c.slots_of-slots.ensures.slots c.replace_at.ensures c.in_ok-beside.ensures.ok c.in_ok-beside.ensures.ready
+    let count = ap (λ (w : ℕ → ℕ → ℕ). w c.args.page 1) (sym c.fill_slots.ensures.unchanged.words) in
+    slots_ready g.R.Look.kept g.R.Look.standing g.R.Look.words c.args.level c.args.page c.args.pair.now c.rank.result c.saturating_sub-at.result c.args.room.now c.fill_slots.new.look c.requires.tree same ranked c.saturating_sub-at.ensures c.fill_slots.new.slots.items c.in_ok-beside.beside.items c.replace_at.new.slots.items (g.R.Look.words c.sharing_children.new.look c.args.page 1) c.put_below.new.room count c.fill_slots.ensures.slots c.replace_at.ensures c.in_ok-beside.ensures.ok c.in_ok-beside.ensures.ready
 
 pub put_at-returns-clause-some : goal.put_at-returns-clause-some
 put_at-returns-clause-some g t c =
-    let same = unchanged_trans g.R.Look.kept g.R.Look.standing g.R.Look.words c.args.room.now c.sharing_children.new.look c.slots_of-slots.new.look
-    (unchanged_trans g.R.Look.kept g.R.Look.standing g.R.Look.words c.args.room.now c.rank.new.look c.sharing_children.new.look c.rank.ensures.unchanged c.sharing_children.ensures.unchanged) c.slots_of-slots.ensures.unchanged in
+    let same = unchanged_trans g.R.Look.kept g.R.Look.standing g.R.Look.words c.args.room.now c.sharing_children.new.look c.fill_slots.new.look
+    (unchanged_trans g.R.Look.kept g.R.Look.standing g.R.Look.words c.args.room.now c.rank.new.look c.sharing_children.new.look c.rank.ensures.unchanged c.sharing_children.ensures.unchanged) c.fill_slots.ensures.unchanged in
     let ranked = subst (λ (w : ℕ → ℕ → ℕ). IsRank c.args.pair.now.key (items_of (w c.args.page)) c.rank.result) (sym same.words)
     (subst (λ (k : List ℕ). IsRank k (items_of (g.R.Look.words c.args.room.now c.args.page)) c.rank.result) c.key.ensures c.rank.ensures.rank) in
-    let count = ap (λ (w : ℕ → ℕ → ℕ). w c.args.page 1) (sym c.slots_of-slots.ensures.unchanged.words) in
+    let count = ap (λ (w : ℕ → ℕ → ℕ). w c.args.page 1) (sym c.fill_slots.ensures.unchanged.words) in
     let whole = ap (λ (w : ℕ → ℕ → ℕ). w c.args.page 1) same.words in
-    let len = slots_length g.R.Look.kept g.R.Look.standing g.R.Look.words c.args.level c.args.page c.args.pair.now c.rank.result c.saturating_sub-at.result c.args.room.now c.slots_of-slots.new.look c.requires.tree same ranked c.saturating_sub-at.ensures c.slots_of-slots.result.items c.in_ok-beside.beside.items c.replace_at.new.slots.items (g.R.Look.words c.sharing_children.new.look c.args.page 1) c.put_below.new.room count c.slots_of-slots.ensures.slots c.replace_at.ensures in
-    let all = slots_count g.R.Look.kept g.R.Look.standing g.R.Look.words c.args.level c.args.page c.args.pair.now c.rank.result c.saturating_sub-at.result c.args.room.now c.slots_of-slots.new.look c.requires.tree same ranked c.saturating_sub-at.ensures c.slots_of-slots.result.items c.in_ok-beside.beside.items c.replace_at.new.slots.items (g.R.Look.words c.sharing_children.new.look c.args.page 1) c.put_below.new.room count c.slots_of-slots.ensures.slots c.replace_at.ensures in
+    let len = slots_length g.R.Look.kept g.R.Look.standing g.R.Look.words c.args.level c.args.page c.args.pair.now c.rank.result c.saturating_sub-at.result c.args.room.now c.fill_slots.new.look c.requires.tree same ranked c.saturating_sub-at.ensures c.fill_slots.new.slots.items c.in_ok-beside.beside.items c.replace_at.new.slots.items (g.R.Look.words c.sharing_children.new.look c.args.page 1) c.put_below.new.room count c.fill_slots.ensures.slots c.replace_at.ensures in
+    let all = slots_count g.R.Look.kept g.R.Look.standing g.R.Look.words c.args.level c.args.page c.args.pair.now c.rank.result c.saturating_sub-at.result c.args.room.now c.fill_slots.new.look c.requires.tree same ranked c.saturating_sub-at.ensures c.fill_slots.new.slots.items c.in_ok-beside.beside.items c.replace_at.new.slots.items (g.R.Look.words c.sharing_children.new.look c.args.page 1) c.put_below.new.room count c.fill_slots.ensures.slots c.replace_at.ensures in
     let n = items_count (g.R.Look.words c.args.room.now c.args.page) in
     (omega (arith, len, all, n, whole, c.in_ok-beside.ensures.some), omega (arith, len, all, n, whole, c.in_ok-beside.ensures.some, c.requires.tree.node.is_page.few))
 
-pub put_shared-slots_of-slots-requires-clause-readable : goal.put_shared-slots_of-slots-requires-clause-readable
-put_shared-slots_of-slots-requires-clause-readable g t c =
+pub put_shared-fill_slots-requires-clause-readable : goal.put_shared-fill_slots-requires-clause-readable
+put_shared-fill_slots-requires-clause-readable g t c =
     let old = c.args.room.now in
     let words = g.R.Look.words old in
     let r = c.args.right in
@@ -247,8 +259,8 @@ put_shared-slots_of-slots-requires-clause-readable g t c =
     let all = put pair (pairs_at level words r) in
     left_readable g.R.Look.kept g.R.Look.standing g.R.Look.words level c.args.left r old c.requires.neighbours all pair c.in_ok-more.more.items c.put_at.new.room c.in_ok-more.ensures.ok
 
-pub put_shared-slots_of-slots-requires-clause-page : goal.put_shared-slots_of-slots-requires-clause-page
-put_shared-slots_of-slots-requires-clause-page g t c =
+pub put_shared-fill_slots-requires-clause-page : goal.put_shared-fill_slots-requires-clause-page
+put_shared-fill_slots-requires-clause-page g t c =
     let old = c.args.room.now in
     let words = g.R.Look.words old in
     let r = c.args.right in
@@ -268,7 +280,7 @@ put_shared-append-requires g t c =
     let mid = c.put_at.new.room in
     let all = put pair (pairs_at level words r) in
     let count = left_count g.R.Look.kept g.R.Look.standing g.R.Look.words level l r old c.requires.neighbours all pair c.in_ok-more.more.items mid c.in_ok-more.ensures.ok in
-    let len = ap length c.slots_of-slots.ensures.slots ∙ length-map-range_with_len (λ (j : ℕ). At l (place_of j)) 0 (g.R.Look.words mid l 1) in
+    let len = ap length c.fill_slots.ensures.slots ∙ length-map-range_with_len (λ (j : ℕ). At l (place_of j)) 0 (g.R.Look.words mid l 1) in
     omega (arith, len, count, c.requires.roomy, c.in_ok-more.ensures.some, ap length c.deref.ensures.0)
 
 pub put_shared-pack_two-requires-clause-below : goal.put_shared-pack_two-requires-clause-below
@@ -280,10 +292,10 @@ put_shared-pack_two-requires-clause-below g t c =
     let pair = c.args.pair.now in
     let sub = c.in_ok-more.more.items in
     let all = put pair (pairs_at level words r) in
-    let other = c.slots_of-slots.result.items in
+    let other = c.fill_slots.new.slots.items in
     let slots = c.deref-2.result.now in
     let e : slots ≡ other ++ sub = c.deref-2.ensures.0 ∙ c.append.ensures ∙ ap (λ (xs : List Slot). other ++ xs) c.deref.ensures.0 in
-    let joined = right_changed g.R.Look.kept g.R.Look.standing g.R.Look.words level c.args.left r old c.requires.neighbours all pair sub other slots c.put_at.new.room c.slots_of-slots.new.look c.slots_of-slots.ensures.unchanged c.in_ok-more.ensures.ok c.slots_of-slots.ensures.slots e c.requires.rising in
+    let joined = right_changed g.R.Look.kept g.R.Look.standing g.R.Look.words level c.args.left r old c.requires.neighbours all pair sub other slots c.put_at.new.room c.fill_slots.new.look c.fill_slots.ensures.unchanged c.in_ok-more.ensures.ok c.fill_slots.ensures.slots e c.requires.rising in
     joined.below
 
 pub put_shared-pack_two-requires-clause-ready : goal.put_shared-pack_two-requires-clause-ready
@@ -295,10 +307,10 @@ put_shared-pack_two-requires-clause-ready g t c =
     let pair = c.args.pair.now in
     let sub = c.in_ok-more.more.items in
     let all = put pair (pairs_at level words r) in
-    let other = c.slots_of-slots.result.items in
+    let other = c.fill_slots.new.slots.items in
     let slots = c.deref-2.result.now in
     let e : slots ≡ other ++ sub = c.deref-2.ensures.0 ∙ c.append.ensures ∙ ap (λ (xs : List Slot). other ++ xs) c.deref.ensures.0 in
-    right_in_hand g.R.Look.kept g.R.Look.standing g.R.Look.words level c.args.left r old c.requires.neighbours all pair sub other slots c.put_at.new.room c.slots_of-slots.new.look c.slots_of-slots.ensures.unchanged c.in_ok-more.ensures.ok c.slots_of-slots.ensures.slots e c.in_ok-more.ensures.ready
+    right_in_hand g.R.Look.kept g.R.Look.standing g.R.Look.words level c.args.left r old c.requires.neighbours all pair sub other slots c.put_at.new.room c.fill_slots.new.look c.fill_slots.ensures.unchanged c.in_ok-more.ensures.ok c.fill_slots.ensures.slots e c.in_ok-more.ensures.ready
 
 pub put_shared-pack_two-requires-clause-enough : goal.put_shared-pack_two-requires-clause-enough
 put_shared-pack_two-requires-clause-enough g t c =
@@ -311,10 +323,10 @@ put_shared-pack_two-requires-clause-enough g t c =
     let two = c.requires.neighbours in
     let sub = c.in_ok-more.more.items in
     let all = put pair (pairs_at level words r) in
-    let other = c.slots_of-slots.result.items in
+    let other = c.fill_slots.new.slots.items in
     let slots = c.deref-2.result.now in
     let e : slots ≡ other ++ sub = c.deref-2.ensures.0 ∙ c.append.ensures ∙ ap (λ (xs : List Slot). other ++ xs) c.deref.ensures.0 in
-    let len = right_length g.R.Look.kept g.R.Look.standing g.R.Look.words level l r old two all pair sub other slots c.put_at.new.room c.slots_of-slots.new.look c.slots_of-slots.ensures.unchanged c.in_ok-more.ensures.ok c.slots_of-slots.ensures.slots e in
+    let len = right_length g.R.Look.kept g.R.Look.standing g.R.Look.words level l r old two all pair sub other slots c.put_at.new.room c.fill_slots.new.look c.fill_slots.ensures.unchanged c.in_ok-more.ensures.ok c.fill_slots.ensures.slots e in
     omega (arith, len, c.in_ok-more.ensures.some, items_count (words l), two.left_tree.node.enough)
 
 pub put_shared-pack_two-requires-clause-few : goal.put_shared-pack_two-requires-clause-few
@@ -326,10 +338,10 @@ put_shared-pack_two-requires-clause-few g t c =
     let pair = c.args.pair.now in
     let sub = c.in_ok-more.more.items in
     let all = put pair (pairs_at level words r) in
-    let other = c.slots_of-slots.result.items in
+    let other = c.fill_slots.new.slots.items in
     let slots = c.deref-2.result.now in
     let e : slots ≡ other ++ sub = c.deref-2.ensures.0 ∙ c.append.ensures ∙ ap (λ (xs : List Slot). other ++ xs) c.deref.ensures.0 in
-    let len = right_length g.R.Look.kept g.R.Look.standing g.R.Look.words level c.args.left r old c.requires.neighbours all pair sub other slots c.put_at.new.room c.slots_of-slots.new.look c.slots_of-slots.ensures.unchanged c.in_ok-more.ensures.ok c.slots_of-slots.ensures.slots e in
+    let len = right_length g.R.Look.kept g.R.Look.standing g.R.Look.words level c.args.left r old c.requires.neighbours all pair sub other slots c.put_at.new.room c.fill_slots.new.look c.fill_slots.ensures.unchanged c.in_ok-more.ensures.ok c.fill_slots.ensures.slots e in
     omega (arith, len, c.in_ok-more.ensures.some, c.requires.roomy)
 
 pub put_shared-pack_two-requires-clause-left_kept : goal.put_shared-pack_two-requires-clause-left_kept
@@ -341,10 +353,10 @@ put_shared-pack_two-requires-clause-left_kept g t c =
     let pair = c.args.pair.now in
     let sub = c.in_ok-more.more.items in
     let all = put pair (pairs_at level words r) in
-    let other = c.slots_of-slots.result.items in
+    let other = c.fill_slots.new.slots.items in
     let slots = c.deref-2.result.now in
     let e : slots ≡ other ++ sub = c.deref-2.ensures.0 ∙ c.append.ensures ∙ ap (λ (xs : List Slot). other ++ xs) c.deref.ensures.0 in
-    let joined = right_changed g.R.Look.kept g.R.Look.standing g.R.Look.words level c.args.left r old c.requires.neighbours all pair sub other slots c.put_at.new.room c.slots_of-slots.new.look c.slots_of-slots.ensures.unchanged c.in_ok-more.ensures.ok c.slots_of-slots.ensures.slots e c.requires.rising in
+    let joined = right_changed g.R.Look.kept g.R.Look.standing g.R.Look.words level c.args.left r old c.requires.neighbours all pair sub other slots c.put_at.new.room c.fill_slots.new.look c.fill_slots.ensures.unchanged c.in_ok-more.ensures.ok c.fill_slots.ensures.slots e c.requires.rising in
     joined.left_is_kept
 
 pub put_shared-pack_two-requires-clause-right_kept : goal.put_shared-pack_two-requires-clause-right_kept
@@ -356,10 +368,10 @@ put_shared-pack_two-requires-clause-right_kept g t c =
     let pair = c.args.pair.now in
     let sub = c.in_ok-more.more.items in
     let all = put pair (pairs_at level words r) in
-    let other = c.slots_of-slots.result.items in
+    let other = c.fill_slots.new.slots.items in
     let slots = c.deref-2.result.now in
     let e : slots ≡ other ++ sub = c.deref-2.ensures.0 ∙ c.append.ensures ∙ ap (λ (xs : List Slot). other ++ xs) c.deref.ensures.0 in
-    let joined = right_changed g.R.Look.kept g.R.Look.standing g.R.Look.words level c.args.left r old c.requires.neighbours all pair sub other slots c.put_at.new.room c.slots_of-slots.new.look c.slots_of-slots.ensures.unchanged c.in_ok-more.ensures.ok c.slots_of-slots.ensures.slots e c.requires.rising in
+    let joined = right_changed g.R.Look.kept g.R.Look.standing g.R.Look.words level c.args.left r old c.requires.neighbours all pair sub other slots c.put_at.new.room c.fill_slots.new.look c.fill_slots.ensures.unchanged c.in_ok-more.ensures.ok c.fill_slots.ensures.slots e c.requires.rising in
     joined.right_is_kept
 
 pub put_shared-pack_two-requires-clause-left_apart : goal.put_shared-pack_two-requires-clause-left_apart
@@ -371,10 +383,10 @@ put_shared-pack_two-requires-clause-left_apart g t c =
     let pair = c.args.pair.now in
     let sub = c.in_ok-more.more.items in
     let all = put pair (pairs_at level words r) in
-    let other = c.slots_of-slots.result.items in
+    let other = c.fill_slots.new.slots.items in
     let slots = c.deref-2.result.now in
     let e : slots ≡ other ++ sub = c.deref-2.ensures.0 ∙ c.append.ensures ∙ ap (λ (xs : List Slot). other ++ xs) c.deref.ensures.0 in
-    let joined = right_changed g.R.Look.kept g.R.Look.standing g.R.Look.words level c.args.left r old c.requires.neighbours all pair sub other slots c.put_at.new.room c.slots_of-slots.new.look c.slots_of-slots.ensures.unchanged c.in_ok-more.ensures.ok c.slots_of-slots.ensures.slots e c.requires.rising in
+    let joined = right_changed g.R.Look.kept g.R.Look.standing g.R.Look.words level c.args.left r old c.requires.neighbours all pair sub other slots c.put_at.new.room c.fill_slots.new.look c.fill_slots.ensures.unchanged c.in_ok-more.ensures.ok c.fill_slots.ensures.slots e c.requires.rising in
     joined.left_beside
 
 pub put_shared-pack_two-requires-clause-right_apart : goal.put_shared-pack_two-requires-clause-right_apart
@@ -386,10 +398,10 @@ put_shared-pack_two-requires-clause-right_apart g t c =
     let pair = c.args.pair.now in
     let sub = c.in_ok-more.more.items in
     let all = put pair (pairs_at level words r) in
-    let other = c.slots_of-slots.result.items in
+    let other = c.fill_slots.new.slots.items in
     let slots = c.deref-2.result.now in
     let e : slots ≡ other ++ sub = c.deref-2.ensures.0 ∙ c.append.ensures ∙ ap (λ (xs : List Slot). other ++ xs) c.deref.ensures.0 in
-    let joined = right_changed g.R.Look.kept g.R.Look.standing g.R.Look.words level c.args.left r old c.requires.neighbours all pair sub other slots c.put_at.new.room c.slots_of-slots.new.look c.slots_of-slots.ensures.unchanged c.in_ok-more.ensures.ok c.slots_of-slots.ensures.slots e c.requires.rising in
+    let joined = right_changed g.R.Look.kept g.R.Look.standing g.R.Look.words level c.args.left r old c.requires.neighbours all pair sub other slots c.put_at.new.room c.fill_slots.new.look c.fill_slots.ensures.unchanged c.in_ok-more.ensures.ok c.fill_slots.ensures.slots e c.requires.rising in
     joined.right_beside
 
 pub put_shared-pack_two-requires-clause-different : goal.put_shared-pack_two-requires-clause-different
@@ -405,11 +417,11 @@ put_shared-returns-in_err-branches-clause-err g t c =
     let pair = c.args.pair.now in
     let sub = c.in_ok-more.more.items in
     let all = put pair (pairs_at level words r) in
-    let read = c.slots_of-slots.new.look in
-    let other = c.slots_of-slots.result.items in
+    let read = c.fill_slots.new.look in
+    let other = c.fill_slots.new.slots.items in
     let slots = c.deref-2.result.now in
     let e : slots ≡ other ++ sub = c.deref-2.ensures.0 ∙ c.append.ensures ∙ ap (λ (xs : List Slot). other ++ xs) c.deref.ensures.0 in
-    let joined = right_changed g.R.Look.kept g.R.Look.standing g.R.Look.words level c.args.left r old c.requires.neighbours all pair sub other slots c.put_at.new.room read c.slots_of-slots.ensures.unchanged c.in_ok-more.ensures.ok c.slots_of-slots.ensures.slots e c.requires.rising in
+    let joined = right_changed g.R.Look.kept g.R.Look.standing g.R.Look.words level c.args.left r old c.requires.neighbours all pair sub other slots c.put_at.new.room read c.fill_slots.ensures.unchanged c.in_ok-more.ensures.ok c.fill_slots.ensures.slots e c.requires.rising in
     on_err _ (start_trans g.R.Look.kept g.R.Look.standing g.R.Look.words old read c.pack_two.new.room joined.start c.in_err-branches.ensures.err)
 
 pub put_shared-returns-clause-ok : goal.put_shared-returns-clause-ok
@@ -421,10 +433,10 @@ put_shared-returns-clause-ok g t c =
     let pair = c.args.pair.now in
     let sub = c.in_ok-more.more.items in
     let all = put pair (pairs_at level words r) in
-    let other = c.slots_of-slots.result.items in
+    let other = c.fill_slots.new.slots.items in
     let slots = c.deref-2.result.now in
     let e : slots ≡ other ++ sub = c.deref-2.ensures.0 ∙ c.append.ensures ∙ ap (λ (xs : List Slot). other ++ xs) c.deref.ensures.0 in
-    let joined = right_changed g.R.Look.kept g.R.Look.standing g.R.Look.words level c.args.left r old c.requires.neighbours all pair sub other slots c.put_at.new.room c.slots_of-slots.new.look c.slots_of-slots.ensures.unchanged c.in_ok-more.ensures.ok c.slots_of-slots.ensures.slots e c.requires.rising in
+    let joined = right_changed g.R.Look.kept g.R.Look.standing g.R.Look.words level c.args.left r old c.requires.neighbours all pair sub other slots c.put_at.new.room c.fill_slots.new.look c.fill_slots.ensures.unchanged c.in_ok-more.ensures.ok c.fill_slots.ensures.slots e c.requires.rising in
     joined.written (pairs_of (g.R.Look.words c.pack_two.new.room) pair c.in_ok-branches.branches.items) c.pack_two.new.room c.in_ok-branches.ensures.ok
 
 pub put_shared-returns-clause-two : goal.put_shared-returns-clause-two
@@ -438,10 +450,10 @@ put_shared-returns-clause-two g t c =
     let two = c.requires.neighbours in
     let sub = c.in_ok-more.more.items in
     let all = put pair (pairs_at level words r) in
-    let other = c.slots_of-slots.result.items in
+    let other = c.fill_slots.new.slots.items in
     let slots = c.deref-2.result.now in
     let e : slots ≡ other ++ sub = c.deref-2.ensures.0 ∙ c.append.ensures ∙ ap (λ (xs : List Slot). other ++ xs) c.deref.ensures.0 in
-    let len = right_length g.R.Look.kept g.R.Look.standing g.R.Look.words level l r old two all pair sub other slots c.put_at.new.room c.slots_of-slots.new.look c.slots_of-slots.ensures.unchanged c.in_ok-more.ensures.ok c.slots_of-slots.ensures.slots e in
+    let len = right_length g.R.Look.kept g.R.Look.standing g.R.Look.words level l r old two all pair sub other slots c.put_at.new.room c.fill_slots.new.look c.fill_slots.ensures.unchanged c.in_ok-more.ensures.ok c.fill_slots.ensures.slots e in
     c.in_ok-branches.ensures.two (omega (arith, len, c.in_ok-more.ensures.some, c.requires.crowded, items_count (words l), items_count (words r), two.left_tree.node.enough))
 
 pub put_below-returns-then-level-eq0-clause-ok : goal.put_below-returns-then-level-eq0-clause-ok

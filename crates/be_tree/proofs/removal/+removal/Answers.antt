@@ -314,8 +314,8 @@ remove_at-returns-clause-some g t c =
     let page_kept = page_count g.R.Look.kept g.R.Look.standing g.R.Look.words level (level - 1) (least_of_root level) page i c.two_children-before.result.0 c.two_children-before.result.1 old here c.two_children-before.new.look e tree lt same c.two_children-before.ensures.unchanged c.two_children-before.ensures.left c.two_children-before.ensures.right f us mid c.in_ok-two-2.ensures.ok in
     (omega (arith, c.slots_with-2.ensures.len, c.in_ok-two-2.ensures.some, page_kept, items_count (words page)), omega (arith, c.slots_with-2.ensures.len, c.in_ok-two-2.ensures.some, page_kept, tree.node.is_page.few))
 
-pub remove_left-slots_of-others-requires-clause-readable : goal.remove_left-slots_of-others-requires-clause-readable
-remove_left-slots_of-others-requires-clause-readable g t c =
+pub remove_left-fill_slots-requires-clause-readable : goal.remove_left-fill_slots-requires-clause-readable
+remove_left-fill_slots-requires-clause-readable g t c =
     let old = c.args.room.now in
     let words = g.R.Look.words old in
     let l = c.args.left in
@@ -323,8 +323,8 @@ remove_left-slots_of-others-requires-clause-readable g t c =
     let all = without c.args.key.now (pairs_at level words l) in
     right_readable g.R.Look.kept g.R.Look.standing g.R.Look.words level l c.args.right old c.requires.neighbours all c.args.pair.now c.in_ok-slots.slots.items c.remove_at.new.room c.in_ok-slots.ensures.ok
 
-pub remove_left-slots_of-others-requires-clause-page : goal.remove_left-slots_of-others-requires-clause-page
-remove_left-slots_of-others-requires-clause-page g t c =
+pub remove_left-fill_slots-requires-clause-page : goal.remove_left-fill_slots-requires-clause-page
+remove_left-fill_slots-requires-clause-page g t c =
     let old = c.args.room.now in
     let words = g.R.Look.words old in
     let l = c.args.left in
@@ -343,7 +343,7 @@ remove_left-append-requires g t c =
     let mid = c.remove_at.new.room in
     let all = without c.args.key.now (pairs_at level words l) in
     let count = right_count g.R.Look.kept g.R.Look.standing g.R.Look.words level l r old two all c.args.pair.now c.in_ok-slots.slots.items mid c.in_ok-slots.ensures.ok in
-    let len = ap length c.slots_of-others.ensures.slots ∙ length-map-range_with_len (λ (j : ℕ). At r (place_of j)) 0 (g.R.Look.words mid r 1) in
+    let len = ap length c.fill_slots.ensures.slots ∙ length-map-range_with_len (λ (j : ℕ). At r (place_of j)) 0 (g.R.Look.words mid r 1) in
     omega (arith, len, count, two.right_tree.node.is_page.few, c.in_ok-slots.ensures.some, ap length c.deref.ensures.0)
 
 pub remove_left-pack_two-requires-clause-below : goal.remove_left-pack_two-requires-clause-below
@@ -356,10 +356,10 @@ remove_left-pack_two-requires-clause-below g t c =
     let two = c.requires.neighbours in
     let sub = c.in_ok-slots.slots.items in
     let all = without c.args.key.now (pairs_at level words l) in
-    let other = c.slots_of-others.result.items in
+    let other = c.fill_slots.new.slots.items in
     let slots = c.deref-2.result.now in
     let e : slots ≡ sub ++ other = c.deref-2.ensures.0 ∙ c.append.ensures ∙ ap (λ (xs : List Slot). sub ++ xs) c.deref.ensures.0 in
-    let joined = left_changed g.R.Look.kept g.R.Look.standing g.R.Look.words level l r old two all c.args.pair.now sub other slots c.remove_at.new.room c.slots_of-others.new.look c.slots_of-others.ensures.unchanged c.in_ok-slots.ensures.ok c.slots_of-others.ensures.slots e (rising_without_left c.args.key.now (pairs_at level words l) (pairs_at level words r) two.rising) in
+    let joined = left_changed g.R.Look.kept g.R.Look.standing g.R.Look.words level l r old two all c.args.pair.now sub other slots c.remove_at.new.room c.fill_slots.new.look c.fill_slots.ensures.unchanged c.in_ok-slots.ensures.ok c.fill_slots.ensures.slots e (rising_without_left c.args.key.now (pairs_at level words l) (pairs_at level words r) two.rising) in
     joined.below
 
 pub remove_left-pack_two-requires-clause-ready : goal.remove_left-pack_two-requires-clause-ready
@@ -370,10 +370,10 @@ remove_left-pack_two-requires-clause-ready g t c =
     let level = c.args.level in
     let sub = c.in_ok-slots.slots.items in
     let all = without c.args.key.now (pairs_at level words l) in
-    let other = c.slots_of-others.result.items in
+    let other = c.fill_slots.new.slots.items in
     let slots = c.deref-2.result.now in
     let e : slots ≡ sub ++ other = c.deref-2.ensures.0 ∙ c.append.ensures ∙ ap (λ (xs : List Slot). sub ++ xs) c.deref.ensures.0 in
-    left_in_hand g.R.Look.kept g.R.Look.standing g.R.Look.words level l c.args.right old c.requires.neighbours all c.args.pair.now sub other slots c.remove_at.new.room c.slots_of-others.new.look c.slots_of-others.ensures.unchanged c.in_ok-slots.ensures.ok c.slots_of-others.ensures.slots e c.in_ok-slots.ensures.ready
+    left_in_hand g.R.Look.kept g.R.Look.standing g.R.Look.words level l c.args.right old c.requires.neighbours all c.args.pair.now sub other slots c.remove_at.new.room c.fill_slots.new.look c.fill_slots.ensures.unchanged c.in_ok-slots.ensures.ok c.fill_slots.ensures.slots e c.in_ok-slots.ensures.ready
 
 pub remove_left-pack_two-requires-clause-enough : goal.remove_left-pack_two-requires-clause-enough
 remove_left-pack_two-requires-clause-enough g t c =
@@ -385,10 +385,10 @@ remove_left-pack_two-requires-clause-enough g t c =
     let two = c.requires.neighbours in
     let sub = c.in_ok-slots.slots.items in
     let all = without c.args.key.now (pairs_at level words l) in
-    let other = c.slots_of-others.result.items in
+    let other = c.fill_slots.new.slots.items in
     let slots = c.deref-2.result.now in
     let e : slots ≡ sub ++ other = c.deref-2.ensures.0 ∙ c.append.ensures ∙ ap (λ (xs : List Slot). sub ++ xs) c.deref.ensures.0 in
-    let len = left_length g.R.Look.kept g.R.Look.standing g.R.Look.words level l r old two all c.args.pair.now sub other slots c.remove_at.new.room c.slots_of-others.new.look c.slots_of-others.ensures.unchanged c.in_ok-slots.ensures.ok c.slots_of-others.ensures.slots e in
+    let len = left_length g.R.Look.kept g.R.Look.standing g.R.Look.words level l r old two all c.args.pair.now sub other slots c.remove_at.new.room c.fill_slots.new.look c.fill_slots.ensures.unchanged c.in_ok-slots.ensures.ok c.fill_slots.ensures.slots e in
     omega (arith, len, c.in_ok-slots.ensures.some, items_count (words l), items_count (words r), two.left_tree.node.enough, two.right_tree.node.enough)
 
 pub remove_left-pack_two-requires-clause-left_kept : goal.remove_left-pack_two-requires-clause-left_kept
@@ -401,10 +401,10 @@ remove_left-pack_two-requires-clause-left_kept g t c =
     let two = c.requires.neighbours in
     let sub = c.in_ok-slots.slots.items in
     let all = without c.args.key.now (pairs_at level words l) in
-    let other = c.slots_of-others.result.items in
+    let other = c.fill_slots.new.slots.items in
     let slots = c.deref-2.result.now in
     let e : slots ≡ sub ++ other = c.deref-2.ensures.0 ∙ c.append.ensures ∙ ap (λ (xs : List Slot). sub ++ xs) c.deref.ensures.0 in
-    let joined = left_changed g.R.Look.kept g.R.Look.standing g.R.Look.words level l r old two all c.args.pair.now sub other slots c.remove_at.new.room c.slots_of-others.new.look c.slots_of-others.ensures.unchanged c.in_ok-slots.ensures.ok c.slots_of-others.ensures.slots e (rising_without_left c.args.key.now (pairs_at level words l) (pairs_at level words r) two.rising) in
+    let joined = left_changed g.R.Look.kept g.R.Look.standing g.R.Look.words level l r old two all c.args.pair.now sub other slots c.remove_at.new.room c.fill_slots.new.look c.fill_slots.ensures.unchanged c.in_ok-slots.ensures.ok c.fill_slots.ensures.slots e (rising_without_left c.args.key.now (pairs_at level words l) (pairs_at level words r) two.rising) in
     joined.left_is_kept
 
 pub remove_left-pack_two-requires-clause-right_kept : goal.remove_left-pack_two-requires-clause-right_kept
@@ -417,10 +417,10 @@ remove_left-pack_two-requires-clause-right_kept g t c =
     let two = c.requires.neighbours in
     let sub = c.in_ok-slots.slots.items in
     let all = without c.args.key.now (pairs_at level words l) in
-    let other = c.slots_of-others.result.items in
+    let other = c.fill_slots.new.slots.items in
     let slots = c.deref-2.result.now in
     let e : slots ≡ sub ++ other = c.deref-2.ensures.0 ∙ c.append.ensures ∙ ap (λ (xs : List Slot). sub ++ xs) c.deref.ensures.0 in
-    let joined = left_changed g.R.Look.kept g.R.Look.standing g.R.Look.words level l r old two all c.args.pair.now sub other slots c.remove_at.new.room c.slots_of-others.new.look c.slots_of-others.ensures.unchanged c.in_ok-slots.ensures.ok c.slots_of-others.ensures.slots e (rising_without_left c.args.key.now (pairs_at level words l) (pairs_at level words r) two.rising) in
+    let joined = left_changed g.R.Look.kept g.R.Look.standing g.R.Look.words level l r old two all c.args.pair.now sub other slots c.remove_at.new.room c.fill_slots.new.look c.fill_slots.ensures.unchanged c.in_ok-slots.ensures.ok c.fill_slots.ensures.slots e (rising_without_left c.args.key.now (pairs_at level words l) (pairs_at level words r) two.rising) in
     joined.right_is_kept
 
 pub remove_left-pack_two-requires-clause-left_apart : goal.remove_left-pack_two-requires-clause-left_apart
@@ -433,10 +433,10 @@ remove_left-pack_two-requires-clause-left_apart g t c =
     let two = c.requires.neighbours in
     let sub = c.in_ok-slots.slots.items in
     let all = without c.args.key.now (pairs_at level words l) in
-    let other = c.slots_of-others.result.items in
+    let other = c.fill_slots.new.slots.items in
     let slots = c.deref-2.result.now in
     let e : slots ≡ sub ++ other = c.deref-2.ensures.0 ∙ c.append.ensures ∙ ap (λ (xs : List Slot). sub ++ xs) c.deref.ensures.0 in
-    let joined = left_changed g.R.Look.kept g.R.Look.standing g.R.Look.words level l r old two all c.args.pair.now sub other slots c.remove_at.new.room c.slots_of-others.new.look c.slots_of-others.ensures.unchanged c.in_ok-slots.ensures.ok c.slots_of-others.ensures.slots e (rising_without_left c.args.key.now (pairs_at level words l) (pairs_at level words r) two.rising) in
+    let joined = left_changed g.R.Look.kept g.R.Look.standing g.R.Look.words level l r old two all c.args.pair.now sub other slots c.remove_at.new.room c.fill_slots.new.look c.fill_slots.ensures.unchanged c.in_ok-slots.ensures.ok c.fill_slots.ensures.slots e (rising_without_left c.args.key.now (pairs_at level words l) (pairs_at level words r) two.rising) in
     joined.left_beside
 
 pub remove_left-pack_two-requires-clause-right_apart : goal.remove_left-pack_two-requires-clause-right_apart
@@ -449,10 +449,10 @@ remove_left-pack_two-requires-clause-right_apart g t c =
     let two = c.requires.neighbours in
     let sub = c.in_ok-slots.slots.items in
     let all = without c.args.key.now (pairs_at level words l) in
-    let other = c.slots_of-others.result.items in
+    let other = c.fill_slots.new.slots.items in
     let slots = c.deref-2.result.now in
     let e : slots ≡ sub ++ other = c.deref-2.ensures.0 ∙ c.append.ensures ∙ ap (λ (xs : List Slot). sub ++ xs) c.deref.ensures.0 in
-    let joined = left_changed g.R.Look.kept g.R.Look.standing g.R.Look.words level l r old two all c.args.pair.now sub other slots c.remove_at.new.room c.slots_of-others.new.look c.slots_of-others.ensures.unchanged c.in_ok-slots.ensures.ok c.slots_of-others.ensures.slots e (rising_without_left c.args.key.now (pairs_at level words l) (pairs_at level words r) two.rising) in
+    let joined = left_changed g.R.Look.kept g.R.Look.standing g.R.Look.words level l r old two all c.args.pair.now sub other slots c.remove_at.new.room c.fill_slots.new.look c.fill_slots.ensures.unchanged c.in_ok-slots.ensures.ok c.fill_slots.ensures.slots e (rising_without_left c.args.key.now (pairs_at level words l) (pairs_at level words r) two.rising) in
     joined.right_beside
 
 pub remove_left-pack_two-requires-clause-different : goal.remove_left-pack_two-requires-clause-different
@@ -469,11 +469,11 @@ remove_left-returns-in_err-branches-clause-err g t c =
     let two = c.requires.neighbours in
     let sub = c.in_ok-slots.slots.items in
     let all = without c.args.key.now (pairs_at level words l) in
-    let read = c.slots_of-others.new.look in
-    let other = c.slots_of-others.result.items in
+    let read = c.fill_slots.new.look in
+    let other = c.fill_slots.new.slots.items in
     let slots = c.deref-2.result.now in
     let e : slots ≡ sub ++ other = c.deref-2.ensures.0 ∙ c.append.ensures ∙ ap (λ (xs : List Slot). sub ++ xs) c.deref.ensures.0 in
-    let joined = left_changed g.R.Look.kept g.R.Look.standing g.R.Look.words level l r old two all c.args.pair.now sub other slots c.remove_at.new.room read c.slots_of-others.ensures.unchanged c.in_ok-slots.ensures.ok c.slots_of-others.ensures.slots e (rising_without_left c.args.key.now (pairs_at level words l) (pairs_at level words r) two.rising) in
+    let joined = left_changed g.R.Look.kept g.R.Look.standing g.R.Look.words level l r old two all c.args.pair.now sub other slots c.remove_at.new.room read c.fill_slots.ensures.unchanged c.in_ok-slots.ensures.ok c.fill_slots.ensures.slots e (rising_without_left c.args.key.now (pairs_at level words l) (pairs_at level words r) two.rising) in
     on_err _ (start_trans g.R.Look.kept g.R.Look.standing g.R.Look.words old read c.pack_two.new.room joined.start c.in_err-branches.ensures.err)
 
 pub remove_left-returns-clause-ok : goal.remove_left-returns-clause-ok
@@ -487,14 +487,14 @@ remove_left-returns-clause-ok g t c =
     let two = c.requires.neighbours in
     let sub = c.in_ok-slots.slots.items in
     let all = without c.args.key.now (pairs_at level words l) in
-    let other = c.slots_of-others.result.items in
+    let other = c.fill_slots.new.slots.items in
     let slots = c.deref-2.result.now in
     let e : slots ≡ sub ++ other = c.deref-2.ensures.0 ∙ c.append.ensures ∙ ap (λ (xs : List Slot). sub ++ xs) c.deref.ensures.0 in
-    let joined = left_changed g.R.Look.kept g.R.Look.standing g.R.Look.words level l r old two all pair sub other slots c.remove_at.new.room c.slots_of-others.new.look c.slots_of-others.ensures.unchanged c.in_ok-slots.ensures.ok c.slots_of-others.ensures.slots e (rising_without_left c.args.key.now (pairs_at level words l) (pairs_at level words r) two.rising) in
+    let joined = left_changed g.R.Look.kept g.R.Look.standing g.R.Look.words level l r old two all pair sub other slots c.remove_at.new.room c.fill_slots.new.look c.fill_slots.ensures.unchanged c.in_ok-slots.ensures.ok c.fill_slots.ensures.slots e (rising_without_left c.args.key.now (pairs_at level words l) (pairs_at level words r) two.rising) in
     joined.written (pairs_of (g.R.Look.words c.pack_two.new.room) pair c.in_ok-branches.branches.items) c.pack_two.new.room c.in_ok-branches.ensures.ok
 
-pub remove_right-slots_of-slots-requires-clause-readable : goal.remove_right-slots_of-slots-requires-clause-readable
-remove_right-slots_of-slots-requires-clause-readable g t c =
+pub remove_right-fill_slots-requires-clause-readable : goal.remove_right-fill_slots-requires-clause-readable
+remove_right-fill_slots-requires-clause-readable g t c =
     let old = c.args.room.now in
     let words = g.R.Look.words old in
     let r = c.args.right in
@@ -502,8 +502,8 @@ remove_right-slots_of-slots-requires-clause-readable g t c =
     let all = without c.args.key.now (pairs_at level words r) in
     left_readable g.R.Look.kept g.R.Look.standing g.R.Look.words level c.args.left r old c.requires.neighbours all c.args.pair.now c.in_ok-less.less.items c.remove_at.new.room c.in_ok-less.ensures.ok
 
-pub remove_right-slots_of-slots-requires-clause-page : goal.remove_right-slots_of-slots-requires-clause-page
-remove_right-slots_of-slots-requires-clause-page g t c =
+pub remove_right-fill_slots-requires-clause-page : goal.remove_right-fill_slots-requires-clause-page
+remove_right-fill_slots-requires-clause-page g t c =
     let old = c.args.room.now in
     let words = g.R.Look.words old in
     let r = c.args.right in
@@ -522,7 +522,7 @@ remove_right-append-requires g t c =
     let mid = c.remove_at.new.room in
     let all = without c.args.key.now (pairs_at level words r) in
     let count = left_count g.R.Look.kept g.R.Look.standing g.R.Look.words level l r old two all c.args.pair.now c.in_ok-less.less.items mid c.in_ok-less.ensures.ok in
-    let len = ap length c.slots_of-slots.ensures.slots ∙ length-map-range_with_len (λ (j : ℕ). At l (place_of j)) 0 (g.R.Look.words mid l 1) in
+    let len = ap length c.fill_slots.ensures.slots ∙ length-map-range_with_len (λ (j : ℕ). At l (place_of j)) 0 (g.R.Look.words mid l 1) in
     omega (arith, len, count, two.left_tree.node.is_page.few, c.in_ok-less.ensures.some, ap length c.deref.ensures.0)
 
 pub remove_right-pack_two-requires-clause-below : goal.remove_right-pack_two-requires-clause-below
@@ -535,10 +535,10 @@ remove_right-pack_two-requires-clause-below g t c =
     let two = c.requires.neighbours in
     let sub = c.in_ok-less.less.items in
     let all = without c.args.key.now (pairs_at level words r) in
-    let other = c.slots_of-slots.result.items in
+    let other = c.fill_slots.new.slots.items in
     let slots = c.deref-2.result.now in
     let e : slots ≡ other ++ sub = c.deref-2.ensures.0 ∙ c.append.ensures ∙ ap (λ (xs : List Slot). other ++ xs) c.deref.ensures.0 in
-    let joined = right_changed g.R.Look.kept g.R.Look.standing g.R.Look.words level l r old two all c.args.pair.now sub other slots c.remove_at.new.room c.slots_of-slots.new.look c.slots_of-slots.ensures.unchanged c.in_ok-less.ensures.ok c.slots_of-slots.ensures.slots e (rising_without_right c.args.key.now (pairs_at level words l) (pairs_at level words r) two.rising) in
+    let joined = right_changed g.R.Look.kept g.R.Look.standing g.R.Look.words level l r old two all c.args.pair.now sub other slots c.remove_at.new.room c.fill_slots.new.look c.fill_slots.ensures.unchanged c.in_ok-less.ensures.ok c.fill_slots.ensures.slots e (rising_without_right c.args.key.now (pairs_at level words l) (pairs_at level words r) two.rising) in
     joined.below
 
 pub remove_right-pack_two-requires-clause-ready : goal.remove_right-pack_two-requires-clause-ready
@@ -549,10 +549,10 @@ remove_right-pack_two-requires-clause-ready g t c =
     let level = c.args.level in
     let sub = c.in_ok-less.less.items in
     let all = without c.args.key.now (pairs_at level words r) in
-    let other = c.slots_of-slots.result.items in
+    let other = c.fill_slots.new.slots.items in
     let slots = c.deref-2.result.now in
     let e : slots ≡ other ++ sub = c.deref-2.ensures.0 ∙ c.append.ensures ∙ ap (λ (xs : List Slot). other ++ xs) c.deref.ensures.0 in
-    right_in_hand g.R.Look.kept g.R.Look.standing g.R.Look.words level c.args.left r old c.requires.neighbours all c.args.pair.now sub other slots c.remove_at.new.room c.slots_of-slots.new.look c.slots_of-slots.ensures.unchanged c.in_ok-less.ensures.ok c.slots_of-slots.ensures.slots e c.in_ok-less.ensures.ready
+    right_in_hand g.R.Look.kept g.R.Look.standing g.R.Look.words level c.args.left r old c.requires.neighbours all c.args.pair.now sub other slots c.remove_at.new.room c.fill_slots.new.look c.fill_slots.ensures.unchanged c.in_ok-less.ensures.ok c.fill_slots.ensures.slots e c.in_ok-less.ensures.ready
 
 pub remove_right-pack_two-requires-clause-enough : goal.remove_right-pack_two-requires-clause-enough
 remove_right-pack_two-requires-clause-enough g t c =
@@ -564,10 +564,10 @@ remove_right-pack_two-requires-clause-enough g t c =
     let two = c.requires.neighbours in
     let sub = c.in_ok-less.less.items in
     let all = without c.args.key.now (pairs_at level words r) in
-    let other = c.slots_of-slots.result.items in
+    let other = c.fill_slots.new.slots.items in
     let slots = c.deref-2.result.now in
     let e : slots ≡ other ++ sub = c.deref-2.ensures.0 ∙ c.append.ensures ∙ ap (λ (xs : List Slot). other ++ xs) c.deref.ensures.0 in
-    let len = right_length g.R.Look.kept g.R.Look.standing g.R.Look.words level l r old two all c.args.pair.now sub other slots c.remove_at.new.room c.slots_of-slots.new.look c.slots_of-slots.ensures.unchanged c.in_ok-less.ensures.ok c.slots_of-slots.ensures.slots e in
+    let len = right_length g.R.Look.kept g.R.Look.standing g.R.Look.words level l r old two all c.args.pair.now sub other slots c.remove_at.new.room c.fill_slots.new.look c.fill_slots.ensures.unchanged c.in_ok-less.ensures.ok c.fill_slots.ensures.slots e in
     omega (arith, len, c.in_ok-less.ensures.some, items_count (words l), items_count (words r), two.left_tree.node.enough, two.right_tree.node.enough)
 
 pub remove_right-pack_two-requires-clause-left_kept : goal.remove_right-pack_two-requires-clause-left_kept
@@ -580,10 +580,10 @@ remove_right-pack_two-requires-clause-left_kept g t c =
     let two = c.requires.neighbours in
     let sub = c.in_ok-less.less.items in
     let all = without c.args.key.now (pairs_at level words r) in
-    let other = c.slots_of-slots.result.items in
+    let other = c.fill_slots.new.slots.items in
     let slots = c.deref-2.result.now in
     let e : slots ≡ other ++ sub = c.deref-2.ensures.0 ∙ c.append.ensures ∙ ap (λ (xs : List Slot). other ++ xs) c.deref.ensures.0 in
-    let joined = right_changed g.R.Look.kept g.R.Look.standing g.R.Look.words level l r old two all c.args.pair.now sub other slots c.remove_at.new.room c.slots_of-slots.new.look c.slots_of-slots.ensures.unchanged c.in_ok-less.ensures.ok c.slots_of-slots.ensures.slots e (rising_without_right c.args.key.now (pairs_at level words l) (pairs_at level words r) two.rising) in
+    let joined = right_changed g.R.Look.kept g.R.Look.standing g.R.Look.words level l r old two all c.args.pair.now sub other slots c.remove_at.new.room c.fill_slots.new.look c.fill_slots.ensures.unchanged c.in_ok-less.ensures.ok c.fill_slots.ensures.slots e (rising_without_right c.args.key.now (pairs_at level words l) (pairs_at level words r) two.rising) in
     joined.left_is_kept
 
 pub remove_right-pack_two-requires-clause-right_kept : goal.remove_right-pack_two-requires-clause-right_kept
@@ -596,10 +596,10 @@ remove_right-pack_two-requires-clause-right_kept g t c =
     let two = c.requires.neighbours in
     let sub = c.in_ok-less.less.items in
     let all = without c.args.key.now (pairs_at level words r) in
-    let other = c.slots_of-slots.result.items in
+    let other = c.fill_slots.new.slots.items in
     let slots = c.deref-2.result.now in
     let e : slots ≡ other ++ sub = c.deref-2.ensures.0 ∙ c.append.ensures ∙ ap (λ (xs : List Slot). other ++ xs) c.deref.ensures.0 in
-    let joined = right_changed g.R.Look.kept g.R.Look.standing g.R.Look.words level l r old two all c.args.pair.now sub other slots c.remove_at.new.room c.slots_of-slots.new.look c.slots_of-slots.ensures.unchanged c.in_ok-less.ensures.ok c.slots_of-slots.ensures.slots e (rising_without_right c.args.key.now (pairs_at level words l) (pairs_at level words r) two.rising) in
+    let joined = right_changed g.R.Look.kept g.R.Look.standing g.R.Look.words level l r old two all c.args.pair.now sub other slots c.remove_at.new.room c.fill_slots.new.look c.fill_slots.ensures.unchanged c.in_ok-less.ensures.ok c.fill_slots.ensures.slots e (rising_without_right c.args.key.now (pairs_at level words l) (pairs_at level words r) two.rising) in
     joined.right_is_kept
 
 pub remove_right-pack_two-requires-clause-left_apart : goal.remove_right-pack_two-requires-clause-left_apart
@@ -612,10 +612,10 @@ remove_right-pack_two-requires-clause-left_apart g t c =
     let two = c.requires.neighbours in
     let sub = c.in_ok-less.less.items in
     let all = without c.args.key.now (pairs_at level words r) in
-    let other = c.slots_of-slots.result.items in
+    let other = c.fill_slots.new.slots.items in
     let slots = c.deref-2.result.now in
     let e : slots ≡ other ++ sub = c.deref-2.ensures.0 ∙ c.append.ensures ∙ ap (λ (xs : List Slot). other ++ xs) c.deref.ensures.0 in
-    let joined = right_changed g.R.Look.kept g.R.Look.standing g.R.Look.words level l r old two all c.args.pair.now sub other slots c.remove_at.new.room c.slots_of-slots.new.look c.slots_of-slots.ensures.unchanged c.in_ok-less.ensures.ok c.slots_of-slots.ensures.slots e (rising_without_right c.args.key.now (pairs_at level words l) (pairs_at level words r) two.rising) in
+    let joined = right_changed g.R.Look.kept g.R.Look.standing g.R.Look.words level l r old two all c.args.pair.now sub other slots c.remove_at.new.room c.fill_slots.new.look c.fill_slots.ensures.unchanged c.in_ok-less.ensures.ok c.fill_slots.ensures.slots e (rising_without_right c.args.key.now (pairs_at level words l) (pairs_at level words r) two.rising) in
     joined.left_beside
 
 pub remove_right-pack_two-requires-clause-right_apart : goal.remove_right-pack_two-requires-clause-right_apart
@@ -628,10 +628,10 @@ remove_right-pack_two-requires-clause-right_apart g t c =
     let two = c.requires.neighbours in
     let sub = c.in_ok-less.less.items in
     let all = without c.args.key.now (pairs_at level words r) in
-    let other = c.slots_of-slots.result.items in
+    let other = c.fill_slots.new.slots.items in
     let slots = c.deref-2.result.now in
     let e : slots ≡ other ++ sub = c.deref-2.ensures.0 ∙ c.append.ensures ∙ ap (λ (xs : List Slot). other ++ xs) c.deref.ensures.0 in
-    let joined = right_changed g.R.Look.kept g.R.Look.standing g.R.Look.words level l r old two all c.args.pair.now sub other slots c.remove_at.new.room c.slots_of-slots.new.look c.slots_of-slots.ensures.unchanged c.in_ok-less.ensures.ok c.slots_of-slots.ensures.slots e (rising_without_right c.args.key.now (pairs_at level words l) (pairs_at level words r) two.rising) in
+    let joined = right_changed g.R.Look.kept g.R.Look.standing g.R.Look.words level l r old two all c.args.pair.now sub other slots c.remove_at.new.room c.fill_slots.new.look c.fill_slots.ensures.unchanged c.in_ok-less.ensures.ok c.fill_slots.ensures.slots e (rising_without_right c.args.key.now (pairs_at level words l) (pairs_at level words r) two.rising) in
     joined.right_beside
 
 pub remove_right-pack_two-requires-clause-different : goal.remove_right-pack_two-requires-clause-different
@@ -648,11 +648,11 @@ remove_right-returns-in_err-branches-clause-err g t c =
     let two = c.requires.neighbours in
     let sub = c.in_ok-less.less.items in
     let all = without c.args.key.now (pairs_at level words r) in
-    let read = c.slots_of-slots.new.look in
-    let other = c.slots_of-slots.result.items in
+    let read = c.fill_slots.new.look in
+    let other = c.fill_slots.new.slots.items in
     let slots = c.deref-2.result.now in
     let e : slots ≡ other ++ sub = c.deref-2.ensures.0 ∙ c.append.ensures ∙ ap (λ (xs : List Slot). other ++ xs) c.deref.ensures.0 in
-    let joined = right_changed g.R.Look.kept g.R.Look.standing g.R.Look.words level l r old two all c.args.pair.now sub other slots c.remove_at.new.room read c.slots_of-slots.ensures.unchanged c.in_ok-less.ensures.ok c.slots_of-slots.ensures.slots e (rising_without_right c.args.key.now (pairs_at level words l) (pairs_at level words r) two.rising) in
+    let joined = right_changed g.R.Look.kept g.R.Look.standing g.R.Look.words level l r old two all c.args.pair.now sub other slots c.remove_at.new.room read c.fill_slots.ensures.unchanged c.in_ok-less.ensures.ok c.fill_slots.ensures.slots e (rising_without_right c.args.key.now (pairs_at level words l) (pairs_at level words r) two.rising) in
     on_err _ (start_trans g.R.Look.kept g.R.Look.standing g.R.Look.words old read c.pack_two.new.room joined.start c.in_err-branches.ensures.err)
 
 pub remove_right-returns-clause-ok : goal.remove_right-returns-clause-ok
@@ -666,8 +666,8 @@ remove_right-returns-clause-ok g t c =
     let two = c.requires.neighbours in
     let sub = c.in_ok-less.less.items in
     let all = without c.args.key.now (pairs_at level words r) in
-    let other = c.slots_of-slots.result.items in
+    let other = c.fill_slots.new.slots.items in
     let slots = c.deref-2.result.now in
     let e : slots ≡ other ++ sub = c.deref-2.ensures.0 ∙ c.append.ensures ∙ ap (λ (xs : List Slot). other ++ xs) c.deref.ensures.0 in
-    let joined = right_changed g.R.Look.kept g.R.Look.standing g.R.Look.words level l r old two all pair sub other slots c.remove_at.new.room c.slots_of-slots.new.look c.slots_of-slots.ensures.unchanged c.in_ok-less.ensures.ok c.slots_of-slots.ensures.slots e (rising_without_right c.args.key.now (pairs_at level words l) (pairs_at level words r) two.rising) in
+    let joined = right_changed g.R.Look.kept g.R.Look.standing g.R.Look.words level l r old two all pair sub other slots c.remove_at.new.room c.fill_slots.new.look c.fill_slots.ensures.unchanged c.in_ok-less.ensures.ok c.fill_slots.ensures.slots e (rising_without_right c.args.key.now (pairs_at level words l) (pairs_at level words r) two.rising) in
     joined.written (pairs_of (g.R.Look.words c.pack_two.new.room) pair c.in_ok-branches.branches.items) c.pack_two.new.room c.in_ok-branches.ensures.ok

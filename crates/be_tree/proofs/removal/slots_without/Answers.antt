@@ -16,11 +16,11 @@ use Rattle.be_tree.proofs.removal.slots_without.Goals.{After-is_eq}
 -- what the comparison tells of the item
 equal : (g : Over) (c : After-is_eq g) → is_eq (key_cmp (item_at (g.L.Look.words c.args.look.now c.args.page) (place_of c.args.at)).key c.args.key.now) ≡ c.is_eq.result
 equal g c =
-    ap is_eq (ap (λ (w : ℕ → ℕ → ℕ). key_cmp (item_at (w c.args.page) (place_of c.args.at)).key c.args.key.now) (sym c.slots_of-slots.ensures.unchanged.words) ∙ sym c.cmp_at.ensures.order) ∙ sym c.is_eq.ensures
+    ap is_eq (ap (λ (w : ℕ → ℕ → ℕ). key_cmp (item_at (w c.args.page) (place_of c.args.at)).key c.args.key.now) (sym c.fill_slots.ensures.unchanged.words) ∙ sym c.cmp_at.ensures.order) ∙ sym c.is_eq.ensures
 
 pub remove-requires : goal.remove-requires
 remove-requires g c =
-    let len = ap length c.slots_of-slots.ensures.slots ∙ length-map-range_with_len (λ (j : ℕ). At c.args.page (place_of j)) 0 (g.L.Look.words c.args.look.now c.args.page 1) in
+    let len = ap length c.fill_slots.ensures.slots ∙ length-map-range_with_len (λ (j : ℕ). At c.args.page (place_of j)) 0 (g.L.Look.words c.args.look.now c.args.page 1) in
     omega (arith, len, c.requires.in_page)
 
 pub returns-then-is_eq-clause-items : goal.returns-then-is_eq-clause-items
@@ -29,8 +29,8 @@ returns-then-is_eq-clause-items g c = λ given.
     let items = items_of (words c.args.page) in
     let item = item_at (words c.args.page) (place_of c.args.at) in
     let is = equal g (goal.at.returns-then-is_eq-clause-items g c).After-is_eq ∙ c.if-is_eq.true in
-    let whole = ap (pairs_of words given) c.slots_of-slots.ensures.slots ∙ loaded_pairs words given c.args.page (words c.args.page 1) refl in
-    ap (pairs_of words given) c.remove.ensures.items ∙ removed_mapped (pair_of words given) c.slots_of-slots.result.items c.args.at
+    let whole = ap (pairs_of words given) c.fill_slots.ensures.slots ∙ loaded_pairs words given c.args.page (words c.args.page 1) refl in
+    ap (pairs_of words given) c.remove.ensures.items ∙ removed_mapped (pair_of words given) c.fill_slots.new.slots.items c.args.at
     ∙ ap (λ (xs : List Pair). take c.args.at xs ++ drop (suc c.args.at) xs) whole
     ∙ sym (ap (λ (b : Bool). take c.args.at items ++ ((if b then [] else item ∷ []) ++ drop (suc c.args.at) items)) is)
 
@@ -39,12 +39,12 @@ returns-then-is_eq-clause-ready g c =
     let words = g.L.Look.words c.args.look.now in
     let standing = g.L.Look.standing c.args.look.now in
     subst (All (IsReady standing words)) (sym c.remove.ensures.items)
-    (all_removed (IsReady standing words) c.slots_of-slots.result.items c.args.at
-    (subst (All (IsReady standing words)) (sym c.slots_of-slots.ensures.slots) (loaded_ready standing words c.args.page (words c.args.page 1) refl c.requires.readable c.requires.page)))
+    (all_removed (IsReady standing words) c.fill_slots.new.slots.items c.args.at
+    (subst (All (IsReady standing words)) (sym c.fill_slots.ensures.slots) (loaded_ready standing words c.args.page (words c.args.page 1) refl c.requires.readable c.requires.page)))
 
 pub returns-then-is_eq-clause-some : goal.returns-then-is_eq-clause-some
 returns-then-is_eq-clause-some g c =
-    let len = ap length c.slots_of-slots.ensures.slots ∙ length-map-range_with_len (λ (j : ℕ). At c.args.page (place_of j)) 0 (g.L.Look.words c.args.look.now c.args.page 1) in
+    let len = ap length c.fill_slots.ensures.slots ∙ length-map-range_with_len (λ (j : ℕ). At c.args.page (place_of j)) 0 (g.L.Look.words c.args.look.now c.args.page 1) in
     (omega (arith, len, c.remove.ensures.len), omega (arith, len, c.remove.ensures.len, c.requires.page.few))
 
 pub returns-else-is_eq-clause-items : goal.returns-else-is_eq-clause-items
@@ -53,7 +53,7 @@ returns-else-is_eq-clause-items g c = λ given.
     let items = items_of (words c.args.page) in
     let item = item_at (words c.args.page) (place_of c.args.at) in
     let isnt = equal g (goal.at.returns-else-is_eq-clause-items g c).After-is_eq ∙ c.if-is_eq.false in
-    let whole = ap (pairs_of words given) c.slots_of-slots.ensures.slots ∙ loaded_pairs words given c.args.page (words c.args.page 1) refl in
+    let whole = ap (pairs_of words given) c.fill_slots.ensures.slots ∙ loaded_pairs words given c.args.page (words c.args.page 1) refl in
     whole ∙ in_three items c.args.at item (omega (arith, c.requires.in_page, items_count (words c.args.page)))
     ∙ ap (λ (x : Pair). take c.args.at items ++ x ∷ drop (suc c.args.at) items) (item_get (words c.args.page) c.args.at item c.requires.in_page)
     ∙ sym (ap (λ (b : Bool). take c.args.at items ++ ((if b then [] else item ∷ []) ++ drop (suc c.args.at) items)) isnt)
@@ -62,9 +62,9 @@ pub returns-else-is_eq-clause-ready : goal.returns-else-is_eq-clause-ready
 returns-else-is_eq-clause-ready g c =
     let words = g.L.Look.words c.args.look.now in
     let standing = g.L.Look.standing c.args.look.now in
-    subst (All (IsReady standing words)) (sym c.slots_of-slots.ensures.slots) (loaded_ready standing words c.args.page (words c.args.page 1) refl c.requires.readable c.requires.page)
+    subst (All (IsReady standing words)) (sym c.fill_slots.ensures.slots) (loaded_ready standing words c.args.page (words c.args.page 1) refl c.requires.readable c.requires.page)
 
 pub returns-else-is_eq-clause-some : goal.returns-else-is_eq-clause-some
 returns-else-is_eq-clause-some g c =
-    let len = ap length c.slots_of-slots.ensures.slots ∙ length-map-range_with_len (λ (j : ℕ). At c.args.page (place_of j)) 0 (g.L.Look.words c.args.look.now c.args.page 1) in
+    let len = ap length c.fill_slots.ensures.slots ∙ length-map-range_with_len (λ (j : ℕ). At c.args.page (place_of j)) 0 (g.L.Look.words c.args.look.now c.args.page 1) in
     (omega (arith, len), omega (arith, len, c.requires.page.few))
