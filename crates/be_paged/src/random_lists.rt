@@ -229,7 +229,7 @@ fn mix_of(sort: u64) -> Mix {
     }
 }
 
-// 10,000 lists. Lists are accepted, and refused by each of 2 to 8 and by 11.
+// 10,000 lists. Many are accepted, and many refused by each of 2 to 8 and by 11.
 #[test]
 fn random_lists(rt: HostRuntime) -> Result<(), Fail> {
     let mut random = Random {
@@ -240,7 +240,7 @@ fn random_lists(rt: HostRuntime) -> Result<(), Fail> {
         run_mix(rt.alloc(), &mut random, &mix_of(i % 4), 500, &mut seen)?;
     }
     for number in [0, 2, 3, 4, 5, 6, 7, 8, 11] {
-        assert!(rt; seen[number] > 0, "none of {number}");
+        assert!(rt; seen[number] > 100, "too few of {number}");
     }
     Ok(())
 }
