@@ -98,7 +98,7 @@ fn random_list(
     Ok(ops)
 }
 
-/// Writes a random list, and notes how it was refused.
+/// Writes a random list, and notes how it was refused. Where memory is refused, the same list is made again.
 fn random_write(
     alloc: Global,
     random: &mut Random,
@@ -112,8 +112,12 @@ fn random_write(
     ensures start { IfOk result (λ r. IsWriteStart (⟦<VecRoom as Look>⟧.standing r.room)) }
 {
     let next = both.plain.next();
+    let state = random.state;
     let ops = match random_list(alloc, random, mix, next) {
-        Err(_) => random_list(alloc, random, mix, next)?,
+        Err(_) => {
+            random.state = state;
+            random_list(alloc, random, mix, next)?
+        }
         Ok(ops) => ops,
     };
     if ops.is_empty() || ops.len() > 64 {
