@@ -98,7 +98,7 @@ fn random_list(
     Ok(ops)
 }
 
-/// Writes a random list, and notes how it was refused.
+/// Writes a random list, and notes how it was refused. Where memory is refused, the same list is made again.
 fn random_write(
     alloc: Global,
     random: &mut Random,
@@ -112,8 +112,12 @@ fn random_write(
     ensures start { IfOk result (λ r. IsWriteStart (⟦<VecRoom as Look>⟧.standing r.room)) }
 {
     let next = both.plain.next();
+    let state = random.state;
     let ops = match random_list(alloc, random, mix, next) {
-        Err(_) => random_list(alloc, random, mix, next)?,
+        Err(_) => {
+            random.state = state;
+            random_list(alloc, random, mix, next)?
+        }
         Ok(ops) => ops,
     };
     if ops.is_empty() || ops.len() > 64 {
@@ -229,7 +233,7 @@ fn mix_of(sort: u64) -> Mix {
     }
 }
 
-// 10,000 lists. Lists are accepted, and refused by each of 2 to 8 and by 11.
+// 10,000 lists. Many are accepted, and many refused by each of 2 to 8 and by 11.
 #[test]
 fn random_lists(rt: HostRuntime) -> Result<(), Fail> {
     let mut random = Random {
@@ -240,7 +244,7 @@ fn random_lists(rt: HostRuntime) -> Result<(), Fail> {
         run_mix(rt.alloc(), &mut random, &mix_of(i % 4), 500, &mut seen)?;
     }
     for number in [0, 2, 3, 4, 5, 6, 7, 8, 11] {
-        assert!(rt; seen[number] > 0, "none of {number}");
+        assert!(rt; seen[number] > 100, "too few of {number}");
     }
     Ok(())
 }
