@@ -1,13 +1,24 @@
 -- What the ends of a range tell of its keys.
-use Rattle.std.proofs.Common.{◌≡◌, ℕ, Bool, true, false, not, List, refl, sym, ap, ◌∙◌}
+use Rattle.std.proofs.Common.{◌≡◌, ◌<◌, ◌^◌, ℕ, Bool, true, false, not, List, Some, refl, sym, ap, ◌∙◌}
+use Rattle.std.specs.List.{Contains}
 use Rattle.std.specs.Ordering.{is_lt, is_gt, ordering_reverse}
+use Rattle.std.specs.declared.option.Option.{Option}
 use Rattle.std.specs.declared.cmp.Ordering.{Ordering}
 use Rattle.std.specs.declared.cmp.Ordering.TheVariants.{Less, Equal, Greater}
 use Rattle.std.specs.Cmp.{tied_itself}
 use Rattle.be_volume.specs.Maps.{name_cmp}
 use Rattle.be_volume.specs.PairKeys.{is_from}
 use Rattle.be_plan.proofs.Bounds.{not_true}
-use Rattle.be_plan.proofs.Passing.{total, reversed, greater_trans, above_too}
+use Rattle.be_volume.specs.Keys.{IsNextKey}
+use Rattle.be_volume.specs.Query.{sat}
+use Rattle.be_volume.specs.Sound.{IsSound}
+use Rattle.be_volume.specs.Volume.{State}
+use Rattle.be_value.specs.Key.{key as key_bytes}
+use Rattle.be_value.specs.declared.values.Value.{Value}
+use Rattle.be_query.specs.Grammar.{Formula}
+use Rattle.be_plan.specs.Narrow.{is_above}
+use Rattle.be_plan.specs.Walk.{HasCome, HasWithin, Keeps}
+use Rattle.be_plan.proofs.Passing.{total, reversed, greater_trans, above_too, ends_above, passes}
 
 -- what is not below the low end is not below what is not above that
 pub not_below : (k low bound : List ℕ) → is_lt (name_cmp low bound) ≡ false → is_lt (name_cmp k low) ≡ false → is_lt (name_cmp k bound) ≡ false
@@ -42,10 +53,40 @@ greater_not_less Equal h = cc
 greater_not_less Greater h = refl
 
 -- the next key of a walk that has come from the low end is not below it
-pub from_low : (from : List ℕ) (after : Bool) (next low : List ℕ) → is_from from after next ≡ true → is_lt (name_cmp from low) ≡ false → is_lt (name_cmp next low) ≡ false
+from_low : (from : List ℕ) (after : Bool) (next low : List ℕ) → is_from from after next ≡ true → is_lt (name_cmp from low) ≡ false → is_lt (name_cmp next low) ≡ false
 from_low from true next low h g = not_below next from low g (greater_not_less _ h)
 from_low from false next low h g = not_below next from low g (not_true _ h)
 
 -- the low end is not below itself
-pub at_low : (low : List ℕ) → is_lt (name_cmp low low) ≡ false
+at_low : (low : List ℕ) → is_lt (name_cmp low low) ≡ false
 at_low low = ap is_lt (tied_itself total low)
+
+module _ (s : State) (f : Formula) (name low : List ℕ) (high : Option (List ℕ)) where
+  -- a walk begins at the low end
+  pub comes_first : (next : Option (List ℕ)) (found : List ℕ) → IsNextKey s name low false next → HasCome s f name low high next found
+  comes_first next found is = record {
+    from = low;
+    after = false;
+    is_next = is;
+    start = at_low low;
+    passed = λ k h w no holds. let yes : true ≡ false = sym (ap not w.from_low) ∙ no in cc;
+  }
+
+  -- a walk goes on from a key whose node was visited
+  pub comes_next : (key : List ℕ) (next : Option (List ℕ)) (before now : List ℕ) → IsSound s → HasCome s f name low high (Some key) before → Keeps before now →
+      ((v : Value) (n : ℕ) → n < 2 ^ 64 → key ≡ key_bytes v n → sat s f n ≡ true → Contains now n) → IsNextKey s name key true next → HasCome s f name low high next now
+  comes_next key next before now sound come keeps has is = record {
+    from = key;
+    after = true;
+    is_next = is;
+    start = from_low come.from come.after key low come.is_next.1 come.start;
+    passed = passes s f name low high come.from come.after key before now sound come.is_next come.passed keeps has;
+  }
+
+  -- a walk has passed the range where the next key is above it
+  pub came_above : (key found : List ℕ) → is_above high key ≡ true → HasCome s f name low high (Some key) found → HasWithin s f name low high found
+  came_above key found up come = ends_above s f name low high come.from come.after key found come.is_next up come.passed
+
+  -- the next key is not below the low end
+  pub came_from_low : (key found : List ℕ) → HasCome s f name low high (Some key) found → is_lt (name_cmp key low) ≡ false
+  came_from_low key found come = from_low come.from come.after key low come.is_next.1 come.start

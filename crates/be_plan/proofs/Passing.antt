@@ -1,5 +1,5 @@
 -- What a walk over an index has passed.
-use Rattle.std.proofs.Common.{◌≡◌, ◌<◌, ◌≤◌, ◌+◌, ◌^◌, ℕ, suc, Bool, true, false, cond, not, List, [], ◌∷◌, length, length-append, refl, sym, ap, ◌∙◌, subst, arith, Some, None}
+use Rattle.std.proofs.Common.{◌≡◌, ◌<◌, ◌≤◌, ◌+◌, ◌^◌, ℕ, suc, Bool, true, false, cond, not, List, [], ◌∷◌, refl, sym, ap, ◌∙◌, subst, arith, Some, None}
 use Rattle.std.proofs.Math.Nat.{add-le-add}
 use Rattle.std.proofs.lemmas.Option.{same_Some}
 use Rattle.std.specs.List.{Contains}
@@ -12,8 +12,7 @@ use Rattle.std.specs.FinMap.Entries.{find}
 use Rattle.std.specs.declared.option.Option.{Option}
 use Rattle.std.specs.declared.cmp.Ordering.{Ordering}
 use Rattle.std.specs.declared.cmp.Ordering.TheVariants.{Less, Equal, Greater}
-use Rattle.std.specs.Int.{to_be_bytes, w64}
-use Rattle.be_value.specs.Key.{key, value_key}
+use Rattle.be_value.specs.Key.{key}
 use Rattle.be_value.specs.declared.values.Value.{Value}
 use Rattle.be_query.specs.Grammar.{Formula}
 use Rattle.be_volume.specs.Maps.{name_cmp}
@@ -151,11 +150,12 @@ falls s name from after next is =
     k : IsKey s name next
     k = is.0
 
--- a key has a node's eight bytes at least
-pub long_key : (v : Value) (n : ℕ) → 8 ≤ length (key v n)
-long_key v n = let eight : length (to_be_bytes w64 n) ≡ 8 = refl in omega (arith, length-append (value_key v) (to_be_bytes w64 n))
+-- how many steps the walk has left where this key is next
+abbrev pub steps : State → List ℕ → Option (List ℕ) → ℕ
+steps s name None = 0
+steps s name (Some key) = suc (ahead s name key true)
 
--- the next key under another name of the place
-pub next_moved : (s : State) (name from start : List ℕ) (after : Bool) (next : List ℕ) → from ≡ start →
-    IsNextKey s name from after (Some next) → IsNextKey s name start after (Some next)
-next_moved s name from start after next e h = let P : List ℕ → Type 0 = λ b. IsNextKey s name b after (Some next) in subst P e h
+-- each key is a step
+pub steps_fall : (s : State) (name key : List ℕ) (next : Option (List ℕ)) → IsNextKey s name key true next → suc (steps s name next) ≤ suc (ahead s name key true)
+steps_fall s name key None is = omega arith
+steps_fall s name key (Some next) is = omega (arith, falls s name key true next is)

@@ -1,13 +1,15 @@
 -- What a walk over an index collects.
 use Rattle.std.specs.Prelude.{◌≡◌, ℕ, Bool, true, false, List, Some, slice_get}
 use Rattle.std.specs.List.{Contains}
+use Rattle.std.specs.Ordering.{is_lt}
 use Rattle.std.specs.declared.option.Option.{Option}
 use Rattle.be_value.specs.declared.values.Value.{Value}
 use Rattle.be_query.specs.Grammar.{Formula}
 use Rattle.be_plan.specs.Cover.{Comparison, leaves}
+use Rattle.be_volume.specs.Maps.{name_cmp}
 use Rattle.be_volume.specs.Query.{sat, sees}
 use Rattle.be_volume.specs.Volume.{State}
-use Rattle.be_volume.specs.Keys.{IsKey}
+use Rattle.be_volume.specs.Keys.{IsKey, IsNextKey}
 use Rattle.be_volume.specs.PairKeys.{is_from}
 use Rattle.be_plan.specs.Narrow.{Within, Allows}
 
@@ -27,6 +29,14 @@ HasWithin s f name low high found = (k : List ℕ) (h : IsKey s name k) → With
 abbrev pub HasPassed : State → Formula → List ℕ → List ℕ → Option (List ℕ) → List ℕ → Bool → List ℕ → Type 0
 HasPassed s f name low high from after found =
     (k : List ℕ) (h : IsKey s name k) → Within low high k → is_from from after k ≡ false → sat s f h.node ≡ true → Contains found h.node
+
+-- The next key of the walk is this one, or there is none, and it has passed those before.
+pub record HasCome (s : State) (f : Formula) (name low : List ℕ) (high next : Option (List ℕ)) (found : List ℕ) : Type 0 where
+  pub from : List ℕ
+  pub after : Bool
+  pub is_next : IsNextKey s name from after next
+  pub start : is_lt (name_cmp from low) ≡ false
+  pub passed : HasPassed s f name low high from after found
 
 -- The node is reached by way of the pick: the picked comparison sees a value, and the value is one that the query allows by that way.
 pub record Reaches (s : State) (f : Formula) (pick : ℕ) (node : ℕ) : Type 0 where

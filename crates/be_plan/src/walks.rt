@@ -92,7 +92,7 @@ pub(crate) fn walk<S: Source>(
     tree: &Tree,
     name: &Name,
     kind: Kind,
-    range: Range,
+    range: &Range,
     found: &mut Vec<u64>,
 ) -> Result<(), Refusal>
     ghost volume: { State }
@@ -104,20 +104,17 @@ pub(crate) fn walk<S: Source>(
     ensures keeps { Keeps found.old.items found.new.items }
     ensures satisfy { AllSatisfy volume (formula tree.now) found.old.items →
         AllSatisfy volume (formula tree.now) found.new.items }
-    ensures has { OnOk result (HasWithin volume (formula tree.now) name.now range.low.items
-        (option_map (λ b. b.items) range.high) found.new.items) }
+    ensures has { OnOk result (HasWithin volume (formula tree.now) name.now range.now.low.items
+        (option_map (λ b. b.items) range.now.high) found.new.items) }
 {
-    let decided = decides(&range, tree, name, kind);
-    let Range { low, high } = range;
-    let mut from = low;
-    let mut after = false;
-    'keys: while let Some(key) = source.next_key(name, from.as_slice(), after) {
-        if is_above(&high, key.as_slice()) {
+    let decided = decides(range, tree, name, kind);
+    let mut next = source.next_key(name, range.low.as_slice(), false);
+    'keys: while let Some(key) = &next {
+        if is_above(&range.high, key.as_slice()) {
             return Ok(());
         }
         pass(source, tree, name, kind, decided, key.as_slice(), found)?;
-        from = key;
-        after = true;
+        next = source.next_key(name, key.as_slice(), true);
     }
     Ok(())
 }
