@@ -19,7 +19,7 @@ ghost use Rattle.be_tree.specs.Tree.{IsTree, IsTreeAt, pairs, pairs_at};
 
 use crate::lookup::rank;
 use crate::page::{child_at, cmp_at, key_words};
-use crate::walk::{TreeItem, load_key, load_pair};
+use crate::walk::{TreeItem, fill_key, fill_payload, load_key};
 use arrayvec::ArrayVec;
 use be_pages::Look;
 use std::cmp::Ordering;
@@ -105,7 +105,13 @@ impl Cursor {
         ensures unchanged { IsUnchanged L.kept L.standing L.words look.old look.new }
     {
         let (page, at) = self.step(look)?;
-        Some(load_pair(look, page, at))
+        let mut item = TreeItem {
+            key: ArrayVec::new(),
+            payload: ArrayVec::new(),
+        };
+        fill_key(look, page, at, &mut item.key);
+        fill_payload(look, page, at, &mut item.payload);
+        Some(item)
     }
 
     /// The key of the pair that comes next, and a step past it. No payload is read.

@@ -34,23 +34,6 @@ pub fn range<L: Look>(look: &mut L, root: u64, from: &[u8], after: bool) -> Opti
     cursor.next(look)
 }
 
-/// The pair at a place of a page.
-pub(crate) fn load_pair<L: Look>(look: &mut L, page: u64, at: usize) -> TreeItem
-    requires readable { IsTrue (is_readable (L.standing look.old page)) }
-    requires in_page { at + 42 ≤ 512 }
-    requires item { IsItem (L.words look.old page) at }
-    ensures pair { pair_in result ≡ item_at (L.words look.old page) at }
-    ensures unchanged { IsUnchanged L.kept L.standing L.words look.old look.new }
-{
-    let mut item = TreeItem {
-        key: ArrayVec::new(),
-        payload: ArrayVec::new(),
-    };
-    fill_key(look, page, at, &mut item.key);
-    fill_payload(look, page, at, &mut item.payload);
-    item
-}
-
 /// The key at a place of a page.
 pub(crate) fn load_key<L: Look>(look: &mut L, page: u64, at: usize) -> ArrayVec<u8, 264>
     requires readable { IsTrue (is_readable (L.standing look.old page)) }
@@ -78,7 +61,7 @@ pub(crate) fn load_payload<L: Look>(look: &mut L, page: u64, at: usize) -> Array
 }
 
 /// Puts the key at a place of a page into an empty vector.
-fn fill_key<L: Look>(look: &mut L, page: u64, at: usize, key: &mut ArrayVec<u8, 264>)
+pub(crate) fn fill_key<L: Look>(look: &mut L, page: u64, at: usize, key: &mut ArrayVec<u8, 264>)
     requires readable { IsTrue (is_readable (L.standing look.old page)) }
     requires in_page { at + 42 ≤ 512 }
     requires item { IsItem (L.words look.old page) at }
@@ -91,7 +74,12 @@ fn fill_key<L: Look>(look: &mut L, page: u64, at: usize, key: &mut ArrayVec<u8, 
 }
 
 /// Puts the payload at a place of a page into an empty vector.
-fn fill_payload<L: Look>(look: &mut L, page: u64, at: usize, payload: &mut ArrayVec<u8, 328>)
+pub(crate) fn fill_payload<L: Look>(
+    look: &mut L,
+    page: u64,
+    at: usize,
+    payload: &mut ArrayVec<u8, 328>,
+)
     requires readable { IsTrue (is_readable (L.standing look.old page)) }
     requires in_page { at + 42 ≤ 512 }
     requires item { IsItem (L.words look.old page) at }
