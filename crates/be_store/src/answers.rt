@@ -1,0 +1,8 @@
+//! What queries answer.
+
+/// The answer to a query: the pin that it was asked at, and the nodes of which the query is true, ascending.
+#[derive(Drop)]
+pub struct Answer {
+    pub pin: u64,
+    pub nodes: Vec<u64>,
+}

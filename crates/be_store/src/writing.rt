@@ -1,0 +1,31 @@
+//! One write, while the lock is held.
+ghost use Rattle.std.specs.Prelude.{◌≡◌, ◌≤◌, MatchResult, length};
+ghost use Rattle.be_store.specs.Writing.{Publishes, IsHeldBack};
+ghost use Rattle.be_table.specs.declared.pass.Knowledge.{Knowledge};
+ghost use Rattle.be_table.specs.Works.{TakesLock};
+
+use arrayvec::ArrayVec;
+use be_paged::apply;
+use be_table::Writing;
+use be_value::Refusal;
+use be_volume::{Done, Op};
+
+/// Applies the operations to the current version, and publishes what they make. A refusal of 2 to 8 comes at once; the journal's want of room goes before that of a page.
+pub(crate) fn write(writing: &mut Writing<'_>, ops: &[Op]) -> Result<(u64, ArrayVec<Done, 64>), Refusal>
+    requires begun { (a : Knowledge) × TakesLock a writing.old.knows }
+    requires count { (1 ≤ length ops.now) × (length ops.now ≤ 64) }
+    ensures table { writing.new.table ≡ writing.old.table }
+    ensures answer { MatchResult result (λ r. Publishes writing.old.knows writing.new.knows ops.now r.0 r.1.items) (λ e. IsHeldBack writing.old.knows writing.new.knows ops.now e) }
+{
+    let (_, version_page) = writing.current();
+    let made = apply(writing, version_page, ops);
+    if let Err(refusal) = &made {
+        if !matches!(refusal, Refusal::Full(_)) {
+            return Err(*refusal);
+        }
+    }
+    writing.reserve(ops.len())?;
+    let (page, dones) = made?;
+    let number = writing.publish(page, ops, dones.as_slice());
+    Ok((number, dones))
+}
