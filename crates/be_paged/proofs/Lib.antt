@@ -23,3 +23,4 @@ pub mod Stepping
 pub mod Standing
 pub mod Versions
 pub mod OneVolume
+pub mod UsedWords

@@ -27,7 +27,7 @@ use Rattle.be_volume.specs.Indices.{Indices}
 use Rattle.be_volume.specs.Sound.{IsSound}
 use Rattle.be_volume.specs.Volume.{State}
 use Rattle.be_volume.specs.declared.maps.Index.{Index}
-use Rattle.be_paged.specs.declared.version.Entry.{Entry}
+use Rattle.be_paged.specs.Entry.{Entry}
 use Rattle.be_paged.specs.Catalog.{payload_of, value_at, stored, IsCatalog, IsPairOf, IsIndexOf}
 use Rattle.be_paged.specs.Reading.{AreValid}
 use Rattle.be_paged.specs.Version.{AreEntriesOf, IsVersion}

@@ -25,12 +25,14 @@ mod first;
 pub mod laws;
 mod paged_source;
 mod reading;
+mod spelling;
 mod version;
 mod writes;
 
 pub use first::first_page;
 pub use paged_source::{PagedSource, source};
 pub use reading::{attrs, get, indices};
+pub use spelling::one_spelling;
 pub use writes::apply;
 
 #[cfg(test)]

@@ -89,13 +89,12 @@ impl<L: Look> PagedSource<L> {
     }
 }
 
-/// An equal key.
-fn copy_key(key: &ArrayVec<u8, 264>) -> ArrayVec<u8, 264>
-    ensures { result.items ≡ key.now.items }
+/// Puts a key in the place of another.
+fn replace_key(key: &mut ArrayVec<u8, 264>, other: &ArrayVec<u8, 264>)
+    ensures { key.new.items ≡ other.now.items }
 {
-    let mut copy = ArrayVec::new();
-    copy.try_extend_from_slice(key.as_slice()).unwrap();
-    copy
+    key.clear();
+    key.try_extend_from_slice(other.as_slice()).unwrap();
 }
 
 impl<L: Look> Source for PagedSource<L> {
@@ -127,7 +126,7 @@ impl<L: Look> Source for PagedSource<L> {
         self.place = NOWHERE;
         let key = self.cursor.next_key(&mut self.look)?;
         self.place = place;
-        self.last = copy_key(&key);
+        replace_key(&mut self.last, &key);
         Some(key)
     }
 

@@ -1,6 +1,7 @@
 pub mod Answering
 pub mod Bounds
 pub mod Choice
+pub mod Ends
 pub mod Listed
 pub mod LongTexts
 pub mod Passing

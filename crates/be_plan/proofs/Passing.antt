@@ -42,13 +42,13 @@ ahead_in (Some index) from after = how_many (λ n v. is_from from after (key v n
 abbrev pub ahead : State → List ℕ → List ℕ → Bool → ℕ
 ahead s name from after = ahead_in (map.get s.indices name) from after
 
-total : IsTotalOrder name_cmp
+pub total : IsTotalOrder name_cmp
 total = nat_list_cmp_total
 
-reversed : (a b : List ℕ) → name_cmp a b ≡ Greater → name_cmp b a ≡ Less
+pub reversed : (a b : List ℕ) → name_cmp a b ≡ Greater → name_cmp b a ≡ Less
 reversed a b e = total.antisymm b a ∙ ap ordering_reverse e
 
-greater_trans : (a b c : List ℕ) → name_cmp a b ≡ Greater → name_cmp b c ≡ Greater → name_cmp a c ≡ Greater
+pub greater_trans : (a b c : List ℕ) → name_cmp a b ≡ Greater → name_cmp b c ≡ Greater → name_cmp a c ≡ Greater
 greater_trans a b c p q = total.antisymm a c ∙ ap ordering_reverse (total.trans c b a (reversed b c q) (reversed a b p))
 
 is_greater : (r : Ordering) → is_gt r ≡ true → r ≡ Greater
@@ -57,7 +57,7 @@ is_greater Equal h = cc
 is_greater Greater h = refl
 
 -- what is not below a key above the bound is above it
-above_too : (k next high : List ℕ) (r : Ordering) → name_cmp k next ≡ r → is_lt r ≡ false → name_cmp next high ≡ Greater → name_cmp k high ≡ Greater
+pub above_too : (k next high : List ℕ) (r : Ordering) → name_cmp k next ≡ r → is_lt r ≡ false → name_cmp next high ≡ Greater → name_cmp k high ≡ Greater
 above_too k next high Less e h g = cc
 above_too k next high Equal e h g = total.congr k next high e ∙ g
 above_too k next high Greater e h g = greater_trans k next high e g
@@ -150,6 +150,10 @@ falls s name from after next is =
   where
     k : IsKey s name next
     k = is.0
+
+-- a key has a node's eight bytes at least
+pub long_key : (v : Value) (n : ℕ) → 8 ≤ length (key v n)
+long_key v n = let eight : length (to_be_bytes w64 n) ≡ 8 = refl in omega (arith, length-append (value_key v) (to_be_bytes w64 n))
 
 -- the next key under another name of the place
 pub next_moved : (s : State) (name from start : List ℕ) (after : Bool) (next : List ℕ) → from ≡ start →

@@ -1,8 +1,8 @@
 -- Which values and keys a walk over an index has to pass.
-use Rattle.std.specs.Prelude.{◌≡◌, ◌<◌, ◌≤◌, ◌+◌, ◌^◌, ℕ, ℤ, pos, ◌≤ℤ◌, Bool, true, false, List, Some, None, IsTrue}
+use Rattle.std.specs.Prelude.{◌≡◌, ◌<◌, ◌≤◌, ◌+◌, ◌-◌, ◌^◌, ℕ, ℤ, pos, ◌≤ℤ◌, Bool, true, false, List, Some, None, IsTrue}
 use Rattle.std.specs.Ordering.{is_lt, is_gt}
 use Rattle.std.specs.declared.option.Option.{Option}
-use Rattle.be_value.specs.Key.{IsValue}
+use Rattle.be_value.specs.Key.{key, IsValue}
 use Rattle.be_value.specs.Value.{kind_of, is_indexable, value_cmp}
 use Rattle.be_value.specs.declared.values.Kind.{Kind}
 use Rattle.be_value.specs.declared.values.Value.{Value}
@@ -11,7 +11,8 @@ use Rattle.be_query.specs.Grammar.{Formula, Leaf, And, Or, comparisons}
 use Rattle.be_query.specs.declared.tree.Cmp.{Cmp}
 use Rattle.be_query.specs.Grammar.{Literal}
 use Rattle.be_volume.specs.Maps.{name_cmp}
-use Rattle.be_volume.specs.Query.{holds, is_true_of}
+use Rattle.be_volume.specs.Query.{holds, is_true_of, sat, sees}
+use Rattle.be_volume.specs.Volume.{State}
 
 -- The value is one that a node may have at the name where the part, whose first comparison has the place `at`, is true of it by way of the pick: the comparisons on this name that are then true are true of the value.
 abbrev pub Allows : ℕ → ℕ → Formula → List ℕ → Value → Type 0
@@ -37,12 +38,12 @@ pub record IsPair (kind : Kind) (value : Value) (node : ℕ) : Type 0 where
   pub kind_is : kind_of value ≡ kind
   pub node_fits : node < 2 ^ 64
 
--- The value stands for the literal at the values of an index of this kind: where a comparison with the literal is true of one of them, the operator is true of the two values.
+-- The value stands for the literal at the values of an index of this kind: a comparison with the literal is true of one of them where the operator is true of the two values.
 pub record StandsFor (literal : Literal) (kind : Kind) (bound : Value) : Type 0 where
   pub is_value : IsValue bound
   pub kind_is : kind_of bound ≡ kind
   pub indexable : IsTrue (is_indexable kind)
-  pub compares : (op : Cmp) (value : Value) → kind_of value ≡ kind → holds op value literal ≡ true → is_true_of op (value_cmp value bound) ≡ true
+  pub compares : (op : Cmp) (value : Value) → kind_of value ≡ kind → holds op value literal ≡ is_true_of op (value_cmp value bound)
 
 -- the value is a number from the least to the greatest
 abbrev pub IsBetween : ℤ → ℤ → Value → Type 0
@@ -53,6 +54,15 @@ IsBetween least greatest (Ullg n) = (least ≤ℤ pos n) × (pos n ≤ℤ greate
 IsBetween least greatest (Cstr text) = ⊥
 IsBetween least greatest (Mims text) = ⊥
 IsBetween least greatest (Rawt bytes) = ⊥
+
+-- The node is neither the least number nor the greatest, which bounds of ranges have.
+abbrev pub IsInner : ℕ → Type 0
+IsInner node = (0 < node) × (node < 2 ^ 64 - 1)
+
+-- The keys of a range from `low` to `high` decide the formula: whatever the volume, it is true of each inner node that has one of them in the index of that name.
+abbrev pub Decides : Formula → List ℕ → Kind → List ℕ → Option (List ℕ) → Type 0
+Decides f name kind low high =
+    (s : State) (value : Value) (node : ℕ) → IsPair kind value node → IsInner node → Within low high (key value node) → sees s node name ≡ Some value → sat s f node ≡ true
 
 -- what is above the byte behind a pattern's literal characters
 abbrev pub limit : Bool → ℕ

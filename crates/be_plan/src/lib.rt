@@ -10,6 +10,7 @@
 
 mod choosing;
 mod coverage;
+mod deciding;
 mod evaluating;
 mod explaining;
 mod laws;

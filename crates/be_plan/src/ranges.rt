@@ -91,7 +91,7 @@ pub(crate) fn is_above(high: &Option<ArrayVec<u8, 264>>, key: &[u8]) -> bool
 }
 
 /// The value of the kind that the literal stands for, if there is one.
-fn bound_of(given: &Literal, kind: Kind) -> Option<Value>
+pub(crate) fn bound_of(given: &Literal, kind: Kind) -> Option<Value>
     ensures { IfSome result (λ bound. StandsFor (literal given.now) kind bound) }
 {
     match kind {

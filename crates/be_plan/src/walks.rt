@@ -1,7 +1,7 @@
 //! Walks over indices.
 //!
 //! A walk goes from key to key by `next_key`, from the range's low end to the first key above its high end, and collects the nodes of which
-//! the query is true. It asks for one key more than it passes.
+//! the query is true. It asks for one key more than it passes. Where the range decides the query, each key's node is an answer.
 ghost use Rattle.std.specs.Prelude.{◌≡◌, ◌<◌, ◌^◌, ℕ, true, Some, OnOk, IfErr};
 ghost use Rattle.std.specs.List.{Contains};
 ghost use Rattle.std.specs.Option.{option_map};
@@ -13,13 +13,15 @@ ghost use Rattle.be_volume.specs.Keys.{IsKey};
 ghost use Rattle.be_volume.specs.Query.{sat};
 ghost use Rattle.be_volume.specs.Reading.{index_kind};
 ghost use Rattle.be_volume.specs.Volume.{State};
+ghost use Rattle.be_plan.specs.Narrow.{IsInner};
 ghost use Rattle.be_plan.specs.Walk.{AllSatisfy, Keeps, HasWithin};
 
 use crate::Source;
+use crate::deciding::decides;
 use crate::evaluating::satisfies;
 use crate::ranges::{Range, is_above};
 use be_query::Tree;
-use be_value::{Kind, Name, Refusal, read_key};
+use be_value::{Kind, Name, Refusal, node_of, read_key};
 
 /// Adds the node of a key of the index of that name and kind, if the tree is true of it.
 fn visit<S: Source>(
@@ -52,6 +54,38 @@ fn visit<S: Source>(
     Ok(())
 }
 
+/// Adds the node of a key of the index, if the tree is true of it. Where the key decides that it is, nothing is asked.
+fn pass<S: Source>(
+    source: &mut S,
+    tree: &Tree,
+    name: &Name,
+    kind: Kind,
+    decided: bool,
+    key: &[u8],
+    found: &mut Vec<u64>,
+) -> Result<(), Refusal>
+    ghost volume: { State }
+    requires answers { S.answers_for source.old volume }
+    requires kind { index_kind volume name.now ≡ Some kind }
+    requires is_key { IsKey volume name.now key.now }
+    requires decided { decided ≡ true → (h : IsKey volume name.now key.now) → IsInner h.node → sat volume (formula tree.now) h.node ≡ true }
+    ensures stays { S.kept source.new ≡ S.kept source.old }
+    ensures answers { S.answers_for source.new volume }
+    ensures memory { IfErr result (λ e. e ≡ OutOfMemory) }
+    ensures keeps { Keeps found.old.items found.new.items }
+    ensures satisfy { AllSatisfy volume (formula tree.now) found.old.items →
+        AllSatisfy volume (formula tree.now) found.new.items }
+    ensures has { OnOk result ((v : AnyValue) (n : ℕ) → n < 2 ^ 64 → key.now ≡ key_bytes v n →
+        sat volume (formula tree.now) n ≡ true → Contains found.new.items n) }
+{
+    let node = node_of(key);
+    if !decided || node == 0 || node == u64::MAX {
+        return visit(source, tree, name, kind, key, found);
+    }
+    found.push(node)?;
+    Ok(())
+}
+
 /// Adds the nodes of the keys in the range of which the tree is true.
 pub(crate) fn walk<S: Source>(
     source: &mut S,
@@ -73,6 +107,7 @@ pub(crate) fn walk<S: Source>(
     ensures has { OnOk result (HasWithin volume (formula tree.now) name.now range.low.items
         (option_map (λ b. b.items) range.high) found.new.items) }
 {
+    let decided = decides(&range, tree, name, kind);
     let Range { low, high } = range;
     let mut from = low;
     let mut after = false;
@@ -80,7 +115,7 @@ pub(crate) fn walk<S: Source>(
         if is_above(&high, key.as_slice()) {
             return Ok(());
         }
-        visit(source, tree, name, kind, key.as_slice(), found)?;
+        pass(source, tree, name, kind, decided, key.as_slice(), found)?;
         from = key;
         after = true;
     }

@@ -1,5 +1,4 @@
-use Rattle.std.proofs.Common.{ℕ, List, sym, subst, ◌∙◌, rules, arith}
-use Rattle.be_volume.specs.Volume.{State}
+use Rattle.std.proofs.Common.{ℕ, List, sym, subst, rules, arith}
 use Rattle.be_paged.specs.Entry.{Entry}
 use Rattle.be_paged.specs.Page.{IsNamedAt, IsGapAt, contents}
 use Rattle.be_paged.specs.Version.{Spells}

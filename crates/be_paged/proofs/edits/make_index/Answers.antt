@@ -1,5 +1,4 @@
 use Rattle.std.proofs.Common.{List, ◌∷◌, ◌++◌, take, drop, ap, sym, subst, ◌∙◌, refl, arith}
-use Rattle.be_volume.specs.Sound.{IsName}
 use Rattle.be_volume.specs.declared.ops.Op.TheVariants.{MkIndex}
 use Rattle.be_volume.specs.declared.ops.Done.TheVariants.{Unit as Nothing}
 use Rattle.be_paged.specs.Entry.{Entry}

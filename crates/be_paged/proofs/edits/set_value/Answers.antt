@@ -1,4 +1,4 @@
-use Rattle.std.proofs.Common.{ℕ, sym, ◌∙◌, subst, Some, rules, arith}
+use Rattle.std.proofs.Common.{sym, ◌∙◌, subst, Some, rules, arith}
 use Rattle.be_value.specs.declared.values.Value.{Value}
 use Rattle.be_tree.specs.Pair.{Pair}
 use Rattle.be_tree.specs.Tree.{pairs}

@@ -1,4 +1,4 @@
-use Rattle.std.proofs.Common.{ℕ, sym, ◌∙◌, subst, None, rules, arith}
+use Rattle.std.proofs.Common.{sym, ◌∙◌, subst, None, rules, arith}
 use Rattle.std.specs.FinMap as fin
 use Rattle.be_tree.specs.Tree.{pairs}
 use Rattle.be_volume.specs.Maps.{attributes_of}
@@ -7,7 +7,6 @@ use Rattle.be_volume.proofs.StepLemmas.{made, accepted}
 use Rattle.be_paged.specs.Page.{Contents, contents}
 use Rattle.be_paged.specs.Catalog.{IsCatalog}
 use Rattle.be_paged.specs.Changes.{with_indices}
-use Rattle.be_paged.specs.Version.{Spells}
 use Rattle.be_paged.proofs.Composing.{changes_trans, start_after}
 use Rattle.be_paged.proofs.Hand.{catalog_changes, catalog_spells}
 use Rattle.be_paged.proofs.Items.{catalog_unset}

@@ -1,9 +1,8 @@
-use Rattle.std.proofs.Common.{List, ◌≡◌, ℕ, ◌+◌, ◌<◌, ◌≤◌, ◌∙◌, ap, sym, subst, inl, inr, get_or, [], arith}
+use Rattle.std.proofs.Common.{List, ◌≡◌, ℕ, ◌<◌, ◌∙◌, ap, sym, subst, inl, inr, get_or, [], arith}
 use Rattle.std.proofs.lemmas.List.{get_or_default}
 use Rattle.std.proofs.lemmas.List.FromFn.{fill_by_all}
 use Rattle.std.proofs.lemmas.Bool.{cases_lt}
 use Rattle.be_value.specs.declared.values.Kind.TheVariants as kinds
-use Rattle.be_volume.specs.Sound.{IsName}
 use Rattle.be_paged.specs.Entry.{Entry}
 use Rattle.be_paged.specs.Page.{entry_at, place_of, IsEntry}
 use Rattle.be_paged.proofs.Codec.{entry_at_same, is_entry_same, same_contents}

@@ -1,4 +1,4 @@
-use Rattle.std.proofs.Common.{◌≡◌, ℕ, List, ◌+◌, ◌<◌, ◌≤◌, slice_index, ap, sym, subst, ◌∙◌}
+use Rattle.std.proofs.Common.{ℕ, List, ◌+◌, ◌<◌, ◌≤◌, slice_index, ap, sym, subst, ◌∙◌}
 use Rattle.be_paged.specs.Entry.{HaveText}
 use Rattle.be_paged.specs.Page.{entry_at, kind_numbered}
 use Rattle.be_paged.proofs.Codec.{name_moved, text_moved, entry_is}

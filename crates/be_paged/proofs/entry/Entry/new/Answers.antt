@@ -1,5 +1,4 @@
 use Rattle.std.proofs.Common.{◌≡◌, ℕ, ◌≤◌, ◌∷◌, [], List, length, slice_index, sym, subst, ◌∙◌, refl}
-use Rattle.be_tree.specs.Page.{bytes_at}
 use Rattle.be_paged.specs.Entry.{HaveText}
 use Rattle.be_paged.proofs.Codec.{have_text, text_told, name_short, same_entry}
 use Rattle.be_paged.proofs.entry.Entry.new.Goals as goal

@@ -2,7 +2,7 @@ use Rattle.std.proofs.Common.{◌≡◌, ℕ, List, ◌+◌, ◌<◌, ◌≤◌,
 use Rattle.std.proofs.lemmas.Bool.Decides.{nat_tests}
 use Rattle.be_volume.specs.Sound.{IsName}
 use Rattle.be_paged.specs.Entry.{Entry, HaveText}
-use Rattle.be_paged.specs.Page.{entry_at, kind_numbered}
+use Rattle.be_paged.specs.Page.{kind_numbered}
 use Rattle.be_paged.proofs.Codec.{name_moved, text_moved, entry_is}
 use Rattle.be_paged.proofs.entry.Entry.store.Goals as goal
 

@@ -82,7 +82,7 @@ returns-clause-answers g c = λ volume of.
             let rising = tree_rising s w (get_or version.entries c.in-Ok.place d).root (entry_tree s w version c.in-Ok.place d answers.in_hand named.in_range) in
             ap (λ (u : ℕ → ℕ → ℕ). remaining u c.next_key.new.self) last.words ∙ c.in_ok-key.ensures.remaining
             ∙ behind_next (pairs w (get_or version.entries c.in-Ok.place d).root) rising c.args.from.now c.args.after (remaining w self1.cursor) c.in_ok-key.key.items (c.walk_to.ensures.rest d) c.in_ok-key.ensures.key
-            ∙ ap (λ (k : List ℕ). pairs_from (pairs w (get_or version.entries c.in-Ok.place d).root) k true) (sym c.copy_key-self.ensures)
-            ∙ ap (λ (u : ℕ → ℕ → ℕ). pairs_from (pairs u (get_or version.entries c.in-Ok.place d).root) c.copy_key-self.result.items true) (sym last.words);
+            ∙ ap (λ (k : List ℕ). pairs_from (pairs w (get_or version.entries c.in-Ok.place d).root) k true) (sym c.replace_key.ensures)
+            ∙ ap (λ (u : ℕ → ℕ → ℕ). pairs_from (pairs u (get_or version.entries c.in-Ok.place d).root) c.replace_key.new.key.items true) (sym last.words);
       };
     })

@@ -1,0 +1,5 @@
+use Rattle.be_paged.proofs.UsedWords as used
+use Rattle.be_paged.proofs.spelling.one_spelling.Goals as goal
+
+pub returns : goal.returns
+returns c = used.one_spelling
