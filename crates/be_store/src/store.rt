@@ -1,6 +1,6 @@
 //! The store, and the calls of its passes.
-ghost use Rattle.std.specs.Prelude.{◌≡◌, ◌≤◌, ◌<◌, ℕ, None, Some, MatchResult, IfOk, IfErr, length, map};
-ghost use Rattle.be_store.specs.Passes.{IsPassOf, IsPinnedTo, HasRead, volume_at};
+ghost use Rattle.std.specs.Prelude.{◌≡◌, ◌≤◌, ◌<◌, ℕ, None, Some, Ok, MatchResult, IfOk, IfErr, length, map};
+ghost use Rattle.be_store.specs.Passes.{IsPassOf, IsPinnedTo, HasRead, volume_pinned};
 ghost use Rattle.be_store.specs.History.{Accepts, Learns, IsReason, Pins};
 
 use crate::answers::Answer;
@@ -11,7 +11,7 @@ use arrayvec::ArrayVec;
 use be_journal::Journal;
 use be_paged::{attrs, first_page, get, indices};
 use be_query::Query;
-use be_table::VersionTable;
+use be_table::{PinnedLook, VersionTable};
 use be_value::{Kind, Name, Refusal, Value};
 use be_volume::{Done, Op};
 use std::alloc::Global;
@@ -34,6 +34,8 @@ impl Model for Store {
 impl Store {
     ghost use Rattle.be_journal.specs.Journal.{IsLegal};
     ghost use Rattle.be_table.specs.History.{StartsWith, AllBelow};
+    ghost use Rattle.be_paged.specs.Version.{IsVersion};
+    ghost use Rattle.be_table.specs.Reading.{pinned_standing, word_in};
     ghost use Rattle.be_table.specs.Seats.{pinned_number};
     ghost use Rattle.be_table.specs.Steps.{Has, Keeps, longer, met, unpins};
     ghost use Rattle.be_table.specs.Works.{AllAt, AreNew, IsUnopened, knows_of};
@@ -97,19 +99,29 @@ impl Store {
         self.table.unpin(pass);
     }
 
+    /// A reader of the pinned version, and its version page. The pass is blank until the reader's seat is back.
+    fn reader(&self, pass: &mut Pass) -> (PinnedLook<'_>, u64)
+        requires pass { IsPassOf self.now pass.old }
+        requires pinned { (n : ℕ) × IsPinnedTo pass.old.knows n }
+        ensures look { (result.0.table ≡ self.now) × (result.0.knows ≡ pass.old.knows) }
+        ensures version { IsVersion (pinned_standing result.0.knows) (word_in result.0.knows.image) result.1 (volume_pinned pass.old.knows) }
+    {
+        let page = pass.version_page();
+        (self.table.pinned_look(pass.move_out()), page)
+    }
+
     /// The nodes of which the query is true in the pinned version, ascending, and the pin. 17 where the query rests on no index of that version, and 10.
     pub fn query(&self, alloc: Global, pass: &mut Pass, query: &Query) -> Result<Answer, Refusal>
         requires pass { IsPassOf self.now pass.old }
         requires pinned { (n : ℕ) × IsPinnedTo pass.old.knows n }
         ensures pass { IsPassOf self.now pass.new × HasRead pass.old.knows pass.new.knows }
-        ensures nodes { (n : ℕ) → IsPinnedTo pass.old.knows n → Answers (λ a. a.nodes.items) result (scan (volume_at pass.old.knows n) query.now) }
+        ensures nodes { Answers (λ a. a.nodes.items) result (scan (volume_pinned pass.old.knows) query.now) }
         ensures pin { IfOk result (λ a. IsPinnedTo pass.old.knows a.pin) }
     {
         let Some(pin) = pass.pinned() else {
             unreachable!()
         };
-        let page = pass.version_page();
-        let look = self.table.pinned_look(pass.move_out());
+        let (look, page) = self.reader(pass);
         let (look, nodes) = ask(alloc, look, page, query);
         *pass = look.into_seat();
         Ok(Answer { pin, nodes: nodes? })
@@ -120,10 +132,9 @@ impl Store {
         requires pass { IsPassOf self.now pass.old }
         requires pinned { (n : ℕ) × IsPinnedTo pass.old.knows n }
         ensures pass { IsPassOf self.now pass.new × HasRead pass.old.knows pass.new.knows }
-        ensures value { (n : ℕ) → IsPinnedTo pass.old.knows n → result ≡ attribute (volume_at pass.old.knows n) node name.now }
+        ensures value { result ≡ attribute (volume_pinned pass.old.knows) node name.now }
     {
-        let page = pass.version_page();
-        let mut look = self.table.pinned_look(pass.move_out());
+        let (mut look, page) = self.reader(pass);
         let value = get(&mut look, page, node, name);
         *pass = look.into_seat();
         value
@@ -134,10 +145,9 @@ impl Store {
         requires pass { IsPassOf self.now pass.old }
         requires pinned { (n : ℕ) × IsPinnedTo pass.old.knows n }
         ensures pass { IsPassOf self.now pass.new × HasRead pass.old.knows pass.new.knows }
-        ensures list { (n : ℕ) → IsPinnedTo pass.old.knows n → Answers (λ list. list.items) result (attributes_at (volume_at pass.old.knows n) node) }
+        ensures list { Answers (λ list. list.items) result (attributes_at (volume_pinned pass.old.knows) node) }
     {
-        let page = pass.version_page();
-        let mut look = self.table.pinned_look(pass.move_out());
+        let (mut look, page) = self.reader(pass);
         let list = attrs(alloc, &mut look, page, node);
         *pass = look.into_seat();
         list
@@ -148,10 +158,9 @@ impl Store {
         requires pass { IsPassOf self.now pass.old }
         requires pinned { (n : ℕ) × IsPinnedTo pass.old.knows n }
         ensures pass { IsPassOf self.now pass.new × HasRead pass.old.knows pass.new.knows }
-        ensures list { (n : ℕ) → IsPinnedTo pass.old.knows n → Answers (λ list. list.items) result (Ok (index_kinds (volume_at pass.old.knows n))) }
+        ensures list { Answers (λ list. list.items) result (Ok (index_kinds (volume_pinned pass.old.knows))) }
     {
-        let page = pass.version_page();
-        let mut look = self.table.pinned_look(pass.move_out());
+        let (mut look, page) = self.reader(pass);
         let list = indices(alloc, &mut look, page);
         *pass = look.into_seat();
         list

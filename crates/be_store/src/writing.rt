@@ -18,14 +18,16 @@ pub(crate) fn write(writing: &mut Writing<'_>, ops: &[Op]) -> Result<(u64, Array
     ensures answer { MatchResult result (λ r. Publishes writing.old.knows writing.new.knows ops.now r.0 r.1.items) (λ e. IsHeldBack writing.old.knows writing.new.knows ops.now e) }
 {
     let (_, version_page) = writing.current();
-    let made = apply(writing, version_page, ops);
-    if let Err(refusal) = &made {
-        if !matches!(refusal, Refusal::Full(_)) {
-            return Err(*refusal);
+    match apply(writing, version_page, ops) {
+        Ok((page, dones)) => {
+            writing.reserve(ops.len())?;
+            let number = writing.publish(page, ops, dones.as_slice());
+            Ok((number, dones))
         }
+        Err(Refusal::Full(least)) => {
+            writing.reserve(ops.len())?;
+            Err(Refusal::Full(least))
+        }
+        Err(refusal) => Err(refusal),
     }
-    writing.reserve(ops.len())?;
-    let (page, dones) = made?;
-    let number = writing.publish(page, ops, dones.as_slice());
-    Ok((number, dones))
 }
