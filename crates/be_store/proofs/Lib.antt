@@ -1,2 +1,4 @@
 pub mod Passes
 pub mod Writes
+pub mod Refusals
+pub mod Applied

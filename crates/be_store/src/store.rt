@@ -74,6 +74,7 @@ impl Store {
         };
         let answer = write(&mut writing, ops);
         *pass = writing.unlock();
+        pass.is_pass();
         answer
     }
 

@@ -12,7 +12,7 @@ use Rattle.be_table.specs.Reading.{standing_in, word_in, StaysOpen}
 use Rattle.be_table.specs.Rule.{entries, reach_at}
 use Rattle.be_table.specs.Versions.{SpellsVolume}
 use Rattle.be_table.proofs.Keeping.{begun_version, keeps_exactly}
-use Rattle.be_store.proofs.Writes.{current_spelt, published}
+use Rattle.be_store.proofs.Writes.{current_spelt, full_unroomed, passed_up, published}
 use Rattle.be_store.proofs.writing.write.Goals as goal
 
 pub apply_to-requires : goal.apply_to-requires
@@ -55,3 +55,10 @@ returns-in_ok-reserve-in-Ok-clause-answer c =
     let ok = c.in-Ok.ensures.ok in
     published c.args.writing.now c.apply_to.new.writing c.reserve.new.self c.publish-number.new.self c.args.ops.now c.in-Ok.page c.publish-number.result c.in-Ok.dones.items c.as_slice.result.now ok.made
     ok.swaps.kept (ap (λ (w : Work). w.knows) c.in_ok-reserve-in-Ok.ensures.0) (ap (λ (w : Work). w.knows) c.publish-number.ensures.write) c.as_slice.ensures.value ok.stepped c.publish-number.ensures.result
+
+pub returns-in_err-reserve-in-Err-Full-clause-answer : goal.returns-in_err-reserve-in-Err-Full-clause-answer
+returns-in_err-reserve-in-Err-Full-clause-answer c =
+    let none = c.in_err-reserve-in-Err-Full.ensures in
+    let refused = c.in-Err-Full.ensures.err in
+    passed_up c.from_residual-in_err-reserve-in-Err-Full.result c.in_err-reserve-in-Err-Full.field-0.0 _ _ c.from_residual-in_err-reserve-in-Err-Full.ensures.1
+    (full_unroomed c.args.writing.now c.apply_to.new.writing c.reserve-in-Err-Full.new.self _ c.args.ops.now _ _ refused none.0 none.1)
