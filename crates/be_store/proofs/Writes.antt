@@ -48,10 +48,10 @@ full_accepts _ _ _ _ volume ops least old new (inl h) = absurd (let few = steps_
 full_accepts _ _ _ _ volume ops least old new (inr h) = (h.1, h.2)
 
 -- the journal's want of room goes before that of a page
-pub full_unroomed : (w v r : Work) (full_of : Work → ℕ → Type 0) (ops : List Op) (least : ℕ) (e : Refusal)
-    → IsRefused open_of standing_of words_of full_of (replay (entries w.knows.seen)) ops (Full least) w v → r ≡ v → HasNoRoom e v.knows → IsHeldBack w.knows r.knows ops e
-full_unroomed w v r full_of ops least e refused same none =
-    let h = full_accepts open_of standing_of words_of full_of (replay (entries w.knows.seen)) ops least w v refused in
+pub full_unroomed : (w v r : Work) (full_of : Work → ℕ → Type 0) (ops : List Op) (least : ℕ) (f e : Refusal) → f ≡ Full least
+    → IsRefused open_of standing_of words_of full_of (replay (entries w.knows.seen)) ops f w v → r ≡ v → HasNoRoom e v.knows → IsHeldBack w.knows r.knows ops e
+full_unroomed w v r full_of ops least f e is refused same none =
+    let h = full_accepts open_of standing_of words_of full_of (replay (entries w.knows.seen)) ops least w v (subst (λ g. IsRefused open_of standing_of words_of full_of (replay (entries w.knows.seen)) ops g w v) is refused) in
     let k : open_of r ≡ open_of w = ap open_of same ∙ h.1.kept in record {
       same = record { pass = ap (λ (o : StaysOpen). o.number) k; pin = ap (λ (o : StaysOpen). o.phase) k };
       seen = ap (λ (o : StaysOpen). o.seen) k;
