@@ -2,3 +2,4 @@ pub mod Passes
 pub mod Writes
 pub mod Refusals
 pub mod Applied
+pub mod Answering

@@ -12,9 +12,11 @@
 
 mod answers;
 mod asking;
+mod live;
 mod store;
 mod writing;
 
-pub use answers::Answer;
+pub use answers::{Answer, Updates};
 pub use be_table::{Limits, Seat as Pass};
+pub use live::Live;
 pub use store::Store;
