@@ -14,6 +14,8 @@ mod answers;
 mod asking;
 mod live;
 mod store;
+#[cfg(test)]
+mod tests;
 mod writing;
 
 pub use answers::{Answer, Updates};
