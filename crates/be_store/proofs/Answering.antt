@@ -48,7 +48,7 @@ held_at xs n i lt is = list_any-from_Any (λ m. m == n) xs (i, n, lt, get_or_def
 lacks : (xs : List ℕ) (n i : ℕ) → ((k : ℕ) → k < i → get_or xs k 0 < n) → ((k : ℕ) → i ≤ k → k < length xs → n < get_or xs k 0) → is_in xs n ≡ false
 lacks xs n i below above = list_any_none (λ m. m == n) xs (λ k d lt. ne_eqb (get_or xs k d) n (λ e.
     let same : get_or xs k 0 ≡ n = get_or_default xs k 0 d lt ∙ e in
-    elim (cases_lt k i) [ | inl before ↦ absurd (let l = below k before in omega (arith, l, same)) | inr past ↦ absurd (let l = above k past lt in omega (arith, l, same)) ]))
+    elim (cases_lt k i) [ inl before ↦ absurd (let l = below k before in omega (arith, l, same)) | inr past ↦ absurd (let l = above k past lt in omega (arith, l, same)) ]))
 
 -- what a search in a rising list finds
 pub found_in : (xs : List ℕ) (n : ℕ) (r : Result ℕ ℕ) → IsStrictlyIncreasing xs → IsBinarySearchResult (λ y. nat_cmp y n) xs r → is_ok r ≡ is_in xs n

@@ -35,13 +35,16 @@ pub record Learns (a c : Knowledge) : Type 0 where
   pub pass : c.number ≡ a.number
   pub pin : c.phase ≡ a.phase
 
--- Why a write is refused: another pass holds the lock; or the volume after what the pass has then seen refuses it; or that accepts it, and the journal has no room, or no page is left.
-abbrev pub IsReason : (a c : Knowledge) (ops : List Op) → Refusal → Type 0
-IsReason a c ops e =
-    (IsBusy e a × (c.seen ≡ a.seen))
-    ⊎ (steps (volume_seen c) ops ≡ Err e)
+-- Why a pass that has the lock is refused, when it has seen this much of the journal: the volume after that refuses the write; or it accepts it, and the journal has no room, or no page is left.
+abbrev pub IsRefusedAt : (c : Knowledge) (ops : List Op) → Refusal → Type 0
+IsRefusedAt c ops e =
+    (steps (volume_seen c) ops ≡ Err e)
     ⊎ (IsOk (steps (volume_seen c) ops) × HasNoRoom e c)
     ⊎ (IsOk (steps (volume_seen c) ops) × (length c.seen < c.limits.commits) × IsFullOf (HoldsUnreached c) e)
+
+-- Why a write is refused: another pass holds the lock, and nothing more was seen; or else.
+abbrev pub IsReason : (a c : Knowledge) (ops : List Op) → Refusal → Type 0
+IsReason a c ops e = (IsBusy e a × (c.seen ≡ a.seen)) ⊎ IsRefusedAt c ops e
 
 -- The pass is pinned to all that it has then seen, by three steps.
 pub record Pins (a c : Knowledge) (n : ℕ) : Type 0 where

@@ -10,6 +10,7 @@ use Rattle.be_value.specs.declared.refusals.Refusal.{Refusal}
 use Rattle.be_volume.specs.Volume.{steps}
 use Rattle.be_volume.specs.declared.ops.Done.{Done}
 use Rattle.be_volume.specs.declared.ops.Op.{Op}
+use Rattle.be_store.specs.History.{IsRefusedAt}
 use Rattle.be_store.specs.Passes.{volume_seen}
 
 -- the pass is still the same pass, with its pin
@@ -30,4 +31,4 @@ pub record Publishes (a c : Knowledge) (ops : List Op) (n : ℕ) (dones : List D
 pub record IsHeldBack (a c : Knowledge) (ops : List Op) (e : Refusal) : Type 0 where
   pub same : IsSame a c
   pub seen : c.seen ≡ a.seen
-  pub reason : (steps (volume_seen c) ops ≡ Err e) ⊎ (IsOk (steps (volume_seen c) ops) × HasNoRoom e c) ⊎ (IsOk (steps (volume_seen c) ops) × (length c.seen < c.limits.commits) × IsFullOf (HoldsUnreached c) e)
+  pub reason : IsRefusedAt c ops e

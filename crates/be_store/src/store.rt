@@ -142,7 +142,12 @@ impl Store {
     }
 
     /// A node's attributes in the pinned version, by ascending bytes of their names. 2 where the node isn't there, and 10.
-    pub fn attrs(&self, alloc: Global, pass: &mut Pass, node: u64) -> Result<Vec<(Name, Value)>, Refusal>
+    pub fn attrs(
+        &self,
+        alloc: Global,
+        pass: &mut Pass,
+        node: u64,
+    ) -> Result<Vec<(Name, Value)>, Refusal>
         requires pass { IsPassOf self.now pass.old }
         requires pinned { (n : ℕ) × IsPinnedTo pass.old.knows n }
         ensures pass { IsPassOf self.now pass.new × HasRead pass.old.knows pass.new.knows }

@@ -143,7 +143,9 @@ fn two_passes(rt: HostRuntime) -> Result<(), Fail> {
     assert_eq!(rt; store.indices(rt.alloc(), &mut b)?.len(), 0);
     store.unpin(&mut b);
     assert_eq!(rt; store.pin(&mut b), 2);
-    assert!(rt; matches!(store.get(&mut b, 1, &name), Some(Value::Cstr(_))));
+    assert!(rt;
+        matches!(store.get(&mut b, 1, &name), Some(Value::Cstr(text)) if text.as_str() == "v")
+    );
     Ok(())
 }
 
@@ -180,7 +182,7 @@ fn live_query(rt: HostRuntime) -> Result<(), Fail> {
     Ok(())
 }
 
-/// Sets the attribute of node 1 to 1 to 500, while the other pass is pinned and asks for the nodes where it is 0. How many writes were accepted before the first that wasn't, if all after it were refused in the same way and the answers are as they should be.
+/// Sets the attribute of node 1 to 1 to 500, while the other pass is pinned and asks for the nodes where it is 0. The first value that found no page, if each after it found none either and the answers are as they should be.
 fn fill_pool(
     store: &Store,
     alloc: Global,
@@ -188,7 +190,7 @@ fn fill_pool(
     reader: &mut Pass,
     name: &Name,
     query: &Query,
-) -> Option<u64>
+) -> Option<i32>
     requires writer { IsPassOf store.now writer.old }
     requires reader { IsPassOf store.now reader.old }
     requires pinned { (n : ℕ) × IsPinnedTo reader.old.knows n }
@@ -196,12 +198,11 @@ fn fill_pool(
     ensures reader { IsPassOf store.now reader.new }
     ensures pin { reader.new.knows.phase ≡ reader.old.knows.phase }
 {
-    let mut accepted = 0;
-    let mut full = false;
+    let mut first = None;
     for i in 1..=500 {
         match write(store, writer, Op::Set(1, name.copy(), Value::int32(i))) {
-            Ok(_) if !full => accepted += 1,
-            Err(Refusal::Full(3)) => full = true,
+            Ok(_) if first.is_none() => {}
+            Err(Refusal::Full(3)) => first = first.or(Some(i)),
             _ => return None,
         }
         let Ok(answer) = ask(store, alloc, reader, query) else {
@@ -211,7 +212,7 @@ fn fill_pool(
             return None;
         }
     }
-    Some(accepted)
+    first
 }
 
 #[test]
@@ -220,11 +221,17 @@ fn pinned_small_pool(rt: HostRuntime) -> Result<(), Fail> {
     let name = Name::new("k")?;
     let query = parsed(rt.alloc(), "k==0")?;
     assert_eq!(rt; write(&store, &mut a, Op::New)?.0, 1);
-    assert_eq!(rt; write(&store, &mut a, Op::MkIndex(name.copy(), Kind::Long))?.0, 2);
-    assert_eq!(rt; write(&store, &mut a, Op::Set(1, name.copy(), Value::int32(0)))?.0, 3);
+    assert_eq!(rt;
+        write(&store, &mut a, Op::MkIndex(name.copy(), Kind::Long))?.0,
+        2
+    );
+    assert_eq!(rt;
+        write(&store, &mut a, Op::Set(1, name.copy(), Value::int32(0)))?.0,
+        3
+    );
     assert_eq!(rt; store.pin(&mut b), 3);
-    let accepted = fill_pool(&store, rt.alloc(), &mut a, &mut b, &name, &query);
-    assert!(rt; matches!(accepted, Some(count) if count < 63));
+    let full = fill_pool(&store, rt.alloc(), &mut a, &mut b, &name, &query);
+    assert!(rt; matches!(full, Some(first) if first < 64));
     store.unpin(&mut b);
     assert!(rt; write(&store, &mut a, Op::Set(1, name.copy(), Value::int32(0))).is_ok());
     Ok(())

@@ -32,7 +32,10 @@ fn apply_to(
 }
 
 /// Applies the operations to the current version, and publishes what they make. A refusal of 2 to 8 comes at once; the journal's want of room goes before that of a page.
-pub(crate) fn write(writing: &mut Writing<'_>, ops: &[Op]) -> Result<(u64, ArrayVec<Done, 64>), Refusal>
+pub(crate) fn write(
+    writing: &mut Writing<'_>,
+    ops: &[Op],
+) -> Result<(u64, ArrayVec<Done, 64>), Refusal>
     requires begun { (a : Knowledge) × TakesLock a writing.old.knows }
     requires count { (1 ≤ length ops.now) × (length ops.now ≤ 64) }
     ensures table { writing.new.table ≡ writing.old.table }
