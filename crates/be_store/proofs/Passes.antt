@@ -10,7 +10,7 @@ use Rattle.be_table.specs.Reading.{pinned_standing, word_in}
 use Rattle.be_table.specs.Rule.{entries, page_at}
 use Rattle.be_table.specs.Seats.{pinned_number}
 use Rattle.be_table.proofs.Pins.{looked_version}
-use Rattle.be_volume.specs.Volume.{State, empty}
+use Rattle.be_volume.specs.Volume.{empty}
 use Rattle.be_store.specs.Passes.{IsPinnedTo, volume_pinned}
 
 abbrev number_in : ℕ → Option ℕ → ℕ

@@ -1,10 +1,10 @@
 -- Which refusals the volume gives.
-use Rattle.std.proofs.Common.{arith, ◌≡◌, ◌⊎◌, inl, inr, ℕ, ◌+◌, ◌≤◌, List, [], ◌∷◌, ◌++◌, Bool, true, false, Ok, Err, fold, refl, sym, ap, ◌∙◌, subst}
-use Rattle.std.specs.Prelude.{Result, IsOk, if◌then◌else◌}
+use Rattle.std.proofs.Common.{arith, ◌≡◌, ◌≤◌, List, [], ◌∷◌, ◌++◌, Bool, true, false, Ok, Err, fold, sym, ap, subst}
+use Rattle.std.specs.Prelude.{Result, if◌then◌else◌}
 use Rattle.std.specs.Result.{result_map_both}
 use Rattle.be_value.specs.Refusal.{refusal_number}
 use Rattle.be_value.specs.declared.refusals.Refusal.{Refusal}
-use Rattle.be_value.specs.declared.refusals.Refusal.TheVariants.{NoNode, NoAttr, NoSuchIndex, TooManyAttrs, IndexExists, TooManyIndices, NotIndexable, Full}
+use Rattle.be_value.specs.declared.refusals.Refusal.TheVariants.{NoNode, NoAttr, NoSuchIndex, TooManyAttrs, IndexExists, TooManyIndices, NotIndexable}
 use Rattle.be_volume.specs.Volume.{State, advance, step, steps}
 use Rattle.be_volume.specs.declared.ops.Done.{Done}
 use Rattle.be_volume.specs.declared.ops.Op.{Op}

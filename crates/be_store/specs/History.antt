@@ -1,6 +1,5 @@
 -- What a call makes of the pass that calls: what it has seen of the journal, its own writes, and its pin.
 use Rattle.std.specs.Prelude.{◌≡◌, ◌⊎◌, ℕ, ◌+◌, ◌<◌, List, [], ◌∷◌, ◌++◌, length, IsOk, Err}
-use Rattle.be_journal.specs.declared.entries.Entry.{Entry}
 use Rattle.be_journal.specs.Journal.{Agrees, by_pass, replay}
 use Rattle.be_pages.specs.Refusal.{IsFullOf}
 use Rattle.be_table.specs.declared.pass.Commit.{Commit}

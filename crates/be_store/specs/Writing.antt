@@ -1,13 +1,10 @@
 -- What one write makes of the pass that holds the lock.
-use Rattle.std.specs.Prelude.{◌≡◌, ◌⊎◌, ℕ, ◌<◌, List, [], ◌∷◌, ◌++◌, length, IsOk, Err, false, true}
+use Rattle.std.specs.Prelude.{◌≡◌, ℕ, List, [], ◌∷◌, ◌++◌, length}
 use Rattle.be_journal.specs.Journal.{Agrees}
-use Rattle.be_pages.specs.Refusal.{IsFullOf}
 use Rattle.be_table.specs.declared.pass.Knowledge.{Knowledge}
 use Rattle.be_table.specs.declared.pass.Commit.{Commit}
 use Rattle.be_table.specs.Steps.{entry_of}
-use Rattle.be_table.specs.Works.{HasNoRoom, HoldsUnreached}
 use Rattle.be_value.specs.declared.refusals.Refusal.{Refusal}
-use Rattle.be_volume.specs.Volume.{steps}
 use Rattle.be_volume.specs.declared.ops.Done.{Done}
 use Rattle.be_volume.specs.declared.ops.Op.{Op}
 use Rattle.be_store.specs.History.{IsRefusedAt}

@@ -1,4 +1,4 @@
-use Rattle.std.proofs.Common.{◌≡◌, ℕ, length, Ok, sym, ap, ◌∙◌, subst}
+use Rattle.std.proofs.Common.{◌≡◌, ℕ, Ok, sym, ap, ◌∙◌, subst}
 use Rattle.be_core.specs.Machine.{bit}
 use Rattle.be_journal.specs.Journal.{replay}
 use Rattle.be_pages.specs.Pages.{is_kept, times}
