@@ -16,6 +16,7 @@ pub mod Levels
 mod Neighbours
 mod Children
 mod Joins
+mod Alone
 pub mod Ranges
 mod Heights
 mod Cursors

@@ -1,9 +1,9 @@
 //! A key is taken out of a tree.
 //!
 //! # Neighbours
-//! The page that loses an item is written anew together with a neighbour under the same parent, the next one where
-//! there is one: the items of both go into one page where they fit, else into two. So no page is left under-full, and
-//! pages that were thin are joined. A removal writes two pages a level at most.
+//! A page of more than six items is written anew alone. One of six is written anew together with a neighbour under the
+//! same parent, the next one where there is one: the items of both go into one page where they fit, else into two. So no
+//! page is left under-full, and pages that were thin are joined. A removal writes two pages a level at most.
 ghost use Rattle.std.specs.Prelude.{◌≡◌, ℕ, suc, ◌+◌, ◌-◌, ◌^◌, ◌<◌, ◌≤◌, [], ◌∷◌, ◌++◌, length, take, drop, All, IfOk, OnErr, IfErr, IsTrue, None, Ok};
 ghost use Rattle.be_pages.specs.Pages.{IsUnchanged, is_readable, Swaps, KeepsStart};
 ghost use Rattle.be_pages.specs.Refusal.{IsFullOf};
@@ -13,11 +13,11 @@ ghost use Rattle.be_tree.specs.Pair.{Pair};
 ghost use Rattle.be_tree.specs.Slot.{IsReady, pair_of, pairs_of};
 ghost use Rattle.be_tree.specs.Tree.{AreNeighbours, Becomes, BecomesTree, IsBelow, IsTree, IsTreeAt, child, least_of_root, pages, pages_below, pairs, pairs_at, pairs_below};
 
-use crate::edit::{pack_two, write_root};
+use crate::edit::{pack_two, write_branch, write_root};
 use crate::item::Item;
 use crate::lookup::{has_key, rank};
 use crate::page::{child_at, cmp_at, fill_slots, key_words};
-use crate::siblings::{append, count_of, slots_with, two_children};
+use crate::siblings::{append, count_of, slots_with, slots_with_one, spare_child, two_children};
 use crate::slot::Slot;
 use arrayvec::ArrayVec;
 use be_pages::{Look, Room};
@@ -141,6 +141,10 @@ fn remove_at<R: Room>(
     if level == 0 {
         return Ok(slots_without(room, page, at, key, words));
     }
+    if let Some(below) = spare_child(room, level, page, at) {
+        let slot = remove_alone(room, level - 1, below, key, words, pair)?;
+        return Ok(slots_with_one(room, page, at, slot));
+    }
     if at + 1 < count_of(room, page) {
         let (here, next) = two_children(room, level, page, at);
         let two = remove_left(room, level - 1, here, next, key, words, pair)?;
@@ -149,6 +153,32 @@ fn remove_at<R: Room>(
     let (before, here) = two_children(room, level, page, at - 1);
     let two = remove_right(room, level - 1, before, here, key, words, pair)?;
     Ok(slots_with(room, page, at - 1, two))
+}
+
+/// Takes a key out below a page of more than six items, writes what is left of it alone, and gives the branch to it.
+#[cycle(removal)]
+fn remove_alone<R: Room>(
+    room: &mut R,
+    level: u64,
+    below: u64,
+    key: &[u8],
+    words: &[u64],
+    pair: &Item,
+) -> Result<Slot, Refusal>
+    requires tree { IsTreeAt level 6 (R.standing room.old) (R.words room.old) below }
+    requires spare { 6 < R.words room.old below 1 }
+    requires key_fits { length pair.now.key ≤ 264 }
+    requires prepared { IsPrepared words.now key.now }
+    requires open { IsTrue (R.is_open (R.kept room.old)) }
+    ensures ok { IfOk result (λ slot. Becomes R.kept R.standing R.words (below ∷ pages_below level (R.words room.old) (items_of (R.words room.old below))) (without key.now (pairs_at level (R.words room.old) below)) (suc level) (pair_of (R.words room.new) pair.now slot ∷ []) room.old room.new) }
+    ensures ready { IfOk result (λ slot. IsReady (R.standing room.new) (R.words room.new) slot) }
+    ensures err { OnErr result (KeepsStart R.kept R.standing R.words room.old room.new) }
+    ensures full { IfErr result (IsFullOf (R.full room.new)) }
+{
+    let slots = remove_at(room, level, below, key, words, pair)?;
+    let page = write_branch(room, level, &slots, pair)?;
+    room.give_up(below);
+    Ok(Slot::Branch(page as u32))
 }
 
 /// Takes a key out below the first of two neighbours, and writes both anew.
