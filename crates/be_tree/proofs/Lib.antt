@@ -17,6 +17,7 @@ mod Neighbours
 mod Children
 mod Joins
 mod Alone
+mod Stops
 pub mod Ranges
 mod Heights
 mod Cursors

@@ -38,10 +38,10 @@ pub(crate) fn spare_child<L: Look>(look: &mut L, level: u64, page: u64, at: usiz
     ensures unchanged { IsUnchanged L.kept L.standing L.words look.old look.new }
 {
     let below = child_at(look, page, 2 + 42 * at);
-    if count_of(look, below) > 6 {
-        return Some(below);
+    if count_of(look, below) < 7 {
+        return None;
     }
-    None
+    Some(below)
 }
 
 /// The child at a number with its left neighbour before it, where the child is full and the neighbour is not.

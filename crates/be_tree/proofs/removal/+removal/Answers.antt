@@ -1,10 +1,13 @@
-use Rattle.std.proofs.Common.{◌≡◌, ℕ, suc, [], ◌∷◌, ◌++◌, ◌-◌, ◌+◌, ◌≤◌, List, take, drop, ap, sym, subst, ◌∙◌, length, arith}
+use Rattle.std.proofs.Common.{◌≡◌, ℕ, suc, [], ◌∷◌, ◌++◌, ◌-◌, ◌+◌, ◌≤◌, List, take, drop, ap, sym, subst, refl, ◌∙◌, length, arith}
 use Rattle.std.proofs.lemmas.Bool.Decides.{nat_tests}
 use Rattle.std.proofs.lemmas.List.FromFn.{length-map-range_with_len}
 use Rattle.be_tree.specs.declared.slot.Slot.{Slot}
 use Rattle.be_tree.specs.declared.slot.Slot.TheVariants.{At, Branch}
 use Rattle.be_tree.specs.Pair.{Pair}
-use Rattle.be_tree.specs.Key.{without}
+use Rattle.be_tree.specs.Key.{key_cmp, payload_at, without}
+use Rattle.std.specs.Prelude.{true, false, None}
+use Rattle.std.specs.Ordering.{is_eq}
+use Rattle.be_tree.proofs.Stops.{absent_is, down_read, found_is, passed_absent, passed_stop}
 use Rattle.be_tree.specs.Page.{items_of, item_at, place_of}
 use Rattle.be_tree.specs.Slot.{branch_to, IsBranchSlot, pair_of, pairs_of}
 use Rattle.be_tree.specs.Tree.{Becomes, child, least_of_root, pairs_at, pairs_below, pages_below}
@@ -15,7 +18,7 @@ use Rattle.be_tree.proofs.Joins.{left_changed, left_in_hand, left_length, right_
 use Rattle.be_tree.proofs.Neighbours.{apart, left_count, left_page, left_readable, right_count, right_page, right_readable, slots_until}
 use Rattle.be_tree.proofs.Parts.{all_one, on_err}
 use Rattle.be_tree.proofs.Puts.{becomes_given_up, becomes_trans, held_after}
-use Rattle.be_tree.proofs.Removes.{at_in, key_out, leaf_removed, least_two, rising_without, rising_without_left, rising_without_right}
+use Rattle.be_tree.proofs.Removes.{at_in, key_out, leaf_removed, least_two, payload_leaf, rising_without, rising_without_left, rising_without_right}
 use Rattle.be_tree.proofs.Slots.{branches_ready, items_count}
 use Rattle.be_tree.proofs.removal.+removal.Goals as goal
 
@@ -35,9 +38,9 @@ remove_at-returns-then-level-eq0-clause-ok g t c =
     let pair = c.args.pair.now in
     let at = c.saturating_sub-at.result in
     let same1 = c.rank.ensures.unchanged in
-    let slots = c.slots_without.result.items in
+    let slots = c.in_ok-slots.slots.items in
     let final = c.slots_without.new.look in
-    let is = subst (λ (w : ℕ → ℕ → ℕ). pairs_of w pair slots ≡ take at (items_of (w page)) ++ (without k (item_at (w page) (place_of at) ∷ []) ++ drop (suc at) (items_of (w page)))) same1.words (c.slots_without.ensures.items pair) in
+    let is = subst (λ (w : ℕ → ℕ → ℕ). pairs_of w pair slots ≡ take at (items_of (w page)) ++ (without k (item_at (w page) (place_of at) ∷ []) ++ drop (suc at) (items_of (w page)))) same1.words (c.in_ok-slots.ensures.items pair) in
     slots_until g.R.Look.kept g.R.Look.standing g.R.Look.words (pages_below level words (items_of (words page))) (without k (pairs_at level words page)) level pair slots old old final (unchanged_trans g.R.Look.kept g.R.Look.standing g.R.Look.words old c.rank.new.look final same1 c.slots_without.ensures.unchanged)
     (leaf_removed g.R.Look.kept g.R.Look.standing g.R.Look.words level page k c.rank.result at old c.requires.tree c.rank.ensures.rank c.saturating_sub-at.ensures c.if-level-eq0.true (pairs_of words pair slots) is)
 
@@ -46,7 +49,7 @@ remove_at-returns-then-level-eq0-clause-some g t c =
     let words = g.R.Look.words c.args.room.now in
     let page = c.args.page in
     let count = ap (λ (w : ℕ → ℕ → ℕ). w page 1) c.rank.ensures.unchanged.words in
-    (omega (arith, c.slots_without.ensures.some, count, items_count (words page)), c.slots_without.ensures.some.1)
+    (omega (arith, c.in_ok-slots.ensures.some, count, items_count (words page)), c.in_ok-slots.ensures.some.1)
 
 pub remove_at-slots_with-requires-clause-readable : goal.remove_at-slots_with-requires-clause-readable
 remove_at-slots_with-requires-clause-readable g t c =
@@ -488,6 +491,125 @@ remove_alone-returns-clause-ready g t c =
     let now = subst (λ (w : ℕ → ℕ → ℕ). Becomes g.R.Look.kept g.R.Look.standing g.R.Look.words (c.args.below ∷ before) all (suc level) (branch_to w c.in_ok-page.page ∷ []) old new) (sym c.give_up.ensures.words) given in
     let page = c.in_ok-page.page in
     branches_ready level (g.R.Look.standing c.give_up.new.self) (g.R.Look.words c.give_up.new.self) c.args.pair.now (Branch page ∷ []) (all_one IsBranchSlot (Branch page) c.in_ok-page.ensures.small) now.below 0 (Branch page) (omega arith)
+
+pub remove_at-returns-then-level-eq0-clause-found : goal.remove_at-returns-then-level-eq0-clause-found
+remove_at-returns-then-level-eq0-clause-found g t c =
+    let old = c.args.room.now in
+    let level = c.args.level in
+    let k = c.args.key.now in
+    let at = c.saturating_sub-at.result in
+    let words = g.R.Look.words old in
+    let item = item_at (words c.args.page) (place_of at) in
+    let is = payload_leaf g.R.Look.kept g.R.Look.standing g.R.Look.words level c.args.page k c.rank.result at old c.requires.tree c.rank.ensures.rank c.saturating_sub-at.ensures c.if-level-eq0.true in
+    found_is (payload_at (pairs_at level words c.args.page) k) (is_eq (key_cmp item.key k)) item.payload is
+    (subst (λ (w : ℕ → ℕ → ℕ). is_eq (key_cmp (item_at (w c.args.page) (place_of at)).key k) ≡ true) c.rank.ensures.unchanged.words c.in_ok-slots.ensures.found)
+
+pub remove_at-returns-in_err-slots-clause-stopped : goal.remove_at-returns-in_err-slots-clause-stopped
+remove_at-returns-in_err-slots-clause-stopped g t c =
+    let old = c.args.room.now in
+    let level = c.args.level in
+    let k = c.args.key.now in
+    let at = c.saturating_sub-at.result in
+    let words = g.R.Look.words old in
+    let item = item_at (words c.args.page) (place_of at) in
+    let is = payload_leaf g.R.Look.kept g.R.Look.standing g.R.Look.words level c.args.page k c.rank.result at old c.requires.tree c.rank.ensures.rank c.saturating_sub-at.ensures c.if-level-eq0.true in
+    let told = c.in_err-slots.ensures.absent in
+    passed_absent c.from_residual.result c.in_err-slots.field-0.0 _ _ c.from_residual.ensures.1 told.0 (
+      absent_is (payload_at (pairs_at level words c.args.page) k) (is_eq (key_cmp item.key k)) item.payload is
+          (subst (λ (w : ℕ → ℕ → ℕ). is_eq (key_cmp (item_at (w c.args.page) (place_of at)).key k) ≡ false) c.rank.ensures.unchanged.words told.1),
+      unchanged_trans g.R.Look.kept g.R.Look.standing g.R.Look.words old c.rank.new.look c.slots_without.new.look c.rank.ensures.unchanged c.slots_without.ensures.unchanged,
+    )
+
+pub remove_at-returns-in-Some-clause-found : goal.remove_at-returns-in-Some-clause-found
+remove_at-returns-in-Some-clause-found g t c =
+    let old = c.args.room.now in
+    let level = c.args.level in
+    let k = c.args.key.now in
+    let at = c.saturating_sub-at.result in
+    let e : level ≡ suc (level - 1) = omega (arith, c.if-level-eq0.false) in
+    let read = c.spare_child.new.look in
+    let here = down_read g.R.Look.kept g.R.Look.standing g.R.Look.words level c.args.page k c.rank.result at old c.requires.tree c.rank.ensures.rank c.saturating_sub-at.ensures (level - 1) e c.in-Some.below at c.rank.new.look read refl c.rank.ensures.unchanged c.spare_child.ensures.unchanged c.in-Some.ensures.child in
+    λ none. c.in_ok-slot.ensures.found (sym here ∙ none)
+
+pub remove_at-returns-in_err-slot-clause-stopped : goal.remove_at-returns-in_err-slot-clause-stopped
+remove_at-returns-in_err-slot-clause-stopped g t c =
+    let old = c.args.room.now in
+    let level = c.args.level in
+    let k = c.args.key.now in
+    let at = c.saturating_sub-at.result in
+    let e : level ≡ suc (level - 1) = omega (arith, c.if-level-eq0.false) in
+    let read = c.spare_child.new.look in
+    let here = down_read g.R.Look.kept g.R.Look.standing g.R.Look.words level c.args.page k c.rank.result at old c.requires.tree c.rank.ensures.rank c.saturating_sub-at.ensures (level - 1) e c.in-Some.below at c.rank.new.look read refl c.rank.ensures.unchanged c.spare_child.ensures.unchanged c.in-Some.ensures.child in
+    let same = unchanged_trans g.R.Look.kept g.R.Look.standing g.R.Look.words old c.rank.new.look read c.rank.ensures.unchanged c.spare_child.ensures.unchanged in
+    passed_stop c.from_residual-in_err-slot.result c.in_err-slot.field-0.0 _ _ _ _ c.from_residual-in_err-slot.ensures.1 here (unchanged_trans g.R.Look.kept g.R.Look.standing g.R.Look.words old read c.remove_alone.new.room same) c.in_err-slot.ensures.stopped
+
+pub remove_at-returns-then-at-count_of-clause-found : goal.remove_at-returns-then-at-count_of-clause-found
+remove_at-returns-then-at-count_of-clause-found g t c =
+    let old = c.args.room.now in
+    let level = c.args.level in
+    let k = c.args.key.now in
+    let at = c.saturating_sub-at.result in
+    let e : level ≡ suc (level - 1) = omega (arith, c.if-level-eq0.false) in
+    let words = g.R.Look.words old in
+    let page = c.args.page in
+    let here = c.count_of.new.look in
+    let same = unchanged_trans g.R.Look.kept g.R.Look.standing g.R.Look.words old c.spare_child.new.look here (unchanged_trans g.R.Look.kept g.R.Look.standing g.R.Look.words old c.rank.new.look c.spare_child.new.look c.rank.ensures.unchanged c.spare_child.ensures.unchanged) c.count_of.ensures.unchanged in
+    let read = c.two_children-here.new.look in
+    let down = down_read g.R.Look.kept g.R.Look.standing g.R.Look.words level page k c.rank.result at old c.requires.tree c.rank.ensures.rank c.saturating_sub-at.ensures (level - 1) e c.two_children-here.result.0 at here read refl same c.two_children-here.ensures.unchanged c.two_children-here.ensures.left in
+    λ none. c.in_ok-two.ensures.found (sym down ∙ none)
+
+pub remove_at-returns-in_err-two-clause-stopped : goal.remove_at-returns-in_err-two-clause-stopped
+remove_at-returns-in_err-two-clause-stopped g t c =
+    let old = c.args.room.now in
+    let level = c.args.level in
+    let k = c.args.key.now in
+    let at = c.saturating_sub-at.result in
+    let e : level ≡ suc (level - 1) = omega (arith, c.if-level-eq0.false) in
+    let words = g.R.Look.words old in
+    let page = c.args.page in
+    let here = c.count_of.new.look in
+    let same = unchanged_trans g.R.Look.kept g.R.Look.standing g.R.Look.words old c.spare_child.new.look here (unchanged_trans g.R.Look.kept g.R.Look.standing g.R.Look.words old c.rank.new.look c.spare_child.new.look c.rank.ensures.unchanged c.spare_child.ensures.unchanged) c.count_of.ensures.unchanged in
+    let read = c.two_children-here.new.look in
+    let down = down_read g.R.Look.kept g.R.Look.standing g.R.Look.words level page k c.rank.result at old c.requires.tree c.rank.ensures.rank c.saturating_sub-at.ensures (level - 1) e c.two_children-here.result.0 at here read refl same c.two_children-here.ensures.unchanged c.two_children-here.ensures.left in
+    let since = unchanged_trans g.R.Look.kept g.R.Look.standing g.R.Look.words old here read same c.two_children-here.ensures.unchanged in
+    passed_stop c.from_residual-in_err-two.result c.in_err-two.field-0.0 _ _ _ _ c.from_residual-in_err-two.ensures.1 down (unchanged_trans g.R.Look.kept g.R.Look.standing g.R.Look.words old read c.remove_left.new.room since) c.in_err-two.ensures.stopped
+
+pub remove_at-returns-clause-found : goal.remove_at-returns-clause-found
+remove_at-returns-clause-found g t c =
+    let old = c.args.room.now in
+    let level = c.args.level in
+    let k = c.args.key.now in
+    let at = c.saturating_sub-at.result in
+    let e : level ≡ suc (level - 1) = omega (arith, c.if-level-eq0.false) in
+    let words = g.R.Look.words old in
+    let page = c.args.page in
+    let here = c.count_of.new.look in
+    let same = unchanged_trans g.R.Look.kept g.R.Look.standing g.R.Look.words old c.spare_child.new.look here (unchanged_trans g.R.Look.kept g.R.Look.standing g.R.Look.words old c.rank.new.look c.spare_child.new.look c.rank.ensures.unchanged c.spare_child.ensures.unchanged) c.count_of.ensures.unchanged in
+    let count : c.count_of.result ≡ words page 1 = c.count_of.ensures.count ∙ ap (λ (w : ℕ → ℕ → ℕ). w page 1) (c.spare_child.ensures.unchanged.words ∙ c.rank.ensures.unchanged.words) in
+    let two = least_two g.R.Look.kept g.R.Look.standing g.R.Look.words level page k c.rank.result at old c.requires.tree c.rank.ensures.rank c.saturating_sub-at.ensures (level - 1) e in
+    let is : at ≡ at - 1 + 1 = omega (arith, c.if-at-count_of.false, count, two) in
+    let read = c.two_children-before.new.look in
+    let down = down_read g.R.Look.kept g.R.Look.standing g.R.Look.words level page k c.rank.result at old c.requires.tree c.rank.ensures.rank c.saturating_sub-at.ensures (level - 1) e c.two_children-before.result.1 (at - 1 + 1) here read is same c.two_children-before.ensures.unchanged c.two_children-before.ensures.right in
+    λ none. c.in_ok-two-2.ensures.found (sym down ∙ none)
+
+pub remove_at-returns-in_err-two-2-clause-stopped : goal.remove_at-returns-in_err-two-2-clause-stopped
+remove_at-returns-in_err-two-2-clause-stopped g t c =
+    let old = c.args.room.now in
+    let level = c.args.level in
+    let k = c.args.key.now in
+    let at = c.saturating_sub-at.result in
+    let e : level ≡ suc (level - 1) = omega (arith, c.if-level-eq0.false) in
+    let words = g.R.Look.words old in
+    let page = c.args.page in
+    let here = c.count_of.new.look in
+    let same = unchanged_trans g.R.Look.kept g.R.Look.standing g.R.Look.words old c.spare_child.new.look here (unchanged_trans g.R.Look.kept g.R.Look.standing g.R.Look.words old c.rank.new.look c.spare_child.new.look c.rank.ensures.unchanged c.spare_child.ensures.unchanged) c.count_of.ensures.unchanged in
+    let count : c.count_of.result ≡ words page 1 = c.count_of.ensures.count ∙ ap (λ (w : ℕ → ℕ → ℕ). w page 1) (c.spare_child.ensures.unchanged.words ∙ c.rank.ensures.unchanged.words) in
+    let two = least_two g.R.Look.kept g.R.Look.standing g.R.Look.words level page k c.rank.result at old c.requires.tree c.rank.ensures.rank c.saturating_sub-at.ensures (level - 1) e in
+    let is : at ≡ at - 1 + 1 = omega (arith, c.if-at-count_of.false, count, two) in
+    let read = c.two_children-before.new.look in
+    let down = down_read g.R.Look.kept g.R.Look.standing g.R.Look.words level page k c.rank.result at old c.requires.tree c.rank.ensures.rank c.saturating_sub-at.ensures (level - 1) e c.two_children-before.result.1 (at - 1 + 1) here read is same c.two_children-before.ensures.unchanged c.two_children-before.ensures.right in
+    let since = unchanged_trans g.R.Look.kept g.R.Look.standing g.R.Look.words old here read same c.two_children-before.ensures.unchanged in
+    passed_stop c.from_residual-in_err-two-2.result c.in_err-two-2.field-0.0 _ _ _ _ c.from_residual-in_err-two-2.ensures.1 down (unchanged_trans g.R.Look.kept g.R.Look.standing g.R.Look.words old read c.remove_right.new.room since) c.in_err-two-2.ensures.stopped
 
 pub remove_left-fill_slots-requires-clause-readable : goal.remove_left-fill_slots-requires-clause-readable
 remove_left-fill_slots-requires-clause-readable g t c =

@@ -28,5 +28,5 @@ count_of-requires-clause-page g c =
     let at = (goal.at.count_of-requires-clause-page g c).After-child_at-below in
     subst (λ (w : ℕ → ℕ → ℕ). IsPage (w c.child_at-below.result)) (sym c.child_at-below.ensures.unchanged.words) (tree g at).node.is_page
 
-pub returns-then-count_of-gt6-clause-tree : goal.returns-then-count_of-gt6-clause-tree
-returns-then-count_of-gt6-clause-tree g c = tree g (goal.at.returns-then-count_of-gt6-clause-tree g c).After-child_at-below
+pub returns-clause-tree : goal.returns-clause-tree
+returns-clause-tree g c = tree g (goal.at.returns-clause-tree g c).After-child_at-below
