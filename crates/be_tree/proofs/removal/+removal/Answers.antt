@@ -5,7 +5,7 @@ use Rattle.be_tree.specs.declared.slot.Slot.{Slot}
 use Rattle.be_tree.specs.declared.slot.Slot.TheVariants.{At, Branch}
 use Rattle.be_tree.specs.Pair.{Pair}
 use Rattle.be_tree.specs.Key.{key_cmp, payload_at, without}
-use Rattle.std.specs.Prelude.{true, false, None}
+use Rattle.std.specs.Prelude.{true, false}
 use Rattle.std.specs.Ordering.{is_eq}
 use Rattle.be_tree.proofs.Stops.{absent_is, down_read, found_is, passed_absent, passed_stop}
 use Rattle.be_tree.specs.Page.{items_of, item_at, place_of}

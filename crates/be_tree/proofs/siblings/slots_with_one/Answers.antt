@@ -1,8 +1,7 @@
-use Rattle.std.proofs.Common.{◌≡◌, ℕ, suc, [], ◌∷◌, ◌++◌, ◌∙◌, ◌<◌, List, ap, sym, subst, refl, length, set, take, drop, All, arith}
+use Rattle.std.proofs.Common.{◌≡◌, ℕ, suc, ◌∷◌, ◌++◌, ◌∙◌, ◌<◌, List, ap, sym, subst, refl, length, set, take, drop, All, arith}
 use Rattle.std.specs.List.{refill}
 use Rattle.std.proofs.lemmas.List.{length-set}
 use Rattle.std.proofs.lemmas.List.FromFn.{length-map-range_with_len}
-use Rattle.be_tree.specs.declared.slot.Slot.{Slot}
 use Rattle.be_tree.specs.declared.slot.Slot.TheVariants.{At}
 use Rattle.be_tree.specs.Pair.{Pair}
 use Rattle.be_tree.specs.Page.{place_of}
