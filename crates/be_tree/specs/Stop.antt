@@ -1,4 +1,4 @@
--- Why nothing was taken out below a page.
+-- Why a removal below a page gives no items.
 use Rattle.be_value.specs.declared.refusals.Refusal.{Refusal}
 use Rattle.be_tree.specs.declared.stop.Stop.{Stop}
 use Rattle.be_tree.specs.declared.stop.Stop.TheVariants.{Absent, Refused}

@@ -4,6 +4,9 @@
 //! A page of more than six items is written anew alone. One of six is written anew together with a neighbour under the
 //! same parent, the next one where there is one: the items of both go into one page where they fit, else into two. So no
 //! page is left under-full, and pages that were thin are joined. A removal writes two pages a level at most.
+//!
+//! # Absent keys
+//! Nothing is written on the way down. A leaf without the key stops the removal, and nothing has changed.
 ghost use Rattle.std.specs.Prelude.{◌≡◌, ◌≢◌, ℕ, true, false, suc, ◌+◌, ◌-◌, ◌^◌, ◌<◌, ◌≤◌, [], ◌∷◌, ◌++◌, length, take, drop, All, IfOk, OnErr, IfErr, IsTrue, None, Ok};
 ghost use Rattle.be_pages.specs.Pages.{IsUnchanged, is_readable, Swaps, KeepsStart};
 ghost use Rattle.be_pages.specs.Refusal.{IsFullOf};

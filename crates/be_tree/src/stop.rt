@@ -1,13 +1,13 @@
-//! Why nothing was taken out below a page.
+//! Why a removal below a page gives no items.
 ghost use Rattle.std.specs.Prelude.{◌≡◌};
 ghost use Rattle.be_tree.specs.declared.stop.Stop.TheVariants.{Refused};
 
 use be_value::Refusal;
 
-/// What ends a removal before it has taken anything out.
+/// What a removal gives in place of a page's items.
 #[derive(Clone, Copy)]
 pub(crate) enum Stop {
-    /// The key isn't there.
+    /// The key isn't there, and nothing was written.
     Absent,
     /// A write was refused.
     Refused(Refusal),
