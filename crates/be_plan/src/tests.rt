@@ -2,7 +2,8 @@
 //!
 //! A volume is made by lines such as `set 1 n LONG 5`. What is asked of it stands in lines `COMMAND QUERY => REPLY`. The command `explain` asks
 //! what the query is answered from, and `query` for its nodes by these picks. Digits are a command too: the nodes by these picks, a digit for
-//! each. Behind the nodes stands of which indices a key was asked, the first letter of the name for each call: `nodes 2 3 asks nnn`.
+//! each. Behind the nodes stands of which indices a key or the nodes of a range were asked, the first letter of the name for each call:
+//! `nodes 2 3 asks nnn`.
 
 ghost use Rattle.be_volume.specs.Volume.{State};
 
@@ -44,6 +45,17 @@ impl Source for Recording<'_> {
     fn next_key(&mut self, name: &Name, from: &[u8], after: bool) -> Option<ArrayVec<u8, 264>> {
         let _full = self.asked.try_push(first_letter(name));
         self.source.next_key(name, from, after)
+    }
+
+    fn nodes_within(
+        &mut self,
+        name: &Name,
+        low: &[u8],
+        high: Option<&[u8]>,
+        found: &mut Vec<u64>,
+    ) -> Result<(), Refusal> {
+        let _full = self.asked.try_push(first_letter(name));
+        self.source.nodes_within(name, low, high, found)
     }
 
     fn has_key(&mut self, name: &Name, key: &[u8]) -> bool {
