@@ -21,3 +21,4 @@ mod Heights
 mod Cursors
 pub mod Clears
 pub mod Trees
+mod LastBytes
