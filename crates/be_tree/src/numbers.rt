@@ -2,7 +2,7 @@
 //!
 //! An index has a key for each of its entries, whose last eight bytes tell whose entry it is. A reader who wants just that of a
 //! range of keys gets it here: the words of each key are compared with the bound where they stand, and no key is unpacked.
-ghost use Rattle.std.specs.Prelude.{◌≡◌, ◌+◌, ◌≤◌, ◌++◌, IsTrue, OnOk, length};
+ghost use Rattle.std.specs.Prelude.{◌≡◌, ◌+◌, ◌≤◌, ◌++◌, false, IsTrue, OnOk, length};
 ghost use Rattle.std.specs.Option.{IfSome, option_copied};
 ghost use Rattle.be_pages.specs.Pages.{IsUnchanged, is_readable};
 ghost use Rattle.be_tree.specs.Key.{IsPrepared};
@@ -64,7 +64,7 @@ fn is_past_at<L: Look>(
     requires readable { IsTrue (is_readable (L.standing look.old page)) }
     requires in_page { at + 42 ≤ 512 }
     requires item { IsItem (L.words look.old page) at }
-    requires prepared { IfSome (option_copied high.entry) (λ key. IsPrepared words.now key) }
+    requires prepared { IfSome (option_copied high) (λ key. IsPrepared words.now key) }
     ensures past { result ≡ is_past (option_copied high.entry) (item_at (L.words look.old page) at).key }
     ensures unchanged { IsUnchanged L.kept L.standing L.words look.old look.new }
 {
