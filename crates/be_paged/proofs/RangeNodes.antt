@@ -128,17 +128,17 @@ module _ (w : ℕ → ℕ → ℕ) (c : Contents) (volume : State) (name : List 
         let found = named_found w c.entries (fin.entries volume.indices) name i spells.indices at in
         each_number (IsNodeWithin volume name low high) (pairs_from all low false) high
         (λ j e lt not_past.
-            let both = all_from (IsPairOf found.index) low false all (found.entry d).keys.only j e lt in
-            let p = both.0 in
-            let x = get_or (pairs_from all low false) j e in
-            let there = fin.get-entries volume.indices name ∙ found.found in
-            let fits = (sound.pairs name found.index p.node p.value there p.there).node_fits in
-            record {
-              key = x.key;
-              is_key = record { index = found.index; node = p.node; value = p.value; there = there; paired = p.there; is = p.is };
-              within = record { from_low = not_true _ (same_from low false x.key ∙ both.1); to_high = sym (past_above high x.key) ∙ not_past };
-              node_is = sym (ap number_of p.is ∙ node_of_key p.value p.node fits);
-            })
+        let both = all_from (IsPairOf found.index) low false all (found.entry d).keys.only j e lt in
+        let p = both.0 in
+        let x = get_or (pairs_from all low false) j e in
+        let there = fin.get-entries volume.indices name ∙ found.found in
+        let fits = (sound.pairs name found.index p.node p.value there p.there).node_fits in
+        record {
+          key = x.key;
+          is_key = record { index = found.index; node = p.node; value = p.value; there = there; paired = p.there; is = p.is };
+          within = record { from_low = not_true _ (same_from low false x.key ∙ both.1); to_high = sym (past_above high x.key) ∙ not_past };
+          node_is = sym (ap number_of p.is ∙ node_of_key p.value p.node fits);
+        })
         n has
 
     -- a list that has got the first of the numbers has nothing else new

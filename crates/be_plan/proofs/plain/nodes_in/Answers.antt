@@ -71,8 +71,8 @@ keys-preserved c =
     let keeps : Keeps before now = λ n h. subst (λ l. Contains l n) (sym pushed) (Contains-append_left before (c.node_of.result ∷ []) n h) in
     let has : (v : Value) (n : ℕ) → n < 2 ^ 64 → key0 ≡ key v n → ⊤ → Contains now n =
     λ v n fits is _.
-        let same : c.node_of.result ≡ n = c.node_of.ensures (value_key v) n fits (c.as_slice-in-Some.ensures.value ∙ is) in
-        subst (λ l. Contains l n) (sym pushed) (subst (λ m. Contains (before ++ c.node_of.result ∷ []) m) same (Contains-push before c.node_of.result)) in
+    let same : c.node_of.result ≡ n = c.node_of.ensures (value_key v) n fits (c.as_slice-in-Some.ensures.value ∙ is) in
+    subst (λ l. Contains l n) (sym pushed) (subst (λ m. Contains (before ++ c.node_of.result ∷ []) m) same (Contains-push before c.node_of.result)) in
     let k = come.is_next.0 in
     let fits : k.node < 2 ^ 64 = (c.requires.sound.pairs name k.index k.node k.value k.there k.paired).node_fits in
     let own : c.node_of.result ≡ k.node = c.node_of.ensures (value_key k.value) k.node fits (c.as_slice-in-Some.ensures.value ∙ k.is) in
