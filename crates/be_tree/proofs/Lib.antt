@@ -16,6 +16,8 @@ pub mod Levels
 mod Neighbours
 mod Children
 mod Joins
+mod Alone
+mod Stops
 pub mod Ranges
 mod Heights
 mod Cursors

@@ -13,6 +13,7 @@ mod page;
 mod removal;
 mod siblings;
 mod slot;
+mod stop;
 #[cfg(test)]
 mod tests;
 mod walk;
