@@ -23,3 +23,4 @@ mod Heights
 mod Cursors
 pub mod Clears
 pub mod Trees
+mod LastBytes
