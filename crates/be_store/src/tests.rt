@@ -27,9 +27,8 @@ fn opened(alloc: Global, limits: Limits) -> Result<(Store, Vec<Pass>), Refusal>
 
 /// A store for two passes, and these.
 fn for_two(alloc: Global, pages: u64, commits: u64) -> Result<(Store, Pass, Pass), Refusal>
-    ensures store { IfOk result (λ r. r.0.limits.passes ≡ 2) }
-    ensures first { IfOk result (λ r. IsPassOf r.0 r.1 × (r.1.knows.phase ≡ Idle) × (r.1.knows.number ≡ 0)) }
-    ensures second { IfOk result (λ r. IsPassOf r.0 r.2 × (r.2.knows.phase ≡ Idle) × (r.2.knows.number ≡ 1)) }
+    ensures first { IfOk result (λ r. IsPassOf r.0 r.1 × (r.1.knows.phase ≡ Idle)) }
+    ensures second { IfOk result (λ r. IsPassOf r.0 r.2 × (r.2.knows.phase ≡ Idle)) }
 {
     let limits = Limits {
         pages,
