@@ -14,6 +14,8 @@ use be_value::{Kind, Name, Refusal, Value};
 use be_volume::{Done, Op};
 use std::alloc::{AllocError, Global};
 use std::test::Fail;
+use std::thread;
+use std::thread::Threads;
 
 /// A store with these limits and its passes, at the second call where memory is refused at the first.
 fn opened(alloc: Global, limits: Limits) -> Result<(Store, Vec<Pass>), Refusal>
@@ -27,9 +29,8 @@ fn opened(alloc: Global, limits: Limits) -> Result<(Store, Vec<Pass>), Refusal>
 
 /// A store for two passes, and these.
 fn for_two(alloc: Global, pages: u64, commits: u64) -> Result<(Store, Pass, Pass), Refusal>
-    ensures store { IfOk result (λ r. r.0.limits.passes ≡ 2) }
-    ensures first { IfOk result (λ r. IsPassOf r.0 r.1 × (r.1.knows.phase ≡ Idle) × (r.1.knows.number ≡ 0)) }
-    ensures second { IfOk result (λ r. IsPassOf r.0 r.2 × (r.2.knows.phase ≡ Idle) × (r.2.knows.number ≡ 1)) }
+    ensures first { IfOk result (λ r. IsPassOf r.0 r.1 × (r.1.knows.phase ≡ Idle)) }
+    ensures second { IfOk result (λ r. IsPassOf r.0 r.2 × (r.2.knows.phase ≡ Idle)) }
 {
     let limits = Limits {
         pages,
@@ -568,5 +569,116 @@ fn batches(rt: HostRuntime) -> Result<(), Fail> {
     let refused = write_64(&store, rt.alloc(), &mut a, &name, true);
     assert!(rt; matches!(refused, Err(Refusal::NoNode)));
     assert!(rt; finds_last(&store, rt.alloc(), &mut a)?);
+    Ok(())
+}
+
+/// A store for two passes, and these, which have the numbers 0 and 1.
+fn for_writers(alloc: Global) -> Result<(Store, Pass, Pass), Refusal>
+    ensures store { IfOk result (λ r. r.0.limits.passes ≡ 2) }
+    ensures first { IfOk result (λ r. IsPassOf r.0 r.1 × (r.1.knows.number ≡ 0)) }
+    ensures second { IfOk result (λ r. IsPassOf r.0 r.2 × (r.2.knows.number ≡ 1)) }
+{
+    let limits = Limits {
+        pages: 64,
+        passes: 2,
+        commits: 1000,
+    };
+    let (store, mut passes) = opened(alloc, limits)?;
+    let Some(second) = passes.pop() else {
+        unreachable!()
+    };
+    let Some(first) = passes.pop() else {
+        unreachable!()
+    };
+    Ok((store, first, second))
+}
+
+/// Makes a node, at a later try while another pass has the lock.
+fn make_at_last(store: &Store, pass: &mut Pass) -> Result<(), Refusal>
+    requires { IsPassOf store.now pass.old }
+    ensures pass { IsPassOf store.now pass.new }
+    ensures number { pass.new.knows.number ≡ pass.old.knows.number }
+{
+    for _ in 0..10_000_000 {
+        match write(store, pass, Op::New) {
+            Err(Refusal::Busy(_)) => {}
+            Err(refusal) => return Err(refusal),
+            Ok(_) => return Ok(()),
+        }
+    }
+    Err(Refusal::BadLimits)
+}
+
+/// Makes a hundred nodes. Whether each was accepted.
+fn make_hundred(store: &Store, mut pass: Pass) -> (Pass, bool)
+    requires { IsPassOf store.now pass }
+    ensures pass { IsPassOf store.now result.0 }
+    ensures number { result.0.knows.number ≡ pass.knows.number }
+{
+    for _ in 0..100 {
+        if make_at_last(store, &mut pass).is_err() {
+            return (pass, false);
+        }
+    }
+    (pass, true)
+}
+
+/// Two passes make a hundred nodes each, each on a thread of its own.
+fn make_both<R: Threads + Sync>(
+    rt: &R,
+    store: &Store,
+    first: Pass,
+    second: Pass,
+) -> ((Pass, bool), (Pass, bool))
+    requires { IsPassOf store.now first × IsPassOf store.now second }
+    ensures first { IsPassOf store.now result.0.0 × (result.0.0.knows.number ≡ first.knows.number) }
+    ensures second { IsPassOf store.now result.1.0 × (result.1.0.knows.number ≡ second.knows.number) }
+{
+    thread::join(
+        rt,
+        || make_hundred(store, first),
+        || make_hundred(store, second),
+    )
+}
+
+/// The journal of a store for two passes.
+fn journal_of(alloc: Global, store: Store, first: Pass, second: Pass) -> Result<Journal, Refusal>
+    requires two { store.limits.passes ≡ 2 }
+    requires first { IsPassOf store first × (first.knows.number ≡ 0) }
+    requires second { IsPassOf store second × (second.knows.number ≡ 1) }
+{
+    let mut passes = match Vec::with_capacity(alloc, 2) {
+        Err(_) => Vec::with_capacity(alloc, 2)?,
+        Ok(passes) => passes,
+    };
+    passes.push_reserved(first);
+    passes.push_reserved(second);
+    Ok(store.close(passes))
+}
+
+/// How many entries are by the pass, if each entry's answer is the node of its number.
+fn count_by(journal: &Journal, pass: u64) -> u64 {
+    let mut count: u64 = 0;
+    for i in 0..journal.len() {
+        let entry = journal.get(i);
+        if entry.dones.as_slice() != [Done::Node(i + 1)].as_slice() {
+            return 0;
+        }
+        if entry.by == pass {
+            count = count.saturating_add(1);
+        }
+    }
+    count
+}
+
+#[test]
+fn two_writers(rt: HostRuntime) -> Result<(), Fail> {
+    let (store, first, second) = for_writers(rt.alloc())?;
+    let (first, second) = make_both(&rt, &store, first, second);
+    assert!(rt; first.1 && second.1);
+    let journal = journal_of(rt.alloc(), store, first.0, second.0)?;
+    assert_eq!(rt; journal.len(), 200);
+    assert_eq!(rt; (count_by(&journal, 0), count_by(&journal, 1)), (100, 100));
+    assert!(rt; is_legal(&journal)?);
     Ok(())
 }
