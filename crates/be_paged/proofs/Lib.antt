@@ -17,6 +17,7 @@ pub mod Applied
 pub mod Dropping
 pub mod Emptying
 pub mod SourceKeys
+pub mod RangeNodes
 pub mod RootSetting
 pub mod Composing
 pub mod Stepping

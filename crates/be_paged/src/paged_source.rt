@@ -1,7 +1,7 @@
 //! A version as a source of queries.
 //!
 //! A walk over an index asks for one key after the other. So the source keeps a cursor of the tree that it walked last: where the next key is
-//! asked from the very key that it gave, it goes on from there and makes no descent.
+//! asked from the very key that it gave, it goes on from there and makes no descent. The nodes of a range are read leaf by leaf, and no key is unpacked.
 ghost use Rattle.std.specs.Prelude.{◌≡◌, ◌<◌, ℕ, true, length, slice_index_or};
 ghost use Rattle.be_pages.specs.Pages.{IsUnchanged};
 ghost use Rattle.be_tree.specs.Cursor.{IsCursor, remaining};
@@ -19,8 +19,8 @@ use crate::version::{Version, load_version};
 use arrayvec::ArrayVec;
 use be_pages::Look;
 use be_plan::Source;
-use be_tree::{Cursor, has_key};
-use be_value::{Kind, Name, Value};
+use be_tree::{Cursor, has_key, numbers_within};
+use be_value::{Kind, Name, Refusal, Value};
 
 /// A place that no index has.
 const NOWHERE: usize = 32;
@@ -128,6 +128,21 @@ impl<L: Look> Source for PagedSource<L> {
         self.place = place;
         replace_key(&mut self.last, &key);
         Some(key)
+    }
+
+    fn nodes_within(
+        &mut self,
+        name: &Name,
+        low: &[u8],
+        high: Option<&[u8]>,
+        found: &mut Vec<u64>,
+    ) -> Result<(), Refusal> {
+        let Ok(place) = search(&self.version.entries, name) else {
+            return Ok(());
+        };
+        let (_, root) = index_at(&self.version.entries, place);
+        numbers_within(&mut self.look, root, low, high, found)?;
+        Ok(())
     }
 
     fn has_key(&mut self, name: &Name, key: &[u8]) -> bool {

@@ -10,14 +10,12 @@ use Rattle.be_volume.specs.Maps.{name_cmp}
 use Rattle.be_volume.specs.PairKeys.{is_from}
 use Rattle.be_plan.proofs.Bounds.{not_true}
 use Rattle.be_volume.specs.Keys.{IsNextKey}
-use Rattle.be_volume.specs.Query.{sat}
 use Rattle.be_volume.specs.Sound.{IsSound}
 use Rattle.be_volume.specs.Volume.{State}
 use Rattle.be_value.specs.Key.{key as key_bytes}
 use Rattle.be_value.specs.declared.values.Value.{Value}
-use Rattle.be_query.specs.Grammar.{Formula}
 use Rattle.be_plan.specs.Narrow.{is_above}
-use Rattle.be_plan.specs.Walk.{HasCome, HasWithin, Keeps}
+use Rattle.be_plan.specs.Walk.{HasCome, HasWanted, Keeps}
 use Rattle.be_plan.proofs.Passing.{total, reversed, greater_trans, above_too, ends_above, passes}
 
 -- what is not below the low end is not below what is not above that
@@ -47,6 +45,27 @@ not_above k high bound greatest h = by (name_cmp k bound) refl
     by Equal e = refl
     by Greater e = let no : true ≡ false = sym (ap is_gt (beyond e _ refl greatest)) ∙ h in absurd (cc no)
 
+is_greater : (r : Ordering) → is_gt r ≡ true → r ≡ Greater
+is_greater Less h = cc
+is_greater Equal h = cc
+is_greater Greater h = refl
+
+-- what is not below a low end above the bound is above the bound
+pub behind : (k low bound : List ℕ) → is_gt (name_cmp low bound) ≡ true → is_lt (name_cmp k low) ≡ false → is_gt (name_cmp k bound) ≡ true
+behind k low bound up h = ap is_gt (above_too k low bound _ refl h (is_greater _ up))
+
+-- what is not above a high end below the bound is below the bound
+pub before : (k high bound : List ℕ) → is_gt (name_cmp bound high) ≡ true → is_gt (name_cmp k high) ≡ false → is_lt (name_cmp k bound) ≡ true
+before k high bound up h = by (name_cmp k bound) refl
+  where
+    greater : name_cmp bound high ≡ Greater
+    greater = is_greater _ up
+
+    by : (r : Ordering) → name_cmp k bound ≡ r → is_lt r ≡ true
+    by Less e = refl
+    by Equal e = let no : true ≡ false = sym (ap is_gt (total.congr k bound high e ∙ greater)) ∙ h in absurd (cc no)
+    by Greater e = let no : true ≡ false = sym (ap is_gt (greater_trans k bound high e greater)) ∙ h in absurd (cc no)
+
 greater_not_less : (r : Ordering) → is_gt r ≡ true → is_lt r ≡ false
 greater_not_less Less h = cc
 greater_not_less Equal h = cc
@@ -61,9 +80,9 @@ from_low from false next low h g = not_below next from low g (not_true _ h)
 at_low : (low : List ℕ) → is_lt (name_cmp low low) ≡ false
 at_low low = ap is_lt (tied_itself total low)
 
-module _ (s : State) (f : Formula) (name low : List ℕ) (high : Option (List ℕ)) where
+module _ (s : State) (Wanted : ℕ → Type 0) (name low : List ℕ) (high : Option (List ℕ)) where
   -- a walk begins at the low end
-  pub comes_first : (next : Option (List ℕ)) (found : List ℕ) → IsNextKey s name low false next → HasCome s f name low high next found
+  pub comes_first : (next : Option (List ℕ)) (found : List ℕ) → IsNextKey s name low false next → HasCome s Wanted name low high next found
   comes_first next found is = record {
     from = low;
     after = false;
@@ -73,20 +92,20 @@ module _ (s : State) (f : Formula) (name low : List ℕ) (high : Option (List �
   }
 
   -- a walk goes on from a key whose node was visited
-  pub comes_next : (key : List ℕ) (next : Option (List ℕ)) (before now : List ℕ) → IsSound s → HasCome s f name low high (Some key) before → Keeps before now →
-      ((v : Value) (n : ℕ) → n < 2 ^ 64 → key ≡ key_bytes v n → sat s f n ≡ true → Contains now n) → IsNextKey s name key true next → HasCome s f name low high next now
+  pub comes_next : (key : List ℕ) (next : Option (List ℕ)) (before now : List ℕ) → IsSound s → HasCome s Wanted name low high (Some key) before → Keeps before now →
+      ((v : Value) (n : ℕ) → n < 2 ^ 64 → key ≡ key_bytes v n → Wanted n → Contains now n) → IsNextKey s name key true next → HasCome s Wanted name low high next now
   comes_next key next before now sound come keeps has is = record {
     from = key;
     after = true;
     is_next = is;
     start = from_low come.from come.after key low come.is_next.1 come.start;
-    passed = passes s f name low high come.from come.after key before now sound come.is_next come.passed keeps has;
+    passed = passes s Wanted name low high come.from come.after key before now sound come.is_next come.passed keeps has;
   }
 
   -- a walk has passed the range where the next key is above it
-  pub came_above : (key found : List ℕ) → is_above high key ≡ true → HasCome s f name low high (Some key) found → HasWithin s f name low high found
-  came_above key found up come = ends_above s f name low high come.from come.after key found come.is_next up come.passed
+  pub came_above : (key found : List ℕ) → is_above high key ≡ true → HasCome s Wanted name low high (Some key) found → HasWanted s Wanted name low high found
+  came_above key found up come = ends_above s Wanted name low high come.from come.after key found come.is_next up come.passed
 
   -- the next key is not below the low end
-  pub came_from_low : (key found : List ℕ) → HasCome s f name low high (Some key) found → is_lt (name_cmp key low) ≡ false
+  pub came_from_low : (key found : List ℕ) → HasCome s Wanted name low high (Some key) found → is_lt (name_cmp key low) ≡ false
   came_from_low key found come = from_low come.from come.after key low come.is_next.1 come.start

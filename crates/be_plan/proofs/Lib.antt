@@ -1,4 +1,5 @@
 pub mod Answering
+pub mod Beside
 pub mod Bounds
 pub mod Choice
 pub mod Ends

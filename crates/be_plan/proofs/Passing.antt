@@ -14,16 +14,14 @@ use Rattle.std.specs.declared.cmp.Ordering.{Ordering}
 use Rattle.std.specs.declared.cmp.Ordering.TheVariants.{Less, Equal, Greater}
 use Rattle.be_value.specs.Key.{key}
 use Rattle.be_value.specs.declared.values.Value.{Value}
-use Rattle.be_query.specs.Grammar.{Formula}
 use Rattle.be_volume.specs.Maps.{name_cmp}
-use Rattle.be_volume.specs.Query.{sat}
 use Rattle.be_volume.specs.Volume.{State}
 use Rattle.be_volume.specs.declared.maps.Index.{Index}
 use Rattle.be_volume.specs.Keys.{IsKey, IsNextKey}
 use Rattle.be_volume.specs.PairKeys.{is_from}
 use Rattle.be_volume.specs.Sound.{IsSound, IsPaired}
 use Rattle.be_plan.specs.Narrow.{Within, is_above}
-use Rattle.be_plan.specs.Walk.{HasWithin, HasPassed, Keeps}
+use Rattle.be_plan.specs.Walk.{HasWanted, HasPassed, Keeps}
 
 abbrev pub one_if : Bool → ℕ
 one_if true = 1
@@ -108,33 +106,33 @@ module _ (p q : ℕ → Value → Bool) (only : (n : ℕ) (v : Value) → q n v 
           tied Greater h = cc
       by false t f more = omega (arith, at_one (p e.0 e.1) (q e.0 e.1) (only e.0 e.1), more f)
 
-module _ (s : State) (f : Formula) (name low : List ℕ) (high : Option (List ℕ)) where
+module _ (s : State) (Wanted : ℕ → Type 0) (name low : List ℕ) (high : Option (List ℕ)) where
   -- where the next key is above the range, the walk has passed all of it
   pub ends_above : (from : List ℕ) (after : Bool) (next : List ℕ) (found : List ℕ) → IsNextKey s name from after (Some next) → is_above high next ≡ true →
-      HasPassed s f name low high from after found → HasWithin s f name low high found
-  ends_above from after next found is up passed = λ k h w sat_h. by k h w sat_h (is_from from after k) refl
+      HasPassed s Wanted name low high from after found → HasWanted s Wanted name low high found
+  ends_above from after next found is up passed = λ k h w wanted. by k h w wanted (is_from from after k) refl
     where
       beyond : (bound : Option (List ℕ)) (k : List ℕ) → is_above bound next ≡ true → is_lt (name_cmp k next) ≡ false → is_above bound k ≡ true
       beyond None k u l = u
       beyond (Some b) k u l = ap is_gt (above_too k next b _ refl l (is_greater _ u))
 
-      by : (k : List ℕ) (h : IsKey s name k) → Within low high k → sat s f h.node ≡ true → (t : Bool) → is_from from after k ≡ t → Contains found h.node
-      by k h w sat_h false t = passed k h w t sat_h
-      by k h w sat_h true t = let u : is_above high k ≡ true = beyond high k up (is.2 k h t) in let v : is_above high k ≡ false = w.to_high in cc
+      by : (k : List ℕ) (h : IsKey s name k) → Within low high k → Wanted h.node → (t : Bool) → is_from from after k ≡ t → Contains found h.node
+      by k h w wanted false t = passed k h w t wanted
+      by k h w wanted true t = let u : is_above high k ≡ true = beyond high k up (is.2 k h t) in let v : is_above high k ≡ false = w.to_high in cc
 
   -- after the node of the next key was visited, the walk has passed that key too
   pub passes : (from : List ℕ) (after : Bool) (next : List ℕ) (before now : List ℕ) → IsSound s → IsNextKey s name from after (Some next) →
-      HasPassed s f name low high from after before → Keeps before now →
-      ((v : Value) (n : ℕ) → n < 2 ^ 64 → next ≡ key v n → sat s f n ≡ true → Contains now n) → HasPassed s f name low high next true now
-  passes from after next before now sound is passed keeps has = λ k h w not_ahead sat_h. by k h w not_ahead sat_h (is_from from after k) refl
+      HasPassed s Wanted name low high from after before → Keeps before now →
+      ((v : Value) (n : ℕ) → n < 2 ^ 64 → next ≡ key v n → Wanted n → Contains now n) → HasPassed s Wanted name low high next true now
+  passes from after next before now sound is passed keeps has = λ k h w not_ahead wanted. by k h w not_ahead wanted (is_from from after k) refl
     where
-      by : (k : List ℕ) (h : IsKey s name k) → Within low high k → is_from next true k ≡ false → sat s f h.node ≡ true →
+      by : (k : List ℕ) (h : IsKey s name k) → Within low high k → is_from next true k ≡ false → Wanted h.node →
           (t : Bool) → is_from from after k ≡ t → Contains now h.node
-      by k h w not_ahead sat_h false t = keeps h.node (passed k h w t sat_h)
-      by k h w not_ahead sat_h true t =
+      by k h w not_ahead wanted false t = keeps h.node (passed k h w t wanted)
+      by k h w not_ahead wanted true t =
           let paired : IsPaired s name h.index.kind h.node h.value = sound.pairs name h.index h.node h.value h.there h.paired in
           let same : k ≡ next = slice_cmp-IsAntisymmetric nat_cmp-IsAntisymmetric k next (neither _ (is.2 k h t) not_ahead) in
-          has h.value h.node paired.node_fits (sym same ∙ h.is) sat_h
+          has h.value h.node paired.node_fits (sym same ∙ h.is) wanted
 
 -- fewer keys are ahead of the next key
 pub falls : (s : State) (name from : List ℕ) (after : Bool) (next : List ℕ) → IsNextKey s name from after (Some next) → suc (ahead s name next true) ≤ ahead s name from after

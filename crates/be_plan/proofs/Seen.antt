@@ -18,7 +18,7 @@ use Rattle.be_volume.specs.declared.maps.Index.{Index}
 use Rattle.be_volume.specs.Keys.{IsKey}
 use Rattle.be_volume.specs.Sound.{IsSound, IsPaired}
 use Rattle.be_volume.specs.Reading.{attribute, index_kind}
-use Rattle.be_plan.specs.Narrow.{Decides, IsInner, IsPair, Within, is_above}
+use Rattle.be_plan.specs.Narrow.{Decides, IsPair, Within, is_above}
 
 -- a key ends with one node alone
 pub key_node : (v w : Value) (m n : ℕ) → m < 2 ^ 64 → n < 2 ^ 64 → key v m ≡ key w n → m ≡ n
@@ -102,9 +102,9 @@ module _ (s : State) (sound : IsSound s) (name bytes : List ℕ) (k : IsKey s na
 
   -- where the range decides a formula, it is true of the node of a key in the range
   pub decided_key : (f : Formula) (low : List ℕ) (high : Option (List ℕ)) → Decides f name kind low high →
-      is_lt (name_cmp bytes low) ≡ false → is_above high bytes ≡ false → IsInner k.node → sat s f k.node ≡ true
-  decided_key f low high decides from to inner =
+      is_lt (name_cmp bytes low) ≡ false → is_above high bytes ≡ false → sat s f k.node ≡ true
+  decided_key f low high decides from to =
       let pair : IsPair kind k.value k.node = record { is_value = paired.is_value; kind_is = paired.kind_is ∙ kinds; node_fits = paired.node_fits } in
       let P : List ℕ → Type 0 = Within low high in
-      decides s k.value k.node pair inner (subst P k.is (record { from_low = from; to_high = to }))
+      decides s k.value k.node pair (subst P k.is (record { from_low = from; to_high = to }))
       (ap (λ i. seen_in i (attribute s k.node name) k.node) k.there ∙ k.paired)

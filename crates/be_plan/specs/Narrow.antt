@@ -55,14 +55,10 @@ IsBetween least greatest (Cstr text) = ⊥
 IsBetween least greatest (Mims text) = ⊥
 IsBetween least greatest (Rawt bytes) = ⊥
 
--- The node is neither the least number nor the greatest, which bounds of ranges have.
-abbrev pub IsInner : ℕ → Type 0
-IsInner node = (0 < node) × (node < 2 ^ 64 - 1)
-
--- The keys of a range from `low` to `high` decide the formula: whatever the volume, it is true of each inner node that has one of them in the index of that name.
+-- The keys of a range from `low` to `high` decide the formula: whatever the volume, it is true of each node that has one of them in the index of that name.
 abbrev pub Decides : Formula → List ℕ → Kind → List ℕ → Option (List ℕ) → Type 0
 Decides f name kind low high =
-    (s : State) (value : Value) (node : ℕ) → IsPair kind value node → IsInner node → Within low high (key value node) → sees s node name ≡ Some value → sat s f node ≡ true
+    (s : State) (value : Value) (node : ℕ) → IsPair kind value node → Within low high (key value node) → sees s node name ≡ Some value → sat s f node ≡ true
 
 -- what is above the byte behind a pattern's literal characters
 abbrev pub limit : Bool → ℕ

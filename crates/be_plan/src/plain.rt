@@ -1,12 +1,16 @@
 //! A plain volume as a source.
 //!
-//! The source only lends the volume and takes no memory, so each call is that of the volume.
-ghost use Rattle.std.specs.Prelude.{◌≡◌};
+//! The source only lends the volume and takes no memory, so each call is that of the volume. The nodes of a range are found from key to key.
+ghost use Rattle.std.specs.Prelude.{◌≡◌, OnOk, IfErr};
+ghost use Rattle.std.specs.Option.{option_copied};
+ghost use Rattle.be_value.specs.declared.refusals.Refusal.TheVariants.{OutOfMemory};
 ghost use Rattle.be_volume.specs.Sound.{IsSound};
+ghost use Rattle.be_plan.specs.Narrow.{is_above};
+ghost use Rattle.be_plan.specs.Walk.{HasNodes, HasOnly, Keeps};
 
 use crate::Source;
 use arrayvec::ArrayVec;
-use be_value::{Kind, Name, Value};
+use be_value::{Kind, Name, Refusal, Value, node_of};
 use be_volume::Volume;
 use std::marker::Model;
 
@@ -55,11 +59,56 @@ impl Source for VolumeSource<'_> {
         self.volume.next_key(name, from, after)
     }
 
+    fn nodes_within(
+        &mut self,
+        name: &Name,
+        low: &[u8],
+        high: Option<&[u8]>,
+        found: &mut Vec<u64>,
+    ) -> Result<(), Refusal> {
+        nodes_in(self.volume, name, low, high, found)
+    }
+
     fn has_key(&mut self, name: &Name, key: &[u8]) -> bool {
         self.volume.has_key(name, key)
     }
 
     fn value(&mut self, node: u64, name: &Name) -> Option<Value> {
         self.volume.get(node, name)
+    }
+}
+
+/// Adds the nodes of the keys of an index from `low` to `high`, both included, or to the last key, by one search for each and one more.
+fn nodes_in(
+    volume: &Volume,
+    name: &Name,
+    low: &[u8],
+    high: Option<&[u8]>,
+    found: &mut Vec<u64>,
+) -> Result<(), Refusal>
+    requires sound { IsSound volume.now }
+    ensures memory { IfErr result (λ e. e ≡ OutOfMemory) }
+    ensures keeps { Keeps found.old.items found.new.items }
+    ensures only { HasOnly volume.now name.now low.now (option_copied high.entry) found.old.items found.new.items }
+    ensures has { OnOk result (HasNodes volume.now name.now low.now (option_copied high.entry) found.new.items) }
+{
+    let mut next = volume.next_key(name, low, false);
+    'keys: while let Some(key) = &next {
+        if is_past(high, key.as_slice()) {
+            return Ok(());
+        }
+        found.push(node_of(key.as_slice()))?;
+        next = volume.next_key(name, key.as_slice(), true);
+    }
+    Ok(())
+}
+
+/// Whether the key is above the bound, if there is one.
+fn is_past(high: Option<&[u8]>, key: &[u8]) -> bool
+    ensures { result ≡ is_above (option_copied high.entry) key.now }
+{
+    match high {
+        Some(high) => key.cmp(&high).is_gt(),
+        None => false,
     }
 }

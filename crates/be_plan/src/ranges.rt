@@ -5,7 +5,8 @@
 //! gives none, since it need not be true. A number outside the index's kind leaves out all keys or none, by the side on which it lies, and a
 //! literal that spells no number leaves out all. Of a text longer than any value's, the bytes that a value may have tell.
 //!
-//! Bounds are keys, both included: a value's key with the least node number or the greatest. So an end costs one idle key at most.
+//! Bounds are bytes, both included: a value's key with the least node number or the greatest, or the bytes next to it where it is left out. So
+//! no key in a range of numbers is idle.
 ghost use Rattle.std.specs.Prelude.{◌≡◌, ◌<◌, ◌≤◌, ◌+◌, ◌^◌, ℕ, ℤ, ◌≤ℤ◌, true, false, List, [], IfSome, IsTrue, IsUtf8, ◌++◌, length};
 ghost use Rattle.std.specs.Option.{option_map};
 ghost use Rattle.std.specs.Str.{chars};
@@ -72,12 +73,54 @@ impl Range {
         }
     }
 
+    /// Leaves out keys that aren't above this one. The least bytes above it are its own and a zero byte; where these don't fit, it stays in.
+    fn raise_above(&mut self, key: ArrayVec<u8, 264>)
+        ensures { (k : List ℕ) → is_gt (name_cmp k key.items) ≡ true →
+            Within self.old.low.items (option_map (λ b. b.items) self.old.high) k →
+            Within self.new.low.items (option_map (λ b. b.items) self.new.high) k }
+    {
+        self.raise(with_zero(key));
+    }
+
+    /// Leaves out keys that aren't below this one. Where its last byte is zero, the greatest bytes below it are the others; elsewhere it stays in.
+    fn lower_below(&mut self, key: ArrayVec<u8, 264>)
+        ensures { (k : List ℕ) → is_lt (name_cmp k key.items) ≡ true →
+            Within self.old.low.items (option_map (λ b. b.items) self.old.high) k →
+            Within self.new.low.items (option_map (λ b. b.items) self.new.high) k }
+    {
+        self.lower(without_zero(key));
+    }
+
     /// Leaves out all keys, since none is without bytes. The walk then ends at the first key that it asks for.
     fn close(&mut self)
         ensures { (k : List ℕ) → Within self.new.low.items (option_map (λ b. b.items) self.new.high) k → k ≡ [] }
     {
         self.high = Some(ArrayVec::new());
     }
+}
+
+/// The key with a zero byte, where it fits.
+fn with_zero(key: ArrayVec<u8, 264>) -> ArrayVec<u8, 264>
+    ensures { (k : List ℕ) → is_gt (name_cmp k key.items) ≡ true → is_lt (name_cmp k result.items) ≡ false }
+{
+    let mut key = key;
+    if key.len() < 264 {
+        key.push(0);
+    }
+    key
+}
+
+/// The key without its last byte, if that is zero.
+fn without_zero(key: ArrayVec<u8, 264>) -> ArrayVec<u8, 264>
+    ensures { (k : List ℕ) → is_lt (name_cmp k key.items) ≡ true → is_gt (name_cmp k result.items) ≡ false }
+{
+    let mut key = key;
+    if let Some(last) = key.pop() {
+        if last != 0 {
+            key.push(last);
+        }
+    }
+    key
 }
 
 /// Whether the key is above the bound, if there is one.
@@ -164,9 +207,9 @@ fn narrow_by(range: &mut Range, op: Cmp, bound: &Value)
             range.lower(key_of(bound, u64::MAX));
         }
         Cmp::Ne => {}
-        Cmp::Lt => range.lower(key_of(bound, 0)),
+        Cmp::Lt => range.lower_below(key_of(bound, 0)),
         Cmp::Le => range.lower(key_of(bound, u64::MAX)),
-        Cmp::Gt => range.raise(key_of(bound, u64::MAX)),
+        Cmp::Gt => range.raise_above(key_of(bound, u64::MAX)),
         Cmp::Ge => range.raise(key_of(bound, 0)),
     }
 }

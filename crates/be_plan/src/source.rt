@@ -1,22 +1,25 @@
 //! What answers for a volume.
 //!
-//! A source is read by four calls, and each may change the source itself: a cursor moves, a reader counts its steps. What stays is said in two
+//! A source is read by five calls, and each may change the source itself: a cursor moves, a reader counts its steps. What stays is said in two
 //! ways. `kept` names the facts of the source that no call changes, and `answers_for` says by a relation which volume it answers for. It is a
 //! relation and not a function, since a reader of pages spells a volume but can't compute it: a contract says what holds of each volume
 //! that the source answers for, and the caller, who knows the volume, names it.
-ghost use Rattle.std.specs.Prelude.{◌≡◌, true};
-ghost use Rattle.std.specs.Option.{option_map};
+ghost use Rattle.std.specs.Prelude.{◌≡◌, true, OnOk, IfErr};
+ghost use Rattle.std.specs.Option.{option_copied, option_map};
+ghost use Rattle.be_value.specs.declared.refusals.Refusal.TheVariants.{OutOfMemory};
 ghost use Rattle.be_volume.specs.Reading.{attribute};
 ghost use Rattle.be_volume.specs.Volume.{State};
 ghost use Rattle.be_volume.specs.Keys.{IsKey, IsNextKey};
 ghost use Rattle.be_volume.specs.Reading.{index_kind};
 ghost use Rattle.be_volume.specs.Sound.{IsSound};
+ghost use Rattle.be_plan.specs.Walk.{HasNodes, HasOnly, Keeps};
 
 use arrayvec::ArrayVec;
-use be_value::{Kind, Name, Value};
+use be_value::{Kind, Name, Refusal, Value};
 
 /// A reader of one volume. Its calls may change the reader itself, but neither the volume nor the facts that it keeps. Each call asks that
-/// the source answers for some volume, and its clauses hold of every volume for which it does. No call takes memory.
+/// the source answers for some volume, and its clauses hold of every volume for which it does. No call takes memory, but for what is added to a
+/// list.
 pub trait Source {
     /// The facts of the source that no call changes.
     ghost Kept: { Type 0 };
@@ -39,6 +42,25 @@ pub trait Source {
         requires { (volume : State) × answers_for self.old volume }
         ensures answer { (volume : State) → answers_for self.old volume →
             IsNextKey volume name.now from.now after (option_map (λ k. k.items) result) }
+        ensures stays { kept self.new ≡ kept self.old }
+        ensures answers { (volume : State) → answers_for self.old volume → answers_for self.new volume };
+
+    /// Adds the node of each key of the index of that name from `low` to `high`, both included, or to the last key; best in the order of the
+    /// keys. Without an index there is none.
+    fn nodes_within(
+        &mut self,
+        name: &Name,
+        low: &[u8],
+        high: Option<&[u8]>,
+        found: &mut Vec<u64>,
+    ) -> Result<(), Refusal>
+        requires { (volume : State) × answers_for self.old volume }
+        ensures memory { IfErr result (λ e. e ≡ OutOfMemory) }
+        ensures keeps { Keeps found.old.items found.new.items }
+        ensures only { (volume : State) → answers_for self.old volume →
+            HasOnly volume name.now low.now (option_copied high.entry) found.old.items found.new.items }
+        ensures has { OnOk result ((volume : State) → answers_for self.old volume →
+            HasNodes volume name.now low.now (option_copied high.entry) found.new.items) }
         ensures stays { kept self.new ≡ kept self.old }
         ensures answers { (volume : State) → answers_for self.old volume → answers_for self.new volume };
 

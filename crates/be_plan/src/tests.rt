@@ -2,7 +2,8 @@
 //!
 //! A volume is made by lines such as `set 1 n LONG 5`. What is asked of it stands in lines `COMMAND QUERY => REPLY`. The command `explain` asks
 //! what the query is answered from, and `query` for its nodes by these picks. Digits are a command too: the nodes by these picks, a digit for
-//! each. Behind the nodes stands of which indices a key was asked, the first letter of the name for each call: `nodes 2 3 asks nnn`.
+//! each. Behind the nodes stands of which indices a key was asked, the first letter of the name for each call, as for each node of a
+//! range and for its end: `nodes 2 3 asks nnn`.
 
 ghost use Rattle.be_volume.specs.Volume.{State};
 
@@ -16,6 +17,13 @@ use std::test::Fail;
 
 fn first_letter(name: &Name) -> char {
     name.as_str().chars().next().unwrap_or('?')
+}
+
+/// Writes down a step for each node of a range, and one for its end.
+fn write_steps(asked: &mut ArrayString<64>, name: &Name, nodes: usize) {
+    for _ in 0..=nodes {
+        let _full = asked.try_push(first_letter(name));
+    }
 }
 
 /// A volume's source that writes down of which index it is asked for a key.
@@ -44,6 +52,19 @@ impl Source for Recording<'_> {
     fn next_key(&mut self, name: &Name, from: &[u8], after: bool) -> Option<ArrayVec<u8, 264>> {
         let _full = self.asked.try_push(first_letter(name));
         self.source.next_key(name, from, after)
+    }
+
+    fn nodes_within(
+        &mut self,
+        name: &Name,
+        low: &[u8],
+        high: Option<&[u8]>,
+        found: &mut Vec<u64>,
+    ) -> Result<(), Refusal> {
+        let before = found.len();
+        let done = self.source.nodes_within(name, low, high, found);
+        write_steps(&mut self.asked, name, found.len().saturating_sub(before));
+        done
     }
 
     fn has_key(&mut self, name: &Name, key: &[u8]) -> bool {

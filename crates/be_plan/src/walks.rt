@@ -1,10 +1,11 @@
 //! Walks over indices.
 //!
-//! A walk goes from key to key by `next_key`, from the range's low end to the first key above its high end, and collects the nodes of which
-//! the query is true. It asks for one key more than it passes. Where the range decides the query, each key's node is an answer.
+//! A walk collects the nodes of the keys in a range of which the query is true. Where the range decides the query, all of them are answers,
+//! and the source gives them by one call. Elsewhere the walk goes from key to key by `next_key`, from the range's low end to the first key
+//! above its high end, and asks the query of each node. It asks for one key more than it passes.
 ghost use Rattle.std.specs.Prelude.{◌≡◌, ◌<◌, ◌^◌, ℕ, true, Some, OnOk, IfErr};
 ghost use Rattle.std.specs.List.{Contains};
-ghost use Rattle.std.specs.Option.{option_map};
+ghost use Rattle.std.specs.Option.{option_copied, option_map};
 ghost use Rattle.be_value.specs.Key.{key as key_bytes};
 ghost use Rattle.be_value.specs.declared.refusals.Refusal.TheVariants.{OutOfMemory};
 ghost use Rattle.be_value.specs.declared.values.Value.{Value as AnyValue};
@@ -13,7 +14,6 @@ ghost use Rattle.be_volume.specs.Keys.{IsKey};
 ghost use Rattle.be_volume.specs.Query.{sat};
 ghost use Rattle.be_volume.specs.Reading.{index_kind};
 ghost use Rattle.be_volume.specs.Volume.{State};
-ghost use Rattle.be_plan.specs.Narrow.{IsInner};
 ghost use Rattle.be_plan.specs.Walk.{AllSatisfy, Keeps, HasWithin};
 
 use crate::Source;
@@ -21,7 +21,7 @@ use crate::deciding::decides;
 use crate::evaluating::satisfies;
 use crate::ranges::{Range, is_above};
 use be_query::Tree;
-use be_value::{Kind, Name, Refusal, node_of, read_key};
+use be_value::{Kind, Name, Refusal, read_key};
 
 /// Adds the node of a key of the index of that name and kind, if the tree is true of it.
 fn visit<S: Source>(
@@ -54,35 +54,35 @@ fn visit<S: Source>(
     Ok(())
 }
 
-/// Adds the node of a key of the index, if the tree is true of it. Where the key decides that it is, nothing is asked.
-fn pass<S: Source>(
+/// Adds the nodes of the keys in the range of which the tree is true, from key to key.
+fn visit_all<S: Source>(
     source: &mut S,
     tree: &Tree,
     name: &Name,
     kind: Kind,
-    decided: bool,
-    key: &[u8],
+    range: &Range,
     found: &mut Vec<u64>,
 ) -> Result<(), Refusal>
     ghost volume: { State }
     requires answers { S.answers_for source.old volume }
     requires kind { index_kind volume name.now ≡ Some kind }
-    requires is_key { IsKey volume name.now key.now }
-    requires decided { decided ≡ true → (h : IsKey volume name.now key.now) → IsInner h.node → sat volume (formula tree.now) h.node ≡ true }
     ensures stays { S.kept source.new ≡ S.kept source.old }
     ensures answers { S.answers_for source.new volume }
     ensures memory { IfErr result (λ e. e ≡ OutOfMemory) }
     ensures keeps { Keeps found.old.items found.new.items }
     ensures satisfy { AllSatisfy volume (formula tree.now) found.old.items →
         AllSatisfy volume (formula tree.now) found.new.items }
-    ensures has { OnOk result ((v : AnyValue) (n : ℕ) → n < 2 ^ 64 → key.now ≡ key_bytes v n →
-        sat volume (formula tree.now) n ≡ true → Contains found.new.items n) }
+    ensures has { OnOk result (HasWithin volume (formula tree.now) name.now range.now.low.items
+        (option_map (λ b. b.items) range.now.high) found.new.items) }
 {
-    let node = node_of(key);
-    if !decided || node == 0 || node == u64::MAX {
-        return visit(source, tree, name, kind, key, found);
+    let mut next = source.next_key(name, range.low.as_slice(), false);
+    'keys: while let Some(key) = &next {
+        if is_above(&range.high, key.as_slice()) {
+            return Ok(());
+        }
+        visit(source, tree, name, kind, key.as_slice(), found)?;
+        next = source.next_key(name, key.as_slice(), true);
     }
-    found.push(node)?;
     Ok(())
 }
 
@@ -107,14 +107,19 @@ pub(crate) fn walk<S: Source>(
     ensures has { OnOk result (HasWithin volume (formula tree.now) name.now range.now.low.items
         (option_map (λ b. b.items) range.now.high) found.new.items) }
 {
-    let decided = decides(range, tree, name, kind);
-    let mut next = source.next_key(name, range.low.as_slice(), false);
-    'keys: while let Some(key) = &next {
-        if is_above(&range.high, key.as_slice()) {
-            return Ok(());
-        }
-        pass(source, tree, name, kind, decided, key.as_slice(), found)?;
-        next = source.next_key(name, key.as_slice(), true);
+    if decides(range, tree, name, kind) {
+        source.nodes_within(name, range.low.as_slice(), high_end(range), found)
+    } else {
+        visit_all(source, tree, name, kind, range, found)
     }
-    Ok(())
+}
+
+/// The range's high end.
+fn high_end(range: &Range) -> Option<&[u8]>
+    ensures { option_copied result ≡ option_map (λ b. b.items) range.now.high }
+{
+    match &range.high {
+        Some(high) => Some(high.as_slice()),
+        None => None,
+    }
 }

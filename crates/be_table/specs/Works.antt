@@ -88,7 +88,7 @@ pub record TakesPage (old new : Work) (page : ℕ) : Type 0 where
 
 -- of the pages that no version from the least on reaches, each is held by the write
 abbrev pub HoldsUnreached : Knowledge → ℕ → Type 0
-HoldsUnreached a least = (p : ℕ) → p < length a.places → Unreached a.seen least p → IsTrue (has a.held p)
+HoldsUnreached a least = (p : ℕ) → p < a.limits.pages → Unreached a.seen least p → IsTrue (has a.held p)
 
 -- after a whole scan no page was free
 pub record FindsNone (old new : Work) (least : ℕ) : Type 0 where

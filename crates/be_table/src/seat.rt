@@ -122,8 +122,8 @@ impl Seat {
         }
     }
 
-    // What is always so of a pass is so of this one. It does nothing.
-    pub(crate) fn is_pass(&self)
+    /// A law of one seat: what is always so of a pass is so of this one, as a contract can't tell of a seat that it is lent. It does nothing.
+    pub fn is_pass(&self)
         requires { self.now.blank ≡ false }
         ensures { IsPass self.now.knows }
     {

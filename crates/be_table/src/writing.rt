@@ -132,6 +132,7 @@ impl<'a> Writing<'a> {
         ensures small { IfSome result (λ page. page < 16384) }
         ensures taken { IfSome result (λ page. self.new ≡ record self.old { knows = takes_page self.old.knows page }) }
         ensures none { IfNone result ((p : ℕ) → p < length self.old.knows.places → place_of self.old.knows.places p ≢ Place.Free) }
+        ensures count { IfNone result (length self.old.knows.places ≡ self.old.knows.limits.pages) }
         ensures same { IfNone result (self.new ≡ self.old) }
     {
         let page = self.ledger.pool.take()?;

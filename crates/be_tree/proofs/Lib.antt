@@ -16,8 +16,11 @@ pub mod Levels
 mod Neighbours
 mod Children
 mod Joins
+mod Alone
+mod Stops
 pub mod Ranges
 mod Heights
 mod Cursors
 pub mod Clears
 pub mod Trees
+mod LastBytes

@@ -1,5 +1,5 @@
 -- A key taken out below a page: what a removal stands on.
-use Rattle.std.proofs.Common.{◌≡◌, ℕ, zero, suc, ◌-◌, ◌<◌, ◌≤◌, List, [], ◌∷◌, ◌++◌, length, get_or, take, drop, All, IsTrue, if◌then◌else◌, ap, sym, subst, ◌∙◌, refl, arith}
+use Rattle.std.proofs.Common.{◌≡◌, ℕ, zero, suc, ◌-◌, ◌<◌, ◌≤◌, List, [], ◌∷◌, ◌++◌, length, get_or, take, drop, All, IsTrue, if◌then◌else◌, ap, sym, subst, ◌∙◌, refl, arith, Some, None}
 use Rattle.std.specs.List.{flat_map}
 use Rattle.std.specs.Ordering.{is_eq}
 use Rattle.std.specs.declared.cmp.Ordering.TheVariants.{Less, Equal, Greater}
@@ -7,11 +7,11 @@ use Rattle.std.proofs.lemmas.List.Elements.{All-cons}
 use Rattle.be_pages.specs.declared.room.Standing.{Standing}
 use Rattle.be_pages.specs.Pages.{is_readable, untouched}
 use Rattle.be_tree.specs.Pair.{Pair}
-use Rattle.be_tree.specs.Key.{key_cmp, AllAbove, AllBelow, IsRising, IsRank, without}
+use Rattle.be_tree.specs.Key.{key_cmp, AllAbove, AllBelow, IsRising, IsRank, payload_at, without}
 use Rattle.be_tree.specs.Page.{item_at, items_of, place_of}
 use Rattle.be_tree.specs.Tree.{child, pairs_at, pairs_below, pages_below, least_of_root, IsBelow, IsTreeAt, Becomes}
 use Rattle.be_tree.proofs.Order.{AllAbove_left, AllAbove_right}
-use Rattle.be_tree.proofs.TreeFacts.{flat_map_in_three, IsSplit, inner_split, leaf_split, as_branches}
+use Rattle.be_tree.proofs.TreeFacts.{flat_map_in_three, found_in_leaf, IsSplit, inner_split, leaf_split, as_branches, steps_down}
 use Rattle.be_tree.proofs.Frame.{readable_kept}
 use Rattle.be_tree.proofs.Roots.{root_some}
 use Rattle.be_tree.proofs.Slots.{item_get, items_count}
@@ -153,6 +153,12 @@ module _ {S K : Type 0} (kept_of : S → K) (standing_of : S → ℕ → Standin
       subst (λ (n : ℕ). Becomes kept_of standing_of words_of (pages_below n (words_of old) items) (without k (pairs_below n (words_of old) items)) n out old old) (sym e)
       (subst (λ xs. Becomes kept_of standing_of words_of [] (without k items) 0 xs old old) (sym (is ∙ sym (leaf_pairs below.rising))) (leaf_becomes below))
 
+  pub payload_leaf : level ≡ 0 → payload_at (pairs_at level (words_of old) page) k
+      ≡ (if is_eq (key_cmp (item_at (words_of old page) (place_of at)).key k) then Some (item_at (words_of old page) (place_of at)).payload else None)
+  payload_leaf e =
+      let d = item_at (words_of old page) (place_of at) in
+      found_in_leaf level (least_of_root level) (standing_of old) (words_of old) page k (items_of (words_of old page)) r at d e tree (root_some level) refl rank place (sym (item_get (words_of old page) at d at_in))
+
   -- where the key goes
   module _ (below : ℕ) (e : level ≡ suc below) where
     inner : IsBelow (suc below) (standing_of old) (words_of old) (items_of (words_of old page))
@@ -171,6 +177,12 @@ module _ {S K : Type 0} (kept_of : S → K) (standing_of : S → ℕ → Standin
         let f = λ (b : Pair). pairs_at below (words_of old) (child b) in
         let d = item_at (words_of old page) (place_of at) in
         without_split f k items at split d ∙ ap (λ x. flat_map f (take at items) ++ (without k (f x) ++ flat_map f (drop (suc at) items))) (item_get (words_of old page) at d at_in)
+
+    -- a look-up goes the same way
+    pub payload_down : payload_at (pairs_at level (words_of old) page) k ≡ payload_at (pairs_at below (words_of old) (child (item_at (words_of old page) (place_of at)))) k
+    payload_down =
+        let d = item_at (words_of old page) (place_of at) in
+        (steps_down level below (least_of_root level) (standing_of old) (words_of old) page k (items_of (words_of old page)) r at d e tree (root_some level) refl rank place (sym (item_get (words_of old page) at d at_in))).same
 
     pub key_out : without k (pairs_at level (words_of old) page)
         ≡ pairs_below (suc below) (words_of old) (take at (items_of (words_of old page))) ++ (without k (pairs_at below (words_of old) (child (item_at (words_of old page) (place_of at)))) ++ pairs_below (suc below) (words_of old) (drop (suc at) (items_of (words_of old page))))

@@ -1,7 +1,6 @@
 -- What is left of a tree: nothing, one branch, or the same tree.
 use Rattle.std.proofs.Common.{◌≡◌, ℕ, zero, suc, ◌-◌, ◌<◌, List, [], ◌∷◌, length, get_or, map, IsTrue, if◌then◌else◌, ap, sym, subst, ◌∙◌, refl, arith}
-use Rattle.std.specs.Prelude.{Option, Some, None, is_some, true, false}
-use mathlib.Core.Bool.{false≢true}
+use Rattle.std.specs.Prelude.{Some, None}
 use Rattle.std.specs.Ordering.{is_eq}
 use Rattle.std.specs.declared.cmp.Ordering.TheVariants.{Less, Equal, Greater}
 use Rattle.std.proofs.lemmas.List.{append-nil, nil_from_length}
@@ -105,11 +104,6 @@ module _ {S K : Type 0} (kept_of : S → K) (standing_of : S → ℕ → Standin
         swaps = swaps_since kept_of standing_of words_of (pages (words_of old) root) (pages (words_of new) new_root) old read new same rooted.swaps;
       }
 
--- a tree that has a key has a root
-pub has_root : (words : ℕ → ℕ → ℕ) (root : ℕ) (k : List ℕ) → is_some (payload_at (pairs words root) k) ≡ true → 0 < root
-has_root words zero k h = absurd (false≢true h)
-has_root words (suc page) k h = omega arith
-
 -- a list of one
 pub one_mapped : {A B : Type 0} (f : A → B) (xs : List A) (d : A) → length xs ≡ 1 → map f xs ≡ f (get_or xs 0 d) ∷ []
 one_mapped f [] d len = absurd (omega (arith, len))
@@ -122,7 +116,3 @@ one_used level standing words items branch inner one below =
     let e : level ≡ suc (level - 1) = omega (arith, inner) in
     let alone = subst (λ (n : ℕ). IsBelow n standing words (branch ∷ [])) e (subst (IsBelow level standing words) one below) in
     (branch_tree (level - 1) standing words (branch ∷ []) alone 0 branch (omega arith)).page_in_use
-
-pub none_if_not : {A : Type 0} (o : Option A) → is_some o ≡ false → o ≡ None
-none_if_not None h = refl
-none_if_not (Some x) h = absurd (false≢true (sym h))

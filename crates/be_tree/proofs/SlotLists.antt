@@ -2,7 +2,7 @@
 use Rattle.std.proofs.Common.{◌≡◌, ℕ, suc, ◌+◌, ◌<◌, ◌≤◌, List, [], ◌∷◌, set, ◌++◌, length, take, drop, map, All, ap, sym, subst, ◌∙◌, arith}
 use Rattle.std.specs.List.{remove, refill, take-map, drop-map}
 use Rattle.std.proofs.lemmas.List.{map-append, length-append, length-take-le, take_at, drop_at, drop-drop, take-append-drop, take-set, drop-set, append_assoc}
-use Rattle.std.proofs.lemmas.List.Elements.{All-append}
+use Rattle.std.proofs.lemmas.List.Elements.{All-append, All-cons}
 use Rattle.be_tree.proofs.Below.{all_left, all_right}
 
 both_same : {A : Type 0} {a b c d : List A} → a ≡ b → c ≡ d → a ++ c ≡ b ++ d
@@ -27,6 +27,21 @@ replaced slots front more at last lt is =
     let e : at + 1 ≡ suc at = omega arith in
     both_same (take-set slots at last)
     (ap (λ xs. front ++ xs) (drop-set slots at last lt ∙ ap (λ n. last ∷ drop n slots) e) ∙ sym (append_assoc front (last ∷ []) (drop (suc at) slots)) ∙ ap (λ xs. xs ++ drop (suc at) slots) (sym is))
+
+-- one that was set in the place of another
+pub one_set : {A : Type 0} (slots : List A) (at : ℕ) (x : A) → at < length slots → set slots at x ≡ take at slots ++ (x ∷ drop (suc at) slots)
+one_set slots at x lt =
+    let e : at + 1 ≡ suc at = omega arith in
+    sym (take-append-drop at (set slots at x)) ∙ both_same (take-set slots at x) (drop-set slots at x lt ∙ ap (λ n. x ∷ drop n slots) e)
+
+pub one_mapped_in : {A B : Type 0} (f : A → B) (slots : List A) (at : ℕ) (x : A) → map f (take at slots ++ (x ∷ drop (suc at) slots)) ≡ take at (map f slots) ++ (f x ∷ drop (suc at) (map f slots))
+one_mapped_in f slots at x =
+    map-append f (take at slots) (x ∷ drop (suc at) slots) ∙ both_same (sym (take-map f at slots)) (ap (λ xs. f x ∷ xs) (sym (drop-map f (suc at) slots)))
+
+pub one_all : {A : Type 0} (P : A → Type 0) (slots : List A) (at : ℕ) (x : A) → All P slots → P x → All P (take at slots ++ (x ∷ drop (suc at) slots))
+one_all P slots at x all here =
+    All-append P (take at slots) (x ∷ drop (suc at) slots) (all_left P (take at slots) (drop at slots) (subst (All P) (sym (take-append-drop at slots)) all))
+    (All-cons P x (drop (suc at) slots) here (all_right P (take (suc at) slots) (drop (suc at) slots) (subst (All P) (sym (take-append-drop (suc at) slots)) all)))
 
 -- before and after one that was taken out
 front_kept : {A : Type 0} (slots : List A) (at : ℕ) → at ≤ length slots → take at (remove slots at) ≡ take at slots

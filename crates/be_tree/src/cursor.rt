@@ -147,7 +147,7 @@ impl Cursor {
     }
 
     /// The page and the place of the item that comes next, and a step past it.
-    fn step<L: Look>(&mut self, look: &mut L) -> Option<(u64, usize)>
+    pub(crate) fn step<L: Look>(&mut self, look: &mut L) -> Option<(u64, usize)>
         requires cursor { IsCursor (L.standing look.old) (L.words look.old) self.old }
         ensures none { IfNone result (remaining (L.words look.old) self.old ≡ []) }
         ensures item { IfSome result (λ at. slice_get (remaining (L.words look.old) self.old) 0 ≡ Some (item_at (L.words look.old at.0) at.1)) }

@@ -109,7 +109,7 @@ pub(crate) fn replace_at(slots: &mut ArrayVec<Slot, 24>, at: usize, mut more: Ar
 }
 
 /// Writes a node with what stands below it, and gives its page.
-fn write_branch<R: Room>(
+pub(crate) fn write_branch<R: Room>(
     room: &mut R,
     level: u64,
     slots: &[Slot],

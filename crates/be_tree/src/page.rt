@@ -39,7 +39,7 @@ pub(crate) fn child_at<L: Look>(look: &mut L, page: u64, at: usize) -> u64
 }
 
 /// The number in eight bytes, the most significant first.
-fn number_in(bytes: &[u8]) -> u64
+pub(crate) fn number_in(bytes: &[u8]) -> u64
     requires { length bytes.now ≡ 8 }
     ensures { result ≡ from_be_bytes w64 bytes.now }
 {

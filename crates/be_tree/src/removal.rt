@@ -1,24 +1,31 @@
 //! A key is taken out of a tree.
 //!
 //! # Neighbours
-//! The page that loses an item is written anew together with a neighbour under the same parent, the next one where
-//! there is one: the items of both go into one page where they fit, else into two. So no page is left under-full, and
-//! pages that were thin are joined. A removal writes two pages a level at most.
-ghost use Rattle.std.specs.Prelude.{◌≡◌, ℕ, suc, ◌+◌, ◌-◌, ◌^◌, ◌<◌, ◌≤◌, [], ◌∷◌, ◌++◌, length, take, drop, All, IfOk, OnErr, IfErr, IsTrue, None, Ok};
+//! A page of more than six items is written anew alone. One of six is written anew together with a neighbour under the
+//! same parent, the next one where there is one: the items of both go into one page where they fit, else into two. So no
+//! page is left under-full, and pages that were thin are joined. A removal writes two pages a level at most.
+//!
+//! # Absent keys
+//! Nothing is written on the way down. A leaf without the key stops the removal, and nothing has changed.
+ghost use Rattle.std.specs.Prelude.{◌≡◌, ◌≢◌, ℕ, true, false, suc, ◌+◌, ◌-◌, ◌^◌, ◌<◌, ◌≤◌, [], ◌∷◌, ◌++◌, length, take, drop, All, IfOk, OnErr, IfErr, IsTrue, None, Ok};
 ghost use Rattle.be_pages.specs.Pages.{IsUnchanged, is_readable, Swaps, KeepsStart};
 ghost use Rattle.be_pages.specs.Refusal.{IsFullOf};
-ghost use Rattle.be_tree.specs.Key.{IsPrepared, payload_at, without};
+ghost use Rattle.be_tree.specs.Key.{IsPrepared, key_cmp, payload_at, without};
+ghost use Rattle.std.specs.Ordering.{is_eq};
 ghost use Rattle.be_tree.specs.Page.{IsItem, IsPage, item_at, items_of, place_of};
 ghost use Rattle.be_tree.specs.Pair.{Pair};
 ghost use Rattle.be_tree.specs.Slot.{IsReady, pair_of, pairs_of};
+ghost use Rattle.be_tree.specs.Stop.{IfAbsent, IfRefused};
+ghost use Rattle.be_tree.specs.declared.stop.Stop.TheVariants.{Absent};
 ghost use Rattle.be_tree.specs.Tree.{AreNeighbours, Becomes, BecomesTree, IsBelow, IsTree, IsTreeAt, child, least_of_root, pages, pages_below, pairs, pairs_at, pairs_below};
 
-use crate::edit::{pack_two, write_root};
+use crate::edit::{pack_two, write_branch, write_root};
 use crate::item::Item;
-use crate::lookup::{has_key, rank};
+use crate::lookup::rank;
 use crate::page::{child_at, cmp_at, fill_slots, key_words};
-use crate::siblings::{append, count_of, slots_with, two_children};
+use crate::siblings::{append, count_of, slots_with, slots_with_one, spare_child, two_children};
 use crate::slot::Slot;
+use crate::stop::Stop;
 use arrayvec::ArrayVec;
 use be_pages::{Look, Room};
 use be_value::Refusal;
@@ -35,14 +42,18 @@ pub fn remove<R: Room>(room: &mut R, root: u64, key: &[u8]) -> Result<u64, Refus
     ensures err { OnErr result (KeepsStart R.kept R.standing R.words room.old room.new) }
     ensures full { IfErr result (IsFullOf (R.full room.new)) }
 {
-    if !has_key(room, root, key) {
+    if root == 0 {
         return Ok(root);
     }
     let pair = Item::new(&[], &[]);
     let words = key_words(key);
     let page = root - 1;
     let level = room.word(page, 0);
-    let slots = remove_at(room, level, page, key, &words, &pair)?;
+    let slots = match remove_at(room, level, page, key, &words, &pair) {
+        Ok(slots) => slots,
+        Err(Stop::Absent) => return Ok(root),
+        Err(Stop::Refused(refusal)) => return Err(refusal),
+    };
     let new = write_rest(room, level, &slots, &pair)?;
     room.give_up(page);
     Ok(new)
@@ -97,23 +108,26 @@ fn slots_without<L: Look>(
     at: usize,
     key: &[u8],
     words: &[u64],
-) -> ArrayVec<Slot, 24>
+) -> Result<ArrayVec<Slot, 24>, Stop>
     requires readable { IsTrue (is_readable (L.standing look.old page)) }
     requires page { IsPage (L.words look.old page) }
     requires in_page { at < L.words look.old page 1 }
     requires prepared { IsPrepared words.now key.now }
-    ensures items { (given : Pair) → pairs_of (L.words look.old) given result.items
-        ≡ take at (items_of (L.words look.old page)) ++ (without key.now (item_at (L.words look.old page) (place_of at) ∷ []) ++ drop (suc at) (items_of (L.words look.old page))) }
-    ensures ready { All (IsReady (L.standing look.old) (L.words look.old)) result.items }
-    ensures some { (L.words look.old page 1 ≤ length result.items + 1) × (length result.items ≤ 12) }
+    ensures items { IfOk result (λ slots. (given : Pair) → pairs_of (L.words look.old) given slots.items
+        ≡ take at (items_of (L.words look.old page)) ++ (without key.now (item_at (L.words look.old page) (place_of at) ∷ []) ++ drop (suc at) (items_of (L.words look.old page)))) }
+    ensures ready { IfOk result (λ slots. All (IsReady (L.standing look.old) (L.words look.old)) slots.items) }
+    ensures some { IfOk result (λ slots. (L.words look.old page 1 ≤ length slots.items + 1) × (length slots.items ≤ 12)) }
+    ensures found { IfOk result (λ slots. is_eq (key_cmp (item_at (L.words look.old page) (place_of at)).key key.now) ≡ true) }
+    ensures absent { IfErr result (λ stop. (stop ≡ Absent) × (is_eq (key_cmp (item_at (L.words look.old page) (place_of at)).key key.now) ≡ false)) }
     ensures unchanged { IsUnchanged L.kept L.standing L.words look.old look.new }
 {
     let mut slots = ArrayVec::new();
     fill_slots(look, page, &mut slots);
-    if cmp_at(look, page, 2 + 42 * at, key, words).is_eq() {
-        slots.remove(at);
+    if !cmp_at(look, page, 2 + 42 * at, key, words).is_eq() {
+        return Err(Stop::Absent);
     }
-    slots
+    slots.remove(at);
+    Ok(slots)
 }
 
 /// Takes a key out below a page, and gives the page's items without it, still to be written. The page is not given up
@@ -126,7 +140,7 @@ fn remove_at<R: Room>(
     key: &[u8],
     words: &[u64],
     pair: &Item,
-) -> Result<ArrayVec<Slot, 24>, Refusal>
+) -> Result<ArrayVec<Slot, 24>, Stop>
     requires tree { IsTreeAt level (least_of_root level) (R.standing room.old) (R.words room.old) page }
     requires key_fits { length pair.now.key ≤ 264 }
     requires prepared { IsPrepared words.now key.now }
@@ -135,11 +149,18 @@ fn remove_at<R: Room>(
     ensures ready { IfOk result (λ slots. All (IsReady (R.standing room.new) (R.words room.new)) slots.items) }
     ensures some { IfOk result (λ slots. (length (items_of (R.words room.old page)) ≤ length slots.items + 1) × (length slots.items ≤ 12)) }
     ensures err { OnErr result (KeepsStart R.kept R.standing R.words room.old room.new) }
-    ensures full { IfErr result (IsFullOf (R.full room.new)) }
+    ensures full { IfErr result (λ stop. IfRefused stop (IsFullOf (R.full room.new))) }
+    ensures found { IfOk result (λ slots. payload_at (pairs_at level (R.words room.old) page) key.now ≢ None) }
+    ensures stopped { IfErr result (λ stop. IfAbsent stop ((payload_at (pairs_at level (R.words room.old) page) key.now ≡ None) × IsUnchanged R.kept R.standing R.words room.old room.new) (payload_at (pairs_at level (R.words room.old) page) key.now ≢ None)) }
 {
     let at = rank(room, page, key, words).saturating_sub(1);
     if level == 0 {
-        return Ok(slots_without(room, page, at, key, words));
+        let slots = slots_without(room, page, at, key, words)?;
+        return Ok(slots);
+    }
+    if let Some(below) = spare_child(room, level, page, at) {
+        let slot = remove_alone(room, level - 1, below, key, words, pair)?;
+        return Ok(slots_with_one(room, page, at, slot));
     }
     if at + 1 < count_of(room, page) {
         let (here, next) = two_children(room, level, page, at);
@@ -149,6 +170,34 @@ fn remove_at<R: Room>(
     let (before, here) = two_children(room, level, page, at - 1);
     let two = remove_right(room, level - 1, before, here, key, words, pair)?;
     Ok(slots_with(room, page, at - 1, two))
+}
+
+/// Takes a key out below a page of more than six items, writes what is left of it alone, and gives the branch to it.
+#[cycle(removal)]
+fn remove_alone<R: Room>(
+    room: &mut R,
+    level: u64,
+    below: u64,
+    key: &[u8],
+    words: &[u64],
+    pair: &Item,
+) -> Result<Slot, Stop>
+    requires tree { IsTreeAt level 6 (R.standing room.old) (R.words room.old) below }
+    requires spare { 6 < R.words room.old below 1 }
+    requires key_fits { length pair.now.key ≤ 264 }
+    requires prepared { IsPrepared words.now key.now }
+    requires open { IsTrue (R.is_open (R.kept room.old)) }
+    ensures ok { IfOk result (λ slot. Becomes R.kept R.standing R.words (below ∷ pages_below level (R.words room.old) (items_of (R.words room.old below))) (without key.now (pairs_at level (R.words room.old) below)) (suc level) (pair_of (R.words room.new) pair.now slot ∷ []) room.old room.new) }
+    ensures ready { IfOk result (λ slot. IsReady (R.standing room.new) (R.words room.new) slot) }
+    ensures err { OnErr result (KeepsStart R.kept R.standing R.words room.old room.new) }
+    ensures full { IfErr result (λ stop. IfRefused stop (IsFullOf (R.full room.new))) }
+    ensures found { IfOk result (λ slots. payload_at (pairs_at level (R.words room.old) below) key.now ≢ None) }
+    ensures stopped { IfErr result (λ stop. IfAbsent stop ((payload_at (pairs_at level (R.words room.old) below) key.now ≡ None) × IsUnchanged R.kept R.standing R.words room.old room.new) (payload_at (pairs_at level (R.words room.old) below) key.now ≢ None)) }
+{
+    let slots = remove_at(room, level, below, key, words, pair)?;
+    let page = write_branch(room, level, &slots, pair)?;
+    room.give_up(below);
+    Ok(Slot::Branch(page as u32))
 }
 
 /// Takes a key out below the first of two neighbours, and writes both anew.
@@ -161,7 +210,7 @@ fn remove_left<R: Room>(
     key: &[u8],
     words: &[u64],
     pair: &Item,
-) -> Result<ArrayVec<Slot, 2>, Refusal>
+) -> Result<ArrayVec<Slot, 2>, Stop>
     requires neighbours { AreNeighbours level (R.standing room.old) (R.words room.old) left right }
     requires key_fits { length pair.now.key ≤ 264 }
     requires prepared { IsPrepared words.now key.now }
@@ -171,7 +220,9 @@ fn remove_left<R: Room>(
     ensures ready { IfOk result (λ slots. All (IsReady (R.standing room.new) (R.words room.new)) slots.items) }
     ensures some { IfOk result (λ slots. (0 < length slots.items) × (length slots.items ≤ 2)) }
     ensures err { OnErr result (KeepsStart R.kept R.standing R.words room.old room.new) }
-    ensures full { IfErr result (IsFullOf (R.full room.new)) }
+    ensures full { IfErr result (λ stop. IfRefused stop (IsFullOf (R.full room.new))) }
+    ensures found { IfOk result (λ slots. payload_at (pairs_at level (R.words room.old) left) key.now ≢ None) }
+    ensures stopped { IfErr result (λ stop. IfAbsent stop ((payload_at (pairs_at level (R.words room.old) left) key.now ≡ None) × IsUnchanged R.kept R.standing R.words room.old room.new) (payload_at (pairs_at level (R.words room.old) left) key.now ≢ None)) }
 {
     let mut slots = remove_at(room, level, left, key, words, pair)?;
     let mut others = ArrayVec::new();
@@ -191,7 +242,7 @@ fn remove_right<R: Room>(
     key: &[u8],
     words: &[u64],
     pair: &Item,
-) -> Result<ArrayVec<Slot, 2>, Refusal>
+) -> Result<ArrayVec<Slot, 2>, Stop>
     requires neighbours { AreNeighbours level (R.standing room.old) (R.words room.old) left right }
     requires key_fits { length pair.now.key ≤ 264 }
     requires prepared { IsPrepared words.now key.now }
@@ -201,7 +252,9 @@ fn remove_right<R: Room>(
     ensures ready { IfOk result (λ slots. All (IsReady (R.standing room.new) (R.words room.new)) slots.items) }
     ensures some { IfOk result (λ slots. (0 < length slots.items) × (length slots.items ≤ 2)) }
     ensures err { OnErr result (KeepsStart R.kept R.standing R.words room.old room.new) }
-    ensures full { IfErr result (IsFullOf (R.full room.new)) }
+    ensures full { IfErr result (λ stop. IfRefused stop (IsFullOf (R.full room.new))) }
+    ensures found { IfOk result (λ slots. payload_at (pairs_at level (R.words room.old) right) key.now ≢ None) }
+    ensures stopped { IfErr result (λ stop. IfAbsent stop ((payload_at (pairs_at level (R.words room.old) right) key.now ≡ None) × IsUnchanged R.kept R.standing R.words room.old room.new) (payload_at (pairs_at level (R.words room.old) right) key.now ≢ None)) }
 {
     let less = remove_at(room, level, right, key, words, pair)?;
     let mut slots = ArrayVec::new();

@@ -1,9 +1,9 @@
 //! Two neighbours among the children of a node.
-ghost use Rattle.std.specs.Prelude.{◌≡◌, ℕ, suc, ◌+◌, ◌-◌, ◌<◌, ◌≤◌, ◌++◌, length, take, drop, All, IfSome, IsTrue};
+ghost use Rattle.std.specs.Prelude.{◌≡◌, ℕ, suc, ◌+◌, ◌-◌, ◌<◌, ◌≤◌, ◌∷◌, ◌++◌, length, take, drop, All, IfSome, IsTrue};
 ghost use Rattle.be_pages.specs.Pages.{IsUnchanged, is_readable};
 ghost use Rattle.be_tree.specs.Page.{IsPage, item_at, items_of, place_of};
 ghost use Rattle.be_tree.specs.Pair.{Pair};
-ghost use Rattle.be_tree.specs.Slot.{IsReady, pairs_of};
+ghost use Rattle.be_tree.specs.Slot.{IsReady, pair_of, pairs_of};
 ghost use Rattle.be_tree.specs.Tree.{AreNeighbours, IsTreeAt, child};
 
 use crate::edit::replace_at;
@@ -25,6 +25,23 @@ pub(crate) fn two_children<L: Look>(look: &mut L, level: u64, page: u64, at: usi
     let left = child_at(look, page, 2 + 42 * at);
     let right = child_at(look, page, 2 + 42 * (at + 1));
     (left, right)
+}
+
+/// The child at a number of an inner node, where it has more than six items, so that it can lose one.
+pub(crate) fn spare_child<L: Look>(look: &mut L, level: u64, page: u64, at: usize) -> Option<u64>
+    requires tree { IsTreeAt level 1 (L.standing look.old) (L.words look.old) page }
+    requires inner { 0 < level }
+    requires in_page { at < L.words look.old page 1 }
+    ensures child { IfSome result (λ below. below ≡ child (item_at (L.words look.old page) (place_of at))) }
+    ensures tree { IfSome result (λ below. IsTreeAt (level - 1) 6 (L.standing look.old) (L.words look.old) below) }
+    ensures spare { IfSome result (λ below. 6 < L.words look.old below 1) }
+    ensures unchanged { IsUnchanged L.kept L.standing L.words look.old look.new }
+{
+    let below = child_at(look, page, 2 + 42 * at);
+    if count_of(look, below) < 7 {
+        return None;
+    }
+    Some(below)
 }
 
 /// The child at a number with its left neighbour before it, where the child is full and the neighbour is not.
@@ -75,6 +92,29 @@ pub(crate) fn slots_with<L: Look>(
     fill_slots(look, page, &mut slots);
     slots.remove(at);
     replace_at(&mut slots, at, two);
+    slots
+}
+
+/// The slots of a node's items, with another in the place of one.
+pub(crate) fn slots_with_one<L: Look>(
+    look: &mut L,
+    page: u64,
+    at: usize,
+    slot: Slot,
+) -> ArrayVec<Slot, 24>
+    requires readable { IsTrue (is_readable (L.standing look.old page)) }
+    requires page { IsPage (L.words look.old page) }
+    requires in_page { at < L.words look.old page 1 }
+    requires ready { IsReady (L.standing look.old) (L.words look.old) slot }
+    ensures items { (given : Pair) → pairs_of (L.words look.old) given result.items
+        ≡ take at (items_of (L.words look.old page)) ++ (pair_of (L.words look.old) given slot ∷ drop (suc at) (items_of (L.words look.old page))) }
+    ensures ready { All (IsReady (L.standing look.old) (L.words look.old)) result.items }
+    ensures len { length result.items ≡ L.words look.old page 1 }
+    ensures unchanged { IsUnchanged L.kept L.standing L.words look.old look.new }
+{
+    let mut slots = ArrayVec::new();
+    fill_slots(look, page, &mut slots);
+    slots[at] = slot;
     slots
 }
 

@@ -1,97 +1,42 @@
-use Rattle.std.proofs.Common.{◌≡◌, List, subst, ◌∙◌, ◌<◌, ◌^◌, ◌≤◌, suc, sym, ap, refl, true, false, Some, ℕ}
+use Rattle.std.proofs.Common.{◌≡◌, ◌⊎◌, List, ℕ, true, ap, sym, subst, inl, inr}
 use Rattle.std.specs.List.{Contains}
-use Rattle.std.specs.Option.{option_map}
+use Rattle.std.specs.Option.{option_copied, option_map}
 use Rattle.std.specs.declared.option.Option.{Option}
 use Rattle.be_query.specs.View.{formula}
-use Rattle.be_value.specs.Key.{key}
-use Rattle.be_value.specs.declared.values.Value.{Value}
-use Rattle.be_volume.specs.Keys.{IsKey, IsNextKey}
 use Rattle.be_volume.specs.Query.{sat}
-use Rattle.be_plan.specs.Narrow.{IsInner, is_above}
-use Rattle.be_plan.specs.Walk.{HasCome}
-use Rattle.be_plan.proofs.Ends.{comes_first, comes_next, came_above, came_from_low}
-use Rattle.be_plan.proofs.Passing.{steps, steps_fall}
+use Rattle.be_plan.specs.Narrow.{Within}
+use Rattle.be_plan.specs.Walk.{HasNodes, HasOnly, IsNodeWithin}
+use Rattle.be_plan.proofs.Reaching.{on_ok}
 use Rattle.be_plan.proofs.Seen.{decided_key}
 use Rattle.be_plan.proofs.walks.walk.Goals as goal
 
-pub keys-init : goal.keys-init
-keys-init g c =
-    let Q : List ℕ → Type 0 = λ b. IsNextKey g.volume c.args.name.now b false (option_map (λ k. k.items) c.next_key-next.result) in
-    record {
-      stays = refl;
-      answers = c.next_key-next.ensures.answers g.volume c.requires.1.0;
-      keeps = λ n h. h;
-      satisfy = λ all. all;
-      come = comes_first g.volume (formula c.args.tree.now) c.args.name.now c.args.range.now.low.items (option_map (λ b. b.items) c.args.range.now.high) _ c.args.found.now.items
-          (subst Q c.as_slice.ensures.value (c.next_key-next.ensures.answer g.volume c.requires.1.0));
-    }
+pub nodes_within-requires : goal.nodes_within-requires
+nodes_within-requires g c = (g.volume, c.requires.1.0)
 
-pub pass-requires : goal.pass-requires
-pass-requires g c κs within =
-    let f = formula c.args.tree.now in
-    let name = c.args.name.now in
-    let next = c.in-Some.key.items in
-    let low = c.args.range.now.low.items in
-    let high = option_map (λ b. b.items) c.args.range.now.high in
-    let C : Option (List ℕ) → Type 0 = λ o. HasCome g.volume f name low high o c.keys.found.items in
-    let come : HasCome g.volume f name low high (Some next) c.keys.found.items = subst C (ap (λ o. option_map (λ b. b.items) o) c.in-Some.is) c.keys.invariant.come in
-    let P : List ℕ → Type 0 = λ k. IsKey g.volume name k in
-    let to : is_above high next ≡ false = ap (is_above high) (sym c.as_slice-in-Some.ensures.value) ∙ sym c.is_above.ensures ∙ c.if-is_above.false in
-    let Q : List ℕ → Type 0 = λ k. (h : IsKey g.volume name k) → IsInner h.node → sat g.volume f h.node ≡ true in (
-      within,
-      (
-        c.keys.invariant.answers,
-        (
-          c.requires.1.1,
-          (
-            subst P (sym c.as_slice-in-Some-2.ensures.value) come.is_next.0,
-            λ d. subst Q (sym c.as_slice-in-Some-2.ensures.value)
-                (λ h inner. decided_key g.volume (g.met.S.Source.sound c.args.source.now g.volume c.requires.1.0) name next h c.args.kind c.requires.1.1
-                f low high (c.decides-decided.ensures d) (came_from_low g.volume f name low high next c.keys.found.items come) to inner),
-          ),
-        ),
-      ),
-    )
-
-pub keys-smaller : goal.keys-smaller
-keys-smaller g c =
-    let name = c.args.name.now in
-    let next = option_map (λ b. b.items) c.next_key-next-in-Some.result in
-    let Q : List ℕ → Type 0 = λ b. IsNextKey g.volume name b true next in
-    let P : Option (List ℕ) → Type 0 = λ o. suc (steps g.volume name next) ≤ steps g.volume name o in
-    subst P (sym (ap (λ o. option_map (λ b. b.items) o) c.in-Some.is))
-    (steps_fall g.volume name c.in-Some.key.items next
-    (subst Q c.as_slice-in-Some-3.ensures.value (c.next_key-next-in-Some.ensures.answer g.volume c.pass.ensures.answers)))
-
-pub keys-preserved : goal.keys-preserved
-keys-preserved g c =
+pub returns-then-decides-clause-satisfy : goal.returns-then-decides-clause-satisfy
+returns-then-decides-clause-satisfy g c = λ all n h.
     let f = formula c.args.tree.now in
     let name = c.args.name.now in
     let low = c.args.range.now.low.items in
     let high = option_map (λ b. b.items) c.args.range.now.high in
-    let next = option_map (λ b. b.items) c.next_key-next-in-Some.result in
-    let C : Option (List ℕ) → Type 0 = λ o. HasCome g.volume f name low high o c.keys.found.items in
-    let come : HasCome g.volume f name low high (Some c.in-Some.key.items) c.keys.found.items = subst C (ap (λ o. option_map (λ b. b.items) o) c.in-Some.is) c.keys.invariant.come in
-    let Q : List ℕ → Type 0 = λ b. IsNextKey g.volume name b true next in
-    let has : (v : Value) (n : ℕ) → n < 2 ^ 64 → c.in-Some.key.items ≡ key v n → sat g.volume f n ≡ true → Contains c.pass.new.found.items n =
-    λ v n fits is holds. c.in_ok-pass.ensures.has v n fits (c.as_slice-in-Some-2.ensures.value ∙ is) holds in
-    record {
-      stays = c.next_key-next-in-Some.ensures.stays ∙ c.pass.ensures.stays ∙ c.keys.invariant.stays;
-      answers = c.next_key-next-in-Some.ensures.answers g.volume c.pass.ensures.answers;
-      keeps = λ n h. c.pass.ensures.keeps n (c.keys.invariant.keeps n h);
-      satisfy = λ all. c.pass.ensures.satisfy (c.keys.invariant.satisfy all);
-      come = comes_next g.volume f name low high c.in-Some.key.items next c.keys.found.items c.pass.new.found.items
-          (g.met.S.Source.sound c.args.source.now g.volume c.requires.1.0) come c.pass.ensures.keeps has
-          (subst Q c.as_slice-in-Some-3.ensures.value (c.next_key-next-in-Some.ensures.answer g.volume c.pass.ensures.answers));
-    }
+    let sound = g.met.S.Source.sound c.args.source.now g.volume c.requires.1.0 in
+    let L : List ℕ → Type 0 = λ l. HasOnly g.volume name l (option_copied c.high_end.result) c.args.found.now.items c.nodes_within.new.found.items in
+    let H : Option (List ℕ) → Type 0 = λ b. HasOnly g.volume name low b c.args.found.now.items c.nodes_within.new.found.items in
+    let only : HasOnly g.volume name low high c.args.found.now.items c.nodes_within.new.found.items =
+    subst H c.high_end.ensures (subst L c.as_slice.ensures.value (c.nodes_within.ensures.only g.volume c.requires.1.0)) in
+    let P : ℕ → Type 0 = λ m. sat g.volume f m ≡ true in
+    let by : Contains c.args.found.now.items n ⊎ IsNodeWithin g.volume name low high n → sat g.volume f n ≡ true =
+    elim [
+      | inl there ↦ all n there
+      | inr w ↦ subst P w.node_is (decided_key g.volume sound name w.key w.is_key c.args.kind c.requires.1.1 f low high (c.decides.ensures c.if-decides.true) w.within.from_low w.within.to_high)
+    ] in
+    by (only n h)
 
-pub returns-then-is_above-clause-has : goal.returns-then-is_above-clause-has
-returns-then-is_above-clause-has g c =
-    let f = formula c.args.tree.now in
+pub returns-then-decides-clause-has : goal.returns-then-decides-clause-has
+returns-then-decides-clause-has g c =
     let name = c.args.name.now in
     let low = c.args.range.now.low.items in
-    let high = option_map (λ b. b.items) c.args.range.now.high in
-    let C : Option (List ℕ) → Type 0 = λ o. HasCome g.volume f name low high o c.keys.found.items in
-    let come : HasCome g.volume f name low high (Some c.in-Some.key.items) c.keys.found.items = subst C (ap (λ o. option_map (λ b. b.items) o) c.in-Some.is) c.keys.invariant.come in
-    came_above g.volume f name low high c.in-Some.key.items c.keys.found.items
-    (ap (is_above high) (sym c.as_slice-in-Some.ensures.value) ∙ sym c.is_above.ensures ∙ c.if-is_above.true) come
+    let found = c.nodes_within.new.found.items in
+    let L : List ℕ → Type 0 = λ l. HasNodes g.volume name l (option_copied c.high_end.result) found in
+    let H : Option (List ℕ) → Type 0 = λ b. HasNodes g.volume name low b found in
+    on_ok c.nodes_within.result (λ has k h w _. subst H c.high_end.ensures (subst L c.as_slice.ensures.value (has g.volume c.requires.1.0)) k h w) c.nodes_within.ensures.has

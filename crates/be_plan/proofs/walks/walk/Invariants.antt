@@ -1,21 +1,4 @@
-use Rattle.std.proofs.Common.{◌≡◌}
-use Rattle.std.specs.Option.{option_map}
-use Rattle.be_query.specs.View.{formula}
-use Rattle.be_plan.specs.Walk.{AllSatisfy, Keeps, HasCome}
-use Rattle.be_plan.proofs.Passing.{steps}
 use Rattle.be_plan.proofs.walks.walk.Given as goal
 
-abbrev pub ghost-pass : goal.ghost-pass
-ghost-pass g a = g.volume
-
-abbrev pub invariant-keys : goal.invariant-keys
-invariant-keys g l = record {
-  stays : g.S.Source.kept l.source ≡ g.S.Source.kept l.initial.source;
-  answers : g.S.Source.answers_for l.source g.volume;
-  keeps : Keeps l.initial.found.items l.found.items;
-  satisfy : AllSatisfy g.volume (formula l.tree) l.initial.found.items → AllSatisfy g.volume (formula l.tree) l.found.items;
-  come : HasCome g.volume (formula l.tree) l.name l.range.low.items (option_map (λ b. b.items) l.range.high) (option_map (λ b. b.items) l.next) l.found.items;
-}
-
-abbrev pub decreases-keys : goal.decreases-keys
-decreases-keys g l = steps g.volume l.name (option_map (λ b. b.items) l.next)
+abbrev pub ghost-visit_all : goal.ghost-visit_all
+ghost-visit_all g a = g.volume

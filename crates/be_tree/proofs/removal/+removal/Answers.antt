@@ -1,19 +1,25 @@
-use Rattle.std.proofs.Common.{◌≡◌, ℕ, suc, [], ◌∷◌, ◌++◌, ◌-◌, ◌+◌, ◌≤◌, List, take, drop, ap, subst, ◌∙◌, length, arith}
+use Rattle.std.proofs.Common.{◌≡◌, ℕ, suc, [], ◌∷◌, ◌++◌, ◌-◌, ◌+◌, ◌≤◌, List, take, drop, ap, sym, subst, refl, ◌∙◌, length, arith}
+use Rattle.std.proofs.lemmas.Bool.Decides.{nat_tests}
 use Rattle.std.proofs.lemmas.List.FromFn.{length-map-range_with_len}
 use Rattle.be_tree.specs.declared.slot.Slot.{Slot}
-use Rattle.be_tree.specs.declared.slot.Slot.TheVariants.{At}
+use Rattle.be_tree.specs.declared.slot.Slot.TheVariants.{At, Branch}
 use Rattle.be_tree.specs.Pair.{Pair}
-use Rattle.be_tree.specs.Key.{without}
+use Rattle.be_tree.specs.Key.{key_cmp, payload_at, without}
+use Rattle.std.specs.Prelude.{true, false}
+use Rattle.std.specs.Ordering.{is_eq}
+use Rattle.be_tree.proofs.Stops.{absent_is, down_read, found_is, passed_absent, passed_stop}
 use Rattle.be_tree.specs.Page.{items_of, item_at, place_of}
-use Rattle.be_tree.specs.Slot.{pairs_of}
-use Rattle.be_tree.specs.Tree.{least_of_root, pairs_at, pages_below}
+use Rattle.be_tree.specs.Slot.{branch_to, IsBranchSlot, pair_of, pairs_of}
+use Rattle.be_tree.specs.Tree.{Becomes, child, least_of_root, pairs_at, pairs_below, pages_below}
+use Rattle.be_tree.proofs.Alone.{one_changed, one_count, one_is_page, one_readable}
 use Rattle.be_tree.proofs.Children.{first_changed, page_count, page_is, page_readable, second_changed, two_changed}
-use Rattle.be_tree.proofs.Frame.{start_trans, unchanged_trans}
+use Rattle.be_tree.proofs.Frame.{start_trans, swaps_start, unchanged_trans}
 use Rattle.be_tree.proofs.Joins.{left_changed, left_in_hand, left_length, right_changed, right_in_hand, right_length}
 use Rattle.be_tree.proofs.Neighbours.{apart, left_count, left_page, left_readable, right_count, right_page, right_readable, slots_until}
-use Rattle.be_tree.proofs.Parts.{on_err}
-use Rattle.be_tree.proofs.Removes.{at_in, key_out, leaf_removed, least_two, rising_without, rising_without_left, rising_without_right}
-use Rattle.be_tree.proofs.Slots.{items_count}
+use Rattle.be_tree.proofs.Parts.{all_one, on_err}
+use Rattle.be_tree.proofs.Puts.{becomes_given_up, becomes_trans, held_after}
+use Rattle.be_tree.proofs.Removes.{at_in, key_out, leaf_removed, least_two, payload_leaf, rising_without, rising_without_left, rising_without_right}
+use Rattle.be_tree.proofs.Slots.{branches_ready, items_count}
 use Rattle.be_tree.proofs.removal.+removal.Goals as goal
 
 pub remove_at-slots_without-requires-clause-in_page : goal.remove_at-slots_without-requires-clause-in_page
@@ -32,9 +38,9 @@ remove_at-returns-then-level-eq0-clause-ok g t c =
     let pair = c.args.pair.now in
     let at = c.saturating_sub-at.result in
     let same1 = c.rank.ensures.unchanged in
-    let slots = c.slots_without.result.items in
+    let slots = c.in_ok-slots.slots.items in
     let final = c.slots_without.new.look in
-    let is = subst (λ (w : ℕ → ℕ → ℕ). pairs_of w pair slots ≡ take at (items_of (w page)) ++ (without k (item_at (w page) (place_of at) ∷ []) ++ drop (suc at) (items_of (w page)))) same1.words (c.slots_without.ensures.items pair) in
+    let is = subst (λ (w : ℕ → ℕ → ℕ). pairs_of w pair slots ≡ take at (items_of (w page)) ++ (without k (item_at (w page) (place_of at) ∷ []) ++ drop (suc at) (items_of (w page)))) same1.words (c.in_ok-slots.ensures.items pair) in
     slots_until g.R.Look.kept g.R.Look.standing g.R.Look.words (pages_below level words (items_of (words page))) (without k (pairs_at level words page)) level pair slots old old final (unchanged_trans g.R.Look.kept g.R.Look.standing g.R.Look.words old c.rank.new.look final same1 c.slots_without.ensures.unchanged)
     (leaf_removed g.R.Look.kept g.R.Look.standing g.R.Look.words level page k c.rank.result at old c.requires.tree c.rank.ensures.rank c.saturating_sub-at.ensures c.if-level-eq0.true (pairs_of words pair slots) is)
 
@@ -43,7 +49,7 @@ remove_at-returns-then-level-eq0-clause-some g t c =
     let words = g.R.Look.words c.args.room.now in
     let page = c.args.page in
     let count = ap (λ (w : ℕ → ℕ → ℕ). w page 1) c.rank.ensures.unchanged.words in
-    (omega (arith, c.slots_without.ensures.some, count, items_count (words page)), c.slots_without.ensures.some.1)
+    (omega (arith, c.in_ok-slots.ensures.some, count, items_count (words page)), c.in_ok-slots.ensures.some.1)
 
 pub remove_at-slots_with-requires-clause-readable : goal.remove_at-slots_with-requires-clause-readable
 remove_at-slots_with-requires-clause-readable g t c =
@@ -53,8 +59,8 @@ remove_at-slots_with-requires-clause-readable g t c =
     let level = c.args.level in
     let e : level ≡ suc (level - 1) = omega (arith, c.if-level-eq0.false) in
     let here = c.count_of.new.look in
-    let same = unchanged_trans g.R.Look.kept g.R.Look.standing g.R.Look.words old c.rank.new.look here c.rank.ensures.unchanged c.count_of.ensures.unchanged in
-    let count : c.count_of.result ≡ words page 1 = c.count_of.ensures.count ∙ ap (λ (w : ℕ → ℕ → ℕ). w page 1) c.rank.ensures.unchanged.words in
+    let same = unchanged_trans g.R.Look.kept g.R.Look.standing g.R.Look.words old c.spare_child.new.look here (unchanged_trans g.R.Look.kept g.R.Look.standing g.R.Look.words old c.rank.new.look c.spare_child.new.look c.rank.ensures.unchanged c.spare_child.ensures.unchanged) c.count_of.ensures.unchanged in
+    let count : c.count_of.result ≡ words page 1 = c.count_of.ensures.count ∙ ap (λ (w : ℕ → ℕ → ℕ). w page 1) (c.spare_child.ensures.unchanged.words ∙ c.rank.ensures.unchanged.words) in
     let i : ℕ = c.saturating_sub-at.result in
     let lt : i + 2 ≤ words page 1 = omega (arith, c.if-at-count_of.true, count) in
     let mid = c.remove_left.new.room in
@@ -70,8 +76,8 @@ remove_at-slots_with-requires-clause-page g t c =
     let level = c.args.level in
     let e : level ≡ suc (level - 1) = omega (arith, c.if-level-eq0.false) in
     let here = c.count_of.new.look in
-    let same = unchanged_trans g.R.Look.kept g.R.Look.standing g.R.Look.words old c.rank.new.look here c.rank.ensures.unchanged c.count_of.ensures.unchanged in
-    let count : c.count_of.result ≡ words page 1 = c.count_of.ensures.count ∙ ap (λ (w : ℕ → ℕ → ℕ). w page 1) c.rank.ensures.unchanged.words in
+    let same = unchanged_trans g.R.Look.kept g.R.Look.standing g.R.Look.words old c.spare_child.new.look here (unchanged_trans g.R.Look.kept g.R.Look.standing g.R.Look.words old c.rank.new.look c.spare_child.new.look c.rank.ensures.unchanged c.spare_child.ensures.unchanged) c.count_of.ensures.unchanged in
+    let count : c.count_of.result ≡ words page 1 = c.count_of.ensures.count ∙ ap (λ (w : ℕ → ℕ → ℕ). w page 1) (c.spare_child.ensures.unchanged.words ∙ c.rank.ensures.unchanged.words) in
     let i : ℕ = c.saturating_sub-at.result in
     let lt : i + 2 ≤ words page 1 = omega (arith, c.if-at-count_of.true, count) in
     let mid = c.remove_left.new.room in
@@ -87,8 +93,8 @@ remove_at-slots_with-requires-clause-in_page g t c =
     let level = c.args.level in
     let e : level ≡ suc (level - 1) = omega (arith, c.if-level-eq0.false) in
     let here = c.count_of.new.look in
-    let same = unchanged_trans g.R.Look.kept g.R.Look.standing g.R.Look.words old c.rank.new.look here c.rank.ensures.unchanged c.count_of.ensures.unchanged in
-    let count : c.count_of.result ≡ words page 1 = c.count_of.ensures.count ∙ ap (λ (w : ℕ → ℕ → ℕ). w page 1) c.rank.ensures.unchanged.words in
+    let same = unchanged_trans g.R.Look.kept g.R.Look.standing g.R.Look.words old c.spare_child.new.look here (unchanged_trans g.R.Look.kept g.R.Look.standing g.R.Look.words old c.rank.new.look c.spare_child.new.look c.rank.ensures.unchanged c.spare_child.ensures.unchanged) c.count_of.ensures.unchanged in
+    let count : c.count_of.result ≡ words page 1 = c.count_of.ensures.count ∙ ap (λ (w : ℕ → ℕ → ℕ). w page 1) (c.spare_child.ensures.unchanged.words ∙ c.rank.ensures.unchanged.words) in
     let i : ℕ = c.saturating_sub-at.result in
     let lt : i + 2 ≤ words page 1 = omega (arith, c.if-at-count_of.true, count) in
     let mid = c.remove_left.new.room in
@@ -107,8 +113,8 @@ remove_at-returns-then-at-count_of-clause-ok g t c =
     let tree = c.requires.tree in
     let e : level ≡ suc (level - 1) = omega (arith, c.if-level-eq0.false) in
     let here = c.count_of.new.look in
-    let same = unchanged_trans g.R.Look.kept g.R.Look.standing g.R.Look.words old c.rank.new.look here c.rank.ensures.unchanged c.count_of.ensures.unchanged in
-    let count : c.count_of.result ≡ words page 1 = c.count_of.ensures.count ∙ ap (λ (w : ℕ → ℕ → ℕ). w page 1) c.rank.ensures.unchanged.words in
+    let same = unchanged_trans g.R.Look.kept g.R.Look.standing g.R.Look.words old c.spare_child.new.look here (unchanged_trans g.R.Look.kept g.R.Look.standing g.R.Look.words old c.rank.new.look c.spare_child.new.look c.rank.ensures.unchanged c.spare_child.ensures.unchanged) c.count_of.ensures.unchanged in
+    let count : c.count_of.result ≡ words page 1 = c.count_of.ensures.count ∙ ap (λ (w : ℕ → ℕ → ℕ). w page 1) (c.spare_child.ensures.unchanged.words ∙ c.rank.ensures.unchanged.words) in
     let i : ℕ = at in
     let lt : i + 2 ≤ words page 1 = omega (arith, c.if-at-count_of.true, count) in
     let mid = c.remove_left.new.room in
@@ -128,8 +134,8 @@ remove_at-returns-then-at-count_of-clause-some g t c =
     let tree = c.requires.tree in
     let e : level ≡ suc (level - 1) = omega (arith, c.if-level-eq0.false) in
     let here = c.count_of.new.look in
-    let same = unchanged_trans g.R.Look.kept g.R.Look.standing g.R.Look.words old c.rank.new.look here c.rank.ensures.unchanged c.count_of.ensures.unchanged in
-    let count : c.count_of.result ≡ words page 1 = c.count_of.ensures.count ∙ ap (λ (w : ℕ → ℕ → ℕ). w page 1) c.rank.ensures.unchanged.words in
+    let same = unchanged_trans g.R.Look.kept g.R.Look.standing g.R.Look.words old c.spare_child.new.look here (unchanged_trans g.R.Look.kept g.R.Look.standing g.R.Look.words old c.rank.new.look c.spare_child.new.look c.rank.ensures.unchanged c.spare_child.ensures.unchanged) c.count_of.ensures.unchanged in
+    let count : c.count_of.result ≡ words page 1 = c.count_of.ensures.count ∙ ap (λ (w : ℕ → ℕ → ℕ). w page 1) (c.spare_child.ensures.unchanged.words ∙ c.rank.ensures.unchanged.words) in
     let i : ℕ = c.saturating_sub-at.result in
     let lt : i + 2 ≤ words page 1 = omega (arith, c.if-at-count_of.true, count) in
     let mid = c.remove_left.new.room in
@@ -146,7 +152,7 @@ remove_at-overflow_sub-at g t c =
     let level = c.args.level in
     let at = c.saturating_sub-at.result in
     let e : level ≡ suc (level - 1) = omega (arith, c.if-level-eq0.false) in
-    let count : c.count_of.result ≡ words page 1 = c.count_of.ensures.count ∙ ap (λ (w : ℕ → ℕ → ℕ). w page 1) c.rank.ensures.unchanged.words in
+    let count : c.count_of.result ≡ words page 1 = c.count_of.ensures.count ∙ ap (λ (w : ℕ → ℕ → ℕ). w page 1) (c.spare_child.ensures.unchanged.words ∙ c.rank.ensures.unchanged.words) in
     let two = least_two g.R.Look.kept g.R.Look.standing g.R.Look.words level page c.args.key.now c.rank.result at old c.requires.tree c.rank.ensures.rank c.saturating_sub-at.ensures (level - 1) e in
     let is : at ≡ at - 1 + 1 = omega (arith, c.if-at-count_of.false, count, two) in
     omega (arith, is)
@@ -164,8 +170,8 @@ remove_at-two_children-before-requires-clause-in_page g t c =
     let place = c.saturating_sub-at.ensures in
     let inside = at_in g.R.Look.kept g.R.Look.standing g.R.Look.words level page k c.rank.result at old tree rank place in
     let e : level ≡ suc (level - 1) = omega (arith, c.if-level-eq0.false) in
-    let same = unchanged_trans g.R.Look.kept g.R.Look.standing g.R.Look.words old c.rank.new.look c.count_of.new.look c.rank.ensures.unchanged c.count_of.ensures.unchanged in
-    let count : c.count_of.result ≡ words page 1 = c.count_of.ensures.count ∙ ap (λ (w : ℕ → ℕ → ℕ). w page 1) c.rank.ensures.unchanged.words in
+    let same = unchanged_trans g.R.Look.kept g.R.Look.standing g.R.Look.words old c.spare_child.new.look c.count_of.new.look (unchanged_trans g.R.Look.kept g.R.Look.standing g.R.Look.words old c.rank.new.look c.spare_child.new.look c.rank.ensures.unchanged c.spare_child.ensures.unchanged) c.count_of.ensures.unchanged in
+    let count : c.count_of.result ≡ words page 1 = c.count_of.ensures.count ∙ ap (λ (w : ℕ → ℕ → ℕ). w page 1) (c.spare_child.ensures.unchanged.words ∙ c.rank.ensures.unchanged.words) in
     let two = least_two g.R.Look.kept g.R.Look.standing g.R.Look.words level page k c.rank.result at old tree rank place (level - 1) e in
     let is : at ≡ at - 1 + 1 = omega (arith, c.if-at-count_of.false, count, two) in
     let i : ℕ = at - 1 in
@@ -180,7 +186,7 @@ remove_at-overflow_sub-at-2 g t c =
     let level = c.args.level in
     let at = c.saturating_sub-at.result in
     let e : level ≡ suc (level - 1) = omega (arith, c.if-level-eq0.false) in
-    let count : c.count_of.result ≡ words page 1 = c.count_of.ensures.count ∙ ap (λ (w : ℕ → ℕ → ℕ). w page 1) c.rank.ensures.unchanged.words in
+    let count : c.count_of.result ≡ words page 1 = c.count_of.ensures.count ∙ ap (λ (w : ℕ → ℕ → ℕ). w page 1) (c.spare_child.ensures.unchanged.words ∙ c.rank.ensures.unchanged.words) in
     let two = least_two g.R.Look.kept g.R.Look.standing g.R.Look.words level page c.args.key.now c.rank.result at old c.requires.tree c.rank.ensures.rank c.saturating_sub-at.ensures (level - 1) e in
     let is : at ≡ at - 1 + 1 = omega (arith, c.if-at-count_of.false, count, two) in
     omega (arith, is)
@@ -199,8 +205,8 @@ remove_at-slots_with-requires-2-clause-readable g t c =
     let inside = at_in g.R.Look.kept g.R.Look.standing g.R.Look.words level page k c.rank.result at old tree rank place in
     let e : level ≡ suc (level - 1) = omega (arith, c.if-level-eq0.false) in
     let here = c.count_of.new.look in
-    let same = unchanged_trans g.R.Look.kept g.R.Look.standing g.R.Look.words old c.rank.new.look here c.rank.ensures.unchanged c.count_of.ensures.unchanged in
-    let count : c.count_of.result ≡ words page 1 = c.count_of.ensures.count ∙ ap (λ (w : ℕ → ℕ → ℕ). w page 1) c.rank.ensures.unchanged.words in
+    let same = unchanged_trans g.R.Look.kept g.R.Look.standing g.R.Look.words old c.spare_child.new.look here (unchanged_trans g.R.Look.kept g.R.Look.standing g.R.Look.words old c.rank.new.look c.spare_child.new.look c.rank.ensures.unchanged c.spare_child.ensures.unchanged) c.count_of.ensures.unchanged in
+    let count : c.count_of.result ≡ words page 1 = c.count_of.ensures.count ∙ ap (λ (w : ℕ → ℕ → ℕ). w page 1) (c.spare_child.ensures.unchanged.words ∙ c.rank.ensures.unchanged.words) in
     let two = least_two g.R.Look.kept g.R.Look.standing g.R.Look.words level page k c.rank.result at old tree rank place (level - 1) e in
     let is : at ≡ at - 1 + 1 = omega (arith, c.if-at-count_of.false, count, two) in
     let i : ℕ = at - 1 in
@@ -224,8 +230,8 @@ remove_at-slots_with-requires-2-clause-page g t c =
     let inside = at_in g.R.Look.kept g.R.Look.standing g.R.Look.words level page k c.rank.result at old tree rank place in
     let e : level ≡ suc (level - 1) = omega (arith, c.if-level-eq0.false) in
     let here = c.count_of.new.look in
-    let same = unchanged_trans g.R.Look.kept g.R.Look.standing g.R.Look.words old c.rank.new.look here c.rank.ensures.unchanged c.count_of.ensures.unchanged in
-    let count : c.count_of.result ≡ words page 1 = c.count_of.ensures.count ∙ ap (λ (w : ℕ → ℕ → ℕ). w page 1) c.rank.ensures.unchanged.words in
+    let same = unchanged_trans g.R.Look.kept g.R.Look.standing g.R.Look.words old c.spare_child.new.look here (unchanged_trans g.R.Look.kept g.R.Look.standing g.R.Look.words old c.rank.new.look c.spare_child.new.look c.rank.ensures.unchanged c.spare_child.ensures.unchanged) c.count_of.ensures.unchanged in
+    let count : c.count_of.result ≡ words page 1 = c.count_of.ensures.count ∙ ap (λ (w : ℕ → ℕ → ℕ). w page 1) (c.spare_child.ensures.unchanged.words ∙ c.rank.ensures.unchanged.words) in
     let two = least_two g.R.Look.kept g.R.Look.standing g.R.Look.words level page k c.rank.result at old tree rank place (level - 1) e in
     let is : at ≡ at - 1 + 1 = omega (arith, c.if-at-count_of.false, count, two) in
     let i : ℕ = at - 1 in
@@ -249,8 +255,8 @@ remove_at-slots_with-requires-2-clause-in_page g t c =
     let inside = at_in g.R.Look.kept g.R.Look.standing g.R.Look.words level page k c.rank.result at old tree rank place in
     let e : level ≡ suc (level - 1) = omega (arith, c.if-level-eq0.false) in
     let here = c.count_of.new.look in
-    let same = unchanged_trans g.R.Look.kept g.R.Look.standing g.R.Look.words old c.rank.new.look here c.rank.ensures.unchanged c.count_of.ensures.unchanged in
-    let count : c.count_of.result ≡ words page 1 = c.count_of.ensures.count ∙ ap (λ (w : ℕ → ℕ → ℕ). w page 1) c.rank.ensures.unchanged.words in
+    let same = unchanged_trans g.R.Look.kept g.R.Look.standing g.R.Look.words old c.spare_child.new.look here (unchanged_trans g.R.Look.kept g.R.Look.standing g.R.Look.words old c.rank.new.look c.spare_child.new.look c.rank.ensures.unchanged c.spare_child.ensures.unchanged) c.count_of.ensures.unchanged in
+    let count : c.count_of.result ≡ words page 1 = c.count_of.ensures.count ∙ ap (λ (w : ℕ → ℕ → ℕ). w page 1) (c.spare_child.ensures.unchanged.words ∙ c.rank.ensures.unchanged.words) in
     let two = least_two g.R.Look.kept g.R.Look.standing g.R.Look.words level page k c.rank.result at old tree rank place (level - 1) e in
     let is : at ≡ at - 1 + 1 = omega (arith, c.if-at-count_of.false, count, two) in
     let i : ℕ = at - 1 in
@@ -274,8 +280,8 @@ remove_at-returns-clause-ok g t c =
     let inside = at_in g.R.Look.kept g.R.Look.standing g.R.Look.words level page k c.rank.result at old tree rank place in
     let e : level ≡ suc (level - 1) = omega (arith, c.if-level-eq0.false) in
     let here = c.count_of.new.look in
-    let same = unchanged_trans g.R.Look.kept g.R.Look.standing g.R.Look.words old c.rank.new.look here c.rank.ensures.unchanged c.count_of.ensures.unchanged in
-    let count : c.count_of.result ≡ words page 1 = c.count_of.ensures.count ∙ ap (λ (w : ℕ → ℕ → ℕ). w page 1) c.rank.ensures.unchanged.words in
+    let same = unchanged_trans g.R.Look.kept g.R.Look.standing g.R.Look.words old c.spare_child.new.look here (unchanged_trans g.R.Look.kept g.R.Look.standing g.R.Look.words old c.rank.new.look c.spare_child.new.look c.rank.ensures.unchanged c.spare_child.ensures.unchanged) c.count_of.ensures.unchanged in
+    let count : c.count_of.result ≡ words page 1 = c.count_of.ensures.count ∙ ap (λ (w : ℕ → ℕ → ℕ). w page 1) (c.spare_child.ensures.unchanged.words ∙ c.rank.ensures.unchanged.words) in
     let two = least_two g.R.Look.kept g.R.Look.standing g.R.Look.words level page k c.rank.result at old tree rank place (level - 1) e in
     let is : at ≡ at - 1 + 1 = omega (arith, c.if-at-count_of.false, count, two) in
     let i : ℕ = at - 1 in
@@ -302,8 +308,8 @@ remove_at-returns-clause-some g t c =
     let inside = at_in g.R.Look.kept g.R.Look.standing g.R.Look.words level page k c.rank.result at old tree rank place in
     let e : level ≡ suc (level - 1) = omega (arith, c.if-level-eq0.false) in
     let here = c.count_of.new.look in
-    let same = unchanged_trans g.R.Look.kept g.R.Look.standing g.R.Look.words old c.rank.new.look here c.rank.ensures.unchanged c.count_of.ensures.unchanged in
-    let count : c.count_of.result ≡ words page 1 = c.count_of.ensures.count ∙ ap (λ (w : ℕ → ℕ → ℕ). w page 1) c.rank.ensures.unchanged.words in
+    let same = unchanged_trans g.R.Look.kept g.R.Look.standing g.R.Look.words old c.spare_child.new.look here (unchanged_trans g.R.Look.kept g.R.Look.standing g.R.Look.words old c.rank.new.look c.spare_child.new.look c.rank.ensures.unchanged c.spare_child.ensures.unchanged) c.count_of.ensures.unchanged in
+    let count : c.count_of.result ≡ words page 1 = c.count_of.ensures.count ∙ ap (λ (w : ℕ → ℕ → ℕ). w page 1) (c.spare_child.ensures.unchanged.words ∙ c.rank.ensures.unchanged.words) in
     let two = least_two g.R.Look.kept g.R.Look.standing g.R.Look.words level page k c.rank.result at old tree rank place (level - 1) e in
     let is : at ≡ at - 1 + 1 = omega (arith, c.if-at-count_of.false, count, two) in
     let i : ℕ = at - 1 in
@@ -313,6 +319,297 @@ remove_at-returns-clause-some g t c =
     let us = pairs_of (g.R.Look.words mid) c.args.pair.now c.in_ok-two-2.two.items in
     let page_kept = page_count g.R.Look.kept g.R.Look.standing g.R.Look.words level (level - 1) (least_of_root level) page i c.two_children-before.result.0 c.two_children-before.result.1 old here c.two_children-before.new.look e tree lt same c.two_children-before.ensures.unchanged c.two_children-before.ensures.left c.two_children-before.ensures.right f us mid c.in_ok-two-2.ensures.ok in
     (omega (arith, c.slots_with-2.ensures.len, c.in_ok-two-2.ensures.some, page_kept, items_count (words page)), omega (arith, c.slots_with-2.ensures.len, c.in_ok-two-2.ensures.some, page_kept, tree.node.is_page.few))
+
+pub remove_at-spare_child-requires-clause-in_page : goal.remove_at-spare_child-requires-clause-in_page
+remove_at-spare_child-requires-clause-in_page g t c =
+    let page = c.args.page in
+    let inside = at_in g.R.Look.kept g.R.Look.standing g.R.Look.words c.args.level page c.args.key.now c.rank.result c.saturating_sub-at.result c.args.room.now c.requires.tree c.rank.ensures.rank c.saturating_sub-at.ensures in
+    omega (arith, inside, ap (λ (w : ℕ → ℕ → ℕ). w page 1) c.rank.ensures.unchanged.words)
+
+pub remove_at-slots_with_one-requires-clause-readable : goal.remove_at-slots_with_one-requires-clause-readable
+remove_at-slots_with_one-requires-clause-readable g t c =
+    let old = c.args.room.now in
+    let words = g.R.Look.words old in
+    let page = c.args.page in
+    let level = c.args.level in
+    let k = c.args.key.now in
+    let at = c.saturating_sub-at.result in
+    let tree = c.requires.tree in
+    let inside = at_in g.R.Look.kept g.R.Look.standing g.R.Look.words level page k c.rank.result at old tree c.rank.ensures.rank c.saturating_sub-at.ensures in
+    let e : level ≡ suc (level - 1) = omega (arith, c.if-level-eq0.false) in
+    let read = c.spare_child.new.look in
+    let same = unchanged_trans g.R.Look.kept g.R.Look.standing g.R.Look.words old c.rank.new.look read c.rank.ensures.unchanged c.spare_child.ensures.unchanged in
+    let is = c.in-Some.ensures.child ∙ ap (λ (w : ℕ → ℕ → ℕ). child (item_at (w page) (place_of at))) c.rank.ensures.unchanged.words in
+    let mid = c.remove_alone.new.room in
+    let pair = c.args.pair.now in
+    let us = pair_of (g.R.Look.words mid) pair c.in_ok-slot.slot ∷ [] in
+    one_readable g.R.Look.kept g.R.Look.standing g.R.Look.words level (level - 1) (least_of_root level) page at c.in-Some.below old read e tree inside same is (without k) us mid c.in_ok-slot.ensures.ok
+
+pub remove_at-slots_with_one-requires-clause-page : goal.remove_at-slots_with_one-requires-clause-page
+remove_at-slots_with_one-requires-clause-page g t c =
+    let old = c.args.room.now in
+    let words = g.R.Look.words old in
+    let page = c.args.page in
+    let level = c.args.level in
+    let k = c.args.key.now in
+    let at = c.saturating_sub-at.result in
+    let tree = c.requires.tree in
+    let inside = at_in g.R.Look.kept g.R.Look.standing g.R.Look.words level page k c.rank.result at old tree c.rank.ensures.rank c.saturating_sub-at.ensures in
+    let e : level ≡ suc (level - 1) = omega (arith, c.if-level-eq0.false) in
+    let read = c.spare_child.new.look in
+    let same = unchanged_trans g.R.Look.kept g.R.Look.standing g.R.Look.words old c.rank.new.look read c.rank.ensures.unchanged c.spare_child.ensures.unchanged in
+    let is = c.in-Some.ensures.child ∙ ap (λ (w : ℕ → ℕ → ℕ). child (item_at (w page) (place_of at))) c.rank.ensures.unchanged.words in
+    let mid = c.remove_alone.new.room in
+    let pair = c.args.pair.now in
+    let us = pair_of (g.R.Look.words mid) pair c.in_ok-slot.slot ∷ [] in
+    one_is_page g.R.Look.kept g.R.Look.standing g.R.Look.words level (level - 1) (least_of_root level) page at c.in-Some.below old read e tree inside same is (without k) us mid c.in_ok-slot.ensures.ok
+
+pub remove_at-slots_with_one-requires-clause-in_page : goal.remove_at-slots_with_one-requires-clause-in_page
+remove_at-slots_with_one-requires-clause-in_page g t c =
+    let old = c.args.room.now in
+    let words = g.R.Look.words old in
+    let page = c.args.page in
+    let level = c.args.level in
+    let k = c.args.key.now in
+    let at = c.saturating_sub-at.result in
+    let tree = c.requires.tree in
+    let inside = at_in g.R.Look.kept g.R.Look.standing g.R.Look.words level page k c.rank.result at old tree c.rank.ensures.rank c.saturating_sub-at.ensures in
+    let e : level ≡ suc (level - 1) = omega (arith, c.if-level-eq0.false) in
+    let read = c.spare_child.new.look in
+    let same = unchanged_trans g.R.Look.kept g.R.Look.standing g.R.Look.words old c.rank.new.look read c.rank.ensures.unchanged c.spare_child.ensures.unchanged in
+    let is = c.in-Some.ensures.child ∙ ap (λ (w : ℕ → ℕ → ℕ). child (item_at (w page) (place_of at))) c.rank.ensures.unchanged.words in
+    let mid = c.remove_alone.new.room in
+    let pair = c.args.pair.now in
+    let us = pair_of (g.R.Look.words mid) pair c.in_ok-slot.slot ∷ [] in
+    omega (arith, inside, one_count g.R.Look.kept g.R.Look.standing g.R.Look.words level (level - 1) (least_of_root level) page at c.in-Some.below old read e tree inside same is (without k) us mid c.in_ok-slot.ensures.ok)
+
+pub remove_at-returns-in-Some-clause-ok : goal.remove_at-returns-in-Some-clause-ok
+remove_at-returns-in-Some-clause-ok g t c =
+    let old = c.args.room.now in
+    let words = g.R.Look.words old in
+    let page = c.args.page in
+    let level = c.args.level in
+    let k = c.args.key.now in
+    let at = c.saturating_sub-at.result in
+    let tree = c.requires.tree in
+    let inside = at_in g.R.Look.kept g.R.Look.standing g.R.Look.words level page k c.rank.result at old tree c.rank.ensures.rank c.saturating_sub-at.ensures in
+    let e : level ≡ suc (level - 1) = omega (arith, c.if-level-eq0.false) in
+    let read = c.spare_child.new.look in
+    let same = unchanged_trans g.R.Look.kept g.R.Look.standing g.R.Look.words old c.rank.new.look read c.rank.ensures.unchanged c.spare_child.ensures.unchanged in
+    let is = c.in-Some.ensures.child ∙ ap (λ (w : ℕ → ℕ → ℕ). child (item_at (w page) (place_of at))) c.rank.ensures.unchanged.words in
+    let mid = c.remove_alone.new.room in
+    let pair = c.args.pair.now in
+    let us = pair_of (g.R.Look.words mid) pair c.in_ok-slot.slot ∷ [] in
+    let all = key_out g.R.Look.kept g.R.Look.standing g.R.Look.words level page k c.rank.result at old tree c.rank.ensures.rank c.saturating_sub-at.ensures (level - 1) e in
+    one_changed g.R.Look.kept g.R.Look.standing g.R.Look.words level (level - 1) (least_of_root level) page at c.in-Some.below old read e tree inside same is (without k) us mid c.in_ok-slot.ensures.ok (without k) (rising_without k) all pair c.slots_with_one.result.items c.slots_with_one.new.look (c.slots_with_one.ensures.items pair) c.slots_with_one.ensures.unchanged
+
+pub remove_at-returns-in-Some-clause-some : goal.remove_at-returns-in-Some-clause-some
+remove_at-returns-in-Some-clause-some g t c =
+    let old = c.args.room.now in
+    let words = g.R.Look.words old in
+    let page = c.args.page in
+    let level = c.args.level in
+    let k = c.args.key.now in
+    let at = c.saturating_sub-at.result in
+    let tree = c.requires.tree in
+    let inside = at_in g.R.Look.kept g.R.Look.standing g.R.Look.words level page k c.rank.result at old tree c.rank.ensures.rank c.saturating_sub-at.ensures in
+    let e : level ≡ suc (level - 1) = omega (arith, c.if-level-eq0.false) in
+    let read = c.spare_child.new.look in
+    let same = unchanged_trans g.R.Look.kept g.R.Look.standing g.R.Look.words old c.rank.new.look read c.rank.ensures.unchanged c.spare_child.ensures.unchanged in
+    let is = c.in-Some.ensures.child ∙ ap (λ (w : ℕ → ℕ → ℕ). child (item_at (w page) (place_of at))) c.rank.ensures.unchanged.words in
+    let mid = c.remove_alone.new.room in
+    let pair = c.args.pair.now in
+    let us = pair_of (g.R.Look.words mid) pair c.in_ok-slot.slot ∷ [] in
+    let count = one_count g.R.Look.kept g.R.Look.standing g.R.Look.words level (level - 1) (least_of_root level) page at c.in-Some.below old read e tree inside same is (without k) us mid c.in_ok-slot.ensures.ok in
+    (omega (arith, c.slots_with_one.ensures.len, count, items_count (words page)), omega (arith, c.slots_with_one.ensures.len, count, tree.node.is_page.few))
+
+pub remove_alone-write_branch-requires-clause-enough : goal.remove_alone-write_branch-requires-clause-enough
+remove_alone-write_branch-requires-clause-enough g t c =
+    omega (arith, c.in_ok-slots.ensures.some, items_count (g.R.Look.words c.args.room.now c.args.below), c.requires.spare, ap length c.deref.ensures.0)
+
+pub remove_alone-returns-in_err-page-clause-err : goal.remove_alone-returns-in_err-page-clause-err
+remove_alone-returns-in_err-page-clause-err g t c =
+    let old = c.args.room.now in
+    let mid = c.remove_at.new.room in
+    let level = c.args.level in
+    let first = swaps_start g.R.Look.kept g.R.Look.standing g.R.Look.words (pages_below level (g.R.Look.words old) (items_of (g.R.Look.words old c.args.below))) (pages_below level (g.R.Look.words mid) (pairs_of (g.R.Look.words mid) c.args.pair.now c.in_ok-slots.slots.items)) old mid c.in_ok-slots.ensures.ok.swaps in
+    on_err _ (start_trans g.R.Look.kept g.R.Look.standing g.R.Look.words old mid c.write_branch.new.room first c.in_err-page.ensures.err)
+
+pub remove_alone-give_up-requires-clause-held : goal.remove_alone-give_up-requires-clause-held
+remove_alone-give_up-requires-clause-held g t c =
+    let old = c.args.room.now in
+    let words = g.R.Look.words old in
+    let mid = g.R.Look.words c.remove_at.new.room in
+    let last = c.write_branch.new.room in
+    let level = c.args.level in
+    let pair = c.args.pair.now in
+    let xs = pairs_of mid pair c.in_ok-slots.slots.items in
+    let us = branch_to (g.R.Look.words last) c.in_ok-page.page ∷ [] in
+    let before = pages_below level words (items_of (words c.args.below)) in
+    let all = without c.args.key.now (pairs_at level words c.args.below) in
+    let packed = subst (λ (ss : List Slot). Becomes g.R.Look.kept g.R.Look.standing g.R.Look.words (pages_below level mid (pairs_of mid pair ss)) (pairs_below level mid (pairs_of mid pair ss)) (suc level) us c.remove_at.new.room last) c.deref.ensures.0 c.in_ok-page.ensures.ok in
+    let both = becomes_trans g.R.Look.kept g.R.Look.standing g.R.Look.words before all level (suc level) xs us old c.remove_at.new.room last c.in_ok-slots.ensures.ok packed in
+    held_after g.R.Look.kept g.R.Look.standing g.R.Look.words before (pages_below (suc level) (g.R.Look.words last) us) c.args.below old last both.swaps c.requires.tree.page_once c.requires.tree.page_in_use
+
+pub remove_alone-returns-clause-ok : goal.remove_alone-returns-clause-ok
+remove_alone-returns-clause-ok g t c =
+    let old = c.args.room.now in
+    let words = g.R.Look.words old in
+    let mid = g.R.Look.words c.remove_at.new.room in
+    let last = c.write_branch.new.room in
+    let level = c.args.level in
+    let pair = c.args.pair.now in
+    let xs = pairs_of mid pair c.in_ok-slots.slots.items in
+    let us = branch_to (g.R.Look.words last) c.in_ok-page.page ∷ [] in
+    let before = pages_below level words (items_of (words c.args.below)) in
+    let all = without c.args.key.now (pairs_at level words c.args.below) in
+    let packed = subst (λ (ss : List Slot). Becomes g.R.Look.kept g.R.Look.standing g.R.Look.words (pages_below level mid (pairs_of mid pair ss)) (pairs_below level mid (pairs_of mid pair ss)) (suc level) us c.remove_at.new.room last) c.deref.ensures.0 c.in_ok-page.ensures.ok in
+    let both = becomes_trans g.R.Look.kept g.R.Look.standing g.R.Look.words before all level (suc level) xs us old c.remove_at.new.room last c.in_ok-slots.ensures.ok packed in
+    let new = c.give_up.new.self in
+    let given = becomes_given_up g.R.Look.kept g.R.Look.standing g.R.Look.words before all (suc level) us c.args.below old last new both c.requires.tree.page_once c.requires.tree.page_in_use c.give_up.ensures.kept c.give_up.ensures.words
+    (c.give_up.ensures.standing c.args.below ∙ grind (arith, nat_tests)) (λ q ne. c.give_up.ensures.standing q ∙ grind (arith, nat_tests)) in
+    let now = subst (λ (w : ℕ → ℕ → ℕ). Becomes g.R.Look.kept g.R.Look.standing g.R.Look.words (c.args.below ∷ before) all (suc level) (branch_to w c.in_ok-page.page ∷ []) old new) (sym c.give_up.ensures.words) given in
+    now
+
+pub remove_alone-returns-clause-ready : goal.remove_alone-returns-clause-ready
+remove_alone-returns-clause-ready g t c =
+    let old = c.args.room.now in
+    let words = g.R.Look.words old in
+    let mid = g.R.Look.words c.remove_at.new.room in
+    let last = c.write_branch.new.room in
+    let level = c.args.level in
+    let pair = c.args.pair.now in
+    let xs = pairs_of mid pair c.in_ok-slots.slots.items in
+    let us = branch_to (g.R.Look.words last) c.in_ok-page.page ∷ [] in
+    let before = pages_below level words (items_of (words c.args.below)) in
+    let all = without c.args.key.now (pairs_at level words c.args.below) in
+    let packed = subst (λ (ss : List Slot). Becomes g.R.Look.kept g.R.Look.standing g.R.Look.words (pages_below level mid (pairs_of mid pair ss)) (pairs_below level mid (pairs_of mid pair ss)) (suc level) us c.remove_at.new.room last) c.deref.ensures.0 c.in_ok-page.ensures.ok in
+    let both = becomes_trans g.R.Look.kept g.R.Look.standing g.R.Look.words before all level (suc level) xs us old c.remove_at.new.room last c.in_ok-slots.ensures.ok packed in
+    let new = c.give_up.new.self in
+    let given = becomes_given_up g.R.Look.kept g.R.Look.standing g.R.Look.words before all (suc level) us c.args.below old last new both c.requires.tree.page_once c.requires.tree.page_in_use c.give_up.ensures.kept c.give_up.ensures.words
+    (c.give_up.ensures.standing c.args.below ∙ grind (arith, nat_tests)) (λ q ne. c.give_up.ensures.standing q ∙ grind (arith, nat_tests)) in
+    let now = subst (λ (w : ℕ → ℕ → ℕ). Becomes g.R.Look.kept g.R.Look.standing g.R.Look.words (c.args.below ∷ before) all (suc level) (branch_to w c.in_ok-page.page ∷ []) old new) (sym c.give_up.ensures.words) given in
+    let page = c.in_ok-page.page in
+    branches_ready level (g.R.Look.standing c.give_up.new.self) (g.R.Look.words c.give_up.new.self) c.args.pair.now (Branch page ∷ []) (all_one IsBranchSlot (Branch page) c.in_ok-page.ensures.small) now.below 0 (Branch page) (omega arith)
+
+pub remove_at-returns-then-level-eq0-clause-found : goal.remove_at-returns-then-level-eq0-clause-found
+remove_at-returns-then-level-eq0-clause-found g t c =
+    let old = c.args.room.now in
+    let level = c.args.level in
+    let k = c.args.key.now in
+    let at = c.saturating_sub-at.result in
+    let words = g.R.Look.words old in
+    let item = item_at (words c.args.page) (place_of at) in
+    let is = payload_leaf g.R.Look.kept g.R.Look.standing g.R.Look.words level c.args.page k c.rank.result at old c.requires.tree c.rank.ensures.rank c.saturating_sub-at.ensures c.if-level-eq0.true in
+    found_is (payload_at (pairs_at level words c.args.page) k) (is_eq (key_cmp item.key k)) item.payload is
+    (subst (λ (w : ℕ → ℕ → ℕ). is_eq (key_cmp (item_at (w c.args.page) (place_of at)).key k) ≡ true) c.rank.ensures.unchanged.words c.in_ok-slots.ensures.found)
+
+pub remove_at-returns-in_err-slots-clause-stopped : goal.remove_at-returns-in_err-slots-clause-stopped
+remove_at-returns-in_err-slots-clause-stopped g t c =
+    let old = c.args.room.now in
+    let level = c.args.level in
+    let k = c.args.key.now in
+    let at = c.saturating_sub-at.result in
+    let words = g.R.Look.words old in
+    let item = item_at (words c.args.page) (place_of at) in
+    let is = payload_leaf g.R.Look.kept g.R.Look.standing g.R.Look.words level c.args.page k c.rank.result at old c.requires.tree c.rank.ensures.rank c.saturating_sub-at.ensures c.if-level-eq0.true in
+    let told = c.in_err-slots.ensures.absent in
+    passed_absent c.from_residual.result c.in_err-slots.field-0.0 _ _ c.from_residual.ensures.1 told.0 (
+      absent_is (payload_at (pairs_at level words c.args.page) k) (is_eq (key_cmp item.key k)) item.payload is
+          (subst (λ (w : ℕ → ℕ → ℕ). is_eq (key_cmp (item_at (w c.args.page) (place_of at)).key k) ≡ false) c.rank.ensures.unchanged.words told.1),
+      unchanged_trans g.R.Look.kept g.R.Look.standing g.R.Look.words old c.rank.new.look c.slots_without.new.look c.rank.ensures.unchanged c.slots_without.ensures.unchanged,
+    )
+
+pub remove_at-returns-in-Some-clause-found : goal.remove_at-returns-in-Some-clause-found
+remove_at-returns-in-Some-clause-found g t c =
+    let old = c.args.room.now in
+    let level = c.args.level in
+    let k = c.args.key.now in
+    let at = c.saturating_sub-at.result in
+    let e : level ≡ suc (level - 1) = omega (arith, c.if-level-eq0.false) in
+    let read = c.spare_child.new.look in
+    let here = down_read g.R.Look.kept g.R.Look.standing g.R.Look.words level c.args.page k c.rank.result at old c.requires.tree c.rank.ensures.rank c.saturating_sub-at.ensures (level - 1) e c.in-Some.below at c.rank.new.look read refl c.rank.ensures.unchanged c.spare_child.ensures.unchanged c.in-Some.ensures.child in
+    λ none. c.in_ok-slot.ensures.found (sym here ∙ none)
+
+pub remove_at-returns-in_err-slot-clause-stopped : goal.remove_at-returns-in_err-slot-clause-stopped
+remove_at-returns-in_err-slot-clause-stopped g t c =
+    let old = c.args.room.now in
+    let level = c.args.level in
+    let k = c.args.key.now in
+    let at = c.saturating_sub-at.result in
+    let e : level ≡ suc (level - 1) = omega (arith, c.if-level-eq0.false) in
+    let read = c.spare_child.new.look in
+    let here = down_read g.R.Look.kept g.R.Look.standing g.R.Look.words level c.args.page k c.rank.result at old c.requires.tree c.rank.ensures.rank c.saturating_sub-at.ensures (level - 1) e c.in-Some.below at c.rank.new.look read refl c.rank.ensures.unchanged c.spare_child.ensures.unchanged c.in-Some.ensures.child in
+    let same = unchanged_trans g.R.Look.kept g.R.Look.standing g.R.Look.words old c.rank.new.look read c.rank.ensures.unchanged c.spare_child.ensures.unchanged in
+    passed_stop c.from_residual-in_err-slot.result c.in_err-slot.field-0.0 _ _ _ _ c.from_residual-in_err-slot.ensures.1 here (unchanged_trans g.R.Look.kept g.R.Look.standing g.R.Look.words old read c.remove_alone.new.room same) c.in_err-slot.ensures.stopped
+
+pub remove_at-returns-then-at-count_of-clause-found : goal.remove_at-returns-then-at-count_of-clause-found
+remove_at-returns-then-at-count_of-clause-found g t c =
+    let old = c.args.room.now in
+    let level = c.args.level in
+    let k = c.args.key.now in
+    let at = c.saturating_sub-at.result in
+    let e : level ≡ suc (level - 1) = omega (arith, c.if-level-eq0.false) in
+    let words = g.R.Look.words old in
+    let page = c.args.page in
+    let here = c.count_of.new.look in
+    let same = unchanged_trans g.R.Look.kept g.R.Look.standing g.R.Look.words old c.spare_child.new.look here (unchanged_trans g.R.Look.kept g.R.Look.standing g.R.Look.words old c.rank.new.look c.spare_child.new.look c.rank.ensures.unchanged c.spare_child.ensures.unchanged) c.count_of.ensures.unchanged in
+    let read = c.two_children-here.new.look in
+    let down = down_read g.R.Look.kept g.R.Look.standing g.R.Look.words level page k c.rank.result at old c.requires.tree c.rank.ensures.rank c.saturating_sub-at.ensures (level - 1) e c.two_children-here.result.0 at here read refl same c.two_children-here.ensures.unchanged c.two_children-here.ensures.left in
+    λ none. c.in_ok-two.ensures.found (sym down ∙ none)
+
+pub remove_at-returns-in_err-two-clause-stopped : goal.remove_at-returns-in_err-two-clause-stopped
+remove_at-returns-in_err-two-clause-stopped g t c =
+    let old = c.args.room.now in
+    let level = c.args.level in
+    let k = c.args.key.now in
+    let at = c.saturating_sub-at.result in
+    let e : level ≡ suc (level - 1) = omega (arith, c.if-level-eq0.false) in
+    let words = g.R.Look.words old in
+    let page = c.args.page in
+    let here = c.count_of.new.look in
+    let same = unchanged_trans g.R.Look.kept g.R.Look.standing g.R.Look.words old c.spare_child.new.look here (unchanged_trans g.R.Look.kept g.R.Look.standing g.R.Look.words old c.rank.new.look c.spare_child.new.look c.rank.ensures.unchanged c.spare_child.ensures.unchanged) c.count_of.ensures.unchanged in
+    let read = c.two_children-here.new.look in
+    let down = down_read g.R.Look.kept g.R.Look.standing g.R.Look.words level page k c.rank.result at old c.requires.tree c.rank.ensures.rank c.saturating_sub-at.ensures (level - 1) e c.two_children-here.result.0 at here read refl same c.two_children-here.ensures.unchanged c.two_children-here.ensures.left in
+    let since = unchanged_trans g.R.Look.kept g.R.Look.standing g.R.Look.words old here read same c.two_children-here.ensures.unchanged in
+    passed_stop c.from_residual-in_err-two.result c.in_err-two.field-0.0 _ _ _ _ c.from_residual-in_err-two.ensures.1 down (unchanged_trans g.R.Look.kept g.R.Look.standing g.R.Look.words old read c.remove_left.new.room since) c.in_err-two.ensures.stopped
+
+pub remove_at-returns-clause-found : goal.remove_at-returns-clause-found
+remove_at-returns-clause-found g t c =
+    let old = c.args.room.now in
+    let level = c.args.level in
+    let k = c.args.key.now in
+    let at = c.saturating_sub-at.result in
+    let e : level ≡ suc (level - 1) = omega (arith, c.if-level-eq0.false) in
+    let words = g.R.Look.words old in
+    let page = c.args.page in
+    let here = c.count_of.new.look in
+    let same = unchanged_trans g.R.Look.kept g.R.Look.standing g.R.Look.words old c.spare_child.new.look here (unchanged_trans g.R.Look.kept g.R.Look.standing g.R.Look.words old c.rank.new.look c.spare_child.new.look c.rank.ensures.unchanged c.spare_child.ensures.unchanged) c.count_of.ensures.unchanged in
+    let count : c.count_of.result ≡ words page 1 = c.count_of.ensures.count ∙ ap (λ (w : ℕ → ℕ → ℕ). w page 1) (c.spare_child.ensures.unchanged.words ∙ c.rank.ensures.unchanged.words) in
+    let two = least_two g.R.Look.kept g.R.Look.standing g.R.Look.words level page k c.rank.result at old c.requires.tree c.rank.ensures.rank c.saturating_sub-at.ensures (level - 1) e in
+    let is : at ≡ at - 1 + 1 = omega (arith, c.if-at-count_of.false, count, two) in
+    let read = c.two_children-before.new.look in
+    let down = down_read g.R.Look.kept g.R.Look.standing g.R.Look.words level page k c.rank.result at old c.requires.tree c.rank.ensures.rank c.saturating_sub-at.ensures (level - 1) e c.two_children-before.result.1 (at - 1 + 1) here read is same c.two_children-before.ensures.unchanged c.two_children-before.ensures.right in
+    λ none. c.in_ok-two-2.ensures.found (sym down ∙ none)
+
+pub remove_at-returns-in_err-two-2-clause-stopped : goal.remove_at-returns-in_err-two-2-clause-stopped
+remove_at-returns-in_err-two-2-clause-stopped g t c =
+    let old = c.args.room.now in
+    let level = c.args.level in
+    let k = c.args.key.now in
+    let at = c.saturating_sub-at.result in
+    let e : level ≡ suc (level - 1) = omega (arith, c.if-level-eq0.false) in
+    let words = g.R.Look.words old in
+    let page = c.args.page in
+    let here = c.count_of.new.look in
+    let same = unchanged_trans g.R.Look.kept g.R.Look.standing g.R.Look.words old c.spare_child.new.look here (unchanged_trans g.R.Look.kept g.R.Look.standing g.R.Look.words old c.rank.new.look c.spare_child.new.look c.rank.ensures.unchanged c.spare_child.ensures.unchanged) c.count_of.ensures.unchanged in
+    let count : c.count_of.result ≡ words page 1 = c.count_of.ensures.count ∙ ap (λ (w : ℕ → ℕ → ℕ). w page 1) (c.spare_child.ensures.unchanged.words ∙ c.rank.ensures.unchanged.words) in
+    let two = least_two g.R.Look.kept g.R.Look.standing g.R.Look.words level page k c.rank.result at old c.requires.tree c.rank.ensures.rank c.saturating_sub-at.ensures (level - 1) e in
+    let is : at ≡ at - 1 + 1 = omega (arith, c.if-at-count_of.false, count, two) in
+    let read = c.two_children-before.new.look in
+    let down = down_read g.R.Look.kept g.R.Look.standing g.R.Look.words level page k c.rank.result at old c.requires.tree c.rank.ensures.rank c.saturating_sub-at.ensures (level - 1) e c.two_children-before.result.1 (at - 1 + 1) here read is same c.two_children-before.ensures.unchanged c.two_children-before.ensures.right in
+    let since = unchanged_trans g.R.Look.kept g.R.Look.standing g.R.Look.words old here read same c.two_children-before.ensures.unchanged in
+    passed_stop c.from_residual-in_err-two-2.result c.in_err-two-2.field-0.0 _ _ _ _ c.from_residual-in_err-two-2.ensures.1 down (unchanged_trans g.R.Look.kept g.R.Look.standing g.R.Look.words old read c.remove_right.new.room since) c.in_err-two-2.ensures.stopped
 
 pub remove_left-fill_slots-requires-clause-readable : goal.remove_left-fill_slots-requires-clause-readable
 remove_left-fill_slots-requires-clause-readable g t c =

@@ -9,3 +9,6 @@ decreases-remove_left g l = 3 * l.level + 2
 
 abbrev pub decreases-remove_right : goal.decreases-remove_right
 decreases-remove_right g l = 3 * l.level + 2
+
+abbrev pub decreases-remove_alone : goal.decreases-remove_alone
+decreases-remove_alone g l = 3 * l.level + 2

@@ -6,9 +6,8 @@ use Rattle.be_tree.specs.Pair.{Pair}
 use Rattle.be_tree.specs.Key.{key_cmp}
 use Rattle.be_tree.specs.Page.{item_at, items_of, place_of}
 use Rattle.be_tree.specs.Slot.{pair_of, pairs_of, IsReady}
-use Rattle.be_tree.proofs.Slots.{item_get, items_count, loaded_pairs, loaded_ready}
+use Rattle.be_tree.proofs.Slots.{loaded_pairs, loaded_ready}
 use Rattle.be_tree.proofs.SlotLists.{all_removed, removed_mapped}
-use Rattle.be_tree.proofs.TreeFacts.{in_three}
 use Rattle.be_tree.proofs.removal.slots_without.Given.{Over}
 use Rattle.be_tree.proofs.removal.slots_without.Goals as goal
 use Rattle.be_tree.proofs.removal.slots_without.Goals.{After-is_eq}
@@ -23,48 +22,26 @@ remove-requires g c =
     let len = ap length c.fill_slots.ensures.slots ∙ length-map-range_with_len (λ (j : ℕ). At c.args.page (place_of j)) 0 (g.L.Look.words c.args.look.now c.args.page 1) in
     omega (arith, len, c.requires.in_page)
 
-pub returns-then-is_eq-clause-items : goal.returns-then-is_eq-clause-items
-returns-then-is_eq-clause-items g c = λ given.
+pub returns-clause-items : goal.returns-clause-items
+returns-clause-items g c = λ given.
     let words = g.L.Look.words c.args.look.now in
     let items = items_of (words c.args.page) in
     let item = item_at (words c.args.page) (place_of c.args.at) in
-    let is = equal g (goal.at.returns-then-is_eq-clause-items g c).After-is_eq ∙ c.if-is_eq.true in
+    let is = equal g (goal.at.returns-clause-items g c).After-is_eq ∙ c.if-not-is_eq.false in
     let whole = ap (pairs_of words given) c.fill_slots.ensures.slots ∙ loaded_pairs words given c.args.page (words c.args.page 1) refl in
     ap (pairs_of words given) c.remove.ensures.items ∙ removed_mapped (pair_of words given) c.fill_slots.new.slots.items c.args.at
     ∙ ap (λ (xs : List Pair). take c.args.at xs ++ drop (suc c.args.at) xs) whole
     ∙ sym (ap (λ (b : Bool). take c.args.at items ++ ((if b then [] else item ∷ []) ++ drop (suc c.args.at) items)) is)
 
-pub returns-then-is_eq-clause-ready : goal.returns-then-is_eq-clause-ready
-returns-then-is_eq-clause-ready g c =
+pub returns-clause-ready : goal.returns-clause-ready
+returns-clause-ready g c =
     let words = g.L.Look.words c.args.look.now in
     let standing = g.L.Look.standing c.args.look.now in
     subst (All (IsReady standing words)) (sym c.remove.ensures.items)
     (all_removed (IsReady standing words) c.fill_slots.new.slots.items c.args.at
     (subst (All (IsReady standing words)) (sym c.fill_slots.ensures.slots) (loaded_ready standing words c.args.page (words c.args.page 1) refl c.requires.readable c.requires.page)))
 
-pub returns-then-is_eq-clause-some : goal.returns-then-is_eq-clause-some
-returns-then-is_eq-clause-some g c =
+pub returns-clause-some : goal.returns-clause-some
+returns-clause-some g c =
     let len = ap length c.fill_slots.ensures.slots ∙ length-map-range_with_len (λ (j : ℕ). At c.args.page (place_of j)) 0 (g.L.Look.words c.args.look.now c.args.page 1) in
     (omega (arith, len, c.remove.ensures.len), omega (arith, len, c.remove.ensures.len, c.requires.page.few))
-
-pub returns-else-is_eq-clause-items : goal.returns-else-is_eq-clause-items
-returns-else-is_eq-clause-items g c = λ given.
-    let words = g.L.Look.words c.args.look.now in
-    let items = items_of (words c.args.page) in
-    let item = item_at (words c.args.page) (place_of c.args.at) in
-    let isnt = equal g (goal.at.returns-else-is_eq-clause-items g c).After-is_eq ∙ c.if-is_eq.false in
-    let whole = ap (pairs_of words given) c.fill_slots.ensures.slots ∙ loaded_pairs words given c.args.page (words c.args.page 1) refl in
-    whole ∙ in_three items c.args.at item (omega (arith, c.requires.in_page, items_count (words c.args.page)))
-    ∙ ap (λ (x : Pair). take c.args.at items ++ x ∷ drop (suc c.args.at) items) (item_get (words c.args.page) c.args.at item c.requires.in_page)
-    ∙ sym (ap (λ (b : Bool). take c.args.at items ++ ((if b then [] else item ∷ []) ++ drop (suc c.args.at) items)) isnt)
-
-pub returns-else-is_eq-clause-ready : goal.returns-else-is_eq-clause-ready
-returns-else-is_eq-clause-ready g c =
-    let words = g.L.Look.words c.args.look.now in
-    let standing = g.L.Look.standing c.args.look.now in
-    subst (All (IsReady standing words)) (sym c.fill_slots.ensures.slots) (loaded_ready standing words c.args.page (words c.args.page 1) refl c.requires.readable c.requires.page)
-
-pub returns-else-is_eq-clause-some : goal.returns-else-is_eq-clause-some
-returns-else-is_eq-clause-some g c =
-    let len = ap length c.fill_slots.ensures.slots ∙ length-map-range_with_len (λ (j : ℕ). At c.args.page (place_of j)) 0 (g.L.Look.words c.args.look.now c.args.page 1) in
-    (omega (arith, len), omega (arith, len, c.requires.page.few))

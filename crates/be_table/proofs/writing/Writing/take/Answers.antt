@@ -1,4 +1,4 @@
-use Rattle.std.proofs.Common.{refl, sym, subst, inl, inr}
+use Rattle.std.proofs.Common.{arith, refl, sym, subst, inl, inr}
 use Rattle.be_table.specs.Place.{Work}
 use Rattle.be_table.specs.Works.{MakesScan, FindsNone}
 use Rattle.be_table.proofs.Opened.{all_held}
@@ -20,5 +20,5 @@ returns-in-None-clause-full c =
     let h = subst (λ (w : Work). MakesScan w c.scan-least.new.self c.scan-least.result) c.in_default.ensures.same c.scan-least.ensures in (
       c.scan-least.result,
       refl,
-      subst (λ (w : Work). FindsNone c.args.self.now w c.scan-least.result) (sym e.same) (record { scan = h; none = e.none; holds = all_held c.args.self.now c.scan-least.new.self c.scan-least.result h e.none }),
+      subst (λ (w : Work). FindsNone c.args.self.now w c.scan-least.result) (sym e.same) (record { scan = h; none = e.none; holds = λ p lt. all_held c.args.self.now c.scan-least.new.self c.scan-least.result h e.none p (let count = e.count in omega arith) }),
     )

@@ -1,0 +1,62 @@
+-- Answers to queries rise, and what is told of two of them.
+use Rattle.std.proofs.Common.{◌≡◌, ◌<◌, ◌≤◌, ◌+◌, ℕ, suc, zero, Bool, true, false, List, [], ◌∷◌, ◌++◌, length, slice_index, filter, refl, sym, ap, ◌∙◌, subst, inl, inr, arith}
+use Rattle.std.specs.Prelude.{Result, Ok, Err, MatchResult, if◌then◌else◌, get_or, is_ok, ◌==◌}
+use Rattle.std.specs.Ordering.{nat_cmp}
+use Rattle.std.proofs.Common.{eq-eqb, ne_eqb}
+use Rattle.std.proofs.lemmas.Bool.{cases_lt}
+use Rattle.std.proofs.lemmas.List.{get_or_default}
+use Rattle.std.proofs.lemmas.List.Folds.{list_any-from_Any, list_any_none}
+use Rattle.std.proofs.lemmas.List.Sorted.{searched}
+use Rattle.std.proofs.lemmas.Map.Keys.{non_decreasing_from_sorted, sorted_from_strictly_increasing}
+use Rattle.std.specs.List.Sorted.{IsStrictlyIncreasing, IsBinarySearchResult}
+use Rattle.std.specs.FinMap as map
+use Rattle.std.proofs.lemmas.List.Kept.{IsStrictlyIncreasing-filter}
+use Rattle.be_plan.proofs.Rising.{Rises, rises_keys, in_by_place}
+use Rattle.std.proofs.lemmas.List.Elements.{filter-append}
+use Rattle.std.specs.Prelude.{not}
+use Rattle.be_store.specs.Live.{is_in, without}
+use Rattle.be_query.specs.Grammar.{Formula}
+use Rattle.be_value.specs.declared.refusals.Refusal.{Refusal}
+use Rattle.be_value.specs.declared.refusals.Refusal.TheVariants.{NotCovered}
+use Rattle.be_volume.specs.Query.{covered, sat, scan}
+use Rattle.be_volume.specs.Volume.{State}
+
+rising : (xs : List ℕ) → Rises xs → IsStrictlyIncreasing xs
+rising [] r k lt = absurd (omega (arith, lt))
+rising (x ∷ []) r k lt = absurd (omega (arith, lt))
+rising (x ∷ y ∷ ys) r zero lt = r.0 y (in_by_place (y ∷ ys) y (0, omega arith, refl))
+rising (x ∷ y ∷ ys) r (suc k) lt =
+    let e : suc (k + 1) ≡ suc k + 1 = omega arith in
+    subst (λ n. slice_index (y ∷ ys) k < slice_index (x ∷ y ∷ ys) n) e (rising (y ∷ ys) r.1 k (omega (arith, lt)))
+
+list_of : List ℕ → Result (List ℕ) Refusal → List ℕ
+list_of d (Ok xs) = xs
+list_of d (Err e) = d
+
+-- the answer to a query rises
+pub scan_rises : (s : State) (f : Formula) (nodes : List ℕ) → scan s f ≡ Ok nodes → IsStrictlyIncreasing nodes
+unfolding list_of
+scan_rises s f nodes h = by (covered s f) h
+  where
+    by : (b : Bool) → (if b then Ok (filter (sat s f) (map.keys s.nodes)) else Err NotCovered) ≡ Ok nodes → IsStrictlyIncreasing nodes
+    by true e = subst IsStrictlyIncreasing (ap (list_of nodes) e) (IsStrictlyIncreasing-filter (sat s f) (map.keys s.nodes) (rising (map.keys s.nodes) (rises_keys s.nodes)))
+    by false e = absurd cc
+
+held_at : (xs : List ℕ) (n i : ℕ) → i < length xs → get_or xs i 0 ≡ n → is_in xs n ≡ true
+held_at xs n i lt is = list_any-from_Any (λ m. m == n) xs (i, n, lt, get_or_default xs i n 0 lt ∙ is, eq-eqb n n refl)
+
+lacks : (xs : List ℕ) (n i : ℕ) → ((k : ℕ) → k < i → get_or xs k 0 < n) → ((k : ℕ) → i ≤ k → k < length xs → n < get_or xs k 0) → is_in xs n ≡ false
+lacks xs n i below above = list_any_none (λ m. m == n) xs (λ k d lt. ne_eqb (get_or xs k d) n (λ e.
+    let same : get_or xs k 0 ≡ n = get_or_default xs k 0 d lt ∙ e in
+    elim (cases_lt k i) [ inl before ↦ absurd (let l = below k before in omega (arith, l, same)) | inr past ↦ absurd (let l = above k past lt in omega (arith, l, same)) ]))
+
+-- what a search in a rising list finds
+pub found_in : (xs : List ℕ) (n : ℕ) (r : Result ℕ ℕ) → IsStrictlyIncreasing xs → IsBinarySearchResult (λ y. nat_cmp y n) xs r → is_ok r ≡ is_in xs n
+found_in xs n r up h = by r (searched xs n r h (λ i j le lt. non_decreasing_from_sorted xs (sorted_from_strictly_increasing xs up) i j 0 le lt))
+  where
+    by : (r : Result ℕ ℕ) → MatchResult r (λ i. (i < length xs) × (get_or xs i 0 ≡ n)) (λ i. (i ≤ length xs) × ((k : ℕ) → k < i → get_or xs k 0 < n) × ((k : ℕ) → i ≤ k → k < length xs → n < get_or xs k 0)) → is_ok r ≡ is_in xs n
+    by (Ok i) m = sym (held_at xs n i m.0 m.1)
+    by (Err i) m = sym (lacks xs n i m.1 m.2)
+
+without_append : (xs ys others : List ℕ) → without (xs ++ ys) others ≡ without xs others ++ without ys others
+without_append xs ys others = filter-append (λ n. not (is_in others n)) xs ys

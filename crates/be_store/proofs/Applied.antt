@@ -1,0 +1,90 @@
+-- A whole write: the lock is taken, the write is published or not, and the lock is given back.
+use Rattle.std.proofs.Common.{◌≡◌, inr, ℕ, List, [], ◌∷◌, ◌++◌, length, refl, sym, ap, ◌∙◌, subst, arith, length-append}
+use Rattle.std.specs.Prelude.{Result, Ok, Err, MatchResult, IfOk, IfErr}
+use Rattle.std.proofs.lemmas.List.{map-append}
+use Rattle.be_journal.specs.declared.entries.Entry.{Entry}
+use Rattle.be_journal.specs.Journal.{by_pass, replay}
+use Rattle.be_table.specs.declared.pass.Commit.{Commit}
+use Rattle.be_table.specs.declared.pass.Knowledge.{Knowledge}
+use Rattle.be_table.specs.Rule.{entries}
+use Rattle.be_table.specs.Steps.{IsPass, entry_of, leaves}
+use Rattle.be_table.specs.Works.{TakesLock}
+use Rattle.be_table.proofs.Histories.{by_pass-append, by_pass-own}
+use Rattle.be_value.specs.declared.refusals.Refusal.{Refusal}
+use Rattle.be_volume.specs.Volume.{steps}
+use Rattle.be_volume.specs.declared.ops.Done.{Done}
+use Rattle.be_volume.specs.declared.ops.Op.{Op}
+use Rattle.be_store.specs.History.{Accepts, Learns, IsReason}
+use Rattle.be_store.specs.Writing.{Publishes, IsHeldBack}
+
+entries_append : (log more : List Commit) → entries (log ++ more) ≡ entries log ++ entries more
+entries_append log more = map-append (λ (c : Commit). c.entry) log more
+
+nothing_more : {A : Type 0} (xs ys : List A) → xs ++ ys ≡ xs → ys ≡ []
+nothing_more xs [] e = refl
+nothing_more xs (y ∷ ys) e = absurd (let l : length (xs ++ y ∷ ys) ≡ length xs = ap length e in let m = length-append xs (y ∷ ys) in omega arith)
+
+module _ (a w : Knowledge) (t : TakesLock a w) where
+  same_number : w.number ≡ a.number
+  same_number = ap (λ (k : Knowledge). k.number) t.same
+
+  same_mine : w.mine ≡ a.mine
+  same_mine = ap (λ (k : Knowledge). k.mine) t.same
+
+  same_phase : w.phase ≡ a.phase
+  same_phase = ap (λ (k : Knowledge). k.phase) t.same
+
+  -- its own entries, of what it has seen with the lock
+  own : by_pass a.number (entries w.seen) ≡ a.mine
+  own = ap (λ k. by_pass k (entries w.seen)) (sym same_number) ∙ (t.pass.mine ∙ same_mine)
+
+  -- what it sees more is by others
+  others_apart : by_pass a.number (entries t.more.0) ≡ []
+  others_apart = nothing_more a.mine (by_pass a.number (entries t.more.0))
+      (ap (λ l. l ++ by_pass a.number (entries t.more.0)) (sym t.before.mine)
+      ∙ (sym (by_pass-append a.number (entries a.seen) (entries t.more.0))
+      ∙ (ap (by_pass a.number) (sym (entries_append a.seen t.more.0))
+      ∙ (ap (λ l. by_pass a.number (entries l)) (sym t.more.1) ∙ own))))
+
+  pub accepts : (v c : Knowledge) (ops : List Op) (n : ℕ) (dones : List Done) → Publishes w v ops n dones → c ≡ leaves v → IsPass c → Accepts a c ops n dones
+  accepts v c ops n dones p is pass =
+      let seen : c.seen ≡ w.seen ++ p.commit ∷ [] = ap (λ (k : Knowledge). k.seen) is ∙ p.seen in
+      let number : c.number ≡ a.number = ap (λ (k : Knowledge). k.number) is ∙ (p.same.pass ∙ same_number) in
+      let entry : p.commit.entry ≡ entry_of a ops dones = p.entry ∙ ap (λ k. record { by = k; ops = ops; dones = dones }) same_number in record {
+        others = t.more.0;
+        commit = p.commit;
+        seen = seen ∙ ap (λ l. l ++ p.commit ∷ []) t.more.1;
+        entry = entry;
+        apart = others_apart;
+        answered = (p.answered.0, ap (λ l. steps (replay (entries l)) ops) (sym t.more.1) ∙ p.answered.1);
+        number = p.number ∙ ap (λ (k : Knowledge). length k.seen) (sym is);
+        mine = sym pass.mine
+            ∙ (ap (λ k. by_pass k (entries c.seen)) number
+            ∙ (ap (λ l. by_pass a.number (entries l)) seen
+            ∙ (ap (by_pass a.number) (entries_append w.seen (p.commit ∷ []))
+            ∙ (by_pass-own a.number (entries w.seen) p.commit.entry (ap (λ (e : Entry). e.by) entry)
+            ∙ (ap (λ l. l ++ p.commit.entry ∷ []) own ∙ ap (λ e. a.mine ++ e ∷ []) entry)))));
+        pass = number;
+        pin = ap (λ (k : Knowledge). k.phase) is ∙ (p.same.pin ∙ same_phase);
+      }
+
+  pub learns : (v c : Knowledge) (ops : List Op) (e : Refusal) → IsHeldBack w v ops e → c ≡ leaves v → IsPass c → Learns a c
+  learns v c ops e p is pass =
+      let seen : c.seen ≡ w.seen = ap (λ (k : Knowledge). k.seen) is ∙ p.seen in
+      let number : c.number ≡ a.number = ap (λ (k : Knowledge). k.number) is ∙ (p.same.pass ∙ same_number) in record {
+        more = (t.more.0, seen ∙ t.more.1);
+        mine = sym pass.mine ∙ (ap (λ k. by_pass k (entries c.seen)) number ∙ (ap (λ l. by_pass a.number (entries l)) seen ∙ own));
+        pass = number;
+        pin = ap (λ (k : Knowledge). k.phase) is ∙ (p.same.pin ∙ same_phase);
+      }
+
+pub reasons : (a w v c : Knowledge) (ops : List Op) (e : Refusal) → IsHeldBack w v ops e → c ≡ leaves v → IsReason a c ops e
+reasons a w v c ops e p is = subst (λ (k : Knowledge). IsReason a k ops e) (sym is) (inr p.reason)
+
+pub accepted_if : {T E : Type 0} (r : Result T E) (P R : T → Type 0) (Q : E → Type 0) → MatchResult r P Q → ((x : T) → P x → R x) → IfOk r R
+accepted_if (Ok x) P R Q m f = f x m
+accepted_if (Err e) P R Q m f = tt
+
+pub refused_if : {T E : Type 0} (r : Result T E) (P : T → Type 0) (Q R : E → Type 0) → MatchResult r P Q → ((e : E) → Q e → R e) → IfErr r R
+refused_if (Ok x) P Q R m f = tt
+refused_if (Err e) P Q R m f = f e m

@@ -1,0 +1,5 @@
+pub mod Passes
+pub mod Writes
+pub mod Refusals
+pub mod Applied
+pub mod Answering

@@ -1,0 +1,53 @@
+-- What a call makes of the pass that calls: what it has seen of the journal, its own writes, and its pin.
+use Rattle.std.specs.Prelude.{◌≡◌, ◌⊎◌, ℕ, ◌+◌, ◌<◌, List, [], ◌∷◌, ◌++◌, length, IsOk, Err}
+use Rattle.be_journal.specs.Journal.{Agrees, by_pass, replay}
+use Rattle.be_pages.specs.Refusal.{IsFullOf}
+use Rattle.be_table.specs.declared.pass.Commit.{Commit}
+use Rattle.be_table.specs.declared.pass.Knowledge.{Knowledge}
+use Rattle.be_table.specs.History.{StartsWith}
+use Rattle.be_table.specs.Rule.{entries}
+use Rattle.be_table.specs.Steps.{entry_of}
+use Rattle.be_table.specs.Works.{IsBusy, HasNoRoom, HoldsUnreached}
+use Rattle.be_value.specs.declared.refusals.Refusal.{Refusal}
+use Rattle.be_volume.specs.Volume.{steps}
+use Rattle.be_volume.specs.declared.ops.Done.{Done}
+use Rattle.be_volume.specs.declared.ops.Op.{Op}
+use Rattle.be_store.specs.Passes.{IsPinnedTo, volume_seen}
+
+-- An accepted write of the pass: it has seen what it had seen, then entries of other passes, then its own, whose answers are those of the volume at that place.
+pub record Accepts (a c : Knowledge) (ops : List Op) (n : ℕ) (dones : List Done) : Type 0 where
+  pub others : List Commit
+  pub commit : Commit
+  pub seen : c.seen ≡ (a.seen ++ others) ++ commit ∷ []
+  pub entry : commit.entry ≡ entry_of a ops dones
+  pub apart : by_pass a.number (entries others) ≡ []
+  pub answered : Agrees (replay (entries (a.seen ++ others))) (entry_of a ops dones)
+  pub number : n ≡ length c.seen
+  pub mine : c.mine ≡ a.mine ++ entry_of a ops dones ∷ []
+  pub pass : c.number ≡ a.number
+  pub pin : c.phase ≡ a.phase
+
+-- The pass may have seen more, and has written nothing.
+pub record Learns (a c : Knowledge) : Type 0 where
+  pub more : StartsWith c.seen a.seen
+  pub mine : c.mine ≡ a.mine
+  pub pass : c.number ≡ a.number
+  pub pin : c.phase ≡ a.phase
+
+-- Why a pass that has the lock is refused, when it has seen this much of the journal: the volume after that refuses the write; or it accepts it, and the journal has no room, or no page is left.
+abbrev pub IsRefusedAt : (c : Knowledge) (ops : List Op) → Refusal → Type 0
+IsRefusedAt c ops e =
+    (steps (volume_seen c) ops ≡ Err e)
+    ⊎ (IsOk (steps (volume_seen c) ops) × HasNoRoom e c)
+    ⊎ (IsOk (steps (volume_seen c) ops) × (length c.seen < c.limits.commits) × IsFullOf (HoldsUnreached c) e)
+
+-- Why a write is refused: another pass holds the lock, and nothing more was seen; or else.
+abbrev pub IsReason : (a c : Knowledge) (ops : List Op) → Refusal → Type 0
+IsReason a c ops e = (IsBusy e a × (c.seen ≡ a.seen)) ⊎ IsRefusedAt c ops e
+
+-- The pass is pinned to all that it has then seen, by three steps.
+pub record Pins (a c : Knowledge) (n : ℕ) : Type 0 where
+  pub more : StartsWith c.seen a.seen
+  pub number : n ≡ length c.seen
+  pub pin : IsPinnedTo c n
+  pub same : c ≡ record a { seen = c.seen; phase = c.phase; image = c.image; steps = a.steps + 3 }

@@ -1,0 +1,4 @@
+pub mod Passes
+pub mod History
+pub mod Writing
+pub mod Live

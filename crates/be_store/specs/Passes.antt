@@ -1,0 +1,39 @@
+-- A pass of a store, and what it can read.
+use Rattle.std.specs.Prelude.{◌≡◌, ℕ, take, Some}
+use Rattle.std.specs.Option.{option_map_or}
+use Rattle.be_core.specs.declared.event.Phase.{Phase}
+use Rattle.be_core.specs.declared.event.Phase.TheVariants.{Idle, Looked, Announced, Pinned}
+use Rattle.be_journal.specs.Journal.{replay}
+use Rattle.be_table.specs.declared.pass.Knowledge.{Knowledge}
+use Rattle.be_table.specs.Place.{Opened, Place}
+use Rattle.be_table.specs.Rule.{entries}
+use Rattle.be_table.specs.Seats.{pinned_number}
+use Rattle.be_table.specs.Works.{IsSeatOf}
+use Rattle.be_volume.specs.Volume.{State, empty}
+
+-- between two calls of a store a pass is pinned, or it isn't; it has not stopped half way to a pin
+abbrev pub IsSettled : Phase → Type 0
+IsSettled Idle = Unit {0}
+IsSettled (Looked a) = ⊥
+IsSettled (Announced a) = ⊥
+IsSettled (Pinned a n) = Unit {0}
+
+-- a pass of this store
+abbrev pub IsPassOf : Opened → Place → Type 0
+IsPassOf store pass = IsSeatOf store pass × IsSettled pass.knows.phase
+
+-- the pass is pinned to the first n entries of the journal
+abbrev pub IsPinnedTo : Knowledge → ℕ → Type 0
+IsPinnedTo a n = pinned_number a.phase ≡ Some n
+
+-- the volume after all that the pass has seen
+abbrev pub volume_seen : Knowledge → State
+volume_seen a = replay (entries a.seen)
+
+-- the volume that a pinned pass reads: that after as many entries of the journal as its pin says
+abbrev pub volume_pinned : Knowledge → State
+volume_pinned a = option_map_or (λ n. replay (take n (entries a.seen))) (pinned_number a.phase) empty
+
+-- a pass that has only read: it is as it was but for the count of its steps
+abbrev pub HasRead : Knowledge → Knowledge → Type 0
+HasRead a c = c ≡ record a { steps = c.steps }

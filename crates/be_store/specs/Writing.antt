@@ -1,0 +1,31 @@
+-- What one write makes of the pass that holds the lock.
+use Rattle.std.specs.Prelude.{◌≡◌, ℕ, List, [], ◌∷◌, ◌++◌, length}
+use Rattle.be_journal.specs.Journal.{Agrees}
+use Rattle.be_table.specs.declared.pass.Knowledge.{Knowledge}
+use Rattle.be_table.specs.declared.pass.Commit.{Commit}
+use Rattle.be_table.specs.Steps.{entry_of}
+use Rattle.be_value.specs.declared.refusals.Refusal.{Refusal}
+use Rattle.be_volume.specs.declared.ops.Done.{Done}
+use Rattle.be_volume.specs.declared.ops.Op.{Op}
+use Rattle.be_store.specs.History.{IsRefusedAt}
+use Rattle.be_store.specs.Passes.{volume_seen}
+
+-- the pass is still the same pass, with its pin
+pub record IsSame (a c : Knowledge) : Type 0 where
+  pub pass : c.number ≡ a.number
+  pub pin : c.phase ≡ a.phase
+
+-- the write is the last entry that the pass has seen
+pub record Publishes (a c : Knowledge) (ops : List Op) (n : ℕ) (dones : List Done) : Type 0 where
+  pub same : IsSame a c
+  pub commit : Commit
+  pub entry : commit.entry ≡ entry_of a ops dones
+  pub seen : c.seen ≡ a.seen ++ commit ∷ []
+  pub answered : Agrees (volume_seen a) (entry_of a ops dones)
+  pub number : n ≡ length c.seen
+
+-- why a write that has the lock is refused
+pub record IsHeldBack (a c : Knowledge) (ops : List Op) (e : Refusal) : Type 0 where
+  pub same : IsSame a c
+  pub seen : c.seen ≡ a.seen
+  pub reason : IsRefusedAt c ops e

@@ -1,0 +1,87 @@
+//! Live queries: what changed in an answer since it was asked last.
+ghost use Rattle.std.specs.Prelude.{◌≡◌, ◌⊎◌, ℕ, [], IfOk, IfErr, Err};
+ghost use Rattle.std.specs.List.Sorted.{IsStrictlyIncreasing};
+ghost use Rattle.be_store.specs.Live.{Refreshes, is_in, without};
+ghost use Rattle.be_store.specs.Passes.{IsPassOf, IsPinnedTo, HasRead, volume_pinned};
+ghost use Rattle.be_value.specs.declared.refusals.Refusal.TheVariants.{OutOfMemory};
+ghost use Rattle.be_volume.specs.Query.{scan};
+
+use crate::answers::Updates;
+use crate::{Pass, Store};
+use be_query::Query;
+use be_value::Refusal;
+use std::alloc::Global;
+use std::marker::Model;
+
+/// A query that is asked again and again, with its answer at the last refresh.
+#[derive(Drop)]
+pub struct Live {
+    alloc: Global,
+    query: Query,
+    last: Vec<u64>,
+}
+
+impl Model for Live {
+    ghost use Rattle.std.specs.List.Sorted.{IsStrictlyIncreasing};
+    ghost use Rattle.be_store.specs.Live.{LiveQuery, coded_live};
+
+    ghost Value = { LiveQuery };
+
+    ghost coded = { coded_live };
+
+    ghost view = { λ l. record { query = l.query; last = l.last.items } };
+
+    ghost invariant = { λ l. IsStrictlyIncreasing l.last.items };
+}
+
+impl Live {
+    /// A query that was never refreshed: its last answer is empty.
+    pub fn new(alloc: Global, query: Query) -> Live
+        ensures { result ≡ record { query = query; last = [] } }
+    {
+        Live {
+            alloc,
+            query,
+            last: Vec::new(alloc),
+        }
+    }
+
+    /// Asks the query in the pinned version, and tells which nodes came and which went since the last refresh. 17 and 10 leave it as it was.
+    ///
+    /// Beside the query itself it takes a search in one answer for each node of the other.
+    pub fn refresh(&mut self, store: &Store, pass: &mut Pass) -> Result<Updates, Refusal>
+        requires pass { IsPassOf store.now pass.old }
+        requires pinned { (n : ℕ) × IsPinnedTo pass.old.knows n }
+        ensures pass { IsPassOf store.now pass.new × HasRead pass.old.knows pass.new.knows }
+        ensures ok { IfOk result (λ u. Refreshes (volume_pinned pass.old.knows) self.old self.new u.created.items u.removed.items) }
+        ensures err { IfErr result (λ e. (self.new ≡ self.old) × ((e ≡ OutOfMemory) ⊎ (scan (volume_pinned pass.old.knows) self.old.query ≡ Err e))) }
+    {
+        let answer = store.query(self.alloc, pass, &self.query)?;
+        let created = without(self.alloc, answer.nodes.as_slice(), self.last.as_slice())?;
+        let removed = without(self.alloc, self.last.as_slice(), answer.nodes.as_slice())?;
+        self.last = answer.nodes;
+        Ok(Updates { created, removed })
+    }
+}
+
+fn is_in(numbers: &[u64], number: u64) -> bool
+    requires { IsStrictlyIncreasing numbers.now }
+    ensures { result ≡ is_in numbers.now number }
+{
+    numbers.binary_search(&number).is_ok()
+}
+
+/// The numbers that the others lack, in their order.
+fn without(alloc: Global, numbers: &[u64], others: &[u64]) -> Result<Vec<u64>, Refusal>
+    requires { IsStrictlyIncreasing others.now }
+    ensures ok { IfOk result (λ left. left.items ≡ without numbers.now others.now) }
+    ensures err { IfErr result (λ e. e ≡ OutOfMemory) }
+{
+    let mut left = Vec::new(alloc);
+    for number in numbers {
+        if !is_in(others, *number) {
+            left.push(*number)?;
+        }
+    }
+    Ok(left)
+}

@@ -1,0 +1,200 @@
+//! The store, and the calls of its passes.
+ghost use Rattle.std.specs.Prelude.{◌≡◌, ◌≤◌, ◌<◌, ℕ, None, Some, Ok, MatchResult, IfOk, IfErr, length, map};
+ghost use Rattle.be_store.specs.Passes.{IsPassOf, IsPinnedTo, HasRead, volume_pinned};
+ghost use Rattle.be_store.specs.History.{Accepts, Learns, IsReason, Pins};
+
+use crate::answers::Answer;
+use crate::asking::ask;
+use crate::writing::write;
+use crate::{Limits, Pass};
+use arrayvec::ArrayVec;
+use be_journal::Journal;
+use be_paged::{attrs, first_page, get, indices};
+use be_query::Query;
+use be_table::{PinnedLook, VersionTable};
+use be_value::{Kind, Name, Refusal, Value};
+use be_volume::{Done, Op};
+use std::alloc::Global;
+use std::marker::Model;
+
+/// A shared store. A pass is used with the store that made it.
+#[derive(Drop)]
+pub struct Store {
+    table: VersionTable,
+}
+
+impl Model for Store {
+    ghost use Rattle.be_table.specs.Place.{Opened};
+
+    ghost Value = { Opened };
+
+    ghost view = { λ s. s.table };
+}
+
+impl Store {
+    ghost use Rattle.be_journal.specs.Journal.{IsLegal};
+    ghost use Rattle.be_table.specs.History.{StartsWith, AllBelow};
+    ghost use Rattle.be_paged.specs.Version.{IsVersion};
+    ghost use Rattle.be_table.specs.Reading.{pinned_standing, word_in};
+    ghost use Rattle.be_table.specs.Seats.{pinned_number};
+    ghost use Rattle.be_table.specs.Steps.{Has, Keeps, longer, met, unpins};
+    ghost use Rattle.be_table.specs.Works.{AllAt, AreNew, IsUnopened, knows_of};
+    ghost use Rattle.be_value.specs.Refusal.{Answers};
+    ghost use Rattle.be_volume.specs.Query.{scan};
+    ghost use Rattle.be_volume.specs.Reading.{attribute, attributes_at, index_kinds};
+
+    /// A store with an empty journal, and its passes in the order of their numbers, which have seen nothing.
+    ///
+    /// BadLimits where a limit is out of its range, and OutOfMemory where a growth was refused.
+    pub fn open(alloc: Global, limits: Limits) -> Result<(Store, Vec<Pass>), Refusal>
+        ensures { MatchResult result
+            (λ r. (r.0.limits ≡ limits) × (length r.1.items ≡ limits.passes) × AreNew r.0 0 r.1.items)
+            (λ e. IsUnopened limits e) }
+    {
+        let (table, passes) = VersionTable::open(alloc, limits, &first_page())?;
+        Ok((Store { table }, passes))
+    }
+
+    /// Writes 1 to 64 operations, all or none: the journal's length with this write, and an answer for each operation. A pin stays.
+    ///
+    /// Busy where another pass holds the lock; 2 to 8 as the volume refuses; then 9, 10 and 11. Only the journal's entry takes memory.
+    pub fn apply(&self, pass: &mut Pass, ops: &[Op]) -> Result<(u64, ArrayVec<Done, 64>), Refusal>
+        requires pass { IsPassOf self.now pass.old }
+        requires count { (1 ≤ length ops.now) × (length ops.now ≤ 64) }
+        ensures pass { IsPassOf self.now pass.new }
+        ensures accepted { IfOk result (λ r. Accepts pass.old.knows pass.new.knows ops.now r.0 r.1.items) }
+        ensures refused { IfErr result (λ e. Learns pass.old.knows pass.new.knows × IsReason pass.old.knows pass.new.knows ops.now e) }
+    {
+        let mut writing = match self.table.lock(pass.move_out()) {
+            Ok(writing) => writing,
+            Err((seat, refusal)) => {
+                *pass = seat;
+                return Err(refusal);
+            }
+        };
+        let answer = write(&mut writing, ops);
+        *pass = writing.unlock();
+        pass.is_pass();
+        answer
+    }
+
+    /// Pins the version that is current: what the pass then reads is the volume after the journal up to there, until it unpins, whatever is written meanwhile. Answers the number of entries. Three steps.
+    pub fn pin(&self, pass: &mut Pass) -> u64
+        requires pass { IsPassOf self.now pass.old }
+        requires unpinned { pinned_number pass.old.knows.phase ≡ None }
+        ensures pass { IsPassOf self.now pass.new }
+        ensures pin { Pins pass.old.knows pass.new.knows result }
+    {
+        let number = self.table.look(pass);
+        self.table.announce(pass, number);
+        self.table.look_again(pass).0
+    }
+
+    /// Gives the pin up. One step.
+    pub fn unpin(&self, pass: &mut Pass)
+        requires pass { IsPassOf self.now pass.old }
+        requires pinned { (n : ℕ) × IsPinnedTo pass.old.knows n }
+        ensures pass { IsPassOf self.now pass.new }
+        ensures unpinned { pass.new.knows ≡ unpins pass.old.knows }
+    {
+        self.table.unpin(pass);
+    }
+
+    /// A reader of the pinned version, and its version page. The pass is blank until the reader's seat is back.
+    fn reader(&self, pass: &mut Pass) -> (PinnedLook<'_>, u64)
+        requires pass { IsPassOf self.now pass.old }
+        requires pinned { (n : ℕ) × IsPinnedTo pass.old.knows n }
+        ensures look { (result.0.table ≡ self.now) × (result.0.knows ≡ pass.old.knows) }
+        ensures version { IsVersion (pinned_standing result.0.knows) (word_in result.0.knows.image) result.1 (volume_pinned pass.old.knows) }
+    {
+        let page = pass.version_page();
+        (self.table.pinned_look(pass.move_out()), page)
+    }
+
+    /// The nodes of which the query is true in the pinned version, ascending, and the pin. 17 where the query rests on no index of that version, and 10.
+    pub fn query(&self, alloc: Global, pass: &mut Pass, query: &Query) -> Result<Answer, Refusal>
+        requires pass { IsPassOf self.now pass.old }
+        requires pinned { (n : ℕ) × IsPinnedTo pass.old.knows n }
+        ensures pass { IsPassOf self.now pass.new × HasRead pass.old.knows pass.new.knows }
+        ensures nodes { Answers (λ a. a.nodes.items) result (scan (volume_pinned pass.old.knows) query.now) }
+        ensures pin { IfOk result (λ a. IsPinnedTo pass.old.knows a.pin) }
+    {
+        let Some(pin) = pass.pinned() else {
+            unreachable!()
+        };
+        let (look, page) = self.reader(pass);
+        let (look, nodes) = ask(alloc, look, page, query);
+        *pass = look.into_seat();
+        Ok(Answer { pin, nodes: nodes? })
+    }
+
+    /// A node's attribute in the pinned version.
+    pub fn get(&self, pass: &mut Pass, node: u64, name: &Name) -> Option<Value>
+        requires pass { IsPassOf self.now pass.old }
+        requires pinned { (n : ℕ) × IsPinnedTo pass.old.knows n }
+        ensures pass { IsPassOf self.now pass.new × HasRead pass.old.knows pass.new.knows }
+        ensures value { result ≡ attribute (volume_pinned pass.old.knows) node name.now }
+    {
+        let (mut look, page) = self.reader(pass);
+        let value = get(&mut look, page, node, name);
+        *pass = look.into_seat();
+        value
+    }
+
+    /// A node's attributes in the pinned version, by ascending bytes of their names. 2 where the node isn't there, and 10.
+    pub fn attrs(
+        &self,
+        alloc: Global,
+        pass: &mut Pass,
+        node: u64,
+    ) -> Result<Vec<(Name, Value)>, Refusal>
+        requires pass { IsPassOf self.now pass.old }
+        requires pinned { (n : ℕ) × IsPinnedTo pass.old.knows n }
+        ensures pass { IsPassOf self.now pass.new × HasRead pass.old.knows pass.new.knows }
+        ensures list { Answers (λ list. list.items) result (attributes_at (volume_pinned pass.old.knows) node) }
+    {
+        let (mut look, page) = self.reader(pass);
+        let list = attrs(alloc, &mut look, page, node);
+        *pass = look.into_seat();
+        list
+    }
+
+    /// The names and kinds of the indices of the pinned version, by ascending bytes of the names. 10.
+    pub fn indices(&self, alloc: Global, pass: &mut Pass) -> Result<Vec<(Name, Kind)>, Refusal>
+        requires pass { IsPassOf self.now pass.old }
+        requires pinned { (n : ℕ) × IsPinnedTo pass.old.knows n }
+        ensures pass { IsPassOf self.now pass.new × HasRead pass.old.knows pass.new.knows }
+        ensures list { Answers (λ list. list.items) result (Ok (index_kinds (volume_pinned pass.old.knows))) }
+    {
+        let (mut look, page) = self.reader(pass);
+        let list = indices(alloc, &mut look, page);
+        *pass = look.into_seat();
+        list
+    }
+
+    /// Two passes tell each other what they have seen: both have then seen what either had, of two beginnings of one journal the longer. Answers its length. Three steps.
+    pub fn meet(&self, left: &mut Pass, right: &mut Pass) -> u64
+        requires passes { IsPassOf self.now left.old × IsPassOf self.now right.old }
+        ensures passes { IsPassOf self.now left.new × IsPassOf self.now right.new }
+        ensures left { StartsWith (longer left.old.knows.seen right.old.knows.seen) left.old.knows.seen × (left.new.knows ≡ met left.old.knows (longer left.old.knows.seen right.old.knows.seen)) }
+        ensures right { StartsWith (longer left.old.knows.seen right.old.knows.seen) right.old.knows.seen × (right.new.knows ≡ met right.old.knows (longer left.old.knows.seen right.old.knows.seen)) }
+        ensures length { result ≡ length (longer left.old.knows.seen right.old.knows.seen) }
+    {
+        let (first, second, length) = self.table.meet(left.move_out(), right.move_out());
+        *left = first;
+        *right = second;
+        length
+    }
+
+    /// The journal, once all passes are back. They may be pinned.
+    pub fn close(self, passes: Vec<Pass>) -> Journal
+        requires passes { AllAt self.id passes.items }
+        requires all { (k : ℕ) → k < self.limits.passes → Has (map knows_of passes.items) k }
+        ensures legal { IsLegal result.entries }
+        ensures by { AllBelow self.limits.passes result.entries }
+        ensures passes { Keeps result.entries (map knows_of passes.items) }
+    {
+        let Store { table } = self;
+        table.close(passes)
+    }
+}

@@ -1,0 +1,57 @@
+//! One write, while the lock is held.
+ghost use Rattle.std.specs.Prelude.{◌≡◌, ◌+◌, ◌^◌, ◌<◌, ◌≤◌, IfOk, IfErr, MatchResult, false, length};
+ghost use Rattle.be_paged.specs.Changes.{Applies, IsRefused};
+ghost use Rattle.be_paged.specs.Version.{IsVersion};
+ghost use Rattle.be_store.specs.Writing.{Publishes, IsHeldBack};
+ghost use Rattle.be_table.specs.declared.pass.Knowledge.{Knowledge};
+ghost use Rattle.be_table.specs.Reading.{open_of, standing_in, standing_of, word_in, words_of};
+ghost use Rattle.be_table.specs.Works.{HoldsUnreached, TakesLock};
+ghost use Rattle.be_volume.specs.Volume.{State};
+
+use arrayvec::ArrayVec;
+use be_paged::apply;
+use be_table::Writing;
+use be_value::Refusal;
+use be_volume::{Done, Op};
+
+/// Applies the operations to a version, in an open write.
+fn apply_to(
+    writing: &mut Writing<'_>,
+    version_page: u64,
+    ops: &[Op],
+) -> Result<(u64, ArrayVec<Done, 64>), Refusal>
+    ghost volume: { State }
+    requires version { IsVersion (standing_in writing.old.knows.places) (word_in writing.old.knows.words) version_page volume }
+    requires count { (1 ≤ length ops.now) × (length ops.now ≤ 64) }
+    requires fits { volume.next + 64 < 2 ^ 64 }
+    requires open { writing.old.knows.published ≡ false }
+    ensures ok { IfOk result (λ r. Applies open_of standing_of words_of version_page r.0 volume ops.now r.1.items writing.old writing.new) }
+    ensures err { IfErr result (λ e. IsRefused open_of standing_of words_of (λ w least. HoldsUnreached w.knows least) volume ops.now e writing.old writing.new) }
+{
+    apply(writing, version_page, ops)
+}
+
+/// Applies the operations to the current version, and publishes what they make. A refusal of 2 to 8 comes at once; the journal's want of room goes before that of a page.
+pub(crate) fn write(
+    writing: &mut Writing<'_>,
+    ops: &[Op],
+) -> Result<(u64, ArrayVec<Done, 64>), Refusal>
+    requires begun { (a : Knowledge) × TakesLock a writing.old.knows }
+    requires count { (1 ≤ length ops.now) × (length ops.now ≤ 64) }
+    ensures table { writing.new.table ≡ writing.old.table }
+    ensures answer { MatchResult result (λ r. Publishes writing.old.knows writing.new.knows ops.now r.0 r.1.items) (λ e. IsHeldBack writing.old.knows writing.new.knows ops.now e) }
+{
+    let (_, version_page) = writing.current();
+    match apply_to(writing, version_page, ops) {
+        Ok((page, dones)) => {
+            writing.reserve(ops.len())?;
+            let number = writing.publish(page, ops, dones.as_slice());
+            Ok((number, dones))
+        }
+        Err(Refusal::Full(least)) => {
+            writing.reserve(ops.len())?;
+            Err(Refusal::Full(least))
+        }
+        Err(refusal) => Err(refusal),
+    }
+}
