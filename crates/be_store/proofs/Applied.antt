@@ -17,10 +17,10 @@ use Rattle.be_volume.specs.declared.ops.Op.{Op}
 use Rattle.be_store.specs.History.{Accepts, Learns, IsReason}
 use Rattle.be_store.specs.Writing.{Publishes, IsHeldBack}
 
-entries_append : (log more : List Commit) → entries (log ++ more) ≡ entries log ++ entries more
+pub entries_append : (log more : List Commit) → entries (log ++ more) ≡ entries log ++ entries more
 entries_append log more = map-append (λ (c : Commit). c.entry) log more
 
-nothing_more : {A : Type 0} (xs ys : List A) → xs ++ ys ≡ xs → ys ≡ []
+pub nothing_more : {A : Type 0} (xs ys : List A) → xs ++ ys ≡ xs → ys ≡ []
 nothing_more xs [] e = refl
 nothing_more xs (y ∷ ys) e = absurd (let l : length (xs ++ y ∷ ys) ≡ length xs = ap length e in let m = length-append xs (y ∷ ys) in omega arith)
 

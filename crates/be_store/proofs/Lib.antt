@@ -3,3 +3,4 @@ pub mod Writes
 pub mod Refusals
 pub mod Applied
 pub mod Answering
+pub mod Alone

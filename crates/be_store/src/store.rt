@@ -55,9 +55,11 @@ impl Store {
         Ok((Store { table }, passes))
     }
 
-    /// Writes 1 to 64 operations, all or none: the journal's length with this write, and an answer for each operation. A pin stays.
+    /// Writes 1 to 64 operations, all or none: the journal's length with this write, and an answer for each operation.
+    /// A pin stays.
     ///
-    /// Busy where another pass holds the lock; 2 to 8 as the volume refuses; then 9, 10 and 11. Only the journal's entry takes memory.
+    /// Busy where another pass holds the lock; 2 to 8 as the volume refuses; then 9, 10 and 11. Only the journal's
+    /// entry takes memory.
     pub fn apply(&self, pass: &mut Pass, ops: &[Op]) -> Result<(u64, ArrayVec<Done, 64>), Refusal>
         requires pass { IsPassOf self.now pass.old }
         requires count { (1 ≤ length ops.now) × (length ops.now ≤ 64) }
@@ -78,7 +80,8 @@ impl Store {
         answer
     }
 
-    /// Pins the version that is current: what the pass then reads is the volume after the journal up to there, until it unpins, whatever is written meanwhile. Answers the number of entries. Three steps.
+    /// Pins the version that is current: what the pass then reads is the volume after the journal up to there, until it
+    /// unpins, whatever is written meanwhile. Answers the number of entries. Three steps.
     pub fn pin(&self, pass: &mut Pass) -> u64
         requires pass { IsPassOf self.now pass.old }
         requires unpinned { pinned_number pass.old.knows.phase ≡ None }
@@ -111,7 +114,8 @@ impl Store {
         (self.table.pinned_look(pass.move_out()), page)
     }
 
-    /// The nodes of which the query is true in the pinned version, ascending, and the pin. 17 where the query rests on no index of that version, and 10.
+    /// The nodes of which the query is true in the pinned version, ascending, and the pin. 17 where the query rests on
+    /// no index of that version, and 10.
     pub fn query(&self, alloc: Global, pass: &mut Pass, query: &Query) -> Result<Answer, Refusal>
         requires pass { IsPassOf self.now pass.old }
         requires pinned { (n : ℕ) × IsPinnedTo pass.old.knows n }
@@ -141,7 +145,8 @@ impl Store {
         value
     }
 
-    /// A node's attributes in the pinned version, by ascending bytes of their names. 2 where the node isn't there, and 10.
+    /// A node's attributes in the pinned version, by ascending bytes of their names. 2 where the node isn't there, and
+    /// 10.
     pub fn attrs(
         &self,
         alloc: Global,
@@ -172,7 +177,8 @@ impl Store {
         list
     }
 
-    /// Two passes tell each other what they have seen: both have then seen what either had, of two beginnings of one journal the longer. Answers its length. Three steps.
+    /// Two passes tell each other what they have seen: both have then seen what either had, of two beginnings of one
+    /// journal the longer. Answers its length. Three steps.
     pub fn meet(&self, left: &mut Pass, right: &mut Pass) -> u64
         requires passes { IsPassOf self.now left.old × IsPassOf self.now right.old }
         ensures passes { IsPassOf self.now left.new × IsPassOf self.now right.new }

@@ -1,6 +1,7 @@
 //! Worked examples of the store, by calls.
 //!
-//! A call that takes memory is made once more after `OutOfMemory`, and is to give the example's answer then: so the tests also pass where any one request for memory is refused (`rt try --test --fail-alloc N`).
+//! A call that takes memory is made once more after `OutOfMemory`, and is to give the example's answer then: so the
+//! tests also pass where any one request for memory is refused (`rt try --test --fail-alloc N`).
 ghost use Rattle.std.specs.Prelude.{◌≡◌, ◌≤◌, ℕ, IfOk, length};
 ghost use Rattle.be_core.specs.declared.event.Phase.TheVariants.{Idle};
 ghost use Rattle.be_store.specs.Passes.{IsPassOf, IsPinnedTo};
@@ -228,7 +229,8 @@ fn live_query(rt: HostRuntime) -> Result<(), Fail> {
     Ok(())
 }
 
-/// Sets the attribute of node 1 to 1 to 500, while the other pass is pinned and asks for the nodes where it is 0. The first value that found no page, if each after it found none either and the answers are as they should be.
+/// Sets the attribute of node 1 to 1 to 500, while the other pass is pinned and asks for the nodes where it is 0. The
+/// first value that found no page, if each after it found none either and the answers are as they should be.
 fn fill_pool(
     store: &Store,
     alloc: Global,
@@ -420,7 +422,8 @@ fn fill_alone(store: &Store, writer: &mut Pass, name: &Name) -> Option<i32>
     first
 }
 
-/// Whether, at the current version, the attribute of node 1 is this number, and the query finds node 1 just where it is 0.
+/// Whether, at the current version, the attribute of node 1 is this number, and the query finds node 1 just where it is
+/// 0.
 fn reads_number(
     store: &Store,
     alloc: Global,
@@ -526,7 +529,8 @@ fn finds_node(
     Ok(answer.pin == pin && answer.nodes.as_slice() == [1].as_slice())
 }
 
-/// The list of 64 writes, while the other pass is pinned before it, and is then pinned after it. Whether both found what they were to find.
+/// The list of 64 writes, while the other pass is pinned before it, and is then pinned after it. Whether both found
+/// what they were to find.
 fn write_under_pin(
     store: &Store,
     alloc: Global,

@@ -31,7 +31,8 @@ fn apply_to(
     apply(writing, version_page, ops)
 }
 
-/// Applies the operations to the current version, and publishes what they make. A refusal of 2 to 8 comes at once; the journal's want of room goes before that of a page.
+/// Applies the operations to the current version, and publishes what they make. A refusal of 2 to 8 comes at once; the
+/// journal's want of room goes before that of a page.
 pub(crate) fn write(
     writing: &mut Writing<'_>,
     ops: &[Op],

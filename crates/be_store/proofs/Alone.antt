@@ -1,0 +1,71 @@
+-- The only pass of a store has written all that it has seen.
+use Rattle.std.proofs.Common.{◌≡◌, ℕ, suc, ◌+◌, List, [], ◌∷◌, ◌++◌, length, map, take, Ok, refl, sym, ap, ◌∙◌, subst, arith, length-append}
+use Rattle.std.proofs.lemmas.List.{append-nil, length-map}
+use Rattle.be_journal.specs.declared.entries.Entry.{Entry}
+use Rattle.be_journal.specs.Journal.{by_pass, replay, Agrees}
+use Rattle.be_journal.proofs.LegalLemmas.{replay_push}
+use Rattle.be_table.specs.declared.pass.Commit.{Commit}
+use Rattle.be_table.specs.declared.pass.Knowledge.{Knowledge}
+use Rattle.be_table.specs.History.{AllBelow, StartsWith}
+use Rattle.be_table.specs.Rule.{entries}
+use Rattle.be_table.specs.Steps.{entry_of}
+use Rattle.be_table.proofs.Histories.{by_pass-append, by_pass-own}
+use Rattle.be_volume.specs.Ahead.{after, reached}
+use Rattle.be_volume.specs.Volume.{State, steps}
+use Rattle.be_volume.specs.declared.ops.Done.{Done}
+use Rattle.be_volume.specs.declared.ops.Op.{Op}
+use Rattle.be_store.specs.Alone.{IsAlone, WritesNext}
+use Rattle.be_store.specs.History.{Accepts}
+use Rattle.be_store.specs.Passes.{volume_seen}
+use Rattle.be_store.proofs.Applied.{entries_append, nothing_more}
+
+-- entries by passes below 1 are by the pass 0
+by_one : (log : List Entry) → AllBelow 1 log → by_pass 0 log ≡ log
+unfolding AllBelow
+by_one [] b = refl
+by_one (e ∷ log) b =
+    let zero : e.by ≡ 0 = omega (arith, b.0) in
+    by_pass-append 0 (e ∷ []) log ∙ (ap (λ l. l ++ by_pass 0 log) (by_pass-own 0 [] e zero) ∙ ap (λ l. e ∷ l) (by_one log b.1))
+
+pub number_zero : (a : Knowledge) → IsAlone a → a.number ≡ 0
+number_zero a h = omega (arith, h.pass.number_below, h.one)
+
+pub written : (a : Knowledge) → IsAlone a → entries a.seen ≡ a.mine
+written a h =
+    sym (by_one (entries a.seen) (subst (λ n. AllBelow n (entries a.seen)) h.one h.pass.by_passes))
+    ∙ (ap (λ k. by_pass k (entries a.seen)) (sym (number_zero a h)) ∙ h.pass.mine)
+
+none_of : (log : List Commit) → entries log ≡ [] → log ≡ []
+none_of [] e = refl
+none_of (c ∷ log) e = absurd (let l : length (entries (c ∷ log)) ≡ 0 = ap length e in omega (arith, l))
+
+-- where it has written nothing, it has seen nothing more
+pub same_seen : (a c : Knowledge) → IsAlone a → IsAlone c → StartsWith c.seen a.seen → c.mine ≡ a.mine → c.seen ≡ a.seen
+same_seen a c alone after more mine =
+    let same : entries a.seen ++ entries more.0 ≡ entries a.seen = sym (entries_append a.seen more.0) ∙ (ap entries (sym more.1) ∙ (written c after ∙ (mine ∙ sym (written a alone)))) in
+    more.1 ∙ (ap (λ l. a.seen ++ l) (none_of more.0 (nothing_more (entries a.seen) (entries more.0) same)) ∙ append-nil a.seen)
+
+none_between : (xs ys : List Entry) (d e : Entry) → (xs ++ ys) ++ d ∷ [] ≡ xs ++ e ∷ [] → ys ≡ []
+none_between xs [] d e same = refl
+none_between xs (y ∷ ys) d e same = absurd (
+    let l : length ((xs ++ y ∷ ys) ++ d ∷ []) ≡ length (xs ++ e ∷ []) = ap length same in
+    let m = length-append (xs ++ y ∷ ys) (d ∷ []) in let n = length-append xs (y ∷ ys) in let o = length-append xs (e ∷ []) in omega arith)
+
+pub writes_next : (a c : Knowledge) (ops : List Op) (n : ℕ) (dones : List Done) → IsAlone a → IsAlone c → Accepts a c ops n dones → WritesNext a c ops n dones
+writes_next a c ops n dones alone then h =
+    let e = entry_of a ops dones in
+    let seen : entries c.seen ≡ entries a.seen ++ e ∷ [] = written c then ∙ (h.mine ∙ ap (λ l. l ++ e ∷ []) (sym (written a alone))) in
+    let shown : entries c.seen ≡ (entries a.seen ++ entries h.others) ++ h.commit.entry ∷ [] =
+    ap entries h.seen ∙ (entries_append (a.seen ++ h.others) (h.commit ∷ []) ∙ ap (λ l. l ++ h.commit.entry ∷ []) (entries_append a.seen h.others)) in
+    let none : entries h.others ≡ [] = none_between (entries a.seen) (entries h.others) h.commit.entry e (sym shown ∙ seen) in
+    let before : entries (a.seen ++ h.others) ≡ entries a.seen = entries_append a.seen h.others ∙ (ap (λ l. entries a.seen ++ l) none ∙ append-nil (entries a.seen)) in
+    let agrees : Agrees (volume_seen a) e = subst (λ l. Agrees (replay l) e) before h.answered in
+    let made : volume_seen c ≡ agrees.0 = ap replay seen ∙ (replay_push (entries a.seen) e ∙ ap (reached (volume_seen a)) agrees.1) in
+    let long : length (entries c.seen) ≡ length (entries a.seen ++ e ∷ []) = ap length seen in
+    let ended = length-append (entries a.seen) (e ∷ []) in
+    let there = length-map c.seen (λ (x : Commit). x.entry) in
+    let here = length-map a.seen (λ (x : Commit). x.entry) in record {
+      seen = seen;
+      step = agrees.1 ∙ ap (λ s. Ok (s, dones)) (sym made);
+      number = omega (arith, h.number, long, ended, there, here);
+    }

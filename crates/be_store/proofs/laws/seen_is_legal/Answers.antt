@@ -1,0 +1,6 @@
+use Rattle.be_table.proofs.Histories.{is_legal}
+use Rattle.be_table.specs.Rule.{entries}
+use Rattle.be_store.proofs.laws.seen_is_legal.Goals as goal
+
+pub returns-clause-legal : goal.returns-clause-legal
+returns-clause-legal c = is_legal (entries c.args.pass.now.knows.seen) c.is_pass.ensures.legal

@@ -1,0 +1,64 @@
+//! What a pass of a store knows, and how it is with the only pass of one.
+//!
+//! Each law does nothing; its contract is the law, for the crates above. The laws of the only pass speak of what a pass
+//! knows before and after a call: `alone` says of a pass at hand that it is such.
+ghost use Rattle.std.specs.Prelude.{◌≡◌, ◌≤◌, ◌<◌, ℕ, List, length};
+ghost use Rattle.be_journal.specs.Journal.{IsLegal, by_pass};
+ghost use Rattle.be_store.specs.Alone.{IsAlone, WritesNext};
+ghost use Rattle.be_store.specs.History.{Accepts, Learns, IsReason, IsRefusedAt, Pins as IsPin};
+ghost use Rattle.be_store.specs.Passes.{IsPassOf, volume_pinned, volume_seen};
+ghost use Rattle.be_table.specs.History.{AllBelow};
+ghost use Rattle.be_table.specs.Rule.{entries};
+ghost use Rattle.be_table.specs.Steps.{IsPass};
+ghost use Rattle.be_table.specs.declared.pass.Knowledge.{Knowledge};
+ghost use Rattle.be_value.specs.declared.refusals.Refusal.{Refusal};
+ghost use Rattle.be_volume.specs.declared.ops.Done.{Done};
+ghost use Rattle.be_volume.specs.declared.ops.Op.{Op};
+
+use crate::{Pass, Store};
+
+/// What a pass has seen is a legal journal, of entries by passes of the store, and its own writes are just the entries
+/// by its number.
+pub fn seen_is_legal(store: &Store, pass: &Pass)
+    requires { IsPassOf store.now pass.now }
+    ensures pass { IsPass pass.now.knows }
+    ensures legal { IsLegal (entries pass.now.knows.seen) }
+    ensures by { AllBelow store.now.limits.passes (entries pass.now.knows.seen) }
+    ensures mine { by_pass pass.now.knows.number (entries pass.now.knows.seen) ≡ pass.now.knows.mine }
+    ensures number { pass.now.knows.number < store.now.limits.passes }
+    ensures room { length pass.now.knows.seen ≤ store.now.limits.commits }
+{
+    pass.is_pass();
+}
+
+/// A pass that has just pinned reads the volume after all that it has seen.
+pub fn pin_reads_all_seen()
+    ensures { (a c : Knowledge) (n : ℕ) → IsPin a c n → volume_pinned c ≡ volume_seen c }
+{}
+
+/// The only pass of a store has the number 0, and has written all that it has seen.
+pub fn alone(store: &Store, pass: &Pass)
+    requires pass { IsPassOf store.now pass.now }
+    requires one { store.now.limits.passes ≡ 1 }
+    ensures alone { IsAlone pass.now.knows }
+    ensures number { pass.now.knows.number ≡ 0 }
+    ensures written { entries pass.now.knows.seen ≡ pass.now.knows.mine }
+{
+    seen_is_legal(store, pass);
+}
+
+/// An accepted write of the only pass is the next entry after what it had seen: the volume steps from there.
+pub fn alone_writes_next()
+    ensures { (a c : Knowledge) (ops : List Op) (n : ℕ) (dones : List Done) → IsAlone a → IsAlone c → Accepts a c ops n dones → WritesNext a c ops n dones }
+{}
+
+/// A refused write of the only pass shows it nothing, and is never refused by Busy.
+pub fn alone_refused()
+    ensures seen { (a c : Knowledge) → IsAlone a → IsAlone c → Learns a c → c.seen ≡ a.seen }
+    ensures reason { (a c : Knowledge) (ops : List Op) (e : Refusal) → IsAlone a → IsReason a c ops e → IsRefusedAt c ops e }
+{}
+
+/// A pin of the only pass shows it nothing.
+pub fn alone_pins_seen()
+    ensures { (a c : Knowledge) (n : ℕ) → IsAlone a → IsAlone c → IsPin a c n → c.seen ≡ a.seen }
+{}
