@@ -1,6 +1,10 @@
 //! What each step on a word does to the reclamation machine.
 //!
-//! The rule of the table says that the words, the ledger and what the passes know show one state of the machine of be_core, in which the machine's invariant holds. The functions here do nothing: their contracts say, over the definitions alone, which event of the machine each step is. Whatever state the table is in, a pass that may step can step; the state that the table shows before allows the event, and the one that it shows afterwards is the event's. A step whose word has no event leaves the machine as it was. The calls of the table are proved by these very laws.
+//! The rule of the table says that the words, the ledger and what the passes know show one state of the machine of
+//! be_core, in which the machine's invariant holds. The functions here do nothing: their contracts say, over the
+//! definitions alone, which event of the machine each step is. Whatever state the table is in, a pass that may step can
+//! step; the state that the table shows before allows the event, and the one that it shows afterwards is the event's. A
+//! step whose word has no event leaves the machine as it was. The calls of the table are proved by these very laws.
 ghost use Rattle.std.specs.Prelude.{ℕ, List, Option};
 ghost use Rattle.be_table.specs.declared.ledger.Ledger.{Ledger};
 ghost use Rattle.be_table.specs.declared.limits.Limits.{Limits};
@@ -57,7 +61,8 @@ pub fn take()
     ensures { (limits : Limits) (slots id : ℕ) (a : Knowledge) (carried : List (ℕ × Option Ledger)) → TakeIsNoEvent limits slots id a carried }
 {}
 
-/// The load by which a page is given up is no event: a page that the write had filled goes back to the free ones, which is the holder's bookkeeping.
+/// The load by which a page is given up is no event: a page that the write had filled goes back to the free ones, which
+/// is the holder's bookkeeping.
 pub fn give_up()
     ensures { (limits : Limits) (slots id : ℕ) (a : Knowledge) (carried : List (ℕ × Option Ledger)) → GiveUpIsNoEvent limits slots id a carried }
 {}

@@ -1,6 +1,7 @@
 //! What lies in the slot while nobody holds the lock.
 //!
-//! Who holds the lock has the ledger in hand and changes it as plain data. It keeps no volume: the pages are the volume.
+//! Who holds the lock has the ledger in hand and changes it as plain data. It keeps no volume: the pages are the
+//! volume.
 ghost use Rattle.std.specs.Prelude.{◌≡◌, ◌≤◌, ℕ, map, length};
 ghost use Rattle.be_journal.specs.Journal.{Grows, extended, with_room};
 ghost use Rattle.be_pages.specs.PagePool.{places};
@@ -45,7 +46,8 @@ impl Ledger {
         self.pool.sweep(least);
     }
 
-    /// The entry comes last, with this version page. What was filled is of the current version, and what was given up is retired. There is room for the entry.
+    /// The entry comes last, with this version page. What was filled is of the current version, and what was given up
+    /// is retired. There is room for the entry.
     pub fn append(&mut self, by: u64, ops: &[Op], dones: &[Done], page: u64)
         requires some { (1 ≤ length ops.now) × (length ops.now ≤ 64) }
         requires room { (length ops.now ≡ self.old.journal.reserved) × (length dones.now ≡ self.old.journal.reserved) }

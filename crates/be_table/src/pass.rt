@@ -1,6 +1,8 @@
 //! What a pass knows, for contracts alone: no value of these types is ever made.
 //!
-//! A seat carries the knowledge of its pass as ghost data. Each step changes the knowledge of the pass that steps, and of no other. What a pass knows stays so whatever the others do: a beginning of the journal, its own entries, the image of the version that it is pinned to; and, while it holds the lock, where each page is and all page words.
+//! A seat carries the knowledge of its pass as ghost data. Each step changes the knowledge of the pass that steps, and
+//! of no other. What a pass knows stays so whatever the others do: a beginning of the journal, its own entries, the
+//! image of the version that it is pinned to; and, while it holds the lock, where each page is and all page words.
 use crate::limits::Limits;
 use be_core::Phase;
 use be_journal::Entry;
@@ -36,7 +38,7 @@ pub struct Knowledge {
     /// While it holds the lock, where each page is, and the table's words, of which those of the pages stay.
     pub places: LinkedList<Place>,
     pub words: LinkedList<u64>,
-    /// The pages that its write had filled and not given back when its last whole scan ended.
+    /// The pages that its write had taken and not given back when its last whole scan ended.
     pub held: LinkedList<u64>,
     /// The number of its steps on words.
     pub steps: u64,

@@ -1,6 +1,7 @@
 //! The rule of the table, and the names of its steps.
 //!
-//! A step on a word is allowed where, whatever the table is then, the rule still holds after it. What the step tells its pass is the definition that its name carries.
+//! A step on a word is allowed where, whatever the table is then, the rule still holds after it. What the step tells
+//! its pass is the definition that its name carries.
 ghost use Rattle.std.specs.Prelude.{[]};
 ghost use Rattle.be_table.specs.Rule.{Shows, everyone, first_seat, other_seats, joined};
 ghost use Rattle.be_table.specs.Steps.{LookTold, Locked, Unlocked, Compared, Arrived, Told, PinnedAt, Unpinned, Scanned, PinnedRead, OwnRead, FilledAt, PageTaken, PageGivenUp, Published};

@@ -1,6 +1,8 @@
 //! A pass's seat at the table.
 //!
-//! A seat is the right to step for one pass: no two seats have the same pass, so what a pass knows is known to one holder alone. Beside that right it carries three numbers which its steps told: the number of the pass, how much of the journal the pass has seen, and its pin.
+//! A seat is the right to step for one pass: no two seats have the same pass, so what a pass knows is known to one
+//! holder alone. Beside that right it carries three numbers which its steps told: the number of the pass, how much of
+//! the journal the pass has seen, and its pin.
 ghost use Rattle.std.specs.Prelude.{◌≡◌, ℕ, ◌<◌, true, false, [], ◌∷◌, length, IsTrue};
 ghost use Rattle.be_core.specs.Machine.{has};
 ghost use Rattle.be_table.specs.Rule.{pass_of, page_at, reach_at};
@@ -107,7 +109,8 @@ impl Seat {
         }
     }
 
-    /// The version page of the version to which the pass is pinned. From there the version's pages, with the words that they had when it was published, spell the volume after so many entries as its number says.
+    /// The version page of the version to which the pass is pinned. From there the version's pages, with the words that
+    /// they had when it was published, spell the volume after so many entries as its number says.
     pub fn version_page(&self) -> u64
         requires seat { self.now.blank ≡ false }
         requires pinned { (x : ℕ) × (n : ℕ) × (self.now.knows.phase ≡ Pinned x n) }
@@ -122,7 +125,8 @@ impl Seat {
         }
     }
 
-    /// A law of one seat: what is always so of a pass is so of this one, as a contract can't tell of a seat that it is lent. It does nothing.
+    /// A law of one seat: what is always so of a pass is so of this one, as a contract can't tell of a seat that it is
+    /// lent. It does nothing.
     pub fn is_pass(&self)
         requires { self.now.blank ≡ false }
         ensures { IsPass self.now.knows }

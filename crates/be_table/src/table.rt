@@ -1,6 +1,8 @@
 //! The table that the passes share, and the steps of readers.
 //!
-//! Word 0 is LOCK: 0 when free, else the holder's number + 1. Word 8 is CURRENT: the version's number times 2^32, plus its version page. Word 16 + 8 k is the announcement of pass k: 0 for none, else the number + 1. Word i of page p is word 528 + 512 p + i.
+//! Word 0 is LOCK: 0 when free, else the holder's number + 1. Word 8 is CURRENT: the version's number times 2^32, plus
+//! its version page. Word 16 + 8 k is the announcement of pass k: 0 for none, else the number + 1. Word i of page p is
+//! word 528 + 512 p + i.
 ghost use Rattle.std.specs.Prelude.{◌≡◌, ℕ, ◌<◌, false, length, map, MatchResult, IsTrue, slice_index};
 ghost use Rattle.be_core.specs.Machine.{has};
 ghost use Rattle.be_table.specs.Rule.{counted, reach_at, word_place, page_at};
@@ -66,9 +68,11 @@ impl VersionTable {
     ghost use Rattle.be_paged.specs.Version.{IsVersion};
     ghost use Rattle.be_volume.specs.Volume.{empty};
 
-    /// A table with an empty journal, and the seats of its passes in the order of their numbers. Version 0 is the page `first`, which spells the empty volume, at page 0; the other pages are free.
+    /// A table with an empty journal, and the seats of its passes in the order of their numbers. Version 0 is the page
+    /// `first`, which spells the empty volume, at page 0; the other pages are free.
     ///
-    /// BadLimits where a limit is out of its range, and OutOfMemory where a growth was refused. No later call but `reserve` takes memory.
+    /// BadLimits where a limit is out of its range, and OutOfMemory where a growth was refused. No later call but
+    /// `reserve` takes memory.
     pub fn open(
         alloc: Global,
         limits: Limits,
@@ -133,7 +137,8 @@ impl VersionTable {
         version
     }
 
-    /// Announces the number that the pass looked at. From then on no write that scans frees a page of that version or of a later one. One store.
+    /// Announces the number that the pass looked at. From then on no write that scans frees a page of that version or
+    /// of a later one. One store.
     pub fn announce(&self, seat: &mut Seat, number: u64)
         requires seat { IsSeatOf self.now seat.old }
         requires looked { seat.old.knows.phase ≡ Phase.Looked number }
@@ -148,7 +153,8 @@ impl VersionTable {
         *seat = Seat::of(base, marks);
     }
 
-    /// Pins the version that is current once the announcement stands, which may be later than the announced one. Answers its number and its version page. One load.
+    /// Pins the version that is current once the announcement stands, which may be later than the announced one.
+    /// Answers its number and its version page. One load.
     pub fn look_again(&self, seat: &mut Seat) -> (u64, u64)
         requires seat { IsSeatOf self.now seat.old }
         requires announced { (x : ℕ) × (seat.old.knows.phase ≡ Phase.Announced x) }
@@ -215,7 +221,8 @@ impl VersionTable {
         found
     }
 
-    /// A reader of the pages of the pinned version, which spell the volume after the journal's entries up to the version's number. No step.
+    /// A reader of the pages of the pinned version, which spell the volume after the journal's entries up to the
+    /// version's number. No step.
     pub fn pinned_look(&self, seat: Seat) -> PinnedLook<'_>
         requires seat { IsSeatOf self.now seat }
         requires pinned { (x : ℕ) × (n : ℕ) × (seat.knows.phase ≡ Phase.Pinned x n) }
@@ -226,7 +233,9 @@ impl VersionTable {
         PinnedLook::of(self, seat)
     }
 
-    /// Two passes tell each other what they have seen, in three steps: their seats are joined, a load compares what they have seen, and the seats are cut apart again. Both passes have then seen what either had: of two beginnings of one journal the longer. Answers its length.
+    /// Two passes tell each other what they have seen, in three steps: their seats are joined, a load compares what
+    /// they have seen, and the seats are cut apart again. Both passes have then seen what either had: of two beginnings
+    /// of one journal the longer. Answers its length.
     pub fn meet(&self, left: Seat, right: Seat) -> (Seat, Seat, u64)
         requires { IsSeatOf self.now left × IsSeatOf self.now right }
         ensures seats { IsSeatOf self.now result.0 × IsSeatOf self.now result.1 }

@@ -1,6 +1,8 @@
 //! Worked examples of the table, by calls.
 //!
-//! Writes go through be_paged over the open write, and readers read what it made. A call that takes memory is made once more after `OutOfMemory`, and is to give the example's answer then: so the tests also pass where any one request for memory is refused (`rt try --test --fail-alloc N`).
+//! Writes go through be_paged over the open write, and readers read what it made. A call that takes memory is made once
+//! more after `OutOfMemory`, and is to give the example's answer then: so the tests also pass where any one request for
+//! memory is refused (`rt try --test --fail-alloc N`).
 ghost use Rattle.std.specs.Prelude.{◌≡◌, ◌≤◌, ◌<◌, ◌+◌, ◌^◌, ℕ, false, length, IfErr, IfOk, IsTrue};
 ghost use Rattle.be_core.specs.declared.event.Phase.TheVariants.{Idle, Pinned};
 ghost use Rattle.be_table.specs.declared.pass.Knowledge.{Knowledge};
@@ -93,7 +95,8 @@ fn apply_to(
     apply(writing, page, ops)
 }
 
-/// Applies a list of operations to the current version, and publishes the version that it makes. Answers the journal's length.
+/// Applies a list of operations to the current version, and publishes the version that it makes. Answers the journal's
+/// length.
 fn write(writing: &mut Writing<'_>, ops: &[Op]) -> Result<u64, Refusal>
     requires begun { (a : Knowledge) × TakesLock a writing.old.knows }
     requires count { (1 ≤ length ops.now) × (length ops.now ≤ 64) }
@@ -339,7 +342,8 @@ fn reading_under_held_lock(rt: HostRuntime) -> Result<(), Fail> {
     Ok(())
 }
 
-// A pinned version is the volume after the entries up to it, for the reader of pages and for queries, while a later write changes it.
+// A pinned version is the volume after the entries up to it, for the reader of pages and for queries, while a later
+// write changes it.
 #[test]
 fn pinned_volume(rt: HostRuntime) -> Result<(), Fail> {
     let (table, first, mut second) = for_two(rt.alloc())?;

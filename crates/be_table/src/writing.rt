@@ -1,6 +1,8 @@
 //! An open write: the lock is held, and the ledger is in hand.
 //!
-//! A write takes pages, fills them, gives pages up, and publishes. Until it publishes, nothing of it can be seen by others, and `unlock` undoes it. It is never let go of but by `unlock`, since it has no `Drop`: so the ledger always comes back.
+//! A write takes pages, fills them, gives pages up, and publishes. Until it publishes, nothing of it can be seen by
+//! others, and `unlock` undoes it. It is never let go of but by `unlock`, since it has no `Drop`: so the ledger always
+//! comes back.
 ghost use Rattle.std.specs.Prelude.{◌≡◌, ◌≤◌, All, suc, ◌+◌, ◌*◌, ◌^◌, ◌<◌, true, false, [], ◌∷◌, length, None, MatchResult, ℕ, map, slice_index, IsTrue, List, IfOk, IfErr, IfSome, IfNone, ◌≢◌};
 ghost use Rattle.be_volume.specs.Sound.{IsOperation};
 ghost use Rattle.be_pages.specs.declared.room.Standing.TheVariants.{Taken, Filled as Full};
@@ -77,7 +79,8 @@ impl<'a> Writing<'a> {
         }
     }
 
-    /// The length of the journal, and the version page. The volume has 64 node numbers left, however long the journal is. No step.
+    /// The length of the journal, and the version page. The volume has 64 node numbers left, however long the journal
+    /// is. No step.
     pub fn current(&self) -> (u64, u64)
         ensures version { (result.0 ≡ length self.now.knows.seen) × (result.1 ≡ page_at self.now.knows.seen (length self.now.knows.seen)) }
         ensures next { (replay (entries self.now.knows.seen)).next + 64 < 2 ^ 64 }
@@ -110,7 +113,8 @@ impl<'a> Writing<'a> {
         self.ledger.pool.fill(page);
     }
 
-    /// Gives a page up. One that was taken in this write is free at once; one of the current version keeps its words until a scan frees it. One load.
+    /// Gives a page up. One that was taken in this write is free at once; one of the current version keeps its words
+    /// until a scan frees it. One load.
     pub fn give_up(&mut self, page: u64)
         requires open { self.old.knows.published ≡ false }
         requires held { (page < length self.old.knows.places) × IsTrue (is_held_page (place_of self.old.knows.places page)) }
@@ -140,7 +144,9 @@ impl<'a> Writing<'a> {
         Some(page)
     }
 
-    /// Takes a free page, the one that was freed last. Where none is free it scans, and answers Full with the least that it found where none is free even then: each page that no version from the least on has is then held by this write. One load, and a scan's where it scans.
+    /// Takes a free page, the one that was freed last. Where none is free it scans, and answers Full with the least
+    /// that it found where none is free even then: each page that no version from the least on has is then held by this
+    /// write. One load, and a scan's where it scans.
     pub fn take(&mut self) -> Result<u64, Refusal>
         requires open { self.old.knows.published ≡ false }
         ensures ok { IfOk result (λ page. TakesPage self.old self.new page) }
@@ -156,7 +162,8 @@ impl<'a> Writing<'a> {
         }
     }
 
-    /// Reads every announcement once. Answers the least of them and of the current number; the pages that were retired with a smaller number are free. A load for each pass, and work for each page that becomes free.
+    /// Reads every announcement once. Answers the least of them and of the current number; the pages that were retired
+    /// with a smaller number are free. A load for each pass, and work for each page that becomes free.
     pub fn scan(&mut self) -> u64
         requires open { self.old.knows.published ≡ false }
         ensures { MakesScan self.old self.new result }
@@ -167,7 +174,8 @@ impl<'a> Writing<'a> {
         least
     }
 
-    /// Makes room for one entry of so many operations. CommitsSpent where the journal is as long as the limit, and OutOfMemory where a growth was refused; either leaves the write as it was.
+    /// Makes room for one entry of so many operations. CommitsSpent where the journal is as long as the limit, and
+    /// OutOfMemory where a growth was refused; either leaves the write as it was.
     #[tactic(auto, using(crate::proofs::Opened::no_room, crate::proofs::Opened::has_room))]
     pub fn reserve(&mut self, count: usize) -> Result<(), Refusal>
         requires open { self.old.knows.published ≡ false }
@@ -187,7 +195,9 @@ impl<'a> Writing<'a> {
         ensures { (page < length self.now.knows.places) × (place_of self.now.knows.places page ≡ Place.Filled) }
     {}
 
-    /// Enters a write into the journal, with the version of the pages that the write keeps, which spells the volume after the entry and reaches just these pages. Answers the journal's length, which is the new version's number. One store, which takes no memory, and work for each page that the write took or gave up.
+    /// Enters a write into the journal, with the version of the pages that the write keeps, which spells the volume
+    /// after the entry and reaches just these pages. Answers the journal's length, which is the new version's number.
+    /// One store, which takes no memory, and work for each page that the write took or gave up.
     pub fn publish(&mut self, page: u64, ops: &[Op], dones: &[Done]) -> u64
         requires open { self.old.knows.published ≡ false }
         requires count { (1 ≤ length ops.now) × (length ops.now ≤ 64) }
