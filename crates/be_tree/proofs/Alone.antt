@@ -48,6 +48,18 @@ module _ (level below least page : ℕ) (standing : ℕ → Standing) (words : �
         times_pages level words one (drop (suc i) items) page,
       )
 
+-- a node after the child at one of its items became another: it is still read, and its slots with the other's branch in place of the one
+pub record AroundOne {S K : Type 0} (kept_of : S → K) (standing_of : S → ℕ → Standing) (words_of : S → ℕ → ℕ → ℕ) (level below page i : ℕ) (f : List Pair → List Pair) (us : List Pair) (old mid : S) : Type 0 where
+  pub readable : IsTrue (is_readable (standing_of mid page))
+  pub is_page : IsPage (words_of mid page)
+  pub count : words_of mid page 1 ≡ words_of old page 1
+  pub changed : (g : List Pair → List Pair) → ((xs : List Pair) → IsRising xs → IsRising (g xs))
+      → g (pairs_at level (words_of old) page) ≡ pairs_below (suc below) (words_of old) (take i (items_of (words_of old page)))
+      ++ (f (pairs_at below (words_of old) (child (item_at (words_of old page) (place_of i)))) ++ pairs_below (suc below) (words_of old) (drop (suc i) (items_of (words_of old page))))
+      → (given : Pair) (slots : List Slot) (last : S) → pairs_of (words_of mid) given slots ≡ take i (items_of (words_of mid page)) ++ (us ++ drop (suc i) (items_of (words_of mid page)))
+      → IsUnchanged kept_of standing_of words_of mid last
+      → Becomes kept_of standing_of words_of (pages_below level (words_of old) (items_of (words_of old page))) (g (pairs_at level (words_of old) page)) level (pairs_of (words_of last) given slots) old last
+
 -- the child has become others, and the node's slots have them in its place
 module _ {S K : Type 0} (kept_of : S → K) (standing_of : S → ℕ → Standing) (words_of : S → ℕ → ℕ → ℕ) (level below least page i p : ℕ) (old read : S)
     (e : level ≡ suc below) (tree : IsTreeAt level least (standing_of old) (words_of old) page) (lt : i < words_of old page 1)
@@ -101,3 +113,6 @@ module _ {S K : Type 0} (kept_of : S → K) (standing_of : S → ℕ → Standin
       let now = is ∙ ap (λ (w : ℕ → ℕ). take i (items_of w) ++ (us ++ drop (suc i) (items_of w))) one_same in
       slots_until kept_of standing_of words_of (pages_below level (words_of old) items) whole level given slots old mid last after
       (subst (λ xs. Becomes kept_of standing_of words_of (pages_below level (words_of old) items) whole level xs old mid) (sym now) counted)
+
+  pub around_one : AroundOne kept_of standing_of words_of level below page i f us old mid
+  around_one = record { readable = one_readable; is_page = one_is_page; count = one_count; changed = one_changed }

@@ -115,6 +115,19 @@ module _ (level below least page : ℕ) (standing : ℕ → Standing) (words : �
         subst (λ (m : ℕ). all ≡ pairs_below m words (take i items) ++ ((f (g d) ++ g n) ++ pairs_below m words (drop (i + 2) items))) (sym e)
         (one ∙ ap (λ xs. flat_map g (take i items) ++ (f (g d) ++ flat_map g xs)) rest ∙ ap (λ xs. flat_map g (take i items) ++ xs) (sym (append_assoc (f (g d)) (g n) (flat_map g (drop (i + 2) items)))))
 
+-- a node after the children at two neighbouring items of it became others: it is still read, and its slots with the others' branches in place of the two
+pub record AroundTwo {S K : Type 0} (kept_of : S → K) (standing_of : S → ℕ → Standing) (words_of : S → ℕ → ℕ → ℕ) (level below page i : ℕ) (f : List Pair → List Pair → List Pair) (us : List Pair) (old mid : S) : Type 0 where
+  pub readable : IsTrue (is_readable (standing_of mid page))
+  pub is_page : IsPage (words_of mid page)
+  pub count : words_of mid page 1 ≡ words_of old page 1
+  pub changed : (g : List Pair → List Pair) → ((xs : List Pair) → IsRising xs → IsRising (g xs))
+      → g (pairs_at level (words_of old) page) ≡ pairs_below level (words_of old) (take i (items_of (words_of old page)))
+      ++ (f (pairs_at below (words_of old) (child (item_at (words_of old page) (place_of i)))) (pairs_at below (words_of old) (child (item_at (words_of old page) (place_of (i + 1)))))
+      ++ pairs_below level (words_of old) (drop (i + 2) (items_of (words_of old page))))
+      → (given : Pair) (slots : List Slot) (last : S) → pairs_of (words_of mid) given slots ≡ take i (items_of (words_of mid page)) ++ (us ++ drop (i + 2) (items_of (words_of mid page)))
+      → IsUnchanged kept_of standing_of words_of mid last
+      → Becomes kept_of standing_of words_of (pages_below level (words_of old) (items_of (words_of old page))) (g (pairs_at level (words_of old) page)) level (pairs_of (words_of last) given slots) old last
+
 -- the two children have become others, and the node's slots have them in place of the two
 module _ {S K : Type 0} (kept_of : S → K) (standing_of : S → ℕ → Standing) (words_of : S → ℕ → ℕ → ℕ) (level below least page i l r : ℕ) (old here read : S)
     (e : level ≡ suc below) (tree : IsTreeAt level least (standing_of old) (words_of old) page) (lt : i + 2 ≤ words_of old page 1)
@@ -170,3 +183,6 @@ module _ {S K : Type 0} (kept_of : S → K) (standing_of : S → ℕ → Standin
         let named = is ∙ ap (λ (w : ℕ → ℕ). take i (items_of w) ++ (us ++ drop (i + 2) (items_of w))) page_same in
         slots_until kept_of standing_of words_of (pages_below level (words_of old) items) whole level given slots old mid last after
         (subst (λ xs. Becomes kept_of standing_of words_of (pages_below level (words_of old) items) whole level xs old mid) (sym named) counted)
+
+    pub around_two : AroundTwo kept_of standing_of words_of level below page i f us old mid
+    around_two = record { readable = page_readable; is_page = page_is; count = page_count; changed = two_changed }

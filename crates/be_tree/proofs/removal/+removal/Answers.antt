@@ -1,4 +1,4 @@
-use Rattle.std.proofs.Common.{◌≡◌, ℕ, suc, [], ◌∷◌, ◌++◌, ◌-◌, ◌+◌, ◌≤◌, List, take, drop, ap, sym, subst, refl, ◌∙◌, length, arith}
+use Rattle.std.proofs.Common.{◌≡◌, ℕ, suc, [], ◌∷◌, ◌++◌, ◌-◌, ◌+◌, ◌<◌, ◌≤◌, All, List, take, drop, ap, sym, subst, refl, ◌∙◌, length, arith}
 use Rattle.std.proofs.lemmas.Bool.Decides.{nat_tests}
 use Rattle.std.proofs.lemmas.List.FromFn.{length-map-range_with_len}
 use Rattle.be_tree.specs.declared.slot.Slot.{Slot}
@@ -9,18 +9,20 @@ use Rattle.std.specs.Prelude.{true, false}
 use Rattle.std.specs.Ordering.{is_eq}
 use Rattle.be_tree.proofs.Stops.{absent_is, down_read, found_is, passed_absent, passed_stop}
 use Rattle.be_tree.specs.Page.{items_of, item_at, place_of}
-use Rattle.be_tree.specs.Slot.{branch_to, IsBranchSlot, pair_of, pairs_of}
+use Rattle.be_tree.specs.Slot.{branch_to, IsBranchSlot, IsReady, pair_of, pairs_of}
 use Rattle.be_tree.specs.Tree.{Becomes, child, least_of_root, pairs_at, pairs_below, pages_below}
-use Rattle.be_tree.proofs.Alone.{one_changed, one_count, one_is_page, one_readable}
-use Rattle.be_tree.proofs.Children.{first_changed, page_count, page_is, page_readable, second_changed, two_changed}
+use Rattle.be_tree.proofs.Alone.{AroundOne, around_one}
+use Rattle.be_tree.proofs.Children.{AroundTwo, around_two, first_changed, second_changed}
 use Rattle.be_tree.proofs.Frame.{start_trans, swaps_start, unchanged_trans}
-use Rattle.be_tree.proofs.Joins.{left_changed, left_in_hand, left_length, right_changed, right_in_hand, right_length}
+use Rattle.be_tree.proofs.Joins.{Joined, left_changed, left_in_hand, left_length, right_changed, right_in_hand, right_length}
 use Rattle.be_tree.proofs.Neighbours.{apart, left_count, left_page, left_readable, right_count, right_page, right_readable, slots_until}
 use Rattle.be_tree.proofs.Parts.{all_one, on_err}
 use Rattle.be_tree.proofs.Puts.{becomes_given_up, becomes_trans, held_after}
 use Rattle.be_tree.proofs.Removes.{at_in, key_out, leaf_removed, least_two, payload_leaf, rising_without, rising_without_left, rising_without_right}
 use Rattle.be_tree.proofs.Slots.{branches_ready, items_count}
 use Rattle.be_tree.proofs.removal.+removal.Goals as goal
+use Rattle.be_tree.proofs.removal.+removal.Given.{Over}
+use Rattle.be_tree.proofs.removal.+removal.Goals.{remove_at-After-slots_with-arg-1, remove_at-After-slots_with-arg-2-1, remove_at-After-slots_with_one-arg-1, remove_left-After-deref-2, remove_right-After-deref-2}
 
 pub remove_at-slots_without-requires-clause-in_page : goal.remove_at-slots_without-requires-clause-in_page
 remove_at-slots_without-requires-clause-in_page g t c =
@@ -51,98 +53,106 @@ remove_at-returns-then-level-eq0-clause-some g t c =
     let count = ap (λ (w : ℕ → ℕ → ℕ). w page 1) c.rank.ensures.unchanged.words in
     (omega (arith, c.in_ok-slots.ensures.some, count, items_count (words page)), c.in_ok-slots.ensures.some.1)
 
-pub remove_at-slots_with-requires-clause-readable : goal.remove_at-slots_with-requires-clause-readable
-remove_at-slots_with-requires-clause-readable g t c =
-    let old = c.args.room.now in
-    let words = g.R.Look.words old in
+-- the place of the child, and the node around it, once the child has lost the key
+alone_place : (g : Over) (t : ℕ) (c : remove_at-After-slots_with_one-arg-1 g t) → c.saturating_sub-at.result < g.R.Look.words c.args.room.now c.args.page 1
+alone_place g t c = at_in g.R.Look.kept g.R.Look.standing g.R.Look.words c.args.level c.args.page c.args.key.now c.rank.result c.saturating_sub-at.result c.args.room.now c.requires.tree c.rank.ensures.rank c.saturating_sub-at.ensures
+
+alone_level : (g : Over) (t : ℕ) (c : remove_at-After-slots_with_one-arg-1 g t) → c.args.level ≡ suc (c.args.level - 1)
+alone_level g t c = omega (arith, c.if-level-eq0.false)
+
+alone_around : (g : Over) (t : ℕ) (c : remove_at-After-slots_with_one-arg-1 g t)
+    → AroundOne g.R.Look.kept g.R.Look.standing g.R.Look.words c.args.level (c.args.level - 1) c.args.page c.saturating_sub-at.result (without c.args.key.now) (pair_of (g.R.Look.words c.remove_alone.new.room) c.args.pair.now c.in_ok-slot.slot ∷ []) c.args.room.now c.remove_alone.new.room
+alone_around g t c =
     let page = c.args.page in
-    let level = c.args.level in
-    let e : level ≡ suc (level - 1) = omega (arith, c.if-level-eq0.false) in
+    let at = c.saturating_sub-at.result in
+    let old = c.args.room.now in
+    let read = c.spare_child.new.look in
+    let same = unchanged_trans g.R.Look.kept g.R.Look.standing g.R.Look.words old c.rank.new.look read c.rank.ensures.unchanged c.spare_child.ensures.unchanged in
+    let is = c.in-Some.ensures.child ∙ ap (λ (w : ℕ → ℕ → ℕ). child (item_at (w page) (place_of at))) c.rank.ensures.unchanged.words in
+    let mid = c.remove_alone.new.room in
+    let us = pair_of (g.R.Look.words mid) c.args.pair.now c.in_ok-slot.slot ∷ [] in
+    around_one g.R.Look.kept g.R.Look.standing g.R.Look.words c.args.level (c.args.level - 1) (least_of_root c.args.level) page at c.in-Some.below old read (alone_level g t c) c.requires.tree (alone_place g t c) same is (without c.args.key.now) us mid c.in_ok-slot.ensures.ok
+
+alone_without : (g : Over) (t : ℕ) (c : remove_at-After-slots_with_one-arg-1 g t)
+    → without c.args.key.now (pairs_at c.args.level (g.R.Look.words c.args.room.now) c.args.page) ≡ pairs_below (suc (c.args.level - 1)) (g.R.Look.words c.args.room.now) (take c.saturating_sub-at.result (items_of (g.R.Look.words c.args.room.now c.args.page)))
+    ++ (without c.args.key.now (pairs_at (c.args.level - 1) (g.R.Look.words c.args.room.now) (child (item_at (g.R.Look.words c.args.room.now c.args.page) (place_of c.saturating_sub-at.result)))) ++ pairs_below (suc (c.args.level - 1)) (g.R.Look.words c.args.room.now) (drop (suc c.saturating_sub-at.result) (items_of (g.R.Look.words c.args.room.now c.args.page))))
+alone_without g t c = key_out g.R.Look.kept g.R.Look.standing g.R.Look.words c.args.level c.args.page c.args.key.now c.rank.result c.saturating_sub-at.result c.args.room.now c.requires.tree c.rank.ensures.rank c.saturating_sub-at.ensures (c.args.level - 1) (alone_level g t c)
+
+next_level : (g : Over) (t : ℕ) (c : remove_at-After-slots_with-arg-1 g t) → c.args.level ≡ suc (c.args.level - 1)
+next_level g t c = omega (arith, c.if-level-eq0.false)
+
+next_counted : (g : Over) (t : ℕ) (c : remove_at-After-slots_with-arg-1 g t) → c.count_of.result ≡ g.R.Look.words c.args.room.now c.args.page 1
+next_counted g t c = c.count_of.ensures.count ∙ ap (λ (w : ℕ → ℕ → ℕ). w c.args.page 1) (c.spare_child.ensures.unchanged.words ∙ c.rank.ensures.unchanged.words)
+
+next_place : (g : Over) (t : ℕ) (c : remove_at-After-slots_with-arg-1 g t) → c.saturating_sub-at.result + 2 ≤ g.R.Look.words c.args.room.now c.args.page 1
+next_place g t c = omega (arith, c.if-at-count_of.true, next_counted g t c)
+
+next_around : (g : Over) (t : ℕ) (c : remove_at-After-slots_with-arg-1 g t)
+    → AroundTwo g.R.Look.kept g.R.Look.standing g.R.Look.words c.args.level (c.args.level - 1) c.args.page c.saturating_sub-at.result (λ (xs ys : List Pair). without c.args.key.now xs ++ ys) (pairs_of (g.R.Look.words c.remove_left.new.room) c.args.pair.now c.in_ok-two.two.items) c.args.room.now c.remove_left.new.room
+next_around g t c =
+    let old = c.args.room.now in
     let here = c.count_of.new.look in
-    let same = unchanged_trans g.R.Look.kept g.R.Look.standing g.R.Look.words old c.spare_child.new.look here (unchanged_trans g.R.Look.kept g.R.Look.standing g.R.Look.words old c.rank.new.look c.spare_child.new.look c.rank.ensures.unchanged c.spare_child.ensures.unchanged) c.count_of.ensures.unchanged in
-    let count : c.count_of.result ≡ words page 1 = c.count_of.ensures.count ∙ ap (λ (w : ℕ → ℕ → ℕ). w page 1) (c.spare_child.ensures.unchanged.words ∙ c.rank.ensures.unchanged.words) in
-    let i : ℕ = c.saturating_sub-at.result in
-    let lt : i + 2 ≤ words page 1 = omega (arith, c.if-at-count_of.true, count) in
+    let same = unchanged_trans g.R.Look.kept g.R.Look.standing g.R.Look.words c.args.room.now c.spare_child.new.look c.count_of.new.look (unchanged_trans g.R.Look.kept g.R.Look.standing g.R.Look.words c.args.room.now c.rank.new.look c.spare_child.new.look c.rank.ensures.unchanged c.spare_child.ensures.unchanged) c.count_of.ensures.unchanged in
     let mid = c.remove_left.new.room in
-    let f = λ (xs ys : List Pair). without c.args.key.now xs ++ ys in
     let us = pairs_of (g.R.Look.words mid) c.args.pair.now c.in_ok-two.two.items in
-    page_readable g.R.Look.kept g.R.Look.standing g.R.Look.words level (level - 1) (least_of_root level) page i c.two_children-here.result.0 c.two_children-here.result.1 old here c.two_children-here.new.look e c.requires.tree lt same c.two_children-here.ensures.unchanged c.two_children-here.ensures.left c.two_children-here.ensures.right f us mid c.in_ok-two.ensures.ok
+    around_two g.R.Look.kept g.R.Look.standing g.R.Look.words c.args.level (c.args.level - 1) (least_of_root c.args.level) c.args.page c.saturating_sub-at.result c.two_children-here.result.0 c.two_children-here.result.1 old here c.two_children-here.new.look (next_level g t c) c.requires.tree (next_place g t c) same c.two_children-here.ensures.unchanged c.two_children-here.ensures.left c.two_children-here.ensures.right (λ (xs ys : List Pair). without c.args.key.now xs ++ ys) us mid c.in_ok-two.ensures.ok
+
+next_without : (g : Over) (t : ℕ) (c : remove_at-After-slots_with-arg-1 g t)
+    → without c.args.key.now (pairs_at c.args.level (g.R.Look.words c.args.room.now) c.args.page) ≡ pairs_below c.args.level (g.R.Look.words c.args.room.now) (take c.saturating_sub-at.result (items_of (g.R.Look.words c.args.room.now c.args.page))) ++ ((without c.args.key.now (pairs_at (c.args.level - 1) (g.R.Look.words c.args.room.now) (child (item_at (g.R.Look.words c.args.room.now c.args.page) (place_of c.saturating_sub-at.result)))) ++ pairs_at (c.args.level - 1) (g.R.Look.words c.args.room.now) (child (item_at (g.R.Look.words c.args.room.now c.args.page) (place_of (c.saturating_sub-at.result + 1))))) ++ pairs_below c.args.level (g.R.Look.words c.args.room.now) (drop (c.saturating_sub-at.result + 2) (items_of (g.R.Look.words c.args.room.now c.args.page))))
+next_without g t c =
+    let one = key_out g.R.Look.kept g.R.Look.standing g.R.Look.words c.args.level c.args.page c.args.key.now c.rank.result c.saturating_sub-at.result c.args.room.now c.requires.tree c.rank.ensures.rank c.saturating_sub-at.ensures (c.args.level - 1) (next_level g t c) in
+    first_changed c.args.level (c.args.level - 1) (least_of_root c.args.level) c.args.page (g.R.Look.standing c.args.room.now) (g.R.Look.words c.args.room.now) (next_level g t c) c.requires.tree c.saturating_sub-at.result (next_place g t c) (without c.args.key.now (pairs_at c.args.level (g.R.Look.words c.args.room.now) c.args.page)) (without c.args.key.now) one
+
+before_level : (g : Over) (t : ℕ) (c : remove_at-After-slots_with-arg-2-1 g t) → c.args.level ≡ suc (c.args.level - 1)
+before_level g t c = omega (arith, c.if-level-eq0.false)
+
+before_counted : (g : Over) (t : ℕ) (c : remove_at-After-slots_with-arg-2-1 g t) → c.count_of.result ≡ g.R.Look.words c.args.room.now c.args.page 1
+before_counted g t c = c.count_of.ensures.count ∙ ap (λ (w : ℕ → ℕ → ℕ). w c.args.page 1) (c.spare_child.ensures.unchanged.words ∙ c.rank.ensures.unchanged.words)
+
+before_is : (g : Over) (t : ℕ) (c : remove_at-After-slots_with-arg-2-1 g t) → c.saturating_sub-at.result ≡ c.saturating_sub-at.result - 1 + 1
+before_is g t c = omega (arith, c.if-at-count_of.false, before_counted g t c, least_two g.R.Look.kept g.R.Look.standing g.R.Look.words c.args.level c.args.page c.args.key.now c.rank.result c.saturating_sub-at.result c.args.room.now c.requires.tree c.rank.ensures.rank c.saturating_sub-at.ensures (c.args.level - 1) (before_level g t c))
+
+before_place : (g : Over) (t : ℕ) (c : remove_at-After-slots_with-arg-2-1 g t) → c.saturating_sub-at.result - 1 + 2 ≤ g.R.Look.words c.args.room.now c.args.page 1
+before_place g t c = omega (arith, before_is g t c, at_in g.R.Look.kept g.R.Look.standing g.R.Look.words c.args.level c.args.page c.args.key.now c.rank.result c.saturating_sub-at.result c.args.room.now c.requires.tree c.rank.ensures.rank c.saturating_sub-at.ensures)
+
+before_around : (g : Over) (t : ℕ) (c : remove_at-After-slots_with-arg-2-1 g t)
+    → AroundTwo g.R.Look.kept g.R.Look.standing g.R.Look.words c.args.level (c.args.level - 1) c.args.page (c.saturating_sub-at.result - 1) (λ (xs ys : List Pair). xs ++ without c.args.key.now ys) (pairs_of (g.R.Look.words c.remove_right.new.room) c.args.pair.now c.in_ok-two-2.two.items) c.args.room.now c.remove_right.new.room
+before_around g t c =
+    let old = c.args.room.now in
+    let here = c.count_of.new.look in
+    let same = unchanged_trans g.R.Look.kept g.R.Look.standing g.R.Look.words c.args.room.now c.spare_child.new.look c.count_of.new.look (unchanged_trans g.R.Look.kept g.R.Look.standing g.R.Look.words c.args.room.now c.rank.new.look c.spare_child.new.look c.rank.ensures.unchanged c.spare_child.ensures.unchanged) c.count_of.ensures.unchanged in
+    let mid = c.remove_right.new.room in
+    let us = pairs_of (g.R.Look.words mid) c.args.pair.now c.in_ok-two-2.two.items in
+    around_two g.R.Look.kept g.R.Look.standing g.R.Look.words c.args.level (c.args.level - 1) (least_of_root c.args.level) c.args.page (c.saturating_sub-at.result - 1) c.two_children-before.result.0 c.two_children-before.result.1 old here c.two_children-before.new.look (before_level g t c) c.requires.tree (before_place g t c) same c.two_children-before.ensures.unchanged c.two_children-before.ensures.left c.two_children-before.ensures.right (λ (xs ys : List Pair). xs ++ without c.args.key.now ys) us mid c.in_ok-two-2.ensures.ok
+
+before_without : (g : Over) (t : ℕ) (c : remove_at-After-slots_with-arg-2-1 g t)
+    → without c.args.key.now (pairs_at c.args.level (g.R.Look.words c.args.room.now) c.args.page) ≡ pairs_below c.args.level (g.R.Look.words c.args.room.now) (take (c.saturating_sub-at.result - 1) (items_of (g.R.Look.words c.args.room.now c.args.page))) ++ ((pairs_at (c.args.level - 1) (g.R.Look.words c.args.room.now) (child (item_at (g.R.Look.words c.args.room.now c.args.page) (place_of (c.saturating_sub-at.result - 1)))) ++ without c.args.key.now (pairs_at (c.args.level - 1) (g.R.Look.words c.args.room.now) (child (item_at (g.R.Look.words c.args.room.now c.args.page) (place_of ((c.saturating_sub-at.result - 1) + 1)))))) ++ pairs_below c.args.level (g.R.Look.words c.args.room.now) (drop ((c.saturating_sub-at.result - 1) + 2) (items_of (g.R.Look.words c.args.room.now c.args.page))))
+before_without g t c =
+    let one = key_out g.R.Look.kept g.R.Look.standing g.R.Look.words c.args.level c.args.page c.args.key.now c.rank.result c.saturating_sub-at.result c.args.room.now c.requires.tree c.rank.ensures.rank c.saturating_sub-at.ensures (c.args.level - 1) (before_level g t c) in
+    second_changed c.args.level (c.args.level - 1) (least_of_root c.args.level) c.args.page (g.R.Look.standing c.args.room.now) (g.R.Look.words c.args.room.now) (before_level g t c) c.requires.tree (c.saturating_sub-at.result - 1) (before_place g t c) c.saturating_sub-at.result (before_is g t c) (without c.args.key.now (pairs_at c.args.level (g.R.Look.words c.args.room.now) c.args.page)) (without c.args.key.now) one
+
+pub remove_at-slots_with-requires-clause-readable : goal.remove_at-slots_with-requires-clause-readable
+remove_at-slots_with-requires-clause-readable g t c = (next_around g t (goal.at.remove_at-slots_with-requires-clause-readable g t c).After-slots_with-arg-1).readable
 
 pub remove_at-slots_with-requires-clause-page : goal.remove_at-slots_with-requires-clause-page
-remove_at-slots_with-requires-clause-page g t c =
-    let old = c.args.room.now in
-    let words = g.R.Look.words old in
-    let page = c.args.page in
-    let level = c.args.level in
-    let e : level ≡ suc (level - 1) = omega (arith, c.if-level-eq0.false) in
-    let here = c.count_of.new.look in
-    let same = unchanged_trans g.R.Look.kept g.R.Look.standing g.R.Look.words old c.spare_child.new.look here (unchanged_trans g.R.Look.kept g.R.Look.standing g.R.Look.words old c.rank.new.look c.spare_child.new.look c.rank.ensures.unchanged c.spare_child.ensures.unchanged) c.count_of.ensures.unchanged in
-    let count : c.count_of.result ≡ words page 1 = c.count_of.ensures.count ∙ ap (λ (w : ℕ → ℕ → ℕ). w page 1) (c.spare_child.ensures.unchanged.words ∙ c.rank.ensures.unchanged.words) in
-    let i : ℕ = c.saturating_sub-at.result in
-    let lt : i + 2 ≤ words page 1 = omega (arith, c.if-at-count_of.true, count) in
-    let mid = c.remove_left.new.room in
-    let f = λ (xs ys : List Pair). without c.args.key.now xs ++ ys in
-    let us = pairs_of (g.R.Look.words mid) c.args.pair.now c.in_ok-two.two.items in
-    page_is g.R.Look.kept g.R.Look.standing g.R.Look.words level (level - 1) (least_of_root level) page i c.two_children-here.result.0 c.two_children-here.result.1 old here c.two_children-here.new.look e c.requires.tree lt same c.two_children-here.ensures.unchanged c.two_children-here.ensures.left c.two_children-here.ensures.right f us mid c.in_ok-two.ensures.ok
+remove_at-slots_with-requires-clause-page g t c = (next_around g t (goal.at.remove_at-slots_with-requires-clause-page g t c).After-slots_with-arg-1).is_page
 
 pub remove_at-slots_with-requires-clause-in_page : goal.remove_at-slots_with-requires-clause-in_page
 remove_at-slots_with-requires-clause-in_page g t c =
-    let old = c.args.room.now in
-    let words = g.R.Look.words old in
-    let page = c.args.page in
-    let level = c.args.level in
-    let e : level ≡ suc (level - 1) = omega (arith, c.if-level-eq0.false) in
-    let here = c.count_of.new.look in
-    let same = unchanged_trans g.R.Look.kept g.R.Look.standing g.R.Look.words old c.spare_child.new.look here (unchanged_trans g.R.Look.kept g.R.Look.standing g.R.Look.words old c.rank.new.look c.spare_child.new.look c.rank.ensures.unchanged c.spare_child.ensures.unchanged) c.count_of.ensures.unchanged in
-    let count : c.count_of.result ≡ words page 1 = c.count_of.ensures.count ∙ ap (λ (w : ℕ → ℕ → ℕ). w page 1) (c.spare_child.ensures.unchanged.words ∙ c.rank.ensures.unchanged.words) in
-    let i : ℕ = c.saturating_sub-at.result in
-    let lt : i + 2 ≤ words page 1 = omega (arith, c.if-at-count_of.true, count) in
-    let mid = c.remove_left.new.room in
-    let f = λ (xs ys : List Pair). without c.args.key.now xs ++ ys in
-    let us = pairs_of (g.R.Look.words mid) c.args.pair.now c.in_ok-two.two.items in
-    omega (arith, lt, page_count g.R.Look.kept g.R.Look.standing g.R.Look.words level (level - 1) (least_of_root level) page i c.two_children-here.result.0 c.two_children-here.result.1 old here c.two_children-here.new.look e c.requires.tree lt same c.two_children-here.ensures.unchanged c.two_children-here.ensures.left c.two_children-here.ensures.right f us mid c.in_ok-two.ensures.ok)
+    let at = (goal.at.remove_at-slots_with-requires-clause-in_page g t c).After-slots_with-arg-1 in
+    omega (arith, next_place g t at, (next_around g t at).count)
 
 pub remove_at-returns-then-at-count_of-clause-ok : goal.remove_at-returns-then-at-count_of-clause-ok
 remove_at-returns-then-at-count_of-clause-ok g t c =
-    let old = c.args.room.now in
-    let words = g.R.Look.words old in
-    let page = c.args.page in
-    let level = c.args.level in
     let k = c.args.key.now in
-    let at = c.saturating_sub-at.result in
-    let tree = c.requires.tree in
-    let e : level ≡ suc (level - 1) = omega (arith, c.if-level-eq0.false) in
-    let here = c.count_of.new.look in
-    let same = unchanged_trans g.R.Look.kept g.R.Look.standing g.R.Look.words old c.spare_child.new.look here (unchanged_trans g.R.Look.kept g.R.Look.standing g.R.Look.words old c.rank.new.look c.spare_child.new.look c.rank.ensures.unchanged c.spare_child.ensures.unchanged) c.count_of.ensures.unchanged in
-    let count : c.count_of.result ≡ words page 1 = c.count_of.ensures.count ∙ ap (λ (w : ℕ → ℕ → ℕ). w page 1) (c.spare_child.ensures.unchanged.words ∙ c.rank.ensures.unchanged.words) in
-    let i : ℕ = at in
-    let lt : i + 2 ≤ words page 1 = omega (arith, c.if-at-count_of.true, count) in
-    let mid = c.remove_left.new.room in
-    let pair = c.args.pair.now in
-    let f = λ (xs ys : List Pair). without k xs ++ ys in
-    let us = pairs_of (g.R.Look.words mid) pair c.in_ok-two.two.items in
-    let one = key_out g.R.Look.kept g.R.Look.standing g.R.Look.words level page k c.rank.result at old tree c.rank.ensures.rank c.saturating_sub-at.ensures (level - 1) e in
-    let all = first_changed level (level - 1) (least_of_root level) page (g.R.Look.standing old) words e tree i lt (without k (pairs_at level words page)) (without k) one in
-    two_changed g.R.Look.kept g.R.Look.standing g.R.Look.words level (level - 1) (least_of_root level) page i c.two_children-here.result.0 c.two_children-here.result.1 old here c.two_children-here.new.look e tree lt same c.two_children-here.ensures.unchanged c.two_children-here.ensures.left c.two_children-here.ensures.right f us mid c.in_ok-two.ensures.ok (without k) (rising_without k) all pair c.slots_with.result.items c.slots_with.new.look (c.slots_with.ensures.items pair) c.slots_with.ensures.unchanged
+    let here = (goal.at.remove_at-returns-then-at-count_of-clause-ok g t c).After-slots_with-arg-1 in
+    (next_around g t here).changed (without k) (rising_without k) (next_without g t here) c.args.pair.now c.slots_with.result.items c.slots_with.new.look (c.slots_with.ensures.items c.args.pair.now) c.slots_with.ensures.unchanged
 
 pub remove_at-returns-then-at-count_of-clause-some : goal.remove_at-returns-then-at-count_of-clause-some
 remove_at-returns-then-at-count_of-clause-some g t c =
-    let old = c.args.room.now in
-    let words = g.R.Look.words old in
-    let page = c.args.page in
-    let level = c.args.level in
-    let tree = c.requires.tree in
-    let e : level ≡ suc (level - 1) = omega (arith, c.if-level-eq0.false) in
-    let here = c.count_of.new.look in
-    let same = unchanged_trans g.R.Look.kept g.R.Look.standing g.R.Look.words old c.spare_child.new.look here (unchanged_trans g.R.Look.kept g.R.Look.standing g.R.Look.words old c.rank.new.look c.spare_child.new.look c.rank.ensures.unchanged c.spare_child.ensures.unchanged) c.count_of.ensures.unchanged in
-    let count : c.count_of.result ≡ words page 1 = c.count_of.ensures.count ∙ ap (λ (w : ℕ → ℕ → ℕ). w page 1) (c.spare_child.ensures.unchanged.words ∙ c.rank.ensures.unchanged.words) in
-    let i : ℕ = c.saturating_sub-at.result in
-    let lt : i + 2 ≤ words page 1 = omega (arith, c.if-at-count_of.true, count) in
-    let mid = c.remove_left.new.room in
-    let f = λ (xs ys : List Pair). without c.args.key.now xs ++ ys in
-    let us = pairs_of (g.R.Look.words mid) c.args.pair.now c.in_ok-two.two.items in
-    let page_kept = page_count g.R.Look.kept g.R.Look.standing g.R.Look.words level (level - 1) (least_of_root level) page i c.two_children-here.result.0 c.two_children-here.result.1 old here c.two_children-here.new.look e tree lt same c.two_children-here.ensures.unchanged c.two_children-here.ensures.left c.two_children-here.ensures.right f us mid c.in_ok-two.ensures.ok in
-    (omega (arith, c.slots_with.ensures.len, c.in_ok-two.ensures.some, page_kept, items_count (words page)), omega (arith, c.slots_with.ensures.len, c.in_ok-two.ensures.some, page_kept, tree.node.is_page.few))
+    let count = (next_around g t (goal.at.remove_at-returns-then-at-count_of-clause-some g t c).After-slots_with-arg-1).count in
+    let items = items_count (g.R.Look.words c.args.room.now c.args.page) in
+    (omega (arith, c.slots_with.ensures.len, c.in_ok-two.ensures.some, count, items), omega (arith, c.slots_with.ensures.len, c.in_ok-two.ensures.some, count, c.requires.tree.node.is_page.few))
 
 pub remove_at-overflow_sub-at : goal.remove_at-overflow_sub-at
 remove_at-overflow_sub-at g t c =
@@ -192,133 +202,27 @@ remove_at-overflow_sub-at-2 g t c =
     omega (arith, is)
 
 pub remove_at-slots_with-requires-2-clause-readable : goal.remove_at-slots_with-requires-2-clause-readable
-remove_at-slots_with-requires-2-clause-readable g t c =
-    let old = c.args.room.now in
-    let words = g.R.Look.words old in
-    let page = c.args.page in
-    let level = c.args.level in
-    let k = c.args.key.now in
-    let at = c.saturating_sub-at.result in
-    let tree = c.requires.tree in
-    let rank = c.rank.ensures.rank in
-    let place = c.saturating_sub-at.ensures in
-    let inside = at_in g.R.Look.kept g.R.Look.standing g.R.Look.words level page k c.rank.result at old tree rank place in
-    let e : level ≡ suc (level - 1) = omega (arith, c.if-level-eq0.false) in
-    let here = c.count_of.new.look in
-    let same = unchanged_trans g.R.Look.kept g.R.Look.standing g.R.Look.words old c.spare_child.new.look here (unchanged_trans g.R.Look.kept g.R.Look.standing g.R.Look.words old c.rank.new.look c.spare_child.new.look c.rank.ensures.unchanged c.spare_child.ensures.unchanged) c.count_of.ensures.unchanged in
-    let count : c.count_of.result ≡ words page 1 = c.count_of.ensures.count ∙ ap (λ (w : ℕ → ℕ → ℕ). w page 1) (c.spare_child.ensures.unchanged.words ∙ c.rank.ensures.unchanged.words) in
-    let two = least_two g.R.Look.kept g.R.Look.standing g.R.Look.words level page k c.rank.result at old tree rank place (level - 1) e in
-    let is : at ≡ at - 1 + 1 = omega (arith, c.if-at-count_of.false, count, two) in
-    let i : ℕ = at - 1 in
-    let lt : i + 2 ≤ words page 1 = omega (arith, inside, is) in
-    let mid = c.remove_right.new.room in
-    let f = λ (xs ys : List Pair). xs ++ without k ys in
-    let us = pairs_of (g.R.Look.words mid) c.args.pair.now c.in_ok-two-2.two.items in
-    page_readable g.R.Look.kept g.R.Look.standing g.R.Look.words level (level - 1) (least_of_root level) page i c.two_children-before.result.0 c.two_children-before.result.1 old here c.two_children-before.new.look e tree lt same c.two_children-before.ensures.unchanged c.two_children-before.ensures.left c.two_children-before.ensures.right f us mid c.in_ok-two-2.ensures.ok
+remove_at-slots_with-requires-2-clause-readable g t c = (before_around g t (goal.at.remove_at-slots_with-requires-2-clause-readable g t c).After-slots_with-arg-2-1).readable
 
 pub remove_at-slots_with-requires-2-clause-page : goal.remove_at-slots_with-requires-2-clause-page
-remove_at-slots_with-requires-2-clause-page g t c =
-    let old = c.args.room.now in
-    let words = g.R.Look.words old in
-    let page = c.args.page in
-    let level = c.args.level in
-    let k = c.args.key.now in
-    let at = c.saturating_sub-at.result in
-    let tree = c.requires.tree in
-    let rank = c.rank.ensures.rank in
-    let place = c.saturating_sub-at.ensures in
-    let inside = at_in g.R.Look.kept g.R.Look.standing g.R.Look.words level page k c.rank.result at old tree rank place in
-    let e : level ≡ suc (level - 1) = omega (arith, c.if-level-eq0.false) in
-    let here = c.count_of.new.look in
-    let same = unchanged_trans g.R.Look.kept g.R.Look.standing g.R.Look.words old c.spare_child.new.look here (unchanged_trans g.R.Look.kept g.R.Look.standing g.R.Look.words old c.rank.new.look c.spare_child.new.look c.rank.ensures.unchanged c.spare_child.ensures.unchanged) c.count_of.ensures.unchanged in
-    let count : c.count_of.result ≡ words page 1 = c.count_of.ensures.count ∙ ap (λ (w : ℕ → ℕ → ℕ). w page 1) (c.spare_child.ensures.unchanged.words ∙ c.rank.ensures.unchanged.words) in
-    let two = least_two g.R.Look.kept g.R.Look.standing g.R.Look.words level page k c.rank.result at old tree rank place (level - 1) e in
-    let is : at ≡ at - 1 + 1 = omega (arith, c.if-at-count_of.false, count, two) in
-    let i : ℕ = at - 1 in
-    let lt : i + 2 ≤ words page 1 = omega (arith, inside, is) in
-    let mid = c.remove_right.new.room in
-    let f = λ (xs ys : List Pair). xs ++ without k ys in
-    let us = pairs_of (g.R.Look.words mid) c.args.pair.now c.in_ok-two-2.two.items in
-    page_is g.R.Look.kept g.R.Look.standing g.R.Look.words level (level - 1) (least_of_root level) page i c.two_children-before.result.0 c.two_children-before.result.1 old here c.two_children-before.new.look e tree lt same c.two_children-before.ensures.unchanged c.two_children-before.ensures.left c.two_children-before.ensures.right f us mid c.in_ok-two-2.ensures.ok
+remove_at-slots_with-requires-2-clause-page g t c = (before_around g t (goal.at.remove_at-slots_with-requires-2-clause-page g t c).After-slots_with-arg-2-1).is_page
 
 pub remove_at-slots_with-requires-2-clause-in_page : goal.remove_at-slots_with-requires-2-clause-in_page
 remove_at-slots_with-requires-2-clause-in_page g t c =
-    let old = c.args.room.now in
-    let words = g.R.Look.words old in
-    let page = c.args.page in
-    let level = c.args.level in
-    let k = c.args.key.now in
-    let at = c.saturating_sub-at.result in
-    let tree = c.requires.tree in
-    let rank = c.rank.ensures.rank in
-    let place = c.saturating_sub-at.ensures in
-    let inside = at_in g.R.Look.kept g.R.Look.standing g.R.Look.words level page k c.rank.result at old tree rank place in
-    let e : level ≡ suc (level - 1) = omega (arith, c.if-level-eq0.false) in
-    let here = c.count_of.new.look in
-    let same = unchanged_trans g.R.Look.kept g.R.Look.standing g.R.Look.words old c.spare_child.new.look here (unchanged_trans g.R.Look.kept g.R.Look.standing g.R.Look.words old c.rank.new.look c.spare_child.new.look c.rank.ensures.unchanged c.spare_child.ensures.unchanged) c.count_of.ensures.unchanged in
-    let count : c.count_of.result ≡ words page 1 = c.count_of.ensures.count ∙ ap (λ (w : ℕ → ℕ → ℕ). w page 1) (c.spare_child.ensures.unchanged.words ∙ c.rank.ensures.unchanged.words) in
-    let two = least_two g.R.Look.kept g.R.Look.standing g.R.Look.words level page k c.rank.result at old tree rank place (level - 1) e in
-    let is : at ≡ at - 1 + 1 = omega (arith, c.if-at-count_of.false, count, two) in
-    let i : ℕ = at - 1 in
-    let lt : i + 2 ≤ words page 1 = omega (arith, inside, is) in
-    let mid = c.remove_right.new.room in
-    let f = λ (xs ys : List Pair). xs ++ without k ys in
-    let us = pairs_of (g.R.Look.words mid) c.args.pair.now c.in_ok-two-2.two.items in
-    omega (arith, lt, page_count g.R.Look.kept g.R.Look.standing g.R.Look.words level (level - 1) (least_of_root level) page i c.two_children-before.result.0 c.two_children-before.result.1 old here c.two_children-before.new.look e tree lt same c.two_children-before.ensures.unchanged c.two_children-before.ensures.left c.two_children-before.ensures.right f us mid c.in_ok-two-2.ensures.ok)
+    let at = (goal.at.remove_at-slots_with-requires-2-clause-in_page g t c).After-slots_with-arg-2-1 in
+    omega (arith, before_place g t at, (before_around g t at).count)
 
 pub remove_at-returns-clause-ok : goal.remove_at-returns-clause-ok
 remove_at-returns-clause-ok g t c =
-    let old = c.args.room.now in
-    let words = g.R.Look.words old in
-    let page = c.args.page in
-    let level = c.args.level in
     let k = c.args.key.now in
-    let at = c.saturating_sub-at.result in
-    let tree = c.requires.tree in
-    let rank = c.rank.ensures.rank in
-    let place = c.saturating_sub-at.ensures in
-    let inside = at_in g.R.Look.kept g.R.Look.standing g.R.Look.words level page k c.rank.result at old tree rank place in
-    let e : level ≡ suc (level - 1) = omega (arith, c.if-level-eq0.false) in
-    let here = c.count_of.new.look in
-    let same = unchanged_trans g.R.Look.kept g.R.Look.standing g.R.Look.words old c.spare_child.new.look here (unchanged_trans g.R.Look.kept g.R.Look.standing g.R.Look.words old c.rank.new.look c.spare_child.new.look c.rank.ensures.unchanged c.spare_child.ensures.unchanged) c.count_of.ensures.unchanged in
-    let count : c.count_of.result ≡ words page 1 = c.count_of.ensures.count ∙ ap (λ (w : ℕ → ℕ → ℕ). w page 1) (c.spare_child.ensures.unchanged.words ∙ c.rank.ensures.unchanged.words) in
-    let two = least_two g.R.Look.kept g.R.Look.standing g.R.Look.words level page k c.rank.result at old tree rank place (level - 1) e in
-    let is : at ≡ at - 1 + 1 = omega (arith, c.if-at-count_of.false, count, two) in
-    let i : ℕ = at - 1 in
-    let lt : i + 2 ≤ words page 1 = omega (arith, inside, is) in
-    let mid = c.remove_right.new.room in
-    let pair = c.args.pair.now in
-    let f = λ (xs ys : List Pair). xs ++ without k ys in
-    let us = pairs_of (g.R.Look.words mid) pair c.in_ok-two-2.two.items in
-    let one = key_out g.R.Look.kept g.R.Look.standing g.R.Look.words level page k c.rank.result at old tree rank place (level - 1) e in
-    let all = second_changed level (level - 1) (least_of_root level) page (g.R.Look.standing old) words e tree i lt at is (without k (pairs_at level words page)) (without k) one in
-    two_changed g.R.Look.kept g.R.Look.standing g.R.Look.words level (level - 1) (least_of_root level) page i c.two_children-before.result.0 c.two_children-before.result.1 old here c.two_children-before.new.look e tree lt same c.two_children-before.ensures.unchanged c.two_children-before.ensures.left c.two_children-before.ensures.right f us mid c.in_ok-two-2.ensures.ok (without k) (rising_without k) all pair c.slots_with-2.result.items c.slots_with-2.new.look (c.slots_with-2.ensures.items pair) c.slots_with-2.ensures.unchanged
+    let here = (goal.at.remove_at-returns-clause-ok g t c).After-slots_with-arg-2-1 in
+    (before_around g t here).changed (without k) (rising_without k) (before_without g t here) c.args.pair.now c.slots_with-2.result.items c.slots_with-2.new.look (c.slots_with-2.ensures.items c.args.pair.now) c.slots_with-2.ensures.unchanged
 
 pub remove_at-returns-clause-some : goal.remove_at-returns-clause-some
 remove_at-returns-clause-some g t c =
-    let old = c.args.room.now in
-    let words = g.R.Look.words old in
-    let page = c.args.page in
-    let level = c.args.level in
-    let k = c.args.key.now in
-    let at = c.saturating_sub-at.result in
-    let tree = c.requires.tree in
-    let rank = c.rank.ensures.rank in
-    let place = c.saturating_sub-at.ensures in
-    let inside = at_in g.R.Look.kept g.R.Look.standing g.R.Look.words level page k c.rank.result at old tree rank place in
-    let e : level ≡ suc (level - 1) = omega (arith, c.if-level-eq0.false) in
-    let here = c.count_of.new.look in
-    let same = unchanged_trans g.R.Look.kept g.R.Look.standing g.R.Look.words old c.spare_child.new.look here (unchanged_trans g.R.Look.kept g.R.Look.standing g.R.Look.words old c.rank.new.look c.spare_child.new.look c.rank.ensures.unchanged c.spare_child.ensures.unchanged) c.count_of.ensures.unchanged in
-    let count : c.count_of.result ≡ words page 1 = c.count_of.ensures.count ∙ ap (λ (w : ℕ → ℕ → ℕ). w page 1) (c.spare_child.ensures.unchanged.words ∙ c.rank.ensures.unchanged.words) in
-    let two = least_two g.R.Look.kept g.R.Look.standing g.R.Look.words level page k c.rank.result at old tree rank place (level - 1) e in
-    let is : at ≡ at - 1 + 1 = omega (arith, c.if-at-count_of.false, count, two) in
-    let i : ℕ = at - 1 in
-    let lt : i + 2 ≤ words page 1 = omega (arith, inside, is) in
-    let mid = c.remove_right.new.room in
-    let f = λ (xs ys : List Pair). xs ++ without k ys in
-    let us = pairs_of (g.R.Look.words mid) c.args.pair.now c.in_ok-two-2.two.items in
-    let page_kept = page_count g.R.Look.kept g.R.Look.standing g.R.Look.words level (level - 1) (least_of_root level) page i c.two_children-before.result.0 c.two_children-before.result.1 old here c.two_children-before.new.look e tree lt same c.two_children-before.ensures.unchanged c.two_children-before.ensures.left c.two_children-before.ensures.right f us mid c.in_ok-two-2.ensures.ok in
-    (omega (arith, c.slots_with-2.ensures.len, c.in_ok-two-2.ensures.some, page_kept, items_count (words page)), omega (arith, c.slots_with-2.ensures.len, c.in_ok-two-2.ensures.some, page_kept, tree.node.is_page.few))
+    let count = (before_around g t (goal.at.remove_at-returns-clause-some g t c).After-slots_with-arg-2-1).count in
+    let items = items_count (g.R.Look.words c.args.room.now c.args.page) in
+    (omega (arith, c.slots_with-2.ensures.len, c.in_ok-two-2.ensures.some, count, items), omega (arith, c.slots_with-2.ensures.len, c.in_ok-two-2.ensures.some, count, c.requires.tree.node.is_page.few))
 
 pub remove_at-spare_child-requires-clause-in_page : goal.remove_at-spare_child-requires-clause-in_page
 remove_at-spare_child-requires-clause-in_page g t c =
@@ -327,101 +231,27 @@ remove_at-spare_child-requires-clause-in_page g t c =
     omega (arith, inside, ap (λ (w : ℕ → ℕ → ℕ). w page 1) c.rank.ensures.unchanged.words)
 
 pub remove_at-slots_with_one-requires-clause-readable : goal.remove_at-slots_with_one-requires-clause-readable
-remove_at-slots_with_one-requires-clause-readable g t c =
-    let old = c.args.room.now in
-    let words = g.R.Look.words old in
-    let page = c.args.page in
-    let level = c.args.level in
-    let k = c.args.key.now in
-    let at = c.saturating_sub-at.result in
-    let tree = c.requires.tree in
-    let inside = at_in g.R.Look.kept g.R.Look.standing g.R.Look.words level page k c.rank.result at old tree c.rank.ensures.rank c.saturating_sub-at.ensures in
-    let e : level ≡ suc (level - 1) = omega (arith, c.if-level-eq0.false) in
-    let read = c.spare_child.new.look in
-    let same = unchanged_trans g.R.Look.kept g.R.Look.standing g.R.Look.words old c.rank.new.look read c.rank.ensures.unchanged c.spare_child.ensures.unchanged in
-    let is = c.in-Some.ensures.child ∙ ap (λ (w : ℕ → ℕ → ℕ). child (item_at (w page) (place_of at))) c.rank.ensures.unchanged.words in
-    let mid = c.remove_alone.new.room in
-    let pair = c.args.pair.now in
-    let us = pair_of (g.R.Look.words mid) pair c.in_ok-slot.slot ∷ [] in
-    one_readable g.R.Look.kept g.R.Look.standing g.R.Look.words level (level - 1) (least_of_root level) page at c.in-Some.below old read e tree inside same is (without k) us mid c.in_ok-slot.ensures.ok
+remove_at-slots_with_one-requires-clause-readable g t c = (alone_around g t (goal.at.remove_at-slots_with_one-requires-clause-readable g t c).After-slots_with_one-arg-1).readable
 
 pub remove_at-slots_with_one-requires-clause-page : goal.remove_at-slots_with_one-requires-clause-page
-remove_at-slots_with_one-requires-clause-page g t c =
-    let old = c.args.room.now in
-    let words = g.R.Look.words old in
-    let page = c.args.page in
-    let level = c.args.level in
-    let k = c.args.key.now in
-    let at = c.saturating_sub-at.result in
-    let tree = c.requires.tree in
-    let inside = at_in g.R.Look.kept g.R.Look.standing g.R.Look.words level page k c.rank.result at old tree c.rank.ensures.rank c.saturating_sub-at.ensures in
-    let e : level ≡ suc (level - 1) = omega (arith, c.if-level-eq0.false) in
-    let read = c.spare_child.new.look in
-    let same = unchanged_trans g.R.Look.kept g.R.Look.standing g.R.Look.words old c.rank.new.look read c.rank.ensures.unchanged c.spare_child.ensures.unchanged in
-    let is = c.in-Some.ensures.child ∙ ap (λ (w : ℕ → ℕ → ℕ). child (item_at (w page) (place_of at))) c.rank.ensures.unchanged.words in
-    let mid = c.remove_alone.new.room in
-    let pair = c.args.pair.now in
-    let us = pair_of (g.R.Look.words mid) pair c.in_ok-slot.slot ∷ [] in
-    one_is_page g.R.Look.kept g.R.Look.standing g.R.Look.words level (level - 1) (least_of_root level) page at c.in-Some.below old read e tree inside same is (without k) us mid c.in_ok-slot.ensures.ok
+remove_at-slots_with_one-requires-clause-page g t c = (alone_around g t (goal.at.remove_at-slots_with_one-requires-clause-page g t c).After-slots_with_one-arg-1).is_page
 
 pub remove_at-slots_with_one-requires-clause-in_page : goal.remove_at-slots_with_one-requires-clause-in_page
 remove_at-slots_with_one-requires-clause-in_page g t c =
-    let old = c.args.room.now in
-    let words = g.R.Look.words old in
-    let page = c.args.page in
-    let level = c.args.level in
-    let k = c.args.key.now in
-    let at = c.saturating_sub-at.result in
-    let tree = c.requires.tree in
-    let inside = at_in g.R.Look.kept g.R.Look.standing g.R.Look.words level page k c.rank.result at old tree c.rank.ensures.rank c.saturating_sub-at.ensures in
-    let e : level ≡ suc (level - 1) = omega (arith, c.if-level-eq0.false) in
-    let read = c.spare_child.new.look in
-    let same = unchanged_trans g.R.Look.kept g.R.Look.standing g.R.Look.words old c.rank.new.look read c.rank.ensures.unchanged c.spare_child.ensures.unchanged in
-    let is = c.in-Some.ensures.child ∙ ap (λ (w : ℕ → ℕ → ℕ). child (item_at (w page) (place_of at))) c.rank.ensures.unchanged.words in
-    let mid = c.remove_alone.new.room in
-    let pair = c.args.pair.now in
-    let us = pair_of (g.R.Look.words mid) pair c.in_ok-slot.slot ∷ [] in
-    omega (arith, inside, one_count g.R.Look.kept g.R.Look.standing g.R.Look.words level (level - 1) (least_of_root level) page at c.in-Some.below old read e tree inside same is (without k) us mid c.in_ok-slot.ensures.ok)
+    let at = (goal.at.remove_at-slots_with_one-requires-clause-in_page g t c).After-slots_with_one-arg-1 in
+    omega (arith, alone_place g t at, (alone_around g t at).count)
 
 pub remove_at-returns-in-Some-clause-ok : goal.remove_at-returns-in-Some-clause-ok
 remove_at-returns-in-Some-clause-ok g t c =
-    let old = c.args.room.now in
-    let words = g.R.Look.words old in
-    let page = c.args.page in
-    let level = c.args.level in
     let k = c.args.key.now in
-    let at = c.saturating_sub-at.result in
-    let tree = c.requires.tree in
-    let inside = at_in g.R.Look.kept g.R.Look.standing g.R.Look.words level page k c.rank.result at old tree c.rank.ensures.rank c.saturating_sub-at.ensures in
-    let e : level ≡ suc (level - 1) = omega (arith, c.if-level-eq0.false) in
-    let read = c.spare_child.new.look in
-    let same = unchanged_trans g.R.Look.kept g.R.Look.standing g.R.Look.words old c.rank.new.look read c.rank.ensures.unchanged c.spare_child.ensures.unchanged in
-    let is = c.in-Some.ensures.child ∙ ap (λ (w : ℕ → ℕ → ℕ). child (item_at (w page) (place_of at))) c.rank.ensures.unchanged.words in
-    let mid = c.remove_alone.new.room in
-    let pair = c.args.pair.now in
-    let us = pair_of (g.R.Look.words mid) pair c.in_ok-slot.slot ∷ [] in
-    let all = key_out g.R.Look.kept g.R.Look.standing g.R.Look.words level page k c.rank.result at old tree c.rank.ensures.rank c.saturating_sub-at.ensures (level - 1) e in
-    one_changed g.R.Look.kept g.R.Look.standing g.R.Look.words level (level - 1) (least_of_root level) page at c.in-Some.below old read e tree inside same is (without k) us mid c.in_ok-slot.ensures.ok (without k) (rising_without k) all pair c.slots_with_one.result.items c.slots_with_one.new.look (c.slots_with_one.ensures.items pair) c.slots_with_one.ensures.unchanged
+    let here = (goal.at.remove_at-returns-in-Some-clause-ok g t c).After-slots_with_one-arg-1 in
+    (alone_around g t here).changed (without k) (rising_without k) (alone_without g t here) c.args.pair.now c.slots_with_one.result.items c.slots_with_one.new.look (c.slots_with_one.ensures.items c.args.pair.now) c.slots_with_one.ensures.unchanged
 
 pub remove_at-returns-in-Some-clause-some : goal.remove_at-returns-in-Some-clause-some
 remove_at-returns-in-Some-clause-some g t c =
-    let old = c.args.room.now in
-    let words = g.R.Look.words old in
-    let page = c.args.page in
-    let level = c.args.level in
-    let k = c.args.key.now in
-    let at = c.saturating_sub-at.result in
-    let tree = c.requires.tree in
-    let inside = at_in g.R.Look.kept g.R.Look.standing g.R.Look.words level page k c.rank.result at old tree c.rank.ensures.rank c.saturating_sub-at.ensures in
-    let e : level ≡ suc (level - 1) = omega (arith, c.if-level-eq0.false) in
-    let read = c.spare_child.new.look in
-    let same = unchanged_trans g.R.Look.kept g.R.Look.standing g.R.Look.words old c.rank.new.look read c.rank.ensures.unchanged c.spare_child.ensures.unchanged in
-    let is = c.in-Some.ensures.child ∙ ap (λ (w : ℕ → ℕ → ℕ). child (item_at (w page) (place_of at))) c.rank.ensures.unchanged.words in
-    let mid = c.remove_alone.new.room in
-    let pair = c.args.pair.now in
-    let us = pair_of (g.R.Look.words mid) pair c.in_ok-slot.slot ∷ [] in
-    let count = one_count g.R.Look.kept g.R.Look.standing g.R.Look.words level (level - 1) (least_of_root level) page at c.in-Some.below old read e tree inside same is (without k) us mid c.in_ok-slot.ensures.ok in
-    (omega (arith, c.slots_with_one.ensures.len, count, items_count (words page)), omega (arith, c.slots_with_one.ensures.len, count, tree.node.is_page.few))
+    let count = (alone_around g t (goal.at.remove_at-returns-in-Some-clause-some g t c).After-slots_with_one-arg-1).count in
+    let items = items_count (g.R.Look.words c.args.room.now c.args.page) in
+    (omega (arith, c.slots_with_one.ensures.len, count, items), omega (arith, c.slots_with_one.ensures.len, count, c.requires.tree.node.is_page.few))
 
 pub remove_alone-write_branch-requires-clause-enough : goal.remove_alone-write_branch-requires-clause-enough
 remove_alone-write_branch-requires-clause-enough g t c =
@@ -611,6 +441,46 @@ remove_at-returns-in_err-two-2-clause-stopped g t c =
     let since = unchanged_trans g.R.Look.kept g.R.Look.standing g.R.Look.words old here read same c.two_children-before.ensures.unchanged in
     passed_stop c.from_residual-in_err-two-2.result c.in_err-two-2.field-0.0 _ _ _ _ c.from_residual-in_err-two-2.ensures.1 down (unchanged_trans g.R.Look.kept g.R.Look.standing g.R.Look.words old read c.remove_right.new.room since) c.in_err-two-2.ensures.stopped
 
+-- the first of two neighbours has lost the key, and the items of both are in hand
+left_slots : (g : Over) (t : ℕ) (c : remove_left-After-deref-2 g t) → c.deref-2.result.now ≡ c.in_ok-slots.slots.items ++ c.fill_slots.new.slots.items
+left_slots g t c = c.deref-2.ensures.0 ∙ c.append.ensures ∙ ap (λ (xs : List Slot). c.in_ok-slots.slots.items ++ xs) c.deref.ensures.0
+
+left_both : (g : Over) (t : ℕ) (c : remove_left-After-deref-2 g t)
+    → Joined g.R.Look.kept g.R.Look.standing g.R.Look.words c.args.level c.args.left c.args.right (without c.args.key.now (pairs_at c.args.level (g.R.Look.words c.args.room.now) c.args.left) ++ pairs_at c.args.level (g.R.Look.words c.args.room.now) c.args.right) c.args.pair.now c.deref-2.result.now c.args.room.now c.fill_slots.new.look
+left_both g t c =
+    let words = g.R.Look.words c.args.room.now in
+    let level = c.args.level in
+    left_changed g.R.Look.kept g.R.Look.standing g.R.Look.words c.args.level c.args.left c.args.right c.args.room.now c.requires.neighbours (without c.args.key.now (pairs_at c.args.level (g.R.Look.words c.args.room.now) c.args.left)) c.args.pair.now c.in_ok-slots.slots.items c.fill_slots.new.slots.items c.deref-2.result.now c.remove_at.new.room c.fill_slots.new.look c.fill_slots.ensures.unchanged c.in_ok-slots.ensures.ok c.fill_slots.ensures.slots (left_slots g t c)
+    (rising_without_left c.args.key.now (pairs_at level words c.args.left) (pairs_at level words c.args.right) c.requires.neighbours.rising)
+
+left_ready : (g : Over) (t : ℕ) (c : remove_left-After-deref-2 g t) → All (IsReady (g.R.Look.standing c.fill_slots.new.look) (g.R.Look.words c.fill_slots.new.look)) c.deref-2.result.now
+left_ready g t c =
+    left_in_hand g.R.Look.kept g.R.Look.standing g.R.Look.words c.args.level c.args.left c.args.right c.args.room.now c.requires.neighbours (without c.args.key.now (pairs_at c.args.level (g.R.Look.words c.args.room.now) c.args.left)) c.args.pair.now c.in_ok-slots.slots.items c.fill_slots.new.slots.items c.deref-2.result.now c.remove_at.new.room c.fill_slots.new.look c.fill_slots.ensures.unchanged c.in_ok-slots.ensures.ok c.fill_slots.ensures.slots (left_slots g t c) c.in_ok-slots.ensures.ready
+
+left_total : (g : Over) (t : ℕ) (c : remove_left-After-deref-2 g t) → length c.deref-2.result.now ≡ length c.in_ok-slots.slots.items + g.R.Look.words c.args.room.now c.args.right 1
+left_total g t c =
+    left_length g.R.Look.kept g.R.Look.standing g.R.Look.words c.args.level c.args.left c.args.right c.args.room.now c.requires.neighbours (without c.args.key.now (pairs_at c.args.level (g.R.Look.words c.args.room.now) c.args.left)) c.args.pair.now c.in_ok-slots.slots.items c.fill_slots.new.slots.items c.deref-2.result.now c.remove_at.new.room c.fill_slots.new.look c.fill_slots.ensures.unchanged c.in_ok-slots.ensures.ok c.fill_slots.ensures.slots (left_slots g t c)
+
+-- the second of two neighbours has lost the key, and the items of both are in hand
+right_slots : (g : Over) (t : ℕ) (c : remove_right-After-deref-2 g t) → c.deref-2.result.now ≡ c.fill_slots.new.slots.items ++ c.in_ok-less.less.items
+right_slots g t c = c.deref-2.ensures.0 ∙ c.append.ensures ∙ ap (λ (xs : List Slot). c.fill_slots.new.slots.items ++ xs) c.deref.ensures.0
+
+right_both : (g : Over) (t : ℕ) (c : remove_right-After-deref-2 g t)
+    → Joined g.R.Look.kept g.R.Look.standing g.R.Look.words c.args.level c.args.left c.args.right (pairs_at c.args.level (g.R.Look.words c.args.room.now) c.args.left ++ without c.args.key.now (pairs_at c.args.level (g.R.Look.words c.args.room.now) c.args.right)) c.args.pair.now c.deref-2.result.now c.args.room.now c.fill_slots.new.look
+right_both g t c =
+    let words = g.R.Look.words c.args.room.now in
+    let level = c.args.level in
+    right_changed g.R.Look.kept g.R.Look.standing g.R.Look.words c.args.level c.args.left c.args.right c.args.room.now c.requires.neighbours (without c.args.key.now (pairs_at c.args.level (g.R.Look.words c.args.room.now) c.args.right)) c.args.pair.now c.in_ok-less.less.items c.fill_slots.new.slots.items c.deref-2.result.now c.remove_at.new.room c.fill_slots.new.look c.fill_slots.ensures.unchanged c.in_ok-less.ensures.ok c.fill_slots.ensures.slots (right_slots g t c)
+    (rising_without_right c.args.key.now (pairs_at level words c.args.left) (pairs_at level words c.args.right) c.requires.neighbours.rising)
+
+right_ready : (g : Over) (t : ℕ) (c : remove_right-After-deref-2 g t) → All (IsReady (g.R.Look.standing c.fill_slots.new.look) (g.R.Look.words c.fill_slots.new.look)) c.deref-2.result.now
+right_ready g t c =
+    right_in_hand g.R.Look.kept g.R.Look.standing g.R.Look.words c.args.level c.args.left c.args.right c.args.room.now c.requires.neighbours (without c.args.key.now (pairs_at c.args.level (g.R.Look.words c.args.room.now) c.args.right)) c.args.pair.now c.in_ok-less.less.items c.fill_slots.new.slots.items c.deref-2.result.now c.remove_at.new.room c.fill_slots.new.look c.fill_slots.ensures.unchanged c.in_ok-less.ensures.ok c.fill_slots.ensures.slots (right_slots g t c) c.in_ok-less.ensures.ready
+
+right_total : (g : Over) (t : ℕ) (c : remove_right-After-deref-2 g t) → length c.deref-2.result.now ≡ g.R.Look.words c.args.room.now c.args.left 1 + length c.in_ok-less.less.items
+right_total g t c =
+    right_length g.R.Look.kept g.R.Look.standing g.R.Look.words c.args.level c.args.left c.args.right c.args.room.now c.requires.neighbours (without c.args.key.now (pairs_at c.args.level (g.R.Look.words c.args.room.now) c.args.right)) c.args.pair.now c.in_ok-less.less.items c.fill_slots.new.slots.items c.deref-2.result.now c.remove_at.new.room c.fill_slots.new.look c.fill_slots.ensures.unchanged c.in_ok-less.ensures.ok c.fill_slots.ensures.slots (right_slots g t c)
+
 pub remove_left-fill_slots-requires-clause-readable : goal.remove_left-fill_slots-requires-clause-readable
 remove_left-fill_slots-requires-clause-readable g t c =
     let old = c.args.room.now in
@@ -644,113 +514,29 @@ remove_left-append-requires g t c =
     omega (arith, len, count, two.right_tree.node.is_page.few, c.in_ok-slots.ensures.some, ap length c.deref.ensures.0)
 
 pub remove_left-pack_two-requires-clause-below : goal.remove_left-pack_two-requires-clause-below
-remove_left-pack_two-requires-clause-below g t c =
-    let old = c.args.room.now in
-    let words = g.R.Look.words old in
-    let l = c.args.left in
-    let r = c.args.right in
-    let level = c.args.level in
-    let two = c.requires.neighbours in
-    let sub = c.in_ok-slots.slots.items in
-    let all = without c.args.key.now (pairs_at level words l) in
-    let other = c.fill_slots.new.slots.items in
-    let slots = c.deref-2.result.now in
-    let e : slots ≡ sub ++ other = c.deref-2.ensures.0 ∙ c.append.ensures ∙ ap (λ (xs : List Slot). sub ++ xs) c.deref.ensures.0 in
-    let joined = left_changed g.R.Look.kept g.R.Look.standing g.R.Look.words level l r old two all c.args.pair.now sub other slots c.remove_at.new.room c.fill_slots.new.look c.fill_slots.ensures.unchanged c.in_ok-slots.ensures.ok c.fill_slots.ensures.slots e (rising_without_left c.args.key.now (pairs_at level words l) (pairs_at level words r) two.rising) in
-    joined.below
+remove_left-pack_two-requires-clause-below g t c = (left_both g t (goal.at.remove_left-pack_two-requires-clause-below g t c).After-deref-2).below
 
 pub remove_left-pack_two-requires-clause-ready : goal.remove_left-pack_two-requires-clause-ready
-remove_left-pack_two-requires-clause-ready g t c =
-    let old = c.args.room.now in
-    let words = g.R.Look.words old in
-    let l = c.args.left in
-    let level = c.args.level in
-    let sub = c.in_ok-slots.slots.items in
-    let all = without c.args.key.now (pairs_at level words l) in
-    let other = c.fill_slots.new.slots.items in
-    let slots = c.deref-2.result.now in
-    let e : slots ≡ sub ++ other = c.deref-2.ensures.0 ∙ c.append.ensures ∙ ap (λ (xs : List Slot). sub ++ xs) c.deref.ensures.0 in
-    left_in_hand g.R.Look.kept g.R.Look.standing g.R.Look.words level l c.args.right old c.requires.neighbours all c.args.pair.now sub other slots c.remove_at.new.room c.fill_slots.new.look c.fill_slots.ensures.unchanged c.in_ok-slots.ensures.ok c.fill_slots.ensures.slots e c.in_ok-slots.ensures.ready
+remove_left-pack_two-requires-clause-ready g t c = left_ready g t (goal.at.remove_left-pack_two-requires-clause-ready g t c).After-deref-2
 
 pub remove_left-pack_two-requires-clause-enough : goal.remove_left-pack_two-requires-clause-enough
 remove_left-pack_two-requires-clause-enough g t c =
-    let old = c.args.room.now in
-    let words = g.R.Look.words old in
-    let l = c.args.left in
-    let r = c.args.right in
-    let level = c.args.level in
+    let words = g.R.Look.words c.args.room.now in
     let two = c.requires.neighbours in
-    let sub = c.in_ok-slots.slots.items in
-    let all = without c.args.key.now (pairs_at level words l) in
-    let other = c.fill_slots.new.slots.items in
-    let slots = c.deref-2.result.now in
-    let e : slots ≡ sub ++ other = c.deref-2.ensures.0 ∙ c.append.ensures ∙ ap (λ (xs : List Slot). sub ++ xs) c.deref.ensures.0 in
-    let len = left_length g.R.Look.kept g.R.Look.standing g.R.Look.words level l r old two all c.args.pair.now sub other slots c.remove_at.new.room c.fill_slots.new.look c.fill_slots.ensures.unchanged c.in_ok-slots.ensures.ok c.fill_slots.ensures.slots e in
-    omega (arith, len, c.in_ok-slots.ensures.some, items_count (words l), items_count (words r), two.left_tree.node.enough, two.right_tree.node.enough)
+    let len = left_total g t (goal.at.remove_left-pack_two-requires-clause-enough g t c).After-deref-2 in
+    omega (arith, len, c.in_ok-slots.ensures.some, items_count (words c.args.left), items_count (words c.args.right), two.left_tree.node.enough, two.right_tree.node.enough)
 
 pub remove_left-pack_two-requires-clause-left_kept : goal.remove_left-pack_two-requires-clause-left_kept
-remove_left-pack_two-requires-clause-left_kept g t c =
-    let old = c.args.room.now in
-    let words = g.R.Look.words old in
-    let l = c.args.left in
-    let r = c.args.right in
-    let level = c.args.level in
-    let two = c.requires.neighbours in
-    let sub = c.in_ok-slots.slots.items in
-    let all = without c.args.key.now (pairs_at level words l) in
-    let other = c.fill_slots.new.slots.items in
-    let slots = c.deref-2.result.now in
-    let e : slots ≡ sub ++ other = c.deref-2.ensures.0 ∙ c.append.ensures ∙ ap (λ (xs : List Slot). sub ++ xs) c.deref.ensures.0 in
-    let joined = left_changed g.R.Look.kept g.R.Look.standing g.R.Look.words level l r old two all c.args.pair.now sub other slots c.remove_at.new.room c.fill_slots.new.look c.fill_slots.ensures.unchanged c.in_ok-slots.ensures.ok c.fill_slots.ensures.slots e (rising_without_left c.args.key.now (pairs_at level words l) (pairs_at level words r) two.rising) in
-    joined.left_is_kept
+remove_left-pack_two-requires-clause-left_kept g t c = (left_both g t (goal.at.remove_left-pack_two-requires-clause-left_kept g t c).After-deref-2).left_is_kept
 
 pub remove_left-pack_two-requires-clause-right_kept : goal.remove_left-pack_two-requires-clause-right_kept
-remove_left-pack_two-requires-clause-right_kept g t c =
-    let old = c.args.room.now in
-    let words = g.R.Look.words old in
-    let l = c.args.left in
-    let r = c.args.right in
-    let level = c.args.level in
-    let two = c.requires.neighbours in
-    let sub = c.in_ok-slots.slots.items in
-    let all = without c.args.key.now (pairs_at level words l) in
-    let other = c.fill_slots.new.slots.items in
-    let slots = c.deref-2.result.now in
-    let e : slots ≡ sub ++ other = c.deref-2.ensures.0 ∙ c.append.ensures ∙ ap (λ (xs : List Slot). sub ++ xs) c.deref.ensures.0 in
-    let joined = left_changed g.R.Look.kept g.R.Look.standing g.R.Look.words level l r old two all c.args.pair.now sub other slots c.remove_at.new.room c.fill_slots.new.look c.fill_slots.ensures.unchanged c.in_ok-slots.ensures.ok c.fill_slots.ensures.slots e (rising_without_left c.args.key.now (pairs_at level words l) (pairs_at level words r) two.rising) in
-    joined.right_is_kept
+remove_left-pack_two-requires-clause-right_kept g t c = (left_both g t (goal.at.remove_left-pack_two-requires-clause-right_kept g t c).After-deref-2).right_is_kept
 
 pub remove_left-pack_two-requires-clause-left_apart : goal.remove_left-pack_two-requires-clause-left_apart
-remove_left-pack_two-requires-clause-left_apart g t c =
-    let old = c.args.room.now in
-    let words = g.R.Look.words old in
-    let l = c.args.left in
-    let r = c.args.right in
-    let level = c.args.level in
-    let two = c.requires.neighbours in
-    let sub = c.in_ok-slots.slots.items in
-    let all = without c.args.key.now (pairs_at level words l) in
-    let other = c.fill_slots.new.slots.items in
-    let slots = c.deref-2.result.now in
-    let e : slots ≡ sub ++ other = c.deref-2.ensures.0 ∙ c.append.ensures ∙ ap (λ (xs : List Slot). sub ++ xs) c.deref.ensures.0 in
-    let joined = left_changed g.R.Look.kept g.R.Look.standing g.R.Look.words level l r old two all c.args.pair.now sub other slots c.remove_at.new.room c.fill_slots.new.look c.fill_slots.ensures.unchanged c.in_ok-slots.ensures.ok c.fill_slots.ensures.slots e (rising_without_left c.args.key.now (pairs_at level words l) (pairs_at level words r) two.rising) in
-    joined.left_beside
+remove_left-pack_two-requires-clause-left_apart g t c = (left_both g t (goal.at.remove_left-pack_two-requires-clause-left_apart g t c).After-deref-2).left_beside
 
 pub remove_left-pack_two-requires-clause-right_apart : goal.remove_left-pack_two-requires-clause-right_apart
-remove_left-pack_two-requires-clause-right_apart g t c =
-    let old = c.args.room.now in
-    let words = g.R.Look.words old in
-    let l = c.args.left in
-    let r = c.args.right in
-    let level = c.args.level in
-    let two = c.requires.neighbours in
-    let sub = c.in_ok-slots.slots.items in
-    let all = without c.args.key.now (pairs_at level words l) in
-    let other = c.fill_slots.new.slots.items in
-    let slots = c.deref-2.result.now in
-    let e : slots ≡ sub ++ other = c.deref-2.ensures.0 ∙ c.append.ensures ∙ ap (λ (xs : List Slot). sub ++ xs) c.deref.ensures.0 in
-    let joined = left_changed g.R.Look.kept g.R.Look.standing g.R.Look.words level l r old two all c.args.pair.now sub other slots c.remove_at.new.room c.fill_slots.new.look c.fill_slots.ensures.unchanged c.in_ok-slots.ensures.ok c.fill_slots.ensures.slots e (rising_without_left c.args.key.now (pairs_at level words l) (pairs_at level words r) two.rising) in
-    joined.right_beside
+remove_left-pack_two-requires-clause-right_apart g t c = (left_both g t (goal.at.remove_left-pack_two-requires-clause-right_apart g t c).After-deref-2).right_beside
 
 pub remove_left-pack_two-requires-clause-different : goal.remove_left-pack_two-requires-clause-different
 remove_left-pack_two-requires-clause-different g t c =
@@ -758,37 +544,13 @@ remove_left-pack_two-requires-clause-different g t c =
 
 pub remove_left-returns-in_err-branches-clause-err : goal.remove_left-returns-in_err-branches-clause-err
 remove_left-returns-in_err-branches-clause-err g t c =
-    let old = c.args.room.now in
-    let words = g.R.Look.words old in
-    let l = c.args.left in
-    let r = c.args.right in
-    let level = c.args.level in
-    let two = c.requires.neighbours in
-    let sub = c.in_ok-slots.slots.items in
-    let all = without c.args.key.now (pairs_at level words l) in
-    let read = c.fill_slots.new.look in
-    let other = c.fill_slots.new.slots.items in
-    let slots = c.deref-2.result.now in
-    let e : slots ≡ sub ++ other = c.deref-2.ensures.0 ∙ c.append.ensures ∙ ap (λ (xs : List Slot). sub ++ xs) c.deref.ensures.0 in
-    let joined = left_changed g.R.Look.kept g.R.Look.standing g.R.Look.words level l r old two all c.args.pair.now sub other slots c.remove_at.new.room read c.fill_slots.ensures.unchanged c.in_ok-slots.ensures.ok c.fill_slots.ensures.slots e (rising_without_left c.args.key.now (pairs_at level words l) (pairs_at level words r) two.rising) in
-    on_err _ (start_trans g.R.Look.kept g.R.Look.standing g.R.Look.words old read c.pack_two.new.room joined.start c.in_err-branches.ensures.err)
+    let both = left_both g t (goal.at.remove_left-returns-in_err-branches-clause-err g t c).After-deref-2 in
+    on_err _ (start_trans g.R.Look.kept g.R.Look.standing g.R.Look.words c.args.room.now c.fill_slots.new.look c.pack_two.new.room both.start c.in_err-branches.ensures.err)
 
 pub remove_left-returns-clause-ok : goal.remove_left-returns-clause-ok
 remove_left-returns-clause-ok g t c =
-    let old = c.args.room.now in
-    let words = g.R.Look.words old in
-    let l = c.args.left in
-    let r = c.args.right in
-    let level = c.args.level in
-    let pair = c.args.pair.now in
-    let two = c.requires.neighbours in
-    let sub = c.in_ok-slots.slots.items in
-    let all = without c.args.key.now (pairs_at level words l) in
-    let other = c.fill_slots.new.slots.items in
-    let slots = c.deref-2.result.now in
-    let e : slots ≡ sub ++ other = c.deref-2.ensures.0 ∙ c.append.ensures ∙ ap (λ (xs : List Slot). sub ++ xs) c.deref.ensures.0 in
-    let joined = left_changed g.R.Look.kept g.R.Look.standing g.R.Look.words level l r old two all pair sub other slots c.remove_at.new.room c.fill_slots.new.look c.fill_slots.ensures.unchanged c.in_ok-slots.ensures.ok c.fill_slots.ensures.slots e (rising_without_left c.args.key.now (pairs_at level words l) (pairs_at level words r) two.rising) in
-    joined.written (pairs_of (g.R.Look.words c.pack_two.new.room) pair c.in_ok-branches.branches.items) c.pack_two.new.room c.in_ok-branches.ensures.ok
+    let both = left_both g t (goal.at.remove_left-returns-clause-ok g t c).After-deref-2 in
+    both.written (pairs_of (g.R.Look.words c.pack_two.new.room) c.args.pair.now c.in_ok-branches.branches.items) c.pack_two.new.room c.in_ok-branches.ensures.ok
 
 pub remove_right-fill_slots-requires-clause-readable : goal.remove_right-fill_slots-requires-clause-readable
 remove_right-fill_slots-requires-clause-readable g t c =
@@ -823,113 +585,29 @@ remove_right-append-requires g t c =
     omega (arith, len, count, two.left_tree.node.is_page.few, c.in_ok-less.ensures.some, ap length c.deref.ensures.0)
 
 pub remove_right-pack_two-requires-clause-below : goal.remove_right-pack_two-requires-clause-below
-remove_right-pack_two-requires-clause-below g t c =
-    let old = c.args.room.now in
-    let words = g.R.Look.words old in
-    let l = c.args.left in
-    let r = c.args.right in
-    let level = c.args.level in
-    let two = c.requires.neighbours in
-    let sub = c.in_ok-less.less.items in
-    let all = without c.args.key.now (pairs_at level words r) in
-    let other = c.fill_slots.new.slots.items in
-    let slots = c.deref-2.result.now in
-    let e : slots ≡ other ++ sub = c.deref-2.ensures.0 ∙ c.append.ensures ∙ ap (λ (xs : List Slot). other ++ xs) c.deref.ensures.0 in
-    let joined = right_changed g.R.Look.kept g.R.Look.standing g.R.Look.words level l r old two all c.args.pair.now sub other slots c.remove_at.new.room c.fill_slots.new.look c.fill_slots.ensures.unchanged c.in_ok-less.ensures.ok c.fill_slots.ensures.slots e (rising_without_right c.args.key.now (pairs_at level words l) (pairs_at level words r) two.rising) in
-    joined.below
+remove_right-pack_two-requires-clause-below g t c = (right_both g t (goal.at.remove_right-pack_two-requires-clause-below g t c).After-deref-2).below
 
 pub remove_right-pack_two-requires-clause-ready : goal.remove_right-pack_two-requires-clause-ready
-remove_right-pack_two-requires-clause-ready g t c =
-    let old = c.args.room.now in
-    let words = g.R.Look.words old in
-    let r = c.args.right in
-    let level = c.args.level in
-    let sub = c.in_ok-less.less.items in
-    let all = without c.args.key.now (pairs_at level words r) in
-    let other = c.fill_slots.new.slots.items in
-    let slots = c.deref-2.result.now in
-    let e : slots ≡ other ++ sub = c.deref-2.ensures.0 ∙ c.append.ensures ∙ ap (λ (xs : List Slot). other ++ xs) c.deref.ensures.0 in
-    right_in_hand g.R.Look.kept g.R.Look.standing g.R.Look.words level c.args.left r old c.requires.neighbours all c.args.pair.now sub other slots c.remove_at.new.room c.fill_slots.new.look c.fill_slots.ensures.unchanged c.in_ok-less.ensures.ok c.fill_slots.ensures.slots e c.in_ok-less.ensures.ready
+remove_right-pack_two-requires-clause-ready g t c = right_ready g t (goal.at.remove_right-pack_two-requires-clause-ready g t c).After-deref-2
 
 pub remove_right-pack_two-requires-clause-enough : goal.remove_right-pack_two-requires-clause-enough
 remove_right-pack_two-requires-clause-enough g t c =
-    let old = c.args.room.now in
-    let words = g.R.Look.words old in
-    let l = c.args.left in
-    let r = c.args.right in
-    let level = c.args.level in
+    let words = g.R.Look.words c.args.room.now in
     let two = c.requires.neighbours in
-    let sub = c.in_ok-less.less.items in
-    let all = without c.args.key.now (pairs_at level words r) in
-    let other = c.fill_slots.new.slots.items in
-    let slots = c.deref-2.result.now in
-    let e : slots ≡ other ++ sub = c.deref-2.ensures.0 ∙ c.append.ensures ∙ ap (λ (xs : List Slot). other ++ xs) c.deref.ensures.0 in
-    let len = right_length g.R.Look.kept g.R.Look.standing g.R.Look.words level l r old two all c.args.pair.now sub other slots c.remove_at.new.room c.fill_slots.new.look c.fill_slots.ensures.unchanged c.in_ok-less.ensures.ok c.fill_slots.ensures.slots e in
-    omega (arith, len, c.in_ok-less.ensures.some, items_count (words l), items_count (words r), two.left_tree.node.enough, two.right_tree.node.enough)
+    let len = right_total g t (goal.at.remove_right-pack_two-requires-clause-enough g t c).After-deref-2 in
+    omega (arith, len, c.in_ok-less.ensures.some, items_count (words c.args.left), items_count (words c.args.right), two.left_tree.node.enough, two.right_tree.node.enough)
 
 pub remove_right-pack_two-requires-clause-left_kept : goal.remove_right-pack_two-requires-clause-left_kept
-remove_right-pack_two-requires-clause-left_kept g t c =
-    let old = c.args.room.now in
-    let words = g.R.Look.words old in
-    let l = c.args.left in
-    let r = c.args.right in
-    let level = c.args.level in
-    let two = c.requires.neighbours in
-    let sub = c.in_ok-less.less.items in
-    let all = without c.args.key.now (pairs_at level words r) in
-    let other = c.fill_slots.new.slots.items in
-    let slots = c.deref-2.result.now in
-    let e : slots ≡ other ++ sub = c.deref-2.ensures.0 ∙ c.append.ensures ∙ ap (λ (xs : List Slot). other ++ xs) c.deref.ensures.0 in
-    let joined = right_changed g.R.Look.kept g.R.Look.standing g.R.Look.words level l r old two all c.args.pair.now sub other slots c.remove_at.new.room c.fill_slots.new.look c.fill_slots.ensures.unchanged c.in_ok-less.ensures.ok c.fill_slots.ensures.slots e (rising_without_right c.args.key.now (pairs_at level words l) (pairs_at level words r) two.rising) in
-    joined.left_is_kept
+remove_right-pack_two-requires-clause-left_kept g t c = (right_both g t (goal.at.remove_right-pack_two-requires-clause-left_kept g t c).After-deref-2).left_is_kept
 
 pub remove_right-pack_two-requires-clause-right_kept : goal.remove_right-pack_two-requires-clause-right_kept
-remove_right-pack_two-requires-clause-right_kept g t c =
-    let old = c.args.room.now in
-    let words = g.R.Look.words old in
-    let l = c.args.left in
-    let r = c.args.right in
-    let level = c.args.level in
-    let two = c.requires.neighbours in
-    let sub = c.in_ok-less.less.items in
-    let all = without c.args.key.now (pairs_at level words r) in
-    let other = c.fill_slots.new.slots.items in
-    let slots = c.deref-2.result.now in
-    let e : slots ≡ other ++ sub = c.deref-2.ensures.0 ∙ c.append.ensures ∙ ap (λ (xs : List Slot). other ++ xs) c.deref.ensures.0 in
-    let joined = right_changed g.R.Look.kept g.R.Look.standing g.R.Look.words level l r old two all c.args.pair.now sub other slots c.remove_at.new.room c.fill_slots.new.look c.fill_slots.ensures.unchanged c.in_ok-less.ensures.ok c.fill_slots.ensures.slots e (rising_without_right c.args.key.now (pairs_at level words l) (pairs_at level words r) two.rising) in
-    joined.right_is_kept
+remove_right-pack_two-requires-clause-right_kept g t c = (right_both g t (goal.at.remove_right-pack_two-requires-clause-right_kept g t c).After-deref-2).right_is_kept
 
 pub remove_right-pack_two-requires-clause-left_apart : goal.remove_right-pack_two-requires-clause-left_apart
-remove_right-pack_two-requires-clause-left_apart g t c =
-    let old = c.args.room.now in
-    let words = g.R.Look.words old in
-    let l = c.args.left in
-    let r = c.args.right in
-    let level = c.args.level in
-    let two = c.requires.neighbours in
-    let sub = c.in_ok-less.less.items in
-    let all = without c.args.key.now (pairs_at level words r) in
-    let other = c.fill_slots.new.slots.items in
-    let slots = c.deref-2.result.now in
-    let e : slots ≡ other ++ sub = c.deref-2.ensures.0 ∙ c.append.ensures ∙ ap (λ (xs : List Slot). other ++ xs) c.deref.ensures.0 in
-    let joined = right_changed g.R.Look.kept g.R.Look.standing g.R.Look.words level l r old two all c.args.pair.now sub other slots c.remove_at.new.room c.fill_slots.new.look c.fill_slots.ensures.unchanged c.in_ok-less.ensures.ok c.fill_slots.ensures.slots e (rising_without_right c.args.key.now (pairs_at level words l) (pairs_at level words r) two.rising) in
-    joined.left_beside
+remove_right-pack_two-requires-clause-left_apart g t c = (right_both g t (goal.at.remove_right-pack_two-requires-clause-left_apart g t c).After-deref-2).left_beside
 
 pub remove_right-pack_two-requires-clause-right_apart : goal.remove_right-pack_two-requires-clause-right_apart
-remove_right-pack_two-requires-clause-right_apart g t c =
-    let old = c.args.room.now in
-    let words = g.R.Look.words old in
-    let l = c.args.left in
-    let r = c.args.right in
-    let level = c.args.level in
-    let two = c.requires.neighbours in
-    let sub = c.in_ok-less.less.items in
-    let all = without c.args.key.now (pairs_at level words r) in
-    let other = c.fill_slots.new.slots.items in
-    let slots = c.deref-2.result.now in
-    let e : slots ≡ other ++ sub = c.deref-2.ensures.0 ∙ c.append.ensures ∙ ap (λ (xs : List Slot). other ++ xs) c.deref.ensures.0 in
-    let joined = right_changed g.R.Look.kept g.R.Look.standing g.R.Look.words level l r old two all c.args.pair.now sub other slots c.remove_at.new.room c.fill_slots.new.look c.fill_slots.ensures.unchanged c.in_ok-less.ensures.ok c.fill_slots.ensures.slots e (rising_without_right c.args.key.now (pairs_at level words l) (pairs_at level words r) two.rising) in
-    joined.right_beside
+remove_right-pack_two-requires-clause-right_apart g t c = (right_both g t (goal.at.remove_right-pack_two-requires-clause-right_apart g t c).After-deref-2).right_beside
 
 pub remove_right-pack_two-requires-clause-different : goal.remove_right-pack_two-requires-clause-different
 remove_right-pack_two-requires-clause-different g t c =
@@ -937,34 +615,10 @@ remove_right-pack_two-requires-clause-different g t c =
 
 pub remove_right-returns-in_err-branches-clause-err : goal.remove_right-returns-in_err-branches-clause-err
 remove_right-returns-in_err-branches-clause-err g t c =
-    let old = c.args.room.now in
-    let words = g.R.Look.words old in
-    let l = c.args.left in
-    let r = c.args.right in
-    let level = c.args.level in
-    let two = c.requires.neighbours in
-    let sub = c.in_ok-less.less.items in
-    let all = without c.args.key.now (pairs_at level words r) in
-    let read = c.fill_slots.new.look in
-    let other = c.fill_slots.new.slots.items in
-    let slots = c.deref-2.result.now in
-    let e : slots ≡ other ++ sub = c.deref-2.ensures.0 ∙ c.append.ensures ∙ ap (λ (xs : List Slot). other ++ xs) c.deref.ensures.0 in
-    let joined = right_changed g.R.Look.kept g.R.Look.standing g.R.Look.words level l r old two all c.args.pair.now sub other slots c.remove_at.new.room read c.fill_slots.ensures.unchanged c.in_ok-less.ensures.ok c.fill_slots.ensures.slots e (rising_without_right c.args.key.now (pairs_at level words l) (pairs_at level words r) two.rising) in
-    on_err _ (start_trans g.R.Look.kept g.R.Look.standing g.R.Look.words old read c.pack_two.new.room joined.start c.in_err-branches.ensures.err)
+    let both = right_both g t (goal.at.remove_right-returns-in_err-branches-clause-err g t c).After-deref-2 in
+    on_err _ (start_trans g.R.Look.kept g.R.Look.standing g.R.Look.words c.args.room.now c.fill_slots.new.look c.pack_two.new.room both.start c.in_err-branches.ensures.err)
 
 pub remove_right-returns-clause-ok : goal.remove_right-returns-clause-ok
 remove_right-returns-clause-ok g t c =
-    let old = c.args.room.now in
-    let words = g.R.Look.words old in
-    let l = c.args.left in
-    let r = c.args.right in
-    let level = c.args.level in
-    let pair = c.args.pair.now in
-    let two = c.requires.neighbours in
-    let sub = c.in_ok-less.less.items in
-    let all = without c.args.key.now (pairs_at level words r) in
-    let other = c.fill_slots.new.slots.items in
-    let slots = c.deref-2.result.now in
-    let e : slots ≡ other ++ sub = c.deref-2.ensures.0 ∙ c.append.ensures ∙ ap (λ (xs : List Slot). other ++ xs) c.deref.ensures.0 in
-    let joined = right_changed g.R.Look.kept g.R.Look.standing g.R.Look.words level l r old two all pair sub other slots c.remove_at.new.room c.fill_slots.new.look c.fill_slots.ensures.unchanged c.in_ok-less.ensures.ok c.fill_slots.ensures.slots e (rising_without_right c.args.key.now (pairs_at level words l) (pairs_at level words r) two.rising) in
-    joined.written (pairs_of (g.R.Look.words c.pack_two.new.room) pair c.in_ok-branches.branches.items) c.pack_two.new.room c.in_ok-branches.ensures.ok
+    let both = right_both g t (goal.at.remove_right-returns-clause-ok g t c).After-deref-2 in
+    both.written (pairs_of (g.R.Look.words c.pack_two.new.room) c.args.pair.now c.in_ok-branches.branches.items) c.pack_two.new.room c.in_ok-branches.ensures.ok
