@@ -1,4 +1,5 @@
 pub mod CoverLemmas
+pub mod OnlyPass
 pub mod RunLemmas
 pub mod StoreLemmas
 pub mod ValueLemmas

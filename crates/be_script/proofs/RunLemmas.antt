@@ -11,9 +11,9 @@ use Rattle.be_value.specs.declared.refusals.Refusal.TheVariants.{OutOfMemory}
 use Rattle.be_script.specs.declared.faults.RunFault.{RunFault}
 use Rattle.be_script.specs.declared.faults.RunFault.TheVariants.{Limits, Read, TooLong, Write, Memory}
 use Rattle.be_script.specs.Store.{Store}
-use Rattle.be_script.specs.Request.{Request, silent, malformed, write, query, explain, get, attrs, indices, begin, commit, abort, asked, lines_of}
+use Rattle.be_script.specs.Request.{Request, silent, malformed, write, query, explain, get, attrs, indices, pin, unpin, live, refresh, begin, commit, abort, asked, lines_of}
 use Rattle.be_script.specs.Reply.{Reply, none, refused, text_of}
-use Rattle.be_script.specs.Output.{Session, Replies, Answered, Outputs, IsOutputFrom, IsFrontOfOutput, unwritten, closed}
+use Rattle.be_script.specs.Output.{Session, Replies, Answered, Outputs, IsOutputFrom, IsFrontOfOutput, unwritten, opening, pinning}
 use Rattle.be_script.specs.Run.{Wrote, IsFrontOf, IsFrontOfAnswer, Completes, Leaves, ReadFault, ReadsAll, IsLate, IsOther, is_line_end}
 
 append_nothing : {A : Type 0} (xs : List A) → xs ++ [] ≡ xs
@@ -47,45 +47,60 @@ more_written old mid new bytes left front left' w a e = record {
   is = w.is ∙ ap (λ z. w.out ++ z) e ∙ sym (append_assoc w.out front left');
 }
 
--- a reply that any request may get, if it has one
-abbrev wanting : Request → Reply
-wanting silent = none
-wanting malformed = refused OutOfMemory
-wanting (write op) = refused OutOfMemory
-wanting (query text) = refused OutOfMemory
-wanting (explain text) = refused OutOfMemory
-wanting (get n name) = refused OutOfMemory
-wanting (attrs n) = refused OutOfMemory
-wanting indices = refused OutOfMemory
-wanting begin = refused OutOfMemory
-wanting commit = refused OutOfMemory
-wanting abort = refused OutOfMemory
+-- a reply that any request may get, and the session after it
+abbrev some_reply : Session → Request → Reply × Session
+some_reply s silent = (none, s)
+some_reply s malformed = (refused OutOfMemory, s)
+some_reply s (write op) = (refused OutOfMemory, s)
+some_reply s (query text) = (refused OutOfMemory, s)
+some_reply s (explain text) = (refused OutOfMemory, s)
+some_reply s (get n name) = (refused OutOfMemory, s)
+some_reply s (attrs n) = (refused OutOfMemory, s)
+some_reply s indices = (refused OutOfMemory, s)
+some_reply s pin = pinning s s.store.pin
+some_reply s unpin = (refused OutOfMemory, s)
+some_reply s (live text) = (refused OutOfMemory, s)
+some_reply s refresh = (refused OutOfMemory, s)
+some_reply s begin = (refused OutOfMemory, s)
+some_reply s commit = (refused OutOfMemory, unwritten s commit)
+some_reply s abort = (refused OutOfMemory, s)
 
-wanting_replies : (s : Session) (request : Request) → Replies s request (wanting request) (unwritten s request)
-wanting_replies s silent = refl
-wanting_replies s malformed = inr (refl, inl refl)
-wanting_replies s (write (Ok op)) = inr (refl, inl refl)
-wanting_replies s (write (Err e)) = inr (refl, inl refl)
-wanting_replies s (query text) = inr (refl, inl refl)
-wanting_replies s (explain text) = inr (refl, inl refl)
-wanting_replies s (get n name) = inr (refl, inl refl)
-wanting_replies s (attrs n) = inr (refl, inl refl)
-wanting_replies s indices = inr (refl, inl refl)
-wanting_replies s begin = inr (refl, inl refl)
-wanting_replies s commit = inr (refl, inl refl)
-wanting_replies s abort = inr (refl, inl refl)
+may_reply : (s : Session) (request : Request) → Replies s request (some_reply s request).0 (some_reply s request).1
+may_reply s silent = refl
+may_reply s malformed = inr (refl, inl refl)
+may_reply s (write (Ok op)) = inr (refl, inl refl)
+may_reply s (write (Err e)) = inr (refl, inl refl)
+may_reply s (query text) = inr (refl, inl refl)
+may_reply s (explain text) = inr (refl, inl refl)
+may_reply s (get n name) = inr (refl, inl refl)
+may_reply s (attrs n) = inr (refl, inl refl)
+may_reply s indices = inr (refl, inl refl)
+may_reply s pin = refl
+may_reply s unpin = inr (refl, inl refl)
+may_reply s (live text) = inr (refl, inl refl)
+may_reply s refresh = inr (refl, inl refl)
+may_reply s begin = inr (refl, inl refl)
+may_reply s commit = inr (refl, inl refl)
+may_reply s abort = inr (refl, inl refl)
+
+-- the session after some answer to a line, and its text
+abbrev after_some : Session → List ℕ → Session
+after_some s line = (some_reply s (asked line)).1
+
+abbrev some_text : Session → List ℕ → List ℕ
+some_text s line = text_of (some_reply s (asked line)).0
 
 -- some text answers a line
-some_answer : (s : Session) (line : List ℕ) → Answered s line (unwritten s (asked line)) (text_of (wanting (asked line)))
-some_answer s line = (wanting (asked line), wanting_replies s (asked line), refl)
+some_answer : (s : Session) (line : List ℕ) → Answered s line (after_some s line) (some_text s line)
+some_answer s line = ((some_reply s (asked line)).0, may_reply s (asked line), refl)
 
 -- some text is an output of any lines
 some_output : (s : Session) (lines : List (List ℕ)) → (out : List ℕ) × Outputs s lines out
 some_output s [] = ([], refl)
 some_output s (line ∷ lines) =
-    let after = unwritten s (asked line) in
+    let after = after_some s line in
     let next = some_output after lines in
-    let text = text_of (wanting (asked line)) in
+    let text = some_text s line in
     (text ++ next.0, (after, text, next.0, some_answer s line, next.1, refl))
 
 -- a line more is answered
@@ -126,11 +141,11 @@ stop store script left line lines s old mid new e w r =
 
 -- a script of which nothing was answered
 pub none_answered : (store : Store) (script : List ℕ) (known : Option (List ℕ)) → Wrote known known (IsFrontOfOutput store script)
-none_answered store script known = record { out = []; appended = none_written known; is = some_output (closed store) (lines_of script) }
+none_answered store script known = record { out = []; appended = none_written known; is = some_output (opening store) (lines_of script) }
 
 -- a line that was not run
 pub none_of_line : (s : Session) (line : List ℕ) (known : Option (List ℕ)) → Wrote known known (IsFrontOfAnswer s line)
-none_of_line s line known = record { out = []; appended = none_written known; is = (unwritten s (asked line), text_of (wanting (asked line)), some_answer s line) }
+none_of_line s line known = record { out = []; appended = none_written known; is = (after_some s line, some_text s line, some_answer s line) }
 
 -- a reply of which nothing was written
 pub none_of_reply : (s s' : Session) (line : List ℕ) (request : Request) (reply : Reply) (known : Option (List ℕ)) → request ≡ asked line → Replies s request reply s' →
@@ -151,7 +166,7 @@ front_of_reply s s' line text request reply old new e r t w = record {
 }
 
 -- a script of which nothing was answered yet
-pub nothing_yet : (store : Store) (script : List ℕ) (s : Session) (known : Option (List ℕ)) → s ≡ closed store → Wrote known known (Completes store script s script)
+pub nothing_yet : (store : Store) (script : List ℕ) (s : Session) (known : Option (List ℕ)) → s ≡ opening store → Wrote known known (Completes store script s script)
 nothing_yet store script s known e = record {
   out = [];
   appended = none_written known;
@@ -179,7 +194,7 @@ too_long None new bytes h l = tt
 too_long (Some xs) None bytes h l = absurd h
 too_long (Some xs) (Some ys) bytes h l = omega (arith, ap length h, length-append bytes ys, l)
 
-none_answered_if : (store : Store) (input known : Option (List ℕ)) → IfSome input (λ script. Wrote known known (IsFrontOfOutput store script))
+pub none_answered_if : (store : Store) (input known : Option (List ℕ)) → IfSome input (λ script. Wrote known known (IsFrontOfOutput store script))
 none_answered_if store None known = tt
 none_answered_if store (Some script) known = none_answered store script known
 

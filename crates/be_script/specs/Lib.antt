@@ -3,6 +3,7 @@ pub mod Output
 pub mod Reply
 pub mod Request
 pub mod Run
+pub mod Served
 pub mod Store
 pub mod Task
 pub mod Values

@@ -1,6 +1,6 @@
 -- The ranges of the limits of a store.
 use Rattle.std.specs.Prelude.{Bool, nat_le, ◌&&◌}
-use Rattle.be_script.specs.declared.limits.Limits.{Limits}
+use Rattle.be_table.specs.declared.limits.Limits.{Limits}
 
 -- each limit is within its range
 abbrev pub are_within : Limits → Bool

@@ -22,6 +22,11 @@ pub data Reply : Type 0 where
   attributes : List (List ℕ × Value) → Reply
   kinds : List (List ℕ × Kind) → Reply
   cover : List ℕ → Reply
+  pinned_at : ℕ → Reply
+  already_pinned : Reply
+  not_pinned : Reply
+  updates : List ℕ → List ℕ → Reply
+  no_live_query : Reply
   queued : Reply
   full_batch : Reply
   empty_batch : Reply
@@ -33,6 +38,10 @@ pub data Reply : Type 0 where
 -- a space and a number for each
 abbrev pub numbers : List ℕ → List ℕ
 numbers ns = flat_map (λ n. 32 ∷ decimal n) ns
+
+-- a word, and then a space and a number for each
+abbrev pub numbers_line : List ℕ → List ℕ → List ℕ
+numbers_line word ns = (word ++ numbers ns) ++ codes "\n"
 
 -- the number that a refusal carries, after a space
 abbrev pub number_after : Option ℕ → List ℕ
@@ -71,11 +80,16 @@ text_of none = []
 text_of bad_line = codes "bad line\n"
 text_of ok = codes "ok\n"
 text_of (node n) = codes "node " ++ (decimal n ++ codes "\n")
-text_of (nodes ns) = (codes "nodes" ++ numbers ns) ++ codes "\n"
+text_of (nodes ns) = numbers_line (codes "nodes") ns
 text_of (value v) = value_line v
 text_of (attributes list) = listed (codes "attrs ") (length list) attribute_line list
 text_of (kinds list) = listed (codes "indices ") (length list) kind_line list
 text_of (cover text) = text ++ codes "\n"
+text_of (pinned_at n) = codes "pin " ++ (decimal n ++ codes "\n")
+text_of already_pinned = codes "already pinned\n"
+text_of not_pinned = codes "not pinned\n"
+text_of (updates created removed) = numbers_line (codes "created") created ++ numbers_line (codes "removed") removed
+text_of no_live_query = codes "no live query\n"
 text_of queued = codes "queued\n"
 text_of full_batch = codes "full batch\n"
 text_of empty_batch = codes "empty batch\n"

@@ -29,6 +29,10 @@ pub data Request : Type 0 where
   get : ℕ → Result (List ℕ) Refusal → Request
   attrs : ℕ → Request
   indices : Request
+  pin : Request
+  unpin : Request
+  live : List ℕ → Request
+  refresh : Request
   begin : Request
   commit : Request
   abort : Request
@@ -97,6 +101,10 @@ command_named word =
     else if same word (codes "get") then Some commands.Get
     else if same word (codes "attrs") then Some commands.Attrs
     else if same word (codes "indices") then Some commands.Indices
+    else if same word (codes "pin") then Some commands.Pin
+    else if same word (codes "unpin") then Some commands.Unpin
+    else if same word (codes "live") then Some commands.Live
+    else if same word (codes "refresh") then Some commands.Refresh
     else if same word (codes "begin") then Some commands.Begin
     else if same word (codes "commit") then Some commands.Commit
     else if same word (codes "abort") then Some commands.Abort
@@ -115,6 +123,10 @@ command_in commands.Explain rest = Some (explain (text_in rest))
 command_in commands.Get rest = get_in rest
 command_in commands.Attrs rest = attrs_in rest
 command_in commands.Indices rest = bare indices rest
+command_in commands.Pin rest = bare pin rest
+command_in commands.Unpin rest = bare unpin rest
+command_in commands.Live rest = Some (live (text_in rest))
+command_in commands.Refresh rest = bare refresh rest
 command_in commands.Begin rest = bare begin rest
 command_in commands.Commit rest = bare commit rest
 command_in commands.Abort rest = bare abort rest

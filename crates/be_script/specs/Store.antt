@@ -1,27 +1,56 @@
 -- What serves a script.
-use Rattle.std.specs.Prelude.{◌≡◌, ◌⊎◌, ℕ, List, [], ◌∷◌, ◌++◌, length, nat_lt, if◌then◌else◌, IsOk}
+use Rattle.std.specs.Prelude.{◌≡◌, ◌⊎◌, ℕ, List, [], ◌∷◌, ◌++◌, length, nat_lt, if◌then◌else◌, IsOk, Some, None, refl}
+use Rattle.std.specs.Coded.{Coded, code_by, coded_ℕ, coded_list, coded_option, coded×}
+use Rattle.std.specs.Option.{option_map_or}
+use Rattle.std.specs.declared.option.Option.{Option}
 use Rattle.std.specs.declared.result.Result.{Result}
 use Rattle.std.specs.declared.result.Result.TheVariants.{Ok, Err}
 use Rattle.be_value.specs.declared.refusals.Refusal.{Refusal}
 use Rattle.be_value.specs.declared.refusals.Refusal.TheVariants.{CommitsSpent, OutOfMemory, Full}
-use Rattle.be_volume.specs.Volume.{State, steps, empty}
+use Rattle.be_volume.specs.Volume.{State, coded_state, steps, empty}
 use Rattle.be_volume.specs.declared.ops.Done.{Done}
 use Rattle.be_volume.specs.declared.ops.Op.{Op}
 use Rattle.be_journal.specs.declared.entries.Entry.{Entry}
+use Rattle.be_journal.specs.Journal.{coded_entry}
 
--- the accepted writes, the volume after them, and how many there may be
+-- a pinned version: how many writes were accepted before it, and its volume
+pub record Pin : Type 0 where
+  pub number : ℕ
+  pub volume : State
+
+-- the accepted writes, the volume after them, how many there may be, and the version that is pinned, if one is
 pub record Store : Type 0 where
   pub journal : List Entry
   pub volume : State
   pub limit : ℕ
+  pub pin : Option Pin
 
--- a store before its first write
+abbrev pub coded_pin : Coded Pin
+coded_pin = code_by _ (coded× coded_ℕ coded_state) (λ p. (p.number, p.volume)) (λ q. record { number = q.0; volume = q.1 }) (λ _. refl)
+
+abbrev pub coded_store : Coded Store
+coded_store = code_by _ (coded× (coded_list coded_entry) (coded× coded_state (coded× coded_ℕ (coded_option coded_pin))))
+    (λ s. (s.journal, (s.volume, (s.limit, s.pin)))) (λ q. record { journal = q.0; volume = q.1.0; limit = q.1.1.0; pin = q.1.1.1 }) (λ _. refl)
+
+-- a store before its first write, with no pin
 abbrev pub start : ℕ → Store
-start limit = record { journal = []; volume = empty; limit = limit }
+start limit = record { journal = []; volume = empty; limit = limit; pin = None }
 
--- the store after a write by pass 0 that the volume accepts, with its answers
+-- the volume that is read: the pinned one, or else that after all writes
+abbrev pub viewed : Store → State
+viewed s = option_map_or (λ (p : Pin). p.volume) s.pin s.volume
+
+-- the store with the version after all writes pinned
+abbrev pub pinned : Store → Store
+pinned s = record s { pin = Some (record { number = length s.journal; volume = s.volume }) }
+
+-- the store with no pin
+abbrev pub unpinned : Store → Store
+unpinned s = record s { pin = None }
+
+-- the store after a write by pass 0 that the volume accepts, with its answers; a pin stays
 abbrev pub entered : Store → List Op → State → List Done → Store
-entered s ops volume dones = record { journal = s.journal ++ record { by = 0; ops = ops; dones = dones } ∷ []; volume = volume; limit = s.limit }
+entered s ops volume dones = record s { journal = s.journal ++ record { by = 0; ops = ops; dones = dones } ∷ []; volume = volume }
 
 -- A write: a refusal of the volume goes before that of a journal at its limit.
 abbrev pub written_by : Store → List Op → Result (State × List Done) Refusal → Result (Store × List Done) Refusal

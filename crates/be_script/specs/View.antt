@@ -1,17 +1,17 @@
 -- The requests and the replies of the code as those of the definitions.
-use Rattle.std.specs.Prelude.{List, [], unwrap_or}
+use Rattle.std.specs.Prelude.{List, [], Some, None, unwrap_or}
 use Rattle.std.specs.Option.{option_map}
 use Rattle.std.specs.String.{string_bytes}
 use Rattle.std.specs.declared.option.Option.{Option}
 use Rattle.be_volume.specs.declared.ops.Op.{Op}
+use Rattle.be_store.specs.Live.{LiveQuery}
 use Rattle.be_script.specs.Output.{Session}
 use Rattle.be_script.specs.Store.{Store}
-use Rattle.be_script.specs.declared.answers.Batch.{Batch}
-use Rattle.be_script.specs.declared.stores.PlainStore.{PlainStore}
-use Rattle.be_script.specs.Request.{Request, silent, malformed, write, query, explain, get, attrs, indices, begin, commit, abort}
+use Rattle.be_script.specs.declared.client.Client.{Client}
+use Rattle.be_script.specs.Request.{Request, silent, malformed, write, query, explain, get, attrs, indices, pin, unpin, live, refresh, begin, commit, abort}
 use Rattle.be_script.specs.declared.requests.Request.{Request as Asked}
 use Rattle.be_script.specs.declared.requests.Request.TheVariants as asked
-use Rattle.be_script.specs.Reply.{Reply, none, bad_line, ok, node, nodes, value, attributes, kinds, cover, queued, full_batch, empty_batch, already_begun, not_begun, committed, refused}
+use Rattle.be_script.specs.Reply.{Reply, none, bad_line, ok, node, nodes, value, attributes, kinds, cover, pinned_at, already_pinned, not_pinned, updates, no_live_query, queued, full_batch, empty_batch, already_begun, not_begun, committed, refused}
 use Rattle.be_script.specs.declared.replies.Reply.{Reply as Answer}
 use Rattle.be_script.specs.declared.replies.Reply.TheVariants as answers
 
@@ -24,6 +24,10 @@ request_of (asked.Explain text) = explain (string_bytes text)
 request_of (asked.Get number name) = get number name
 request_of (asked.Attrs number) = attrs number
 request_of asked.Indices = indices
+request_of asked.Pin = pin
+request_of asked.Unpin = unpin
+request_of (asked.Live text) = live (string_bytes text)
+request_of asked.Refresh = refresh
 request_of asked.Begin = begin
 request_of asked.Commit = commit
 request_of asked.Abort = abort
@@ -39,6 +43,11 @@ reply_of (answers.Value v) = value v
 reply_of (answers.Attributes list) = attributes list.items
 reply_of (answers.Kinds list) = kinds list.items
 reply_of (answers.Cover text) = cover (string_bytes text)
+reply_of (answers.Pinned n) = pinned_at n
+reply_of answers.AlreadyPinned = already_pinned
+reply_of answers.NotPinned = not_pinned
+reply_of (answers.Updates u) = updates u.created.items u.removed.items
+reply_of answers.NoLiveQuery = no_live_query
 reply_of answers.Queued = queued
 reply_of answers.FullBatch = full_batch
 reply_of answers.EmptyBatch = empty_batch
@@ -47,17 +56,23 @@ reply_of answers.NotBegun = not_begun
 reply_of (answers.Committed n dones) = committed n dones.items
 reply_of (answers.Refused r) = refused r
 
--- what a plain store shows
-abbrev pub store_of : PlainStore → Store
-store_of s = record { journal = s.journal.entries; volume = s.volume; limit = s.journal.limit }
-
 -- the operations of an open batch
-abbrev pub queue : Batch → Option (List Op)
-queue batch = option_map (λ ops. ops.items) batch.open
+abbrev pub queue : Client → Option (List Op)
+queue client = option_map (λ ops. ops.items) client.batch
 
-abbrev pub queued_ops : Batch → List Op
-queued_ops batch = unwrap_or (queue batch) []
+abbrev pub queued_ops : Client → List Op
+queued_ops client = unwrap_or (queue client) []
 
--- a store and a batch of the code as a session
-abbrev pub session : Store → Batch → Session
-session store batch = record { store = store; batch = queue batch }
+-- a store, and what a script has beside it, as a session
+abbrev pub session : Store → Client → Session
+session store client = record { store = store; batch = queue client; live = client.live }
+
+-- the same from its parts: with no batch open, with these operations queued, and with this live query
+abbrev pub unbatched : Store → Option LiveQuery → Session
+unbatched store l = record { store = store; batch = None; live = l }
+
+abbrev pub batched : Store → List Op → Option LiveQuery → Session
+batched store ops l = record { store = store; batch = Some ops; live = l }
+
+abbrev pub watched : Store → Option (List Op) → LiveQuery → Session
+watched store batch l = record { store = store; batch = batch; live = Some l }

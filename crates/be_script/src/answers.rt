@@ -1,18 +1,22 @@
 //! The reply to each line.
 //!
-//! A session is a store and, where one is open, a batch: the operations queued for one write. A line that is refused or
-//! bad leaves the batch as it was; a commit ends it, refused or not.
-ghost use Rattle.std.specs.Prelude.{◌≡◌, ◌≤◌, ◌<◌, ◌+◌, ◌^◌, Ok, Some, length, vec_len};
+//! A session is what serves the script and what the script has beside it: a batch where one is open, which is the operations
+//! queued for one write, and a live query. A line that is refused or bad leaves both as they were, but a commit ends its
+//! batch, refused or not.
+ghost use Rattle.std.specs.Prelude.{◌≡◌, ◌≤◌, ◌<◌, ◌+◌, ◌^◌, Ok, List, Option, length, vec_len};
 ghost use Rattle.be_script.specs.Output as spec;
 ghost use Rattle.be_script.specs.Request as requests;
 ghost use Rattle.be_script.specs.Store.{Store};
-ghost use Rattle.be_script.specs.View.{request_of, reply_of, session, queued_ops};
+ghost use Rattle.be_script.specs.View.{request_of, reply_of, session, queued_ops, unbatched, batched, watched};
+ghost use Rattle.be_store.specs.Live.{LiveQuery};
 
+use crate::client::Client;
 use crate::replies::Reply;
 use crate::requests::Request;
 use crate::stores::Server;
 use be_plan::{choose, explain};
 use be_query::parse;
+use be_store::Live;
 use be_value::Refusal;
 use be_volume::{Done, Op};
 use std::alloc::Global;
@@ -20,39 +24,23 @@ use std::alloc::Global;
 /// The most operations of a batch.
 const MAX_BATCH: usize = 64;
 
-/// The operations queued since `begin`, where a batch is open.
-#[derive(Drop)]
-pub struct Batch {
-    open: Option<Vec<Op>>,
-}
-
-impl Batch {
-    /// No batch is open.
-    pub fn closed() -> Batch
-        ensures open { (store : Store) → session store result ≡ spec.closed store }
-        ensures few { length (queued_ops result) ≤ 64 }
-    {
-        Batch { open: None }
-    }
-}
-
-fn begin(alloc: Global, batch: &mut Batch) -> Reply
-    requires few { length (queued_ops batch.old) ≤ 64 }
-    ensures replies { (store : Store) → spec.Replies (session store batch.old) requests.begin (reply_of result) (session store batch.new) }
-    ensures few { length (queued_ops batch.new) ≤ 64 }
+fn begin(alloc: Global, client: &mut Client) -> Reply
+    requires few { length (queued_ops client.old) ≤ 64 }
+    ensures replies { (store : Store) → spec.Replies (session store client.old) requests.begin (reply_of result) (session store client.new) }
+    ensures few { length (queued_ops client.new) ≤ 64 }
 {
-    if batch.open.is_some() {
+    if client.batch.is_some() {
         return Reply::AlreadyBegun;
     }
-    batch.open = Some(Vec::new(alloc));
+    client.batch = Some(Vec::new(alloc));
     Reply::Done
 }
 
-fn abort(batch: &mut Batch) -> Reply
-    ensures replies { (store : Store) → spec.Replies (session store batch.old) requests.abort (reply_of result) (session store batch.new) }
-    ensures few { length (queued_ops batch.new) ≤ 64 }
+fn abort(client: &mut Client) -> Reply
+    ensures replies { (store : Store) → spec.Replies (session store client.old) requests.abort (reply_of result) (session store client.new) }
+    ensures few { length (queued_ops client.new) ≤ 64 }
 {
-    match batch.open.take() {
+    match client.batch.take() {
         Some(_) => Reply::Done,
         None => Reply::NotBegun,
     }
@@ -71,7 +59,8 @@ fn done_reply(dones: &[Done]) -> Reply
 /// Writes one operation.
 fn write<S: Server>(server: &mut S, op: Op) -> Reply
     requires fits { (S.shows server.old).volume.next + 64 < 2 ^ 64 }
-    ensures replies { spec.Replies (spec.closed (S.shows server.old)) (requests.write (Ok op)) (reply_of result) (spec.closed (S.shows server.new)) }
+    ensures replies { (live : Option LiveQuery) →
+        spec.Replies (unbatched (S.shows server.old) live) (requests.write (Ok op)) (reply_of result) (unbatched (S.shows server.new) live) }
     ensures grows { (S.shows server.new).volume.next ≤ (S.shows server.old).volume.next + 64 }
 {
     match server.apply(&[op]) {
@@ -81,53 +70,48 @@ fn write<S: Server>(server: &mut S, op: Op) -> Reply
 }
 
 /// Queues an operation where there is a place for it.
-fn enqueue(mut ops: Vec<Op>, op: Op) -> (Batch, Reply)
-    requires few { vec_len ops ≤ 64 }
-    ensures replies { (store : Store) →
-        spec.Replies (record { store = store; batch = Some ops.items }) (requests.write (Ok op)) (reply_of result.1) (session store result.0) }
-    ensures few { length (queued_ops result.0) ≤ 64 }
+fn enqueue(ops: &mut Vec<Op>, op: Op) -> Reply
+    requires few { vec_len ops.old ≤ 64 }
+    ensures replies { (store : Store) (live : Option LiveQuery) →
+        spec.Replies (batched store ops.old.items live) (requests.write (Ok op)) (reply_of result) (batched store ops.new.items live) }
+    ensures few { vec_len ops.new ≤ 64 }
 {
     if ops.len() >= MAX_BATCH {
-        return (Batch { open: Some(ops) }, Reply::FullBatch);
+        return Reply::FullBatch;
     }
-    let reply = match ops.push(op) {
+    match ops.push(op) {
         Ok(()) => Reply::Queued,
         Err(_) => Reply::Refused(Refusal::OutOfMemory),
-    };
-    (Batch { open: Some(ops) }, reply)
+    }
 }
 
 /// Writes an operation, or queues it where a batch is open.
-fn take<S: Server>(server: &mut S, batch: &mut Batch, op: Op) -> Reply
+fn take<S: Server>(server: &mut S, client: &mut Client, op: Op) -> Reply
     requires fits { (S.shows server.old).volume.next + 64 < 2 ^ 64 }
-    requires few { length (queued_ops batch.old) ≤ 64 }
-    ensures replies { spec.Replies (session (S.shows server.old) batch.old) (requests.write (Ok op)) (reply_of result) (session (S.shows server.new) batch.new) }
+    requires few { length (queued_ops client.old) ≤ 64 }
+    ensures replies { spec.Replies (session (S.shows server.old) client.old) (requests.write (Ok op)) (reply_of result) (session (S.shows server.new) client.new) }
     ensures grows { (S.shows server.new).volume.next ≤ (S.shows server.old).volume.next + 64 }
-    ensures few { length (queued_ops batch.new) ≤ 64 }
+    ensures few { length (queued_ops client.new) ≤ 64 }
 {
-    match batch.open.take() {
-        Some(ops) => {
-            let (queue, reply) = enqueue(ops, op);
-            *batch = queue;
-            reply
-        }
+    match &mut client.batch {
+        Some(ops) => enqueue(ops, op),
         None => write(server, op),
     }
 }
 
 /// Writes the operations of the batch as one. It ends then, refused or not.
-fn commit<S: Server>(server: &mut S, batch: &mut Batch) -> Reply
+fn commit<S: Server>(server: &mut S, client: &mut Client) -> Reply
     requires fits { (S.shows server.old).volume.next + 64 < 2 ^ 64 }
-    requires few { length (queued_ops batch.old) ≤ 64 }
-    ensures replies { spec.Replies (session (S.shows server.old) batch.old) requests.commit (reply_of result) (session (S.shows server.new) batch.new) }
+    requires few { length (queued_ops client.old) ≤ 64 }
+    ensures replies { spec.Replies (session (S.shows server.old) client.old) requests.commit (reply_of result) (session (S.shows server.new) client.new) }
     ensures grows { (S.shows server.new).volume.next ≤ (S.shows server.old).volume.next + 64 }
-    ensures few { length (queued_ops batch.new) ≤ 64 }
+    ensures few { length (queued_ops client.new) ≤ 64 }
 {
-    let Some(ops) = batch.open.take() else {
+    let Some(ops) = client.batch.take() else {
         return Reply::NotBegun;
     };
     if ops.is_empty() {
-        batch.open = Some(ops);
+        client.batch = Some(ops);
         return Reply::EmptyBatch;
     }
     match server.apply(ops.as_slice()) {
@@ -137,8 +121,8 @@ fn commit<S: Server>(server: &mut S, batch: &mut Batch) -> Reply
 }
 
 fn query<S: Server>(alloc: Global, server: &mut S, text: &str) -> Reply
-    ensures replies { (batch : Batch) →
-        spec.Replies (session (S.shows server.old) batch) (requests.query text.now) (reply_of result) (session (S.shows server.new) batch) }
+    ensures replies { (client : Client) →
+        spec.Replies (session (S.shows server.old) client) (requests.query text.now) (reply_of result) (session (S.shows server.new) client) }
     ensures same { S.shows server.new ≡ S.shows server.old }
 {
     match parse(alloc, text) {
@@ -152,8 +136,8 @@ fn query<S: Server>(alloc: Global, server: &mut S, text: &str) -> Reply
 
 /// What a query would be answered from. The query's own faults come before the cover's refusal.
 fn explain_query<S: Server>(alloc: Global, server: &mut S, text: &str) -> Reply
-    ensures replies { (batch : Batch) →
-        spec.Replies (session (S.shows server.old) batch) (requests.explain text.now) (reply_of result) (session (S.shows server.new) batch) }
+    ensures replies { (client : Client) →
+        spec.Replies (session (S.shows server.old) client) (requests.explain text.now) (reply_of result) (session (S.shows server.new) client) }
     ensures same { S.shows server.new ≡ S.shows server.old }
 {
     let query = match parse(alloc, text) {
@@ -175,8 +159,8 @@ fn explain_query<S: Server>(alloc: Global, server: &mut S, text: &str) -> Reply
 }
 
 fn attrs<S: Server>(server: &mut S, node: u64) -> Reply
-    ensures replies { (batch : Batch) →
-        spec.Replies (session (S.shows server.old) batch) (requests.attrs node) (reply_of result) (session (S.shows server.new) batch) }
+    ensures replies { (client : Client) →
+        spec.Replies (session (S.shows server.old) client) (requests.attrs node) (reply_of result) (session (S.shows server.new) client) }
     ensures same { S.shows server.new ≡ S.shows server.old }
 {
     match server.attrs(node) {
@@ -186,8 +170,8 @@ fn attrs<S: Server>(server: &mut S, node: u64) -> Reply
 }
 
 fn indices<S: Server>(server: &mut S) -> Reply
-    ensures replies { (batch : Batch) →
-        spec.Replies (session (S.shows server.old) batch) requests.indices (reply_of result) (session (S.shows server.new) batch) }
+    ensures replies { (client : Client) →
+        spec.Replies (session (S.shows server.old) client) requests.indices (reply_of result) (session (S.shows server.new) client) }
     ensures same { S.shows server.new ≡ S.shows server.old }
 {
     match server.indices() {
@@ -196,23 +180,88 @@ fn indices<S: Server>(server: &mut S) -> Reply
     }
 }
 
+/// Pins the version after all writes so far, where none is pinned.
+fn pin<S: Server>(server: &mut S) -> Reply
+    ensures replies { (client : Client) →
+        spec.Replies (session (S.shows server.old) client) requests.pin (reply_of result) (session (S.shows server.new) client) }
+    ensures same { (S.shows server.new).volume ≡ (S.shows server.old).volume }
+{
+    if server.is_pinned() {
+        return Reply::AlreadyPinned;
+    }
+    Reply::Pinned(server.pin())
+}
+
+fn unpin<S: Server>(server: &mut S) -> Reply
+    ensures replies { (client : Client) →
+        spec.Replies (session (S.shows server.old) client) requests.unpin (reply_of result) (session (S.shows server.new) client) }
+    ensures same { (S.shows server.new).volume ≡ (S.shows server.old).volume }
+{
+    if !server.is_pinned() {
+        return Reply::NotPinned;
+    }
+    server.unpin();
+    Reply::Done
+}
+
+/// Takes a live query in place of an earlier one. It doesn't matter what the query rests on.
+fn watch(alloc: Global, client: &mut Client, text: &str) -> Reply
+    ensures replies { (store : Store) → spec.Replies (session store client.old) (requests.live text.now) (reply_of result) (session store client.new) }
+    ensures same { client.new.batch ≡ client.old.batch }
+{
+    match parse(alloc, text) {
+        Ok(query) => {
+            client.live = Some(Live::new(alloc, query));
+            Reply::Done
+        }
+        Err(refusal) => Reply::Refused(refusal),
+    }
+}
+
+/// What came and what went since the live query was asked last.
+fn update<S: Server>(server: &mut S, live: &mut Live) -> Reply
+    ensures replies { (batch : Option (List Op)) →
+        spec.Replies (watched (S.shows server.old) batch live.old) requests.refresh (reply_of result) (watched (S.shows server.new) batch live.new) }
+    ensures same { S.shows server.new ≡ S.shows server.old }
+{
+    let nodes = match server.query(live.query()) {
+        Ok(nodes) => nodes,
+        Err(refusal) => return Reply::Refused(refusal),
+    };
+    match live.update(nodes) {
+        Ok(updates) => Reply::Updates(updates),
+        Err(refusal) => Reply::Refused(refusal),
+    }
+}
+
+/// Asks the live query, if there is one.
+fn refresh<S: Server>(server: &mut S, client: &mut Client) -> Reply
+    ensures replies { spec.Replies (session (S.shows server.old) client.old) requests.refresh (reply_of result) (session (S.shows server.new) client.new) }
+    ensures same { (S.shows server.new ≡ S.shows server.old) × (client.new.batch ≡ client.old.batch) }
+{
+    match &mut client.live {
+        Some(live) => update(server, live),
+        None => Reply::NoLiveQuery,
+    }
+}
+
 /// Runs what a line asks for, and gives its reply.
 pub fn answer<S: Server>(
     alloc: Global,
     server: &mut S,
-    batch: &mut Batch,
+    client: &mut Client,
     request: Request,
 ) -> Reply
     requires fits { (S.shows server.old).volume.next + 64 < 2 ^ 64 }
-    requires few { length (queued_ops batch.old) ≤ 64 }
-    ensures replies { spec.Replies (session (S.shows server.old) batch.old) (request_of request) (reply_of result) (session (S.shows server.new) batch.new) }
+    requires few { length (queued_ops client.old) ≤ 64 }
+    ensures replies { spec.Replies (session (S.shows server.old) client.old) (request_of request) (reply_of result) (session (S.shows server.new) client.new) }
     ensures grows { (S.shows server.new).volume.next ≤ (S.shows server.old).volume.next + 64 }
-    ensures few { length (queued_ops batch.new) ≤ 64 }
+    ensures few { length (queued_ops client.new) ≤ 64 }
 {
     match request {
         Request::Silent => Reply::Silent,
         Request::Malformed => Reply::BadLine,
-        Request::Write(Ok(op)) => take(server, batch, op),
+        Request::Write(Ok(op)) => take(server, client, op),
         Request::Write(Err(refusal)) => Reply::Refused(refusal),
         Request::Query(text) => query(alloc, server, text.as_str()),
         Request::Explain(text) => explain_query(alloc, server, text.as_str()),
@@ -220,8 +269,12 @@ pub fn answer<S: Server>(
         Request::Get(_, Err(refusal)) => Reply::Refused(refusal),
         Request::Attrs(node) => attrs(server, node),
         Request::Indices => indices(server),
-        Request::Begin => begin(alloc, batch),
-        Request::Commit => commit(server, batch),
-        Request::Abort => abort(batch),
+        Request::Pin => pin(server),
+        Request::Unpin => unpin(server),
+        Request::Live(text) => watch(alloc, client, text.as_str()),
+        Request::Refresh => refresh(server, client),
+        Request::Begin => begin(alloc, client),
+        Request::Commit => commit(server, client),
+        Request::Abort => abort(client),
     }
 }

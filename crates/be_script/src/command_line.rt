@@ -4,6 +4,7 @@
 ghost use Rattle.std.specs.Prelude.{IfOk, IfSome};
 ghost use Rattle.be_script.specs.Task.{IsTask};
 
+use crate::limits::are_within;
 use crate::{Limits, Task};
 use clap::error::ErrorKind;
 use clap::{Arg, ArgAction, ArgMatches, Command, Error, value_parser};
@@ -73,7 +74,7 @@ fn run_task(alloc: Global, matches: &ArgMatches) -> Result<Option<Task>, AllocEr
         passes: 1,
         commits,
     };
-    if !limits.are_within() {
+    if !are_within(&limits) {
         return Ok(None);
     }
     let mut files = Vec::new(alloc);

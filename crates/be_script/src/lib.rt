@@ -1,12 +1,13 @@
 //! Scripts: bytes in, bytes out.
 //!
 //! A script is a text with a command a line; each line but a blank one and a comment has a reply. [`run`] reads a script
-//! whole, runs its lines in order on a store of its own and writes the replies. What a script may be answered is one
+//! whole, runs its lines in order on a shared store of its own, from that store's one pass, and writes the replies. What a script may be answered is one
 //! definition (`Output` in specs/), and `run` is proved to write nothing else. From the bottom up: words, values, the
 //! request of a line, what serves it, the reply and its text, and the run.
 #![tactic(auto)]
 
 mod answers;
+mod client;
 mod command_line;
 mod commands;
 mod faults;
@@ -21,8 +22,8 @@ mod tests;
 mod values;
 mod words;
 
+pub use be_store::Limits;
 pub use command_line::task;
 pub use faults::RunFault;
-pub use limits::Limits;
 pub use runs::run;
 pub use tasks::Task;

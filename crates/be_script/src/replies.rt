@@ -9,6 +9,7 @@ ghost use Rattle.be_script.specs.Reply as spec;
 
 use arrayvec::ArrayVec;
 use be_journal::{done_text, quoted, value_text};
+use be_store::Updates;
 use be_value::{Kind, Name, Refusal, Value};
 use be_volume::Done;
 use std::alloc::{AllocError, Global};
@@ -29,6 +30,13 @@ pub enum Reply {
     Kinds(Vec<(Name, Kind)>),
     /// What `explain` says.
     Cover(String),
+    /// The number of the version that is now pinned.
+    Pinned(u64),
+    AlreadyPinned,
+    NotPinned,
+    /// What `refresh` finds.
+    Updates(Updates),
+    NoLiveQuery,
     Queued,
     FullBatch,
     EmptyBatch,
@@ -50,11 +58,16 @@ pub fn reply_text(alloc: Global, reply: &Reply) -> Result<String, AllocError>
         Reply::BadLine => String::from_str(alloc, "bad line\n"),
         Reply::Done => String::from_str(alloc, "ok\n"),
         Reply::Node(n) => format!(in alloc; "node {n}\n"),
-        Reply::Nodes(nodes) => nodes_text(alloc, nodes),
+        Reply::Nodes(nodes) => numbers_line(alloc, "nodes", nodes),
         Reply::Value(value) => value_line(alloc, value),
         Reply::Attributes(list) => attributes_text(alloc, list),
         Reply::Kinds(list) => kinds_text(alloc, list),
         Reply::Cover(text) => format!(in alloc; "{text}\n"),
+        Reply::Pinned(n) => format!(in alloc; "pin {n}\n"),
+        Reply::AlreadyPinned => String::from_str(alloc, "already pinned\n"),
+        Reply::NotPinned => String::from_str(alloc, "not pinned\n"),
+        Reply::Updates(updates) => updates_text(alloc, updates),
+        Reply::NoLiveQuery => String::from_str(alloc, "no live query\n"),
         Reply::Queued => String::from_str(alloc, "queued\n"),
         Reply::FullBatch => String::from_str(alloc, "full batch\n"),
         Reply::EmptyBatch => String::from_str(alloc, "empty batch\n"),
@@ -65,14 +78,23 @@ pub fn reply_text(alloc: Global, reply: &Reply) -> Result<String, AllocError>
     }
 }
 
-fn nodes_text(alloc: Global, nodes: &[u64]) -> Result<String, AllocError>
-    ensures { IfOk result (λ text. string_bytes text ≡ (codes "nodes" ++ spec.numbers nodes.now) ++ codes "\n") }
+/// A word, and then a space and a number for each.
+fn numbers_line(alloc: Global, word: &str, numbers: &[u64]) -> Result<String, AllocError>
+    ensures { IfOk result (λ text. string_bytes text ≡ spec.numbers_line word.now numbers.now) }
 {
-    let mut text = String::from_str(alloc, "nodes")?;
-    for node in nodes {
-        text.push_str(after_space(alloc, *node)?.as_str())?;
+    let mut text = String::from_str(alloc, word)?;
+    for number in numbers {
+        text.push_str(after_space(alloc, *number)?.as_str())?;
     }
     text.push_str("\n")?;
+    Ok(text)
+}
+
+fn updates_text(alloc: Global, updates: &Updates) -> Result<String, AllocError>
+    ensures { IfOk result (λ text. string_bytes text ≡ spec.text_of (spec.updates updates.now.created.items updates.now.removed.items)) }
+{
+    let mut text = numbers_line(alloc, "created", &updates.created)?;
+    text.push_str(numbers_line(alloc, "removed", &updates.removed)?.as_str())?;
     Ok(text)
 }
 

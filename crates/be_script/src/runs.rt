@@ -11,10 +11,12 @@ ghost use Rattle.be_script.specs.Run as spec;
 ghost use Rattle.be_script.specs.Store.{start};
 ghost use Rattle.be_script.specs.View.{session, queued_ops};
 
-use crate::answers::{Batch, answer};
+use crate::answers::answer;
+use crate::client::Client;
 use crate::replies::reply_text;
 use crate::requests::read_line;
-use crate::stores::{PlainStore, Server};
+use crate::stores::{Server, StoreServer};
+use crate::limits::are_within;
 use crate::{Limits, RunFault};
 use std::alloc::Global;
 use std::io::{Read, Write};
@@ -45,24 +47,24 @@ fn put<W: Write>(writer: &mut W, bytes: &[u8]) -> Result<(), RunFault>
 fn run_line<S: Server, W: Write>(
     alloc: Global,
     server: &mut S,
-    batch: &mut Batch,
+    client: &mut Client,
     line: &[u8],
     writer: &mut W,
 ) -> Result<(), RunFault>
     requires fits { (S.shows server.old).volume.next + 64 < 2 ^ 64 }
-    requires few { length (queued_ops batch.old) ≤ 64 }
+    requires few { length (queued_ops client.old) ≤ 64 }
     ensures ok { OnOk result (spec.Wrote (W.contents writer.old) (W.contents writer.new)
-        (outputs.Answered (session (S.shows server.old) batch.old) line.now (session (S.shows server.new) batch.new))) }
+        (outputs.Answered (session (S.shows server.old) client.old) line.now (session (S.shows server.new) client.new))) }
     ensures err { OnErr result (spec.Wrote (W.contents writer.old) (W.contents writer.new)
-        (spec.IsFrontOfAnswer (session (S.shows server.old) batch.old) line.now)) }
+        (spec.IsFrontOfAnswer (session (S.shows server.old) client.old) line.now)) }
     ensures late { IfErr result spec.IsLate }
     ensures grows { (S.shows server.new).volume.next ≤ (S.shows server.old).volume.next + 64 }
-    ensures few { length (queued_ops batch.new) ≤ 64 }
+    ensures few { length (queued_ops client.new) ≤ 64 }
 {
     let Ok(request) = read_line(alloc, line) else {
         return Err(RunFault::Memory);
     };
-    let reply = answer(alloc, server, batch, request);
+    let reply = answer(alloc, server, client, request);
     let Ok(text) = reply_text(alloc, &reply) else {
         return Err(RunFault::Memory);
     };
@@ -100,13 +102,13 @@ fn run_lines<S: Server, W: Write>(
     ensures err { OnErr result (spec.Wrote (W.contents writer.old) (W.contents writer.new) (outputs.IsFrontOfOutput (S.shows server.old) script.now)) }
     ensures late { IfErr result spec.IsLate }
 {
-    let mut batch = Batch::closed();
+    let mut client = Client::new();
     let mut rest = script;
     while let Some((line, behind)) = split_line(rest) {
-        run_line(alloc, server, &mut batch, line, writer)?;
+        run_line(alloc, server, &mut client, line, writer)?;
         rest = behind;
     }
-    run_line(alloc, server, &mut batch, rest, writer)
+    run_line(alloc, server, &mut client, rest, writer)
 }
 
 /// Reads a whole script.
@@ -154,9 +156,9 @@ pub fn serve<S: Server, R: Read, W: Write>(
     }
 }
 
-/// Runs a script on an empty store of its own, within the limits.
+/// Runs a script on an empty store of its own, which has the pages and commits of the limits and one pass.
 ///
-/// The limits are looked at first. The script is read whole, in at most 1,048,578 reads, before its first line is run;
+/// The limits are looked at first, and then the store is opened. The script is read whole, in at most 1,048,578 reads, before its first line is run;
 /// any error of a read is `Read`. Each line is run before its reply is written; any error of a write, and a write of no
 /// bytes, is `Write`. Where the reader's bytes and the writer's are known, as those of a slice and a vector are, what is
 /// written is an output of the script; after `Write` and `Memory` it is the front of one, and after any other fault
@@ -173,9 +175,11 @@ pub fn run<R: Read, W: Write>(
         spec.Wrote (W.contents writer.old) (W.contents writer.new) (outputs.IsOutput limits.commits script))) }
     ensures fault { IfErr result (λ e. spec.Leaves e (start limits.commits) (R.remaining reader.old) (W.contents writer.old) (W.contents writer.new)) }
 {
-    if !limits.are_within() {
+    if !are_within(&limits) {
         return Err(RunFault::Limits);
     }
-    let mut store = PlainStore::new(alloc, limits.commits);
-    serve(alloc, &mut store, reader, writer)
+    let Ok(mut server) = StoreServer::open(alloc, limits) else {
+        return Err(RunFault::Memory);
+    };
+    serve(alloc, &mut server, reader, writer)
 }

@@ -4,6 +4,7 @@
 mod examples;
 mod faults;
 mod limits;
+mod plain;
 mod readings;
 mod tasks;
 

@@ -1,6 +1,6 @@
 -- Answers to queries rise, and what is told of two of them.
 use Rattle.std.proofs.Common.{◌≡◌, ◌<◌, ◌≤◌, ◌+◌, ℕ, suc, zero, Bool, true, false, List, [], ◌∷◌, ◌++◌, length, slice_index, filter, refl, sym, ap, ◌∙◌, subst, inl, inr, arith}
-use Rattle.std.specs.Prelude.{Result, Ok, Err, MatchResult, if◌then◌else◌, get_or, is_ok, ◌==◌}
+use Rattle.std.specs.Prelude.{Result, Ok, Err, IfOk, MatchResult, if◌then◌else◌, get_or, is_ok, ◌==◌}
 use Rattle.std.specs.Ordering.{nat_cmp}
 use Rattle.std.proofs.Common.{eq-eqb, ne_eqb}
 use Rattle.std.proofs.lemmas.Bool.{cases_lt}
@@ -14,7 +14,7 @@ use Rattle.std.proofs.lemmas.List.Kept.{IsStrictlyIncreasing-filter}
 use Rattle.be_plan.proofs.Rising.{Rises, rises_keys, in_by_place}
 use Rattle.std.proofs.lemmas.List.Elements.{filter-append}
 use Rattle.std.specs.Prelude.{not}
-use Rattle.be_store.specs.Live.{is_in, without}
+use Rattle.be_store.specs.Live.{LiveQuery, Refreshes, is_in, without}
 use Rattle.be_query.specs.Grammar.{Formula}
 use Rattle.be_value.specs.declared.refusals.Refusal.{Refusal}
 use Rattle.be_value.specs.declared.refusals.Refusal.TheVariants.{NotCovered}
@@ -60,3 +60,18 @@ found_in xs n r up h = by r (searched xs n r h (λ i j le lt. non_decreasing_fro
 
 without_append : (xs ys others : List ℕ) → without (xs ++ ys) others ≡ without xs others ++ without ys others
 without_append xs ys others = filter-append (λ n. not (is_in others n)) xs ys
+
+-- an answer by which a live query is updated is a refresh
+pub refreshes : (volume : State) (old new : LiveQuery) (now came went : List ℕ) → scan volume old.query ≡ Ok now → new ≡ record { query = old.query; last = now } →
+    came ≡ without now old.last → went ≡ without old.last now → Refreshes volume old new came went
+refreshes volume old new now came went answer is created removed =
+    let last : now ≡ new.last = sym (ap (λ (l : LiveQuery). l.last) is) in record {
+      query = ap (λ (l : LiveQuery). l.query) is;
+      answer = answer ∙ ap Ok last;
+      created = created ∙ ap (λ l. without l old.last) last;
+      removed = removed ∙ ap (without old.last) last;
+    }
+
+pub if_ok : {T E : Type 0} (r : Result T E) (P Q : T → Type 0) → ((x : T) → P x → Q x) → IfOk r P → IfOk r Q
+if_ok (Ok x) P Q f p = f x p
+if_ok (Err e) P Q f p = tt

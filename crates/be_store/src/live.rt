@@ -46,10 +46,33 @@ impl Live {
         }
     }
 
+    /// The query that is asked.
+    pub fn query(&self) -> &Query
+        ensures { result.now ≡ self.now.query }
+    {
+        &self.query
+    }
+
+    /// Takes the query's answer now, wherever it was asked, and tells which nodes came and which went since the last one.
+    /// 10 leaves the live query as it was.
+    ///
+    /// It takes a search in one answer for each node of the other.
+    pub fn update(&mut self, answer: Vec<u64>) -> Result<Updates, Refusal>
+        requires { IsStrictlyIncreasing answer.items }
+        ensures ok { IfOk result (λ u. (self.new ≡ record { query = self.old.query; last = answer.items })
+            × (u.created.items ≡ without answer.items self.old.last) × (u.removed.items ≡ without self.old.last answer.items)) }
+        ensures err { IfErr result (λ e. (self.new ≡ self.old) × (e ≡ OutOfMemory)) }
+    {
+        let created = without(self.alloc, answer.as_slice(), self.last.as_slice())?;
+        let removed = without(self.alloc, self.last.as_slice(), answer.as_slice())?;
+        self.last = answer;
+        Ok(Updates { created, removed })
+    }
+
     /// Asks the query in the pinned version, and tells which nodes came and which went since the last refresh. 17 and
     /// 10 leave it as it was.
     ///
-    /// Beside the query itself it takes a search in one answer for each node of the other.
+    /// Beside the query itself it costs what `update` does.
     pub fn refresh(&mut self, store: &Store, pass: &mut Pass) -> Result<Updates, Refusal>
         requires pass { IsPassOf store.now pass.old }
         requires pinned { (n : ℕ) × IsPinnedTo pass.old.knows n }
@@ -58,10 +81,7 @@ impl Live {
         ensures err { IfErr result (λ e. (self.new ≡ self.old) × ((e ≡ OutOfMemory) ⊎ (scan (volume_pinned pass.old.knows) self.old.query ≡ Err e))) }
     {
         let answer = store.query(self.alloc, pass, &self.query)?;
-        let created = without(self.alloc, answer.nodes.as_slice(), self.last.as_slice())?;
-        let removed = without(self.alloc, self.last.as_slice(), answer.nodes.as_slice())?;
-        self.last = answer.nodes;
-        Ok(Updates { created, removed })
+        self.update(answer.nodes)
     }
 }
 

@@ -6,9 +6,9 @@ use Rattle.be_script.proofs.runs.run_lines.Given as goal
 abbrev pub invariant-loop-line : goal.invariant-loop-line
 invariant-loop-line g l = record {
   near : (g.S.Server.shows l.server).volume.next + 64 * length l.rest ≤ (g.S.Server.shows l.fn.server).volume.next + 64 * length l.script;
-  few : length (queued_ops l.batch) ≤ 64;
+  few : length (queued_ops l.client) ≤ 64;
   so_far : Wrote (g.W.Write.contents l.fn.writer) (g.W.Write.contents l.writer)
-      (Completes (g.S.Server.shows l.fn.server) l.script (session (g.S.Server.shows l.server) l.batch) l.rest);
+      (Completes (g.S.Server.shows l.fn.server) l.script (session (g.S.Server.shows l.server) l.client) l.rest);
 }
 
 abbrev pub decreases-loop-line : goal.decreases-loop-line

@@ -1,11 +1,14 @@
-use Rattle.std.proofs.Common.{sym, subst}
-use Rattle.std.specs.List.Sorted.{IsStrictlyIncreasing}
+use Rattle.std.proofs.Common.{sym, ap, ◌∙◌}
+use Rattle.be_volume.specs.Query.{scan}
+use Rattle.be_store.specs.Live.{LiveQuery}
 use Rattle.be_store.specs.Passes.{volume_pinned}
-use Rattle.be_store.proofs.Answering.{scan_rises}
+use Rattle.be_store.proofs.Answering.{scan_rises, refreshes, if_ok}
 use Rattle.be_store.proofs.live.Live.refresh.Goals as goal
 
-pub without-requires-2 : goal.without-requires-2
-without-requires-2 c = subst IsStrictlyIncreasing (sym c.as_slice-4.ensures.value) (scan_rises (volume_pinned c.args.pass.now.knows) c.self.inside.query _ c.in_ok-answer.ensures.nodes)
+pub update-requires : goal.update-requires
+update-requires c = scan_rises (volume_pinned c.args.pass.now.knows) c.self.inside.query _ c.in_ok-answer.ensures.nodes
 
-pub invariant_of-self : goal.invariant_of-self
-invariant_of-self c = scan_rises (volume_pinned c.args.pass.now.knows) c.self.inside.query _ c.in_ok-answer.ensures.nodes
+pub returns-clause-ok : goal.returns-clause-ok
+returns-clause-ok c = if_ok c.update.result _ _ (λ u h.
+    refreshes (volume_pinned c.args.pass.now.knows) c.args.self.now c.update.new.self c.in_ok-answer.answer.nodes.items u.created.items u.removed.items
+    (ap (λ (l : LiveQuery). scan (volume_pinned c.args.pass.now.knows) l.query) (sym c.self.view_is) ∙ c.in_ok-answer.ensures.nodes) h.0 h.1 h.2) c.update.ensures.ok

@@ -1,7 +1,7 @@
 use Rattle.std.proofs.Common.{ap, length, arith}
 use Rattle.be_journal.specs.Journal.{Log}
 use Rattle.be_script.proofs.StoreLemmas.{length-dones}
-use Rattle.be_script.proofs.stores.PlainStoreServer.apply.Goals as goal
+use Rattle.be_script.proofs.tests.plain.PlainStoreServer.apply.Goals as goal
 
 pub push_reserved-requires-clause-dones : goal.push_reserved-requires-clause-dones
 push_reserved-requires-clause-dones c =

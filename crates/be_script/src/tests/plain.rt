@@ -1,0 +1,133 @@
+//! A volume with its journal on one thread, as another server of scripts.
+ghost use Rattle.std.specs.Prelude.{◌≡◌, ◌<◌, ◌^◌, OnOk, IfSome, IsSome, unwrap_or};
+ghost use Rattle.std.specs.Option.{option_map};
+ghost use Rattle.be_script.specs.Store.{start, viewed};
+
+use crate::stores::Server;
+use arrayvec::ArrayVec;
+use be_journal::Journal;
+use be_query::Query;
+use be_value::{Kind, Name, Refusal, Value};
+use be_volume::{Done, Op, Volume};
+use std::alloc::Global;
+use std::marker::Model;
+
+/// How many writes were accepted before the pinned version, and its volume where a write was tried since.
+#[derive(Drop)]
+struct Pin {
+    number: u64,
+    volume: Option<Volume>,
+}
+
+/// A volume and its journal, on one thread.
+#[derive(Drop)]
+pub struct PlainStore {
+    volume: Volume,
+    journal: Journal,
+    pin: Option<Pin>,
+}
+
+impl Model for PlainStore {
+    ghost use Rattle.std.specs.Prelude.{unwrap_or};
+    ghost use Rattle.std.specs.Option.{option_map};
+    ghost use Rattle.be_script.specs.Store.{Store, coded_store};
+
+    ghost Value = { Store };
+
+    ghost coded = { coded_store };
+
+    ghost view = { λ s. record {
+        journal = s.journal.entries;
+        volume = s.volume;
+        limit = s.journal.limit;
+        pin = option_map (λ p. record { number = p.number; volume = unwrap_or p.volume s.volume }) s.pin } };
+}
+
+impl PlainStore {
+    /// A store before its first write, which takes this many writes.
+    pub fn new(alloc: Global, commits: u64) -> PlainStore
+        requires { commits < 2 ^ 32 }
+        ensures { result ≡ start commits }
+    {
+        PlainStore {
+            volume: Volume::new(alloc),
+            journal: Journal::new(alloc, commits),
+            pin: None,
+        }
+    }
+
+    fn viewed(&self) -> &Volume
+        ensures { result.now ≡ viewed self.now }
+    {
+        match &self.pin {
+            Some(Pin {
+                volume: Some(volume),
+                ..
+            }) => volume,
+            _ => &self.volume,
+        }
+    }
+}
+
+/// Copies the volume for the pinned version, where it was the same so far.
+fn keep_pinned(pin: &mut Option<Pin>, volume: &Volume) -> Result<(), Refusal>
+    ensures kept { OnOk result (IfSome pin.new (λ p. IsSome p.volume)) }
+    ensures same { option_map (λ p. (p.number, unwrap_or p.volume volume.now)) pin.new ≡ option_map (λ p. (p.number, unwrap_or p.volume volume.now)) pin.old }
+{
+    if let Some(pin) = pin {
+        if pin.volume.is_none() {
+            pin.volume = Some(volume.copy()?);
+        }
+    }
+    Ok(())
+}
+
+impl Server for PlainStore {
+    ghost shows = { λ s. s };
+
+    /// A refusal of the volume goes before one of the journal, and the journal makes its room before the volume is
+    /// changed.
+    fn apply(&mut self, ops: &[Op]) -> Result<(u64, ArrayVec<Done, 64>), Refusal> {
+        if let Some(refusal) = self.volume.refusal(ops) {
+            return Err(refusal);
+        }
+        self.journal.reserve(ops.len())?;
+        keep_pinned(&mut self.pin, &self.volume)?;
+        let dones = self.volume.apply(ops)?;
+        self.journal.push_reserved(0, ops, dones.as_slice());
+        Ok((self.journal.len(), dones))
+    }
+
+    fn is_pinned(&self) -> bool {
+        self.pin.is_some()
+    }
+
+    fn pin(&mut self) -> u64 {
+        let number = self.journal.len();
+        self.pin = Some(Pin {
+            number,
+            volume: None,
+        });
+        number
+    }
+
+    fn unpin(&mut self) {
+        self.pin = None;
+    }
+
+    fn query(&mut self, query: &Query) -> Result<Vec<u64>, Refusal> {
+        self.viewed().query(query)
+    }
+
+    fn get(&mut self, node: u64, name: &Name) -> Option<Value> {
+        self.viewed().get(node, name)
+    }
+
+    fn attrs(&mut self, node: u64) -> Result<Vec<(Name, Value)>, Refusal> {
+        self.viewed().attrs(node)
+    }
+
+    fn indices(&mut self) -> Result<Vec<(Name, Kind)>, Refusal> {
+        self.viewed().indices()
+    }
+}
