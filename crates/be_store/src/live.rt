@@ -46,8 +46,8 @@ impl Live {
         }
     }
 
-    /// Asks the query in the pinned version, and tells which nodes came and which went since the last refresh. 17 and
-    /// 10 leave it as it was.
+    /// Asks the query in the pinned version, and tells which nodes came and which went since the last refresh. NotCovered
+    /// and OutOfMemory leave it as it was.
     ///
     /// Beside the query itself it takes a search in one answer for each node of the other.
     pub fn refresh(&mut self, store: &Store, pass: &mut Pass) -> Result<Updates, Refusal>
