@@ -33,7 +33,7 @@ fn plan<L: Look>(
 }
 
 /// The nodes of which the query is true, ascending, and the reader back.
-pub fn ask<L: Look>(
+pub(crate) fn ask<L: Look>(
     alloc: Global,
     look: L,
     version_page: u64,

@@ -54,7 +54,7 @@ impl Live {
     }
 
     /// Takes the query's answer now, wherever it was asked, and tells which nodes came and which went since the last one.
-    /// 10 leaves the live query as it was.
+    /// OutOfMemory leaves the live query as it was.
     ///
     /// It takes a search in one answer for each node of the other.
     pub fn update(&mut self, answer: Vec<u64>) -> Result<Updates, Refusal>
@@ -69,8 +69,8 @@ impl Live {
         Ok(Updates { created, removed })
     }
 
-    /// Asks the query in the pinned version, and tells which nodes came and which went since the last refresh. 17 and
-    /// 10 leave it as it was.
+    /// Asks the query in the pinned version, and tells which nodes came and which went since the last refresh. NotCovered
+    /// and OutOfMemory leave it as it was.
     ///
     /// Beside the query itself it costs what `update` does.
     pub fn refresh(&mut self, store: &Store, pass: &mut Pass) -> Result<Updates, Refusal>

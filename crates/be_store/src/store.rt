@@ -45,7 +45,8 @@ impl Store {
 
     /// A store with an empty journal, and its passes in the order of their numbers, which have seen nothing.
     ///
-    /// BadLimits where a limit is out of its range, and OutOfMemory where a growth was refused.
+    /// BadLimits where a limit is out of its range, and OutOfMemory where a growth was refused. The memory of all pages,
+    /// 4 KiB each, is taken here.
     pub fn open(alloc: Global, limits: Limits) -> Result<(Store, Vec<Pass>), Refusal>
         ensures { MatchResult result
             (λ r. (r.0.limits ≡ limits) × (length r.1.items ≡ limits.passes) × AreNew r.0 0 r.1.items)
@@ -55,11 +56,13 @@ impl Store {
         Ok((Store { table }, passes))
     }
 
-    /// Writes 1 to 64 operations, all or none: the journal's length with this write, and an answer for each operation.
-    /// A pin stays.
+    /// Writes 1 to 64 operations, all or none. Answers the journal's length with this write, and an answer for each
+    /// operation. A pin stays.
     ///
-    /// Busy where another pass holds the lock; 2 to 8 as the volume refuses; then 9, 10 and 11. Only the journal's
-    /// entry takes memory.
+    /// Busy where another pass holds the lock: the call may be made again. Else a refusal of 2 to 8 as the volume gives
+    /// it; else CommitsSpent where the journal is at its limit, OutOfMemory where its entry found no memory, and Full
+    /// where no page is free. What a refused write did is undone. It costs new pages on the way to each change, and
+    /// where none is free a look at each announcement and at the pages that this frees.
     pub fn apply(&self, pass: &mut Pass, ops: &[Op]) -> Result<(u64, ArrayVec<Done, 64>), Refusal>
         requires pass { IsPassOf self.now pass.old }
         requires count { (1 ≤ length ops.now) × (length ops.now ≤ 64) }
@@ -114,8 +117,8 @@ impl Store {
         (self.table.pinned_look(pass.move_out()), page)
     }
 
-    /// The nodes of which the query is true in the pinned version, ascending, and the pin. 17 where the query rests on
-    /// no index of that version, and 10.
+    /// The nodes of which the query is true in the pinned version, ascending, and the pin. NotCovered where the query
+    /// rests on no index of that version, and OutOfMemory. It costs a walk over each range that its plan picks.
     pub fn query(&self, alloc: Global, pass: &mut Pass, query: &Query) -> Result<Answer, Refusal>
         requires pass { IsPassOf self.now pass.old }
         requires pinned { (n : ℕ) × IsPinnedTo pass.old.knows n }
@@ -132,7 +135,7 @@ impl Store {
         Ok(Answer { pin, nodes: nodes? })
     }
 
-    /// A node's attribute in the pinned version.
+    /// A node's attribute in the pinned version, if it has one. One descent of a tree, and no memory.
     pub fn get(&self, pass: &mut Pass, node: u64, name: &Name) -> Option<Value>
         requires pass { IsPassOf self.now pass.old }
         requires pinned { (n : ℕ) × IsPinnedTo pass.old.knows n }
@@ -145,8 +148,8 @@ impl Store {
         value
     }
 
-    /// A node's attributes in the pinned version, by ascending bytes of their names. 2 where the node isn't there, and
-    /// 10.
+    /// A node's attributes in the pinned version, by ascending bytes of their names. NoNode where the node isn't there,
+    /// and OutOfMemory.
     pub fn attrs(
         &self,
         alloc: Global,
@@ -164,7 +167,8 @@ impl Store {
         list
     }
 
-    /// The names and kinds of the indices of the pinned version, by ascending bytes of the names. 10.
+    /// The names and kinds of the indices of the pinned version, by ascending bytes of the names. OutOfMemory where a
+    /// growth was refused.
     pub fn indices(&self, alloc: Global, pass: &mut Pass) -> Result<Vec<(Name, Kind)>, Refusal>
         requires pass { IsPassOf self.now pass.old }
         requires pinned { (n : ℕ) × IsPinnedTo pass.old.knows n }
@@ -192,7 +196,7 @@ impl Store {
         length
     }
 
-    /// The journal, once all passes are back. They may be pinned.
+    /// The journal, once all passes are back. They may be pinned. A store whose pass was dropped can't be closed.
     pub fn close(self, passes: Vec<Pass>) -> Journal
         requires passes { AllAt self.id passes.items }
         requires all { (k : ℕ) → k < self.limits.passes → Has (map knows_of passes.items) k }

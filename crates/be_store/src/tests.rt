@@ -201,7 +201,7 @@ fn meeting(rt: HostRuntime) -> Result<(), Fail> {
     let (store, mut a, mut b) = for_two(rt.alloc(), 64, 100)?;
     write(&store, &mut a, Op::New)?;
     assert_eq!(rt; (a.seen(), b.seen()), (1, 0));
-    assert_eq!(rt; store.meet(&mut a, &mut b), 1);
+    assert_eq!(rt; store.meet(&mut b, &mut a), 1);
     assert_eq!(rt; (a.seen(), b.seen()), (1, 1));
     Ok(())
 }
@@ -311,6 +311,51 @@ fn index_zero(store: &Store, pass: &mut Pass, name: &Name) -> Result<u64, Refusa
     write(store, pass, Op::New)?;
     write(store, pass, Op::MkIndex(name.copy(), Kind::Long))?;
     Ok(write(store, pass, Op::Set(1, name.copy(), Value::int32(0)))?.0)
+}
+
+/// The nodes of which the query of a text is true, at the current version.
+fn nodes_now(store: &Store, alloc: Global, pass: &mut Pass, text: &str) -> Result<Vec<u64>, Refusal>
+    requires pass { IsPassOf store.now pass.old }
+    requires idle { pass.old.knows.phase ≡ Idle }
+    ensures pass { IsPassOf store.now pass.new }
+    ensures idle { pass.new.knows.phase ≡ Idle }
+{
+    let query = parsed(alloc, text)?;
+    store.pin(pass);
+    let answer = ask(store, alloc, pass, &query);
+    store.unpin(pass);
+    Ok(answer?.nodes)
+}
+
+#[test]
+fn index_made_later(rt: HostRuntime) -> Result<(), Fail> {
+    let (store, mut a) = for_one(rt.alloc(), 64, 100)?;
+    let name = Name::new("size")?;
+    let node = write(&store, &mut a, Op::New)?.1;
+    assert!(rt; node.as_slice() == [Done::Node(1)].as_slice());
+    write(&store, &mut a, Op::Set(1, name.copy(), Value::int32(5)))?;
+    write(&store, &mut a, Op::MkIndex(name.copy(), Kind::Long))?;
+    assert!(rt; nodes_now(&store, rt.alloc(), &mut a, "size==5")?.is_empty());
+    write(&store, &mut a, Op::Set(1, name.copy(), Value::int32(5)))?;
+    let found = nodes_now(&store, rt.alloc(), &mut a, "size==5")?;
+    assert!(rt; found.as_slice() == [1].as_slice());
+    Ok(())
+}
+
+#[test]
+fn commits_spent(rt: HostRuntime) -> Result<(), Fail> {
+    let (store, mut a) = for_one(rt.alloc(), 64, 2)?;
+    let name = Name::new("k")?;
+    assert_eq!(rt; write(&store, &mut a, Op::New)?.0, 1);
+    assert!(rt; matches!(write(&store, &mut a, Op::Drop(9)), Err(Refusal::NoNode)));
+    assert_eq!(rt;
+        write(&store, &mut a, Op::MkIndex(name.copy(), Kind::Long))?.0,
+        2
+    );
+    assert!(rt; matches!(write(&store, &mut a, Op::New), Err(Refusal::CommitsSpent)));
+    assert!(rt; matches!(write(&store, &mut a, Op::Drop(9)), Err(Refusal::NoNode)));
+    assert!(rt; nodes_now(&store, rt.alloc(), &mut a, "k==1")?.is_empty());
+    Ok(())
 }
 
 /// Sets the attribute of node 1 to 1 to this. The last write's number.
@@ -565,7 +610,7 @@ fn finds_last(store: &Store, alloc: Global, pass: &mut Pass) -> Result<bool, Ref
 }
 
 #[test]
-fn batches(rt: HostRuntime) -> Result<(), Fail> {
+fn batches_in_store(rt: HostRuntime) -> Result<(), Fail> {
     let (store, mut a, mut b) = for_two(rt.alloc(), 32, 100)?;
     let name = Name::new("k")?;
     assert_eq!(rt; index_zero(&store, &mut a, &name)?, 3);
