@@ -13,10 +13,10 @@ ghost use Rattle.be_script.specs.View.{session, queued_ops};
 
 use crate::answers::answer;
 use crate::client::Client;
+use crate::limits::are_within;
 use crate::replies::reply_text;
 use crate::requests::read_line;
 use crate::stores::{Server, StoreServer};
-use crate::limits::are_within;
 use crate::{Limits, RunFault};
 use std::alloc::Global;
 use std::io::{Read, Write};

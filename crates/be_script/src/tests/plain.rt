@@ -33,10 +33,11 @@ impl Model for PlainStore {
     ghost coded = { coded_store };
 
     ghost view = { λ s. record {
-        journal = s.journal.entries;
-        volume = s.volume;
-        limit = s.journal.limit;
-        pin = option_map (λ n. record { number = n; volume = unwrap_or s.kept s.volume }) s.pin } };
+      journal = s.journal.entries;
+      volume = s.volume;
+      limit = s.journal.limit;
+      pin = option_map (λ n. record { number = n; volume = unwrap_or s.kept s.volume }) s.pin;
+    } };
 }
 
 impl PlainStore {

@@ -51,15 +51,23 @@ fn fills_eight_pages(alloc: Global) -> Result<bool, AllocError> {
         .count();
     let full = format!(in alloc; "refused 11 Full {nodes}")?;
     let full = full.as_str();
-    let end = format!(in alloc; "{full}\npin {nodes}\nnone\nindices 0\nok\nok\nqueued\nqueued\nrefused 2 NoNode\n{full}\n")?;
+    let end = format!(in alloc;
+        "{full}\npin {nodes}\nnone\nindices 0\nok\nok\nqueued\nqueued\nrefused 2 NoNode\n{full}\n"
+    )?;
     let fulls = count_of(replies, full);
-    Ok((13..37).contains(&nodes) && fulls == 61_usize.saturating_sub(nodes) && replies.ends_with(end.as_str()))
+    Ok(
+        (13..37).contains(&nodes)
+            && fulls == 61_usize.saturating_sub(nodes)
+            && replies.ends_with(end.as_str()),
+    )
 }
 
 #[test]
 fn smallest_pool(rt: HostRuntime) -> Result<(), Fail> {
     let alloc = rt.alloc();
-    assert!(rt; matches!(fills_eight_pages(alloc), Ok(true)) || matches!(fills_eight_pages(alloc), Ok(true)));
+    assert!(rt;
+        matches!(fills_eight_pages(alloc), Ok(true)) || matches!(fills_eight_pages(alloc), Ok(true))
+    );
     Ok(())
 }
 
@@ -74,9 +82,11 @@ fn is_held_full(alloc: Global) -> Result<bool, AllocError> {
     let Ok(replies) = str::from_utf8(&replies) else {
         return Ok(false);
     };
-    Ok(count_of(replies, "refused 11 Full 3") > 16
-        && count_of(replies, "LONG 0") == 80
-        && replies.ends_with("refused 11 Full 3\nLONG 0\nnodes 1\nok\nok\nnodes 1\n"))
+    Ok(
+        count_of(replies, "refused 11 Full 3") > 16
+            && count_of(replies, "LONG 0") == 80
+            && replies.ends_with("refused 11 Full 3\nLONG 0\nnodes 1\nok\nok\nnodes 1\n"),
+    )
 }
 
 #[test]
