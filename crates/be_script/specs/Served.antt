@@ -1,8 +1,6 @@
 -- What a store with one pass shows, by what that pass knows.
-use Rattle.std.specs.Prelude.{◌≡◌, ℕ, length, take, Some}
+use Rattle.std.specs.Prelude.{◌≡◌, ℕ, take}
 use Rattle.std.specs.Option.{option_map}
-use Rattle.std.specs.declared.option.Option.{Option}
-use Rattle.be_core.specs.declared.event.Phase.{Phase}
 use Rattle.be_journal.specs.Journal.{replay}
 use Rattle.be_table.specs.declared.pass.Knowledge.{Knowledge}
 use Rattle.be_table.specs.Rule.{entries}

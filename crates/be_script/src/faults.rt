@@ -16,7 +16,7 @@ pub enum RunFault {
     /// A write failed or took nothing. What was written is the front of an output.
     #[error("a reply can't be written")]
     Write,
-    /// A line or a reply found no memory. What was written is the front of an output.
+    /// The store, a line or a reply found no memory. What was written is the front of an output.
     #[error("out of memory")]
     Memory,
 }

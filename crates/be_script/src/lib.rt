@@ -1,9 +1,9 @@
 //! Scripts: bytes in, bytes out.
 //!
 //! A script is a text with a command a line; each line but a blank one and a comment has a reply. [`run`] reads a script
-//! whole, runs its lines in order on a shared store of its own, from that store's one pass, and writes the replies. What a script may be answered is one
-//! definition (`Output` in specs/), and `run` is proved to write nothing else. From the bottom up: words, values, the
-//! request of a line, what serves it, the reply and its text, and the run.
+//! whole, runs its lines in order on a shared store of its own, from that store's one pass, and writes the replies. What a
+//! script may be answered is one definition (`Output` in specs/), and `run` is proved to write nothing else. From the
+//! bottom up: words, values, the request of a line, what serves it, the reply and its text, and the run.
 #![tactic(auto)]
 
 mod answers;

@@ -13,10 +13,10 @@ ghost use Rattle.be_script.specs.View.{session, queued_ops};
 
 use crate::answers::answer;
 use crate::client::Client;
+use crate::limits::are_within;
 use crate::replies::reply_text;
 use crate::requests::read_line;
 use crate::stores::{Server, StoreServer};
-use crate::limits::are_within;
 use crate::{Limits, RunFault};
 use std::alloc::Global;
 use std::io::{Read, Write};
@@ -158,11 +158,11 @@ pub fn serve<S: Server, R: Read, W: Write>(
 
 /// Runs a script on an empty store of its own, which has the pages and commits of the limits and one pass.
 ///
-/// The limits are looked at first, and then the store is opened. The script is read whole, in at most 1,048,578 reads, before its first line is run;
-/// any error of a read is `Read`. Each line is run before its reply is written; any error of a write, and a write of no
-/// bytes, is `Write`. Where the reader's bytes and the writer's are known, as those of a slice and a vector are, what is
-/// written is an output of the script; after `Write` and `Memory` it is the front of one, and after any other fault
-/// nothing was written.
+/// The limits are looked at first, and then the store is opened. The script is read whole, in at most 1,048,578 reads,
+/// before its first line is run; any error of a read is `Read`. Each line is run before its reply is written; any error of
+/// a write, and a write of no bytes, is `Write`. Where the reader's bytes and the writer's are known, as those of a slice
+/// and a vector are, what is written is an output of the script; after `Write` and `Memory` it is the front of one, and
+/// after any other fault nothing was written.
 pub fn run<R: Read, W: Write>(
     alloc: Global,
     reader: &mut R,

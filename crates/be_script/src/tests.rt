@@ -1,22 +1,30 @@
 //! Scripts and what they are answered, as rows `LINE => REPLY`.
 //!
+//! Each table is run over the shared store and over a plain volume with its journal, and both give the replies of the rows.
+//!
 //! Every test passes with any one request for memory refused: a run that wanted memory is looked at, and made again.
+ghost use Rattle.std.specs.Prelude.{◌<◌, ◌^◌};
+
+mod alike;
 mod examples;
 mod faults;
 mod limits;
 mod plain;
+mod pools;
 mod readings;
 mod tasks;
 
+use crate::runs::serve;
 use crate::{Limits, RunFault, run};
 use be_value::word_of;
+use plain::PlainStore;
 use std::alloc::{AllocError, Global};
 use std::process::Abort;
 use std::str;
 use std::test::Fail;
 
 const LIMITS: Limits = Limits {
-    pages: 1024,
+    pages: 128,
     passes: 1,
     commits: 1_000_000,
 };
@@ -108,17 +116,47 @@ fn wants_memory(written: &str, replies: &str) -> bool {
     false
 }
 
+/// What serves a script.
+#[derive(Clone, Copy)]
+enum By {
+    SharedStore,
+    PlainVolume,
+}
+
+/// Runs a script by one of the servers.
+fn run_by(
+    by: By,
+    alloc: Global,
+    script: &[u8],
+    written: &mut Vec<u8>,
+    commits: u64,
+) -> Result<(), RunFault>
+    requires { commits < 2 ^ 32 }
+{
+    match by {
+        By::SharedStore => run(alloc, &mut &*script, written, Limits { commits, ..LIMITS }),
+        By::PlainVolume => serve(
+            alloc,
+            &mut PlainStore::new(alloc, commits),
+            &mut &*script,
+            written,
+        ),
+    }
+}
+
 /// Runs a script. True if it is replied to so, and false if it wanted memory, behind a front of these replies.
 fn replies_to(
     rt: &impl Abort,
+    by: By,
     alloc: Global,
     script: &[u8],
     replies: &str,
     commits: u64,
-) -> Result<bool, Fail> {
+) -> Result<bool, Fail>
+    requires { commits < 2 ^ 32 }
+{
     let mut written: Vec<u8> = Vec::new(alloc);
-    let limits = Limits { commits, ..LIMITS };
-    let result = run(alloc, &mut &*script, &mut written, limits);
+    let result = run_by(by, alloc, script, &mut written, commits);
     let written = str::from_utf8(&written)?;
     match result {
         Ok(()) if wants_memory(written, replies) => Ok(false),
@@ -135,16 +173,20 @@ fn replies_to(
     }
 }
 
-/// Fails unless the script has these replies.
+/// Fails unless the script has these replies, whatever serves it.
 fn check_bytes(
     rt: &impl Abort,
     alloc: Global,
     script: &[u8],
     replies: &str,
     commits: u64,
-) -> Result<(), Fail> {
-    let first = replies_to(rt, alloc, script, replies, commits)?;
-    assert!(rt; first || replies_to(rt, alloc, script, replies, commits)?);
+) -> Result<(), Fail>
+    requires { commits < 2 ^ 32 }
+{
+    for by in [By::SharedStore, By::PlainVolume] {
+        let first = replies_to(rt, by, alloc, script, replies, commits)?;
+        assert!(rt; first || replies_to(rt, by, alloc, script, replies, commits)?);
+    }
     Ok(())
 }
 

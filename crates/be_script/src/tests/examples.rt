@@ -297,6 +297,42 @@ fn batches(rt: HostRuntime) -> Result<(), Fail> {
 }
 
 #[test]
+fn live_query(rt: HostRuntime) -> Result<(), Fail> {
+    check(
+        &rt,
+        rt.alloc(),
+        "
+        mkindex k LONG => ok
+        new => node 1
+        set 1 k LONG 5 => ok
+        live k>4 => ok
+        refresh => created 1 / removed
+        new => node 2
+        set 1 k LONG 1 => ok
+        set 2 k LONG 9 => ok
+        refresh => created 2 / removed 1
+        refresh => created / removed",
+    )
+}
+
+#[test]
+fn pins_in_scripts(rt: HostRuntime) -> Result<(), Fail> {
+    check(
+        &rt,
+        rt.alloc(),
+        "
+        sett 1 => bad line
+        pin => pin 0
+        pin => already pinned
+        new => node 1
+        get 1 k => none
+        unpin => ok
+        unpin => not pinned
+        refresh => no live query",
+    )
+}
+
+#[test]
 fn script_bytes(rt: HostRuntime) -> Result<(), Fail> {
     check_bytes(&rt, rt.alloc(), b"new", "node 1\n", 1)?;
     check_bytes(&rt, rt.alloc(), b"\xff\n", "bad line\n", 1)?;

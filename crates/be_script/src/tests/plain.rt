@@ -1,6 +1,6 @@
 //! A volume with its journal on one thread, as another server of scripts.
-ghost use Rattle.std.specs.Prelude.{◌≡◌, ◌<◌, ◌^◌, OnOk, IfSome, IsSome, unwrap_or};
-ghost use Rattle.std.specs.Option.{option_map};
+ghost use Rattle.std.specs.Prelude.{◌≡◌, ◌<◌, ◌^◌, OnOk, IfErr, IsSome, true, unwrap_or};
+ghost use Rattle.be_value.specs.declared.refusals.Refusal.TheVariants.{OutOfMemory};
 ghost use Rattle.be_script.specs.Store.{start, viewed};
 
 use crate::stores::Server;
@@ -12,19 +12,15 @@ use be_volume::{Done, Op, Volume};
 use std::alloc::Global;
 use std::marker::Model;
 
-/// How many writes were accepted before the pinned version, and its volume where a write was tried since.
-#[derive(Drop)]
-struct Pin {
-    number: u64,
-    volume: Option<Volume>,
-}
-
 /// A volume and its journal, on one thread.
 #[derive(Drop)]
 pub struct PlainStore {
     volume: Volume,
     journal: Journal,
-    pin: Option<Pin>,
+    /// How many writes were accepted before the pinned version.
+    pin: Option<u64>,
+    /// The pinned version's volume, where a write was tried since.
+    kept: Option<Volume>,
 }
 
 impl Model for PlainStore {
@@ -37,10 +33,11 @@ impl Model for PlainStore {
     ghost coded = { coded_store };
 
     ghost view = { λ s. record {
-        journal = s.journal.entries;
-        volume = s.volume;
-        limit = s.journal.limit;
-        pin = option_map (λ p. record { number = p.number; volume = unwrap_or p.volume s.volume }) s.pin } };
+      journal = s.journal.entries;
+      volume = s.volume;
+      limit = s.journal.limit;
+      pin = option_map (λ n. record { number = n; volume = unwrap_or s.kept s.volume }) s.pin;
+    } };
 }
 
 impl PlainStore {
@@ -53,31 +50,28 @@ impl PlainStore {
             volume: Volume::new(alloc),
             journal: Journal::new(alloc, commits),
             pin: None,
+            kept: None,
         }
     }
 
     fn viewed(&self) -> &Volume
         ensures { result.now ≡ viewed self.now }
     {
-        match &self.pin {
-            Some(Pin {
-                volume: Some(volume),
-                ..
-            }) => volume,
+        match (&self.pin, &self.kept) {
+            (Some(_), Some(volume)) => volume,
             _ => &self.volume,
         }
     }
 }
 
-/// Copies the volume for the pinned version, where it was the same so far.
-fn keep_pinned(pin: &mut Option<Pin>, volume: &Volume) -> Result<(), Refusal>
-    ensures kept { OnOk result (IfSome pin.new (λ p. IsSome p.volume)) }
-    ensures same { option_map (λ p. (p.number, unwrap_or p.volume volume.now)) pin.new ≡ option_map (λ p. (p.number, unwrap_or p.volume volume.now)) pin.old }
+/// Keeps a copy of the volume for a pinned version, where none is kept.
+fn keep(is_pinned: bool, kept: &mut Option<Volume>, volume: &Volume) -> Result<(), Refusal>
+    ensures kept { OnOk result (is_pinned ≡ true → IsSome kept.new) }
+    ensures same { unwrap_or kept.new volume.now ≡ unwrap_or kept.old volume.now }
+    ensures refused { IfErr result (λ e. e ≡ OutOfMemory) }
 {
-    if let Some(pin) = pin {
-        if pin.volume.is_none() {
-            pin.volume = Some(volume.copy()?);
-        }
+    if is_pinned && kept.is_none() {
+        *kept = Some(volume.copy()?);
     }
     Ok(())
 }
@@ -92,7 +86,7 @@ impl Server for PlainStore {
             return Err(refusal);
         }
         self.journal.reserve(ops.len())?;
-        keep_pinned(&mut self.pin, &self.volume)?;
+        keep(self.pin.is_some(), &mut self.kept, &self.volume)?;
         let dones = self.volume.apply(ops)?;
         self.journal.push_reserved(0, ops, dones.as_slice());
         Ok((self.journal.len(), dones))
@@ -104,10 +98,8 @@ impl Server for PlainStore {
 
     fn pin(&mut self) -> u64 {
         let number = self.journal.len();
-        self.pin = Some(Pin {
-            number,
-            volume: None,
-        });
+        self.pin = Some(number);
+        self.kept = None;
         number
     }
 

@@ -86,11 +86,6 @@ fn counts(rt: HostRuntime) -> Result<(), Fail> {
         sett 1 => bad line
         New => bad line
         new␀ => bad line
-        # Pins and live queries aren't served here.
-        pin => bad line
-        unpin => bad line
-        live k==1 => bad line
-        refresh => bad line
         # Too many words or too few.
         new 1 => bad line
         drop => bad line
@@ -108,6 +103,11 @@ fn counts(rt: HostRuntime) -> Result<(), Fail> {
         attrs => bad line
         attrs 1 1 => bad line
         indices 1 => bad line
+        pin 1 => bad line
+        unpin 1 => bad line
+        refresh k==1 => bad line
+        \"pin\" => bad line
+        Pin => bad line
         begin 1 => bad line
         commit 1 => bad line
         abort 1 => bad line",
@@ -363,5 +363,151 @@ fn batches(rt: HostRuntime) -> Result<(), Fail> {
         # A batch that is open at the end is dropped.
         begin => ok
         new => queued"#,
+    )
+}
+
+#[test]
+fn pins(rt: HostRuntime) -> Result<(), Fail> {
+    check(
+        &rt,
+        rt.alloc(),
+        r#"
+        mkindex k LONG => ok
+        new => node 1
+        set 1 k LONG 5 => ok
+        # A pin is the number of accepted writes.
+        pin => pin 3
+        # A second one changes nothing, and no write moves a pin.
+        new => node 2
+        pin => already pinned
+        set 1 k LONG 6 => ok
+        set 2 k LONG 7 => ok
+        mkindex n LONG => ok
+        rmindex k => ok
+        # Every line that reads answers from the pinned version.
+        query k==5 => nodes 1
+        query k>=5 => nodes 1
+        get 1 k => LONG 5
+        get 2 k => none
+        attrs 1 => attrs 1 / "k" LONG 5
+        attrs 2 => refused 2 NoNode
+        indices => indices 1 / "k" LONG
+        # So does `explain`, which is chosen by the indices of that version.
+        explain k==5 => "k"=="5" score 1
+        explain n==5 => refused 17 NotCovered
+        query n==5 => refused 17 NotCovered
+        # A write is refused by the last version, not by the pinned one.
+        unset 2 n => refused 3 NoAttr
+        mkindex n LONG => refused 5 IndexExists
+        drop 3 => refused 2 NoNode
+        # Without a pin a line reads what is there, and leaves no pin behind.
+        unpin => ok
+        get 2 k => LONG 7
+        indices => indices 1 / "n" LONG
+        explain n==5 => "n"=="5" score 1
+        query k==5 => refused 17 NotCovered
+        attrs 2 => attrs 1 / "k" LONG 7
+        unpin => not pinned
+        pin => pin 8
+        unpin => ok
+        # A refused write doesn't count.
+        drop 9 => refused 2 NoNode
+        pin => pin 8
+        # A pin of the version after all writes is left behind by the next write, by each in its turn.
+        drop 1 => ok
+        attrs 1 => attrs 1 / "k" LONG 6
+        drop 2 => ok
+        attrs 1 => attrs 1 / "k" LONG 6
+        # A pin may be open at the end."#,
+    )
+}
+
+#[test]
+fn pins_and_batches(rt: HostRuntime) -> Result<(), Fail> {
+    check(
+        &rt,
+        rt.alloc(),
+        r#"
+        # Lines that pin don't see the batch, and leave it as it was.
+        begin => ok
+        new => queued
+        pin => pin 0
+        pin => already pinned
+        attrs 1 => refused 2 NoNode
+        commit => commit 1 / node 1
+        # Nor does a commit move the pin.
+        attrs 1 => refused 2 NoNode
+        begin => ok
+        set 1 k LONG 5 => queued
+        unpin => ok
+        unpin => not pinned
+        attrs 1 => attrs 0
+        pin => pin 1
+        abort => ok
+        attrs 1 => attrs 0
+        # A refused commit leaves the pin where it was.
+        new => node 2
+        begin => ok
+        drop 9 => queued
+        commit => refused 2 NoNode
+        attrs 2 => refused 2 NoNode
+        unpin => ok
+        attrs 2 => attrs 0"#,
+    )
+}
+
+#[test]
+fn live_queries(rt: HostRuntime) -> Result<(), Fail> {
+    check(
+        &rt,
+        rt.alloc(),
+        r#"
+        refresh => no live query
+        # What is asked rests on no index: that is told by each refresh.
+        live k>4 => ok
+        refresh => refused 17 NotCovered
+        mkindex k LONG => ok
+        refresh => created / removed
+        new => node 1
+        new => node 2
+        set 1 k LONG 5 => ok
+        set 2 k LONG 7 => ok
+        refresh => created 1 2 / removed
+        # A refused `live` leaves the earlier one, with its last answer.
+        live k>= => refused 12 Syntax 3
+        live => refused 12 Syntax 0
+        live k==[ => refused 13 BadPattern 3
+        refresh => created / removed
+        # An accepted one begins with an empty answer, for the same text too.
+        live k>4 => ok
+        refresh => created 1 2 / removed
+        # A refused refresh leaves the last answer.
+        rmindex k => ok
+        refresh => refused 17 NotCovered
+        mkindex k LONG => ok
+        refresh => created / removed 1 2
+        set 1 k LONG 5 => ok
+        refresh => created 1 / removed
+        # A refresh answers from the pin, or else from the last write.
+        pin => pin 8
+        set 2 k LONG 8 => ok
+        set 1 k LONG 1 => ok
+        refresh => created / removed
+        query k>4 => nodes 1
+        unpin => ok
+        refresh => created 2 / removed 1
+        # Going back to an earlier version is a change as any other.
+        drop 2 => ok
+        refresh => created / removed 2
+        # Blanks at the end of the text belong to it, and it isn't split into words.
+        live k>4 &&␠ => refused 12 Syntax 7
+        live "k">"4" => ok
+        refresh => created / removed
+        # A batch isn't seen before its commit, and changes nothing of the live query.
+        begin => ok
+        set 1 k LONG 9 => queued
+        refresh => created / removed
+        commit => commit 12 / ok
+        refresh => created 1 / removed"#,
     )
 }

@@ -1,4 +1,4 @@
-use Rattle.std.proofs.Common.{◌≡◌, List, ℕ, Ok, ap, ◌∙◌, sym, inl}
+use Rattle.std.proofs.Common.{◌≡◌, Ok, ap, ◌∙◌, sym, inl}
 use Rattle.be_query.specs.Grammar.{Formula}
 use Rattle.be_store.proofs.Answering.{scan_rises}
 use Rattle.be_volume.specs.Query.{scan}

@@ -5,6 +5,6 @@ use Rattle.be_script.proofs.tests.plain.PlainStoreServer.apply.Goals as goal
 
 pub push_reserved-requires-clause-dones : goal.push_reserved-requires-clause-dones
 push_reserved-requires-clause-dones c =
-    let dones = length-dones c.args.self.now.volume c.apply.new.self c.args.ops.now c.in_ok-dones.dones.items c.in_ok-dones.ensures.writes in
+    let dones = length-dones c.self.inside.volume c.apply.new.self c.args.ops.now c.in_ok-dones.dones.items c.in_ok-dones.ensures.writes in
     let room = ap (λ (l : Log). l.reserved) c.in_ok-reserve.ensures.0 in
     omega (arith, dones, room, ap length c.as_slice.ensures.value)
