@@ -3,3 +3,4 @@ pub mod Tokens
 pub mod Texts
 pub mod Back
 pub mod Drawn
+pub mod Fronts

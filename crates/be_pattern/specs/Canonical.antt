@@ -14,6 +14,15 @@ is_literal (Only c) = true
 abbrev pub is_plain : List Part → Bool
 is_plain = list_all is_literal
 
+-- no wildcard, or one `*` that comes last
+abbrev pub is_prefix : List Part → Bool
+is_prefix [] = true
+is_prefix (Run ∷ []) = true
+is_prefix (Run ∷ p ∷ ps) = false
+is_prefix (One ∷ ps) = false
+is_prefix (Among negated ms ∷ ps) = false
+is_prefix (Only c ∷ ps) = is_prefix ps
+
 -- the literal characters before the first wildcard
 abbrev pub literal_prefix : List Part → List ℕ
 literal_prefix [] = []

@@ -1,8 +1,8 @@
 //! A pattern, and what its callers see of it.
-ghost use Rattle.std.specs.Prelude.{◌≡◌, ◌++◌, map, length, Ok, Err, IfOk, IfErr, string_bytes, encode_utf8_all};
+ghost use Rattle.std.specs.Prelude.{◌≡◌, ◌++◌, ℕ, List, [], true, map, length, Ok, Err, IfOk, IfErr, string_bytes, encode_utf8_all};
 ghost use Rattle.std.specs.Str.{chars};
 ghost use Rattle.be_value.specs.declared.refusals.Refusal.TheVariants.{OutOfMemory};
-ghost use Rattle.be_pattern.specs.Canonical.{around, run_if, canonical, is_plain, literal_prefix};
+ghost use Rattle.be_pattern.specs.Canonical.{around, run_if, canonical, is_plain, is_prefix, literal_prefix};
 ghost use Rattle.be_pattern.specs.Match.{Only, matches, parts_of};
 ghost use Rattle.be_pattern.specs.Parse.{pattern, IsFault};
 
@@ -19,18 +19,23 @@ pub struct Pattern {
     tokens: Vec<Token>,
     /// The literal characters before the first wildcard.
     prefix: String,
+    /// Whether there is no wildcard.
+    is_plain: bool,
+    /// Whether there is none, or one `*` that comes last.
+    is_prefix: bool,
 }
 
 impl Model for Pattern {
     ghost use Rattle.std.specs.Prelude.{◌≡◌, List, string_bytes, encode_utf8_all};
-    ghost use Rattle.be_pattern.specs.Canonical.{literal_prefix};
+    ghost use Rattle.be_pattern.specs.Canonical.{is_plain as no_wildcard, is_prefix as only_front, literal_prefix};
     ghost use Rattle.be_pattern.specs.Match.{Part, parts_of};
 
     ghost Value = { List Part };
 
     ghost view = { λ p. parts_of p.tokens.items };
 
-    ghost invariant = { λ p. string_bytes p.prefix ≡ encode_utf8_all (literal_prefix (parts_of p.tokens.items)) };
+    ghost invariant = { λ p. (string_bytes p.prefix ≡ encode_utf8_all (literal_prefix (parts_of p.tokens.items)))
+        × (p.is_plain ≡ no_wildcard (parts_of p.tokens.items)) × (p.is_prefix ≡ only_front (parts_of p.tokens.items)) };
 }
 
 impl Pattern {
@@ -43,9 +48,7 @@ impl Pattern {
         // A bad pattern is told by the place of its fault, unless memory runs out.
         ensures err { IfErr result (IsFault (pattern (chars text.now)) (length text.now)) }
     {
-        let tokens = parsing::parse(alloc, text)?;
-        let prefix = printing::prefix(alloc, &tokens)?;
-        Ok(Pattern { tokens, prefix })
+        Ok(pattern_of(alloc, parsing::parse(alloc, text)?)?)
     }
 
     /// The pattern of a text whose characters are all literal, with a `*` before it and behind it where asked for.
@@ -56,8 +59,7 @@ impl Pattern {
         let tokens = push_run(Vec::new(alloc), before)?;
         let tokens = push_literals(tokens, text)?;
         let tokens = push_run(tokens, behind)?;
-        let prefix = printing::prefix(alloc, &tokens)?;
-        Ok(Pattern { tokens, prefix })
+        Ok(pattern_of(alloc, tokens)?)
     }
 
     /// Whether the pattern matches the whole text. It takes no memory, and mostly one step a character: at worst the
@@ -72,7 +74,17 @@ impl Pattern {
     pub fn is_plain(&self) -> bool
         ensures { result ≡ is_plain self.now }
     {
-        printing::is_plain(&self.tokens)
+        self.is_plain
+    }
+
+    /// Whether there is no wildcard, or one `*` that comes last, so that a text is matched or not by how it begins.
+    pub fn is_prefix(&self) -> bool
+        ensures told { result ≡ is_prefix self.now }
+        // It matches its prefix, and with the `*` also the prefix with anything behind it.
+        ensures decides { result ≡ true → (behind : List ℕ) → (is_plain self.now ≡ true → behind ≡ []) →
+            matches self.now (literal_prefix self.now ++ behind) ≡ true }
+    {
+        self.is_prefix
     }
 
     /// The literal characters before the first wildcard, with which every text that it matches begins.
@@ -90,6 +102,21 @@ impl Pattern {
     {
         Ok(printing::canonical(alloc, &self.tokens)?)
     }
+}
+
+/// The pattern of these tokens.
+fn pattern_of(alloc: Global, tokens: Vec<Token>) -> Result<Pattern, AllocError>
+    ensures { IfOk result (λ p. p ≡ parts_of tokens.items) }
+{
+    let prefix = printing::prefix(alloc, &tokens)?;
+    let is_plain = printing::is_plain(&tokens);
+    let is_prefix = printing::is_prefix(&tokens);
+    Ok(Pattern {
+        tokens,
+        prefix,
+        is_plain,
+        is_prefix,
+    })
 }
 
 /// The tokens with a `*` more, where it stands.

@@ -1,8 +1,8 @@
 //! A pattern's canonical text, and its literal front.
-ghost use Rattle.std.specs.Prelude.{◌≡◌, ◌++◌, ◌∷◌, ◌<◌, [], length, IfOk, IfNone, IfSome, string_bytes, encode_utf8_all};
+ghost use Rattle.std.specs.Prelude.{◌≡◌, ◌++◌, ◌∷◌, ◌<◌, false, [], length, IfOk, IfNone, IfSome, string_bytes, encode_utf8_all};
 ghost use Rattle.std.specs.List.{flat_map};
 ghost use Rattle.be_pattern.specs.Match.{Only, part_of, parts_of};
-ghost use Rattle.be_pattern.specs.Canonical.{canonical, is_literal, is_plain, is_special, is_special_in_set, marked, member, member_char, opening, part_text, literal_prefix};
+ghost use Rattle.be_pattern.specs.Canonical.{canonical, is_literal, is_plain, is_prefix, is_special, is_special_in_set, marked, member, member_char, opening, part_text, literal_prefix};
 
 use crate::token::Token;
 use std::alloc::{AllocError, Global};
@@ -30,6 +30,31 @@ pub(crate) fn is_plain(tokens: &[Token]) -> bool
     'tokens: while let Some((first, after)) = rest.split_first() {
         if !is_literal(first) {
             return false;
+        }
+        rest = after;
+    }
+    true
+}
+
+/// Whether a token that isn't literal is a `*` with nothing behind it.
+fn is_last_run(token: &Token, after: &[Token]) -> bool
+    requires { is_literal (part_of token.now) ≡ false }
+    ensures { result ≡ is_prefix (part_of token.now ∷ parts_of after.now) }
+{
+    match token {
+        Token::AnyRun => after.is_empty(),
+        _ => false,
+    }
+}
+
+/// Whether there is no wildcard, or one `*` that comes last.
+pub(crate) fn is_prefix(tokens: &[Token]) -> bool
+    ensures { result ≡ is_prefix (parts_of tokens.now) }
+{
+    let mut rest = tokens;
+    'tokens: while let Some((first, after)) = rest.split_first() {
+        if !is_literal(first) {
+            return is_last_run(first, after);
         }
         rest = after;
     }

@@ -125,6 +125,33 @@ fn prefixes(rt: HostRuntime) {
     }
 }
 
+fn is_decided_by_prefix(rt: &HostRuntime, text: &str) -> bool {
+    match read(rt, text) {
+        Ok(pattern) => pattern.is_prefix(),
+        Err(_) => false,
+    }
+}
+
+/// Patterns that their prefix decides, and others.
+#[test]
+fn decided_by_prefix(rt: HostRuntime) {
+    for (text, want) in [
+        ("", true),
+        ("*", true),
+        ("é", true),
+        ("é*", true),
+        ("a\\*", true),
+        ("**", false),
+        ("*a", false),
+        ("a*b", false),
+        ("a?", false),
+        ("a[b]", false),
+        ("[b]*", false),
+    ] {
+        assert_eq!(rt; is_decided_by_prefix(&rt, text), want, "at {text}");
+    }
+}
+
 /// A literal text with `*` round it.
 #[test]
 fn literal_texts(rt: HostRuntime) {

@@ -3,6 +3,7 @@ pub mod Beside
 pub mod Bounds
 pub mod Choice
 pub mod Ends
+pub mod Fronts
 pub mod Listed
 pub mod LongTexts
 pub mod Passing

@@ -20,7 +20,7 @@ positive zero h = cc
 positive (suc x) h = omega arith
 
 -- a text without zero bytes has none in front
-some_byte : (x : ℕ) (xs : List ℕ) → has_nul (x ∷ xs) ≡ false → (0 < x) × (has_nul xs ≡ false)
+pub some_byte : (x : ℕ) (xs : List ℕ) → has_nul (x ∷ xs) ≡ false → (0 < x) × (has_nul xs ≡ false)
 some_byte x xs h = by (nat_eq x 0) refl h
   where
     by : (b : Bool) → nat_eq x 0 ≡ b → (b || has_nul xs) ≡ false → (0 < x) × (has_nul xs ≡ false)

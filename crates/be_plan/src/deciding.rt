@@ -1,8 +1,12 @@
 //! Ranges that decide a query.
 //!
-//! Where the bounds of a walk leave no value of which the query is false, the node of each key is an answer, and nothing is asked of it.
-ghost use Rattle.std.specs.Prelude.{◌≡◌, ◌≤◌, ◌<◌, ◌-◌, ◌^◌, ℕ, true, false, List, IsTrue};
+//! Where the bounds of a walk leave no value of which the query is false, the node of each key is an answer, and nothing is asked of it. A
+//! pattern is decided where it says no more than how a text begins.
+ghost use Rattle.std.specs.Prelude.{◌≡◌, ◌≤◌, ◌<◌, ◌-◌, ◌^◌, ◌++◌, ◌∷◌, [], ℕ, true, false, List, IsTrue, IsUtf8};
 ghost use Rattle.std.specs.Option.{option_map};
+ghost use Rattle.std.specs.Str.{chars};
+ghost use Rattle.be_pattern.specs.Match.{matches};
+ghost use Rattle.be_value.specs.Name.{has_nul};
 ghost use Rattle.std.specs.Ordering.{is_lt, is_gt};
 ghost use Rattle.be_value.specs.Key.{key as key_bytes, IsValue};
 ghost use Rattle.be_value.specs.Value.{kind_of, is_indexable, value_cmp};
@@ -12,41 +16,41 @@ ghost use Rattle.be_volume.specs.Maps.{name_cmp};
 ghost use Rattle.be_volume.specs.Query.{holds, is_true_of};
 ghost use Rattle.be_plan.specs.Narrow.{Within, IsPair, Decides};
 
-use crate::ranges::{Range, bound_of};
-use arrayvec::ArrayVec;
-use be_query::{Cmp, Comparison, Tree};
+use crate::ranges::{Range, bound_of, limit_of};
+use be_pattern::Pattern;
+use be_query::{Cmp, Comparison, Literal, Tree};
 use be_value::{Kind, Name, Value, key_of};
 
 /// Whether no key of the range is below this one.
-fn starts_at(range: &Range, key: ArrayVec<u8, 264>) -> bool
-    ensures { result ≡ true → (k : List ℕ) → Within range.now.low.items (option_map (λ b. b.items) range.now.high) k → is_lt (name_cmp k key.items) ≡ false }
+fn starts_at(range: &Range, key: &[u8]) -> bool
+    ensures { result ≡ true → (k : List ℕ) → Within range.now.low.items (option_map (λ b. b.items) range.now.high) k → is_lt (name_cmp k key.now) ≡ false }
 {
-    !range.low.as_slice().cmp(&key.as_slice()).is_lt()
+    !range.low.as_slice().cmp(&key).is_lt()
 }
 
 /// Whether no key of the range is above this one.
-fn ends_at(range: &Range, key: ArrayVec<u8, 264>) -> bool
-    ensures { result ≡ true → (k : List ℕ) → Within range.now.low.items (option_map (λ b. b.items) range.now.high) k → is_gt (name_cmp k key.items) ≡ false }
+fn ends_at(range: &Range, key: &[u8]) -> bool
+    ensures { result ≡ true → (k : List ℕ) → Within range.now.low.items (option_map (λ b. b.items) range.now.high) k → is_gt (name_cmp k key.now) ≡ false }
 {
     match &range.high {
-        Some(high) => !key.as_slice().cmp(&high.as_slice()).is_lt(),
+        Some(high) => !key.cmp(&high.as_slice()).is_lt(),
         None => false,
     }
 }
 
 /// Whether each key of the range is above this one.
-fn starts_behind(range: &Range, key: ArrayVec<u8, 264>) -> bool
-    ensures { result ≡ true → (k : List ℕ) → Within range.now.low.items (option_map (λ b. b.items) range.now.high) k → is_gt (name_cmp k key.items) ≡ true }
+fn starts_behind(range: &Range, key: &[u8]) -> bool
+    ensures { result ≡ true → (k : List ℕ) → Within range.now.low.items (option_map (λ b. b.items) range.now.high) k → is_gt (name_cmp k key.now) ≡ true }
 {
-    range.low.as_slice().cmp(&key.as_slice()).is_gt()
+    range.low.as_slice().cmp(&key).is_gt()
 }
 
 /// Whether each key of the range is below this one.
-fn ends_before(range: &Range, key: ArrayVec<u8, 264>) -> bool
-    ensures { result ≡ true → (k : List ℕ) → Within range.now.low.items (option_map (λ b. b.items) range.now.high) k → is_lt (name_cmp k key.items) ≡ true }
+fn ends_before(range: &Range, key: &[u8]) -> bool
+    ensures { result ≡ true → (k : List ℕ) → Within range.now.low.items (option_map (λ b. b.items) range.now.high) k → is_lt (name_cmp k key.now) ≡ true }
 {
     match &range.high {
-        Some(high) => key.as_slice().cmp(&high.as_slice()).is_gt(),
+        Some(high) => key.cmp(&high.as_slice()).is_gt(),
         None => false,
     }
 }
@@ -59,13 +63,57 @@ fn is_true_within(range: &Range, op: Cmp, bound: &Value) -> bool
         Within range.now.low.items (option_map (λ b. b.items) range.now.high) (key_bytes v n) → is_true_of op (value_cmp v bound.now) ≡ true }
 {
     match op {
-        Cmp::Eq => starts_at(range, key_of(bound, 0)) && ends_at(range, key_of(bound, u64::MAX)),
+        Cmp::Eq => {
+            starts_at(range, key_of(bound, 0).as_slice())
+                && ends_at(range, key_of(bound, u64::MAX).as_slice())
+        }
         Cmp::Ne => false,
-        Cmp::Lt => ends_before(range, key_of(bound, 0)),
-        Cmp::Le => ends_at(range, key_of(bound, u64::MAX)),
-        Cmp::Gt => starts_behind(range, key_of(bound, u64::MAX)),
-        Cmp::Ge => starts_at(range, key_of(bound, 0)),
+        Cmp::Lt => ends_before(range, key_of(bound, 0).as_slice()),
+        Cmp::Le => ends_at(range, key_of(bound, u64::MAX).as_slice()),
+        Cmp::Gt => starts_behind(range, key_of(bound, u64::MAX).as_slice()),
+        Cmp::Ge => starts_at(range, key_of(bound, 0).as_slice()),
     }
+}
+
+/// Whether the key isn't above a front with one byte behind it.
+fn is_below_limit(key: &[u8], front: &[u8], limit: u8) -> bool
+    ensures { result ≡ true → is_gt (name_cmp key.now (front.now ++ limit ∷ [])) ≡ false }
+{
+    if key.len() < front.len() {
+        return key.cmp(&front).is_lt();
+    }
+    let (head, tail) = key.split_at(front.len());
+    if head != front {
+        return key.cmp(&front).is_lt();
+    }
+    !tail.cmp(&[limit][..]).is_gt()
+}
+
+/// Whether no key of the range is above a front with one byte behind it.
+fn ends_below(range: &Range, front: &[u8], limit: u8) -> bool
+    ensures { result ≡ true → (k : List ℕ) → Within range.now.low.items (option_map (λ b. b.items) range.now.high) k →
+        is_gt (name_cmp k (front.now ++ limit ∷ [])) ≡ false }
+{
+    match &range.high {
+        Some(high) => is_below_limit(high.as_slice(), front, limit),
+        None => false,
+    }
+}
+
+/// Whether the pattern matches all texts in the range. A front with a zero byte would reach into the node's number, and decides nothing.
+fn is_matched_within(range: &Range, pattern: &Pattern) -> bool
+    ensures { result ≡ true → (text : List ℕ) (n : ℕ) → IsUtf8 text → has_nul text ≡ false →
+        Within range.now.low.items (option_map (λ b. b.items) range.now.high) (key_bytes (AnyValue.Cstr text) n) →
+        matches pattern.now (chars text) ≡ true }
+{
+    if !pattern.is_prefix() {
+        return false;
+    }
+    let front = pattern.prefix().as_bytes();
+    if front.contains(&0) {
+        return false;
+    }
+    starts_at(range, front) && ends_below(range, front, limit_of(pattern))
 }
 
 /// Whether the comparison is true of all values in the range.
@@ -74,9 +122,12 @@ fn holds_within(range: &Range, comparison: &Comparison, kind: Kind) -> bool
         Within range.now.low.items (option_map (λ b. b.items) range.now.high) (key_bytes v n) →
         holds comparison.now.op v (literal comparison.now.literal) ≡ true }
 {
-    match bound_of(&comparison.literal, kind) {
-        Some(bound) => is_true_within(range, comparison.op, &bound),
-        None => false,
+    match (kind, comparison.op, &comparison.literal) {
+        (Kind::Cstr, Cmp::Eq, Literal::Pattern(pattern)) => is_matched_within(range, pattern),
+        (_, op, given) => match bound_of(given, kind) {
+            Some(bound) => is_true_within(range, op, &bound),
+            None => false,
+        },
     }
 }
 

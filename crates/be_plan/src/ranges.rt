@@ -247,7 +247,7 @@ fn lower_to(range: &mut Range, front: &[u8], end: &[u8])
 }
 
 /// What is above each byte that may stand behind the pattern's literal characters in a key: a zero byte where it has no wildcard, else also the first byte of a character.
-fn limit_of(pattern: &Pattern) -> u8
+pub(crate) fn limit_of(pattern: &Pattern) -> u8
     ensures { result ≡ limit (is_plain pattern.now) }
 {
     if pattern.is_plain() { 1 } else { 255 }

@@ -26,11 +26,12 @@ fn write_steps(asked: &mut ArrayString<64>, name: &Name, nodes: usize) {
     }
 }
 
-/// A volume's source that writes down of which index it is asked for a key.
+/// A volume's source that writes down of which index it is asked for a key, and counts the ranges that it is asked for.
 #[derive(Drop)]
 struct Recording<'a> {
     source: VolumeSource<'a>,
     asked: ArrayString<64>,
+    ranges: u64,
 }
 
 impl Source for Recording<'_> {
@@ -61,6 +62,7 @@ impl Source for Recording<'_> {
         high: Option<&[u8]>,
         found: &mut Vec<u64>,
     ) -> Result<(), Refusal> {
+        self.ranges = self.ranges.wrapping_add(1);
         let before = found.len();
         let done = self.source.nodes_within(name, low, high, found);
         write_steps(&mut self.asked, name, found.len().saturating_sub(before));
@@ -174,6 +176,7 @@ fn found(alloc: Global, volume: &Volume, query: &Query, cover: &Cover) -> Result
     let mut source = Recording {
         source: volume_source(volume),
         asked: ArrayString::new(),
+        ranges: 0,
     };
     if !covers(cover, query, &mut source) {
         return Ok(String::from_str(alloc, "not covered")?);
@@ -494,4 +497,130 @@ fn bounds_of_long_texts(rt: HostRuntime) -> Result<(), Fail> {
         texts => texts?,
     };
     replies(alloc, &volume_of(alloc, lines.as_str())?, requests.as_str())
+}
+
+/// The nodes by what is chosen, and the number of ranges asked for.
+fn chosen(alloc: Global, volume: &Volume, text: &str) -> Result<(Vec<u64>, u64), Refusal> {
+    let query = parse(alloc, text)?;
+    let cover = choose(alloc, &query, &volume.indices()?)?;
+    let mut source = Recording {
+        source: volume_source(volume),
+        asked: ArrayString::new(),
+        ranges: 0,
+    };
+    if !covers(&cover, &query, &mut source) {
+        return Err(Refusal::BadLimits);
+    }
+    let nodes = run(alloc, &cover, &query, &mut source)?;
+    Ok((nodes, source.ranges))
+}
+
+/// The nodes of a scan.
+fn scanned(alloc: Global, volume: &Volume, text: &str) -> Result<Vec<u64>, Refusal> {
+    volume.query(&parse(alloc, text)?)
+}
+
+/// Fails unless the query gives the nodes of a scan, and is answered by this many ranges asked for whole. Each call is made again where it is
+/// refused memory.
+fn decided(alloc: Global, volume: &Volume, text: &str, ranges: u64) -> Result<(), Fail> {
+    let (nodes, asked) = match chosen(alloc, volume, text) {
+        Err(Refusal::OutOfMemory) => chosen(alloc, volume, text)?,
+        answer => answer?,
+    };
+    let all = match scanned(alloc, volume, text) {
+        Err(Refusal::OutOfMemory) => scanned(alloc, volume, text)?,
+        answer => answer?,
+    };
+    if nodes.as_slice() != all.as_slice() || asked != ranges {
+        return Err(Fail::new(text));
+    }
+    Ok(())
+}
+
+/// Texts around the fronts of patterns: of one, two and four bytes a character, with the least byte behind a front, and of 255 bytes.
+fn texts_by_front(alloc: Global) -> Result<String, Refusal> {
+    let long = "m".repeat(alloc, 254)?;
+    Ok(format!(in alloc;
+        "mkindex t CSTR
+new
+new
+new
+new
+new
+new
+new
+new
+new
+new
+set 1 t CSTR a
+set 2 t CSTR a\u{1}
+set 3 t CSTR ab
+set 4 t CSTR aé
+set 5 t CSTR aéz
+set 6 t CSTR aè
+set 7 t CSTR \u{10ffff}
+set 8 t CSTR {long}m
+set 9 t CSTR {long}
+set 10 t CSTR b"
+    )?)
+}
+
+/// A pattern that says how a text begins is answered by its range alone, and every other is asked of each key.
+#[test]
+fn patterns_by_range(rt: HostRuntime) -> Result<(), Fail> {
+    let alloc = rt.alloc();
+    let lines = match texts_by_front(alloc) {
+        Err(Refusal::OutOfMemory) => texts_by_front(alloc)?,
+        lines => lines?,
+    };
+    let volume = volume_of(alloc, lines.as_str())?;
+    for (text, ranges) in [
+        ("t==a", 1),
+        ("t==\"\"", 1),
+        ("t==\"*\"", 1),
+        ("t==\"a*\"", 1),
+        ("t==\"a\u{1}*\"", 1),
+        ("t==\"aé*\"", 1),
+        ("t==\"\u{10ffff}*\"", 1),
+        ("t==\"é*\"", 1),
+        ("t==\"a*\" && t==\"aé*\"", 1),
+        ("t==\"a*\" && t<b", 1),
+        ("t==\"a*\" || t==b", 2),
+        ("t==\"a**\"", 0),
+        ("t==\"a?\"", 0),
+        ("t==\"*a\"", 0),
+        ("t==\"a*z\"", 0),
+        ("t==\"[a]*\"", 0),
+        ("t!=\"a*\"", 0),
+    ] {
+        decided(alloc, &volume, text, ranges)?;
+    }
+    Ok(())
+}
+
+/// The front of a pattern has up to 255 bytes, as a text has.
+#[test]
+fn longest_front(rt: HostRuntime) -> Result<(), Fail> {
+    let alloc = rt.alloc();
+    let lines = match texts_by_front(alloc) {
+        Err(Refusal::OutOfMemory) => texts_by_front(alloc)?,
+        lines => lines?,
+    };
+    let volume = volume_of(alloc, lines.as_str())?;
+    let longest = match front_of(alloc, 255) {
+        Err(Refusal::OutOfMemory) => front_of(alloc, 255)?,
+        text => text?,
+    };
+    decided(alloc, &volume, longest.as_str(), 1)?;
+    let longer = match front_of(alloc, 256) {
+        Err(Refusal::OutOfMemory) => front_of(alloc, 256)?,
+        text => text?,
+    };
+    decided(alloc, &volume, longer.as_str(), 0)
+}
+
+/// A query by a front of so many bytes.
+fn front_of(alloc: Global, count: usize) -> Result<String, Refusal> {
+    let front = "m".repeat(alloc, count)?;
+    Ok(format!(in alloc; "t==\"{front}*\"")?)
 }

@@ -1,4 +1,4 @@
-use Rattle.std.proofs.Common.{◌≡◌, ◌∙◌, ◌<◌, ◌≤◌, ◌^◌, ◌⊎◌, ◌++◌, ◌∷◌, [], ℕ, List, Some, suc, sym, ap, subst, refl, inl, inr, length, arith, true, false}
+use Rattle.std.proofs.Common.{◌≡◌, ◌∙◌, ◌<◌, ◌≤◌, ◌^◌, ◌⊎◌, ◌++◌, ◌∷◌, [], ℕ, List, Some, suc, sym, ap, subst, inl, inr, length, arith, true, false}
 use Rattle.std.specs.Bool.{⊤}
 use Rattle.std.specs.Int.{to_be_bytes, w64}
 use Rattle.std.specs.List.{Contains}
@@ -8,7 +8,7 @@ use Rattle.std.proofs.lemmas.List.{length-append}
 use Rattle.std.proofs.lemmas.List.Elements.{Contains-append_left, Contains-push, Contains-push_cases}
 use Rattle.be_value.specs.Key.{key, value_key}
 use Rattle.be_value.specs.declared.values.Value.{Value}
-use Rattle.be_volume.specs.Keys.{IsKey, IsNextKey}
+use Rattle.be_volume.specs.Keys.{IsNextKey}
 use Rattle.be_plan.specs.Narrow.{Within, is_above}
 use Rattle.be_plan.specs.Walk.{HasCome, IsNodeWithin, Keeps}
 use Rattle.be_plan.proofs.Ends.{comes_first, comes_next, came_above, came_from_low}

@@ -1,10 +1,9 @@
-use Rattle.std.proofs.Common.{◌≡◌, ◌⊎◌, List, ℕ, true, ap, sym, subst, inl, inr}
+use Rattle.std.proofs.Common.{◌≡◌, ◌⊎◌, List, ℕ, true, subst, inl, inr}
 use Rattle.std.specs.List.{Contains}
 use Rattle.std.specs.Option.{option_copied, option_map}
 use Rattle.std.specs.declared.option.Option.{Option}
 use Rattle.be_query.specs.View.{formula}
 use Rattle.be_volume.specs.Query.{sat}
-use Rattle.be_plan.specs.Narrow.{Within}
 use Rattle.be_plan.specs.Walk.{HasNodes, HasOnly, IsNodeWithin}
 use Rattle.be_plan.proofs.Reaching.{on_ok}
 use Rattle.be_plan.proofs.Seen.{decided_key}

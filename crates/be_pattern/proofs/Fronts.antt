@@ -1,0 +1,18 @@
+-- What a pattern matches that has no wildcard, or one `*` that comes last.
+use Rattle.std.proofs.Common.{◌≡◌, ℕ, true, List, [], ◌∷◌, ◌++◌, ◌&&◌, refl, ap, ◌∙◌}
+use Rattle.std.proofs.lemmas.Bool.{or_right, eq-eqb}
+use Rattle.be_pattern.specs.Match.{Part, Run, One, Among, Only, matches, some_tail}
+use Rattle.be_pattern.specs.Canonical.{is_plain, is_prefix, literal_prefix}
+
+-- the empty tail is a tail
+all_taken : (cs : List ℕ) → some_tail (matches []) cs ≡ true
+all_taken [] = refl
+all_taken (c ∷ cs) = or_right (matches [] (c ∷ cs)) (some_tail (matches []) cs) (all_taken cs)
+
+pub front_matches : (parts : List Part) (behind : List ℕ) → is_prefix parts ≡ true → (is_plain parts ≡ true → behind ≡ []) → matches parts (literal_prefix parts ++ behind) ≡ true
+front_matches [] behind h whole = ap (matches []) (whole refl)
+front_matches (Run ∷ []) behind h whole = all_taken behind
+front_matches (Run ∷ p ∷ ps) behind h whole = cc
+front_matches (One ∷ ps) behind h whole = cc
+front_matches (Among n ms ∷ ps) behind h whole = cc
+front_matches (Only c ∷ ps) behind h whole = ap (λ b. b && matches ps (literal_prefix ps ++ behind)) (eq-eqb c c refl) ∙ front_matches ps behind h whole
