@@ -1,4 +1,4 @@
-use Rattle.std.proofs.Common.{◌≡◌, ℕ, List, ◌+◌, ◌*◌, ◌/◌, ◌%◌, ◌^◌, ◌<◌, ◌++◌, ◌∙◌, ap, sym, subst, length, arith, zero-add}
+use Rattle.std.proofs.Common.{◌≡◌, ℕ, List, ◌+◌, ◌*◌, ◌/◌, ◌%◌, ◌^◌, ◌<◌, ◌++◌, ◌∙◌, ap, sym, length, arith, zero-add}
 use Rattle.std.specs.Int.{to_be_bytes, w64}
 use Rattle.be_tree.specs.Page.{bytes_at, key_len}
 use Rattle.be_tree.proofs.Branches.{branch_stored}
