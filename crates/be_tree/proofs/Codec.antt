@@ -4,7 +4,7 @@ use Rattle.std.specs.Int.{to_be_bytes, w64}
 use Rattle.std.specs.List.{flat_map, range_with_len}
 use Rattle.std.proofs.lemmas.List.FromFn.{map-range_with_len_more, take-map-range_with_len, fill_by_all}
 use Rattle.std.proofs.lemmas.List.Concat.{flat_map-append}
-use Rattle.std.proofs.lemmas.List.{append-nil, drop-drop, drop-take, length-append, length-drop, length-take-le, take-append-le}
+use Rattle.std.proofs.lemmas.List.{append-nil, drop-drop, drop-take, length-append, length-drop, length-take-le, take-append-drop, take-append-le}
 use Rattle.std.proofs.Math.Seq.{take-append_seam, drop-append_seam}
 use Rattle.std.proofs.lemmas.Nat.{div-mul-add, mod-mul-add}
 use Rattle.be_tree.specs.Pair.{Pair}
@@ -163,6 +163,19 @@ bytes_at_later words at i m =
     ∙ ap (take m) (drop-append_seam front back)
     ∙ ap (λ ws. take m (flat_map (to_be_bytes w64) ws)) (maps_along f (λ (j : ℕ). words (at + i + j)) (0 + i) 0 (words_for m)
     (λ k. let e : at + (0 + i + k) ≡ at + i + (0 + k) = omega arith in ap words e))
+
+-- bytes in two parts, the second from a word on
+pub bytes_at_split : (words : ℕ → ℕ) (at i m : ℕ) → bytes_at words at (8 * i + m) ≡ bytes_at words at (8 * i) ++ bytes_at words (at + i) m
+bytes_at_split words at i m =
+    sym (take-append-drop (8 * i) (bytes_at words at (8 * i + m)))
+    ∙ ap (λ (xs : List ℕ). xs ++ drop (8 * i) (bytes_at words at (8 * i + m))) (bytes_at_prefix words at (8 * i) (8 * i + m) (omega arith))
+    ∙ ap (λ (xs : List ℕ). bytes_at words at (8 * i) ++ xs) (bytes_at_later words at i m)
+
+-- whole words that were copied
+pub bytes_at_copied : (v w : ℕ → ℕ) (from at i : ℕ) → ((j : ℕ) → j < i → w (at + j) ≡ v (from + j)) → bytes_at w at (8 * i) ≡ bytes_at v from (8 * i)
+bytes_at_copied v w from at i same =
+    ap (λ ws. take (8 * i) (flat_map (to_be_bytes w64) ws))
+    (map_same (λ j. w (at + j)) (λ j. v (from + j)) 0 (words_for (8 * i)) (λ k ge lt. same k (omega (arith, lt))))
 
 -- the payload of an item, read from the word where it begins
 pub payload_from : (words : ℕ → ℕ) (at : ℕ) → (item_at words at).payload ≡ drop (key_len words at % 8) (bytes_at words (at + 1 + key_len words at / 8) (key_len words at % 8 + payload_len words at))

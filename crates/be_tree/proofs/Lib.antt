@@ -1,5 +1,6 @@
 pub mod Codec
 mod Words
+mod Branches
 pub mod Slots
 mod PutAt
 pub mod Order

@@ -18,7 +18,7 @@ ghost use Rattle.be_tree.specs.Range.{pair_in, pairs_from};
 ghost use Rattle.be_tree.specs.Tree.{IsTree, IsTreeAt, pairs, pairs_at};
 
 use crate::lookup::rank;
-use crate::page::{child_at, cmp_at, key_words};
+use crate::page::{child_at, cmp_at, fill_key_words};
 use crate::walk::{TreeItem, fill_key, fill_payload, load_key};
 use arrayvec::ArrayVec;
 use be_pages::Look;
@@ -71,7 +71,8 @@ impl Cursor {
         if root == 0 {
             return Cursor::new();
         }
-        let words = key_words(from);
+        let mut words = ArrayVec::new();
+        fill_key_words(from, &mut words);
         let mut path = ArrayVec::new();
         let mut page = root - 1;
         let mut level = look.word(page, 0);

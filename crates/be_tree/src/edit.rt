@@ -5,7 +5,7 @@
 //! the items that it can hold. A full child with a full neighbour, or with none, is split, and the first of the two pages
 //! takes as many items as leave six for the second. So keys that rise leave full pages behind them. An insertion writes
 //! two pages a level at most, and three at the root.
-ghost use Rattle.std.specs.Prelude.{◌≡◌, ℕ, suc, ◌+◌, ◌-◌, ◌^◌, ◌<◌, ◌≤◌, List, [], ◌∷◌, ◌++◌, length, take, drop, All, IfOk, OnErr, IfErr, IsTrue};
+ghost use Rattle.std.specs.Prelude.{◌≡◌, ℕ, suc, ◌+◌, ◌-◌, ◌^◌, ◌<◌, ◌≤◌, List, [], ◌∷◌, ◌++◌, length, take, drop, All, IfOk, OnOk, OnErr, IfErr, IsTrue};
 ghost use Rattle.std.specs.Prelude.{◌≢◌};
 ghost use Rattle.be_pages.specs.Pages.{IsUnchanged, is_kept, is_readable, times, Swaps, KeepsStart};
 ghost use Rattle.be_pages.specs.Refusal.{IsFullOf};
@@ -16,7 +16,7 @@ ghost use Rattle.be_tree.specs.Tree.{AreNeighbours, IsBelow, IsTreeAt, IsWritten
 
 use crate::item::Item;
 use crate::lookup::rank;
-use crate::page::{child_at, cmp_at, fill_slots, key_words, store_node};
+use crate::page::{child_at, cmp_at, fill_key_words, fill_slots, store_node};
 use crate::siblings::{append, sharing_children, slots_with};
 use crate::slot::Slot;
 use arrayvec::ArrayVec;
@@ -257,15 +257,16 @@ fn put_below<R: Room>(
         return Ok(put_beside(room, page, place, pair, words));
     }
     let child = child_at(room, page, place);
-    let slots = put_at(room, level - 1, child, pair, words)?;
+    let mut slots = ArrayVec::new();
+    put_at(room, level - 1, child, pair, words, &mut slots)?;
     let branches = pack(room, level - 1, &slots, pair)?;
     room.give_up(child);
     Ok(branches)
 }
 
-/// Puts a pair below a page, and gives the page's items with the pair put, still to be written. The page is not given up
-/// yet, since some of them stand there. A full child first gives items to its left neighbour, and is split only where that
-/// one is full too.
+/// Puts a pair below a page, and the page's items with the pair put, still to be written, into an empty list. The page is
+/// not given up yet, since some of them stand there. A full child first gives items to its left neighbour, and is split
+/// only where that one is full too.
 #[cycle(put)]
 fn put_at<R: Room>(
     room: &mut R,
@@ -273,27 +274,29 @@ fn put_at<R: Room>(
     page: u64,
     pair: &Item,
     words: &[u64],
-) -> Result<ArrayVec<Slot, 24>, Refusal>
+    slots: &mut ArrayVec<Slot, 24>,
+) -> Result<(), Refusal>
     requires tree { IsTreeAt level 1 (R.standing room.old) (R.words room.old) page }
     requires key_fits { length pair.now.key ≤ 264 }
     requires prepared { IsPrepared words.now pair.now.key }
+    requires empty { slots.old.items ≡ [] }
     requires open { IsTrue (R.is_open (R.kept room.old)) }
-    ensures ok { IfOk result (λ slots. Becomes R.kept R.standing R.words (pages_below level (R.words room.old) (items_of (R.words room.old page))) (put pair.now (pairs_at level (R.words room.old) page)) level (pairs_of (R.words room.new) pair.now slots.items) room.old room.new) }
-    ensures ready { IfOk result (λ slots. All (IsReady (R.standing room.new) (R.words room.new)) slots.items) }
-    ensures some { IfOk result (λ slots. (length (items_of (R.words room.old page)) ≤ length slots.items) × (length slots.items ≤ 13)) }
+    ensures ok { OnOk result (Becomes R.kept R.standing R.words (pages_below level (R.words room.old) (items_of (R.words room.old page))) (put pair.now (pairs_at level (R.words room.old) page)) level (pairs_of (R.words room.new) pair.now slots.new.items) room.old room.new) }
+    ensures ready { OnOk result (All (IsReady (R.standing room.new) (R.words room.new)) slots.new.items) }
+    ensures some { OnOk result ((length (items_of (R.words room.old page)) ≤ length slots.new.items) × (length slots.new.items ≤ 13)) }
     ensures err { OnErr result (KeepsStart R.kept R.standing R.words room.old room.new) }
     ensures full { IfErr result (IsFullOf (R.full room.new)) }
 {
     let at = rank(room, page, pair.key(), words).saturating_sub(1);
     if let Some((left, right)) = sharing_children(room, level, page, at) {
         let two = put_shared(room, level - 1, left, right, pair, words)?;
-        return Ok(slots_with(room, page, at - 1, two));
+        slots_with(room, page, at - 1, two, slots);
+        return Ok(());
     }
-    let mut slots = ArrayVec::new();
-    fill_slots(room, page, &mut slots);
+    fill_slots(room, page, slots);
     let beside = put_below(room, level, page, 2 + 42 * at, pair, words)?;
-    replace_at(&mut slots, at, beside);
-    Ok(slots)
+    replace_at(slots, at, beside);
+    Ok(())
 }
 
 /// Puts a pair below the second of two neighbours, which is full, and writes both anew: the first one takes all the items
@@ -321,7 +324,8 @@ fn put_shared<R: Room>(
     ensures err { OnErr result (KeepsStart R.kept R.standing R.words room.old room.new) }
     ensures full { IfErr result (IsFullOf (R.full room.new)) }
 {
-    let more = put_at(room, level, right, pair, words)?;
+    let mut more = ArrayVec::new();
+    put_at(room, level, right, pair, words, &mut more)?;
     let mut slots = ArrayVec::new();
     fill_slots(room, left, &mut slots);
     append(&mut slots, &more);
@@ -373,10 +377,12 @@ pub fn insert<R: Room>(room: &mut R, root: u64, key: &[u8], payload: &[u8]) -> R
     if root == 0 {
         return write_root(room, 0, &[Slot::New], &pair);
     }
-    let words = key_words(pair.key());
+    let mut words = ArrayVec::new();
+    fill_key_words(pair.key(), &mut words);
     let page = root - 1;
     let level = room.word(page, 0);
-    let slots = put_at(room, level, page, &pair, &words)?;
+    let mut slots = ArrayVec::new();
+    put_at(room, level, page, &pair, &words, &mut slots)?;
     let new = write_root(room, level, &slots, &pair)?;
     room.give_up(page);
     Ok(new)

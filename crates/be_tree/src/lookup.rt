@@ -9,7 +9,7 @@ ghost use Rattle.be_tree.specs.Page.{IsItem, IsPage, item_at, items_of};
 ghost use Rattle.be_tree.specs.Key.{IsPrepared, IsRank, payload_at};
 ghost use Rattle.be_tree.specs.Tree.{IsTree, pairs};
 
-use crate::page::{child_at, cmp_at, key_words};
+use crate::page::{child_at, cmp_at, fill_key_words};
 use crate::walk::load_payload;
 use arrayvec::ArrayVec;
 use be_pages::Look;
@@ -47,7 +47,8 @@ fn key_place<L: Look>(look: &mut L, root: u64, key: &[u8]) -> Option<(u64, usize
     if root == 0 {
         return None;
     }
-    let words = key_words(key);
+    let mut words = ArrayVec::new();
+    fill_key_words(key, &mut words);
     let mut page = root - 1;
     let mut level = look.word(page, 0);
     while level > 0 {

@@ -52,16 +52,24 @@ pub(crate) fn number_in(bytes: &[u8]) -> u64
 pub(crate) fn key_words(key: &[u8]) -> ArrayVec<u64, 33>
     ensures { IsPrepared result.items key.now }
 {
+    let mut words = ArrayVec::new();
+    fill_key_words(key, &mut words);
+    words
+}
+
+/// Puts these words into an empty vector.
+pub(crate) fn fill_key_words(key: &[u8], words: &mut ArrayVec<u64, 33>)
+    requires empty { words.old.items ≡ [] }
+    ensures { IsPrepared words.new.items key.now }
+{
     let count = if key.len() > 264 {
         33
     } else {
         (key.len() + 7) / 8
     };
-    let mut words = ArrayVec::new();
     for i in 0..count {
         words.push(word_from(key, 8 * i));
     }
-    words
 }
 
 /// How the key of the item at a place compares with a key whose words are at hand.
@@ -213,11 +221,11 @@ fn word_from(bytes: &[u8], from: usize) -> u64
 /// last.
 pub fn store_bytes<R: Room>(room: &mut R, page: u64, at: usize, bytes: &[u8])
     requires filled { R.standing room.old page ≡ Filled }
-    requires in_page { at + 41 ≤ 512 }
+    requires in_page { at + words_for (length bytes.now) ≤ 512 }
     requires fits { length bytes.now ≤ 328 }
     requires open { IsTrue (R.is_open (R.kept room.old)) }
     ensures bytes { bytes_at (R.words room.new page) at (length bytes.now) ≡ bytes.now }
-    ensures only { OnlyWrites R.kept R.standing R.words page at (at + 41) room.old room.new }
+    ensures only { OnlyWrites R.kept R.standing R.words page at (at + words_for (length bytes.now)) room.old room.new }
 {
     for i in 0..(bytes.len() + 7) / 8 {
         room.fill(page, at + i, word_from(bytes, 8 * i));
@@ -266,7 +274,8 @@ fn copy_item<R: Room>(room: &mut R, page: u64, at: usize, from: u64, place: usiz
     }
 }
 
-/// Writes the branch to another page at a place of a page that has a word filled.
+/// Writes the branch to another page at a place of a page that has a word filled. The whole words of its key are copied
+/// as words.
 fn store_branch<R: Room>(room: &mut R, page: u64, at: usize, child: u64)
     requires filled { R.standing room.old page ≡ Filled }
     requires in_page { at + 42 ≤ 512 }
@@ -279,10 +288,16 @@ fn store_branch<R: Room>(room: &mut R, page: u64, at: usize, child: u64)
     ensures only { OnlyWrites R.kept R.standing R.words page at (at + 42) room.old room.new }
 {
     let key_len = (room.word(child, 2) >> 32) as usize;
-    let mut bytes: ArrayVec<u8, 272> = load_bytes(room, child, 3, key_len);
-    extend(&mut bytes, &child.to_be_bytes());
     room.fill(page, at, ((key_len as u64) << 32) + 8);
-    store_bytes(room, page, at + 1, &bytes);
+    let whole = key_len / 8;
+    for i in 0..whole {
+        let word = room.word(child, 3 + i);
+        room.fill(page, at + 1 + i, word);
+    }
+    let mut rest: ArrayVec<u8, 16> = ArrayVec::new();
+    fill_bytes(room, child, 3 + whole, 0, key_len % 8, &mut rest);
+    extend(&mut rest, &child.to_be_bytes());
+    store_bytes(room, page, at + 1 + whole, &rest);
 }
 
 /// Writes the item of a slot at a place of a page that has a word filled.

@@ -7,7 +7,7 @@
 //!
 //! # Absent keys
 //! Nothing is written on the way down. A leaf without the key stops the removal, and nothing has changed.
-ghost use Rattle.std.specs.Prelude.{◌≡◌, ◌≢◌, ℕ, true, false, suc, ◌+◌, ◌-◌, ◌^◌, ◌<◌, ◌≤◌, [], ◌∷◌, ◌++◌, length, take, drop, All, IfOk, OnErr, IfErr, IsTrue, None, Ok};
+ghost use Rattle.std.specs.Prelude.{◌≡◌, ◌≢◌, ℕ, true, false, suc, ◌+◌, ◌-◌, ◌^◌, ◌<◌, ◌≤◌, [], ◌∷◌, ◌++◌, length, take, drop, All, IfOk, OnOk, OnErr, IfErr, IsTrue, None, Ok};
 ghost use Rattle.be_pages.specs.Pages.{IsUnchanged, is_readable, Swaps, KeepsStart};
 ghost use Rattle.be_pages.specs.Refusal.{IsFullOf};
 ghost use Rattle.be_tree.specs.Key.{IsPrepared, key_cmp, payload_at, without};
@@ -22,7 +22,7 @@ ghost use Rattle.be_tree.specs.Tree.{AreNeighbours, Becomes, BecomesTree, IsBelo
 use crate::edit::{pack_two, write_branch, write_root};
 use crate::item::Item;
 use crate::lookup::rank;
-use crate::page::{child_at, cmp_at, fill_slots, key_words};
+use crate::page::{child_at, cmp_at, fill_key_words, fill_slots};
 use crate::siblings::{append, count_of, slots_with, slots_with_one, spare_child, two_children};
 use crate::slot::Slot;
 use crate::stop::Stop;
@@ -46,14 +46,16 @@ pub fn remove<R: Room>(room: &mut R, root: u64, key: &[u8]) -> Result<u64, Refus
         return Ok(root);
     }
     let pair = Item::new(&[], &[]);
-    let words = key_words(key);
+    let mut words = ArrayVec::new();
+    fill_key_words(key, &mut words);
     let page = root - 1;
     let level = room.word(page, 0);
-    let slots = match remove_at(room, level, page, key, &words, &pair) {
-        Ok(slots) => slots,
+    let mut slots = ArrayVec::new();
+    match remove_at(room, level, page, key, &words, &pair, &mut slots) {
+        Ok(()) => {}
         Err(Stop::Absent) => return Ok(root),
         Err(Stop::Refused(refusal)) => return Err(refusal),
-    };
+    }
     let new = write_rest(room, level, &slots, &pair)?;
     room.give_up(page);
     Ok(new)
@@ -101,37 +103,38 @@ fn child_of<L: Look>(look: &mut L, slot: Slot, pair: &Item) -> u64
     }
 }
 
-/// The slots of a leaf's items but the one at a number, if that has the key.
+/// Puts the slots of a leaf's items but the one at a number into an empty list, if that one has the key.
 fn slots_without<L: Look>(
     look: &mut L,
     page: u64,
     at: usize,
     key: &[u8],
     words: &[u64],
-) -> Result<ArrayVec<Slot, 24>, Stop>
+    slots: &mut ArrayVec<Slot, 24>,
+) -> Result<(), Stop>
     requires readable { IsTrue (is_readable (L.standing look.old page)) }
     requires page { IsPage (L.words look.old page) }
     requires in_page { at < L.words look.old page 1 }
     requires prepared { IsPrepared words.now key.now }
-    ensures items { IfOk result (λ slots. (given : Pair) → pairs_of (L.words look.old) given slots.items
+    requires empty { slots.old.items ≡ [] }
+    ensures items { OnOk result ((given : Pair) → pairs_of (L.words look.old) given slots.new.items
         ≡ take at (items_of (L.words look.old page)) ++ (without key.now (item_at (L.words look.old page) (place_of at) ∷ []) ++ drop (suc at) (items_of (L.words look.old page)))) }
-    ensures ready { IfOk result (λ slots. All (IsReady (L.standing look.old) (L.words look.old)) slots.items) }
-    ensures some { IfOk result (λ slots. (L.words look.old page 1 ≤ length slots.items + 1) × (length slots.items ≤ 12)) }
-    ensures found { IfOk result (λ slots. is_eq (key_cmp (item_at (L.words look.old page) (place_of at)).key key.now) ≡ true) }
+    ensures ready { OnOk result (All (IsReady (L.standing look.old) (L.words look.old)) slots.new.items) }
+    ensures some { OnOk result ((L.words look.old page 1 ≤ length slots.new.items + 1) × (length slots.new.items ≤ 12)) }
+    ensures found { OnOk result (is_eq (key_cmp (item_at (L.words look.old page) (place_of at)).key key.now) ≡ true) }
     ensures absent { IfErr result (λ stop. (stop ≡ Absent) × (is_eq (key_cmp (item_at (L.words look.old page) (place_of at)).key key.now) ≡ false)) }
     ensures unchanged { IsUnchanged L.kept L.standing L.words look.old look.new }
 {
-    let mut slots = ArrayVec::new();
-    fill_slots(look, page, &mut slots);
+    fill_slots(look, page, slots);
     if !cmp_at(look, page, 2 + 42 * at, key, words).is_eq() {
         return Err(Stop::Absent);
     }
     slots.remove(at);
-    Ok(slots)
+    Ok(())
 }
 
-/// Takes a key out below a page, and gives the page's items without it, still to be written. The page is not given up
-/// yet, since some of them stand there.
+/// Takes a key out below a page, and puts the page's items without it, still to be written, into an empty list. The page
+/// is not given up yet, since some of them stand there.
 #[cycle(removal)]
 fn remove_at<R: Room>(
     room: &mut R,
@@ -140,36 +143,41 @@ fn remove_at<R: Room>(
     key: &[u8],
     words: &[u64],
     pair: &Item,
-) -> Result<ArrayVec<Slot, 24>, Stop>
+    slots: &mut ArrayVec<Slot, 24>,
+) -> Result<(), Stop>
     requires tree { IsTreeAt level (least_of_root level) (R.standing room.old) (R.words room.old) page }
     requires key_fits { length pair.now.key ≤ 264 }
     requires prepared { IsPrepared words.now key.now }
+    requires empty { slots.old.items ≡ [] }
     requires open { IsTrue (R.is_open (R.kept room.old)) }
-    ensures ok { IfOk result (λ slots. Becomes R.kept R.standing R.words (pages_below level (R.words room.old) (items_of (R.words room.old page))) (without key.now (pairs_at level (R.words room.old) page)) level (pairs_of (R.words room.new) pair.now slots.items) room.old room.new) }
-    ensures ready { IfOk result (λ slots. All (IsReady (R.standing room.new) (R.words room.new)) slots.items) }
-    ensures some { IfOk result (λ slots. (length (items_of (R.words room.old page)) ≤ length slots.items + 1) × (length slots.items ≤ 12)) }
+    ensures ok { OnOk result (Becomes R.kept R.standing R.words (pages_below level (R.words room.old) (items_of (R.words room.old page))) (without key.now (pairs_at level (R.words room.old) page)) level (pairs_of (R.words room.new) pair.now slots.new.items) room.old room.new) }
+    ensures ready { OnOk result (All (IsReady (R.standing room.new) (R.words room.new)) slots.new.items) }
+    ensures some { OnOk result ((length (items_of (R.words room.old page)) ≤ length slots.new.items + 1) × (length slots.new.items ≤ 12)) }
     ensures err { OnErr result (KeepsStart R.kept R.standing R.words room.old room.new) }
     ensures full { IfErr result (λ stop. IfRefused stop (IsFullOf (R.full room.new))) }
-    ensures found { IfOk result (λ slots. payload_at (pairs_at level (R.words room.old) page) key.now ≢ None) }
+    ensures found { OnOk result (payload_at (pairs_at level (R.words room.old) page) key.now ≢ None) }
     ensures stopped { IfErr result (λ stop. IfAbsent stop ((payload_at (pairs_at level (R.words room.old) page) key.now ≡ None) × IsUnchanged R.kept R.standing R.words room.old room.new) (payload_at (pairs_at level (R.words room.old) page) key.now ≢ None)) }
 {
     let at = rank(room, page, key, words).saturating_sub(1);
     if level == 0 {
-        let slots = slots_without(room, page, at, key, words)?;
-        return Ok(slots);
+        slots_without(room, page, at, key, words, slots)?;
+        return Ok(());
     }
     if let Some(below) = spare_child(room, level, page, at) {
         let slot = remove_alone(room, level - 1, below, key, words, pair)?;
-        return Ok(slots_with_one(room, page, at, slot));
+        slots_with_one(room, page, at, slot, slots);
+        return Ok(());
     }
     if at + 1 < count_of(room, page) {
         let (here, next) = two_children(room, level, page, at);
         let two = remove_left(room, level - 1, here, next, key, words, pair)?;
-        return Ok(slots_with(room, page, at, two));
+        slots_with(room, page, at, two, slots);
+        return Ok(());
     }
     let (before, here) = two_children(room, level, page, at - 1);
     let two = remove_right(room, level - 1, before, here, key, words, pair)?;
-    Ok(slots_with(room, page, at - 1, two))
+    slots_with(room, page, at - 1, two, slots);
+    Ok(())
 }
 
 /// Takes a key out below a page of more than six items, writes what is left of it alone, and gives the branch to it.
@@ -194,7 +202,8 @@ fn remove_alone<R: Room>(
     ensures found { IfOk result (λ slots. payload_at (pairs_at level (R.words room.old) below) key.now ≢ None) }
     ensures stopped { IfErr result (λ stop. IfAbsent stop ((payload_at (pairs_at level (R.words room.old) below) key.now ≡ None) × IsUnchanged R.kept R.standing R.words room.old room.new) (payload_at (pairs_at level (R.words room.old) below) key.now ≢ None)) }
 {
-    let slots = remove_at(room, level, below, key, words, pair)?;
+    let mut slots = ArrayVec::new();
+    remove_at(room, level, below, key, words, pair, &mut slots)?;
     let page = write_branch(room, level, &slots, pair)?;
     room.give_up(below);
     Ok(Slot::Branch(page as u32))
@@ -224,7 +233,8 @@ fn remove_left<R: Room>(
     ensures found { IfOk result (λ slots. payload_at (pairs_at level (R.words room.old) left) key.now ≢ None) }
     ensures stopped { IfErr result (λ stop. IfAbsent stop ((payload_at (pairs_at level (R.words room.old) left) key.now ≡ None) × IsUnchanged R.kept R.standing R.words room.old room.new) (payload_at (pairs_at level (R.words room.old) left) key.now ≢ None)) }
 {
-    let mut slots = remove_at(room, level, left, key, words, pair)?;
+    let mut slots = ArrayVec::new();
+    remove_at(room, level, left, key, words, pair, &mut slots)?;
     let mut others = ArrayVec::new();
     fill_slots(room, right, &mut others);
     append(&mut slots, &others);
@@ -256,7 +266,8 @@ fn remove_right<R: Room>(
     ensures found { IfOk result (λ slots. payload_at (pairs_at level (R.words room.old) right) key.now ≢ None) }
     ensures stopped { IfErr result (λ stop. IfAbsent stop ((payload_at (pairs_at level (R.words room.old) right) key.now ≡ None) × IsUnchanged R.kept R.standing R.words room.old room.new) (payload_at (pairs_at level (R.words room.old) right) key.now ≢ None)) }
 {
-    let less = remove_at(room, level, right, key, words, pair)?;
+    let mut less = ArrayVec::new();
+    remove_at(room, level, right, key, words, pair, &mut less)?;
     let mut slots = ArrayVec::new();
     fill_slots(room, left, &mut slots);
     append(&mut slots, &less);

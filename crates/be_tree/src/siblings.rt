@@ -1,5 +1,5 @@
 //! Two neighbours among the children of a node.
-ghost use Rattle.std.specs.Prelude.{◌≡◌, ℕ, suc, ◌+◌, ◌-◌, ◌<◌, ◌≤◌, ◌∷◌, ◌++◌, length, take, drop, All, IfSome, IsTrue};
+ghost use Rattle.std.specs.Prelude.{◌≡◌, ℕ, suc, ◌+◌, ◌-◌, ◌<◌, ◌≤◌, [], ◌∷◌, ◌++◌, length, take, drop, All, IfSome, IsTrue};
 ghost use Rattle.be_pages.specs.Pages.{IsUnchanged, is_readable};
 ghost use Rattle.be_tree.specs.Page.{IsPage, item_at, items_of, place_of};
 ghost use Rattle.be_tree.specs.Pair.{Pair};
@@ -71,51 +71,51 @@ pub(crate) fn sharing_children<L: Look>(
     Some((left, right))
 }
 
-/// The slots of a node's items, with others in the place of two neighbours.
+/// Puts the slots of a node's items, with others in the place of two neighbours, into an empty list.
 pub(crate) fn slots_with<L: Look>(
     look: &mut L,
     page: u64,
     at: usize,
     two: ArrayVec<Slot, 2>,
-) -> ArrayVec<Slot, 24>
+    slots: &mut ArrayVec<Slot, 24>,
+)
     requires readable { IsTrue (is_readable (L.standing look.old page)) }
     requires page { IsPage (L.words look.old page) }
     requires in_page { at + 2 ≤ L.words look.old page 1 }
     requires ready { All (IsReady (L.standing look.old) (L.words look.old)) two.items }
-    ensures items { (given : Pair) → pairs_of (L.words look.old) given result.items
+    requires empty { slots.old.items ≡ [] }
+    ensures items { (given : Pair) → pairs_of (L.words look.old) given slots.new.items
         ≡ take at (items_of (L.words look.old page)) ++ (pairs_of (L.words look.old) given two.items ++ drop (at + 2) (items_of (L.words look.old page))) }
-    ensures ready { All (IsReady (L.standing look.old) (L.words look.old)) result.items }
-    ensures len { length result.items + 2 ≡ L.words look.old page 1 + length two.items }
+    ensures ready { All (IsReady (L.standing look.old) (L.words look.old)) slots.new.items }
+    ensures len { length slots.new.items + 2 ≡ L.words look.old page 1 + length two.items }
     ensures unchanged { IsUnchanged L.kept L.standing L.words look.old look.new }
 {
-    let mut slots = ArrayVec::new();
-    fill_slots(look, page, &mut slots);
+    fill_slots(look, page, slots);
     slots.remove(at);
-    replace_at(&mut slots, at, two);
-    slots
+    replace_at(slots, at, two);
 }
 
-/// The slots of a node's items, with another in the place of one.
+/// Puts the slots of a node's items, with another in the place of one, into an empty list.
 pub(crate) fn slots_with_one<L: Look>(
     look: &mut L,
     page: u64,
     at: usize,
     slot: Slot,
-) -> ArrayVec<Slot, 24>
+    slots: &mut ArrayVec<Slot, 24>,
+)
     requires readable { IsTrue (is_readable (L.standing look.old page)) }
     requires page { IsPage (L.words look.old page) }
     requires in_page { at < L.words look.old page 1 }
     requires ready { IsReady (L.standing look.old) (L.words look.old) slot }
-    ensures items { (given : Pair) → pairs_of (L.words look.old) given result.items
+    requires empty { slots.old.items ≡ [] }
+    ensures items { (given : Pair) → pairs_of (L.words look.old) given slots.new.items
         ≡ take at (items_of (L.words look.old page)) ++ (pair_of (L.words look.old) given slot ∷ drop (suc at) (items_of (L.words look.old page))) }
-    ensures ready { All (IsReady (L.standing look.old) (L.words look.old)) result.items }
-    ensures len { length result.items ≡ L.words look.old page 1 }
+    ensures ready { All (IsReady (L.standing look.old) (L.words look.old)) slots.new.items }
+    ensures len { length slots.new.items ≡ L.words look.old page 1 }
     ensures unchanged { IsUnchanged L.kept L.standing L.words look.old look.new }
 {
-    let mut slots = ArrayVec::new();
-    fill_slots(look, page, &mut slots);
+    fill_slots(look, page, slots);
     slots[at] = slot;
-    slots
 }
 
 /// How many items a page has.

@@ -163,7 +163,7 @@ put_at-returns-in-Some-clause-ok g t c =
     let f = λ (xs ys : List Pair). xs ++ put pair ys in
     let us = pairs_of (g.R.Look.words mid) pair c.in_ok-two.two.items in
     let all = second_changed level (level - 1) 1 page (g.R.Look.standing old) words e c.requires.tree i lt at is (put pair (pairs_at level words page)) (put pair) one in
-    two_changed g.R.Look.kept g.R.Look.standing g.R.Look.words level (level - 1) 1 page i c.in-Some.left c.in-Some.right old c.rank.new.look c.sharing_children.new.look e c.requires.tree lt c.rank.ensures.unchanged c.sharing_children.ensures.unchanged c.in-Some.ensures.left c.in-Some.ensures.right f us mid c.in_ok-two.ensures.ok (put pair) (rising_put pair) all pair c.slots_with.result.items c.slots_with.new.look (c.slots_with.ensures.items pair) c.slots_with.ensures.unchanged
+    two_changed g.R.Look.kept g.R.Look.standing g.R.Look.words level (level - 1) 1 page i c.in-Some.left c.in-Some.right old c.rank.new.look c.sharing_children.new.look e c.requires.tree lt c.rank.ensures.unchanged c.sharing_children.ensures.unchanged c.in-Some.ensures.left c.in-Some.ensures.right f us mid c.in_ok-two.ensures.ok (put pair) (rising_put pair) all pair c.slots_with.new.slots.items c.slots_with.new.look (c.slots_with.ensures.items pair) c.slots_with.ensures.unchanged
 
 pub put_at-returns-in-Some-clause-some : goal.put_at-returns-in-Some-clause-some
 put_at-returns-in-Some-clause-some g t c =
@@ -257,7 +257,7 @@ put_shared-fill_slots-requires-clause-readable g t c =
     let level = c.args.level in
     let pair = c.args.pair.now in
     let all = put pair (pairs_at level words r) in
-    left_readable g.R.Look.kept g.R.Look.standing g.R.Look.words level c.args.left r old c.requires.neighbours all pair c.in_ok-more.more.items c.put_at.new.room c.in_ok-more.ensures.ok
+    left_readable g.R.Look.kept g.R.Look.standing g.R.Look.words level c.args.left r old c.requires.neighbours all pair c.put_at.new.slots.items c.put_at.new.room c.in_ok-put_at.ensures.ok
 
 pub put_shared-fill_slots-requires-clause-page : goal.put_shared-fill_slots-requires-clause-page
 put_shared-fill_slots-requires-clause-page g t c =
@@ -267,7 +267,7 @@ put_shared-fill_slots-requires-clause-page g t c =
     let level = c.args.level in
     let pair = c.args.pair.now in
     let all = put pair (pairs_at level words r) in
-    left_page g.R.Look.kept g.R.Look.standing g.R.Look.words level c.args.left r old c.requires.neighbours all pair c.in_ok-more.more.items c.put_at.new.room c.in_ok-more.ensures.ok
+    left_page g.R.Look.kept g.R.Look.standing g.R.Look.words level c.args.left r old c.requires.neighbours all pair c.put_at.new.slots.items c.put_at.new.room c.in_ok-put_at.ensures.ok
 
 pub put_shared-append-requires : goal.put_shared-append-requires
 put_shared-append-requires g t c =
@@ -279,9 +279,9 @@ put_shared-append-requires g t c =
     let pair = c.args.pair.now in
     let mid = c.put_at.new.room in
     let all = put pair (pairs_at level words r) in
-    let count = left_count g.R.Look.kept g.R.Look.standing g.R.Look.words level l r old c.requires.neighbours all pair c.in_ok-more.more.items mid c.in_ok-more.ensures.ok in
+    let count = left_count g.R.Look.kept g.R.Look.standing g.R.Look.words level l r old c.requires.neighbours all pair c.put_at.new.slots.items mid c.in_ok-put_at.ensures.ok in
     let len = ap length c.fill_slots.ensures.slots ∙ length-map-range_with_len (λ (j : ℕ). At l (place_of j)) 0 (g.R.Look.words mid l 1) in
-    omega (arith, len, count, c.requires.roomy, c.in_ok-more.ensures.some, ap length c.deref.ensures.0)
+    omega (arith, len, count, c.requires.roomy, c.in_ok-put_at.ensures.some, ap length c.deref.ensures.0)
 
 pub put_shared-pack_two-requires-clause-below : goal.put_shared-pack_two-requires-clause-below
 put_shared-pack_two-requires-clause-below g t c =
@@ -290,12 +290,12 @@ put_shared-pack_two-requires-clause-below g t c =
     let r = c.args.right in
     let level = c.args.level in
     let pair = c.args.pair.now in
-    let sub = c.in_ok-more.more.items in
+    let sub = c.put_at.new.slots.items in
     let all = put pair (pairs_at level words r) in
     let other = c.fill_slots.new.slots.items in
     let slots = c.deref-2.result.now in
     let e : slots ≡ other ++ sub = c.deref-2.ensures.0 ∙ c.append.ensures ∙ ap (λ (xs : List Slot). other ++ xs) c.deref.ensures.0 in
-    let joined = right_changed g.R.Look.kept g.R.Look.standing g.R.Look.words level c.args.left r old c.requires.neighbours all pair sub other slots c.put_at.new.room c.fill_slots.new.look c.fill_slots.ensures.unchanged c.in_ok-more.ensures.ok c.fill_slots.ensures.slots e c.requires.rising in
+    let joined = right_changed g.R.Look.kept g.R.Look.standing g.R.Look.words level c.args.left r old c.requires.neighbours all pair sub other slots c.put_at.new.room c.fill_slots.new.look c.fill_slots.ensures.unchanged c.in_ok-put_at.ensures.ok c.fill_slots.ensures.slots e c.requires.rising in
     joined.below
 
 pub put_shared-pack_two-requires-clause-ready : goal.put_shared-pack_two-requires-clause-ready
@@ -305,12 +305,12 @@ put_shared-pack_two-requires-clause-ready g t c =
     let r = c.args.right in
     let level = c.args.level in
     let pair = c.args.pair.now in
-    let sub = c.in_ok-more.more.items in
+    let sub = c.put_at.new.slots.items in
     let all = put pair (pairs_at level words r) in
     let other = c.fill_slots.new.slots.items in
     let slots = c.deref-2.result.now in
     let e : slots ≡ other ++ sub = c.deref-2.ensures.0 ∙ c.append.ensures ∙ ap (λ (xs : List Slot). other ++ xs) c.deref.ensures.0 in
-    right_in_hand g.R.Look.kept g.R.Look.standing g.R.Look.words level c.args.left r old c.requires.neighbours all pair sub other slots c.put_at.new.room c.fill_slots.new.look c.fill_slots.ensures.unchanged c.in_ok-more.ensures.ok c.fill_slots.ensures.slots e c.in_ok-more.ensures.ready
+    right_in_hand g.R.Look.kept g.R.Look.standing g.R.Look.words level c.args.left r old c.requires.neighbours all pair sub other slots c.put_at.new.room c.fill_slots.new.look c.fill_slots.ensures.unchanged c.in_ok-put_at.ensures.ok c.fill_slots.ensures.slots e c.in_ok-put_at.ensures.ready
 
 pub put_shared-pack_two-requires-clause-enough : goal.put_shared-pack_two-requires-clause-enough
 put_shared-pack_two-requires-clause-enough g t c =
@@ -321,13 +321,13 @@ put_shared-pack_two-requires-clause-enough g t c =
     let level = c.args.level in
     let pair = c.args.pair.now in
     let two = c.requires.neighbours in
-    let sub = c.in_ok-more.more.items in
+    let sub = c.put_at.new.slots.items in
     let all = put pair (pairs_at level words r) in
     let other = c.fill_slots.new.slots.items in
     let slots = c.deref-2.result.now in
     let e : slots ≡ other ++ sub = c.deref-2.ensures.0 ∙ c.append.ensures ∙ ap (λ (xs : List Slot). other ++ xs) c.deref.ensures.0 in
-    let len = right_length g.R.Look.kept g.R.Look.standing g.R.Look.words level l r old two all pair sub other slots c.put_at.new.room c.fill_slots.new.look c.fill_slots.ensures.unchanged c.in_ok-more.ensures.ok c.fill_slots.ensures.slots e in
-    omega (arith, len, c.in_ok-more.ensures.some, items_count (words l), two.left_tree.node.enough)
+    let len = right_length g.R.Look.kept g.R.Look.standing g.R.Look.words level l r old two all pair sub other slots c.put_at.new.room c.fill_slots.new.look c.fill_slots.ensures.unchanged c.in_ok-put_at.ensures.ok c.fill_slots.ensures.slots e in
+    omega (arith, len, c.in_ok-put_at.ensures.some, items_count (words l), two.left_tree.node.enough)
 
 pub put_shared-pack_two-requires-clause-few : goal.put_shared-pack_two-requires-clause-few
 put_shared-pack_two-requires-clause-few g t c =
@@ -336,13 +336,13 @@ put_shared-pack_two-requires-clause-few g t c =
     let r = c.args.right in
     let level = c.args.level in
     let pair = c.args.pair.now in
-    let sub = c.in_ok-more.more.items in
+    let sub = c.put_at.new.slots.items in
     let all = put pair (pairs_at level words r) in
     let other = c.fill_slots.new.slots.items in
     let slots = c.deref-2.result.now in
     let e : slots ≡ other ++ sub = c.deref-2.ensures.0 ∙ c.append.ensures ∙ ap (λ (xs : List Slot). other ++ xs) c.deref.ensures.0 in
-    let len = right_length g.R.Look.kept g.R.Look.standing g.R.Look.words level c.args.left r old c.requires.neighbours all pair sub other slots c.put_at.new.room c.fill_slots.new.look c.fill_slots.ensures.unchanged c.in_ok-more.ensures.ok c.fill_slots.ensures.slots e in
-    omega (arith, len, c.in_ok-more.ensures.some, c.requires.roomy)
+    let len = right_length g.R.Look.kept g.R.Look.standing g.R.Look.words level c.args.left r old c.requires.neighbours all pair sub other slots c.put_at.new.room c.fill_slots.new.look c.fill_slots.ensures.unchanged c.in_ok-put_at.ensures.ok c.fill_slots.ensures.slots e in
+    omega (arith, len, c.in_ok-put_at.ensures.some, c.requires.roomy)
 
 pub put_shared-pack_two-requires-clause-left_kept : goal.put_shared-pack_two-requires-clause-left_kept
 put_shared-pack_two-requires-clause-left_kept g t c =
@@ -351,12 +351,12 @@ put_shared-pack_two-requires-clause-left_kept g t c =
     let r = c.args.right in
     let level = c.args.level in
     let pair = c.args.pair.now in
-    let sub = c.in_ok-more.more.items in
+    let sub = c.put_at.new.slots.items in
     let all = put pair (pairs_at level words r) in
     let other = c.fill_slots.new.slots.items in
     let slots = c.deref-2.result.now in
     let e : slots ≡ other ++ sub = c.deref-2.ensures.0 ∙ c.append.ensures ∙ ap (λ (xs : List Slot). other ++ xs) c.deref.ensures.0 in
-    let joined = right_changed g.R.Look.kept g.R.Look.standing g.R.Look.words level c.args.left r old c.requires.neighbours all pair sub other slots c.put_at.new.room c.fill_slots.new.look c.fill_slots.ensures.unchanged c.in_ok-more.ensures.ok c.fill_slots.ensures.slots e c.requires.rising in
+    let joined = right_changed g.R.Look.kept g.R.Look.standing g.R.Look.words level c.args.left r old c.requires.neighbours all pair sub other slots c.put_at.new.room c.fill_slots.new.look c.fill_slots.ensures.unchanged c.in_ok-put_at.ensures.ok c.fill_slots.ensures.slots e c.requires.rising in
     joined.left_is_kept
 
 pub put_shared-pack_two-requires-clause-right_kept : goal.put_shared-pack_two-requires-clause-right_kept
@@ -366,12 +366,12 @@ put_shared-pack_two-requires-clause-right_kept g t c =
     let r = c.args.right in
     let level = c.args.level in
     let pair = c.args.pair.now in
-    let sub = c.in_ok-more.more.items in
+    let sub = c.put_at.new.slots.items in
     let all = put pair (pairs_at level words r) in
     let other = c.fill_slots.new.slots.items in
     let slots = c.deref-2.result.now in
     let e : slots ≡ other ++ sub = c.deref-2.ensures.0 ∙ c.append.ensures ∙ ap (λ (xs : List Slot). other ++ xs) c.deref.ensures.0 in
-    let joined = right_changed g.R.Look.kept g.R.Look.standing g.R.Look.words level c.args.left r old c.requires.neighbours all pair sub other slots c.put_at.new.room c.fill_slots.new.look c.fill_slots.ensures.unchanged c.in_ok-more.ensures.ok c.fill_slots.ensures.slots e c.requires.rising in
+    let joined = right_changed g.R.Look.kept g.R.Look.standing g.R.Look.words level c.args.left r old c.requires.neighbours all pair sub other slots c.put_at.new.room c.fill_slots.new.look c.fill_slots.ensures.unchanged c.in_ok-put_at.ensures.ok c.fill_slots.ensures.slots e c.requires.rising in
     joined.right_is_kept
 
 pub put_shared-pack_two-requires-clause-left_apart : goal.put_shared-pack_two-requires-clause-left_apart
@@ -381,12 +381,12 @@ put_shared-pack_two-requires-clause-left_apart g t c =
     let r = c.args.right in
     let level = c.args.level in
     let pair = c.args.pair.now in
-    let sub = c.in_ok-more.more.items in
+    let sub = c.put_at.new.slots.items in
     let all = put pair (pairs_at level words r) in
     let other = c.fill_slots.new.slots.items in
     let slots = c.deref-2.result.now in
     let e : slots ≡ other ++ sub = c.deref-2.ensures.0 ∙ c.append.ensures ∙ ap (λ (xs : List Slot). other ++ xs) c.deref.ensures.0 in
-    let joined = right_changed g.R.Look.kept g.R.Look.standing g.R.Look.words level c.args.left r old c.requires.neighbours all pair sub other slots c.put_at.new.room c.fill_slots.new.look c.fill_slots.ensures.unchanged c.in_ok-more.ensures.ok c.fill_slots.ensures.slots e c.requires.rising in
+    let joined = right_changed g.R.Look.kept g.R.Look.standing g.R.Look.words level c.args.left r old c.requires.neighbours all pair sub other slots c.put_at.new.room c.fill_slots.new.look c.fill_slots.ensures.unchanged c.in_ok-put_at.ensures.ok c.fill_slots.ensures.slots e c.requires.rising in
     joined.left_beside
 
 pub put_shared-pack_two-requires-clause-right_apart : goal.put_shared-pack_two-requires-clause-right_apart
@@ -396,12 +396,12 @@ put_shared-pack_two-requires-clause-right_apart g t c =
     let r = c.args.right in
     let level = c.args.level in
     let pair = c.args.pair.now in
-    let sub = c.in_ok-more.more.items in
+    let sub = c.put_at.new.slots.items in
     let all = put pair (pairs_at level words r) in
     let other = c.fill_slots.new.slots.items in
     let slots = c.deref-2.result.now in
     let e : slots ≡ other ++ sub = c.deref-2.ensures.0 ∙ c.append.ensures ∙ ap (λ (xs : List Slot). other ++ xs) c.deref.ensures.0 in
-    let joined = right_changed g.R.Look.kept g.R.Look.standing g.R.Look.words level c.args.left r old c.requires.neighbours all pair sub other slots c.put_at.new.room c.fill_slots.new.look c.fill_slots.ensures.unchanged c.in_ok-more.ensures.ok c.fill_slots.ensures.slots e c.requires.rising in
+    let joined = right_changed g.R.Look.kept g.R.Look.standing g.R.Look.words level c.args.left r old c.requires.neighbours all pair sub other slots c.put_at.new.room c.fill_slots.new.look c.fill_slots.ensures.unchanged c.in_ok-put_at.ensures.ok c.fill_slots.ensures.slots e c.requires.rising in
     joined.right_beside
 
 pub put_shared-pack_two-requires-clause-different : goal.put_shared-pack_two-requires-clause-different
@@ -415,13 +415,13 @@ put_shared-returns-in_err-branches-clause-err g t c =
     let r = c.args.right in
     let level = c.args.level in
     let pair = c.args.pair.now in
-    let sub = c.in_ok-more.more.items in
+    let sub = c.put_at.new.slots.items in
     let all = put pair (pairs_at level words r) in
     let read = c.fill_slots.new.look in
     let other = c.fill_slots.new.slots.items in
     let slots = c.deref-2.result.now in
     let e : slots ≡ other ++ sub = c.deref-2.ensures.0 ∙ c.append.ensures ∙ ap (λ (xs : List Slot). other ++ xs) c.deref.ensures.0 in
-    let joined = right_changed g.R.Look.kept g.R.Look.standing g.R.Look.words level c.args.left r old c.requires.neighbours all pair sub other slots c.put_at.new.room read c.fill_slots.ensures.unchanged c.in_ok-more.ensures.ok c.fill_slots.ensures.slots e c.requires.rising in
+    let joined = right_changed g.R.Look.kept g.R.Look.standing g.R.Look.words level c.args.left r old c.requires.neighbours all pair sub other slots c.put_at.new.room read c.fill_slots.ensures.unchanged c.in_ok-put_at.ensures.ok c.fill_slots.ensures.slots e c.requires.rising in
     on_err _ (start_trans g.R.Look.kept g.R.Look.standing g.R.Look.words old read c.pack_two.new.room joined.start c.in_err-branches.ensures.err)
 
 pub put_shared-returns-clause-ok : goal.put_shared-returns-clause-ok
@@ -431,12 +431,12 @@ put_shared-returns-clause-ok g t c =
     let r = c.args.right in
     let level = c.args.level in
     let pair = c.args.pair.now in
-    let sub = c.in_ok-more.more.items in
+    let sub = c.put_at.new.slots.items in
     let all = put pair (pairs_at level words r) in
     let other = c.fill_slots.new.slots.items in
     let slots = c.deref-2.result.now in
     let e : slots ≡ other ++ sub = c.deref-2.ensures.0 ∙ c.append.ensures ∙ ap (λ (xs : List Slot). other ++ xs) c.deref.ensures.0 in
-    let joined = right_changed g.R.Look.kept g.R.Look.standing g.R.Look.words level c.args.left r old c.requires.neighbours all pair sub other slots c.put_at.new.room c.fill_slots.new.look c.fill_slots.ensures.unchanged c.in_ok-more.ensures.ok c.fill_slots.ensures.slots e c.requires.rising in
+    let joined = right_changed g.R.Look.kept g.R.Look.standing g.R.Look.words level c.args.left r old c.requires.neighbours all pair sub other slots c.put_at.new.room c.fill_slots.new.look c.fill_slots.ensures.unchanged c.in_ok-put_at.ensures.ok c.fill_slots.ensures.slots e c.requires.rising in
     joined.written (pairs_of (g.R.Look.words c.pack_two.new.room) pair c.in_ok-branches.branches.items) c.pack_two.new.room c.in_ok-branches.ensures.ok
 
 pub put_shared-returns-clause-two : goal.put_shared-returns-clause-two
@@ -448,13 +448,13 @@ put_shared-returns-clause-two g t c =
     let level = c.args.level in
     let pair = c.args.pair.now in
     let two = c.requires.neighbours in
-    let sub = c.in_ok-more.more.items in
+    let sub = c.put_at.new.slots.items in
     let all = put pair (pairs_at level words r) in
     let other = c.fill_slots.new.slots.items in
     let slots = c.deref-2.result.now in
     let e : slots ≡ other ++ sub = c.deref-2.ensures.0 ∙ c.append.ensures ∙ ap (λ (xs : List Slot). other ++ xs) c.deref.ensures.0 in
-    let len = right_length g.R.Look.kept g.R.Look.standing g.R.Look.words level l r old two all pair sub other slots c.put_at.new.room c.fill_slots.new.look c.fill_slots.ensures.unchanged c.in_ok-more.ensures.ok c.fill_slots.ensures.slots e in
-    c.in_ok-branches.ensures.two (omega (arith, len, c.in_ok-more.ensures.some, c.requires.crowded, items_count (words l), items_count (words r), two.left_tree.node.enough))
+    let len = right_length g.R.Look.kept g.R.Look.standing g.R.Look.words level l r old two all pair sub other slots c.put_at.new.room c.fill_slots.new.look c.fill_slots.ensures.unchanged c.in_ok-put_at.ensures.ok c.fill_slots.ensures.slots e in
+    c.in_ok-branches.ensures.two (omega (arith, len, c.in_ok-put_at.ensures.some, c.requires.crowded, items_count (words l), items_count (words r), two.left_tree.node.enough))
 
 pub put_below-returns-then-level-eq0-clause-ok : goal.put_below-returns-then-level-eq0-clause-ok
 put_below-returns-then-level-eq0-clause-ok g t c =
@@ -478,7 +478,7 @@ put_below-put_at-requires g t c κs within =
         within,
         (
           tree_weaker (c.args.level - 1) 6 (g.R.Look.standing read) (g.R.Look.words read) c.child_at-child.result (omega arith) child_tree,
-          (c.requires.key_fits, (c.requires.prepared, subst (λ k. IsTrue (g.R.Look.is_open k)) (sym c.child_at-child.ensures.unchanged.kept) c.requires.open)),
+          (c.requires.key_fits, (c.requires.prepared, (c.new-slots.ensures, subst (λ k. IsTrue (g.R.Look.is_open k)) (sym c.child_at-child.ensures.unchanged.kept) c.requires.open))),
         ),
       ),
     )
@@ -488,12 +488,12 @@ put_below-pack-requires-clause-enough g t c =
     let e : c.args.level ≡ suc (c.args.level - 1) = omega (arith, c.if-level-eq0.false) in
     let item = item_at (g.R.Look.words c.args.room.now c.args.page) c.args.place in
     let child_tree = child_read g.R.Look.kept g.R.Look.standing g.R.Look.words c.args.level (c.args.level - 1) item c.child_at-child.result c.args.room.now c.child_at-child.new.look e c.requires.below c.child_at-child.ensures.child c.child_at-child.ensures.unchanged in
-    omega (arith, child_tree.node.enough, c.in_ok-slots.ensures.some, ap length c.deref.ensures.0)
+    omega (arith, child_tree.node.enough, c.in_ok-put_at.ensures.some, ap length c.deref.ensures.0)
 
 pub put_below-returns-in_err-branches-clause-err : goal.put_below-returns-in_err-branches-clause-err
 put_below-returns-in_err-branches-clause-err g t c =
     let read = c.child_at-child.new.look in
-    let first = swaps_start g.R.Look.kept g.R.Look.standing g.R.Look.words (pages_below (c.args.level - 1) (g.R.Look.words read) (items_of (g.R.Look.words read c.child_at-child.result))) (pages_below (c.args.level - 1) (g.R.Look.words c.put_at.new.room) (pairs_of (g.R.Look.words c.put_at.new.room) c.args.pair.now c.in_ok-slots.slots.items)) read c.put_at.new.room c.in_ok-slots.ensures.ok.swaps in
+    let first = swaps_start g.R.Look.kept g.R.Look.standing g.R.Look.words (pages_below (c.args.level - 1) (g.R.Look.words read) (items_of (g.R.Look.words read c.child_at-child.result))) (pages_below (c.args.level - 1) (g.R.Look.words c.put_at.new.room) (pairs_of (g.R.Look.words c.put_at.new.room) c.args.pair.now c.put_at.new.slots.items)) read c.put_at.new.room c.in_ok-put_at.ensures.ok.swaps in
     on_err _ (start_trans g.R.Look.kept g.R.Look.standing g.R.Look.words c.args.room.now read c.pack.new.room (unchanged_start g.R.Look.kept g.R.Look.standing g.R.Look.words c.args.room.now read c.child_at-child.ensures.unchanged)
     (start_trans g.R.Look.kept g.R.Look.standing g.R.Look.words read c.put_at.new.room c.pack.new.room first c.in_err-branches.ensures.err))
 
@@ -507,7 +507,7 @@ put_below-give_up-requires-clause-held g t c =
     (pairs_below (c.args.level - 1) (g.R.Look.words c.put_at.new.room) (pairs_of (g.R.Look.words c.put_at.new.room) c.args.pair.now xs)) (suc (c.args.level - 1)) (pairs_of (g.R.Look.words c.pack.new.room) c.args.pair.now c.in_ok-branches.branches.items) c.put_at.new.room c.pack.new.room)
     c.deref.ensures.0 c.in_ok-branches.ensures.ok in
     let both = becomes_trans g.R.Look.kept g.R.Look.standing g.R.Look.words (pages_below (c.args.level - 1) (g.R.Look.words read) (items_of (g.R.Look.words read c.child_at-child.result))) (put c.args.pair.now (pairs_at (c.args.level - 1) (g.R.Look.words read) c.child_at-child.result)) (c.args.level - 1) (suc (c.args.level - 1))
-    (pairs_of (g.R.Look.words c.put_at.new.room) c.args.pair.now c.in_ok-slots.slots.items) (pairs_of (g.R.Look.words c.pack.new.room) c.args.pair.now c.in_ok-branches.branches.items) read c.put_at.new.room c.pack.new.room c.in_ok-slots.ensures.ok packed in
+    (pairs_of (g.R.Look.words c.put_at.new.room) c.args.pair.now c.put_at.new.slots.items) (pairs_of (g.R.Look.words c.pack.new.room) c.args.pair.now c.in_ok-branches.branches.items) read c.put_at.new.room c.pack.new.room c.in_ok-put_at.ensures.ok packed in
     held_after g.R.Look.kept g.R.Look.standing g.R.Look.words (pages_below (c.args.level - 1) (g.R.Look.words read) (items_of (g.R.Look.words read c.child_at-child.result))) (pages_below (suc (c.args.level - 1)) (g.R.Look.words c.pack.new.room) (pairs_of (g.R.Look.words c.pack.new.room) c.args.pair.now c.in_ok-branches.branches.items))
     c.child_at-child.result read c.pack.new.room both.swaps child_tree.page_once child_tree.page_in_use
 
@@ -521,8 +521,8 @@ put_below-returns-clause-ok g t c =
     (pairs_below (c.args.level - 1) (g.R.Look.words c.put_at.new.room) (pairs_of (g.R.Look.words c.put_at.new.room) c.args.pair.now xs)) (suc (c.args.level - 1)) (pairs_of (g.R.Look.words c.pack.new.room) c.args.pair.now c.in_ok-branches.branches.items) c.put_at.new.room c.pack.new.room)
     c.deref.ensures.0 c.in_ok-branches.ensures.ok in
     let branches = pairs_of (g.R.Look.words c.pack.new.room) c.args.pair.now c.in_ok-branches.branches.items in
-    let given = becomes_below g.R.Look.kept g.R.Look.standing g.R.Look.words c.args.level (c.args.level - 1) c.child_at-child.result item c.args.pair.now (pairs_of (g.R.Look.words c.put_at.new.room) c.args.pair.now c.in_ok-slots.slots.items) (pairs_of (g.R.Look.words c.put_at.new.room) c.args.pair.now c.in_ok-slots.slots.items) branches
-    read c.put_at.new.room c.pack.new.room c.give_up.new.self e c.child_at-child.ensures.child refl child_tree c.in_ok-slots.ensures.ok packed c.give_up.ensures.kept c.give_up.ensures.words c.give_up.ensures.standing in
+    let given = becomes_below g.R.Look.kept g.R.Look.standing g.R.Look.words c.args.level (c.args.level - 1) c.child_at-child.result item c.args.pair.now (pairs_of (g.R.Look.words c.put_at.new.room) c.args.pair.now c.put_at.new.slots.items) (pairs_of (g.R.Look.words c.put_at.new.room) c.args.pair.now c.put_at.new.slots.items) branches
+    read c.put_at.new.room c.pack.new.room c.give_up.new.self e c.child_at-child.ensures.child refl child_tree c.in_ok-put_at.ensures.ok packed c.give_up.ensures.kept c.give_up.ensures.words c.give_up.ensures.standing in
     let since = becomes_since g.R.Look.kept g.R.Look.standing g.R.Look.words (pages_below c.args.level (g.R.Look.words read) (item ∷ [])) (put c.args.pair.now (pairs_below c.args.level (g.R.Look.words read) (item ∷ []))) c.args.level branches c.args.room.now read c.give_up.new.self c.child_at-child.ensures.unchanged given in
     subst (λ (w : ℕ → ℕ → ℕ). Becomes g.R.Look.kept g.R.Look.standing g.R.Look.words (pages_below c.args.level w (item ∷ [])) (put c.args.pair.now (pairs_below c.args.level w (item ∷ []))) c.args.level (pairs_of (g.R.Look.words c.give_up.new.self) c.args.pair.now c.in_ok-branches.branches.items) c.args.room.now c.give_up.new.self) c.child_at-child.ensures.unchanged.words
     (subst (λ (w : ℕ → ℕ → ℕ). Becomes g.R.Look.kept g.R.Look.standing g.R.Look.words (pages_below c.args.level (g.R.Look.words read) (item ∷ [])) (put c.args.pair.now (pairs_below c.args.level (g.R.Look.words read) (item ∷ []))) c.args.level (pairs_of w c.args.pair.now c.in_ok-branches.branches.items) c.args.room.now c.give_up.new.self) (sym c.give_up.ensures.words) since)
@@ -537,8 +537,8 @@ put_below-returns-clause-ready g t c =
     (pairs_below (c.args.level - 1) (g.R.Look.words c.put_at.new.room) (pairs_of (g.R.Look.words c.put_at.new.room) c.args.pair.now xs)) (suc (c.args.level - 1)) (pairs_of (g.R.Look.words c.pack.new.room) c.args.pair.now c.in_ok-branches.branches.items) c.put_at.new.room c.pack.new.room)
     c.deref.ensures.0 c.in_ok-branches.ensures.ok in
     let branches = pairs_of (g.R.Look.words c.pack.new.room) c.args.pair.now c.in_ok-branches.branches.items in
-    let given = becomes_below g.R.Look.kept g.R.Look.standing g.R.Look.words c.args.level (c.args.level - 1) c.child_at-child.result item c.args.pair.now (pairs_of (g.R.Look.words c.put_at.new.room) c.args.pair.now c.in_ok-slots.slots.items) (pairs_of (g.R.Look.words c.put_at.new.room) c.args.pair.now c.in_ok-slots.slots.items) branches
-    read c.put_at.new.room c.pack.new.room c.give_up.new.self e c.child_at-child.ensures.child refl child_tree c.in_ok-slots.ensures.ok packed c.give_up.ensures.kept c.give_up.ensures.words c.give_up.ensures.standing in
+    let given = becomes_below g.R.Look.kept g.R.Look.standing g.R.Look.words c.args.level (c.args.level - 1) c.child_at-child.result item c.args.pair.now (pairs_of (g.R.Look.words c.put_at.new.room) c.args.pair.now c.put_at.new.slots.items) (pairs_of (g.R.Look.words c.put_at.new.room) c.args.pair.now c.put_at.new.slots.items) branches
+    read c.put_at.new.room c.pack.new.room c.give_up.new.self e c.child_at-child.ensures.child refl child_tree c.in_ok-put_at.ensures.ok packed c.give_up.ensures.kept c.give_up.ensures.words c.give_up.ensures.standing in
     let below = subst (λ (w : ℕ → ℕ → ℕ). IsBelow c.args.level (g.R.Look.standing c.give_up.new.self) (g.R.Look.words c.give_up.new.self) (pairs_of w c.args.pair.now c.in_ok-branches.branches.items)) (sym c.give_up.ensures.words) given.below in
     branches_ready (c.args.level - 1) (g.R.Look.standing c.give_up.new.self) (g.R.Look.words c.give_up.new.self) c.args.pair.now c.in_ok-branches.branches.items c.in_ok-branches.ensures.branches
     (subst (λ (n : ℕ). IsBelow n (g.R.Look.standing c.give_up.new.self) (g.R.Look.words c.give_up.new.self) (pairs_of (g.R.Look.words c.give_up.new.self) c.args.pair.now c.in_ok-branches.branches.items)) e below)

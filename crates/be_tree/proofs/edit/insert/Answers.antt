@@ -37,7 +37,7 @@ returns-in_err-new-clause-err g c =
     let same : IsUnchanged g.R.Look.kept g.R.Look.standing g.R.Look.words c.args.room.now c.word-level.new.self = record { kept = c.word-level.ensures.kept; standing = c.word-level.ensures.standing; words = c.word-level.ensures.words } in
     on_err _ (start_trans g.R.Look.kept g.R.Look.standing g.R.Look.words c.args.room.now c.word-level.new.self c.write_root-2.new.room (unchanged_start g.R.Look.kept g.R.Look.standing g.R.Look.words c.args.room.now c.word-level.new.self same)
     (start_trans g.R.Look.kept g.R.Look.standing g.R.Look.words c.word-level.new.self c.put_at.new.room c.write_root-2.new.room
-    (swaps_start g.R.Look.kept g.R.Look.standing g.R.Look.words (pages_below c.word-level.result (g.R.Look.words c.word-level.new.self) (items_of (g.R.Look.words c.word-level.new.self (c.args.root - 1)))) (pages_below c.word-level.result (g.R.Look.words c.put_at.new.room) (pairs_of (g.R.Look.words c.put_at.new.room) c.new-pair.result c.in_ok-slots.slots.items)) c.word-level.new.self c.put_at.new.room c.in_ok-slots.ensures.ok.swaps)
+    (swaps_start g.R.Look.kept g.R.Look.standing g.R.Look.words (pages_below c.word-level.result (g.R.Look.words c.word-level.new.self) (items_of (g.R.Look.words c.word-level.new.self (c.args.root - 1)))) (pages_below c.word-level.result (g.R.Look.words c.put_at.new.room) (pairs_of (g.R.Look.words c.put_at.new.room) c.new-pair.result c.put_at.new.slots.items)) c.word-level.new.self c.put_at.new.room c.in_ok-put_at.ensures.ok.swaps)
     c.in_err-new.ensures.err))
 
 pub give_up-requires-clause-held : goal.give_up-requires-clause-held
@@ -46,15 +46,15 @@ give_up-requires-clause-held g c =
     let w = subst (λ (xs : List Slot). BecomesTree g.R.Look.kept g.R.Look.standing g.R.Look.words (pages_below c.word-level.result (g.R.Look.words c.put_at.new.room) (pairs_of (g.R.Look.words c.put_at.new.room) c.new-pair.result xs))
     (pairs_below c.word-level.result (g.R.Look.words c.put_at.new.room) (pairs_of (g.R.Look.words c.put_at.new.room) c.new-pair.result xs)) c.in_ok-new.new c.put_at.new.room c.write_root-2.new.room) c.deref-2.ensures.0 c.in_ok-new.ensures.ok in
     let read = g.R.Look.words c.word-level.new.self in
-    let mid = pairs_of (g.R.Look.words c.put_at.new.room) c.new-pair.result c.in_ok-slots.slots.items in
-    let both = becomes_tree g.R.Look.kept g.R.Look.standing g.R.Look.words (pages_below c.word-level.result read (items_of (read (c.args.root - 1)))) (put c.new-pair.result (pairs_at c.word-level.result read (c.args.root - 1))) c.word-level.result mid c.in_ok-new.new c.word-level.new.self c.put_at.new.room c.write_root-2.new.room c.in_ok-slots.ensures.ok w in
+    let mid = pairs_of (g.R.Look.words c.put_at.new.room) c.new-pair.result c.put_at.new.slots.items in
+    let both = becomes_tree g.R.Look.kept g.R.Look.standing g.R.Look.words (pages_below c.word-level.result read (items_of (read (c.args.root - 1)))) (put c.new-pair.result (pairs_at c.word-level.result read (c.args.root - 1))) c.word-level.result mid c.in_ok-new.new c.word-level.new.self c.put_at.new.room c.write_root-2.new.room c.in_ok-put_at.ensures.ok w in
     held_after g.R.Look.kept g.R.Look.standing g.R.Look.words (pages_below c.word-level.result read (items_of (read (c.args.root - 1)))) (pages (g.R.Look.words c.write_root-2.new.room) c.in_ok-new.new) (c.args.root - 1) c.word-level.new.self c.write_root-2.new.room both.swaps tree.page_once tree.page_in_use
 
 pub returns-clause-ok : goal.returns-clause-ok
 returns-clause-ok g c =
     let same : IsUnchanged g.R.Look.kept g.R.Look.standing g.R.Look.words c.args.room.now c.word-level.new.self = record { kept = c.word-level.ensures.kept; standing = c.word-level.ensures.standing; words = c.word-level.ensures.words } in
-    tree_put g.R.Look.kept g.R.Look.standing g.R.Look.words c.args.root (c.args.root - 1) c.word-level.result 1 c.in_ok-new.new c.new-pair.result (record { key = c.args.key.now; payload = c.args.payload.now }) (pairs_of (g.R.Look.words c.put_at.new.room) c.new-pair.result c.in_ok-slots.slots.items)
+    tree_put g.R.Look.kept g.R.Look.standing g.R.Look.words c.args.root (c.args.root - 1) c.word-level.result 1 c.in_ok-new.new c.new-pair.result (record { key = c.args.key.now; payload = c.args.payload.now }) (pairs_of (g.R.Look.words c.put_at.new.room) c.new-pair.result c.put_at.new.slots.items)
     c.args.room.now c.word-level.new.self c.put_at.new.room c.write_root-2.new.room c.give_up.new.self
     (omega (arith, c.if-root-eq0.false)) c.word-level.ensures.value same (same_pair c.new-pair.result c.args.key.now c.args.payload.now c.new-pair.ensures.key c.new-pair.ensures.payload)
-    (root_page g (goal.at.returns-clause-ok g c).After-word-level) c.in_ok-slots.ensures.ok (subst (λ (xs : List Slot). BecomesTree g.R.Look.kept g.R.Look.standing g.R.Look.words (pages_below c.word-level.result (g.R.Look.words c.put_at.new.room) (pairs_of (g.R.Look.words c.put_at.new.room) c.new-pair.result xs))
+    (root_page g (goal.at.returns-clause-ok g c).After-word-level) c.in_ok-put_at.ensures.ok (subst (λ (xs : List Slot). BecomesTree g.R.Look.kept g.R.Look.standing g.R.Look.words (pages_below c.word-level.result (g.R.Look.words c.put_at.new.room) (pairs_of (g.R.Look.words c.put_at.new.room) c.new-pair.result xs))
     (pairs_below c.word-level.result (g.R.Look.words c.put_at.new.room) (pairs_of (g.R.Look.words c.put_at.new.room) c.new-pair.result xs)) c.in_ok-new.new c.put_at.new.room c.write_root-2.new.room) c.deref-2.ensures.0 c.in_ok-new.ensures.ok) c.give_up.ensures.kept c.give_up.ensures.words c.give_up.ensures.standing

@@ -40,9 +40,9 @@ remove_at-returns-then-level-eq0-clause-ok g t c =
     let pair = c.args.pair.now in
     let at = c.saturating_sub-at.result in
     let same1 = c.rank.ensures.unchanged in
-    let slots = c.in_ok-slots.slots.items in
+    let slots = c.slots_without.new.slots.items in
     let final = c.slots_without.new.look in
-    let is = subst (λ (w : ℕ → ℕ → ℕ). pairs_of w pair slots ≡ take at (items_of (w page)) ++ (without k (item_at (w page) (place_of at) ∷ []) ++ drop (suc at) (items_of (w page)))) same1.words (c.in_ok-slots.ensures.items pair) in
+    let is = subst (λ (w : ℕ → ℕ → ℕ). pairs_of w pair slots ≡ take at (items_of (w page)) ++ (without k (item_at (w page) (place_of at) ∷ []) ++ drop (suc at) (items_of (w page)))) same1.words (c.in_ok-slots_without.ensures.items pair) in
     slots_until g.R.Look.kept g.R.Look.standing g.R.Look.words (pages_below level words (items_of (words page))) (without k (pairs_at level words page)) level pair slots old old final (unchanged_trans g.R.Look.kept g.R.Look.standing g.R.Look.words old c.rank.new.look final same1 c.slots_without.ensures.unchanged)
     (leaf_removed g.R.Look.kept g.R.Look.standing g.R.Look.words level page k c.rank.result at old c.requires.tree c.rank.ensures.rank c.saturating_sub-at.ensures c.if-level-eq0.true (pairs_of words pair slots) is)
 
@@ -51,7 +51,7 @@ remove_at-returns-then-level-eq0-clause-some g t c =
     let words = g.R.Look.words c.args.room.now in
     let page = c.args.page in
     let count = ap (λ (w : ℕ → ℕ → ℕ). w page 1) c.rank.ensures.unchanged.words in
-    (omega (arith, c.in_ok-slots.ensures.some, count, items_count (words page)), c.in_ok-slots.ensures.some.1)
+    (omega (arith, c.in_ok-slots_without.ensures.some, count, items_count (words page)), c.in_ok-slots_without.ensures.some.1)
 
 -- the place of the child, and the node around it, once the child has lost the key
 alone_place : (g : Over) (t : ℕ) (c : remove_at-After-slots_with_one-arg-1 g t) → c.saturating_sub-at.result < g.R.Look.words c.args.room.now c.args.page 1
@@ -146,7 +146,7 @@ pub remove_at-returns-then-at-count_of-clause-ok : goal.remove_at-returns-then-a
 remove_at-returns-then-at-count_of-clause-ok g t c =
     let k = c.args.key.now in
     let here = (goal.at.remove_at-returns-then-at-count_of-clause-ok g t c).After-slots_with-arg-1 in
-    (next_around g t here).changed (without k) (rising_without k) (next_without g t here) c.args.pair.now c.slots_with.result.items c.slots_with.new.look (c.slots_with.ensures.items c.args.pair.now) c.slots_with.ensures.unchanged
+    (next_around g t here).changed (without k) (rising_without k) (next_without g t here) c.args.pair.now c.slots_with.new.slots.items c.slots_with.new.look (c.slots_with.ensures.items c.args.pair.now) c.slots_with.ensures.unchanged
 
 pub remove_at-returns-then-at-count_of-clause-some : goal.remove_at-returns-then-at-count_of-clause-some
 remove_at-returns-then-at-count_of-clause-some g t c =
@@ -216,7 +216,7 @@ pub remove_at-returns-clause-ok : goal.remove_at-returns-clause-ok
 remove_at-returns-clause-ok g t c =
     let k = c.args.key.now in
     let here = (goal.at.remove_at-returns-clause-ok g t c).After-slots_with-arg-2-1 in
-    (before_around g t here).changed (without k) (rising_without k) (before_without g t here) c.args.pair.now c.slots_with-2.result.items c.slots_with-2.new.look (c.slots_with-2.ensures.items c.args.pair.now) c.slots_with-2.ensures.unchanged
+    (before_around g t here).changed (without k) (rising_without k) (before_without g t here) c.args.pair.now c.slots_with-2.new.slots.items c.slots_with-2.new.look (c.slots_with-2.ensures.items c.args.pair.now) c.slots_with-2.ensures.unchanged
 
 pub remove_at-returns-clause-some : goal.remove_at-returns-clause-some
 remove_at-returns-clause-some g t c =
@@ -245,7 +245,7 @@ pub remove_at-returns-in-Some-clause-ok : goal.remove_at-returns-in-Some-clause-
 remove_at-returns-in-Some-clause-ok g t c =
     let k = c.args.key.now in
     let here = (goal.at.remove_at-returns-in-Some-clause-ok g t c).After-slots_with_one-arg-1 in
-    (alone_around g t here).changed (without k) (rising_without k) (alone_without g t here) c.args.pair.now c.slots_with_one.result.items c.slots_with_one.new.look (c.slots_with_one.ensures.items c.args.pair.now) c.slots_with_one.ensures.unchanged
+    (alone_around g t here).changed (without k) (rising_without k) (alone_without g t here) c.args.pair.now c.slots_with_one.new.slots.items c.slots_with_one.new.look (c.slots_with_one.ensures.items c.args.pair.now) c.slots_with_one.ensures.unchanged
 
 pub remove_at-returns-in-Some-clause-some : goal.remove_at-returns-in-Some-clause-some
 remove_at-returns-in-Some-clause-some g t c =
@@ -255,14 +255,14 @@ remove_at-returns-in-Some-clause-some g t c =
 
 pub remove_alone-write_branch-requires-clause-enough : goal.remove_alone-write_branch-requires-clause-enough
 remove_alone-write_branch-requires-clause-enough g t c =
-    omega (arith, c.in_ok-slots.ensures.some, items_count (g.R.Look.words c.args.room.now c.args.below), c.requires.spare, ap length c.deref.ensures.0)
+    omega (arith, c.in_ok-remove_at.ensures.some, items_count (g.R.Look.words c.args.room.now c.args.below), c.requires.spare, ap length c.deref.ensures.0)
 
 pub remove_alone-returns-in_err-page-clause-err : goal.remove_alone-returns-in_err-page-clause-err
 remove_alone-returns-in_err-page-clause-err g t c =
     let old = c.args.room.now in
     let mid = c.remove_at.new.room in
     let level = c.args.level in
-    let first = swaps_start g.R.Look.kept g.R.Look.standing g.R.Look.words (pages_below level (g.R.Look.words old) (items_of (g.R.Look.words old c.args.below))) (pages_below level (g.R.Look.words mid) (pairs_of (g.R.Look.words mid) c.args.pair.now c.in_ok-slots.slots.items)) old mid c.in_ok-slots.ensures.ok.swaps in
+    let first = swaps_start g.R.Look.kept g.R.Look.standing g.R.Look.words (pages_below level (g.R.Look.words old) (items_of (g.R.Look.words old c.args.below))) (pages_below level (g.R.Look.words mid) (pairs_of (g.R.Look.words mid) c.args.pair.now c.remove_at.new.slots.items)) old mid c.in_ok-remove_at.ensures.ok.swaps in
     on_err _ (start_trans g.R.Look.kept g.R.Look.standing g.R.Look.words old mid c.write_branch.new.room first c.in_err-page.ensures.err)
 
 pub remove_alone-give_up-requires-clause-held : goal.remove_alone-give_up-requires-clause-held
@@ -273,12 +273,12 @@ remove_alone-give_up-requires-clause-held g t c =
     let last = c.write_branch.new.room in
     let level = c.args.level in
     let pair = c.args.pair.now in
-    let xs = pairs_of mid pair c.in_ok-slots.slots.items in
+    let xs = pairs_of mid pair c.remove_at.new.slots.items in
     let us = branch_to (g.R.Look.words last) c.in_ok-page.page ∷ [] in
     let before = pages_below level words (items_of (words c.args.below)) in
     let all = without c.args.key.now (pairs_at level words c.args.below) in
     let packed = subst (λ (ss : List Slot). Becomes g.R.Look.kept g.R.Look.standing g.R.Look.words (pages_below level mid (pairs_of mid pair ss)) (pairs_below level mid (pairs_of mid pair ss)) (suc level) us c.remove_at.new.room last) c.deref.ensures.0 c.in_ok-page.ensures.ok in
-    let both = becomes_trans g.R.Look.kept g.R.Look.standing g.R.Look.words before all level (suc level) xs us old c.remove_at.new.room last c.in_ok-slots.ensures.ok packed in
+    let both = becomes_trans g.R.Look.kept g.R.Look.standing g.R.Look.words before all level (suc level) xs us old c.remove_at.new.room last c.in_ok-remove_at.ensures.ok packed in
     held_after g.R.Look.kept g.R.Look.standing g.R.Look.words before (pages_below (suc level) (g.R.Look.words last) us) c.args.below old last both.swaps c.requires.tree.page_once c.requires.tree.page_in_use
 
 pub remove_alone-returns-clause-ok : goal.remove_alone-returns-clause-ok
@@ -289,12 +289,12 @@ remove_alone-returns-clause-ok g t c =
     let last = c.write_branch.new.room in
     let level = c.args.level in
     let pair = c.args.pair.now in
-    let xs = pairs_of mid pair c.in_ok-slots.slots.items in
+    let xs = pairs_of mid pair c.remove_at.new.slots.items in
     let us = branch_to (g.R.Look.words last) c.in_ok-page.page ∷ [] in
     let before = pages_below level words (items_of (words c.args.below)) in
     let all = without c.args.key.now (pairs_at level words c.args.below) in
     let packed = subst (λ (ss : List Slot). Becomes g.R.Look.kept g.R.Look.standing g.R.Look.words (pages_below level mid (pairs_of mid pair ss)) (pairs_below level mid (pairs_of mid pair ss)) (suc level) us c.remove_at.new.room last) c.deref.ensures.0 c.in_ok-page.ensures.ok in
-    let both = becomes_trans g.R.Look.kept g.R.Look.standing g.R.Look.words before all level (suc level) xs us old c.remove_at.new.room last c.in_ok-slots.ensures.ok packed in
+    let both = becomes_trans g.R.Look.kept g.R.Look.standing g.R.Look.words before all level (suc level) xs us old c.remove_at.new.room last c.in_ok-remove_at.ensures.ok packed in
     let new = c.give_up.new.self in
     let given = becomes_given_up g.R.Look.kept g.R.Look.standing g.R.Look.words before all (suc level) us c.args.below old last new both c.requires.tree.page_once c.requires.tree.page_in_use c.give_up.ensures.kept c.give_up.ensures.words
     (c.give_up.ensures.standing c.args.below ∙ grind (arith, nat_tests)) (λ q ne. c.give_up.ensures.standing q ∙ grind (arith, nat_tests)) in
@@ -309,12 +309,12 @@ remove_alone-returns-clause-ready g t c =
     let last = c.write_branch.new.room in
     let level = c.args.level in
     let pair = c.args.pair.now in
-    let xs = pairs_of mid pair c.in_ok-slots.slots.items in
+    let xs = pairs_of mid pair c.remove_at.new.slots.items in
     let us = branch_to (g.R.Look.words last) c.in_ok-page.page ∷ [] in
     let before = pages_below level words (items_of (words c.args.below)) in
     let all = without c.args.key.now (pairs_at level words c.args.below) in
     let packed = subst (λ (ss : List Slot). Becomes g.R.Look.kept g.R.Look.standing g.R.Look.words (pages_below level mid (pairs_of mid pair ss)) (pairs_below level mid (pairs_of mid pair ss)) (suc level) us c.remove_at.new.room last) c.deref.ensures.0 c.in_ok-page.ensures.ok in
-    let both = becomes_trans g.R.Look.kept g.R.Look.standing g.R.Look.words before all level (suc level) xs us old c.remove_at.new.room last c.in_ok-slots.ensures.ok packed in
+    let both = becomes_trans g.R.Look.kept g.R.Look.standing g.R.Look.words before all level (suc level) xs us old c.remove_at.new.room last c.in_ok-remove_at.ensures.ok packed in
     let new = c.give_up.new.self in
     let given = becomes_given_up g.R.Look.kept g.R.Look.standing g.R.Look.words before all (suc level) us c.args.below old last new both c.requires.tree.page_once c.requires.tree.page_in_use c.give_up.ensures.kept c.give_up.ensures.words
     (c.give_up.ensures.standing c.args.below ∙ grind (arith, nat_tests)) (λ q ne. c.give_up.ensures.standing q ∙ grind (arith, nat_tests)) in
@@ -332,10 +332,10 @@ remove_at-returns-then-level-eq0-clause-found g t c =
     let item = item_at (words c.args.page) (place_of at) in
     let is = payload_leaf g.R.Look.kept g.R.Look.standing g.R.Look.words level c.args.page k c.rank.result at old c.requires.tree c.rank.ensures.rank c.saturating_sub-at.ensures c.if-level-eq0.true in
     found_is (payload_at (pairs_at level words c.args.page) k) (is_eq (key_cmp item.key k)) item.payload is
-    (subst (λ (w : ℕ → ℕ → ℕ). is_eq (key_cmp (item_at (w c.args.page) (place_of at)).key k) ≡ true) c.rank.ensures.unchanged.words c.in_ok-slots.ensures.found)
+    (subst (λ (w : ℕ → ℕ → ℕ). is_eq (key_cmp (item_at (w c.args.page) (place_of at)).key k) ≡ true) c.rank.ensures.unchanged.words c.in_ok-slots_without.ensures.found)
 
-pub remove_at-returns-in_err-slots-clause-stopped : goal.remove_at-returns-in_err-slots-clause-stopped
-remove_at-returns-in_err-slots-clause-stopped g t c =
+pub remove_at-returns-in_err-slots_without-clause-stopped : goal.remove_at-returns-in_err-slots_without-clause-stopped
+remove_at-returns-in_err-slots_without-clause-stopped g t c =
     let old = c.args.room.now in
     let level = c.args.level in
     let k = c.args.key.now in
@@ -343,8 +343,8 @@ remove_at-returns-in_err-slots-clause-stopped g t c =
     let words = g.R.Look.words old in
     let item = item_at (words c.args.page) (place_of at) in
     let is = payload_leaf g.R.Look.kept g.R.Look.standing g.R.Look.words level c.args.page k c.rank.result at old c.requires.tree c.rank.ensures.rank c.saturating_sub-at.ensures c.if-level-eq0.true in
-    let told = c.in_err-slots.ensures.absent in
-    passed_absent c.from_residual.result c.in_err-slots.field-0.0 _ _ c.from_residual.ensures.1 told.0 (
+    let told = c.in_err-slots_without.ensures.absent in
+    passed_absent c.from_residual.result c.in_err-slots_without.field-0.0 _ _ c.from_residual.ensures.1 told.0 (
       absent_is (payload_at (pairs_at level words c.args.page) k) (is_eq (key_cmp item.key k)) item.payload is
           (subst (λ (w : ℕ → ℕ → ℕ). is_eq (key_cmp (item_at (w c.args.page) (place_of at)).key k) ≡ false) c.rank.ensures.unchanged.words told.1),
       unchanged_trans g.R.Look.kept g.R.Look.standing g.R.Look.words old c.rank.new.look c.slots_without.new.look c.rank.ensures.unchanged c.slots_without.ensures.unchanged,
@@ -442,27 +442,27 @@ remove_at-returns-in_err-two-2-clause-stopped g t c =
     passed_stop c.from_residual-in_err-two-2.result c.in_err-two-2.field-0.0 _ _ _ _ c.from_residual-in_err-two-2.ensures.1 down (unchanged_trans g.R.Look.kept g.R.Look.standing g.R.Look.words old read c.remove_right.new.room since) c.in_err-two-2.ensures.stopped
 
 -- the first of two neighbours has lost the key, and the items of both are in hand
-left_slots : (g : Over) (t : ℕ) (c : remove_left-After-deref-2 g t) → c.deref-2.result.now ≡ c.in_ok-slots.slots.items ++ c.fill_slots.new.slots.items
-left_slots g t c = c.deref-2.ensures.0 ∙ c.append.ensures ∙ ap (λ (xs : List Slot). c.in_ok-slots.slots.items ++ xs) c.deref.ensures.0
+left_slots : (g : Over) (t : ℕ) (c : remove_left-After-deref-2 g t) → c.deref-2.result.now ≡ c.remove_at.new.slots.items ++ c.fill_slots.new.slots.items
+left_slots g t c = c.deref-2.ensures.0 ∙ c.append.ensures ∙ ap (λ (xs : List Slot). c.remove_at.new.slots.items ++ xs) c.deref.ensures.0
 
 left_both : (g : Over) (t : ℕ) (c : remove_left-After-deref-2 g t)
     → Joined g.R.Look.kept g.R.Look.standing g.R.Look.words c.args.level c.args.left c.args.right (without c.args.key.now (pairs_at c.args.level (g.R.Look.words c.args.room.now) c.args.left) ++ pairs_at c.args.level (g.R.Look.words c.args.room.now) c.args.right) c.args.pair.now c.deref-2.result.now c.args.room.now c.fill_slots.new.look
 left_both g t c =
     let words = g.R.Look.words c.args.room.now in
     let level = c.args.level in
-    left_changed g.R.Look.kept g.R.Look.standing g.R.Look.words c.args.level c.args.left c.args.right c.args.room.now c.requires.neighbours (without c.args.key.now (pairs_at c.args.level (g.R.Look.words c.args.room.now) c.args.left)) c.args.pair.now c.in_ok-slots.slots.items c.fill_slots.new.slots.items c.deref-2.result.now c.remove_at.new.room c.fill_slots.new.look c.fill_slots.ensures.unchanged c.in_ok-slots.ensures.ok c.fill_slots.ensures.slots (left_slots g t c)
+    left_changed g.R.Look.kept g.R.Look.standing g.R.Look.words c.args.level c.args.left c.args.right c.args.room.now c.requires.neighbours (without c.args.key.now (pairs_at c.args.level (g.R.Look.words c.args.room.now) c.args.left)) c.args.pair.now c.remove_at.new.slots.items c.fill_slots.new.slots.items c.deref-2.result.now c.remove_at.new.room c.fill_slots.new.look c.fill_slots.ensures.unchanged c.in_ok-remove_at.ensures.ok c.fill_slots.ensures.slots (left_slots g t c)
     (rising_without_left c.args.key.now (pairs_at level words c.args.left) (pairs_at level words c.args.right) c.requires.neighbours.rising)
 
 left_ready : (g : Over) (t : ℕ) (c : remove_left-After-deref-2 g t) → All (IsReady (g.R.Look.standing c.fill_slots.new.look) (g.R.Look.words c.fill_slots.new.look)) c.deref-2.result.now
 left_ready g t c =
-    left_in_hand g.R.Look.kept g.R.Look.standing g.R.Look.words c.args.level c.args.left c.args.right c.args.room.now c.requires.neighbours (without c.args.key.now (pairs_at c.args.level (g.R.Look.words c.args.room.now) c.args.left)) c.args.pair.now c.in_ok-slots.slots.items c.fill_slots.new.slots.items c.deref-2.result.now c.remove_at.new.room c.fill_slots.new.look c.fill_slots.ensures.unchanged c.in_ok-slots.ensures.ok c.fill_slots.ensures.slots (left_slots g t c) c.in_ok-slots.ensures.ready
+    left_in_hand g.R.Look.kept g.R.Look.standing g.R.Look.words c.args.level c.args.left c.args.right c.args.room.now c.requires.neighbours (without c.args.key.now (pairs_at c.args.level (g.R.Look.words c.args.room.now) c.args.left)) c.args.pair.now c.remove_at.new.slots.items c.fill_slots.new.slots.items c.deref-2.result.now c.remove_at.new.room c.fill_slots.new.look c.fill_slots.ensures.unchanged c.in_ok-remove_at.ensures.ok c.fill_slots.ensures.slots (left_slots g t c) c.in_ok-remove_at.ensures.ready
 
-left_total : (g : Over) (t : ℕ) (c : remove_left-After-deref-2 g t) → length c.deref-2.result.now ≡ length c.in_ok-slots.slots.items + g.R.Look.words c.args.room.now c.args.right 1
+left_total : (g : Over) (t : ℕ) (c : remove_left-After-deref-2 g t) → length c.deref-2.result.now ≡ length c.remove_at.new.slots.items + g.R.Look.words c.args.room.now c.args.right 1
 left_total g t c =
-    left_length g.R.Look.kept g.R.Look.standing g.R.Look.words c.args.level c.args.left c.args.right c.args.room.now c.requires.neighbours (without c.args.key.now (pairs_at c.args.level (g.R.Look.words c.args.room.now) c.args.left)) c.args.pair.now c.in_ok-slots.slots.items c.fill_slots.new.slots.items c.deref-2.result.now c.remove_at.new.room c.fill_slots.new.look c.fill_slots.ensures.unchanged c.in_ok-slots.ensures.ok c.fill_slots.ensures.slots (left_slots g t c)
+    left_length g.R.Look.kept g.R.Look.standing g.R.Look.words c.args.level c.args.left c.args.right c.args.room.now c.requires.neighbours (without c.args.key.now (pairs_at c.args.level (g.R.Look.words c.args.room.now) c.args.left)) c.args.pair.now c.remove_at.new.slots.items c.fill_slots.new.slots.items c.deref-2.result.now c.remove_at.new.room c.fill_slots.new.look c.fill_slots.ensures.unchanged c.in_ok-remove_at.ensures.ok c.fill_slots.ensures.slots (left_slots g t c)
 
 -- the second of two neighbours has lost the key, and the items of both are in hand
-right_slots : (g : Over) (t : ℕ) (c : remove_right-After-deref-2 g t) → c.deref-2.result.now ≡ c.fill_slots.new.slots.items ++ c.in_ok-less.less.items
+right_slots : (g : Over) (t : ℕ) (c : remove_right-After-deref-2 g t) → c.deref-2.result.now ≡ c.fill_slots.new.slots.items ++ c.remove_at.new.slots.items
 right_slots g t c = c.deref-2.ensures.0 ∙ c.append.ensures ∙ ap (λ (xs : List Slot). c.fill_slots.new.slots.items ++ xs) c.deref.ensures.0
 
 right_both : (g : Over) (t : ℕ) (c : remove_right-After-deref-2 g t)
@@ -470,16 +470,16 @@ right_both : (g : Over) (t : ℕ) (c : remove_right-After-deref-2 g t)
 right_both g t c =
     let words = g.R.Look.words c.args.room.now in
     let level = c.args.level in
-    right_changed g.R.Look.kept g.R.Look.standing g.R.Look.words c.args.level c.args.left c.args.right c.args.room.now c.requires.neighbours (without c.args.key.now (pairs_at c.args.level (g.R.Look.words c.args.room.now) c.args.right)) c.args.pair.now c.in_ok-less.less.items c.fill_slots.new.slots.items c.deref-2.result.now c.remove_at.new.room c.fill_slots.new.look c.fill_slots.ensures.unchanged c.in_ok-less.ensures.ok c.fill_slots.ensures.slots (right_slots g t c)
+    right_changed g.R.Look.kept g.R.Look.standing g.R.Look.words c.args.level c.args.left c.args.right c.args.room.now c.requires.neighbours (without c.args.key.now (pairs_at c.args.level (g.R.Look.words c.args.room.now) c.args.right)) c.args.pair.now c.remove_at.new.slots.items c.fill_slots.new.slots.items c.deref-2.result.now c.remove_at.new.room c.fill_slots.new.look c.fill_slots.ensures.unchanged c.in_ok-remove_at.ensures.ok c.fill_slots.ensures.slots (right_slots g t c)
     (rising_without_right c.args.key.now (pairs_at level words c.args.left) (pairs_at level words c.args.right) c.requires.neighbours.rising)
 
 right_ready : (g : Over) (t : ℕ) (c : remove_right-After-deref-2 g t) → All (IsReady (g.R.Look.standing c.fill_slots.new.look) (g.R.Look.words c.fill_slots.new.look)) c.deref-2.result.now
 right_ready g t c =
-    right_in_hand g.R.Look.kept g.R.Look.standing g.R.Look.words c.args.level c.args.left c.args.right c.args.room.now c.requires.neighbours (without c.args.key.now (pairs_at c.args.level (g.R.Look.words c.args.room.now) c.args.right)) c.args.pair.now c.in_ok-less.less.items c.fill_slots.new.slots.items c.deref-2.result.now c.remove_at.new.room c.fill_slots.new.look c.fill_slots.ensures.unchanged c.in_ok-less.ensures.ok c.fill_slots.ensures.slots (right_slots g t c) c.in_ok-less.ensures.ready
+    right_in_hand g.R.Look.kept g.R.Look.standing g.R.Look.words c.args.level c.args.left c.args.right c.args.room.now c.requires.neighbours (without c.args.key.now (pairs_at c.args.level (g.R.Look.words c.args.room.now) c.args.right)) c.args.pair.now c.remove_at.new.slots.items c.fill_slots.new.slots.items c.deref-2.result.now c.remove_at.new.room c.fill_slots.new.look c.fill_slots.ensures.unchanged c.in_ok-remove_at.ensures.ok c.fill_slots.ensures.slots (right_slots g t c) c.in_ok-remove_at.ensures.ready
 
-right_total : (g : Over) (t : ℕ) (c : remove_right-After-deref-2 g t) → length c.deref-2.result.now ≡ g.R.Look.words c.args.room.now c.args.left 1 + length c.in_ok-less.less.items
+right_total : (g : Over) (t : ℕ) (c : remove_right-After-deref-2 g t) → length c.deref-2.result.now ≡ g.R.Look.words c.args.room.now c.args.left 1 + length c.remove_at.new.slots.items
 right_total g t c =
-    right_length g.R.Look.kept g.R.Look.standing g.R.Look.words c.args.level c.args.left c.args.right c.args.room.now c.requires.neighbours (without c.args.key.now (pairs_at c.args.level (g.R.Look.words c.args.room.now) c.args.right)) c.args.pair.now c.in_ok-less.less.items c.fill_slots.new.slots.items c.deref-2.result.now c.remove_at.new.room c.fill_slots.new.look c.fill_slots.ensures.unchanged c.in_ok-less.ensures.ok c.fill_slots.ensures.slots (right_slots g t c)
+    right_length g.R.Look.kept g.R.Look.standing g.R.Look.words c.args.level c.args.left c.args.right c.args.room.now c.requires.neighbours (without c.args.key.now (pairs_at c.args.level (g.R.Look.words c.args.room.now) c.args.right)) c.args.pair.now c.remove_at.new.slots.items c.fill_slots.new.slots.items c.deref-2.result.now c.remove_at.new.room c.fill_slots.new.look c.fill_slots.ensures.unchanged c.in_ok-remove_at.ensures.ok c.fill_slots.ensures.slots (right_slots g t c)
 
 pub remove_left-fill_slots-requires-clause-readable : goal.remove_left-fill_slots-requires-clause-readable
 remove_left-fill_slots-requires-clause-readable g t c =
@@ -488,7 +488,7 @@ remove_left-fill_slots-requires-clause-readable g t c =
     let l = c.args.left in
     let level = c.args.level in
     let all = without c.args.key.now (pairs_at level words l) in
-    right_readable g.R.Look.kept g.R.Look.standing g.R.Look.words level l c.args.right old c.requires.neighbours all c.args.pair.now c.in_ok-slots.slots.items c.remove_at.new.room c.in_ok-slots.ensures.ok
+    right_readable g.R.Look.kept g.R.Look.standing g.R.Look.words level l c.args.right old c.requires.neighbours all c.args.pair.now c.remove_at.new.slots.items c.remove_at.new.room c.in_ok-remove_at.ensures.ok
 
 pub remove_left-fill_slots-requires-clause-page : goal.remove_left-fill_slots-requires-clause-page
 remove_left-fill_slots-requires-clause-page g t c =
@@ -497,7 +497,7 @@ remove_left-fill_slots-requires-clause-page g t c =
     let l = c.args.left in
     let level = c.args.level in
     let all = without c.args.key.now (pairs_at level words l) in
-    right_page g.R.Look.kept g.R.Look.standing g.R.Look.words level l c.args.right old c.requires.neighbours all c.args.pair.now c.in_ok-slots.slots.items c.remove_at.new.room c.in_ok-slots.ensures.ok
+    right_page g.R.Look.kept g.R.Look.standing g.R.Look.words level l c.args.right old c.requires.neighbours all c.args.pair.now c.remove_at.new.slots.items c.remove_at.new.room c.in_ok-remove_at.ensures.ok
 
 pub remove_left-append-requires : goal.remove_left-append-requires
 remove_left-append-requires g t c =
@@ -509,9 +509,9 @@ remove_left-append-requires g t c =
     let two = c.requires.neighbours in
     let mid = c.remove_at.new.room in
     let all = without c.args.key.now (pairs_at level words l) in
-    let count = right_count g.R.Look.kept g.R.Look.standing g.R.Look.words level l r old two all c.args.pair.now c.in_ok-slots.slots.items mid c.in_ok-slots.ensures.ok in
+    let count = right_count g.R.Look.kept g.R.Look.standing g.R.Look.words level l r old two all c.args.pair.now c.remove_at.new.slots.items mid c.in_ok-remove_at.ensures.ok in
     let len = ap length c.fill_slots.ensures.slots ∙ length-map-range_with_len (λ (j : ℕ). At r (place_of j)) 0 (g.R.Look.words mid r 1) in
-    omega (arith, len, count, two.right_tree.node.is_page.few, c.in_ok-slots.ensures.some, ap length c.deref.ensures.0)
+    omega (arith, len, count, two.right_tree.node.is_page.few, c.in_ok-remove_at.ensures.some, ap length c.deref.ensures.0)
 
 pub remove_left-pack_two-requires-clause-below : goal.remove_left-pack_two-requires-clause-below
 remove_left-pack_two-requires-clause-below g t c = (left_both g t (goal.at.remove_left-pack_two-requires-clause-below g t c).After-deref-2).below
@@ -524,7 +524,7 @@ remove_left-pack_two-requires-clause-enough g t c =
     let words = g.R.Look.words c.args.room.now in
     let two = c.requires.neighbours in
     let len = left_total g t (goal.at.remove_left-pack_two-requires-clause-enough g t c).After-deref-2 in
-    omega (arith, len, c.in_ok-slots.ensures.some, items_count (words c.args.left), items_count (words c.args.right), two.left_tree.node.enough, two.right_tree.node.enough)
+    omega (arith, len, c.in_ok-remove_at.ensures.some, items_count (words c.args.left), items_count (words c.args.right), two.left_tree.node.enough, two.right_tree.node.enough)
 
 pub remove_left-pack_two-requires-clause-left_kept : goal.remove_left-pack_two-requires-clause-left_kept
 remove_left-pack_two-requires-clause-left_kept g t c = (left_both g t (goal.at.remove_left-pack_two-requires-clause-left_kept g t c).After-deref-2).left_is_kept
@@ -559,7 +559,7 @@ remove_right-fill_slots-requires-clause-readable g t c =
     let r = c.args.right in
     let level = c.args.level in
     let all = without c.args.key.now (pairs_at level words r) in
-    left_readable g.R.Look.kept g.R.Look.standing g.R.Look.words level c.args.left r old c.requires.neighbours all c.args.pair.now c.in_ok-less.less.items c.remove_at.new.room c.in_ok-less.ensures.ok
+    left_readable g.R.Look.kept g.R.Look.standing g.R.Look.words level c.args.left r old c.requires.neighbours all c.args.pair.now c.remove_at.new.slots.items c.remove_at.new.room c.in_ok-remove_at.ensures.ok
 
 pub remove_right-fill_slots-requires-clause-page : goal.remove_right-fill_slots-requires-clause-page
 remove_right-fill_slots-requires-clause-page g t c =
@@ -568,7 +568,7 @@ remove_right-fill_slots-requires-clause-page g t c =
     let r = c.args.right in
     let level = c.args.level in
     let all = without c.args.key.now (pairs_at level words r) in
-    left_page g.R.Look.kept g.R.Look.standing g.R.Look.words level c.args.left r old c.requires.neighbours all c.args.pair.now c.in_ok-less.less.items c.remove_at.new.room c.in_ok-less.ensures.ok
+    left_page g.R.Look.kept g.R.Look.standing g.R.Look.words level c.args.left r old c.requires.neighbours all c.args.pair.now c.remove_at.new.slots.items c.remove_at.new.room c.in_ok-remove_at.ensures.ok
 
 pub remove_right-append-requires : goal.remove_right-append-requires
 remove_right-append-requires g t c =
@@ -580,9 +580,9 @@ remove_right-append-requires g t c =
     let two = c.requires.neighbours in
     let mid = c.remove_at.new.room in
     let all = without c.args.key.now (pairs_at level words r) in
-    let count = left_count g.R.Look.kept g.R.Look.standing g.R.Look.words level l r old two all c.args.pair.now c.in_ok-less.less.items mid c.in_ok-less.ensures.ok in
+    let count = left_count g.R.Look.kept g.R.Look.standing g.R.Look.words level l r old two all c.args.pair.now c.remove_at.new.slots.items mid c.in_ok-remove_at.ensures.ok in
     let len = ap length c.fill_slots.ensures.slots ∙ length-map-range_with_len (λ (j : ℕ). At l (place_of j)) 0 (g.R.Look.words mid l 1) in
-    omega (arith, len, count, two.left_tree.node.is_page.few, c.in_ok-less.ensures.some, ap length c.deref.ensures.0)
+    omega (arith, len, count, two.left_tree.node.is_page.few, c.in_ok-remove_at.ensures.some, ap length c.deref.ensures.0)
 
 pub remove_right-pack_two-requires-clause-below : goal.remove_right-pack_two-requires-clause-below
 remove_right-pack_two-requires-clause-below g t c = (right_both g t (goal.at.remove_right-pack_two-requires-clause-below g t c).After-deref-2).below
@@ -595,7 +595,7 @@ remove_right-pack_two-requires-clause-enough g t c =
     let words = g.R.Look.words c.args.room.now in
     let two = c.requires.neighbours in
     let len = right_total g t (goal.at.remove_right-pack_two-requires-clause-enough g t c).After-deref-2 in
-    omega (arith, len, c.in_ok-less.ensures.some, items_count (words c.args.left), items_count (words c.args.right), two.left_tree.node.enough, two.right_tree.node.enough)
+    omega (arith, len, c.in_ok-remove_at.ensures.some, items_count (words c.args.left), items_count (words c.args.right), two.left_tree.node.enough, two.right_tree.node.enough)
 
 pub remove_right-pack_two-requires-clause-left_kept : goal.remove_right-pack_two-requires-clause-left_kept
 remove_right-pack_two-requires-clause-left_kept g t c = (right_both g t (goal.at.remove_right-pack_two-requires-clause-left_kept g t c).After-deref-2).left_is_kept

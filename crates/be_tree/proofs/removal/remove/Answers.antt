@@ -131,7 +131,7 @@ returns-in_err-new-clause-err g c =
     on_err _ (start_trans g.R.Look.kept g.R.Look.standing g.R.Look.words c.args.room.now read c.write_rest.new.room
     (unchanged_start g.R.Look.kept g.R.Look.standing g.R.Look.words c.args.room.now read (same g (goal.at.returns-in_err-new-clause-err g c).After-word-level))
     (start_trans g.R.Look.kept g.R.Look.standing g.R.Look.words read c.remove_at.new.room c.write_rest.new.room
-    (swaps_start g.R.Look.kept g.R.Look.standing g.R.Look.words (pages_below c.word-level.result (g.R.Look.words read) (items_of (g.R.Look.words read (c.args.root - 1)))) (pages_below c.word-level.result (g.R.Look.words c.remove_at.new.room) (pairs_of (g.R.Look.words c.remove_at.new.room) c.new-pair.result c.in-Ok.slots.items)) read c.remove_at.new.room c.in-Ok.ensures.ok.swaps)
+    (swaps_start g.R.Look.kept g.R.Look.standing g.R.Look.words (pages_below c.word-level.result (g.R.Look.words read) (items_of (g.R.Look.words read (c.args.root - 1)))) (pages_below c.word-level.result (g.R.Look.words c.remove_at.new.room) (pairs_of (g.R.Look.words c.remove_at.new.room) c.new-pair.result c.remove_at.new.slots.items)) read c.remove_at.new.room c.in-Ok.ensures.ok.swaps)
     c.in_err-new.ensures.err))
 
 pub give_up-requires-clause-held : goal.give_up-requires-clause-held
@@ -143,7 +143,7 @@ give_up-requires-clause-held g c =
     let written = subst (λ (xs : List Slot). BecomesTree g.R.Look.kept g.R.Look.standing g.R.Look.words (pages_below level mid (pairs_of mid c.new-pair.result xs)) (pairs_below level mid (pairs_of mid c.new-pair.result xs)) c.in_ok-new.new c.remove_at.new.room c.write_rest.new.room)
     c.deref-2.ensures.0 c.in_ok-new.ensures.ok in
     let read = g.R.Look.words c.word-level.new.self in
-    let both = becomes_tree g.R.Look.kept g.R.Look.standing g.R.Look.words (pages_below level read (items_of (read page))) (without c.args.key.now (pairs_at level read page)) level (pairs_of mid c.new-pair.result c.in-Ok.slots.items) c.in_ok-new.new
+    let both = becomes_tree g.R.Look.kept g.R.Look.standing g.R.Look.words (pages_below level read (items_of (read page))) (without c.args.key.now (pairs_at level read page)) level (pairs_of mid c.new-pair.result c.remove_at.new.slots.items) c.in_ok-new.new
     c.word-level.new.self c.remove_at.new.room c.write_rest.new.room c.in-Ok.ensures.ok written in
     held_after g.R.Look.kept g.R.Look.standing g.R.Look.words (pages_below level read (items_of (read page))) (pages (g.R.Look.words c.write_rest.new.room) c.in_ok-new.new) page c.word-level.new.self c.write_rest.new.room both.swaps tree.page_once tree.page_in_use
 
@@ -154,6 +154,6 @@ returns-clause-ok g c =
     let mid = g.R.Look.words c.remove_at.new.room in
     let written = subst (λ (xs : List Slot). BecomesTree g.R.Look.kept g.R.Look.standing g.R.Look.words (pages_below level mid (pairs_of mid c.new-pair.result xs)) (pairs_below level mid (pairs_of mid c.new-pair.result xs)) c.in_ok-new.new c.remove_at.new.room c.write_rest.new.room)
     c.deref-2.ensures.0 c.in_ok-new.ensures.ok in
-    tree_changed g.R.Look.kept g.R.Look.standing g.R.Look.words (without c.args.key.now) c.args.root (c.args.root - 1) level (least_of_root level) c.in_ok-new.new (pairs_of mid c.new-pair.result c.in-Ok.slots.items)
+    tree_changed g.R.Look.kept g.R.Look.standing g.R.Look.words (without c.args.key.now) c.args.root (c.args.root - 1) level (least_of_root level) c.in_ok-new.new (pairs_of mid c.new-pair.result c.remove_at.new.slots.items)
     c.args.room.now c.word-level.new.self c.remove_at.new.room c.write_rest.new.room c.give_up.new.self
     (omega (arith, some g at)) (level_is g at) (same g at) (root_page g at) c.in-Ok.ensures.ok written c.give_up.ensures.kept c.give_up.ensures.words c.give_up.ensures.standing
