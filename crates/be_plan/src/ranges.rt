@@ -202,6 +202,46 @@ fn is_false_of_all(comparison: &Comparison, kind: Kind) -> bool
     )
 }
 
+/// Leaves out keys below the pair's. Each of these four has a key of its own, so that a bound makes no more keys than it needs.
+fn raise_pair(range: &mut Range, bound: &Value, node: u64)
+    requires { IsTrue (is_indexable (kind_of bound.now)) }
+    ensures { (k : List ℕ) → is_lt (name_cmp k (key_bytes bound.now node)) ≡ false →
+        Within range.old.low.items (option_map (λ b. b.items) range.old.high) k →
+        Within range.new.low.items (option_map (λ b. b.items) range.new.high) k }
+{
+    range.raise(key_of(bound, node).as_slice());
+}
+
+/// Leaves out keys above the pair's.
+fn lower_pair(range: &mut Range, bound: &Value, node: u64)
+    requires { IsTrue (is_indexable (kind_of bound.now)) }
+    ensures { (k : List ℕ) → is_gt (name_cmp k (key_bytes bound.now node)) ≡ false →
+        Within range.old.low.items (option_map (λ b. b.items) range.old.high) k →
+        Within range.new.low.items (option_map (λ b. b.items) range.new.high) k }
+{
+    range.lower(key_of(bound, node).as_slice());
+}
+
+/// Leaves out keys that aren't above the pair's.
+fn raise_above_pair(range: &mut Range, bound: &Value, node: u64)
+    requires { IsTrue (is_indexable (kind_of bound.now)) }
+    ensures { (k : List ℕ) → is_gt (name_cmp k (key_bytes bound.now node)) ≡ true →
+        Within range.old.low.items (option_map (λ b. b.items) range.old.high) k →
+        Within range.new.low.items (option_map (λ b. b.items) range.new.high) k }
+{
+    range.raise_above(key_of(bound, node).as_slice());
+}
+
+/// Leaves out keys that aren't below the pair's.
+fn lower_below_pair(range: &mut Range, bound: &Value, node: u64)
+    requires { IsTrue (is_indexable (kind_of bound.now)) }
+    ensures { (k : List ℕ) → is_lt (name_cmp k (key_bytes bound.now node)) ≡ true →
+        Within range.old.low.items (option_map (λ b. b.items) range.old.high) k →
+        Within range.new.low.items (option_map (λ b. b.items) range.new.high) k }
+{
+    range.lower_below(key_of(bound, node).as_slice());
+}
+
 /// Leaves out keys of values at which the operator with the bound is false.
 fn narrow_by(range: &mut Range, op: Cmp, bound: &Value)
     requires is_value { IsValue bound.now }
@@ -212,14 +252,14 @@ fn narrow_by(range: &mut Range, op: Cmp, bound: &Value)
 {
     match op {
         Cmp::Eq => {
-            range.raise(key_of(bound, 0).as_slice());
-            range.lower(key_of(bound, u64::MAX).as_slice());
+            raise_pair(range, bound, 0);
+            lower_pair(range, bound, u64::MAX);
         }
         Cmp::Ne => {}
-        Cmp::Lt => range.lower_below(key_of(bound, 0).as_slice()),
-        Cmp::Le => range.lower(key_of(bound, u64::MAX).as_slice()),
-        Cmp::Gt => range.raise_above(key_of(bound, u64::MAX).as_slice()),
-        Cmp::Ge => range.raise(key_of(bound, 0).as_slice()),
+        Cmp::Lt => lower_below_pair(range, bound, 0),
+        Cmp::Le => lower_pair(range, bound, u64::MAX),
+        Cmp::Gt => raise_above_pair(range, bound, u64::MAX),
+        Cmp::Ge => raise_pair(range, bound, 0),
     }
 }
 
@@ -297,6 +337,19 @@ fn narrow_by_long(range: &mut Range, op: Cmp, words: &[u8])
     }
 }
 
+/// Leaves out keys of values at which the comparison is false, by the value that its literal stands for.
+fn narrow_by_bound(range: &mut Range, comparison: &Comparison, kind: Kind)
+    ensures { (v : AnyValue) (n : ℕ) → IsPair kind v n → holds comparison.now.op v (literal comparison.now.literal) ≡ true →
+        Within range.old.low.items (option_map (λ b. b.items) range.old.high) (key_bytes v n) →
+        Within range.new.low.items (option_map (λ b. b.items) range.new.high) (key_bytes v n) }
+{
+    if let Some(bound) = bound_of(&comparison.literal, kind) {
+        narrow_by(range, comparison.op, &bound);
+    } else if is_false_of_all(comparison, kind) {
+        range.close();
+    }
+}
+
 /// Leaves out keys of values at which the comparison is false.
 fn narrow(range: &mut Range, comparison: &Comparison, kind: Kind)
     ensures { (v : AnyValue) (n : ℕ) → IsPair kind v n → holds comparison.now.op v (literal comparison.now.literal) ≡ true →
@@ -308,13 +361,7 @@ fn narrow(range: &mut Range, comparison: &Comparison, kind: Kind)
         (Kind::Cstr, op, Literal::Text(words)) if words.as_str().len() > 255 => {
             narrow_by_long(range, op, words.as_str().as_bytes());
         }
-        (_, op, given) => {
-            if let Some(bound) = bound_of(given, kind) {
-                narrow_by(range, op, &bound);
-            } else if is_false_of_all(comparison, kind) {
-                range.close();
-            }
-        }
+        _ => narrow_by_bound(range, comparison, kind),
     }
 }
 
