@@ -1,5 +1,5 @@
 //! Items read from a page and written to it.
-ghost use Rattle.std.specs.Prelude.{◌≡◌, ◌≢◌, ℕ, [], ◌+◌, ◌*◌, ◌<◌, ◌≤◌, ◌++◌, All, IsTrue, length, take, drop, map, slice_index};
+ghost use Rattle.std.specs.Prelude.{◌≡◌, ◌≢◌, ℕ, [], ◌+◌, ◌-◌, ◌*◌, ◌/◌, ◌%◌, ◌<◌, ◌≤◌, ◌++◌, All, IsTrue, length, take, drop, map, slice_index};
 ghost use Rattle.std.specs.List.{range_with_len};
 ghost use Rattle.std.specs.Int.{from_be_bytes, to_be_bytes, w64};
 ghost use Rattle.be_pages.specs.Pages.{is_readable, is_taken, IsUnchanged, OnlyWrites, StandsAt};
@@ -18,7 +18,8 @@ use arrayvec::ArrayVec;
 use be_pages::{Look, Room};
 use std::cmp::Ordering;
 
-/// The page that the branch at a place names. Behind a key of whole words its number is a word.
+/// The page that the branch at a place names. Its number is a word behind a key of whole words, and stands in two words
+/// behind any other.
 pub(crate) fn child_at<L: Look>(look: &mut L, page: u64, at: usize) -> u64
     requires readable { IsTrue (is_readable (L.standing look.old page)) }
     requires in_page { at + 42 ≤ 512 }
@@ -30,12 +31,20 @@ pub(crate) fn child_at<L: Look>(look: &mut L, page: u64, at: usize) -> u64
     let key_len = (look.word(page, at) >> 32) as usize;
     let skip = key_len % 8;
     let from = at + 1 + key_len / 8;
+    let first = look.word(page, from);
     if skip == 0 {
-        return look.word(page, from);
+        return first;
     }
-    let mut bytes: ArrayVec<u8, 16> = ArrayVec::new();
-    fill_bytes(look, page, from, 0, skip + 8, &mut bytes);
-    number_in(&bytes[skip..])
+    let second = look.word(page, from + 1);
+    straddled(first, second, skip)
+}
+
+/// The number whose eight bytes stand in two words, from a byte of the first one on.
+fn straddled(first: u64, second: u64, skip: usize) -> u64
+    requires { (0 < skip) × (skip < 8) }
+    ensures { result ≡ first * 2 ^ (8 * skip) % 2 ^ 64 + second / 2 ^ (64 - 8 * skip) }
+{
+    (first << (8 * skip)) + (second >> (64 - 8 * skip))
 }
 
 /// The number in eight bytes, the most significant first.
