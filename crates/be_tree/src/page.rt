@@ -128,29 +128,6 @@ fn least_of(a: usize, b: usize) -> usize
     if a < b { a } else { b }
 }
 
-/// The first `n` bytes from a word on; the first byte is the most significant of the first word.
-pub fn load_bytes<L: Look, const N: usize>(
-    look: &mut L,
-    page: u64,
-    at: usize,
-    n: usize,
-) -> ArrayVec<u8, N>
-    requires readable { IsTrue (is_readable (L.standing look.old page)) }
-    requires in_page { at + words_for n ≤ 512 }
-    requires fits { 8 * words_for n ≤ N }
-    ensures bytes { result.items ≡ bytes_at (L.words look.old page) at n }
-    ensures len { length result.items ≡ n }
-    ensures unchanged { IsUnchanged L.kept L.standing L.words look.old look.new }
-{
-    let mut bytes = ArrayVec::new();
-    for i in 0..(n + 7) / 8 {
-        let word = look.word(page, at + i).to_be_bytes();
-        extend(&mut bytes, &word);
-    }
-    bytes.truncate(n);
-    bytes
-}
-
 /// Puts the `n` bytes that stand `skip` bytes behind the start of a word into an empty vector. It is filled where it
 /// stands, since a vector that is given by value costs its whole capacity.
 pub(crate) fn fill_bytes<L: Look, const N: usize>(
@@ -228,7 +205,7 @@ fn word_from(bytes: &[u8], from: usize) -> u64
 
 /// Writes bytes into the words from a place on, of a page that has a word filled, eight in a word, and zeros after the
 /// last.
-pub fn store_bytes<R: Room>(room: &mut R, page: u64, at: usize, bytes: &[u8])
+pub(crate) fn store_bytes<R: Room>(room: &mut R, page: u64, at: usize, bytes: &[u8])
     requires filled { R.standing room.old page ≡ Filled }
     requires in_page { at + words_for (length bytes.now) ≤ 512 }
     requires fits { length bytes.now ≤ 328 }
