@@ -1,4 +1,4 @@
-use Rattle.std.proofs.Common.{◌≡◌, ◌∙◌, ◌++◌, ◌∷◌, [], List, ℕ, true, ap, sym, subst, rules}
+use Rattle.std.proofs.Common.{◌≡◌, ◌∙◌, ◌++◌, ◌∷◌, [], List, ℕ, true, ap, subst}
 use Rattle.std.specs.Ordering.{is_lt}
 use Rattle.be_volume.specs.Maps.{name_cmp}
 use Rattle.be_plan.proofs.Beside.{below_zero}

@@ -1,4 +1,3 @@
-use Rattle.std.proofs.Common.{sym}
 use Rattle.be_plan.proofs.Beside.{above_zero}
 use Rattle.be_plan.proofs.ranges.Range.raise_above.Goals as goal
 
