@@ -1,0 +1,4 @@
+use Rattle.bench.proofs.make.write.Given as goal
+
+abbrev pub ghost-apply_pages : goal.ghost-apply_pages
+ghost-apply_pages a = a._plain.now
