@@ -25,3 +25,4 @@ pub mod Standing
 pub mod Versions
 pub mod OneVolume
 pub mod UsedWords
+pub mod PageIndices

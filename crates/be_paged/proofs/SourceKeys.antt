@@ -23,7 +23,6 @@ use Rattle.be_volume.specs.declared.maps.Index.{Index}
 use Rattle.be_paged.specs.Entry.{Entry}
 use Rattle.be_paged.specs.Page.{Contents, IsNamedAt, IsGapAt}
 use Rattle.be_paged.specs.Catalog.{IsPairOf}
-use Rattle.be_paged.specs.Facts.{AnswersFor}
 use Rattle.be_paged.specs.Version.{IsInHand, Spells}
 use Rattle.be_paged.proofs.Indexing.{named_found, gap_none}
 use Rattle.be_paged.proofs.Finding.{found_pair}
@@ -147,8 +146,3 @@ behind_next all rising from after (x ∷ xs) k stands read = sym (ap (λ q. pair
   where
     same : (a b : List ℕ) → Some a ≡ Some b → a ≡ b
     same a b e = cc
-
--- what a version in hand tells after reads
-pub answers_since : (s t : ℕ → Standing) (v w : ℕ → ℕ → ℕ) (c : Contents) (volume : State) → t ≡ s → w ≡ v → AnswersFor s v c volume → AnswersFor t w c volume
-answers_since s t v w c volume standing words h =
-    subst (λ (u : ℕ → Standing). AnswersFor u w c volume) (sym standing) (subst (λ (x : ℕ → ℕ → ℕ). AnswersFor s x c volume) (sym words) h)

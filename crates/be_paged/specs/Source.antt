@@ -7,15 +7,15 @@ use Rattle.be_tree.specs.Tree.{pairs}
 use Rattle.be_tree.specs.declared.cursor.Cursor.{Cursor}
 use Rattle.be_volume.specs.Volume.{State}
 use Rattle.be_paged.specs.Entry.{Entry}
-use Rattle.be_paged.specs.Facts.{AnswersFor}
-use Rattle.be_paged.specs.Page.{Contents}
+use Rattle.be_paged.specs.Page.{contents_of}
+use Rattle.be_paged.specs.Version.{IsVersion}
 
 -- the cursor stands in the tree of the index at a place, behind this key; at a place past the indices it stands nowhere
 pub record StandsBehind (standing : ℕ → Standing) (words : ℕ → ℕ → ℕ) (entries : List Entry) (cursor : Cursor) (place : ℕ) (last : List ℕ) : Type 0 where
   pub can_go_on : place < length entries → IsCursor standing words cursor
   pub rest : (d : Entry) → place < length entries → remaining words cursor ≡ pairs_from (pairs words (slice_index_or entries place d).root) last true
 
--- the version in hand spells the volume, and the cursor stands where it says
-pub record SourceOf (standing : ℕ → Standing) (words : ℕ → ℕ → ℕ) (c : Contents) (cursor : Cursor) (place : ℕ) (last : List ℕ) (volume : State) : Type 0 where
-  pub answers : AnswersFor standing words c volume
-  pub behind : StandsBehind standing words c.entries cursor place last
+-- the page spells the volume, and the cursor stands where it says
+pub record SourceOf (standing : ℕ → Standing) (words : ℕ → ℕ → ℕ) (page : ℕ) (cursor : Cursor) (place : ℕ) (last : List ℕ) (volume : State) : Type 0 where
+  pub version : IsVersion standing words page volume
+  pub behind : StandsBehind standing words (contents_of (words page)).entries cursor place last

@@ -13,7 +13,7 @@ use be_value::{Bytes, Name, Text, Value};
 use std::str;
 
 /// The key of a node's attribute.
-pub(crate) fn catalog_key(node: u64, name: &Name) -> ArrayVec<u8, 264>
+pub(crate) fn catalog_key(node: u64, name: &Name) -> ArrayVec<u8, 72>
     ensures key { result.items ≡ key_in_catalog node name.now }
     ensures short { length result.items ≤ 71 }
     ensures valid { name_from name.now ≡ Ok name.now }

@@ -23,6 +23,7 @@ mod entry;
 mod facts;
 mod first;
 pub mod laws;
+mod on_page;
 mod paged_source;
 mod reading;
 mod spelling;

@@ -6,16 +6,15 @@ ghost use Rattle.std.specs.Prelude.{◌≡◌, ◌<◌, ℕ, true, length, slice
 ghost use Rattle.be_pages.specs.Pages.{IsUnchanged};
 ghost use Rattle.be_tree.specs.Cursor.{IsCursor, remaining};
 ghost use Rattle.be_tree.specs.Range.{pairs_from};
-ghost use Rattle.be_tree.specs.Tree.{pairs};
+ghost use Rattle.be_tree.specs.Tree.{IsTree, pairs};
 ghost use Rattle.be_volume.specs.Volume.{State};
-ghost use Rattle.be_paged.specs.Page.{contents};
+ghost use Rattle.be_paged.specs.Page.{contents_of};
 ghost use Rattle.be_paged.specs.Source.{StandsBehind};
-ghost use Rattle.be_paged.specs.Version.{IsInHand, IsVersion};
+ghost use Rattle.be_paged.specs.Version.{IsVersion};
 ghost use Rattle.be_paged.specs.Entry.{Entry as AnyEntry};
 
-use crate::entries::{index_at, search};
-use crate::reading::value_in;
-use crate::version::{Version, load_version};
+use crate::on_page::{FoundIndex, find_index};
+use crate::reading::get;
 use arrayvec::ArrayVec;
 use be_pages::Look;
 use be_plan::Source;
@@ -25,27 +24,25 @@ use be_value::{Kind, Name, Refusal, Value};
 /// A place that no index has.
 const NOWHERE: usize = 32;
 
-/// A reader of one version, which it has loaded, and its look. It takes no memory besides its own.
+/// A reader of one version, by its page, and its look. It takes no memory besides its own.
 #[derive(Drop)]
 pub struct PagedSource<L> {
     look: L,
-    version: Version,
+    page: u64,
     cursor: Cursor,
     place: usize,
     last: ArrayVec<u8, 264>,
 }
 
-/// The version of a page as a source. It reads the version page once, and keeps the look until `into_look`.
+/// The version of a page as a source. It reads nothing yet, and keeps the look until `into_look`.
 pub fn source<L: Look>(look: L, version_page: u64) -> PagedSource<L>
     requires version { (volume : State) × IsVersion (L.standing look) (L.words look) version_page volume }
     ensures answers { (volume : State) → IsVersion (L.standing look) (L.words look) version_page volume → ⟦<PagedSource<L> as Source>⟧.answers_for result volume }
     ensures look { ⟦<PagedSource<L> as Source>⟧.kept result ≡ (L.kept look, (L.standing look, L.words look)) }
 {
-    let mut look = look;
-    let version = load_version(&mut look, version_page);
     PagedSource {
         look,
-        version,
+        page: version_page,
         cursor: Cursor::new(),
         place: NOWHERE,
         last: ArrayVec::new(),
@@ -62,23 +59,22 @@ impl<L: Look> PagedSource<L> {
 
     /// Brings the cursor before the least key of an index at `from` or after it, or strictly after it. Where it stands behind that very key
     /// nothing moves.
-    fn walk_to(&mut self, place: usize, from: &[u8], after: bool)
-        requires in_hand { IsInHand (L.standing self.old.look) (L.words self.old.look) (contents self.old.version) }
-        requires behind { StandsBehind (L.standing self.old.look) (L.words self.old.look) self.old.version.entries.items self.old.cursor self.old.place self.old.last.items }
-        requires in_range { place < length self.old.version.entries.items }
+    fn walk_to(&mut self, index: FoundIndex, from: &[u8], after: bool)
+        requires in_range { index.place < length (contents_of (L.words self.old.look self.old.page)).entries }
+        requires root { (d : AnyEntry) → index.root ≡ (slice_index_or (contents_of (L.words self.old.look self.old.page)).entries index.place d).root }
+        requires tree { IsTree (L.standing self.old.look) (L.words self.old.look) index.root }
+        requires behind { StandsBehind (L.standing self.old.look) (L.words self.old.look) (contents_of (L.words self.old.look self.old.page)).entries self.old.cursor self.old.place self.old.last.items }
         ensures cursor { IsCursor (L.standing self.new.look) (L.words self.new.look) self.new.cursor }
-        ensures rest { (d : AnyEntry) → remaining (L.words self.new.look) self.new.cursor ≡
-            pairs_from (pairs (L.words self.new.look) (slice_index_or self.old.version.entries.items place d).root) from.now after }
-        ensures version { self.new.version ≡ self.old.version }
+        ensures rest { remaining (L.words self.new.look) self.new.cursor ≡ pairs_from (pairs (L.words self.new.look) index.root) from.now after }
+        ensures page { self.new.page ≡ self.old.page }
         ensures unchanged { IsUnchanged L.kept L.standing L.words self.old.look self.new.look }
     {
         if after {
-            if self.stands_behind(place, from) {
+            if self.stands_behind(index.place, from) {
                 return;
             }
         }
-        let (_, root) = index_at(&self.version.entries, place);
-        self.cursor = Cursor::seek(&mut self.look, root, from, after);
+        self.cursor = Cursor::seek(&mut self.look, index.root, from, after);
     }
 
     /// Whether the cursor stands behind this key of this index.
@@ -100,32 +96,31 @@ fn replace_key(key: &mut ArrayVec<u8, 264>, other: &ArrayVec<u8, 264>)
 impl<L: Look> Source for PagedSource<L> {
     ghost use Rattle.std.specs.Prelude.{ℕ};
     ghost use Rattle.be_pages.specs.declared.room.Standing.{Standing as Stands};
-    ghost use Rattle.be_paged.specs.Page.{contents};
     ghost use Rattle.be_paged.specs.Source.{SourceOf};
 
     ghost Kept = { L.Kept × ((ℕ → Stands) × (ℕ → ℕ → ℕ)) };
 
     ghost kept = { λ s. (L.kept s.look, (L.standing s.look, L.words s.look)) };
 
-    ghost answers_for = { λ s volume. SourceOf (L.standing s.look) (L.words s.look) (contents s.version) s.cursor s.place s.last.items volume };
+    ghost answers_for = { λ s volume. SourceOf (L.standing s.look) (L.words s.look) s.page s.cursor s.place s.last.items volume };
 
-    ghost sound = { λ s volume is. is.answers.sound };
+    ghost sound = { λ s volume is. is.version.sound };
 
     fn kind_of(&mut self, name: &Name) -> Option<Kind> {
-        match search(&self.version.entries, name) {
-            Ok(place) => Some(self.version.entries[place].kind()),
-            Err(_) => None,
+        match find_index(&mut self.look, self.page, name) {
+            Some(index) => Some(index.kind),
+            None => None,
         }
     }
 
     fn next_key(&mut self, name: &Name, from: &[u8], after: bool) -> Option<ArrayVec<u8, 264>> {
-        let Ok(place) = search(&self.version.entries, name) else {
+        let Some(index) = find_index(&mut self.look, self.page, name) else {
             return None;
         };
-        self.walk_to(place, from, after);
+        self.walk_to(index, from, after);
         self.place = NOWHERE;
         let key = self.cursor.next_key(&mut self.look)?;
-        self.place = place;
+        self.place = index.place;
         replace_key(&mut self.last, &key);
         Some(key)
     }
@@ -137,22 +132,21 @@ impl<L: Look> Source for PagedSource<L> {
         high: Option<&[u8]>,
         found: &mut Vec<u64>,
     ) -> Result<(), Refusal> {
-        let Ok(place) = search(&self.version.entries, name) else {
+        let Some(index) = find_index(&mut self.look, self.page, name) else {
             return Ok(());
         };
-        let (_, root) = index_at(&self.version.entries, place);
-        numbers_within(&mut self.look, root, low, high, found)?;
+        numbers_within(&mut self.look, index.root, low, high, found)?;
         Ok(())
     }
 
     fn has_key(&mut self, name: &Name, key: &[u8]) -> bool {
-        match search(&self.version.entries, name) {
-            Ok(place) => has_key(&mut self.look, self.version.entries[place].root(), key),
-            Err(_) => false,
+        match find_index(&mut self.look, self.page, name) {
+            Some(index) => has_key(&mut self.look, index.root, key),
+            None => false,
         }
     }
 
     fn value(&mut self, node: u64, name: &Name) -> Option<Value> {
-        value_in(&mut self.look, self.version.catalog, node, name)
+        get(&mut self.look, self.page, node, name)
     }
 }

@@ -1,5 +1,5 @@
 //! Version pages, read and written.
-ghost use Rattle.std.specs.Prelude.{◌≡◌, ◌≢◌, ℕ, ◌+◌, ◌<◌, All, IsTrue};
+ghost use Rattle.std.specs.Prelude.{◌≡◌, ◌≢◌, ℕ, ◌+◌, ◌<◌, [], All, IsTrue};
 ghost use Rattle.be_volume.specs.Sound.{IsName};
 ghost use Rattle.be_pages.specs.Pages.{is_readable, is_taken, IsUnchanged, StandsAt};
 ghost use Rattle.be_pages.specs.declared.room.Standing.TheVariants.{Filled};
@@ -24,18 +24,32 @@ pub(crate) fn load_version<L: Look>(look: &mut L, page: u64) -> Version
     ensures contents { contents result ≡ contents_of (L.words look.old page) }
     ensures unchanged { IsUnchanged L.kept L.standing L.words look.old look.new }
 {
+    let mut version = Version {
+        next: 0,
+        catalog: 0,
+        entries: ArrayVec::new(),
+    };
+    fill_version(look, page, &mut version);
+    version
+}
+
+/// Puts what a version page tells into contents that have no index yet. They are filled where they stand, since contents that are given by value
+/// cost their whole capacity.
+pub(crate) fn fill_version<L: Look>(look: &mut L, page: u64, version: &mut Version)
+    requires readable { IsTrue (is_readable (L.standing look.old page)) }
+    requires page { IsVersionPage (L.words look.old page) }
+    requires empty { version.old.entries.items ≡ [] }
+    ensures contents { contents version.new ≡ contents_of (L.words look.old page) }
+    ensures unchanged { IsUnchanged L.kept L.standing L.words look.old look.new }
+{
     let count = look.word(page, 1) as usize;
     let next = look.word(page, 2);
     let catalog = look.word(page, 3);
-    let mut version = Version {
-        next,
-        catalog,
-        entries: ArrayVec::new(),
-    };
+    version.next = next;
+    version.catalog = catalog;
     for i in 0..count {
         version.entries.push(Entry::load(look, page, 4 + 11 * i));
     }
-    version
 }
 
 /// Writes a version page that was taken: the words that it uses, and no others.

@@ -13,7 +13,7 @@ ghost use Rattle.be_paged.specs.Page.{contents, contents_of, IsVersionPage};
 
 use crate::edits::edit_all;
 use crate::facts::PageFacts;
-use crate::version::{Version, load_version, store_version};
+use crate::version::{Version, fill_version, store_version};
 use arrayvec::ArrayVec;
 use be_pages::{Look, Room};
 use be_value::Refusal;
@@ -83,7 +83,12 @@ pub fn apply<R: Room>(
     ensures ok { IfOk result (λ r. Applies R.kept R.standing R.words version_page r.0 volume ops.now r.1.items room.old room.new) }
     ensures err { IfErr result (λ e. IsRefused R.kept R.standing R.words R.full volume ops.now e room.old room.new) }
 {
-    let mut version = load_version(room, version_page);
+    let mut version = Version {
+        next: 0,
+        catalog: 0,
+        entries: ArrayVec::new(),
+    };
+    fill_version(room, version_page, &mut version);
     if let Some(reason) = refusal(room, &version, ops) {
         return Err(reason);
     }

@@ -55,6 +55,38 @@ fn ends_before(range: &Range, key: &[u8]) -> bool
     }
 }
 
+/// Whether no key of the range is below the pair's. Each of these four has a key of its own, so that a test makes no more keys than it needs.
+fn starts_at_pair(range: &Range, bound: &Value, node: u64) -> bool
+    requires { IsTrue (is_indexable (kind_of bound.now)) }
+    ensures { result ≡ true → (k : List ℕ) → Within range.now.low.items (option_map (λ b. b.items) range.now.high) k → is_lt (name_cmp k (key_bytes bound.now node)) ≡ false }
+{
+    starts_at(range, key_of(bound, node).as_slice())
+}
+
+/// Whether no key of the range is above the pair's.
+fn ends_at_pair(range: &Range, bound: &Value, node: u64) -> bool
+    requires { IsTrue (is_indexable (kind_of bound.now)) }
+    ensures { result ≡ true → (k : List ℕ) → Within range.now.low.items (option_map (λ b. b.items) range.now.high) k → is_gt (name_cmp k (key_bytes bound.now node)) ≡ false }
+{
+    ends_at(range, key_of(bound, node).as_slice())
+}
+
+/// Whether each key of the range is above the pair's.
+fn starts_behind_pair(range: &Range, bound: &Value, node: u64) -> bool
+    requires { IsTrue (is_indexable (kind_of bound.now)) }
+    ensures { result ≡ true → (k : List ℕ) → Within range.now.low.items (option_map (λ b. b.items) range.now.high) k → is_gt (name_cmp k (key_bytes bound.now node)) ≡ true }
+{
+    starts_behind(range, key_of(bound, node).as_slice())
+}
+
+/// Whether each key of the range is below the pair's.
+fn ends_before_pair(range: &Range, bound: &Value, node: u64) -> bool
+    requires { IsTrue (is_indexable (kind_of bound.now)) }
+    ensures { result ≡ true → (k : List ℕ) → Within range.now.low.items (option_map (λ b. b.items) range.now.high) k → is_lt (name_cmp k (key_bytes bound.now node)) ≡ true }
+{
+    ends_before(range, key_of(bound, node).as_slice())
+}
+
 /// Whether the operator with the bound is true of all values in the range.
 fn is_true_within(range: &Range, op: Cmp, bound: &Value) -> bool
     requires is_value { IsValue bound.now }
@@ -63,15 +95,12 @@ fn is_true_within(range: &Range, op: Cmp, bound: &Value) -> bool
         Within range.now.low.items (option_map (λ b. b.items) range.now.high) (key_bytes v n) → is_true_of op (value_cmp v bound.now) ≡ true }
 {
     match op {
-        Cmp::Eq => {
-            starts_at(range, key_of(bound, 0).as_slice())
-                && ends_at(range, key_of(bound, u64::MAX).as_slice())
-        }
+        Cmp::Eq => starts_at_pair(range, bound, 0) && ends_at_pair(range, bound, u64::MAX),
         Cmp::Ne => false,
-        Cmp::Lt => ends_before(range, key_of(bound, 0).as_slice()),
-        Cmp::Le => ends_at(range, key_of(bound, u64::MAX).as_slice()),
-        Cmp::Gt => starts_behind(range, key_of(bound, u64::MAX).as_slice()),
-        Cmp::Ge => starts_at(range, key_of(bound, 0).as_slice()),
+        Cmp::Lt => ends_before_pair(range, bound, 0),
+        Cmp::Le => ends_at_pair(range, bound, u64::MAX),
+        Cmp::Gt => starts_behind_pair(range, bound, u64::MAX),
+        Cmp::Ge => starts_at_pair(range, bound, 0),
     }
 }
 
@@ -116,6 +145,18 @@ fn is_matched_within(range: &Range, pattern: &Pattern) -> bool
     starts_at(range, front) && ends_below(range, front, limit_of(pattern))
 }
 
+/// Whether the comparison is true of all values in the range, by the value that its literal stands for.
+fn holds_by_bound(range: &Range, comparison: &Comparison, kind: Kind) -> bool
+    ensures { result ≡ true → (v : AnyValue) (n : ℕ) → IsPair kind v n →
+        Within range.now.low.items (option_map (λ b. b.items) range.now.high) (key_bytes v n) →
+        holds comparison.now.op v (literal comparison.now.literal) ≡ true }
+{
+    match bound_of(&comparison.literal, kind) {
+        Some(bound) => is_true_within(range, comparison.op, &bound),
+        None => false,
+    }
+}
+
 /// Whether the comparison is true of all values in the range.
 fn holds_within(range: &Range, comparison: &Comparison, kind: Kind) -> bool
     ensures { result ≡ true → (v : AnyValue) (n : ℕ) → IsPair kind v n →
@@ -124,10 +165,7 @@ fn holds_within(range: &Range, comparison: &Comparison, kind: Kind) -> bool
 {
     match (kind, comparison.op, &comparison.literal) {
         (Kind::Cstr, Cmp::Eq, Literal::Pattern(pattern)) => is_matched_within(range, pattern),
-        (_, op, given) => match bound_of(given, kind) {
-            Some(bound) => is_true_within(range, op, &bound),
-            None => false,
-        },
+        _ => holds_by_bound(range, comparison, kind),
     }
 }
 

@@ -47,44 +47,48 @@ impl Range {
         }
     }
 
-    /// Leaves out keys below this one.
-    fn raise(&mut self, key: ArrayVec<u8, 264>)
-        ensures { (k : List ℕ) → is_lt (name_cmp k key.items) ≡ false →
+    /// Leaves out keys below this one. Of one that is longer than a key there is nothing to leave out.
+    fn raise(&mut self, key: &[u8])
+        ensures { (k : List ℕ) → is_lt (name_cmp k key.now) ≡ false →
             Within self.old.low.items (option_map (λ b. b.items) self.old.high) k →
             Within self.new.low.items (option_map (λ b. b.items) self.new.high) k }
     {
-        if self.low.as_slice() < key.as_slice() {
-            self.low = key;
+        if self.low.as_slice() < key && key.len() <= 264 {
+            replace_bytes(&mut self.low, key);
         }
     }
 
-    /// Leaves out keys above this one.
-    fn lower(&mut self, key: ArrayVec<u8, 264>)
-        ensures { (k : List ℕ) → is_gt (name_cmp k key.items) ≡ false →
+    /// Leaves out keys above this one. One that is longer than a key leaves out none.
+    fn lower(&mut self, key: &[u8])
+        ensures { (k : List ℕ) → is_gt (name_cmp k key.now) ≡ false →
             Within self.old.low.items (option_map (λ b. b.items) self.old.high) k →
             Within self.new.low.items (option_map (λ b. b.items) self.new.high) k }
     {
-        let lowers = match &self.high {
-            Some(high) => key.as_slice() < high.as_slice(),
-            None => true,
-        };
-        if lowers {
-            self.high = Some(key);
+        if key.len() > 264 {
+            return;
+        }
+        match &mut self.high {
+            Some(high) => {
+                if key < high.as_slice() {
+                    replace_bytes(high, key);
+                }
+            }
+            None => self.high = Some(bytes_of(key)),
         }
     }
 
     /// Leaves out keys that aren't above this one. The least bytes above it are its own and a zero byte; where these don't fit, it stays in.
-    fn raise_above(&mut self, key: ArrayVec<u8, 264>)
-        ensures { (k : List ℕ) → is_gt (name_cmp k key.items) ≡ true →
+    fn raise_above(&mut self, key: &[u8])
+        ensures { (k : List ℕ) → is_gt (name_cmp k key.now) ≡ true →
             Within self.old.low.items (option_map (λ b. b.items) self.old.high) k →
             Within self.new.low.items (option_map (λ b. b.items) self.new.high) k }
     {
-        self.raise(with_zero(key));
+        raise_to(self, key, &[0]);
     }
 
     /// Leaves out keys that aren't below this one. Where its last byte is zero, the greatest bytes below it are the others; elsewhere it stays in.
-    fn lower_below(&mut self, key: ArrayVec<u8, 264>)
-        ensures { (k : List ℕ) → is_lt (name_cmp k key.items) ≡ true →
+    fn lower_below(&mut self, key: &[u8])
+        ensures { (k : List ℕ) → is_lt (name_cmp k key.now) ≡ true →
             Within self.old.low.items (option_map (λ b. b.items) self.old.high) k →
             Within self.new.low.items (option_map (λ b. b.items) self.new.high) k }
     {
@@ -99,28 +103,33 @@ impl Range {
     }
 }
 
-/// The key with a zero byte, where it fits.
-fn with_zero(key: ArrayVec<u8, 264>) -> ArrayVec<u8, 264>
-    ensures { (k : List ℕ) → is_gt (name_cmp k key.items) ≡ true → is_lt (name_cmp k result.items) ≡ false }
+/// Puts other bytes in the place of these.
+fn replace_bytes(bytes: &mut ArrayVec<u8, 264>, others: &[u8])
+    requires { length others.now ≤ 264 }
+    ensures { bytes.new.items ≡ others.now }
 {
-    let mut key = key;
-    if key.len() < 264 {
-        key.push(0);
-    }
-    key
+    bytes.clear();
+    bytes.try_extend_from_slice(others).unwrap();
+}
+
+/// The same bytes.
+fn bytes_of(others: &[u8]) -> ArrayVec<u8, 264>
+    requires { length others.now ≤ 264 }
+    ensures { result.items ≡ others.now }
+{
+    let mut bytes = ArrayVec::new();
+    bytes.try_extend_from_slice(others).unwrap();
+    bytes
 }
 
 /// The key without its last byte, if that is zero.
-fn without_zero(key: ArrayVec<u8, 264>) -> ArrayVec<u8, 264>
-    ensures { (k : List ℕ) → is_lt (name_cmp k key.items) ≡ true → is_gt (name_cmp k result.items) ≡ false }
+fn without_zero(key: &[u8]) -> &[u8]
+    ensures { (k : List ℕ) → is_lt (name_cmp k key.now) ≡ true → is_gt (name_cmp k result.now) ≡ false }
 {
-    let mut key = key;
-    if let Some(last) = key.pop() {
-        if last != 0 {
-            key.push(last);
-        }
+    match key.split_last() {
+        Some((0, front)) => front,
+        _ => key,
     }
-    key
 }
 
 /// Whether the key is above the bound, if there is one.
@@ -193,6 +202,46 @@ fn is_false_of_all(comparison: &Comparison, kind: Kind) -> bool
     )
 }
 
+/// Leaves out keys below the pair's. Each of these four has a key of its own, so that a bound makes no more keys than it needs.
+fn raise_pair(range: &mut Range, bound: &Value, node: u64)
+    requires { IsTrue (is_indexable (kind_of bound.now)) }
+    ensures { (k : List ℕ) → is_lt (name_cmp k (key_bytes bound.now node)) ≡ false →
+        Within range.old.low.items (option_map (λ b. b.items) range.old.high) k →
+        Within range.new.low.items (option_map (λ b. b.items) range.new.high) k }
+{
+    range.raise(key_of(bound, node).as_slice());
+}
+
+/// Leaves out keys above the pair's.
+fn lower_pair(range: &mut Range, bound: &Value, node: u64)
+    requires { IsTrue (is_indexable (kind_of bound.now)) }
+    ensures { (k : List ℕ) → is_gt (name_cmp k (key_bytes bound.now node)) ≡ false →
+        Within range.old.low.items (option_map (λ b. b.items) range.old.high) k →
+        Within range.new.low.items (option_map (λ b. b.items) range.new.high) k }
+{
+    range.lower(key_of(bound, node).as_slice());
+}
+
+/// Leaves out keys that aren't above the pair's.
+fn raise_above_pair(range: &mut Range, bound: &Value, node: u64)
+    requires { IsTrue (is_indexable (kind_of bound.now)) }
+    ensures { (k : List ℕ) → is_gt (name_cmp k (key_bytes bound.now node)) ≡ true →
+        Within range.old.low.items (option_map (λ b. b.items) range.old.high) k →
+        Within range.new.low.items (option_map (λ b. b.items) range.new.high) k }
+{
+    range.raise_above(key_of(bound, node).as_slice());
+}
+
+/// Leaves out keys that aren't below the pair's.
+fn lower_below_pair(range: &mut Range, bound: &Value, node: u64)
+    requires { IsTrue (is_indexable (kind_of bound.now)) }
+    ensures { (k : List ℕ) → is_lt (name_cmp k (key_bytes bound.now node)) ≡ true →
+        Within range.old.low.items (option_map (λ b. b.items) range.old.high) k →
+        Within range.new.low.items (option_map (λ b. b.items) range.new.high) k }
+{
+    range.lower_below(key_of(bound, node).as_slice());
+}
+
 /// Leaves out keys of values at which the operator with the bound is false.
 fn narrow_by(range: &mut Range, op: Cmp, bound: &Value)
     requires is_value { IsValue bound.now }
@@ -203,25 +252,23 @@ fn narrow_by(range: &mut Range, op: Cmp, bound: &Value)
 {
     match op {
         Cmp::Eq => {
-            range.raise(key_of(bound, 0));
-            range.lower(key_of(bound, u64::MAX));
+            raise_pair(range, bound, 0);
+            lower_pair(range, bound, u64::MAX);
         }
         Cmp::Ne => {}
-        Cmp::Lt => range.lower_below(key_of(bound, 0)),
-        Cmp::Le => range.lower(key_of(bound, u64::MAX)),
-        Cmp::Gt => range.raise_above(key_of(bound, u64::MAX)),
-        Cmp::Ge => range.raise(key_of(bound, 0)),
+        Cmp::Lt => lower_below_pair(range, bound, 0),
+        Cmp::Le => lower_pair(range, bound, u64::MAX),
+        Cmp::Gt => raise_above_pair(range, bound, u64::MAX),
+        Cmp::Ge => raise_pair(range, bound, 0),
     }
 }
 
-/// A key that begins so.
-fn key_with(front: &[u8], end: &[u8]) -> Option<ArrayVec<u8, 264>>
-    ensures { IfSome result (λ key. key.items ≡ front.now ++ end.now) }
+/// Puts a front and an end in the place of bytes, if they fit; where they don't, the front may be lost.
+fn join_bytes(bytes: &mut ArrayVec<u8, 264>, front: &[u8], end: &[u8]) -> bool
+    ensures { result ≡ true → bytes.new.items ≡ front.now ++ end.now }
 {
-    let mut key = ArrayVec::new();
-    key.try_extend_from_slice(front).ok()?;
-    key.try_extend_from_slice(end).ok()?;
-    Some(key)
+    bytes.clear();
+    bytes.try_extend_from_slice(front).is_ok() && bytes.try_extend_from_slice(end).is_ok()
 }
 
 /// Leaves out keys below these bytes.
@@ -230,8 +277,9 @@ fn raise_to(range: &mut Range, front: &[u8], end: &[u8])
         Within range.old.low.items (option_map (λ b. b.items) range.old.high) k →
         Within range.new.low.items (option_map (λ b. b.items) range.new.high) k }
 {
-    if let Some(key) = key_with(front, end) {
-        range.raise(key);
+    let mut key = ArrayVec::new();
+    if join_bytes(&mut key, front, end) {
+        range.raise(key.as_slice());
     }
 }
 
@@ -241,8 +289,9 @@ fn lower_to(range: &mut Range, front: &[u8], end: &[u8])
         Within range.old.low.items (option_map (λ b. b.items) range.old.high) k →
         Within range.new.low.items (option_map (λ b. b.items) range.new.high) k }
 {
-    if let Some(key) = key_with(front, end) {
-        range.lower(key);
+    let mut key = ArrayVec::new();
+    if join_bytes(&mut key, front, end) {
+        range.lower(key.as_slice());
     }
 }
 
@@ -264,7 +313,7 @@ fn narrow_by_pattern(range: &mut Range, pattern: &Pattern)
         return;
     }
     let limit = limit_of(pattern);
-    raise_to(range, pattern.prefix().as_bytes(), &[]);
+    range.raise(pattern.prefix().as_bytes());
     lower_to(range, pattern.prefix().as_bytes(), &[limit]);
 }
 
@@ -288,6 +337,19 @@ fn narrow_by_long(range: &mut Range, op: Cmp, words: &[u8])
     }
 }
 
+/// Leaves out keys of values at which the comparison is false, by the value that its literal stands for.
+fn narrow_by_bound(range: &mut Range, comparison: &Comparison, kind: Kind)
+    ensures { (v : AnyValue) (n : ℕ) → IsPair kind v n → holds comparison.now.op v (literal comparison.now.literal) ≡ true →
+        Within range.old.low.items (option_map (λ b. b.items) range.old.high) (key_bytes v n) →
+        Within range.new.low.items (option_map (λ b. b.items) range.new.high) (key_bytes v n) }
+{
+    if let Some(bound) = bound_of(&comparison.literal, kind) {
+        narrow_by(range, comparison.op, &bound);
+    } else if is_false_of_all(comparison, kind) {
+        range.close();
+    }
+}
+
 /// Leaves out keys of values at which the comparison is false.
 fn narrow(range: &mut Range, comparison: &Comparison, kind: Kind)
     ensures { (v : AnyValue) (n : ℕ) → IsPair kind v n → holds comparison.now.op v (literal comparison.now.literal) ≡ true →
@@ -299,13 +361,7 @@ fn narrow(range: &mut Range, comparison: &Comparison, kind: Kind)
         (Kind::Cstr, op, Literal::Text(words)) if words.as_str().len() > 255 => {
             narrow_by_long(range, op, words.as_str().as_bytes());
         }
-        (_, op, given) => {
-            if let Some(bound) = bound_of(given, kind) {
-                narrow_by(range, op, &bound);
-            } else if is_false_of_all(comparison, kind) {
-                range.close();
-            }
-        }
+        _ => narrow_by_bound(range, comparison, kind),
     }
 }
 

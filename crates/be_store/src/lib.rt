@@ -10,7 +10,7 @@
 //! of each accepted write is the sequential volume's at its place, the writes of each pass stand there once and in
 //! their order, a pin names a beginning of the journal that contains all that its pass had seen, and the answer of a
 //! query is that of the volume after this beginning. A refused write is refused as the volume after what its pass has
-//! then seen refuses it.
+//! then seen refuses it. `laws` has what follows for what a pass has seen, and for the only pass of a store.
 //!
 //! # How it stands on the crates below
 //! The volume is in pages: be_paged reads and writes it over any reader and any room of pages, and be_table's open

@@ -1,6 +1,7 @@
 pub mod Codec
 mod Words
 mod Branches
+mod Straddling
 pub mod Slots
 mod PutAt
 pub mod Order

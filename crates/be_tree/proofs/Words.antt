@@ -20,7 +20,7 @@ use Rattle.std.proofs.lemmas.Bool.{cases_lt, cases_eq}
 high_suc : (n j : ℕ) → n / 256 ^ suc j ≡ n / 256 ^ j / 256
 high_suc n j = ap (λ (m : ℕ). n / m) (pow-suc 256 j) ∙ sym (div-div-eq-div-mul n (256 ^ j) 256)
 
-byte_is : (j n : ℕ) → byte_at j n ≡ n / 256 ^ j % 256
+pub byte_is : (j n : ℕ) → byte_at j n ≡ n / 256 ^ j % 256
 byte_is zero n = ap (λ (m : ℕ). m % 256) (sym (div-one n))
 byte_is (suc j) n = refl
 
@@ -173,17 +173,18 @@ cmp_end (x ∷ xs) (y ∷ ys) (suc c) lx ly h = cmp_end xs ys c (omega (arith, l
         by_order (inr ge) (inl e) = same_cmp n m e ∙ sym (same_cmp (suc n) (suc m) (ap suc e))
         by_order (inr ge) (inr ne) = more_cmp n m (omega (arith, ge, ne)) ∙ sym (more_cmp (suc n) (suc m) (omega (arith, ge, ne)))
 
+-- powers of bytes, as powers of bits
+pub pow256 : (m : ℕ) → 256 ^ m ≡ 2 ^ (8 * m)
+pow256 zero = refl
+pow256 (suc m) =
+    let e : 8 * suc m ≡ 8 * m + 8 = omega arith in
+    pow-suc 256 m ∙ ap (λ (n : ℕ). n * 256) (pow256 m) ∙ sym (ap (λ (n : ℕ). 2 ^ n) e ∙ pow-add 2 (8 * m) 8)
+
 -- a shift by bytes
 pub byte_shift : (a r : ℕ) → r ≤ 8 → a / 256 ^ (8 - r) ≡ a / 2 ^ (64 - 8 * r)
 byte_shift a r le =
     let e : 8 * (8 - r) ≡ 64 - 8 * r = omega (arith, le) in
     ap (λ (m : ℕ). a / m) (pow256 (8 - r) ∙ ap (λ (m : ℕ). 2 ^ m) e)
-  where
-    pow256 : (m : ℕ) → 256 ^ m ≡ 2 ^ (8 * m)
-    pow256 zero = refl
-    pow256 (suc m) =
-        let e : 8 * suc m ≡ 8 * m + 8 = omega arith in
-        pow-suc 256 m ∙ ap (λ (n : ℕ). n * 256) (pow256 m) ∙ sym (ap (λ (n : ℕ). 2 ^ n) e ∙ pow-add 2 (8 * m) 8)
 
 pub item_key_length : (w : ℕ → ℕ) (at : ℕ) → length (item_at w at).key ≡ key_len w at
 item_key_length w at =

@@ -25,6 +25,5 @@ pub use edit::insert;
 pub use laws::{tree_beside, tree_kept, tree_replaced, tree_undone};
 pub use lookup::{find, has_key};
 pub use numbers::numbers_within;
-pub use page::{load_bytes, store_bytes};
 pub use removal::remove;
 pub use walk::{TreeItem, range};

@@ -1,5 +1,5 @@
 //! Items read from a page and written to it.
-ghost use Rattle.std.specs.Prelude.{◌≡◌, ◌≢◌, ℕ, [], ◌+◌, ◌*◌, ◌<◌, ◌≤◌, ◌++◌, All, IsTrue, length, take, drop, map, slice_index};
+ghost use Rattle.std.specs.Prelude.{◌≡◌, ◌≢◌, ℕ, [], ◌+◌, ◌-◌, ◌*◌, ◌/◌, ◌%◌, ◌<◌, ◌≤◌, ◌++◌, All, IsTrue, length, take, drop, map, slice_index};
 ghost use Rattle.std.specs.List.{range_with_len};
 ghost use Rattle.std.specs.Int.{from_be_bytes, to_be_bytes, w64};
 ghost use Rattle.be_pages.specs.Pages.{is_readable, is_taken, IsUnchanged, OnlyWrites, StandsAt};
@@ -18,7 +18,8 @@ use arrayvec::ArrayVec;
 use be_pages::{Look, Room};
 use std::cmp::Ordering;
 
-/// The page that the branch at a place names. Behind a key of whole words its number is a word.
+/// The page that the branch at a place names. Its number is a word behind a key of whole words, and stands in two words
+/// behind any other.
 pub(crate) fn child_at<L: Look>(look: &mut L, page: u64, at: usize) -> u64
     requires readable { IsTrue (is_readable (L.standing look.old page)) }
     requires in_page { at + 42 ≤ 512 }
@@ -30,12 +31,20 @@ pub(crate) fn child_at<L: Look>(look: &mut L, page: u64, at: usize) -> u64
     let key_len = (look.word(page, at) >> 32) as usize;
     let skip = key_len % 8;
     let from = at + 1 + key_len / 8;
+    let first = look.word(page, from);
     if skip == 0 {
-        return look.word(page, from);
+        return first;
     }
-    let mut bytes: ArrayVec<u8, 16> = ArrayVec::new();
-    fill_bytes(look, page, from, 0, skip + 8, &mut bytes);
-    number_in(&bytes[skip..])
+    let second = look.word(page, from + 1);
+    straddled(first, second, skip)
+}
+
+/// The number whose eight bytes stand in two words, from a byte of the first one on.
+fn straddled(first: u64, second: u64, skip: usize) -> u64
+    requires { (0 < skip) × (skip < 8) }
+    ensures { result ≡ first * 2 ^ (8 * skip) % 2 ^ 64 + second / 2 ^ (64 - 8 * skip) }
+{
+    (first << (8 * skip)) + (second >> (64 - 8 * skip))
 }
 
 /// The number in eight bytes, the most significant first.
@@ -119,29 +128,6 @@ fn least_of(a: usize, b: usize) -> usize
     if a < b { a } else { b }
 }
 
-/// The first `n` bytes from a word on; the first byte is the most significant of the first word.
-pub fn load_bytes<L: Look, const N: usize>(
-    look: &mut L,
-    page: u64,
-    at: usize,
-    n: usize,
-) -> ArrayVec<u8, N>
-    requires readable { IsTrue (is_readable (L.standing look.old page)) }
-    requires in_page { at + words_for n ≤ 512 }
-    requires fits { 8 * words_for n ≤ N }
-    ensures bytes { result.items ≡ bytes_at (L.words look.old page) at n }
-    ensures len { length result.items ≡ n }
-    ensures unchanged { IsUnchanged L.kept L.standing L.words look.old look.new }
-{
-    let mut bytes = ArrayVec::new();
-    for i in 0..(n + 7) / 8 {
-        let word = look.word(page, at + i).to_be_bytes();
-        extend(&mut bytes, &word);
-    }
-    bytes.truncate(n);
-    bytes
-}
-
 /// Puts the `n` bytes that stand `skip` bytes behind the start of a word into an empty vector. It is filled where it
 /// stands, since a vector that is given by value costs its whole capacity.
 pub(crate) fn fill_bytes<L: Look, const N: usize>(
@@ -219,7 +205,7 @@ fn word_from(bytes: &[u8], from: usize) -> u64
 
 /// Writes bytes into the words from a place on, of a page that has a word filled, eight in a word, and zeros after the
 /// last.
-pub fn store_bytes<R: Room>(room: &mut R, page: u64, at: usize, bytes: &[u8])
+pub(crate) fn store_bytes<R: Room>(room: &mut R, page: u64, at: usize, bytes: &[u8])
     requires filled { R.standing room.old page ≡ Filled }
     requires in_page { at + words_for (length bytes.now) ≤ 512 }
     requires fits { length bytes.now ≤ 328 }

@@ -1,4 +1,4 @@
-use Rattle.std.proofs.Common.{◌∷◌, [], ◌++◌, ◌<◌, length, ap, ◌∙◌, arith, rules}
+use Rattle.std.proofs.Common.{◌∷◌, [], ◌++◌, ◌<◌, length, append-nil, ap, sym, ◌∙◌, arith, rules}
 use Rattle.be_value.specs.Key.{key}
 use Rattle.be_value.specs.declared.values.Value.TheVariants.{Cstr}
 use Rattle.be_plan.proofs.Prefixes.{front_bytes, not_shorter, key_not_below, key_not_above}
@@ -14,4 +14,4 @@ returns c = λ text n utf8 short matched within.
     let parts = c.args.pattern.now in
     c.lower_to.ensures (key (Cstr text) n)
     (key_not_above parts text n utf8 matched _ (ap (λ b. b ++ c.limit_of-limit.result ∷ []) (c.as_bytes-2.ensures.value ∙ c.prefix-3.ensures) ∙ ap (λ l. front_bytes parts ++ l ∷ []) c.limit_of-limit.ensures))
-    (c.raise_to.ensures (key (Cstr text) n) (key_not_below parts text n utf8 matched _ (ap (λ b. b ++ []) (c.as_bytes.ensures.value ∙ c.prefix-2.ensures))) within)
+    (c.raise.ensures (key (Cstr text) n) (key_not_below parts text n utf8 matched _ (c.as_bytes.ensures.value ∙ c.prefix-2.ensures ∙ sym (append-nil (front_bytes parts)))) within)

@@ -1,36 +1,65 @@
-use Rattle.std.proofs.Common.{ℕ, List, get_or, ap, sym, ◌∙◌, subst, is_some}
+use Rattle.std.proofs.Common.{ℕ, [], get_or, ap, sym, ◌∙◌, subst, is_some}
 use Rattle.be_tree.specs.Key.{payload_at}
 use Rattle.be_tree.specs.Tree.{IsTree, pairs}
+use Rattle.be_value.specs.declared.values.Kind.TheVariants as kinds
 use Rattle.be_paged.specs.Entry.{Entry}
-use Rattle.be_paged.specs.Page.{IsNamedAt, IsGapAt, contents}
+use Rattle.be_paged.specs.Page.{contents_of}
+use Rattle.be_paged.proofs.PageIndices.{source_since}
 use Rattle.be_paged.proofs.SourceKeys.{entry_tree, no_key, key_found, key_finds}
+use Rattle.be_paged.proofs.Versions.{version_since}
 use Rattle.be_paged.proofs.paged_source.PagedSourceSource.has_key.Goals as goal
+
+nowhere : Entry
+nowhere = record { name = []; kind = kinds.Cstr; root = 0 }
 
 pub has_key-requires : goal.has_key-requires
 has_key-requires g c =
-    let s = g.L.Look.standing c.args.self.now.look in
-    let w = g.L.Look.words c.args.self.now.look in
-    let named = subst (λ (xs : List Entry). IsNamedAt xs c.args.name.now c.in-Ok.place) c.deref.ensures.0 c.in-Ok.ensures.found in
+    let self = c.args.self.now in
+    let s = g.L.Look.standing c.find_index.new.look in
+    let w = g.L.Look.words c.find_index.new.look in
+    let since = c.in-Some.ensures.unchanged in
+    let version = version_since (g.L.Look.standing self.look) s (g.L.Look.words self.look) w self.page c.requires.0 since.standing since.words c.requires.1.version in
     record {
-      tree = subst (λ (r : ℕ). IsTree s w r) (sym (c.root.ensures ∙ ap (λ (e : Entry). e.root) c.index-deref-place.is ∙ ap (λ (xs : List Entry). (get_or xs c.in-Ok.place c.index-deref-place.result).root) c.deref-in-Ok.ensures.0))
-          (entry_tree s w (contents c.args.self.now.version) c.in-Ok.place c.index-deref-place.result c.requires.1.answers.in_hand named.in_range);
+      tree = subst (λ (r : ℕ). IsTree s w r) (sym (c.in-Some.ensures.root nowhere))
+          (entry_tree s w (contents_of (w self.page)) c.in-Some.index.place nowhere version.in_hand c.in-Some.ensures.found.in_range);
     }
 
-pub returns-in-Ok-clause-found : goal.returns-in-Ok-clause-found
-returns-in-Ok-clause-found g c = λ volume of found.
-    let w = g.L.Look.words c.args.self.now.look in
-    let named = subst (λ (xs : List Entry). IsNamedAt xs c.args.name.now c.in-Ok.place) c.deref.ensures.0 c.in-Ok.ensures.found in
-    key_found w (contents c.args.self.now.version) volume c.args.name.now c.in-Ok.place of.answers.spells c.index-deref-place.result named c.args.key.now
-    (ap (λ (r : ℕ). is_some (payload_at (pairs w r) c.args.key.now)) (sym (c.root.ensures ∙ ap (λ (e : Entry). e.root) c.index-deref-place.is ∙ ap (λ (xs : List Entry). (get_or xs c.in-Ok.place c.index-deref-place.result).root) c.deref-in-Ok.ensures.0)) ∙ sym c.has_key.ensures.found ∙ found)
+pub returns-in-Some-clause-found : goal.returns-in-Some-clause-found
+returns-in-Some-clause-found g c = λ volume of found.
+    let self = c.args.self.now in
+    let w = g.L.Look.words c.find_index.new.look in
+    let since = c.in-Some.ensures.unchanged in
+    let version = version_since (g.L.Look.standing self.look) (g.L.Look.standing c.find_index.new.look) (g.L.Look.words self.look) w self.page volume since.standing since.words of.version in
+    key_found w (contents_of (w self.page)) volume c.args.name.now c.in-Some.index.place version.spells nowhere c.in-Some.ensures.found c.args.key.now
+    (ap (λ (r : ℕ). is_some (payload_at (pairs w r) c.args.key.now)) (sym (c.in-Some.ensures.root nowhere)) ∙ sym c.has_key.ensures.found ∙ found)
 
-pub returns-in-Ok-clause-finds : goal.returns-in-Ok-clause-finds
-returns-in-Ok-clause-finds g c = λ volume of is.
-    let w = g.L.Look.words c.args.self.now.look in
-    let named = subst (λ (xs : List Entry). IsNamedAt xs c.args.name.now c.in-Ok.place) c.deref.ensures.0 c.in-Ok.ensures.found in
-    c.has_key.ensures.found ∙ ap (λ (r : ℕ). is_some (payload_at (pairs w r) c.args.key.now)) (c.root.ensures ∙ ap (λ (e : Entry). e.root) c.index-deref-place.is ∙ ap (λ (xs : List Entry). (get_or xs c.in-Ok.place c.index-deref-place.result).root) c.deref-in-Ok.ensures.0)
-    ∙ key_finds w (contents c.args.self.now.version) volume c.args.name.now c.in-Ok.place of.answers.spells c.index-deref-place.result named c.args.key.now is
+pub returns-in-Some-clause-finds : goal.returns-in-Some-clause-finds
+returns-in-Some-clause-finds g c = λ volume of is.
+    let self = c.args.self.now in
+    let w = g.L.Look.words c.find_index.new.look in
+    let since = c.in-Some.ensures.unchanged in
+    let version = version_since (g.L.Look.standing self.look) (g.L.Look.standing c.find_index.new.look) (g.L.Look.words self.look) w self.page volume since.standing since.words of.version in
+    c.has_key.ensures.found ∙ ap (λ (r : ℕ). is_some (payload_at (pairs w r) c.args.key.now)) (c.in-Some.ensures.root nowhere)
+    ∙ key_finds w (contents_of (w self.page)) volume c.args.name.now c.in-Some.index.place version.spells nowhere c.in-Some.ensures.found c.args.key.now is
 
-pub returns-in-Err-clause-finds : goal.returns-in-Err-clause-finds
-returns-in-Err-clause-finds g c = λ volume of is.
-    let gap = subst (λ (xs : List Entry). IsGapAt xs c.args.name.now c.in-Err.field-0) c.deref.ensures.0 c.in-Err.ensures.absent in
-    absurd (no_key (g.L.Look.words c.args.self.now.look) (contents c.args.self.now.version) volume c.args.name.now c.in-Err.field-0 of.answers.spells gap c.args.key.now is)
+pub returns-in-None-clause-finds : goal.returns-in-None-clause-finds
+returns-in-None-clause-finds g c = λ volume of is.
+    let self = c.args.self.now in
+    let w = g.L.Look.words c.find_index.new.look in
+    let since = c.in-None.ensures.unchanged in
+    let version = version_since (g.L.Look.standing self.look) (g.L.Look.standing c.find_index.new.look) (g.L.Look.words self.look) w self.page volume since.standing since.words of.version in
+    absurd (no_key w (contents_of (w self.page)) volume c.args.name.now c.in-None.ensures.absent.0 version.spells c.in-None.ensures.absent.1 c.args.key.now is)
+
+pub returns-in-Some-clause-answers : goal.returns-in-Some-clause-answers
+returns-in-Some-clause-answers g c = λ volume of.
+    let self = c.args.self.now in
+    let first = c.in-Some.ensures.unchanged in
+    let last = c.has_key.ensures.unchanged in
+    source_since (g.L.Look.standing self.look) (g.L.Look.standing c.has_key.new.look) (g.L.Look.words self.look) (g.L.Look.words c.has_key.new.look) self.page self.cursor self.place self.last.items volume
+    (last.standing ∙ first.standing) (last.words ∙ first.words) of
+
+pub returns-in-None-clause-answers : goal.returns-in-None-clause-answers
+returns-in-None-clause-answers g c = λ volume of.
+    let self = c.args.self.now in
+    let since = c.in-None.ensures.unchanged in
+    source_since (g.L.Look.standing self.look) (g.L.Look.standing c.find_index.new.look) (g.L.Look.words self.look) (g.L.Look.words c.find_index.new.look) self.page self.cursor self.place self.last.items volume since.standing since.words of

@@ -1,20 +1,41 @@
-use Rattle.std.proofs.Common.{List, Some, get_or, ap, ◌∙◌, subst}
+use Rattle.std.proofs.Common.{[], Some, ap, ◌∙◌}
 use Rattle.be_value.specs.declared.values.Kind.{Kind}
+use Rattle.be_value.specs.declared.values.Kind.TheVariants as kinds
 use Rattle.be_paged.specs.Entry.{Entry}
-use Rattle.be_paged.specs.Page.{IsNamedAt, IsGapAt}
+use Rattle.be_paged.specs.Page.{contents_of}
 use Rattle.be_paged.proofs.Indexing.{kind_found, kind_absent}
+use Rattle.be_paged.proofs.PageIndices.{source_since}
+use Rattle.be_paged.proofs.Versions.{version_since}
 use Rattle.be_paged.proofs.paged_source.PagedSourceSource.kind_of.Goals as goal
 
-pub returns-in-Ok-clause-answer : goal.returns-in-Ok-clause-answer
-returns-in-Ok-clause-answer g c = λ volume of.
-    let name = c.args.name.now in
-    let d = c.index-deref-place.result in
-    ap (λ (k : Kind). Some k) (c.kind.ensures ∙ ap (λ (e : Entry). e.kind) c.index-deref-place.is) ∙ ap (λ (xs : List Entry). Some (get_or xs c.in-Ok.place d).kind) c.deref-in-Ok.ensures.0
-    ∙ kind_found (g.L.Look.words c.args.self.now.look) c.args.self.now.version.entries.items volume.indices name c.in-Ok.place d of.answers.spells.indices
-    (subst (λ (xs : List Entry). IsNamedAt xs name c.in-Ok.place) c.deref.ensures.0 c.in-Ok.ensures.found)
+nowhere : Entry
+nowhere = record { name = []; kind = kinds.Cstr; root = 0 }
 
-pub returns-in-Err-clause-answer : goal.returns-in-Err-clause-answer
-returns-in-Err-clause-answer g c = λ volume of.
-    let name = c.args.name.now in
-    kind_absent (g.L.Look.words c.args.self.now.look) c.args.self.now.version.entries.items volume.indices name c.in-Err.field-0 of.answers.spells.indices
-    (subst (λ (xs : List Entry). IsGapAt xs name c.in-Err.field-0) c.deref.ensures.0 c.in-Err.ensures.absent)
+pub returns-in-Some-clause-answer : goal.returns-in-Some-clause-answer
+returns-in-Some-clause-answer g c = λ volume of.
+    let self = c.args.self.now in
+    let w = g.L.Look.words c.find_index.new.look in
+    let since = c.in-Some.ensures.unchanged in
+    let version = version_since (g.L.Look.standing self.look) (g.L.Look.standing c.find_index.new.look) (g.L.Look.words self.look) w self.page volume since.standing since.words of.version in
+    ap (λ (k : Kind). Some k) (c.in-Some.ensures.kind nowhere)
+    ∙ kind_found w (contents_of (w self.page)).entries volume.indices c.args.name.now c.in-Some.index.place nowhere version.spells.indices c.in-Some.ensures.found
+
+pub returns-in-None-clause-answer : goal.returns-in-None-clause-answer
+returns-in-None-clause-answer g c = λ volume of.
+    let self = c.args.self.now in
+    let w = g.L.Look.words c.find_index.new.look in
+    let since = c.in-None.ensures.unchanged in
+    let version = version_since (g.L.Look.standing self.look) (g.L.Look.standing c.find_index.new.look) (g.L.Look.words self.look) w self.page volume since.standing since.words of.version in
+    kind_absent w (contents_of (w self.page)).entries volume.indices c.args.name.now c.in-None.ensures.absent.0 version.spells.indices c.in-None.ensures.absent.1
+
+pub returns-in-Some-clause-answers : goal.returns-in-Some-clause-answers
+returns-in-Some-clause-answers g c = λ volume of.
+    let self = c.args.self.now in
+    let since = c.in-Some.ensures.unchanged in
+    source_since (g.L.Look.standing self.look) (g.L.Look.standing c.find_index.new.look) (g.L.Look.words self.look) (g.L.Look.words c.find_index.new.look) self.page self.cursor self.place self.last.items volume since.standing since.words of
+
+pub returns-in-None-clause-answers : goal.returns-in-None-clause-answers
+returns-in-None-clause-answers g c = λ volume of.
+    let self = c.args.self.now in
+    let since = c.in-None.ensures.unchanged in
+    source_since (g.L.Look.standing self.look) (g.L.Look.standing c.find_index.new.look) (g.L.Look.words self.look) (g.L.Look.words c.find_index.new.look) self.page self.cursor self.place self.last.items volume since.standing since.words of

@@ -2,7 +2,7 @@ use Rattle.std.proofs.Common.{ℕ, ◌++◌, ◌∷◌, [], ◌∙◌, ap, sym, 
 use Rattle.std.specs.List.{range_with_len}
 use Rattle.std.proofs.lemmas.List.FromFn.{map-range_with_len_more}
 use Rattle.be_paged.specs.Page.{entry_at, place_of, IsEntry}
-use Rattle.be_paged.proofs.version.load_version.Goals as goal
+use Rattle.be_paged.proofs.version.fill_version.Goals as goal
 
 pub loop-i-preserved : goal.loop-i-preserved
 loop-i-preserved g c =

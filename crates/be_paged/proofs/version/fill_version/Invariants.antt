@@ -2,7 +2,7 @@ use Rattle.std.proofs.Common.{◌≡◌, length, map}
 use Rattle.std.specs.List.{range_with_len}
 use Rattle.be_pages.specs.Pages.{IsUnchanged}
 use Rattle.be_paged.specs.Page.{entry_at, place_of}
-use Rattle.be_paged.proofs.version.load_version.Given as goal
+use Rattle.be_paged.proofs.version.fill_version.Given as goal
 
 abbrev pub invariant-loop-i : goal.invariant-loop-i
 invariant-loop-i g l = record {

@@ -1,0 +1,14 @@
+use Rattle.be_paged.proofs.PageIndices.{source_since}
+use Rattle.be_paged.proofs.paged_source.PagedSourceSource.value.Goals as goal
+
+pub get-requires : goal.get-requires
+get-requires g c = record { version = (c.requires.0, c.requires.1.version) }
+
+pub returns-clause-answer : goal.returns-clause-answer
+returns-clause-answer g c = λ volume of. c.get.ensures.value volume of.version
+
+pub returns-clause-answers : goal.returns-clause-answers
+returns-clause-answers g c = λ volume of.
+    let self = c.args.self.now in
+    let since = c.get.ensures.unchanged in
+    source_since (g.L.Look.standing self.look) (g.L.Look.standing c.get.new.look) (g.L.Look.words self.look) (g.L.Look.words c.get.new.look) self.page self.cursor self.place self.last.items volume since.standing since.words of
