@@ -11,8 +11,8 @@ use Rattle.std.proofs.Math.Nat.{div-div-eq-div-mul, div-one, pow-suc}
 use Rattle.std.proofs.Math.Seq.{drop-append_seam}
 use Rattle.std.proofs.lemmas.List.{drop-take, drop-drop, take-append-drop, length-take-le}
 use Rattle.std.proofs.lemmas.List.FromFn.{take-map-range_with_len}
-use Rattle.be_tree.specs.Key.{key_cmp, IsPrepared}
-use Rattle.be_tree.specs.Page.{bytes_at, item_at, key_len, words_for, IsItem}
+use Rattle.be_tree.specs.Key.{key_cmp}
+use Rattle.be_tree.specs.Page.{bytes_at, item_at, key_len, words_for}
 use Rattle.be_tree.proofs.Codec.{flat_map_more, flat_map_length, bytes_at_prefix, key_at}
 use Rattle.std.proofs.lemmas.Bool.{cases_lt, cases_eq}
 
@@ -190,24 +190,24 @@ pub item_key_length : (w : ℕ → ℕ) (at : ℕ) → length (item_at w at).key
 item_key_length w at =
     ap length (key_at w at) ∙ length-take-le (key_len w at) (flat_map (to_be_bytes w64) (map (λ i. w (at + 1 + i)) (range_with_len 0 (words_for (key_len w at))))) (omega (arith, flat_map_length (λ i. w (at + 1 + i)) (words_for (key_len w at))))
 
--- the key of an item against a key whose words are prepared
-module _ (w : ℕ → ℕ) (at : ℕ) (k ws : List ℕ) (prepared : IsPrepared ws k) (fits : IsItem w at) where
+-- the key of an item against a key, by words that have its bytes
+module _ (w : ℕ → ℕ) (at : ℕ) (k : List ℕ) where
   mine_is : (i r : ℕ) → r ≤ 8 → 8 * i + r ≤ key_len w at → take r (drop (8 * i) (item_at w at).key) ≡ take r (to_be_bytes w64 (w (at + 1 + i)))
   mine_is i r le in_range = ap (λ xs. take r (drop (8 * i) xs)) (key_at w at) ∙ item_chunk w (at + 1) (key_len w at) i r le in_range
 
-  pub next_word : (i mine other : ℕ) → mine ≡ w (at + 1 + i) → mine < 2 ^ 64 → other ≡ get_or ws i 0 → 8 * i + 8 ≤ key_len w at → 8 * i + 8 ≤ length k
+  pub next_word : (i mine other : ℕ) → mine ≡ w (at + 1 + i) → mine < 2 ^ 64 → other < 2 ^ 64 → to_be_bytes w64 other ≡ map (λ j. get_or k j 0) (range_with_len (8 * i) 8) → 8 * i + 8 ≤ key_len w at → 8 * i + 8 ≤ length k
       → key_cmp (drop (8 * i) (item_at w at).key) (drop (8 * i) k) ≡ ordering_then (nat_cmp mine other) (key_cmp (drop (8 * (i + 1)) (item_at w at).key) (drop (8 * (i + 1)) k))
-  next_word i mine other em small eo lm lo =
-      cmp_word (item_at w at).key k i mine other small (subst (λ n. n < 2 ^ 64) (sym eo) (prepared.small i (omega (arith, lm, fits.key_fits)) (omega (arith, lo))))
+  next_word i mine other em small fits bytes lm lo =
+      cmp_word (item_at w at).key k i mine other small fits
       (mine_is i 8 (omega arith) lm ∙ ap (λ n. take 8 (to_be_bytes w64 n)) (sym em))
-      (key_chunk k other i 8 (omega arith) lo (ap (to_be_bytes w64) eo ∙ prepared.bytes i (omega (arith, lm, fits.key_fits)) (omega (arith, lo))))
+      (key_chunk k other i 8 (omega arith) lo bytes)
 
-  pub last_word : (i r mine other : ℕ) → mine ≡ w (at + 1 + i) → mine < 2 ^ 64 → other ≡ get_or ws i 0 → 0 < r → r ≤ 8 → 8 * i + r ≤ key_len w at → 8 * i + r ≤ length k
+  pub last_word : (i r mine other : ℕ) → mine ≡ w (at + 1 + i) → mine < 2 ^ 64 → other < 2 ^ 64 → to_be_bytes w64 other ≡ map (λ j. get_or k j 0) (range_with_len (8 * i) 8) → r ≤ 8 → 8 * i + r ≤ key_len w at → 8 * i + r ≤ length k
       → key_cmp (drop (8 * i) (item_at w at).key) (drop (8 * i) k) ≡ ordering_then (nat_cmp (mine / 2 ^ (64 - 8 * r)) (other / 2 ^ (64 - 8 * r))) (key_cmp (drop (8 * i + r) (item_at w at).key) (drop (8 * i + r) k))
-  last_word i r mine other em small eo some le lm lo =
-      cmp_part (item_at w at).key k (8 * i) (8 * i + r) r mine other refl le small (subst (λ n. n < 2 ^ 64) (sym eo) (prepared.small i (omega (arith, lm, some, fits.key_fits)) (omega (arith, lo, some))))
+  last_word i r mine other em small fits bytes le lm lo =
+      cmp_part (item_at w at).key k (8 * i) (8 * i + r) r mine other refl le small fits
       (mine_is i r le lm ∙ ap (λ n. take r (to_be_bytes w64 n)) (sym em))
-      (key_chunk k other i r le lo (ap (to_be_bytes w64) eo ∙ prepared.bytes i (omega (arith, lm, some, fits.key_fits)) (omega (arith, lo, some))))
+      (key_chunk k other i r le lo bytes)
       ∙ ap (λ o. ordering_then o (key_cmp (drop (8 * i + r) (item_at w at).key) (drop (8 * i + r) k))) (ap2 (byte_shift mine r le) (byte_shift other r le))
     where
       ap2 : {p q s t : ℕ} → p ≡ s → q ≡ t → nat_cmp p q ≡ nat_cmp s t

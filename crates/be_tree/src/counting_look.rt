@@ -99,7 +99,8 @@ fn steps<L: Look>(look: &mut L, root: u64, count: u64) -> bool
     requires { IsTree (L.standing look.old) (L.words look.old) root }
     ensures { IsUnchanged L.kept L.standing L.words look.old look.new }
 {
-    let mut cursor = Cursor::seek(look, root, &[], false);
+    let mut cursor = Cursor::new();
+    cursor.seek(look, root, &[], false);
     for i in 0..count {
         match cursor.next(look) {
             Some(item) if &item.key[..] == &i.to_be_bytes()[..] => {}

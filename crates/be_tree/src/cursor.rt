@@ -12,32 +12,31 @@ ghost use Rattle.std.specs.Prelude.{◌≡◌, ◌≢◌, ℕ, [], ◌+◌, ◌<
 ghost use Rattle.be_pages.specs.declared.room.Standing.{Standing as Stands};
 ghost use Rattle.be_pages.specs.Pages.{IsUnchanged, is_readable};
 ghost use Rattle.be_tree.specs.Cursor.{IsCursor, IsPath, IsPlace, pairs_along, pairs_past, remaining};
-ghost use Rattle.be_tree.specs.Key.{IsPrepared};
 ghost use Rattle.be_tree.specs.Page.{IsItem, IsPage, item_at, items_of};
 ghost use Rattle.be_tree.specs.Range.{pair_in, pairs_from};
 ghost use Rattle.be_tree.specs.Tree.{IsTree, IsTreeAt, pairs, pairs_at};
 
 use crate::lookup::rank;
-use crate::page::{child_at, cmp_at, fill_key_words};
+use crate::page::{child_at, cmp_at};
 use crate::walk::{TreeItem, fill_key, fill_payload, load_key};
 use arrayvec::ArrayVec;
 use be_pages::Look;
 use std::cmp::Ordering;
 
-/// A place in a page of a level: the number of the item that comes next.
+/// A place in a page of a level: the number of the item that comes next. It is kept small, since a cursor has room for 14.
 #[derive(Clone, Copy)]
 struct Place {
-    level: u64,
-    page: u64,
-    next: usize,
+    page: u32,
+    next: u8,
+    level: u8,
 }
 
 impl Default for Place {
     fn default() -> Place {
         Place {
-            level: 0,
             page: 0,
             next: 0,
+            level: 0,
         }
     }
 }
@@ -60,40 +59,37 @@ impl Cursor {
         }
     }
 
-    /// A cursor before the least pair whose key is at or after `from`; with `after` set, strictly after it. It costs one
-    /// descent, with a binary search in each page.
-    pub fn seek<L: Look>(look: &mut L, root: u64, from: &[u8], after: bool) -> Cursor
+    /// Brings the cursor before the least pair of a tree whose key is at or after `from`; with `after` set, strictly after it.
+    /// It costs one descent, with a binary search in each page.
+    pub fn seek<L: Look>(&mut self, look: &mut L, root: u64, from: &[u8], after: bool)
         requires tree { IsTree (L.standing look.old) (L.words look.old) root }
-        ensures cursor { IsCursor (L.standing look.old) (L.words look.old) result }
-        ensures remaining { remaining (L.words look.old) result ≡ pairs_from (pairs (L.words look.old) root) from.now after }
+        ensures cursor { IsCursor (L.standing look.old) (L.words look.old) self.new }
+        ensures remaining { remaining (L.words look.old) self.new ≡ pairs_from (pairs (L.words look.old) root) from.now after }
         ensures unchanged { IsUnchanged L.kept L.standing L.words look.old look.new }
     {
+        self.path.clear();
         if root == 0 {
-            return Cursor::new();
+            return;
         }
-        let mut words = ArrayVec::new();
-        fill_key_words(from, &mut words);
-        let mut path = ArrayVec::new();
         let mut page = root - 1;
         let mut level = look.word(page, 0);
         while level > 0 {
-            let at = rank(look, page, from, &words).saturating_sub(1);
+            let at = rank(look, page, from).saturating_sub(1);
             let child = child_at(look, page, 2 + 42 * at);
-            path.push(Place {
-                level,
-                page,
-                next: at + 1,
+            self.path.push(Place {
+                page: page as u32,
+                next: (at + 1) as u8,
+                level: level as u8,
             });
             page = child;
             level -= 1;
         }
-        let next = leaf_from(look, page, from, &words, after);
-        path.push(Place {
+        let next = leaf_from(look, page, from, after);
+        self.path.push(Place {
+            page: page as u32,
+            next: next as u8,
             level: 0,
-            page,
-            next,
         });
-        Cursor { path }
     }
 
     /// The pair that comes next, and a step past it; none once all were given. It is the pair that `range` answers for the
@@ -140,7 +136,7 @@ impl Cursor {
         ensures unchanged { IsUnchanged L.kept L.standing L.words look.old look.new }
     {
         while let Some(place) = self.path.pop() {
-            if (place.next as u64) < look.word(place.page, 1) {
+            if (place.next as u64) < look.word(place.page as u64, 1) {
                 return Some(place);
             }
         }
@@ -165,31 +161,30 @@ impl Cursor {
                 next: place.next + 1,
                 ..place
             });
-            let child = child_at(look, place.page, 2 + 42 * place.next);
+            let child = child_at(look, place.page as u64, 2 + 42 * place.next as usize);
             place = Place {
-                level: place.level - 1,
-                page: child,
+                page: child as u32,
                 next: 0,
+                level: place.level - 1,
             };
         }
         self.path.push(Place {
             next: place.next + 1,
             ..place
         });
-        Some((place.page, 2 + 42 * place.next))
+        Some((place.page as u64, 2 + 42 * place.next as usize))
     }
 }
 
 /// How many of a leaf's items stand before the pairs at or after a key.
-fn leaf_from<L: Look>(look: &mut L, page: u64, from: &[u8], words: &[u64], after: bool) -> usize
+fn leaf_from<L: Look>(look: &mut L, page: u64, from: &[u8], after: bool) -> usize
     requires tree { IsTreeAt 0 1 (L.standing look.old) (L.words look.old) page }
-    requires prepared { IsPrepared words.now from.now }
     ensures in_range { result ≤ length (items_of (L.words look.old page)) }
     ensures rest { drop result (items_of (L.words look.old page)) ≡ pairs_from (items_of (L.words look.old page)) from.now after }
     ensures unchanged { IsUnchanged L.kept L.standing L.words look.old look.new }
 {
-    let at = rank(look, page, from, words).saturating_sub(1);
-    match cmp_at(look, page, 2 + 42 * at, from, words) {
+    let at = rank(look, page, from).saturating_sub(1);
+    match cmp_at(look, page, 2 + 42 * at, from) {
         Ordering::Less => at + 1,
         Ordering::Equal => if after { at + 1 } else { at },
         Ordering::Greater => at,

@@ -9,14 +9,14 @@ ghost use Rattle.std.specs.Prelude.{◌≡◌, ℕ, suc, ◌+◌, ◌-◌, ◌^�
 ghost use Rattle.std.specs.Prelude.{◌≢◌};
 ghost use Rattle.be_pages.specs.Pages.{IsUnchanged, is_kept, is_readable, times, Swaps, KeepsStart};
 ghost use Rattle.be_pages.specs.Refusal.{IsFullOf};
-ghost use Rattle.be_tree.specs.Key.{IsPrepared, IsRising, put};
+ghost use Rattle.be_tree.specs.Key.{IsRising, put};
 ghost use Rattle.be_tree.specs.Page.{IsItem, item_at, items_of};
 ghost use Rattle.be_tree.specs.Slot.{IsBranchSlot, IsReady, branch_to, pairs_of};
 ghost use Rattle.be_tree.specs.Tree.{AreNeighbours, IsBelow, IsTreeAt, IsWritten, Becomes, BecomesTree, IsTree, least_of_root, pairs, pages, pairs_at, pairs_below, pages_below};
 
 use crate::item::Item;
 use crate::lookup::rank;
-use crate::page::{child_at, cmp_at, fill_key_words, fill_slots, store_node};
+use crate::page::{child_at, cmp_at, fill_slots, store_node};
 use crate::siblings::{append, sharing_children, slots_with};
 use crate::slot::Slot;
 use arrayvec::ArrayVec;
@@ -53,12 +53,10 @@ fn put_beside<L: Look>(
     page: u64,
     place: usize,
     pair: &Item,
-    words: &[u64],
 ) -> ArrayVec<Slot, 2>
     requires readable { IsTrue (is_readable (L.standing look.old page)) }
     requires in_page { place + 42 ≤ 512 }
     requires item { IsItem (L.words look.old page) place }
-    requires prepared { IsPrepared words.now pair.now.key }
     ensures items { pairs_of (L.words look.old) pair.now result.items ≡ put pair.now (item_at (L.words look.old page) place ∷ []) }
     ensures ready { All (IsReady (L.standing look.old) (L.words look.old)) result.items }
     ensures some { (0 < length result.items) × (length result.items ≤ 2) }
@@ -66,7 +64,7 @@ fn put_beside<L: Look>(
 {
     let item = Slot::At(page as u32, place as u16);
     let mut both = ArrayVec::new();
-    match cmp_at(look, page, place, pair.key(), words) {
+    match cmp_at(look, page, place, pair.key()) {
         Ordering::Less => {
             both.push(item);
             both.push(Slot::New);
@@ -238,14 +236,12 @@ fn put_below<R: Room>(
     page: u64,
     place: usize,
     pair: &Item,
-    words: &[u64],
 ) -> Result<ArrayVec<Slot, 2>, Refusal>
     requires readable { IsTrue (is_readable (R.standing room.old page)) }
     requires in_page { place + 42 ≤ 512 }
     requires item { IsItem (R.words room.old page) place }
     requires below { IsBelow level (R.standing room.old) (R.words room.old) (item_at (R.words room.old page) place ∷ []) }
     requires key_fits { length pair.now.key ≤ 264 }
-    requires prepared { IsPrepared words.now pair.now.key }
     requires open { IsTrue (R.is_open (R.kept room.old)) }
     ensures ok { IfOk result (λ slots. Becomes R.kept R.standing R.words (pages_below level (R.words room.old) (item_at (R.words room.old page) place ∷ [])) (put pair.now (pairs_below level (R.words room.old) (item_at (R.words room.old page) place ∷ []))) level (pairs_of (R.words room.new) pair.now slots.items) room.old room.new) }
     ensures ready { IfOk result (λ slots. All (IsReady (R.standing room.new) (R.words room.new)) slots.items) }
@@ -254,11 +250,11 @@ fn put_below<R: Room>(
     ensures full { IfErr result (IsFullOf (R.full room.new)) }
 {
     if level == 0 {
-        return Ok(put_beside(room, page, place, pair, words));
+        return Ok(put_beside(room, page, place, pair));
     }
     let child = child_at(room, page, place);
     let mut slots = ArrayVec::new();
-    put_at(room, level - 1, child, pair, words, &mut slots)?;
+    put_at(room, level - 1, child, pair, &mut slots)?;
     let branches = pack(room, level - 1, &slots, pair)?;
     room.give_up(child);
     Ok(branches)
@@ -273,12 +269,10 @@ fn put_at<R: Room>(
     level: u64,
     page: u64,
     pair: &Item,
-    words: &[u64],
     slots: &mut ArrayVec<Slot, 24>,
 ) -> Result<(), Refusal>
     requires tree { IsTreeAt level 1 (R.standing room.old) (R.words room.old) page }
     requires key_fits { length pair.now.key ≤ 264 }
-    requires prepared { IsPrepared words.now pair.now.key }
     requires empty { slots.old.items ≡ [] }
     requires open { IsTrue (R.is_open (R.kept room.old)) }
     ensures ok { OnOk result (Becomes R.kept R.standing R.words (pages_below level (R.words room.old) (items_of (R.words room.old page))) (put pair.now (pairs_at level (R.words room.old) page)) level (pairs_of (R.words room.new) pair.now slots.new.items) room.old room.new) }
@@ -287,14 +281,14 @@ fn put_at<R: Room>(
     ensures err { OnErr result (KeepsStart R.kept R.standing R.words room.old room.new) }
     ensures full { IfErr result (IsFullOf (R.full room.new)) }
 {
-    let at = rank(room, page, pair.key(), words).saturating_sub(1);
+    let at = rank(room, page, pair.key()).saturating_sub(1);
     if let Some((left, right)) = sharing_children(room, level, page, at) {
-        let two = put_shared(room, level - 1, left, right, pair, words)?;
+        let two = put_shared(room, level - 1, left, right, pair)?;
         slots_with(room, page, at - 1, two, slots);
         return Ok(());
     }
     fill_slots(room, page, slots);
-    let beside = put_below(room, level, page, 2 + 42 * at, pair, words)?;
+    let beside = put_below(room, level, page, 2 + 42 * at, pair)?;
     replace_at(slots, at, beside);
     Ok(())
 }
@@ -308,14 +302,12 @@ fn put_shared<R: Room>(
     left: u64,
     right: u64,
     pair: &Item,
-    words: &[u64],
 ) -> Result<ArrayVec<Slot, 2>, Refusal>
     requires neighbours { AreNeighbours level (R.standing room.old) (R.words room.old) left right }
     requires roomy { R.words room.old left 1 < 12 }
     requires crowded { R.words room.old right 1 ≡ 12 }
     requires rising { IsRising (pairs_at level (R.words room.old) left ++ put pair.now (pairs_at level (R.words room.old) right)) }
     requires key_fits { length pair.now.key ≤ 264 }
-    requires prepared { IsPrepared words.now pair.now.key }
     requires open { IsTrue (R.is_open (R.kept room.old)) }
     ensures ok { IfOk result (λ slots. Becomes R.kept R.standing R.words (left ∷ right ∷ pages_below level (R.words room.old) (items_of (R.words room.old left) ++ items_of (R.words room.old right)))
         (pairs_at level (R.words room.old) left ++ put pair.now (pairs_at level (R.words room.old) right)) (suc level) (pairs_of (R.words room.new) pair.now slots.items) room.old room.new) }
@@ -325,7 +317,7 @@ fn put_shared<R: Room>(
     ensures full { IfErr result (IsFullOf (R.full room.new)) }
 {
     let mut more = ArrayVec::new();
-    put_at(room, level, right, pair, words, &mut more)?;
+    put_at(room, level, right, pair, &mut more)?;
     let mut slots = ArrayVec::new();
     fill_slots(room, left, &mut slots);
     append(&mut slots, &more);
@@ -377,12 +369,10 @@ pub fn insert<R: Room>(room: &mut R, root: u64, key: &[u8], payload: &[u8]) -> R
     if root == 0 {
         return write_root(room, 0, &[Slot::New], &pair);
     }
-    let mut words = ArrayVec::new();
-    fill_key_words(pair.key(), &mut words);
     let page = root - 1;
     let level = room.word(page, 0);
     let mut slots = ArrayVec::new();
-    put_at(room, level, page, &pair, &words, &mut slots)?;
+    put_at(room, level, page, &pair, &mut slots)?;
     let new = write_root(room, level, &slots, &pair)?;
     room.give_up(page);
     Ok(new)

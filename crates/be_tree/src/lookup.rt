@@ -1,15 +1,15 @@
 //! Look-ups of a key.
 //!
-//! Each level of the tree halves what is left by a binary search in one page. The key's words are prepared once, and
-//! items are compared with it where they stand, so nothing is unpacked on the way.
+//! Each level of the tree halves what is left by a binary search in one page. Items are compared with the key where they
+//! stand, so nothing is unpacked on the way.
 ghost use Rattle.std.specs.Prelude.{◌≡◌, ◌+◌, ◌-◌, ◌<◌, ◌≤◌, length, option_map, is_some, IfNone, IfSome, None, Some};
 ghost use Rattle.std.specs.Prelude.{IsTrue};
 ghost use Rattle.be_pages.specs.Pages.{IsUnchanged, is_readable};
 ghost use Rattle.be_tree.specs.Page.{IsItem, IsPage, item_at, items_of};
-ghost use Rattle.be_tree.specs.Key.{IsPrepared, IsRank, payload_at};
+ghost use Rattle.be_tree.specs.Key.{IsRank, payload_at};
 ghost use Rattle.be_tree.specs.Tree.{IsTree, pairs};
 
-use crate::page::{child_at, cmp_at, fill_key_words};
+use crate::page::{child_at, cmp_at};
 use crate::walk::load_payload;
 use arrayvec::ArrayVec;
 use be_pages::Look;
@@ -47,26 +47,23 @@ fn key_place<L: Look>(look: &mut L, root: u64, key: &[u8]) -> Option<(u64, usize
     if root == 0 {
         return None;
     }
-    let mut words = ArrayVec::new();
-    fill_key_words(key, &mut words);
     let mut page = root - 1;
     let mut level = look.word(page, 0);
     while level > 0 {
-        let at = rank(look, page, key, &words).saturating_sub(1);
+        let at = rank(look, page, key).saturating_sub(1);
         page = child_at(look, page, 2 + 42 * at);
         level -= 1;
     }
-    let at = rank(look, page, key, &words).saturating_sub(1);
-    match cmp_at(look, page, 2 + 42 * at, key, &words) {
+    let at = rank(look, page, key).saturating_sub(1);
+    match cmp_at(look, page, 2 + 42 * at, key) {
         Ordering::Equal => Some((page, 2 + 42 * at)),
         Ordering::Less | Ordering::Greater => None,
     }
 }
 /// How many of a page's items have keys that are not greater than a key.
-pub(crate) fn rank<L: Look>(look: &mut L, page: u64, key: &[u8], words: &[u64]) -> usize
+pub(crate) fn rank<L: Look>(look: &mut L, page: u64, key: &[u8]) -> usize
     requires readable { IsTrue (is_readable (L.standing look.old page)) }
     requires page { IsPage (L.words look.old page) }
-    requires prepared { IsPrepared words.now key.now }
     ensures rank { IsRank key.now (items_of (L.words look.old page)) result }
     ensures unchanged { IsUnchanged L.kept L.standing L.words look.old look.new }
 {
@@ -74,7 +71,7 @@ pub(crate) fn rank<L: Look>(look: &mut L, page: u64, key: &[u8], words: &[u64]) 
     let mut high = look.word(page, 1) as usize;
     while low < high {
         let middle = low + (high - low) / 2;
-        match cmp_at(look, page, 2 + 42 * middle, key, words) {
+        match cmp_at(look, page, 2 + 42 * middle, key) {
             Ordering::Greater => high = middle,
             Ordering::Less | Ordering::Equal => low = middle + 1,
         }

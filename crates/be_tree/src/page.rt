@@ -9,7 +9,7 @@ ghost use Rattle.be_tree.specs.Page.{place_of};
 ghost use Rattle.std.specs.Prelude.{◌^◌, ◌⊎◌};
 ghost use Rattle.be_tree.specs.declared.slot.Slot.TheVariants.{At};
 ghost use Rattle.be_tree.specs.Slot.{IsBeside, IsReady, branch_to, pair_of, pairs_of};
-ghost use Rattle.be_tree.specs.Key.{IsPrepared, key_cmp};
+ghost use Rattle.be_tree.specs.Key.{key_cmp};
 ghost use Rattle.be_tree.specs.Tree.{child};
 
 use crate::item::Item;
@@ -18,8 +18,7 @@ use arrayvec::ArrayVec;
 use be_pages::{Look, Room};
 use std::cmp::Ordering;
 
-/// The page that the branch at a place names. Its number is a word behind a key of whole words, and stands in two words
-/// behind any other.
+/// The page that the branch at a place names.
 pub(crate) fn child_at<L: Look>(look: &mut L, page: u64, at: usize) -> u64
     requires readable { IsTrue (is_readable (L.standing look.old page)) }
     requires in_page { at + 42 ≤ 512 }
@@ -29,13 +28,22 @@ pub(crate) fn child_at<L: Look>(look: &mut L, page: u64, at: usize) -> u64
     ensures unchanged { IsUnchanged L.kept L.standing L.words look.old look.new }
 {
     let key_len = (look.word(page, at) >> 32) as usize;
-    let skip = key_len % 8;
-    let from = at + 1 + key_len / 8;
-    let first = look.word(page, from);
+    number_behind(look, page, at + 1 + key_len / 8, key_len % 8)
+}
+
+/// The number in the eight bytes that stand `skip` bytes behind the start of a word: in that word alone, or in it and the next.
+pub(crate) fn number_behind<L: Look>(look: &mut L, page: u64, at: usize, skip: usize) -> u64
+    requires readable { IsTrue (is_readable (L.standing look.old page)) }
+    requires skips { skip < 8 }
+    requires in_page { at + 2 ≤ 512 }
+    ensures number { result ≡ from_be_bytes w64 (drop skip (bytes_at (L.words look.old page) at (skip + 8))) }
+    ensures unchanged { IsUnchanged L.kept L.standing L.words look.old look.new }
+{
+    let first = look.word(page, at);
     if skip == 0 {
         return first;
     }
-    let second = look.word(page, from + 1);
+    let second = look.word(page, at + 1);
     straddled(first, second, skip)
 }
 
@@ -47,52 +55,11 @@ fn straddled(first: u64, second: u64, skip: usize) -> u64
     (first << (8 * skip)) + (second >> (64 - 8 * skip))
 }
 
-/// The number in eight bytes, the most significant first.
-pub(crate) fn number_in(bytes: &[u8]) -> u64
-    requires { length bytes.now ≡ 8 }
-    ensures { result ≡ from_be_bytes w64 bytes.now }
-{
-    u64::from_be_bytes([
-        bytes[0], bytes[1], bytes[2], bytes[3], bytes[4], bytes[5], bytes[6], bytes[7],
-    ])
-}
-
-/// The words of a key's first 264 bytes, for comparisons by words.
-pub(crate) fn key_words(key: &[u8]) -> ArrayVec<u64, 33>
-    ensures { IsPrepared result.items key.now }
-{
-    let mut words = ArrayVec::new();
-    fill_key_words(key, &mut words);
-    words
-}
-
-/// Puts these words into an empty vector.
-pub(crate) fn fill_key_words(key: &[u8], words: &mut ArrayVec<u64, 33>)
-    requires empty { words.old.items ≡ [] }
-    ensures { IsPrepared words.new.items key.now }
-{
-    let count = if key.len() > 264 {
-        33
-    } else {
-        (key.len() + 7) / 8
-    };
-    for i in 0..count {
-        words.push(word_from(key, 8 * i));
-    }
-}
-
-/// How the key of the item at a place compares with a key whose words are at hand.
-pub(crate) fn cmp_at<L: Look>(
-    look: &mut L,
-    page: u64,
-    at: usize,
-    key: &[u8],
-    words: &[u64],
-) -> Ordering
+/// How the key of the item at a place compares with a key: word by word, where the item stands.
+pub(crate) fn cmp_at<L: Look>(look: &mut L, page: u64, at: usize, key: &[u8]) -> Ordering
     requires readable { IsTrue (is_readable (L.standing look.old page)) }
     requires in_page { at + 42 ≤ 512 }
     requires item { IsItem (L.words look.old page) at }
-    requires prepared { IsPrepared words.now key.now }
     ensures order { result ≡ key_cmp (item_at (L.words look.old page) at).key key.now }
     ensures unchanged { IsUnchanged L.kept L.standing L.words look.old look.new }
 {
@@ -100,7 +67,7 @@ pub(crate) fn cmp_at<L: Look>(
     let common = least_of(len, key.len());
     for i in 0..common / 8 {
         let mine = look.word(page, at + 1 + i);
-        let other = words[i];
+        let other = whole_word(key, 8 * i);
         if mine != other {
             return mine.cmp(&other);
         }
@@ -110,7 +77,7 @@ pub(crate) fn cmp_at<L: Look>(
         return len.cmp(&key.len());
     }
     let mine = look.word(page, at + 1 + common / 8);
-    let other = words[common / 8];
+    let other = word_from(key, 8 * (common / 8));
     let shift = 64 - 8 * rest;
     let mine_first = mine >> shift;
     let other_first = other >> shift;
@@ -174,22 +141,30 @@ fn byte_or_zero(bytes: &[u8], i: usize) -> u8
     if i < bytes.len() { bytes[i] } else { 0 }
 }
 
-/// The eight bytes from a place on, as a word.
+/// The eight bytes from a place on, as a word: one load, turned.
+fn whole_word(bytes: &[u8], from: usize) -> u64
+    requires { from + 8 ≤ length bytes.now }
+    ensures { to_be_bytes w64 result ≡ map (λ k. slice_index bytes.now k) (range_with_len from 8) }
+{
+    u64::from_be_bytes([
+        bytes[from],
+        bytes[from + 1],
+        bytes[from + 2],
+        bytes[from + 3],
+        bytes[from + 4],
+        bytes[from + 5],
+        bytes[from + 6],
+        bytes[from + 7],
+    ])
+}
+
+/// The eight bytes from a place on, as a word, with zeros past the end.
 fn word_from(bytes: &[u8], from: usize) -> u64
     requires { from ≤ 328 }
     ensures { to_be_bytes w64 result ≡ map (λ k. slice_index bytes.now k) (range_with_len from 8) }
 {
     if from + 8 <= bytes.len() {
-        return u64::from_be_bytes([
-            bytes[from],
-            bytes[from + 1],
-            bytes[from + 2],
-            bytes[from + 3],
-            bytes[from + 4],
-            bytes[from + 5],
-            bytes[from + 6],
-            bytes[from + 7],
-        ]);
+        return whole_word(bytes, from);
     }
     u64::from_be_bytes([
         byte_or_zero(bytes, from),

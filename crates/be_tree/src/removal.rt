@@ -10,7 +10,7 @@
 ghost use Rattle.std.specs.Prelude.{◌≡◌, ◌≢◌, ℕ, true, false, suc, ◌+◌, ◌-◌, ◌^◌, ◌<◌, ◌≤◌, [], ◌∷◌, ◌++◌, length, take, drop, All, IfOk, OnOk, OnErr, IfErr, IsTrue, None, Ok};
 ghost use Rattle.be_pages.specs.Pages.{IsUnchanged, is_readable, Swaps, KeepsStart};
 ghost use Rattle.be_pages.specs.Refusal.{IsFullOf};
-ghost use Rattle.be_tree.specs.Key.{IsPrepared, key_cmp, payload_at, without};
+ghost use Rattle.be_tree.specs.Key.{key_cmp, payload_at, without};
 ghost use Rattle.std.specs.Ordering.{is_eq};
 ghost use Rattle.be_tree.specs.Page.{IsItem, IsPage, item_at, items_of, place_of};
 ghost use Rattle.be_tree.specs.Pair.{Pair};
@@ -22,7 +22,7 @@ ghost use Rattle.be_tree.specs.Tree.{AreNeighbours, Becomes, BecomesTree, IsBelo
 use crate::edit::{pack_two, write_branch, write_root};
 use crate::item::Item;
 use crate::lookup::rank;
-use crate::page::{child_at, cmp_at, fill_key_words, fill_slots};
+use crate::page::{child_at, cmp_at, fill_slots};
 use crate::siblings::{append, count_of, slots_with, slots_with_one, spare_child, two_children};
 use crate::slot::Slot;
 use crate::stop::Stop;
@@ -46,12 +46,10 @@ pub fn remove<R: Room>(room: &mut R, root: u64, key: &[u8]) -> Result<u64, Refus
         return Ok(root);
     }
     let pair = Item::new(&[], &[]);
-    let mut words = ArrayVec::new();
-    fill_key_words(key, &mut words);
     let page = root - 1;
     let level = room.word(page, 0);
     let mut slots = ArrayVec::new();
-    match remove_at(room, level, page, key, &words, &pair, &mut slots) {
+    match remove_at(room, level, page, key, &pair, &mut slots) {
         Ok(()) => {}
         Err(Stop::Absent) => return Ok(root),
         Err(Stop::Refused(refusal)) => return Err(refusal),
@@ -109,13 +107,11 @@ fn slots_without<L: Look>(
     page: u64,
     at: usize,
     key: &[u8],
-    words: &[u64],
     slots: &mut ArrayVec<Slot, 24>,
 ) -> Result<(), Stop>
     requires readable { IsTrue (is_readable (L.standing look.old page)) }
     requires page { IsPage (L.words look.old page) }
     requires in_page { at < L.words look.old page 1 }
-    requires prepared { IsPrepared words.now key.now }
     requires empty { slots.old.items ≡ [] }
     ensures items { OnOk result ((given : Pair) → pairs_of (L.words look.old) given slots.new.items
         ≡ take at (items_of (L.words look.old page)) ++ (without key.now (item_at (L.words look.old page) (place_of at) ∷ []) ++ drop (suc at) (items_of (L.words look.old page)))) }
@@ -126,7 +122,7 @@ fn slots_without<L: Look>(
     ensures unchanged { IsUnchanged L.kept L.standing L.words look.old look.new }
 {
     fill_slots(look, page, slots);
-    if !cmp_at(look, page, 2 + 42 * at, key, words).is_eq() {
+    if !cmp_at(look, page, 2 + 42 * at, key).is_eq() {
         return Err(Stop::Absent);
     }
     slots.remove(at);
@@ -141,13 +137,11 @@ fn remove_at<R: Room>(
     level: u64,
     page: u64,
     key: &[u8],
-    words: &[u64],
     pair: &Item,
     slots: &mut ArrayVec<Slot, 24>,
 ) -> Result<(), Stop>
     requires tree { IsTreeAt level (least_of_root level) (R.standing room.old) (R.words room.old) page }
     requires key_fits { length pair.now.key ≤ 264 }
-    requires prepared { IsPrepared words.now key.now }
     requires empty { slots.old.items ≡ [] }
     requires open { IsTrue (R.is_open (R.kept room.old)) }
     ensures ok { OnOk result (Becomes R.kept R.standing R.words (pages_below level (R.words room.old) (items_of (R.words room.old page))) (without key.now (pairs_at level (R.words room.old) page)) level (pairs_of (R.words room.new) pair.now slots.new.items) room.old room.new) }
@@ -158,24 +152,24 @@ fn remove_at<R: Room>(
     ensures found { OnOk result (payload_at (pairs_at level (R.words room.old) page) key.now ≢ None) }
     ensures stopped { IfErr result (λ stop. IfAbsent stop ((payload_at (pairs_at level (R.words room.old) page) key.now ≡ None) × IsUnchanged R.kept R.standing R.words room.old room.new) (payload_at (pairs_at level (R.words room.old) page) key.now ≢ None)) }
 {
-    let at = rank(room, page, key, words).saturating_sub(1);
+    let at = rank(room, page, key).saturating_sub(1);
     if level == 0 {
-        slots_without(room, page, at, key, words, slots)?;
+        slots_without(room, page, at, key, slots)?;
         return Ok(());
     }
     if let Some(below) = spare_child(room, level, page, at) {
-        let slot = remove_alone(room, level - 1, below, key, words, pair)?;
+        let slot = remove_alone(room, level - 1, below, key, pair)?;
         slots_with_one(room, page, at, slot, slots);
         return Ok(());
     }
     if at + 1 < count_of(room, page) {
         let (here, next) = two_children(room, level, page, at);
-        let two = remove_left(room, level - 1, here, next, key, words, pair)?;
+        let two = remove_left(room, level - 1, here, next, key, pair)?;
         slots_with(room, page, at, two, slots);
         return Ok(());
     }
     let (before, here) = two_children(room, level, page, at - 1);
-    let two = remove_right(room, level - 1, before, here, key, words, pair)?;
+    let two = remove_right(room, level - 1, before, here, key, pair)?;
     slots_with(room, page, at - 1, two, slots);
     Ok(())
 }
@@ -187,13 +181,11 @@ fn remove_alone<R: Room>(
     level: u64,
     below: u64,
     key: &[u8],
-    words: &[u64],
     pair: &Item,
 ) -> Result<Slot, Stop>
     requires tree { IsTreeAt level 6 (R.standing room.old) (R.words room.old) below }
     requires spare { 6 < R.words room.old below 1 }
     requires key_fits { length pair.now.key ≤ 264 }
-    requires prepared { IsPrepared words.now key.now }
     requires open { IsTrue (R.is_open (R.kept room.old)) }
     ensures ok { IfOk result (λ slot. Becomes R.kept R.standing R.words (below ∷ pages_below level (R.words room.old) (items_of (R.words room.old below))) (without key.now (pairs_at level (R.words room.old) below)) (suc level) (pair_of (R.words room.new) pair.now slot ∷ []) room.old room.new) }
     ensures ready { IfOk result (λ slot. IsReady (R.standing room.new) (R.words room.new) slot) }
@@ -203,7 +195,7 @@ fn remove_alone<R: Room>(
     ensures stopped { IfErr result (λ stop. IfAbsent stop ((payload_at (pairs_at level (R.words room.old) below) key.now ≡ None) × IsUnchanged R.kept R.standing R.words room.old room.new) (payload_at (pairs_at level (R.words room.old) below) key.now ≢ None)) }
 {
     let mut slots = ArrayVec::new();
-    remove_at(room, level, below, key, words, pair, &mut slots)?;
+    remove_at(room, level, below, key, pair, &mut slots)?;
     let page = write_branch(room, level, &slots, pair)?;
     room.give_up(below);
     Ok(Slot::Branch(page as u32))
@@ -217,12 +209,10 @@ fn remove_left<R: Room>(
     left: u64,
     right: u64,
     key: &[u8],
-    words: &[u64],
     pair: &Item,
 ) -> Result<ArrayVec<Slot, 2>, Stop>
     requires neighbours { AreNeighbours level (R.standing room.old) (R.words room.old) left right }
     requires key_fits { length pair.now.key ≤ 264 }
-    requires prepared { IsPrepared words.now key.now }
     requires open { IsTrue (R.is_open (R.kept room.old)) }
     ensures ok { IfOk result (λ slots. Becomes R.kept R.standing R.words (left ∷ right ∷ pages_below level (R.words room.old) (items_of (R.words room.old left) ++ items_of (R.words room.old right)))
         (without key.now (pairs_at level (R.words room.old) left) ++ pairs_at level (R.words room.old) right) (suc level) (pairs_of (R.words room.new) pair.now slots.items) room.old room.new) }
@@ -234,7 +224,7 @@ fn remove_left<R: Room>(
     ensures stopped { IfErr result (λ stop. IfAbsent stop ((payload_at (pairs_at level (R.words room.old) left) key.now ≡ None) × IsUnchanged R.kept R.standing R.words room.old room.new) (payload_at (pairs_at level (R.words room.old) left) key.now ≢ None)) }
 {
     let mut slots = ArrayVec::new();
-    remove_at(room, level, left, key, words, pair, &mut slots)?;
+    remove_at(room, level, left, key, pair, &mut slots)?;
     let mut others = ArrayVec::new();
     fill_slots(room, right, &mut others);
     append(&mut slots, &others);
@@ -250,12 +240,10 @@ fn remove_right<R: Room>(
     left: u64,
     right: u64,
     key: &[u8],
-    words: &[u64],
     pair: &Item,
 ) -> Result<ArrayVec<Slot, 2>, Stop>
     requires neighbours { AreNeighbours level (R.standing room.old) (R.words room.old) left right }
     requires key_fits { length pair.now.key ≤ 264 }
-    requires prepared { IsPrepared words.now key.now }
     requires open { IsTrue (R.is_open (R.kept room.old)) }
     ensures ok { IfOk result (λ slots. Becomes R.kept R.standing R.words (left ∷ right ∷ pages_below level (R.words room.old) (items_of (R.words room.old left) ++ items_of (R.words room.old right)))
         (pairs_at level (R.words room.old) left ++ without key.now (pairs_at level (R.words room.old) right)) (suc level) (pairs_of (R.words room.new) pair.now slots.items) room.old room.new) }
@@ -267,7 +255,7 @@ fn remove_right<R: Room>(
     ensures stopped { IfErr result (λ stop. IfAbsent stop ((payload_at (pairs_at level (R.words room.old) right) key.now ≡ None) × IsUnchanged R.kept R.standing R.words room.old room.new) (payload_at (pairs_at level (R.words room.old) right) key.now ≢ None)) }
 {
     let mut less = ArrayVec::new();
-    remove_at(room, level, right, key, words, pair, &mut less)?;
+    remove_at(room, level, right, key, pair, &mut less)?;
     let mut slots = ArrayVec::new();
     fill_slots(room, left, &mut slots);
     append(&mut slots, &less);

@@ -127,7 +127,8 @@ fn has_nodes<L: Look>(look: &mut L, root: u64, nodes: &[u8]) -> bool
     requires { IsTree (L.standing look.old) (L.words look.old) root }
     ensures { IsUnchanged L.kept L.standing L.words look.old look.new }
 {
-    let mut cursor = Cursor::seek(look, root, b"x\0", false);
+    let mut cursor = Cursor::new();
+    cursor.seek(look, root, b"x\0", false);
     for node in nodes {
         match cursor.next_key(look) {
             Some(key) if &key[..] == &value_key(*node)[..] => {}

@@ -30,7 +30,8 @@ pub fn range<L: Look>(look: &mut L, root: u64, from: &[u8], after: bool) -> Opti
     ensures item { option_map pair_in result ≡ first_from (pairs (L.words look.old) root) from.now after }
     ensures unchanged { IsUnchanged L.kept L.standing L.words look.old look.new }
 {
-    let mut cursor = Cursor::seek(look, root, from, after);
+    let mut cursor = Cursor::new();
+    cursor.seek(look, root, from, after);
     cursor.next(look)
 }
 

@@ -75,7 +75,7 @@ put_at-put_shared-requires g t c κs within =
               subst (λ (w : ℕ → ℕ → ℕ). w r 1 ≡ 12) (sym after.words) c.in-Some.ensures.crowded,
               (
                 subst (λ (w : ℕ → ℕ → ℕ). IsRising (pairs_at (level - 1) w l ++ put pair (pairs_at (level - 1) w r))) (sym same.words) named,
-                (c.requires.key_fits, (c.requires.prepared, subst (λ k. IsTrue (g.R.Look.is_open k)) (sym same.kept) c.requires.open)),
+                (c.requires.key_fits, subst (λ k. IsTrue (g.R.Look.is_open k)) (sym same.kept) c.requires.open),
               ),
             ),
           ),
@@ -204,7 +204,7 @@ put_at-put_below-requires g t c κs within =
               slot_item g.R.Look.kept g.R.Look.standing g.R.Look.words c.args.level c.args.page c.args.pair.now c.rank.result c.saturating_sub-at.result c.args.room.now c.fill_slots.new.look c.requires.tree same ranked c.saturating_sub-at.ensures,
               (
                 slot_below g.R.Look.kept g.R.Look.standing g.R.Look.words c.args.level c.args.page c.args.pair.now c.rank.result c.saturating_sub-at.result c.args.room.now c.fill_slots.new.look c.requires.tree same ranked c.saturating_sub-at.ensures,
-                (c.requires.key_fits, (c.requires.prepared, subst (λ k. IsTrue (g.R.Look.is_open k)) (sym same.kept) c.requires.open)),
+                (c.requires.key_fits, subst (λ k. IsTrue (g.R.Look.is_open k)) (sym same.kept) c.requires.open),
               ),
             ),
           ),
@@ -478,7 +478,7 @@ put_below-put_at-requires g t c κs within =
         within,
         (
           tree_weaker (c.args.level - 1) 6 (g.R.Look.standing read) (g.R.Look.words read) c.child_at-child.result (omega arith) child_tree,
-          (c.requires.key_fits, (c.requires.prepared, (c.new-slots.ensures, subst (λ k. IsTrue (g.R.Look.is_open k)) (sym c.child_at-child.ensures.unchanged.kept) c.requires.open))),
+          (c.requires.key_fits, (c.new-slots.ensures, subst (λ k. IsTrue (g.R.Look.is_open k)) (sym c.child_at-child.ensures.unchanged.kept) c.requires.open)),
         ),
       ),
     )

@@ -44,7 +44,7 @@ pub give_up-requires-clause-held : goal.give_up-requires-clause-held
 give_up-requires-clause-held g c =
     let tree = root_page g (goal.at.give_up-requires-clause-held g c).After-word-level in
     let w = subst (λ (xs : List Slot). BecomesTree g.R.Look.kept g.R.Look.standing g.R.Look.words (pages_below c.word-level.result (g.R.Look.words c.put_at.new.room) (pairs_of (g.R.Look.words c.put_at.new.room) c.new-pair.result xs))
-    (pairs_below c.word-level.result (g.R.Look.words c.put_at.new.room) (pairs_of (g.R.Look.words c.put_at.new.room) c.new-pair.result xs)) c.in_ok-new.new c.put_at.new.room c.write_root-2.new.room) c.deref-2.ensures.0 c.in_ok-new.ensures.ok in
+    (pairs_below c.word-level.result (g.R.Look.words c.put_at.new.room) (pairs_of (g.R.Look.words c.put_at.new.room) c.new-pair.result xs)) c.in_ok-new.new c.put_at.new.room c.write_root-2.new.room) c.deref.ensures.0 c.in_ok-new.ensures.ok in
     let read = g.R.Look.words c.word-level.new.self in
     let mid = pairs_of (g.R.Look.words c.put_at.new.room) c.new-pair.result c.put_at.new.slots.items in
     let both = becomes_tree g.R.Look.kept g.R.Look.standing g.R.Look.words (pages_below c.word-level.result read (items_of (read (c.args.root - 1)))) (put c.new-pair.result (pairs_at c.word-level.result read (c.args.root - 1))) c.word-level.result mid c.in_ok-new.new c.word-level.new.self c.put_at.new.room c.write_root-2.new.room c.in_ok-put_at.ensures.ok w in
@@ -57,4 +57,4 @@ returns-clause-ok g c =
     c.args.room.now c.word-level.new.self c.put_at.new.room c.write_root-2.new.room c.give_up.new.self
     (omega (arith, c.if-root-eq0.false)) c.word-level.ensures.value same (same_pair c.new-pair.result c.args.key.now c.args.payload.now c.new-pair.ensures.key c.new-pair.ensures.payload)
     (root_page g (goal.at.returns-clause-ok g c).After-word-level) c.in_ok-put_at.ensures.ok (subst (λ (xs : List Slot). BecomesTree g.R.Look.kept g.R.Look.standing g.R.Look.words (pages_below c.word-level.result (g.R.Look.words c.put_at.new.room) (pairs_of (g.R.Look.words c.put_at.new.room) c.new-pair.result xs))
-    (pairs_below c.word-level.result (g.R.Look.words c.put_at.new.room) (pairs_of (g.R.Look.words c.put_at.new.room) c.new-pair.result xs)) c.in_ok-new.new c.put_at.new.room c.write_root-2.new.room) c.deref-2.ensures.0 c.in_ok-new.ensures.ok) c.give_up.ensures.kept c.give_up.ensures.words c.give_up.ensures.standing
+    (pairs_below c.word-level.result (g.R.Look.words c.put_at.new.room) (pairs_of (g.R.Look.words c.put_at.new.room) c.new-pair.result xs)) c.in_ok-new.new c.put_at.new.room c.write_root-2.new.room) c.deref.ensures.0 c.in_ok-new.ensures.ok) c.give_up.ensures.kept c.give_up.ensures.words c.give_up.ensures.standing

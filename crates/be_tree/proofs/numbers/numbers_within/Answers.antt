@@ -17,16 +17,16 @@ pub pairs-init : goal.pairs-init
 pairs-init g c =
     let words = g.L.Look.words c.args.look.now in
     let all = pairs words c.args.root in
-    let rest = c.seek-cursor.ensures.remaining in
+    let rest = c.seek.ensures.remaining in
     record {
-      cursor = c.seek-cursor.ensures.cursor;
+      cursor = c.seek.ensures.cursor;
       long = subst AreLong (sym rest) (All-filter (λ (x : Pair). is_from c.args.low.now false x.key) (λ (x : Pair). 8 ≤ length x.key) all c.requires.long);
       has = record {
         got = [];
         parts = ap (λ (ps : List Pair). numbers_to ps (option_copied c.args.high)) (sym rest);
         is = sym (append-nil c.args.found.now.items);
       };
-      unchanged = c.seek-cursor.ensures.unchanged;
+      unchanged = c.seek.ensures.unchanged;
     }
 
 pub pairs-smaller : goal.pairs-smaller

@@ -141,7 +141,7 @@ give_up-requires-clause-held g c =
     let page = c.args.root - 1 in
     let mid = g.R.Look.words c.remove_at.new.room in
     let written = subst (λ (xs : List Slot). BecomesTree g.R.Look.kept g.R.Look.standing g.R.Look.words (pages_below level mid (pairs_of mid c.new-pair.result xs)) (pairs_below level mid (pairs_of mid c.new-pair.result xs)) c.in_ok-new.new c.remove_at.new.room c.write_rest.new.room)
-    c.deref-2.ensures.0 c.in_ok-new.ensures.ok in
+    c.deref.ensures.0 c.in_ok-new.ensures.ok in
     let read = g.R.Look.words c.word-level.new.self in
     let both = becomes_tree g.R.Look.kept g.R.Look.standing g.R.Look.words (pages_below level read (items_of (read page))) (without c.args.key.now (pairs_at level read page)) level (pairs_of mid c.new-pair.result c.remove_at.new.slots.items) c.in_ok-new.new
     c.word-level.new.self c.remove_at.new.room c.write_rest.new.room c.in-Ok.ensures.ok written in
@@ -153,7 +153,7 @@ returns-clause-ok g c =
     let level = c.word-level.result in
     let mid = g.R.Look.words c.remove_at.new.room in
     let written = subst (λ (xs : List Slot). BecomesTree g.R.Look.kept g.R.Look.standing g.R.Look.words (pages_below level mid (pairs_of mid c.new-pair.result xs)) (pairs_below level mid (pairs_of mid c.new-pair.result xs)) c.in_ok-new.new c.remove_at.new.room c.write_rest.new.room)
-    c.deref-2.ensures.0 c.in_ok-new.ensures.ok in
+    c.deref.ensures.0 c.in_ok-new.ensures.ok in
     tree_changed g.R.Look.kept g.R.Look.standing g.R.Look.words (without c.args.key.now) c.args.root (c.args.root - 1) level (least_of_root level) c.in_ok-new.new (pairs_of mid c.new-pair.result c.remove_at.new.slots.items)
     c.args.room.now c.word-level.new.self c.remove_at.new.room c.write_rest.new.room c.give_up.new.self
     (omega (arith, some g at)) (level_is g at) (same g at) (root_page g at) c.in-Ok.ensures.ok written c.give_up.ensures.kept c.give_up.ensures.words c.give_up.ensures.standing

@@ -1,14 +1,16 @@
-use Rattle.std.proofs.Common.{◌≡◌, ℕ, suc, [], ◌∷◌, ◌++◌, ◌+◌, ◌-◌, ◌*◌, ◌<◌, ◌≤◌, length, drop, ap, sym, subst, ◌∙◌, arith, append_assoc}
+use Rattle.std.proofs.Common.{◌≡◌, ℕ, suc, List, [], ◌∷◌, ◌++◌, ◌+◌, ◌-◌, ◌*◌, ◌<◌, ◌≤◌, length, drop, ap, sym, subst, ◌∙◌, arith, append_assoc}
 use Rattle.std.proofs.lemmas.List.{append-nil, length-append}
+use Rattle.be_pages.specs.declared.room.Standing.{Standing}
 use Rattle.be_tree.specs.declared.cursor.Place.{Place}
 use Rattle.be_tree.specs.Cursor.{IsPath, pairs_along, pairs_past}
 use Rattle.be_tree.specs.Key.{IsRank}
 use Rattle.be_tree.specs.Page.{items_of, item_at, IsItem}
 use Rattle.be_tree.specs.Range.{pairs_from}
-use Rattle.be_tree.specs.Tree.{IsTreeAt, child, pairs_at, least_of_root}
+use Rattle.be_tree.specs.Tree.{IsTreeAt, child, pairs, pairs_at, least_of_root}
 use Rattle.be_tree.proofs.Cursors.{along_push, path_push, from_branch, leads_down, LeadsDown, root_pairs}
 use Rattle.be_tree.proofs.Frame.{unchanged_trans}
 use Rattle.be_tree.proofs.Heights.{height}
+use Rattle.be_tree.proofs.Levels.{kept_not_free}
 use Rattle.be_tree.proofs.Puts.{tree_weaker}
 use Rattle.be_tree.proofs.Roots.{root_tree, root_some}
 use Rattle.be_tree.proofs.Slots.{items_count}
@@ -16,8 +18,17 @@ use Rattle.be_tree.proofs.cursor.Cursor.seek.Given.{Over}
 use Rattle.be_tree.proofs.cursor.Cursor.seek.Goals as goal
 use Rattle.be_tree.proofs.cursor.Cursor.seek.Goals.{After-saturating_sub-at}
 
+-- a path without a place
+empty : (path : List Place) → path ≡ [] → (standing : ℕ → Standing) (words : ℕ → ℕ → ℕ) → IsPath standing words path
+empty path e standing words = subst (IsPath standing words) (sym e) (record { places = λ i d lt. absurd (omega (arith, lt)); short = λ i d lt. absurd (omega (arith, lt)) })
+
 pub returns-then-root-eq0-clause-cursor : goal.returns-then-root-eq0-clause-cursor
-returns-then-root-eq0-clause-cursor g c = c.new.ensures.cursor (g.L.Look.standing c.args.look.now) (g.L.Look.words c.args.look.now)
+returns-then-root-eq0-clause-cursor g c = empty c.clear.new.self.items c.clear.ensures (g.L.Look.standing c.args.look.now) (g.L.Look.words c.args.look.now)
+
+pub returns-then-root-eq0-clause-remaining : goal.returns-then-root-eq0-clause-remaining
+returns-then-root-eq0-clause-remaining g c =
+    let words = g.L.Look.words c.args.look.now in
+    ap (pairs_along words) c.clear.ensures ∙ ap (λ (r : ℕ). pairs_from (pairs words r) c.args.from.now c.args.after) (sym c.if-root-eq0.true)
 
 pub loop-level-init : goal.loop-level-init
 loop-level-init g c =
@@ -31,9 +42,9 @@ loop-level-init g c =
       least = least_of_root level;
       some = root_some level;
       tree = tree;
-      path = subst (IsPath standing words) (sym c.new-path.ensures) (record { places = λ i d lt. absurd (omega (arith, lt)); short = λ i d lt. absurd (omega (arith, lt)) });
-      short = omega (arith, ap length c.new-path.ensures, height level (least_of_root level) standing words page (root_some level) tree (g.met.L.Look.pages_small c.args.look.now));
-      same = ap (λ ps. pairs_from (pairs_at level words page) c.args.from.now c.args.after ++ pairs_along words ps) c.new-path.ensures
+      path = empty c.clear.new.self.items c.clear.ensures standing words;
+      short = omega (arith, ap length c.clear.ensures, height level (least_of_root level) standing words page (root_some level) tree (g.met.L.Look.pages_small c.args.look.now));
+      same = ap (λ ps. pairs_from (pairs_at level words page) c.args.from.now c.args.after ++ pairs_along words ps) c.clear.ensures
           ∙ append-nil (pairs_from (pairs_at level words page) c.args.from.now c.args.after)
           ∙ ap (λ xs. pairs_from xs c.args.from.now c.args.after) (sym (root_pairs c.args.root page level words e c.word-level.ensures.value));
       unchanged = record { kept = c.word-level.ensures.kept; standing = c.word-level.ensures.standing; words = c.word-level.ensures.words };
@@ -72,6 +83,29 @@ child_at-child-requires-clause-names_page g c =
     let at = (goal.at.child_at-child-requires-clause-names_page g c).After-saturating_sub-at in
     subst (λ (w : ℕ → ℕ → ℕ). length (item_at (w c.loop-level.page) (2 + 42 * c.saturating_sub-at.result)).payload ≡ 8) (sym (words_same g at)) (leads g at).names_page
 
+-- a page in use has a small number, an item's number is at most 12, and no level is above 13
+pub overflow_cast-page : goal.overflow_cast-page
+overflow_cast-page g c =
+    let i = c.loop-level.invariant in
+    omega (arith, g.met.L.Look.pages_small c.args.look.now c.loop-level.page (kept_not_free (g.L.Look.standing c.args.look.now c.loop-level.page) i.tree.page_in_use))
+
+pub overflow_cast-at : goal.overflow_cast-at
+overflow_cast-at g c = omega (arith, at_item g (goal.at.overflow_cast-at g c).After-saturating_sub-at, c.loop-level.invariant.tree.node.is_page.few)
+
+pub overflow_cast-level : goal.overflow_cast-level
+overflow_cast-level g c = omega (arith, c.loop-level.invariant.short)
+
+pub overflow_cast-page-2 : goal.overflow_cast-page-2
+overflow_cast-page-2 g c =
+    let i = c.loop-level.invariant in
+    omega (arith, g.met.L.Look.pages_small c.args.look.now c.loop-level.page (kept_not_free (g.L.Look.standing c.args.look.now c.loop-level.page) i.tree.page_in_use))
+
+pub overflow_cast-next : goal.overflow_cast-next
+overflow_cast-next g c =
+    let words = g.L.Look.words c.args.look.now in
+    let in_range = subst (λ (w : ℕ → ℕ → ℕ). c.leaf_from-next.result ≤ length (items_of (w c.loop-level.page))) c.loop-level.invariant.unchanged.words c.leaf_from-next.ensures.in_range in
+    omega (arith, in_range, items_count (words c.loop-level.page), c.loop-level.invariant.tree.node.is_page.few)
+
 pub loop-level-preserved : goal.loop-level-preserved
 loop-level-preserved g c =
     let at = (goal.at.loop-level-preserved g c).After-saturating_sub-at in
@@ -81,9 +115,9 @@ loop-level-preserved g c =
     let level = c.loop-level.level in
     let down = level - 1 in
     let next = c.saturating_sub-at.result in
-    let path = c.loop-level.path.items in
+    let path = c.loop-level.self.path.items in
     let branch = item_at (words page) (2 + 42 * next) in
-    let place : Place = record { level = level; page = page; next = next + 1 } in
+    let place : Place = record { page = page; next = next + 1; level = level } in
     let lead = leads g at in
     let is = c.child_at-child.ensures.child ∙ ap (λ (w : ℕ → ℕ → ℕ). child (item_at (w page) (2 + 42 * next))) (words_same g at) in
     let here = pairs_from (pairs_at down words (child branch)) c.args.from.now c.args.after in
@@ -112,9 +146,9 @@ returns-clause-cursor g c =
     let words = g.L.Look.words c.args.look.now in
     let page = c.loop-level.page in
     let leaf : c.loop-level.level ≡ 0 = omega (arith, c.loop-level-test.false) in
-    let place : Place = record { level = 0; page = page; next = c.leaf_from-next.result } in
+    let place : Place = record { page = page; next = c.leaf_from-next.result; level = 0 } in
     let low = tree_weaker c.loop-level.level c.loop-level.invariant.least standing words page c.loop-level.invariant.some c.loop-level.invariant.tree in
-    subst (IsPath standing words) (sym c.push-2.ensures.items) (path_push standing words c.loop-level.path.items place c.loop-level.invariant.path
+    subst (IsPath standing words) (sym c.push-2.ensures.items) (path_push standing words c.loop-level.self.path.items place c.loop-level.invariant.path
     (record {
       tree = subst (λ l. IsTreeAt l 1 standing words page) leaf low;
       in_range = subst (λ (w : ℕ → ℕ → ℕ). c.leaf_from-next.result ≤ length (items_of (w page))) c.loop-level.invariant.unchanged.words c.leaf_from-next.ensures.in_range;
@@ -125,9 +159,9 @@ pub returns-clause-remaining : goal.returns-clause-remaining
 returns-clause-remaining g c =
     let words = g.L.Look.words c.args.look.now in
     let page = c.loop-level.page in
-    let path = c.loop-level.path.items in
+    let path = c.loop-level.self.path.items in
     let leaf : c.loop-level.level ≡ 0 = omega (arith, c.loop-level-test.false) in
-    let place : Place = record { level = 0; page = page; next = c.leaf_from-next.result } in
+    let place : Place = record { page = page; next = c.leaf_from-next.result; level = 0 } in
     let rest = subst (λ (w : ℕ → ℕ → ℕ). drop c.leaf_from-next.result (items_of (w page)) ≡ pairs_from (items_of (w page)) c.args.from.now c.args.after) c.loop-level.invariant.unchanged.words c.leaf_from-next.ensures.rest in
     ap (pairs_along words) c.push-2.ensures.items
     ∙ along_push words path place

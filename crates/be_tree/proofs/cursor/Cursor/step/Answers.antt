@@ -7,6 +7,7 @@ use Rattle.be_tree.specs.Page.{items_of, item_at}
 use Rattle.be_tree.specs.Tree.{IsTreeAt, child, pairs_at, pairs_below}
 use Rattle.be_tree.proofs.Cursors.{along_push, path_push, leads_down, leaf_step}
 use Rattle.be_tree.proofs.Frame.{unchanged_trans}
+use Rattle.be_tree.proofs.Levels.{kept_not_free}
 use Rattle.be_tree.proofs.Slots.{items_count}
 use Rattle.be_tree.proofs.cursor.Cursor.step.Given.{Over}
 use Rattle.be_tree.proofs.cursor.Cursor.step.Goals as goal
@@ -19,6 +20,18 @@ child_at-child-requires-clause-names_page g c =
     let lead = leads_down place.level (place.level - 1) (g.L.Look.standing c.args.look.now) (g.L.Look.words c.args.look.now) 1 place.page place.next (omega (arith, c.loop-place-test.true)) i.place.tree i.left in
     subst (λ (w : ℕ → ℕ → ℕ). length (item_at (w place.page) (2 + 42 * place.next)).payload ≡ 8) (sym i.unchanged.words) lead.names_page
 
+-- the child is in use, so its number is small
+pub overflow_cast-place-in-loop-place-2 : goal.overflow_cast-place-in-loop-place-2
+overflow_cast-place-in-loop-place-2 g c =
+    let standing = g.L.Look.standing c.args.look.now in
+    let words = g.L.Look.words c.args.look.now in
+    let place = c.loop-place.place in
+    let i = c.loop-place.invariant in
+    let lead = leads_down place.level (place.level - 1) standing words 1 place.page place.next (omega (arith, c.loop-place-test.true)) i.place.tree i.left in
+    let branch = item_at (words place.page) (2 + 42 * place.next) in
+    let is = c.child_at-child.ensures.child ∙ ap (λ (w : ℕ → ℕ → ℕ). child (item_at (w place.page) (2 + 42 * place.next))) i.unchanged.words in
+    omega (arith, is, g.met.L.Look.pages_small c.args.look.now (child branch) (kept_not_free (standing (child branch)) lead.tree.page_in_use))
+
 pub loop-place-preserved : goal.loop-place-preserved
 loop-place-preserved g c =
     let standing = g.L.Look.standing c.args.look.now in
@@ -30,7 +43,7 @@ loop-place-preserved g c =
     let lead = leads_down place.level down standing words 1 place.page place.next (omega (arith, c.loop-place-test.true)) i.place.tree i.left in
     let branch = item_at (words place.page) (2 + 42 * place.next) in
     let is = c.child_at-child.ensures.child ∙ ap (λ (w : ℕ → ℕ → ℕ). child (item_at (w place.page) (2 + 42 * place.next))) i.unchanged.words in
-    let past : Place = record { level = place.level; page = place.page; next = place.next + 1 } in
+    let past : Place = record { page = place.page; next = place.next + 1; level = place.level } in
     record {
       place = record { tree = subst (λ p. IsTreeAt down 1 standing words p) (sym is) lead.tree; in_range = omega arith };
       left = subst (λ p. 0 < words p 1) (sym is) lead.some;
@@ -63,7 +76,7 @@ returns-clause-cursor g c =
     let words = g.L.Look.words c.args.look.now in
     let place = c.loop-place.place in
     let i = c.loop-place.invariant in
-    let past : Place = record { level = place.level; page = place.page; next = place.next + 1 } in
+    let past : Place = record { page = place.page; next = place.next + 1; level = place.level } in
     subst (IsPath (g.L.Look.standing c.args.look.now) words) (sym c.push-2.ensures.items) (path_push (g.L.Look.standing c.args.look.now) words c.loop-place.self.path.items past i.path
     (record { tree = i.place.tree; in_range = omega (arith, i.left, items_count (words place.page)) }) i.short)
 
@@ -71,6 +84,6 @@ pub returns-clause-remaining : goal.returns-clause-remaining
 returns-clause-remaining g c =
     let words = g.L.Look.words c.args.look.now in
     let place = c.loop-place.place in
-    let past : Place = record { level = place.level; page = place.page; next = place.next + 1 } in
+    let past : Place = record { page = place.page; next = place.next + 1; level = place.level } in
     ap (pairs_along words) c.push-2.ensures.items ∙ along_push words c.loop-place.self.path.items past
     ∙ sym (ap (λ xs. drop 1 xs) (parts g (goal.at.returns-clause-remaining g c).After-loop-place (omega (arith, c.loop-place-test.false))))
