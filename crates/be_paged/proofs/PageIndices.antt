@@ -52,7 +52,7 @@ module _ (words : ℕ → ℕ) (name : List ℕ) where
   next_below i lt below e = below_next (contents_of words).entries name i below (compared i Less lt e)
 
 -- a source that was only read since
-pub source_since : (s t : ℕ → Standing) (v w : ℕ → ℕ → ℕ) (page : ℕ) (cursor : Cursor) (place : ℕ) (last : List ℕ) (volume : State) → t ≡ s → w ≡ v →
-    SourceOf s v page cursor place last volume → SourceOf t w page cursor place last volume
-source_since s t v w page cursor place last volume standing words h =
-    subst (λ (u : ℕ → Standing). SourceOf u w page cursor place last volume) (sym standing) (subst (λ (x : ℕ → ℕ → ℕ). SourceOf s x page cursor place last volume) (sym words) h)
+pub source_since : (s t : ℕ → Standing) (v w : ℕ → ℕ → ℕ) (page : ℕ) (cursor : Cursor) (place last_page last_at : ℕ) (volume : State) → t ≡ s → w ≡ v →
+    SourceOf s v page cursor place last_page last_at volume → SourceOf t w page cursor place last_page last_at volume
+source_since s t v w page cursor place last_page last_at volume standing words h =
+    subst (λ (u : ℕ → Standing). SourceOf u w page cursor place last_page last_at volume) (sym standing) (subst (λ (x : ℕ → ℕ → ℕ). SourceOf s x page cursor place last_page last_at volume) (sym words) h)

@@ -1,6 +1,8 @@
 -- What a source over a version has in hand.
-use Rattle.std.specs.Prelude.{◌≡◌, ℕ, ◌<◌, List, true, length, slice_index_or}
+use Rattle.std.specs.Prelude.{◌≡◌, ℕ, ◌+◌, ◌<◌, ◌≤◌, IsTrue, List, true, length, slice_index_or}
 use Rattle.be_pages.specs.declared.room.Standing.{Standing}
+use Rattle.be_pages.specs.Pages.{is_readable}
+use Rattle.be_tree.specs.Page.{IsItem, item_at}
 use Rattle.be_tree.specs.Cursor.{IsCursor, remaining}
 use Rattle.be_tree.specs.Range.{pairs_from}
 use Rattle.be_tree.specs.Tree.{pairs}
@@ -10,12 +12,19 @@ use Rattle.be_paged.specs.Entry.{Entry}
 use Rattle.be_paged.specs.Page.{contents_of}
 use Rattle.be_paged.specs.Version.{IsVersion}
 
--- the cursor stands in the tree of the index at a place, behind this key; at a place past the indices it stands nowhere
-pub record StandsBehind (standing : ℕ → Standing) (words : ℕ → ℕ → ℕ) (entries : List Entry) (cursor : Cursor) (place : ℕ) (last : List ℕ) : Type 0 where
+-- an item that can be read stands at a place of a page
+pub record IsItemAt (standing : ℕ → Standing) (words : ℕ → ℕ → ℕ) (page at : ℕ) : Type 0 where
+  pub readable : IsTrue (is_readable (standing page))
+  pub in_page : at + 42 ≤ 512
+  pub fits : IsItem (words page) at
+
+-- the cursor stands in the tree of the index at a place, behind the key of the item at a place of a page; at a place past the indices it stands nowhere
+pub record StandsBehind (standing : ℕ → Standing) (words : ℕ → ℕ → ℕ) (entries : List Entry) (cursor : Cursor) (place : ℕ) (last_page last_at : ℕ) : Type 0 where
   pub can_go_on : place < length entries → IsCursor standing words cursor
-  pub rest : (d : Entry) → place < length entries → remaining words cursor ≡ pairs_from (pairs words (slice_index_or entries place d).root) last true
+  pub last : place < length entries → IsItemAt standing words last_page last_at
+  pub rest : (d : Entry) → place < length entries → remaining words cursor ≡ pairs_from (pairs words (slice_index_or entries place d).root) (item_at (words last_page) last_at).key true
 
 -- the page spells the volume, and the cursor stands where it says
-pub record SourceOf (standing : ℕ → Standing) (words : ℕ → ℕ → ℕ) (page : ℕ) (cursor : Cursor) (place : ℕ) (last : List ℕ) (volume : State) : Type 0 where
+pub record SourceOf (standing : ℕ → Standing) (words : ℕ → ℕ → ℕ) (page : ℕ) (cursor : Cursor) (place : ℕ) (last_page last_at : ℕ) (volume : State) : Type 0 where
   pub version : IsVersion standing words page volume
-  pub behind : StandsBehind standing words (contents_of (words page)).entries cursor place last
+  pub behind : StandsBehind standing words (contents_of (words page)).entries cursor place last_page last_at

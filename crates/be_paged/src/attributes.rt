@@ -62,7 +62,8 @@ pub(crate) fn attribute_count<L: Look>(look: &mut L, catalog: u64, node: u64) ->
         map.len (attributes_of nodes node) ≤ 64 → result ≡ map.len (attributes_of nodes node) }
     ensures unchanged { IsUnchanged L.kept L.standing L.words look.old look.new }
 {
-    let mut cursor = Cursor::seek(look, catalog, &node.to_be_bytes(), true);
+    let mut cursor = Cursor::new();
+    cursor.seek(look, catalog, &node.to_be_bytes(), true);
     for count in 0..MAX_ATTRIBUTES {
         if !pass_attribute(look, &mut cursor, node) {
             return count;
@@ -109,7 +110,8 @@ pub(crate) fn list_attributes<L: Look>(
     ensures unchanged { IsUnchanged L.kept L.standing L.words look.old look.new }
 {
     let mut list = Vec::new(alloc);
-    let mut cursor = Cursor::seek(look, catalog, &node.to_be_bytes(), true);
+    let mut cursor = Cursor::new();
+    cursor.seek(look, catalog, &node.to_be_bytes(), true);
     for _ in 0..MAX_ATTRIBUTES {
         let Some(attribute) = next_value(look, &mut cursor, node) else {
             return Ok(list);
@@ -126,7 +128,8 @@ pub(crate) fn first_attribute<L: Look>(look: &mut L, catalog: u64, node: u64) ->
         result ≡ option_map (λ e. e.0) (slice_get (map.entries (attributes_of nodes node)) 0) }
     ensures unchanged { IsUnchanged L.kept L.standing L.words look.old look.new }
 {
-    let mut cursor = Cursor::seek(look, catalog, &node.to_be_bytes(), true);
+    let mut cursor = Cursor::new();
+    cursor.seek(look, catalog, &node.to_be_bytes(), true);
     let (name, _) = next_value(look, &mut cursor, node)?;
     Some(name)
 }

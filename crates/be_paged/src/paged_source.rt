@@ -1,7 +1,7 @@
 //! A version as a source of queries.
 //!
-//! A walk over an index asks for one key after the other. So the source keeps a cursor of the tree that it walked last: where the next key is
-//! asked from the very key that it gave, it goes on from there and makes no descent. The nodes of a range are read leaf by leaf, and no key is unpacked.
+//! A walk over an index asks for one key after the other. So the source keeps a cursor of the tree that it walked last, and the place of the item
+//! whose key it gave last: where the next key is asked from that very key, it goes on from there and makes no descent. The nodes of a range are read leaf by leaf, and no key is unpacked.
 ghost use Rattle.std.specs.Prelude.{◌≡◌, ◌<◌, ℕ, true, length, slice_index_or};
 ghost use Rattle.be_pages.specs.Pages.{IsUnchanged};
 ghost use Rattle.be_tree.specs.Cursor.{IsCursor, remaining};
@@ -18,7 +18,7 @@ use crate::reading::get;
 use arrayvec::ArrayVec;
 use be_pages::Look;
 use be_plan::Source;
-use be_tree::{Cursor, has_key, numbers_within};
+use be_tree::{Cursor, has_key, is_key_at, key_at, numbers_within};
 use be_value::{Kind, Name, Refusal, Value};
 
 /// A place that no index has.
@@ -31,7 +31,7 @@ pub struct PagedSource<L> {
     page: u64,
     cursor: Cursor,
     place: usize,
-    last: ArrayVec<u8, 264>,
+    last: (u64, usize),
 }
 
 /// The version of a page as a source. It reads nothing yet, and keeps the look until `into_look`.
@@ -45,7 +45,7 @@ pub fn source<L: Look>(look: L, version_page: u64) -> PagedSource<L>
         page: version_page,
         cursor: Cursor::new(),
         place: NOWHERE,
-        last: ArrayVec::new(),
+        last: (0, 0),
     }
 }
 
@@ -63,34 +63,20 @@ impl<L: Look> PagedSource<L> {
         requires in_range { index.place < length (contents_of (L.words self.old.look self.old.page)).entries }
         requires root { (d : AnyEntry) → index.root ≡ (slice_index_or (contents_of (L.words self.old.look self.old.page)).entries index.place d).root }
         requires tree { IsTree (L.standing self.old.look) (L.words self.old.look) index.root }
-        requires behind { StandsBehind (L.standing self.old.look) (L.words self.old.look) (contents_of (L.words self.old.look self.old.page)).entries self.old.cursor self.old.place self.old.last.items }
+        requires behind { StandsBehind (L.standing self.old.look) (L.words self.old.look) (contents_of (L.words self.old.look self.old.page)).entries self.old.cursor self.old.place self.old.last.0 self.old.last.1 }
         ensures cursor { IsCursor (L.standing self.new.look) (L.words self.new.look) self.new.cursor }
         ensures rest { remaining (L.words self.new.look) self.new.cursor ≡ pairs_from (pairs (L.words self.new.look) index.root) from.now after }
         ensures page { self.new.page ≡ self.old.page }
         ensures unchanged { IsUnchanged L.kept L.standing L.words self.old.look self.new.look }
     {
-        if after {
-            if self.stands_behind(index.place, from) {
+        if after && index.place == self.place {
+            let (page, at) = self.last;
+            if is_key_at(&mut self.look, page, at, from) {
                 return;
             }
         }
-        self.cursor = Cursor::seek(&mut self.look, index.root, from, after);
+        self.cursor.seek(&mut self.look, index.root, from, after);
     }
-
-    /// Whether the cursor stands behind this key of this index.
-    fn stands_behind(&self, place: usize, key: &[u8]) -> bool
-        ensures { result ≡ true → (place ≡ self.now.place) × (self.now.last.items ≡ key.now) }
-    {
-        place == self.place && self.last.as_slice() == key
-    }
-}
-
-/// Puts a key in the place of another.
-fn replace_key(key: &mut ArrayVec<u8, 264>, other: &ArrayVec<u8, 264>)
-    ensures { key.new.items ≡ other.now.items }
-{
-    key.clear();
-    key.try_extend_from_slice(other.as_slice()).unwrap();
 }
 
 impl<L: Look> Source for PagedSource<L> {
@@ -102,7 +88,7 @@ impl<L: Look> Source for PagedSource<L> {
 
     ghost kept = { λ s. (L.kept s.look, (L.standing s.look, L.words s.look)) };
 
-    ghost answers_for = { λ s volume. SourceOf (L.standing s.look) (L.words s.look) s.page s.cursor s.place s.last.items volume };
+    ghost answers_for = { λ s volume. SourceOf (L.standing s.look) (L.words s.look) s.page s.cursor s.place s.last.0 s.last.1 volume };
 
     ghost sound = { λ s volume is. is.version.sound };
 
@@ -119,10 +105,10 @@ impl<L: Look> Source for PagedSource<L> {
         };
         self.walk_to(index, from, after);
         self.place = NOWHERE;
-        let key = self.cursor.next_key(&mut self.look)?;
+        let (page, at) = self.cursor.step(&mut self.look)?;
         self.place = index.place;
-        replace_key(&mut self.last, &key);
-        Some(key)
+        self.last = (page, at);
+        Some(key_at(&mut self.look, page, at))
     }
 
     fn nodes_within(

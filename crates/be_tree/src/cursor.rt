@@ -18,7 +18,7 @@ ghost use Rattle.be_tree.specs.Tree.{IsTree, IsTreeAt, pairs, pairs_at};
 
 use crate::lookup::rank;
 use crate::page::{child_at, cmp_at};
-use crate::walk::{TreeItem, fill_key, fill_payload, load_key};
+use crate::walk::{TreeItem, fill_key, fill_payload, key_at};
 use arrayvec::ArrayVec;
 use be_pages::Look;
 use std::cmp::Ordering;
@@ -120,7 +120,7 @@ impl Cursor {
         ensures unchanged { IsUnchanged L.kept L.standing L.words look.old look.new }
     {
         let (page, at) = self.step(look)?;
-        Some(load_key(look, page, at))
+        Some(key_at(look, page, at))
     }
 
     /// Takes the deepest place off the path that has an item left, and with it the deeper ones, which have none.
@@ -143,8 +143,8 @@ impl Cursor {
         None
     }
 
-    /// The page and the place of the item that comes next, and a step past it.
-    pub(crate) fn step<L: Look>(&mut self, look: &mut L) -> Option<(u64, usize)>
+    /// The page and the place of the item that comes next, and a step past it. Nothing of the item is read.
+    pub fn step<L: Look>(&mut self, look: &mut L) -> Option<(u64, usize)>
         requires cursor { IsCursor (L.standing look.old) (L.words look.old) self.old }
         ensures none { IfNone result (remaining (L.words look.old) self.old ≡ []) }
         ensures item { IfSome result (λ at. slice_get (remaining (L.words look.old) self.old) 0 ≡ Some (item_at (L.words look.old at.0) at.1)) }

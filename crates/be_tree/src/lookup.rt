@@ -4,9 +4,10 @@
 //! stand, so nothing is unpacked on the way.
 ghost use Rattle.std.specs.Prelude.{◌≡◌, ◌+◌, ◌-◌, ◌<◌, ◌≤◌, length, option_map, is_some, IfNone, IfSome, None, Some};
 ghost use Rattle.std.specs.Prelude.{IsTrue};
+ghost use Rattle.std.specs.Ordering.{is_eq};
 ghost use Rattle.be_pages.specs.Pages.{IsUnchanged, is_readable};
 ghost use Rattle.be_tree.specs.Page.{IsItem, IsPage, item_at, items_of};
-ghost use Rattle.be_tree.specs.Key.{IsRank, payload_at};
+ghost use Rattle.be_tree.specs.Key.{IsRank, key_cmp, payload_at};
 ghost use Rattle.be_tree.specs.Tree.{IsTree, pairs};
 
 use crate::page::{child_at, cmp_at};
@@ -60,6 +61,18 @@ fn key_place<L: Look>(look: &mut L, root: u64, key: &[u8]) -> Option<(u64, usize
         Ordering::Less | Ordering::Greater => None,
     }
 }
+
+/// Whether the item at a place of a page, as `Cursor::step` tells it, has this key. They are compared where the item stands.
+pub fn is_key_at<L: Look>(look: &mut L, page: u64, at: usize, key: &[u8]) -> bool
+    requires readable { IsTrue (is_readable (L.standing look.old page)) }
+    requires in_page { at + 42 ≤ 512 }
+    requires item { IsItem (L.words look.old page) at }
+    ensures same { result ≡ is_eq (key_cmp (item_at (L.words look.old page) at).key key.now) }
+    ensures unchanged { IsUnchanged L.kept L.standing L.words look.old look.new }
+{
+    cmp_at(look, page, at, key).is_eq()
+}
+
 /// How many of a page's items have keys that are not greater than a key.
 pub(crate) fn rank<L: Look>(look: &mut L, page: u64, key: &[u8]) -> usize
     requires readable { IsTrue (is_readable (L.standing look.old page)) }

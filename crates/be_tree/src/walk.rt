@@ -35,8 +35,8 @@ pub fn range<L: Look>(look: &mut L, root: u64, from: &[u8], after: bool) -> Opti
     cursor.next(look)
 }
 
-/// The key at a place of a page.
-pub(crate) fn load_key<L: Look>(look: &mut L, page: u64, at: usize) -> ArrayVec<u8, 264>
+/// The key of the item at a place of a page, as `Cursor::step` tells it.
+pub fn key_at<L: Look>(look: &mut L, page: u64, at: usize) -> ArrayVec<u8, 264>
     requires readable { IsTrue (is_readable (L.standing look.old page)) }
     requires in_page { at + 42 ≤ 512 }
     requires item { IsItem (L.words look.old page) at }

@@ -55,11 +55,11 @@ returns-in-Some-clause-answers g c = λ volume of.
     let self = c.args.self.now in
     let first = c.in-Some.ensures.unchanged in
     let last = c.has_key.ensures.unchanged in
-    source_since (g.L.Look.standing self.look) (g.L.Look.standing c.has_key.new.look) (g.L.Look.words self.look) (g.L.Look.words c.has_key.new.look) self.page self.cursor self.place self.last.items volume
+    source_since (g.L.Look.standing self.look) (g.L.Look.standing c.has_key.new.look) (g.L.Look.words self.look) (g.L.Look.words c.has_key.new.look) self.page self.cursor self.place self.last.0 self.last.1 volume
     (last.standing ∙ first.standing) (last.words ∙ first.words) of
 
 pub returns-in-None-clause-answers : goal.returns-in-None-clause-answers
 returns-in-None-clause-answers g c = λ volume of.
     let self = c.args.self.now in
     let since = c.in-None.ensures.unchanged in
-    source_since (g.L.Look.standing self.look) (g.L.Look.standing c.find_index.new.look) (g.L.Look.words self.look) (g.L.Look.words c.find_index.new.look) self.page self.cursor self.place self.last.items volume since.standing since.words of
+    source_since (g.L.Look.standing self.look) (g.L.Look.standing c.find_index.new.look) (g.L.Look.words self.look) (g.L.Look.words c.find_index.new.look) self.page self.cursor self.place self.last.0 self.last.1 volume since.standing since.words of

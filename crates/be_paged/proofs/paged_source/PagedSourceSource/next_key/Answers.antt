@@ -1,5 +1,11 @@
-use Rattle.std.proofs.Common.{◌≡◌, ℕ, List, [], true, get_or, Some, None, ap, sym, subst, ◌∙◌, arith}
-use Rattle.be_tree.specs.Cursor.{remaining}
+use Rattle.std.proofs.Common.{◌≡◌, ℕ, List, [], IsTrue, true, get_or, Some, None, ap, sym, subst, ◌∙◌, arith}
+use Rattle.std.specs.List.{slice_get}
+use Rattle.std.specs.Option.{option_map}
+use Rattle.be_pages.specs.declared.room.Standing.{Standing}
+use Rattle.be_pages.specs.Pages.{is_readable}
+use Rattle.be_tree.specs.Pair.{Pair}
+use Rattle.be_tree.specs.Page.{IsItem, item_at}
+use Rattle.be_tree.specs.Cursor.{IsCursor, remaining}
 use Rattle.be_tree.specs.Range.{pairs_from}
 use Rattle.be_tree.specs.Tree.{IsTree, pairs}
 use Rattle.be_tree.proofs.Trees.{tree_rising}
@@ -9,7 +15,6 @@ use Rattle.be_paged.specs.Page.{IsNamedAt, contents_of}
 use Rattle.be_paged.proofs.PageIndices.{source_since}
 use Rattle.be_paged.proofs.SourceKeys.{entry_tree, no_key, is_next_key, behind_next}
 use Rattle.be_paged.proofs.Versions.{version_since}
-use Rattle.be_paged.proofs.Walks.{cursor_since}
 use Rattle.be_paged.proofs.paged_source.PagedSourceSource.next_key.Goals as goal
 
 nowhere : Entry
@@ -27,7 +32,7 @@ pub returns-in_default-clause-answers : goal.returns-in_default-clause-answers
 returns-in_default-clause-answers g c = λ volume of.
     let self = c.args.self.now in
     let since = c.in_default.ensures.unchanged in
-    source_since (g.L.Look.standing self.look) (g.L.Look.standing c.find_index.new.look) (g.L.Look.words self.look) (g.L.Look.words c.find_index.new.look) self.page self.cursor self.place self.last.items volume since.standing since.words of
+    source_since (g.L.Look.standing self.look) (g.L.Look.standing c.find_index.new.look) (g.L.Look.words self.look) (g.L.Look.words c.find_index.new.look) self.page self.cursor self.place self.last.0 self.last.1 volume since.standing since.words of
 
 pub walk_to-requires-clause-in_range : goal.walk_to-requires-clause-in_range
 walk_to-requires-clause-in_range g c = c.in-Some.ensures.found.in_range
@@ -48,11 +53,11 @@ pub walk_to-requires-clause-behind : goal.walk_to-requires-clause-behind
 walk_to-requires-clause-behind g c =
     let self = c.args.self.now in
     let since = c.in-Some.ensures.unchanged in
-    let now = source_since (g.L.Look.standing self.look) (g.L.Look.standing c.find_index.new.look) (g.L.Look.words self.look) (g.L.Look.words c.find_index.new.look) self.page self.cursor self.place self.last.items c.requires.0 since.standing since.words c.requires.1 in
+    let now = source_since (g.L.Look.standing self.look) (g.L.Look.standing c.find_index.new.look) (g.L.Look.words self.look) (g.L.Look.words c.find_index.new.look) self.page self.cursor self.place self.last.0 self.last.1 c.requires.0 since.standing since.words c.requires.1 in
     now.behind
 
-pub returns-in_err-key-clause-answer : goal.returns-in_err-key-clause-answer
-returns-in_err-key-clause-answer g c = λ volume of.
+pub returns-in_err-page-clause-answer : goal.returns-in_err-page-clause-answer
+returns-in_err-page-clause-answer g c = λ volume of.
     let self0 = c.args.self.now in
     let page = self0.page in
     let name = c.args.name.now in
@@ -73,7 +78,7 @@ returns-in_err-key-clause-answer g c = λ volume of.
     let rising = tree_rising s2 w2 (get_or contents.entries place nowhere).root (entry_tree s2 w2 contents place nowhere version.in_hand named.in_range) in
     rw c.from_residual.ensures
     (is_next_key w2 contents volume name place nowhere version.spells named rising c.args.from.now c.args.after (remaining w2 self2.cursor) None
-    (c.walk_to.ensures.rest ∙ ap (λ (r : ℕ). pairs_from (pairs w2 r) c.args.from.now c.args.after) root) c.in_err-key.ensures.key)
+    (c.walk_to.ensures.rest ∙ ap (λ (r : ℕ). pairs_from (pairs w2 r) c.args.from.now c.args.after) root) (sym (ap (λ (xs : List Pair). option_map (λ (x : Pair). x.key) (slice_get xs 0)) c.in_err-page.ensures.none)))
 
 pub returns-clause-answer : goal.returns-clause-answer
 returns-clause-answer g c = λ volume of.
@@ -95,11 +100,12 @@ returns-clause-answer g c = λ volume of.
     let named = subst (λ (u : ℕ → ℕ → ℕ). IsNamedAt (contents_of (u page)).entries name place) (sym step.words) c.in-Some.ensures.found in
     let root : c.in-Some.index.root ≡ (get_or contents.entries place nowhere).root = c.in-Some.ensures.root nowhere ∙ ap (λ (u : ℕ → ℕ → ℕ). (get_or (contents_of (u page)).entries place nowhere).root) (sym step.words) in
     let rising = tree_rising s2 w2 (get_or contents.entries place nowhere).root (entry_tree s2 w2 contents place nowhere version.in_hand named.in_range) in
-    is_next_key w2 contents volume name place nowhere version.spells named rising c.args.from.now c.args.after (remaining w2 self2.cursor) (Some c.in_ok-key.key.items)
-    (c.walk_to.ensures.rest ∙ ap (λ (r : ℕ). pairs_from (pairs w2 r) c.args.from.now c.args.after) root) c.in_ok-key.ensures.key
+    let key = c.key_at.ensures.key ∙ ap (λ (u : ℕ → ℕ → ℕ). (item_at (u c.in_ok-page.page) c.in_ok-page.at).key) c.in_ok-page.ensures.unchanged.words in
+    is_next_key w2 contents volume name place nowhere version.spells named rising c.args.from.now c.args.after (remaining w2 self2.cursor) (Some c.key_at.result.items)
+    (c.walk_to.ensures.rest ∙ ap (λ (r : ℕ). pairs_from (pairs w2 r) c.args.from.now c.args.after) root) (ap (λ (k : List ℕ). Some k) key ∙ sym (ap (option_map (λ (x : Pair). x.key)) c.in_ok-page.ensures.item))
 
-pub returns-in_err-key-clause-answers : goal.returns-in_err-key-clause-answers
-returns-in_err-key-clause-answers g c = λ volume of.
+pub returns-in_err-page-clause-answers : goal.returns-in_err-page-clause-answers
+returns-in_err-page-clause-answers g c = λ volume of.
     let self0 = c.args.self.now in
     let page = self0.page in
     let name = c.args.name.now in
@@ -116,11 +122,11 @@ returns-in_err-key-clause-answers g c = λ volume of.
     let version = version_since s1 s2 w1 w2 page volume step.standing step.words (version_since s0 s1 w0 w1 page volume first.standing first.words of.version) in
     let contents = contents_of (w2 page) in
     let named = subst (λ (u : ℕ → ℕ → ℕ). IsNamedAt (contents_of (u page)).entries name place) (sym step.words) c.in-Some.ensures.found in
-    let last = c.in_err-key.ensures.unchanged in
-    let now = version_since s2 (g.L.Look.standing c.next_key.new.look) w2 (g.L.Look.words c.next_key.new.look) page volume last.standing last.words version in
+    let last = c.in_err-page.ensures.unchanged in
+    let now = version_since s2 (g.L.Look.standing c.step.new.look) w2 (g.L.Look.words c.step.new.look) page volume last.standing last.words version in
     rw c.walk_to.ensures.page (record {
       version = now;
-      behind = record { can_go_on = λ lt. absurd (omega (arith, lt, now.in_hand.few)); rest = λ d lt. absurd (omega (arith, lt, now.in_hand.few)) };
+      behind = record { can_go_on = λ lt. absurd (omega (arith, lt, now.in_hand.few)); last = λ lt. absurd (omega (arith, lt, now.in_hand.few)); rest = λ d lt. absurd (omega (arith, lt, now.in_hand.few)) };
     })
 
 pub returns-clause-answers : goal.returns-clause-answers
@@ -141,20 +147,27 @@ returns-clause-answers g c = λ volume of.
     let version = version_since s1 s2 w1 w2 page volume step.standing step.words (version_since s0 s1 w0 w1 page volume first.standing first.words of.version) in
     let contents = contents_of (w2 page) in
     let named = subst (λ (u : ℕ → ℕ → ℕ). IsNamedAt (contents_of (u page)).entries name place) (sym step.words) c.in-Some.ensures.found in
-    let last = c.in_ok-key.ensures.unchanged in
-    let s3 = g.L.Look.standing c.next_key.new.look in
-    let w3 = g.L.Look.words c.next_key.new.look in
+    let s3 = g.L.Look.standing c.key_at.new.look in
+    let w3 = g.L.Look.words c.key_at.new.look in
+    let standing : s3 ≡ s2 = c.key_at.ensures.unchanged.standing ∙ c.in_ok-page.ensures.unchanged.standing in
+    let words : w3 ≡ w2 = c.key_at.ensures.unchanged.words ∙ c.in_ok-page.ensures.unchanged.words in
+    let p = c.in_ok-page.page in
+    let at = c.in_ok-page.at in
     rw c.walk_to.ensures.page (record {
-      version = version_since s2 s3 w2 w3 page volume last.standing last.words version;
+      version = version_since s2 s3 w2 w3 page volume standing words version;
       behind = record {
-        can_go_on = λ lt. cursor_since s2 s3 w2 w3 c.next_key.new.self last.standing last.words c.in_ok-key.ensures.cursor;
+        can_go_on = λ lt. subst (λ (u : ℕ → Standing). IsCursor u w3 c.step.new.self) (sym standing) (subst (λ (u : ℕ → ℕ → ℕ). IsCursor s2 u c.step.new.self) (sym words) c.in_ok-page.ensures.cursor);
+        last = λ lt. record {
+          readable = subst (λ (u : ℕ → Standing). IsTrue (is_readable (u p))) (sym standing) c.in_ok-page.ensures.readable;
+          in_page = c.in_ok-page.ensures.in_page;
+          fits = subst (λ (u : ℕ → ℕ → ℕ). IsItem (u p) at) (sym words) c.in_ok-page.ensures.fits;
+        };
         rest = λ d lt.
             let root : c.in-Some.index.root ≡ (get_or contents.entries place d).root = c.in-Some.ensures.root d ∙ ap (λ (u : ℕ → ℕ → ℕ). (get_or (contents_of (u page)).entries place d).root) (sym step.words) in
             let rising = tree_rising s2 w2 (get_or contents.entries place d).root (entry_tree s2 w2 contents place d version.in_hand named.in_range) in
-            ap (λ (u : ℕ → ℕ → ℕ). remaining u c.next_key.new.self) last.words ∙ c.in_ok-key.ensures.remaining
-            ∙ behind_next (pairs w2 (get_or contents.entries place d).root) rising c.args.from.now c.args.after (remaining w2 self2.cursor) c.in_ok-key.key.items
-            (c.walk_to.ensures.rest ∙ ap (λ (r : ℕ). pairs_from (pairs w2 r) c.args.from.now c.args.after) root) c.in_ok-key.ensures.key
-            ∙ ap (λ (k : List ℕ). pairs_from (pairs w2 (get_or contents.entries place d).root) k true) (sym c.replace_key.ensures)
-            ∙ ap (λ (u : ℕ → ℕ → ℕ). pairs_from (pairs u (get_or (contents_of (u page)).entries place d).root) c.replace_key.new.key.items true) (sym last.words);
+            ap (λ (u : ℕ → ℕ → ℕ). remaining u c.step.new.self) words ∙ c.in_ok-page.ensures.remaining
+            ∙ behind_next (pairs w2 (get_or contents.entries place d).root) rising c.args.from.now c.args.after (remaining w2 self2.cursor) (item_at (w2 p) at).key
+            (c.walk_to.ensures.rest ∙ ap (λ (r : ℕ). pairs_from (pairs w2 r) c.args.from.now c.args.after) root) (sym (ap (option_map (λ (x : Pair). x.key)) c.in_ok-page.ensures.item))
+            ∙ ap (λ (u : ℕ → ℕ → ℕ). pairs_from (pairs u (get_or (contents_of (u page)).entries place d).root) (item_at (u p) at).key true) (sym words);
       };
     })

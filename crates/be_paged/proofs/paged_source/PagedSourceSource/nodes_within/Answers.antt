@@ -29,7 +29,7 @@ pub returns-in_default-clause-answers : goal.returns-in_default-clause-answers
 returns-in_default-clause-answers g c = λ volume of.
     let self = c.args.self.now in
     let since = c.in_default.ensures.unchanged in
-    source_since (g.L.Look.standing self.look) (g.L.Look.standing c.find_index.new.look) (g.L.Look.words self.look) (g.L.Look.words c.find_index.new.look) self.page self.cursor self.place self.last.items volume since.standing since.words of
+    source_since (g.L.Look.standing self.look) (g.L.Look.standing c.find_index.new.look) (g.L.Look.words self.look) (g.L.Look.words c.find_index.new.look) self.page self.cursor self.place self.last.0 self.last.1 volume since.standing since.words of
 
 pub numbers_within-requires-clause-tree : goal.numbers_within-requires-clause-tree
 numbers_within-requires-clause-tree g c =
@@ -104,7 +104,7 @@ returns-in_err-numbers_within-clause-answers g c = λ volume of.
     let self = c.args.self.now in
     let first = c.in-Some.ensures.unchanged in
     let last = c.numbers_within.ensures.unchanged in
-    source_since (g.L.Look.standing self.look) (g.L.Look.standing c.numbers_within.new.look) (g.L.Look.words self.look) (g.L.Look.words c.numbers_within.new.look) self.page self.cursor self.place self.last.items volume
+    source_since (g.L.Look.standing self.look) (g.L.Look.standing c.numbers_within.new.look) (g.L.Look.words self.look) (g.L.Look.words c.numbers_within.new.look) self.page self.cursor self.place self.last.0 self.last.1 volume
     (last.standing ∙ first.standing) (last.words ∙ first.words) of
 
 pub returns-clause-answers : goal.returns-clause-answers
@@ -112,5 +112,5 @@ returns-clause-answers g c = λ volume of.
     let self = c.args.self.now in
     let first = c.in-Some.ensures.unchanged in
     let last = c.numbers_within.ensures.unchanged in
-    source_since (g.L.Look.standing self.look) (g.L.Look.standing c.numbers_within.new.look) (g.L.Look.words self.look) (g.L.Look.words c.numbers_within.new.look) self.page self.cursor self.place self.last.items volume
+    source_since (g.L.Look.standing self.look) (g.L.Look.standing c.numbers_within.new.look) (g.L.Look.words self.look) (g.L.Look.words c.numbers_within.new.look) self.page self.cursor self.place self.last.0 self.last.1 volume
     (last.standing ∙ first.standing) (last.words ∙ first.words) of

@@ -11,4 +11,4 @@ pub returns-clause-answers : goal.returns-clause-answers
 returns-clause-answers g c = λ volume of.
     let self = c.args.self.now in
     let since = c.get.ensures.unchanged in
-    source_since (g.L.Look.standing self.look) (g.L.Look.standing c.get.new.look) (g.L.Look.words self.look) (g.L.Look.words c.get.new.look) self.page self.cursor self.place self.last.items volume since.standing since.words of
+    source_since (g.L.Look.standing self.look) (g.L.Look.standing c.get.new.look) (g.L.Look.words self.look) (g.L.Look.words c.get.new.look) self.page self.cursor self.place self.last.0 self.last.1 volume since.standing since.words of
