@@ -1,4 +1,5 @@
 pub mod Codec
+pub mod NameOrder
 pub mod Indexing
 pub mod EmptyVolume
 pub mod Validity

@@ -28,7 +28,7 @@ number_back (suc (suc (suc (suc (suc (suc zero)))))) lo hi = refl
 number_back (suc (suc (suc (suc (suc (suc (suc zero))))))) lo hi = refl
 number_back (suc (suc (suc (suc (suc (suc (suc (suc n)))))))) lo hi = absurd (omega (arith, hi))
 
-name_len : (v : ℕ → ℕ) (at : ℕ) → length (entry_at v at).name ≡ v at
+pub name_len : (v : ℕ → ℕ) (at : ℕ) → length (entry_at v at).name ≡ v at
 unfolding entry_at
 name_len v at = length_told v (at + 1) (v at)
 

@@ -55,11 +55,23 @@ fn byte_or_zero(bytes: &[u8], i: usize) -> u8
     if i < bytes.len() { bytes[i] } else { 0 }
 }
 
-/// The eight bytes from a place on, as a word.
-fn word_from(bytes: &[u8], from: usize) -> u64
+/// The eight bytes from a place on, as a word, with zeros past the end.
+pub(crate) fn word_from(bytes: &[u8], from: usize) -> u64
     requires { from ≤ 64 }
     ensures { to_be_bytes w64 result ≡ map (λ k. slice_index bytes.now k) (range_with_len from 8) }
 {
+    if from + 8 <= bytes.len() {
+        return u64::from_be_bytes([
+            bytes[from],
+            bytes[from + 1],
+            bytes[from + 2],
+            bytes[from + 3],
+            bytes[from + 4],
+            bytes[from + 5],
+            bytes[from + 6],
+            bytes[from + 7],
+        ]);
+    }
     u64::from_be_bytes([
         byte_or_zero(bytes, from),
         byte_or_zero(bytes, from + 1),
@@ -73,7 +85,7 @@ fn word_from(bytes: &[u8], from: usize) -> u64
 }
 
 /// The kind that pages call by a number.
-fn kind_numbered(number: u64) -> Kind
+pub(crate) fn kind_numbered(number: u64) -> Kind
     requires { (1 ≤ number) × (number ≤ 7) }
     ensures { result ≡ kind_of_number number }
 {

@@ -1,12 +1,16 @@
 //! Indices where they stand on a version page.
 //!
-//! Who asks for one or two indices by name needs no version in hand, which has room for all 32 of them.
-ghost use Rattle.std.specs.Prelude.{◌≡◌, ℕ, IsTrue, IfSome, IfNone, slice_index_or};
+//! Who asks for one or two indices by name needs no version in hand, which has room for all 32 of them. Names are compared where they stand, and
+//! mostly their first words differ already.
+ghost use Rattle.std.specs.Prelude.{◌≡◌, ℕ, ◌+◌, ◌<◌, ◌≤◌, IsTrue, IfSome, IfNone, length, map, slice_index, slice_index_or};
+ghost use Rattle.std.specs.Int.{to_be_bytes, w64};
+ghost use Rattle.std.specs.List.{range_with_len};
+ghost use Rattle.be_volume.specs.Maps.{name_cmp};
 ghost use Rattle.be_pages.specs.Pages.{IsUnchanged, is_readable};
 ghost use Rattle.be_paged.specs.Entry.{Entry as AnyEntry};
-ghost use Rattle.be_paged.specs.Page.{contents_of, IsGapAt, IsNamedAt, IsVersionPage};
+ghost use Rattle.be_paged.specs.Page.{contents_of, entry_at, IsEntry, IsGapAt, IsNamedAt, IsVersionPage};
 
-use crate::entry::Entry;
+use crate::entry::{kind_numbered, word_from};
 use be_pages::Look;
 use be_value::{Kind, Name};
 use std::cmp::Ordering;
@@ -19,7 +23,7 @@ pub(crate) struct FoundIndex {
     pub(crate) root: u64,
 }
 
-/// The index of a name on a version page, if there is one. It reads eleven words for each index up to there.
+/// The index of a name on a version page, if there is one. Of most indices up to there it reads one word.
 pub(crate) fn find_index<L: Look>(look: &mut L, page: u64, name: &Name) -> Option<FoundIndex>
     requires readable { IsTrue (is_readable (L.standing look.old page)) }
     requires page { IsVersionPage (L.words look.old page) }
@@ -29,20 +33,66 @@ pub(crate) fn find_index<L: Look>(look: &mut L, page: u64, name: &Name) -> Optio
     ensures absent { IfNone result ((i : ℕ) × IsGapAt (contents_of (L.words look.new page)).entries name.now i) }
     ensures unchanged { IsUnchanged L.kept L.standing L.words look.old look.new }
 {
+    let text = name.as_str().as_bytes();
+    let first = word_from(text, 0);
     let count = look.word(page, 1) as usize;
     for i in 0..count {
-        let entry = Entry::load(look, page, 4 + 11 * i);
-        match entry.compare(name) {
+        match compare_at(look, page, 4 + 11 * i, text, first) {
             Ordering::Less => {}
-            Ordering::Equal => {
-                return Some(FoundIndex {
-                    place: i,
-                    kind: entry.kind(),
-                    root: entry.root(),
-                });
-            }
+            Ordering::Equal => return Some(index_at(look, page, i)),
             Ordering::Greater => return None,
         }
     }
     None
+}
+
+/// How the name of the index at a place of a page compares with a name whose first word is at hand. The words behind a name are zeros, so the first
+/// word that differs decides, and else the lengths.
+fn compare_at<L: Look>(
+    look: &mut L,
+    page: u64,
+    at: usize,
+    name: &[u8],
+    first: u64,
+) -> Ordering
+    requires readable { IsTrue (is_readable (L.standing look.old page)) }
+    requires in_page { at + 11 ≤ 512 }
+    requires entry { IsEntry (L.words look.old page) at }
+    requires short { length name.now ≤ 63 }
+    requires first { to_be_bytes w64 first ≡ map (λ k. slice_index name.now k) (range_with_len 0 8) }
+    ensures order { result ≡ name_cmp (entry_at (L.words look.old page) at).name name.now }
+    ensures unchanged { IsUnchanged L.kept L.standing L.words look.old look.new }
+{
+    let mine = look.word(page, at + 1);
+    if mine != first {
+        return mine.cmp(&first);
+    }
+    for j in 1..name.len() / 8 + 1 {
+        let next = look.word(page, at + 1 + j);
+        let other = word_from(name, 8 * j);
+        if next != other {
+            return next.cmp(&other);
+        }
+    }
+    let len = look.word(page, at) as usize;
+    len.cmp(&name.len())
+}
+
+/// The index at a number of a version page.
+fn index_at<L: Look>(look: &mut L, page: u64, i: usize) -> FoundIndex
+    requires readable { IsTrue (is_readable (L.standing look.old page)) }
+    requires page { IsVersionPage (L.words look.old page) }
+    requires in_range { i < L.words look.old page 1 }
+    ensures place { result.place ≡ i }
+    ensures kind { (d : AnyEntry) → result.kind ≡ (slice_index_or (contents_of (L.words look.old page)).entries i d).kind }
+    ensures root { (d : AnyEntry) → result.root ≡ (slice_index_or (contents_of (L.words look.old page)).entries i d).root }
+    ensures unchanged { IsUnchanged L.kept L.standing L.words look.old look.new }
+{
+    let kind = kind_numbered(look.word(page, 13 + 11 * i));
+    let root = look.word(page, 14 + 11 * i);
+    FoundIndex {
+        place: i,
+        kind,
+        root,
+    }
 }

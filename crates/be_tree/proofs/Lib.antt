@@ -1,5 +1,5 @@
 pub mod Codec
-mod Words
+pub mod Words
 mod Branches
 mod Straddling
 pub mod Slots

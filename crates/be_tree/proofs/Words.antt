@@ -24,13 +24,13 @@ pub byte_is : (j n : ℕ) → byte_at j n ≡ n / 256 ^ j % 256
 byte_is zero n = ap (λ (m : ℕ). m % 256) (sym (div-one n))
 byte_is (suc j) n = refl
 
-less_cmp : (x y : ℕ) → x < y → nat_cmp x y ≡ Less
+pub less_cmp : (x y : ℕ) → x < y → nat_cmp x y ≡ Less
 less_cmp x y lt = sym (nat_cmp_is x y Less lt)
 
-same_cmp : (x y : ℕ) → x ≡ y → nat_cmp x y ≡ Equal
+pub same_cmp : (x y : ℕ) → x ≡ y → nat_cmp x y ≡ Equal
 same_cmp x y e = sym (nat_cmp_is x y Equal e)
 
-more_cmp : (x y : ℕ) → y < x → nat_cmp x y ≡ Greater
+pub more_cmp : (x y : ℕ) → y < x → nat_cmp x y ≡ Greater
 more_cmp x y gt = sym (nat_cmp_is x y Greater gt)
 
 less_below : (a b i d : ℕ) → a / 256 ^ (d + i) < b / 256 ^ (d + i) → a / 256 ^ i < b / 256 ^ i
@@ -142,6 +142,14 @@ then_other a b o ne = by_order (cases_lt a b)
     by_order (inl lt) = ap (λ r. ordering_then r o) (less_cmp a b lt) ∙ sym (less_cmp a b lt)
     by_order (inr ge) = ap (λ r. ordering_then r o) (more_cmp a b (omega (arith, ge, ne))) ∙ sym (more_cmp a b (omega (arith, ge, ne)))
 
+pub cmp_suc : (n m : ℕ) → nat_cmp n m ≡ nat_cmp (suc n) (suc m)
+cmp_suc n m = by_order (cases_lt n m) (cases_eq n m)
+  where
+    by_order : ((n < m) ⊎ (m ≤ n)) → ((n ≡ m) ⊎ (n ≡ m → ⊥)) → nat_cmp n m ≡ nat_cmp (suc n) (suc m)
+    by_order (inl lt) eq = less_cmp n m lt ∙ sym (less_cmp (suc n) (suc m) (omega (arith, lt)))
+    by_order (inr ge) (inl e) = same_cmp n m e ∙ sym (same_cmp (suc n) (suc m) (ap suc e))
+    by_order (inr ge) (inr ne) = more_cmp n m (omega (arith, ge, ne)) ∙ sym (more_cmp (suc n) (suc m) (omega (arith, ge, ne)))
+
 -- where one key ends, the lengths decide
 pub cmp_end : (xs ys : List ℕ) (c : ℕ) → c ≤ length xs → c ≤ length ys → ((c ≡ length xs) ⊎ (c ≡ length ys)) → key_cmp (drop c xs) (drop c ys) ≡ nat_cmp (length xs) (length ys)
 unfolding key_cmp
@@ -159,19 +167,11 @@ cmp_end xs ys zero lx ly (inr e) = empty_last xs ys (sym e)
     empty_last xs (y ∷ ys) e = absurd (omega (arith, e))
 cmp_end [] ys (suc c) lx ly h = absurd (omega (arith, lx))
 cmp_end (x ∷ xs) [] (suc c) lx ly h = absurd (omega (arith, ly))
-cmp_end (x ∷ xs) (y ∷ ys) (suc c) lx ly h = cmp_end xs ys c (omega (arith, lx)) (omega (arith, ly)) (less h) ∙ shorter (length xs) (length ys)
+cmp_end (x ∷ xs) (y ∷ ys) (suc c) lx ly h = cmp_end xs ys c (omega (arith, lx)) (omega (arith, ly)) (less h) ∙ cmp_suc (length xs) (length ys)
   where
     less : (suc c ≡ length (x ∷ xs)) ⊎ (suc c ≡ length (y ∷ ys)) → (c ≡ length xs) ⊎ (c ≡ length ys)
     less (inl e) = inl (omega (arith, e))
     less (inr e) = inr (omega (arith, e))
-
-    shorter : (n m : ℕ) → nat_cmp n m ≡ nat_cmp (suc n) (suc m)
-    shorter n m = by_order (cases_lt n m) (cases_eq n m)
-      where
-        by_order : ((n < m) ⊎ (m ≤ n)) → ((n ≡ m) ⊎ (n ≡ m → ⊥)) → nat_cmp n m ≡ nat_cmp (suc n) (suc m)
-        by_order (inl lt) eq = less_cmp n m lt ∙ sym (less_cmp (suc n) (suc m) (omega (arith, lt)))
-        by_order (inr ge) (inl e) = same_cmp n m e ∙ sym (same_cmp (suc n) (suc m) (ap suc e))
-        by_order (inr ge) (inr ne) = more_cmp n m (omega (arith, ge, ne)) ∙ sym (more_cmp (suc n) (suc m) (omega (arith, ge, ne)))
 
 -- powers of bytes, as powers of bits
 pub pow256 : (m : ℕ) → 256 ^ m ≡ 2 ^ (8 * m)
