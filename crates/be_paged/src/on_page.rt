@@ -48,13 +48,7 @@ pub(crate) fn find_index<L: Look>(look: &mut L, page: u64, name: &Name) -> Optio
 
 /// How the name of the index at a place of a page compares with a name whose first word is at hand. The words behind a name are zeros, so the first
 /// word that differs decides, and else the lengths.
-fn compare_at<L: Look>(
-    look: &mut L,
-    page: u64,
-    at: usize,
-    name: &[u8],
-    first: u64,
-) -> Ordering
+fn compare_at<L: Look>(look: &mut L, page: u64, at: usize, name: &[u8], first: u64) -> Ordering
     requires readable { IsTrue (is_readable (L.standing look.old page)) }
     requires in_page { at + 11 ≤ 512 }
     requires entry { IsEntry (L.words look.old page) at }

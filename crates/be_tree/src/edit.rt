@@ -48,12 +48,7 @@ fn write_node<R: Room>(
 }
 
 /// The item at a place of a leaf with a pair beside it, or in its place.
-fn put_beside<L: Look>(
-    look: &mut L,
-    page: u64,
-    place: usize,
-    pair: &Item,
-) -> ArrayVec<Slot, 2>
+fn put_beside<L: Look>(look: &mut L, page: u64, place: usize, pair: &Item) -> ArrayVec<Slot, 2>
     requires readable { IsTrue (is_readable (L.standing look.old page)) }
     requires in_page { place + 42 ≤ 512 }
     requires item { IsItem (L.words look.old page) place }
