@@ -2,7 +2,7 @@
 use Rattle.std.proofs.Common.{◌≡◌, ◌<◌, ℕ, true, false, List, [], ◌∷◌, ◌++◌, append_assoc, refl, sym, ap, ◌∙◌, arith}
 use Rattle.std.specs.Int.{to_be_bytes, w64}
 use Rattle.std.specs.Str.{chars, IsUtf8}
-use Rattle.std.specs.Ordering.{nat_cmp, is_lt, is_gt, ordering_then, ordering_reverse, MatchOrdering}
+use Rattle.std.specs.Ordering.{nat_cmp, is_lt, is_gt, ordering_then, MatchOrdering}
 use Rattle.std.specs.Cmp.{nat_cmp_is, ranked}
 use Rattle.std.specs.FinMap.{nat_cmp-IsAntisymmetric}
 use Rattle.std.specs.declared.cmp.Ordering.{Ordering}
@@ -15,9 +15,7 @@ use Rattle.be_pattern.specs.Match.{Part, matches}
 use Rattle.be_pattern.specs.Canonical.{is_plain, literal_prefix}
 use Rattle.be_volume.specs.Maps.{name_cmp}
 use Rattle.be_plan.specs.Narrow.{limit}
-use Rattle.be_plan.proofs.Ends.{not_above}
 use Rattle.be_plan.proofs.LongTexts.{some_byte}
-use Rattle.be_plan.proofs.Passing.{total}
 use Rattle.be_plan.proofs.Prefixes.{front_bytes}
 
 -- The text begins with the front, and is the front where the limit is 1.

@@ -1,26 +1,18 @@
 -- Values of integer kinds, and how keys of literals' values end.
-use Rattle.std.proofs.Common.{◌≡◌, ◌<◌, ◌^◌, ℕ, ℤ, pos, negsuc, true, false, List, [], ◌∷◌, ◌++◌, append_assoc, length, ◌≤◌, arith, Some, None, refl, sym, ap, ◌∙◌, subst, Option}
-use Rattle.std.specs.Int.{w32, w64}
-use Rattle.std.specs.Int.RustNames.{FitsSigned}
-use Rattle.std.proofs.lemmas.Int.{ints}
-use Rattle.std.specs.Cmp.{nat_cmp_is, int_ranks}
-use Rattle.std.specs.Ordering.{int_cmp, nat_cmp, MatchOrdering}
-use Rattle.std.specs.declared.cmp.Ordering.{Ordering}
-use Rattle.std.specs.declared.cmp.Ordering.TheVariants.{Less, Equal, Greater}
-use lib.Signed.{◌<ℤ◌}
+use Rattle.std.proofs.Common.{◌≡◌, ℕ, ℤ, pos, false, List, [], ◌∷◌, ◌++◌, append_assoc, length, ◌≤◌, arith, Some, refl, sym, ap, Option}
 use Rattle.std.specs.Str.{IsUtf8}
 use Rattle.std.proofs.lemmas.Bool.Decides.{nat_tests}
-use Rattle.be_value.specs.Key.{key, value_key}
-use Rattle.be_value.specs.Name.{has_nul, text_from}
+use Rattle.be_value.specs.Key.{value_key}
+use Rattle.be_value.specs.Name.{has_nul}
 use Rattle.be_value.specs.Value.{kind_of, value_cmp}
-use Rattle.be_query.specs.Grammar.{Literal, Exact}
+use Rattle.be_query.specs.Grammar.{Exact}
 use Rattle.be_query.specs.declared.tree.Cmp.{Cmp}
-use Rattle.be_volume.specs.Query.{holds, holds_of_number, is_true_of, literal_number}
+use Rattle.be_volume.specs.Query.{holds, is_true_of}
 use Rattle.be_value.specs.declared.values.Kind.{Kind}
 use Rattle.be_value.specs.declared.values.Kind.TheVariants as kinds
 use Rattle.be_value.specs.declared.values.Value.{Value}
 use Rattle.be_value.specs.declared.values.Value.TheVariants.{Cstr, Long, Llng, Mims, Rawt, Ulng, Ullg}
-use Rattle.be_plan.specs.Narrow.{HasEnds, StandsFor, last_node}
+use Rattle.be_plan.specs.Narrow.{HasEnds, StandsFor}
 
 -- the value of an integer kind that is this number
 abbrev pub number_value : Kind → Option ℤ → Value

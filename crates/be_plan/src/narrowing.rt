@@ -281,7 +281,14 @@ fn narrow_by_text(range: &mut Range, comparison: &Comparison, words: &str) -> bo
     if bytes.contains(&0) {
         return false;
     }
-    narrow_by(range, comparison, Kind::Cstr, bytes, &TEXT_FIRST, &TEXT_AFTER)
+    narrow_by(
+        range,
+        comparison,
+        Kind::Cstr,
+        bytes,
+        &TEXT_FIRST,
+        &TEXT_AFTER,
+    )
 }
 
 /// Leaves out keys of texts at which the comparison is false. Whether it is true of all that are left.
@@ -309,7 +316,9 @@ fn narrow(range: &mut Range, comparison: &Comparison, kind: Kind) -> bool
 {
     match kind {
         Kind::Cstr => narrow_texts(range, comparison),
-        Kind::Long | Kind::Llng | Kind::Ulng | Kind::Ullg => narrow_integers(range, comparison, kind),
+        Kind::Long | Kind::Llng | Kind::Ulng | Kind::Ullg => narrow_integers(
+            range, comparison, kind,
+        ),
         Kind::Mims | Kind::Rawt => false,
     }
 }

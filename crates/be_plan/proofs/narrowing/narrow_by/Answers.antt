@@ -1,5 +1,5 @@
-use Rattle.std.proofs.Common.{◌≡◌, ◌∙◌, ◌++◌, true, false, sym, ap, List, ℕ}
-use Rattle.std.specs.Ordering.{is_lt, is_gt}
+use Rattle.std.proofs.Common.{◌∙◌, ◌++◌, sym, ap}
+use Rattle.std.specs.Ordering.{is_gt}
 use Rattle.be_value.specs.Key.{key}
 use Rattle.be_query.specs.View.{literal}
 use Rattle.be_volume.specs.Maps.{name_cmp}

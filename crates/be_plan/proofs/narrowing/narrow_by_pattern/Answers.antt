@@ -1,4 +1,4 @@
-use Rattle.std.proofs.Common.{◌≡◌, ◌∷◌, [], ◌++◌, ◌<◌, length, List, ℕ, true, false, append-nil, ap, sym, subst, ◌∙◌, arith, rules}
+use Rattle.std.proofs.Common.{◌≡◌, ◌∷◌, [], ◌++◌, ◌<◌, length, List, ℕ, false, append-nil, ap, sym, subst, ◌∙◌, arith, rules}
 use Rattle.std.specs.Ordering.{is_lt, is_gt}
 use Rattle.std.specs.Str.{IsUtf8}
 use Rattle.be_pattern.specs.Canonical.{is_plain}

@@ -1,4 +1,4 @@
-use Rattle.std.proofs.Common.{◌≡◌, ◌≤◌, ◌∙◌, false, length, List, ℕ, sym, ap, subst, arith, rules}
+use Rattle.std.proofs.Common.{◌≡◌, ◌∙◌, false, List, ℕ, sym, ap, subst, arith, rules}
 use Rattle.std.specs.Str.{IsUtf8}
 use Rattle.be_value.specs.Name.{has_nul}
 use Rattle.be_value.specs.declared.values.Kind.TheVariants as kinds

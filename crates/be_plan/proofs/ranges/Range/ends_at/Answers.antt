@@ -1,7 +1,7 @@
-use Rattle.std.proofs.Common.{◌≡◌, ◌∙◌, ◌++◌, true, false, Some, sym, ap}
+use Rattle.std.proofs.Common.{◌≡◌, ◌∙◌, ◌++◌, true, false, sym, ap}
 use Rattle.std.specs.Ordering.{is_gt}
 use Rattle.be_volume.specs.Maps.{name_cmp}
-use Rattle.be_plan.specs.Narrow.{is_above, high_of}
+use Rattle.be_plan.specs.Narrow.{is_above}
 use Rattle.be_plan.proofs.Bounds.{not_true, not_false}
 use Rattle.be_plan.proofs.Ends.{not_past, reached, bounded_high}
 use Rattle.be_plan.proofs.ranges.Range.ends_at.Goals as goal

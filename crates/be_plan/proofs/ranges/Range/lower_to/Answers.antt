@@ -1,4 +1,4 @@
-use Rattle.std.proofs.Common.{◌≡◌, ◌∙◌, ◌++◌, true, false, sym, ap}
+use Rattle.std.proofs.Common.{◌∙◌, sym, ap}
 use Rattle.std.specs.Ordering.{is_gt}
 use Rattle.be_volume.specs.Maps.{name_cmp}
 use Rattle.be_plan.proofs.ranges.Range.lower_to.Goals as goal
