@@ -73,16 +73,9 @@ reached k high bound over h = not_above k bound high (by (name_cmp high bound) o
     by Equal g = refl
     by Greater g = refl
 
--- where the low end gives way to a bound above it, or stays, no key comes in; none leaves that is not below the bound
-pub raised_within : (low bound new k : List ℕ) (fits : Bool) → (fits ≡ true → new ≡ bound) → (fits ≡ false → new ≡ low) → is_lt (name_cmp low bound) ≡ true →
-    is_lt (name_cmp k new) ≡ false → is_lt (name_cmp k low) ≡ false
-raised_within low bound new k true puts stays up h = not_below k bound low (up_not_below low bound up) (sym (ap (λ l. is_lt (name_cmp k l)) (puts refl)) ∙ h)
-raised_within low bound new k false puts stays up h = sym (ap (λ l. is_lt (name_cmp k l)) (stays refl)) ∙ h
-
-pub raised_keeps : (low bound new k : List ℕ) (fits : Bool) → (fits ≡ true → new ≡ bound) → (fits ≡ false → new ≡ low) → is_lt (name_cmp k bound) ≡ false →
-    is_lt (name_cmp k low) ≡ false → is_lt (name_cmp k new) ≡ false
-raised_keeps low bound new k true puts stays above h = ap (λ l. is_lt (name_cmp k l)) (puts refl) ∙ above
-raised_keeps low bound new k false puts stays above h = ap (λ l. is_lt (name_cmp k l)) (stays refl) ∙ h
+-- what is not below a bound above the low end is not below the low end
+pub started : (k low bound : List ℕ) → is_lt (name_cmp low bound) ≡ true → is_lt (name_cmp k bound) ≡ false → is_lt (name_cmp k low) ≡ false
+started k low bound up h = not_below k bound low (up_not_below low bound up) h
 
 pub bounded_high : (r : Range) → r.bounded ≡ true → high_of r ≡ Some r.high.items
 bounded_high r e = ap (λ b. if b then Some r.high.items else None) e

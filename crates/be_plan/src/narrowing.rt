@@ -316,9 +316,9 @@ fn narrow(range: &mut Range, comparison: &Comparison, kind: Kind) -> bool
 {
     match kind {
         Kind::Cstr => narrow_texts(range, comparison),
-        Kind::Long | Kind::Llng | Kind::Ulng | Kind::Ullg => narrow_integers(
-            range, comparison, kind,
-        ),
+        Kind::Long | Kind::Llng | Kind::Ulng | Kind::Ullg => {
+            narrow_integers(range, comparison, kind)
+        }
         Kind::Mims | Kind::Rawt => false,
     }
 }

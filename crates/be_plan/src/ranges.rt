@@ -56,17 +56,26 @@ impl Range {
         self.bounded && key.cmp(&self.high.as_slice()).is_gt()
     }
 
+    /// Whether no key of the range is below the front with the end behind it; if not, the range has all keys from there. With no bytes at its
+    /// low end nothing is compared.
+    fn starts_at(&self, front: &[u8], end: &[u8]) -> bool
+        ensures starts { result ≡ true → (k : List ℕ) → is_lt (name_cmp k self.now.low.items) ≡ false → is_lt (name_cmp k (front.now ++ end.now)) ≡ false }
+        ensures reaches { result ≡ false → (k : List ℕ) → is_lt (name_cmp k (front.now ++ end.now)) ≡ false → is_lt (name_cmp k self.now.low.items) ≡ false }
+    {
+        let low = self.low.as_slice();
+        !low.is_empty() && !order(low, front, end).is_lt()
+    }
+
     /// Leaves out keys below the front with the end behind it, unless these are longer than an end of a range. Whether none is left.
     pub(crate) fn raise_to(&mut self, front: &[u8], end: &[u8]) -> bool
         ensures within { (k : List ℕ) → IsIn self.new k → IsIn self.old k }
         ensures keeps { (k : List ℕ) → is_lt (name_cmp k (front.now ++ end.now)) ≡ false → IsIn self.old k → IsIn self.new k }
         ensures leaves { result ≡ true → (k : List ℕ) → IsIn self.new k → is_lt (name_cmp k (front.now ++ end.now)) ≡ false }
     {
-        if order(self.low.as_slice(), front, end).is_lt() {
-            put(&mut self.low, front, end)
-        } else {
-            true
+        if self.starts_at(front, end) {
+            return true;
         }
+        put(&mut self.low, front, end)
     }
 
     /// Whether no key of the range is above the front with the end behind it; if not, the range has all keys up to there.
