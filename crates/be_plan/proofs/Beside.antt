@@ -1,6 +1,7 @@
 -- The bytes next to a key.
-use Rattle.std.proofs.Common.{◌≡◌, ℕ, true, false, List, [], ◌∷◌, ◌++◌, refl}
+use Rattle.std.proofs.Common.{◌≡◌, ℕ, true, false, List, [], ◌∷◌, ◌++◌, refl, sym, ap, ◌∙◌}
 use Rattle.std.specs.Ordering.{nat_cmp, is_lt, is_gt, ordering_then}
+use Rattle.std.specs.Cmp.{nat_cmp_is}
 use Rattle.std.specs.declared.cmp.Ordering.{Ordering}
 use Rattle.std.specs.declared.cmp.Ordering.TheVariants.{Less, Equal, Greater}
 use Rattle.be_volume.specs.Maps.{name_cmp}
@@ -39,3 +40,8 @@ below_zero (x ∷ k) (y ∷ a) h = by (nat_cmp x y) (below_zero k a) h
     by Less rest e = refl
     by Equal rest e = rest e
     by Greater rest e = cc
+
+-- a key with a zero byte is above the key
+pub longer : (a : List ℕ) → is_gt (name_cmp (a ++ 0 ∷ []) a) ≡ true
+longer [] = refl
+longer (x ∷ a) = ap (λ o. is_gt (ordering_then o (name_cmp (a ++ 0 ∷ []) a))) (sym (nat_cmp_is x x Equal refl)) ∙ longer a

@@ -1,5 +1,5 @@
 -- What the ends of a range tell of its keys.
-use Rattle.std.proofs.Common.{◌≡◌, ◌<◌, ◌^◌, ℕ, Bool, true, false, not, List, Some, refl, sym, ap, ◌∙◌}
+use Rattle.std.proofs.Common.{◌≡◌, ◌<◌, ◌^◌, ℕ, Bool, true, false, not, List, Some, None, if◌then◌else◌, refl, sym, ap, ◌∙◌}
 use Rattle.std.specs.List.{Contains}
 use Rattle.std.specs.Ordering.{is_lt, is_gt, ordering_reverse}
 use Rattle.std.specs.declared.option.Option.{Option}
@@ -14,7 +14,8 @@ use Rattle.be_volume.specs.Sound.{IsSound}
 use Rattle.be_volume.specs.Volume.{State}
 use Rattle.be_value.specs.Key.{key as key_bytes}
 use Rattle.be_value.specs.declared.values.Value.{Value}
-use Rattle.be_plan.specs.Narrow.{is_above}
+use Rattle.be_plan.specs.Narrow.{is_above, high_of}
+use Rattle.be_plan.specs.declared.ranges.Range.{Range}
 use Rattle.be_plan.specs.Walk.{HasCome, HasWanted, Keeps}
 use Rattle.be_plan.proofs.Passing.{total, reversed, greater_trans, above_too, ends_above, passes}
 
@@ -44,6 +45,40 @@ not_above k high bound greatest h = by (name_cmp k bound) refl
     by Less e = refl
     by Equal e = refl
     by Greater e = let no : true ≡ false = sym (ap is_gt (beyond e _ refl greatest)) ∙ h in absurd (cc no)
+
+-- what is not above what is not above the bound is not above it
+pub not_past : (k high bound : List ℕ) → is_gt (name_cmp high bound) ≡ false → is_gt (name_cmp k high) ≡ false → is_gt (name_cmp k bound) ≡ false
+not_past k high bound least h = not_above k high bound (turned (name_cmp high bound) refl least) h
+  where
+    turned : (o : Ordering) → name_cmp high bound ≡ o → is_gt o ≡ false → is_lt (name_cmp bound high) ≡ false
+    turned Less e g = ap is_lt (total.antisymm bound high ∙ ap ordering_reverse e)
+    turned Equal e g = ap is_lt (total.antisymm bound high ∙ ap ordering_reverse e)
+    turned Greater e g = cc
+
+-- a bound above another is not below it
+pub up_not_below : (low bound : List ℕ) → is_lt (name_cmp low bound) ≡ true → is_lt (name_cmp bound low) ≡ false
+up_not_below low bound up = by (name_cmp low bound) refl up
+  where
+    by : (o : Ordering) → name_cmp low bound ≡ o → is_lt o ≡ true → is_lt (name_cmp bound low) ≡ false
+    by Less e g = ap is_lt (total.antisymm bound low ∙ ap ordering_reverse e)
+    by Equal e g = cc
+    by Greater e g = cc
+
+-- what is not above a bound below the high end is not above the high end
+pub reached : (k high bound : List ℕ) → is_gt (name_cmp high bound) ≡ true → is_gt (name_cmp k bound) ≡ false → is_gt (name_cmp k high) ≡ false
+reached k high bound over h = not_above k bound high (by (name_cmp high bound) over) h
+  where
+    by : (o : Ordering) → is_gt o ≡ true → is_lt o ≡ false
+    by Less g = cc
+    by Equal g = refl
+    by Greater g = refl
+
+-- what is not below a bound above the low end is not below the low end
+pub started : (k low bound : List ℕ) → is_lt (name_cmp low bound) ≡ true → is_lt (name_cmp k bound) ≡ false → is_lt (name_cmp k low) ≡ false
+started k low bound up h = not_below k bound low (up_not_below low bound up) h
+
+pub bounded_high : (r : Range) → r.bounded ≡ true → high_of r ≡ Some r.high.items
+bounded_high r e = ap (λ b. if b then Some r.high.items else None) e
 
 is_greater : (r : Ordering) → is_gt r ≡ true → r ≡ Greater
 is_greater Less h = cc

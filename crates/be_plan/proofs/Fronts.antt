@@ -2,7 +2,7 @@
 use Rattle.std.proofs.Common.{◌≡◌, ◌<◌, ℕ, true, false, List, [], ◌∷◌, ◌++◌, append_assoc, refl, sym, ap, ◌∙◌, arith}
 use Rattle.std.specs.Int.{to_be_bytes, w64}
 use Rattle.std.specs.Str.{chars, IsUtf8}
-use Rattle.std.specs.Ordering.{nat_cmp, is_lt, is_gt, ordering_then, ordering_reverse, MatchOrdering}
+use Rattle.std.specs.Ordering.{nat_cmp, is_lt, is_gt, ordering_then, MatchOrdering}
 use Rattle.std.specs.Cmp.{nat_cmp_is, ranked}
 use Rattle.std.specs.FinMap.{nat_cmp-IsAntisymmetric}
 use Rattle.std.specs.declared.cmp.Ordering.{Ordering}
@@ -15,40 +15,8 @@ use Rattle.be_pattern.specs.Match.{Part, matches}
 use Rattle.be_pattern.specs.Canonical.{is_plain, literal_prefix}
 use Rattle.be_volume.specs.Maps.{name_cmp}
 use Rattle.be_plan.specs.Narrow.{limit}
-use Rattle.be_plan.proofs.Ends.{not_above}
 use Rattle.be_plan.proofs.LongTexts.{some_byte}
-use Rattle.be_plan.proofs.Passing.{total}
 use Rattle.be_plan.proofs.Prefixes.{front_bytes}
-
--- what is below the front is not above the front with more behind it
-pub below_front : (k front more : List ℕ) → is_lt (name_cmp k front) ≡ true → is_gt (name_cmp k (front ++ more)) ≡ false
-below_front [] [] more h = cc
-below_front [] (f ∷ front) more h = refl
-below_front (c ∷ k) [] more h = cc
-below_front (c ∷ k) (f ∷ front) more h = by (nat_cmp c f) h (below_front k front more)
-  where
-    by : (o : Ordering) → is_lt (ordering_then o (name_cmp k front)) ≡ true → (is_lt (name_cmp k front) ≡ true → is_gt (name_cmp k (front ++ more)) ≡ false) →
-        is_gt (ordering_then o (name_cmp k (front ++ more))) ≡ false
-    by Less h rest = refl
-    by Equal h rest = rest h
-    by Greater h rest = cc
-
--- what is not above what is not above the bound is not above it
-pub not_past : (k high bound : List ℕ) → is_gt (name_cmp high bound) ≡ false → is_gt (name_cmp k high) ≡ false → is_gt (name_cmp k bound) ≡ false
-not_past k high bound least h = not_above k high bound (turned (name_cmp high bound) refl least) h
-  where
-    turned : (o : Ordering) → name_cmp high bound ≡ o → is_gt o ≡ false → is_lt (name_cmp bound high) ≡ false
-    turned Less e g = ap is_lt (total.antisymm bound high ∙ ap ordering_reverse e)
-    turned Equal e g = ap is_lt (total.antisymm bound high ∙ ap ordering_reverse e)
-    turned Greater e g = cc
-
-tied : (x : ℕ) → nat_cmp x x ≡ Equal
-tied x = sym (nat_cmp_is x x Equal refl)
-
--- behind one front the rests are compared
-pub behind_front : (front k more : List ℕ) → name_cmp (front ++ k) (front ++ more) ≡ name_cmp k more
-behind_front [] k more = refl
-behind_front (f ∷ front) k more = ap (λ o. ordering_then o (name_cmp (front ++ k) (front ++ more))) (tied f) ∙ behind_front front k more
 
 -- The text begins with the front, and is the front where the limit is 1.
 record Begun (front text : List ℕ) (end : ℕ) : Type 0 where

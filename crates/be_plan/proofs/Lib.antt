@@ -4,11 +4,14 @@ pub mod Bounds
 pub mod Choice
 pub mod Ends
 pub mod Fronts
+pub mod Integers
 pub mod Listed
 pub mod LongTexts
+pub mod Parts
 pub mod Passing
 pub mod Prefixes
 pub mod Reaching
 pub mod Rising
 pub mod Seen
+pub mod Standing
 pub mod Ways

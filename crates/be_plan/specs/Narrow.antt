@@ -1,5 +1,5 @@
 -- Which values and keys a walk over an index has to pass.
-use Rattle.std.specs.Prelude.{◌≡◌, ◌<◌, ◌≤◌, ◌+◌, ◌^◌, ℕ, ℤ, pos, ◌≤ℤ◌, Bool, true, false, List, Some, None, IsTrue}
+use Rattle.std.specs.Prelude.{◌≡◌, ◌<◌, ◌≤◌, ◌+◌, ◌-◌, ◌^◌, ℕ, ℤ, pos, ◌≤ℤ◌, Bool, true, false, List, [], ◌∷◌, ◌++◌, Some, None, IsTrue, if◌then◌else◌}
 use Rattle.std.specs.Ordering.{is_lt, is_gt}
 use Rattle.std.specs.declared.option.Option.{Option}
 use Rattle.be_value.specs.Key.{key, IsValue}
@@ -13,6 +13,7 @@ use Rattle.be_query.specs.Grammar.{Literal}
 use Rattle.be_volume.specs.Maps.{name_cmp}
 use Rattle.be_volume.specs.Query.{holds, is_true_of, sat, sees}
 use Rattle.be_volume.specs.Volume.{State}
+use Rattle.be_plan.specs.declared.ranges.Range.{Range}
 
 -- The value is one that a node may have at the name where the part, whose first comparison has the place `at`, is true of it by way of the pick: the comparisons on this name that are then true are true of the value.
 abbrev pub Allows : ℕ → ℕ → Formula → List ℕ → Value → Type 0
@@ -32,6 +33,18 @@ pub record Within (low : List ℕ) (high : Option (List ℕ)) (k : List ℕ) : T
   pub from_low : is_lt (name_cmp k low) ≡ false
   pub to_high : is_above high k ≡ false
 
+-- the bytes that no key of the range is above, if there are any
+abbrev pub high_of : Range → Option (List ℕ)
+high_of range = if range.bounded then Some range.high.items else None
+
+-- k is one of the keys of the range
+abbrev pub IsIn : Range → List ℕ → Type 0
+IsIn range k = Within range.low.items (high_of range) k
+
+-- the greatest number of a node
+abbrev pub last_node : ℕ
+last_node = 2 ^ 64 - 1
+
 -- a pair that an index of this kind may hold
 pub record IsPair (kind : Kind) (value : Value) (node : ℕ) : Type 0 where
   pub is_value : IsValue value
@@ -44,6 +57,15 @@ pub record StandsFor (literal : Literal) (kind : Kind) (bound : Value) : Type 0 
   pub kind_is : kind_of bound ≡ kind
   pub indexable : IsTrue (is_indexable kind)
   pub compares : (op : Cmp) (value : Value) → kind_of value ≡ kind → holds op value literal ≡ is_true_of op (value_cmp value bound)
+
+-- A front stands before each key of the value. Behind it stands `first` with the least node, and with the greatest node what `after` has before its zero byte.
+pub record HasEnds (bound : Value) (front first after : List ℕ) : Type 0 where
+  pub below : List ℕ
+  pub last : List ℕ
+  pub first_is : first ≡ below ++ 0 ∷ []
+  pub after_is : after ≡ last ++ 0 ∷ []
+  pub least : front ++ first ≡ key bound 0
+  pub greatest : front ++ last ≡ key bound last_node
 
 -- the value is a number from the least to the greatest
 abbrev pub IsBetween : ℤ → ℤ → Value → Type 0

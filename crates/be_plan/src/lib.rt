@@ -10,10 +10,10 @@
 
 mod choosing;
 mod coverage;
-mod deciding;
 mod evaluating;
 mod explaining;
 mod laws;
+mod narrowing;
 mod plain;
 mod plans;
 mod ranges;

@@ -5,7 +5,6 @@
 //! above its high end, and asks the query of each node. It asks for one key more than it passes.
 ghost use Rattle.std.specs.Prelude.{◌≡◌, ◌<◌, ◌^◌, ℕ, true, Some, OnOk, IfErr};
 ghost use Rattle.std.specs.List.{Contains};
-ghost use Rattle.std.specs.Option.{option_copied, option_map};
 ghost use Rattle.be_value.specs.Key.{key as key_bytes};
 ghost use Rattle.be_value.specs.declared.refusals.Refusal.TheVariants.{OutOfMemory};
 ghost use Rattle.be_value.specs.declared.values.Value.{Value as AnyValue};
@@ -14,12 +13,12 @@ ghost use Rattle.be_volume.specs.Keys.{IsKey};
 ghost use Rattle.be_volume.specs.Query.{sat};
 ghost use Rattle.be_volume.specs.Reading.{index_kind};
 ghost use Rattle.be_volume.specs.Volume.{State};
+ghost use Rattle.be_plan.specs.Narrow.{Decides, high_of};
 ghost use Rattle.be_plan.specs.Walk.{AllSatisfy, Keeps, HasWithin};
 
 use crate::Source;
-use crate::deciding::decides;
 use crate::evaluating::satisfies;
-use crate::ranges::{Range, is_above};
+use crate::ranges::Range;
 use be_query::Tree;
 use be_value::{Kind, Name, Refusal, read_key};
 
@@ -73,11 +72,11 @@ fn visit_all<S: Source>(
     ensures satisfy { AllSatisfy volume (formula tree.now) found.old.items →
         AllSatisfy volume (formula tree.now) found.new.items }
     ensures has { OnOk result (HasWithin volume (formula tree.now) name.now range.now.low.items
-        (option_map (λ b. b.items) range.now.high) found.new.items) }
+        (high_of range.now) found.new.items) }
 {
-    let mut next = source.next_key(name, range.low.as_slice(), false);
+    let mut next = source.next_key(name, range.low(), false);
     'keys: while let Some(key) = &next {
-        if is_above(&range.high, key.as_slice()) {
+        if range.ends_before(key.as_slice()) {
             return Ok(());
         }
         visit(source, tree, name, kind, key.as_slice(), found)?;
@@ -86,18 +85,20 @@ fn visit_all<S: Source>(
     Ok(())
 }
 
-/// Adds the nodes of the keys in the range of which the tree is true.
+/// Adds the nodes of the keys in the range of which the tree is true. Where the range decides that, the source gives them by one call.
 pub(crate) fn walk<S: Source>(
     source: &mut S,
     tree: &Tree,
     name: &Name,
     kind: Kind,
     range: &Range,
+    decided: bool,
     found: &mut Vec<u64>,
 ) -> Result<(), Refusal>
     ghost volume: { State }
     requires answers { S.answers_for source.old volume }
     requires kind { index_kind volume name.now ≡ Some kind }
+    requires decided { decided ≡ true → Decides (formula tree.now) name.now kind range.now.low.items (high_of range.now) }
     ensures stays { S.kept source.new ≡ S.kept source.old }
     ensures answers { S.answers_for source.new volume }
     ensures memory { IfErr result (λ e. e ≡ OutOfMemory) }
@@ -105,21 +106,11 @@ pub(crate) fn walk<S: Source>(
     ensures satisfy { AllSatisfy volume (formula tree.now) found.old.items →
         AllSatisfy volume (formula tree.now) found.new.items }
     ensures has { OnOk result (HasWithin volume (formula tree.now) name.now range.now.low.items
-        (option_map (λ b. b.items) range.now.high) found.new.items) }
+        (high_of range.now) found.new.items) }
 {
-    if decides(range, tree, name, kind) {
-        source.nodes_within(name, range.low.as_slice(), high_end(range), found)
+    if decided {
+        source.nodes_within(name, range.low(), range.high(), found)
     } else {
         visit_all(source, tree, name, kind, range, found)
-    }
-}
-
-/// The range's high end.
-fn high_end(range: &Range) -> Option<&[u8]>
-    ensures { option_copied result ≡ option_map (λ b. b.items) range.now.high }
-{
-    match &range.high {
-        Some(high) => Some(high.as_slice()),
-        None => None,
     }
 }

@@ -1,0 +1,359 @@
+//! The keys that a walk over an index has to pass.
+//!
+//! A walk for a pick begins with all keys of the index and leaves out what can't be an answer by way of this pick: each comparison on the picked
+//! name that stands beside it under `&&` gives a bound, and a pattern gives its literal prefix. A comparison on the other side of an `||`
+//! gives none, since it need not be true. A number outside the index's kind leaves out all keys or none, by the side on which it lies, and a
+//! literal that spells no number leaves out all. Of a text longer than any value's, the bytes that a value may have tell.
+//!
+//! Bounds are bytes, both included: a value's key with the least node number or the greatest, or the bytes next to it where it is left out. So
+//! no key in a range of numbers is idle. The key is never made: its front is the literal's own bytes or the number's, its end one of four.
+//!
+//! What narrows a range tells whether that leaves no value of which the comparison, or the whole query, is false. Then the node of each key is
+//! an answer, and nothing is asked of it. A pattern is decided where it says no more than how a text begins.
+ghost use Rattle.std.specs.Prelude.{◌≡◌, ◌<◌, ◌≤◌, ◌+◌, ◌^◌, ℕ, ℤ, ◌≤ℤ◌, true, false, List, [], ◌∷◌, ◌++◌, Some, IfSome, IsTrue, IsUtf8, length};
+ghost use Rattle.std.specs.Str.{chars};
+ghost use Rattle.be_pattern.specs.Match.{matches};
+ghost use Rattle.be_pattern.specs.Canonical.{is_plain};
+ghost use Rattle.std.specs.Ordering.{is_lt, is_gt};
+ghost use Rattle.be_value.specs.Key.{key as key_bytes, value_key, counted, IsValue};
+ghost use Rattle.be_value.specs.Name.{has_nul};
+ghost use Rattle.be_value.specs.Value.{kind_of};
+ghost use Rattle.be_value.specs.declared.values.Value.{Value as AnyValue};
+ghost use Rattle.be_query.specs.Grammar.{comparisons, Exact};
+ghost use Rattle.be_query.specs.View.{formula, literal};
+ghost use Rattle.be_volume.specs.Maps.{name_cmp};
+ghost use Rattle.be_volume.specs.Query.{holds, holds_of_number, is_true_of, literal_number};
+ghost use Rattle.be_plan.specs.Narrow.{IsIn, IsBetween, IsPair, StandsFor, HasEnds, Allows, Decides, high_of, limit};
+
+use crate::choosing::count;
+use crate::ranges::Range;
+use be_pattern::Pattern;
+use be_query::{Cmp, Comparison, Literal, Tree};
+use be_value::{Kind, Name};
+use be_volume::literal_number;
+
+/// What stands in a text's key behind the text, with the least node.
+const TEXT_FIRST: [u8; 9] = [0; 9];
+
+/// The same with the greatest node, and a zero byte behind that: the bytes next above the key.
+const TEXT_AFTER: [u8; 10] = [0, 255, 255, 255, 255, 255, 255, 255, 255, 0];
+
+/// What stands in a number's key behind the number, with the least node.
+const NUMBER_FIRST: [u8; 8] = [0; 8];
+
+/// The same with the greatest node, and a zero byte behind that.
+const NUMBER_AFTER: [u8; 9] = [255, 255, 255, 255, 255, 255, 255, 255, 0];
+
+/// The end without its last byte. Where that is zero, no bytes lie between the two.
+fn without_last(end: &[u8]) -> &[u8]
+    ensures { (bytes : List ℕ) → end.now ≡ bytes ++ 0 ∷ [] → result.now ≡ bytes }
+{
+    match end.split_last() {
+        Some((_, bytes)) => bytes,
+        None => end,
+    }
+}
+
+/// Leaves out keys of values at which the comparison is false, by a value that stands for its literal. The keys of this value begin with the
+/// front; behind it stands `first` with the least node, and `after`, but for its zero byte, with the greatest. Whether the comparison is true
+/// of all values that are left.
+fn narrow_by(
+    range: &mut Range,
+    comparison: &Comparison,
+    kind: Kind,
+    front: &[u8],
+    first: &[u8],
+    after: &[u8],
+) -> bool
+    ghost bound: { AnyValue }
+    requires stands { StandsFor (literal comparison.now.literal) kind bound }
+    requires ends { HasEnds bound front.now first.now after.now }
+    ensures within { (k : List ℕ) → IsIn range.new k → IsIn range.old k }
+    ensures keeps { (v : AnyValue) (n : ℕ) → IsPair kind v n → holds comparison.now.op v (literal comparison.now.literal) ≡ true →
+        IsIn range.old (key_bytes v n) → IsIn range.new (key_bytes v n) }
+    ensures decides { result ≡ true → (v : AnyValue) (n : ℕ) → IsPair kind v n → IsIn range.new (key_bytes v n) →
+        holds comparison.now.op v (literal comparison.now.literal) ≡ true }
+{
+    match comparison.op {
+        Cmp::Eq => range.raise_to(front, first) && range.lower_to(front, without_last(after)),
+        Cmp::Ne => false,
+        Cmp::Lt => range.lower_to(front, without_last(first)),
+        Cmp::Le => range.lower_to(front, without_last(after)),
+        Cmp::Gt => range.raise_to(front, after),
+        Cmp::Ge => range.raise_to(front, first),
+    }
+}
+
+/// A number of 32 bits counted from the least one.
+fn counted32(n: i32) -> u32
+    ensures { result ≡ counted (2 ^ 31) n }
+{
+    (i64::from(n) + (1 << 31)) as u32
+}
+
+/// A number of 64 bits counted from the least one.
+fn counted64(n: i64) -> u64
+    ensures { result ≡ counted (2 ^ 63) n }
+{
+    if n < 0 {
+        (n - i64::MIN) as u64
+    } else {
+        n as u64 + (1 << 63)
+    }
+}
+
+/// The same by the bytes of an integer that stands for the literal.
+fn narrow_by_integer(range: &mut Range, comparison: &Comparison, kind: Kind, bytes: &[u8]) -> bool
+    ghost bound: { AnyValue }
+    requires stands { StandsFor (literal comparison.now.literal) kind bound }
+    requires bytes { bytes.now ≡ value_key bound }
+    ensures within { (k : List ℕ) → IsIn range.new k → IsIn range.old k }
+    ensures keeps { (v : AnyValue) (n : ℕ) → IsPair kind v n → holds comparison.now.op v (literal comparison.now.literal) ≡ true →
+        IsIn range.old (key_bytes v n) → IsIn range.new (key_bytes v n) }
+    ensures decides { result ≡ true → (v : AnyValue) (n : ℕ) → IsPair kind v n → IsIn range.new (key_bytes v n) →
+        holds comparison.now.op v (literal comparison.now.literal) ≡ true }
+{
+    narrow_by(range, comparison, kind, bytes, &NUMBER_FIRST, &NUMBER_AFTER)
+}
+
+/// The same by the number that the literal spells, if a value of the kind is this number; elsewhere the range stays.
+fn narrow_by_number(
+    range: &mut Range,
+    comparison: &Comparison,
+    kind: Kind,
+    number: i128,
+) -> Option<bool>
+    requires { literal_number (literal comparison.now.literal) ≡ Some number }
+    ensures within { (k : List ℕ) → IsIn range.new k → IsIn range.old k }
+    ensures keeps { (v : AnyValue) (n : ℕ) → IsPair kind v n → holds comparison.now.op v (literal comparison.now.literal) ≡ true →
+        IsIn range.old (key_bytes v n) → IsIn range.new (key_bytes v n) }
+    ensures decides { IfSome result (λ all. all ≡ true → (v : AnyValue) (n : ℕ) → IsPair kind v n → IsIn range.new (key_bytes v n) →
+        holds comparison.now.op v (literal comparison.now.literal) ≡ true) }
+{
+    match kind {
+        Kind::Long => {
+            let n = i32::try_from(number).ok()?;
+            Some(narrow_by_integer(range, comparison, kind, &counted32(n).to_be_bytes()))
+        }
+        Kind::Llng => {
+            let n = i64::try_from(number).ok()?;
+            Some(narrow_by_integer(range, comparison, kind, &counted64(n).to_be_bytes()))
+        }
+        Kind::Ulng => {
+            let n = u32::try_from(number).ok()?;
+            Some(narrow_by_integer(range, comparison, kind, &n.to_be_bytes()))
+        }
+        Kind::Ullg => {
+            let n = u64::try_from(number).ok()?;
+            Some(narrow_by_integer(range, comparison, kind, &n.to_be_bytes()))
+        }
+        Kind::Cstr | Kind::Mims | Kind::Rawt => None,
+    }
+}
+
+/// The least and the greatest number of an integer kind.
+fn numbers_of(kind: Kind) -> Option<(i128, i128)>
+    ensures { IfSome result (λ ends. (v : AnyValue) → IsValue v → kind_of v ≡ kind → IsBetween ends.0 ends.1 v) }
+{
+    match kind {
+        Kind::Long => Some((i128::from(i32::MIN), i128::from(i32::MAX))),
+        Kind::Llng => Some((i128::from(i64::MIN), i128::from(i64::MAX))),
+        Kind::Ulng => Some((0, i128::from(u32::MAX))),
+        Kind::Ullg => Some((0, i128::from(u64::MAX))),
+        Kind::Cstr | Kind::Mims | Kind::Rawt => None,
+    }
+}
+
+/// Whether the operator with this number is false of all numbers from the least to the greatest, as it is with no number.
+fn is_false_between(op: Cmp, number: Option<i128>, least: i128, greatest: i128) -> bool
+    ensures { result ≡ true → (n : ℤ) → least ≤ℤ n → n ≤ℤ greatest → holds_of_number op n number ≡ false }
+{
+    let Some(number) = number else {
+        return true;
+    };
+    match op {
+        Cmp::Eq => number < least || greatest < number,
+        Cmp::Ne => false,
+        Cmp::Lt | Cmp::Le => number < least,
+        Cmp::Gt | Cmp::Ge => greatest < number,
+    }
+}
+
+/// Whether the comparison is false of all values of an integer kind, as its literal spells no number or one on the wrong side of them all.
+fn is_false_of_all(comparison: &Comparison, kind: Kind, number: Option<i128>) -> bool
+    requires { number ≡ literal_number (literal comparison.now.literal) }
+    ensures { result ≡ true → (v : AnyValue) → IsValue v → kind_of v ≡ kind → holds comparison.now.op v (literal comparison.now.literal) ≡ false }
+{
+    let Some((least, greatest)) = numbers_of(kind) else {
+        return false;
+    };
+    is_false_between(comparison.op, number, least, greatest)
+}
+
+/// Leaves out keys of integers at which the comparison is false. Whether it is true of all that are left; a literal that is no value of the
+/// kind decides nothing.
+fn narrow_integers(range: &mut Range, comparison: &Comparison, kind: Kind) -> bool
+    ensures within { (k : List ℕ) → IsIn range.new k → IsIn range.old k }
+    ensures keeps { (v : AnyValue) (n : ℕ) → IsPair kind v n → holds comparison.now.op v (literal comparison.now.literal) ≡ true →
+        IsIn range.old (key_bytes v n) → IsIn range.new (key_bytes v n) }
+    ensures decides { result ≡ true → (v : AnyValue) (n : ℕ) → IsPair kind v n → IsIn range.new (key_bytes v n) →
+        holds comparison.now.op v (literal comparison.now.literal) ≡ true }
+{
+    let number = literal_number(&comparison.literal);
+    if let Some(number) = number {
+        if let Some(all) = narrow_by_number(range, comparison, kind, number) {
+            return all;
+        }
+    }
+    if is_false_of_all(comparison, kind, number) {
+        range.close();
+    }
+    false
+}
+
+/// What is above each byte that may stand behind the pattern's literal characters in a key: a zero byte where it has no wildcard, else also the first byte of a character.
+fn limit_of(pattern: &Pattern) -> u8
+    ensures { result ≡ limit (is_plain pattern.now) }
+{
+    if pattern.is_plain() { 1 } else { 255 }
+}
+
+/// Leaves out keys of texts that don't begin with the pattern's literal characters: all keys, where those are more than a value may have.
+/// Whether it matches all texts that are left. Literal characters with a zero byte would reach into the node's number, and decide nothing.
+fn narrow_by_pattern(range: &mut Range, pattern: &Pattern) -> bool
+    ensures within { (k : List ℕ) → IsIn range.new k → IsIn range.old k }
+    ensures keeps { (text : List ℕ) (n : ℕ) → IsUtf8 text → length text ≤ 255 → matches pattern.now (chars text) ≡ true →
+        IsIn range.old (key_bytes (AnyValue.Cstr text) n) → IsIn range.new (key_bytes (AnyValue.Cstr text) n) }
+    ensures decides { result ≡ true → (text : List ℕ) (n : ℕ) → IsUtf8 text → has_nul text ≡ false →
+        IsIn range.new (key_bytes (AnyValue.Cstr text) n) → matches pattern.now (chars text) ≡ true }
+{
+    let front = pattern.prefix().as_bytes();
+    if front.len() > 255 {
+        range.close();
+        return false;
+    }
+    if !range.raise_to(front, &[]) {
+        return false;
+    }
+    if !range.lower_to(front, &[limit_of(pattern)]) {
+        return false;
+    }
+    pattern.is_prefix() && !front.contains(&0)
+}
+
+/// Leaves out keys of texts at which the operator with a text longer than any value's is false. Its first 255 bytes tell, unless a zero byte is
+/// among them.
+fn narrow_by_long(range: &mut Range, op: Cmp, words: &[u8])
+    requires { 255 < length words.now }
+    ensures within { (k : List ℕ) → IsIn range.new k → IsIn range.old k }
+    ensures keeps { (text : List ℕ) (n : ℕ) → length text ≤ 255 → is_true_of op (name_cmp text words.now) ≡ true →
+        IsIn range.old (key_bytes (AnyValue.Cstr text) n) → IsIn range.new (key_bytes (AnyValue.Cstr text) n) }
+{
+    let front = &words[..255];
+    match op {
+        Cmp::Eq | Cmp::Ne => {}
+        Cmp::Lt | Cmp::Le => {
+            if !front.contains(&0) {
+                let _fits = range.lower_to(front, &[1]);
+            }
+        }
+        Cmp::Gt | Cmp::Ge => {
+            let _fits = range.raise_to(front, &[1]);
+        }
+    }
+}
+
+/// Leaves out keys of texts at which the comparison with this text is false. Whether it is true of all that are left; a text that no value may
+/// be decides nothing.
+fn narrow_by_text(range: &mut Range, comparison: &Comparison, words: &str) -> bool
+    requires { literal comparison.now.literal ≡ Exact words.now }
+    ensures within { (k : List ℕ) → IsIn range.new k → IsIn range.old k }
+    ensures keeps { (v : AnyValue) (n : ℕ) → IsPair Kind.Cstr v n → holds comparison.now.op v (literal comparison.now.literal) ≡ true →
+        IsIn range.old (key_bytes v n) → IsIn range.new (key_bytes v n) }
+    ensures decides { result ≡ true → (v : AnyValue) (n : ℕ) → IsPair Kind.Cstr v n → IsIn range.new (key_bytes v n) →
+        holds comparison.now.op v (literal comparison.now.literal) ≡ true }
+{
+    let bytes = words.as_bytes();
+    if bytes.len() > 255 {
+        narrow_by_long(range, comparison.op, bytes);
+        return false;
+    }
+    if bytes.contains(&0) {
+        return false;
+    }
+    narrow_by(
+        range,
+        comparison,
+        Kind::Cstr,
+        bytes,
+        &TEXT_FIRST,
+        &TEXT_AFTER,
+    )
+}
+
+/// Leaves out keys of texts at which the comparison is false. Whether it is true of all that are left.
+fn narrow_texts(range: &mut Range, comparison: &Comparison) -> bool
+    ensures within { (k : List ℕ) → IsIn range.new k → IsIn range.old k }
+    ensures keeps { (v : AnyValue) (n : ℕ) → IsPair Kind.Cstr v n → holds comparison.now.op v (literal comparison.now.literal) ≡ true →
+        IsIn range.old (key_bytes v n) → IsIn range.new (key_bytes v n) }
+    ensures decides { result ≡ true → (v : AnyValue) (n : ℕ) → IsPair Kind.Cstr v n → IsIn range.new (key_bytes v n) →
+        holds comparison.now.op v (literal comparison.now.literal) ≡ true }
+{
+    match (comparison.op, &comparison.literal) {
+        (Cmp::Eq, Literal::Pattern(pattern)) => narrow_by_pattern(range, pattern),
+        (_, Literal::Pattern(_)) => false,
+        (_, Literal::Text(words)) => narrow_by_text(range, comparison, words.as_str()),
+    }
+}
+
+/// Leaves out keys of values at which the comparison is false. Whether it is true of all that are left.
+fn narrow(range: &mut Range, comparison: &Comparison, kind: Kind) -> bool
+    ensures within { (k : List ℕ) → IsIn range.new k → IsIn range.old k }
+    ensures keeps { (v : AnyValue) (n : ℕ) → IsPair kind v n → holds comparison.now.op v (literal comparison.now.literal) ≡ true →
+        IsIn range.old (key_bytes v n) → IsIn range.new (key_bytes v n) }
+    ensures decides { result ≡ true → (v : AnyValue) (n : ℕ) → IsPair kind v n → IsIn range.new (key_bytes v n) →
+        holds comparison.now.op v (literal comparison.now.literal) ≡ true }
+{
+    match kind {
+        Kind::Cstr => narrow_texts(range, comparison),
+        Kind::Long | Kind::Llng | Kind::Ulng | Kind::Ullg => {
+            narrow_integers(range, comparison, kind)
+        }
+        Kind::Mims | Kind::Rawt => false,
+    }
+}
+
+/// Leaves out keys of values that a node can't have at this name where the part, whose first comparison has the place `at`, is true of it by
+/// way of the pick. Whether that decides that the part is true. An `||` is decided by the side of the pick.
+pub(crate) fn narrow_all(
+    range: &mut Range,
+    tree: &Tree,
+    at: usize,
+    pick: usize,
+    name: &Name,
+    kind: Kind,
+) -> bool
+    requires { at + comparisons (formula tree.now) ≤ 256 }
+    ensures within { (k : List ℕ) → IsIn range.new k → IsIn range.old k }
+    ensures keeps { (v : AnyValue) (n : ℕ) → IsPair kind v n → Allows pick at (formula tree.now) name.now v →
+        IsIn range.old (key_bytes v n) → IsIn range.new (key_bytes v n) }
+    ensures decides { result ≡ true → Decides (formula tree.now) name.now kind range.new.low.items (high_of range.new) }
+{
+    match tree {
+        Tree::Leaf(comparison) => comparison.name == *name && narrow(range, comparison, kind),
+        Tree::And(a, b) => {
+            let left = narrow_all(range, a, at, pick, name, kind);
+            narrow_all(range, b, at + count(a), pick, name, kind) && left
+        }
+        Tree::Or(a, b) => {
+            let middle = at + count(a);
+            if at <= pick && pick < middle {
+                narrow_all(range, a, at, pick, name, kind)
+            } else if middle <= pick && pick < middle + count(b) {
+                narrow_all(range, b, middle, pick, name, kind)
+            } else {
+                false
+            }
+        }
+    }
+}
