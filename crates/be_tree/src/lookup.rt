@@ -10,7 +10,7 @@ ghost use Rattle.be_tree.specs.Page.{IsItem, IsPage, item_at, items_of};
 ghost use Rattle.be_tree.specs.Key.{IsRank, key_cmp, payload_at};
 ghost use Rattle.be_tree.specs.Tree.{IsTree, pairs};
 
-use crate::page::{child_at, cmp_at, cmp_with, tail_of};
+use crate::page::{child_at, cmp_at, cmp_with, short_word};
 use crate::walk::load_payload;
 use arrayvec::ArrayVec;
 use be_pages::Look;
@@ -80,12 +80,12 @@ pub(crate) fn rank<L: Look>(look: &mut L, page: u64, key: &[u8]) -> usize
     ensures rank { IsRank key.now (items_of (L.words look.old page)) result }
     ensures unchanged { IsUnchanged L.kept L.standing L.words look.old look.new }
 {
-    let tail = tail_of(key);
+    let short = short_word(key);
     let mut low = 0;
     let mut high = look.word(page, 1) as usize;
     while low < high {
         let middle = low + (high - low) / 2;
-        match cmp_with(look, page, 2 + 42 * middle, key, tail) {
+        match cmp_with(look, page, 2 + 42 * middle, key, short) {
             Ordering::Greater => high = middle,
             Ordering::Less | Ordering::Equal => low = middle + 1,
         }

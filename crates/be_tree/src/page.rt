@@ -9,7 +9,7 @@ ghost use Rattle.be_tree.specs.Page.{place_of};
 ghost use Rattle.std.specs.Prelude.{◌^◌, ◌⊎◌};
 ghost use Rattle.be_tree.specs.declared.slot.Slot.TheVariants.{At};
 ghost use Rattle.be_tree.specs.Slot.{IsBeside, IsReady, branch_to, pair_of, pairs_of};
-ghost use Rattle.be_tree.specs.Key.{HasTail, key_cmp};
+ghost use Rattle.be_tree.specs.Key.{IsShortWord, key_cmp};
 ghost use Rattle.be_tree.specs.Tree.{child};
 
 use crate::item::Item;
@@ -63,21 +63,21 @@ pub(crate) fn cmp_at<L: Look>(look: &mut L, page: u64, at: usize, key: &[u8]) ->
     ensures order { result ≡ key_cmp (item_at (L.words look.old page) at).key key.now }
     ensures unchanged { IsUnchanged L.kept L.standing L.words look.old look.new }
 {
-    cmp_with(look, page, at, key, tail_of(key))
+    cmp_with(look, page, at, key, short_word(key))
 }
 
-/// The same with the word in which the key ends at hand, for one key and many items.
+/// The same with the word of a short key at hand, for one key and many items.
 pub(crate) fn cmp_with<L: Look>(
     look: &mut L,
     page: u64,
     at: usize,
     key: &[u8],
-    tail: u64,
+    short: u64,
 ) -> Ordering
     requires readable { IsTrue (is_readable (L.standing look.old page)) }
     requires in_page { at + 42 ≤ 512 }
     requires item { IsItem (L.words look.old page) at }
-    requires tail { HasTail tail key.now }
+    requires short { IsShortWord short key.now }
     ensures order { result ≡ key_cmp (item_at (L.words look.old page) at).key key.now }
     ensures unchanged { IsUnchanged L.kept L.standing L.words look.old look.new }
 {
@@ -95,7 +95,7 @@ pub(crate) fn cmp_with<L: Look>(
         return len.cmp(&key.len());
     }
     let mine = look.word(page, at + 1 + common / 8);
-    let other = word_of(key, tail, common / 8);
+    let other = word_of(key, short, common / 8);
     let shift = 64 - 8 * rest;
     let mine_first = mine >> shift;
     let other_first = other >> shift;
@@ -105,27 +105,27 @@ pub(crate) fn cmp_with<L: Look>(
     len.cmp(&key.len())
 }
 
-/// The word in which a key ends, with zeros past its end. A key of whole words has none: 0.
-pub(crate) fn tail_of(key: &[u8]) -> u64
-    ensures { HasTail result key.now }
+/// The word of a key of less than eight bytes, with zeros past its end; 0 for any other key. Each comparison with such a
+/// key asks for it, while a longer one is mostly decided by its whole words.
+pub(crate) fn short_word(key: &[u8]) -> u64
+    ensures { IsShortWord result key.now }
 {
-    if key.len() % 8 == 0 {
+    if key.len() >= 8 {
         return 0;
     }
-    word_from(key, 8 * (key.len() / 8))
+    word_from(key, 0)
 }
 
-/// The word of a key at a number, where the one in which it ends is at hand.
-fn word_of(key: &[u8], tail: u64, i: usize) -> u64
+/// The word of a key at a number, with zeros past its end, where that of a short key is at hand.
+fn word_of(key: &[u8], short: u64, i: usize) -> u64
     requires in_key { 8 * i < length key.now }
-    requires tail { HasTail tail key.now }
+    requires short { IsShortWord short key.now }
     ensures { to_be_bytes w64 result ≡ map (λ k. slice_index key.now k) (range_with_len (8 * i) 8) }
 {
-    if i < key.len() / 8 {
-        whole_word(key, 8 * i)
-    } else {
-        tail
+    if key.len() < 8 {
+        return short;
     }
+    word_from(key, 8 * i)
 }
 
 /// The lesser of two numbers.
