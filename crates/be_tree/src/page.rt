@@ -9,7 +9,7 @@ ghost use Rattle.be_tree.specs.Page.{place_of};
 ghost use Rattle.std.specs.Prelude.{◌^◌, ◌⊎◌};
 ghost use Rattle.be_tree.specs.declared.slot.Slot.TheVariants.{At};
 ghost use Rattle.be_tree.specs.Slot.{IsBeside, IsReady, branch_to, pair_of, pairs_of};
-ghost use Rattle.be_tree.specs.Key.{IsShortWord, key_cmp};
+ghost use Rattle.be_tree.specs.Key.{key_cmp};
 ghost use Rattle.be_tree.specs.Tree.{child};
 
 use crate::item::Item;
@@ -63,24 +63,6 @@ pub(crate) fn cmp_at<L: Look>(look: &mut L, page: u64, at: usize, key: &[u8]) ->
     ensures order { result ≡ key_cmp (item_at (L.words look.old page) at).key key.now }
     ensures unchanged { IsUnchanged L.kept L.standing L.words look.old look.new }
 {
-    cmp_with(look, page, at, key, short_word(key))
-}
-
-/// The same with the word of a short key at hand, for one key and many items.
-pub(crate) fn cmp_with<L: Look>(
-    look: &mut L,
-    page: u64,
-    at: usize,
-    key: &[u8],
-    short: u64,
-) -> Ordering
-    requires readable { IsTrue (is_readable (L.standing look.old page)) }
-    requires in_page { at + 42 ≤ 512 }
-    requires item { IsItem (L.words look.old page) at }
-    requires short { IsShortWord short key.now }
-    ensures order { result ≡ key_cmp (item_at (L.words look.old page) at).key key.now }
-    ensures unchanged { IsUnchanged L.kept L.standing L.words look.old look.new }
-{
     let len = (look.word(page, at) >> 32) as usize;
     let common = least_of(len, key.len());
     for i in 0..common / 8 {
@@ -95,7 +77,7 @@ pub(crate) fn cmp_with<L: Look>(
         return len.cmp(&key.len());
     }
     let mine = look.word(page, at + 1 + common / 8);
-    let other = word_of(key, short, common / 8);
+    let other = word_from(key, 8 * (common / 8));
     let shift = 64 - 8 * rest;
     let mine_first = mine >> shift;
     let other_first = other >> shift;
@@ -103,29 +85,6 @@ pub(crate) fn cmp_with<L: Look>(
         return mine_first.cmp(&other_first);
     }
     len.cmp(&key.len())
-}
-
-/// The word of a key of less than eight bytes, with zeros past its end; 0 for any other key. Each comparison with such a
-/// key asks for it, while a longer one is mostly decided by its whole words.
-pub(crate) fn short_word(key: &[u8]) -> u64
-    ensures { IsShortWord result key.now }
-{
-    if key.len() >= 8 {
-        return 0;
-    }
-    word_from(key, 0)
-}
-
-/// The word of a key at a number, with zeros past its end, where that of a short key is at hand.
-fn word_of(key: &[u8], short: u64, i: usize) -> u64
-    requires in_key { 8 * i < length key.now }
-    requires short { IsShortWord short key.now }
-    ensures { to_be_bytes w64 result ≡ map (λ k. slice_index key.now k) (range_with_len (8 * i) 8) }
-{
-    if key.len() < 8 {
-        return short;
-    }
-    word_from(key, 8 * i)
 }
 
 /// The lesser of two numbers.
@@ -200,8 +159,8 @@ fn whole_word(bytes: &[u8], from: usize) -> u64
 }
 
 /// The eight bytes from a place on, as a word, with zeros past the end.
-fn word_from(bytes: &[u8], from: usize) -> u64
-    requires { from ≤ length bytes.now }
+pub(crate) fn word_from(bytes: &[u8], from: usize) -> u64
+    requires { from ≤ 328 }
     ensures { to_be_bytes w64 result ≡ map (λ k. slice_index bytes.now k) (range_with_len from 8) }
 {
     if from + 8 <= bytes.len() {
