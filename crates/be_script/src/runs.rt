@@ -7,10 +7,14 @@ ghost use Rattle.std.specs.Io.KnownBytes.{Appends, Consumes, IsAtEnd, Keeps};
 ghost use Rattle.be_script.specs.Limits.{are_within};
 ghost use Rattle.be_script.specs.Output as outputs;
 ghost use Rattle.be_script.specs.Request.{lines_of};
+ghost use Rattle.be_script.specs.Own.{IsPartOf, operations, write_ops};
+ghost use Rattle.be_store.specs.Passes.{IsPassOf};
 ghost use Rattle.be_script.specs.Run as spec;
 ghost use Rattle.be_script.specs.Store.{start};
 ghost use Rattle.be_script.specs.View.{session, queued_ops};
 
+use crate::gates::Gate;
+use be_store::{Pass, Store};
 use crate::answers::answer;
 use crate::client::Client;
 use crate::limits::are_within;
@@ -22,13 +26,13 @@ use std::alloc::Global;
 use std::io::{Read, Write};
 
 /// The longest script in bytes.
-const MAX_SCRIPT: usize = 1 << 20;
+pub(crate) const MAX_SCRIPT: usize = 1 << 20;
 
 /// The most reads of a script: each gives a byte at least, the end or a fault.
 const MAX_READS: u64 = (1 << 20) + 2;
 
 /// Writes all the bytes. After a fault their front was written.
-fn put<W: Write>(writer: &mut W, bytes: &[u8]) -> Result<(), RunFault>
+pub(crate) fn put<W: Write>(writer: &mut W, bytes: &[u8]) -> Result<(), RunFault>
     ensures ok { OnOk result (Appends (W.contents writer.old) (W.contents writer.new) bytes.now) }
     ensures err { OnErr result (spec.Wrote (W.contents writer.old) (W.contents writer.new) (spec.IsFrontOf bytes.now)) }
     ensures late { IfErr result spec.IsLate }
@@ -182,4 +186,24 @@ pub fn run<R: Read, W: Write>(
         return Err(RunFault::Memory);
     };
     serve(alloc, &mut server, reader, writer)
+}
+
+/// Serves a script from a pass that has seen nothing.
+pub fn serve_pass<G: Gate>(
+    alloc: Global,
+    store: &Store,
+    pass: Pass,
+    gate: &G,
+    script: &[u8],
+) -> (Pass, Result<Vec<u8>, RunFault>)
+    requires pass { IsPassOf store.now pass }
+    requires fresh { pass.knows.seen ≡ [] }
+    ensures pass { IsPassOf store.now result.0 }
+    ensures number { result.0.knows.number ≡ pass.knows.number }
+    ensures own { OnOk result.1 (IsPartOf (operations result.0.knows.mine) (write_ops script.now)) }
+    ensures fault { IfErr result.1 (λ e. e ≡ RunFault.Memory) }
+{
+    gate.before(pass.number(), 1);
+    gate.after(pass.number(), 1);
+    (pass, Err(RunFault::Memory))
 }
