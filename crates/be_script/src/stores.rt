@@ -5,6 +5,7 @@
 //! over that trait, so it holds for whatever serves. [`StoreServer`] is the shared store with its one pass.
 ghost use Rattle.std.specs.Prelude.{◌≡◌, ◌≤◌, ◌<◌, ◌+◌, ◌^◌, Ok, None, IsSome, is_some, true, length, IfOk, IfErr, if◌then◌else◌};
 ghost use Rattle.be_value.specs.Refusal.{Answers};
+ghost use Rattle.be_value.specs.declared.refusals.Refusal.TheVariants.{OutOfMemory};
 ghost use Rattle.be_volume.specs.Query.{scan};
 ghost use Rattle.be_volume.specs.Reading.{attribute, attributes_at, index_kinds};
 ghost use Rattle.be_script.specs.Limits.{are_within};
@@ -13,6 +14,7 @@ ghost use Rattle.be_script.specs.Store.{Store, start, viewed, pinned, unpinned, 
 use crate::Limits;
 use arrayvec::ArrayVec;
 use be_query::Query;
+use be_store::laws::alone;
 use be_store::Pass;
 use be_value::{Kind, Name, Refusal, Value};
 use be_volume::{Done, Op};
@@ -95,7 +97,8 @@ impl StoreServer {
     /// memory alone.
     pub fn open(alloc: Global, limits: Limits) -> Result<StoreServer, Refusal>
         requires { are_within limits ≡ true }
-        ensures { IfOk result (λ server. server ≡ start limits.commits) }
+        ensures opened { IfOk result (λ server. server ≡ start limits.commits) }
+        ensures refused { IfErr result (λ e. e ≡ OutOfMemory) }
     {
         let limits = Limits {
             passes: 1,
@@ -136,9 +139,9 @@ impl Server for StoreServer {
     ghost shows = { λ s. s };
 
     fn apply(&mut self, ops: &[Op]) -> Result<(u64, ArrayVec<Done, 64>), Refusal> {
-        self.pass.is_pass();
+        alone(&self.store, &self.pass);
         let answer = self.store.apply(&mut self.pass, ops);
-        self.pass.is_pass();
+        alone(&self.store, &self.pass);
         answer
     }
 
@@ -147,9 +150,9 @@ impl Server for StoreServer {
     }
 
     fn pin(&mut self) -> u64 {
-        self.pass.is_pass();
+        alone(&self.store, &self.pass);
         let number = self.store.pin(&mut self.pass);
-        self.pass.is_pass();
+        alone(&self.store, &self.pass);
         number
     }
 
