@@ -1,5 +1,9 @@
 pub mod CoverLemmas
-pub mod OnlyPass
+pub mod JoinLemmas
+pub mod OwnLemmas
+pub mod PartLemmas
+pub mod PassLemmas
+pub mod ReplyLemmas
 pub mod RunLemmas
 pub mod StoreLemmas
 pub mod ValueLemmas

@@ -1,5 +1,6 @@
 pub mod Limits
 pub mod Output
+pub mod Own
 pub mod Reply
 pub mod Request
 pub mod Run

@@ -11,6 +11,8 @@ mod client;
 mod command_line;
 mod commands;
 mod faults;
+mod gates;
+pub mod laws;
 mod limits;
 mod replies;
 mod requests;
