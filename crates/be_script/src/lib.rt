@@ -12,6 +12,7 @@ mod command_line;
 mod commands;
 mod faults;
 mod gates;
+pub mod laws;
 mod limits;
 mod races;
 mod replies;
