@@ -5,17 +5,19 @@
 //! are written, script by script; then the store is closed, and its journal and the result of the journal's check follow.
 //!
 //! A thread promises what it gives back ([`Served`]): a pass of the store, with the script's number, whose own writes are
-//! some of those that the script asks for. So every pass is there when the store is closed, and what the journal has of a
-//! pass is what its script asked for.
+//! some of those that the script asks for, and replies that the script may get where others write. So every pass is there
+//! when the store is closed, and what the journal has of a pass is what its script asked for.
 ghost use Rattle.std.specs.Prelude.{◌≡◌, ◌≤◌, ◌<◌, ℕ, [], ◌++◌, ◌^◌, ◌↔◌, true, false, length, vec_len, map, IfOk, IfErr, OnOk, Ok, Err, get_or, codes, nat_lt};
 ghost use Rattle.std.specs.Io.KnownBytes.{Appends};
 ghost use Rattle.std.specs.List.{list_any};
 ghost use Rattle.be_journal.specs.Journal.{IsLegal};
 ghost use Rattle.be_script.specs.Limits.{are_within};
+ghost use Rattle.be_script.specs.Output.{IsOutputFrom};
 ghost use Rattle.be_script.specs.Own.{IsPartOf, operations, write_ops};
-ghost use Rattle.be_script.specs.Race.{HaveServed, IsRace, Stops, result_text};
+ghost use Rattle.be_script.specs.Race.{HaveReplied, HaveServed, IsNew, IsRace, Stops, pass_line, replies_text, result_text, start_of};
 ghost use Rattle.be_script.specs.Run.{Wrote, IsLate};
 ghost use Rattle.be_store.specs.Passes.{IsPassOf};
+ghost use Rattle.std.specs.String.{string_bytes};
 ghost use Rattle.be_table.specs.Works.{AreNew};
 
 use crate::gates::Gate;
@@ -24,7 +26,7 @@ use crate::runs::{MAX_SCRIPT, put, serve_pass};
 use crate::{Limits, RunFault};
 use be_journal::Journal;
 use be_store::{Pass, Store};
-use std::alloc::Global;
+use std::alloc::{AllocError, Global};
 use std::io::Write;
 use std::snapshot::Snapshot;
 use std::sync::Wait;
@@ -34,8 +36,8 @@ use std::thread::{Promise, PromisedHandle, Scope, Threads};
 /// A pass that has served a script, and the replies.
 type Outcome = (Pass, Result<Vec<u8>, RunFault>);
 
-/// What a thread promises of its outcome: the pass is of this store and has this number, and where there are replies, its
-/// own writes are some of those that this script asks for.
+/// What a thread promises of its outcome: the pass is of this store and has this number; and where there are replies, they
+/// are an output of this script, and the pass's own writes are some of those that the script asks for.
 #[derive(Drop)]
 struct Served {
     store: Snapshot<Store>,
@@ -47,7 +49,25 @@ impl Promise<(Pass, Result<Vec<u8>, RunFault>)> for Served {
     ghost kept_by = { λ p outcome.
         IsPassOf p.store.value outcome.0
         × (outcome.0.knows.number ≡ p.number)
-        × OnOk outcome.1 (IsPartOf (operations outcome.0.knows.mine) (write_ops p.script.value.items)) };
+        × IfOk outcome.1 (λ replies. IsPartOf (operations outcome.0.knows.mine) (write_ops p.script.value.items)
+            × IsOutputFrom (start_of p.store.value.limits p.number) p.script.value.items replies.items) };
+}
+
+/// Serves a script from a new pass.
+fn serve_new<G: Gate>(
+    alloc: Global,
+    store: &Store,
+    pass: Pass,
+    gate: &G,
+    script: &[u8],
+) -> Outcome
+    requires { IsNew store.now pass.knows.number pass }
+    ensures pass { IsPassOf store.now result.0 }
+    ensures number { result.0.knows.number ≡ pass.knows.number }
+    ensures replies { IfOk result.1 (λ replies. IsPartOf (operations result.0.knows.mine) (write_ops script.now)
+        × IsOutputFrom (start_of store.now.limits pass.knows.number) script.now replies.items) }
+{
+    serve_pass(alloc, store, pass, gate, script)
 }
 
 /// Starts a thread for each pass, which serves the script of its number. Memory where one can't be started.
@@ -76,8 +96,8 @@ fn start<'s, E, G: Gate + Sync>(
             script: Snapshot::of(script),
         };
         let thread = scope.spawn_with(promise, move || -> Outcome
-            requires { IsPassOf store.now pass × (pass.knows.seen ≡ []) }
-        { serve_pass(alloc, store, pass, gate, script) });
+            requires { IsNew store.now pass.knows.number pass }
+        { serve_new(alloc, store, pass, gate, script) });
         let Ok(thread) = thread else {
             return Err(RunFault::Memory);
         };
@@ -120,6 +140,7 @@ fn serve_in<'s, E, R: Threads, G: Gate + Sync>(
     requires new { AreNew store.now 0 passes.items }
     requires count { length passes.items ≡ length scripts.now.items }
     ensures served { IfOk result (λ r. HaveServed store.now 0 (map (λ s. s.items) scripts.now.items) r.0.items) }
+    ensures replied { IfOk result (λ r. HaveReplied store.now.limits 0 (map (λ s. s.items) scripts.now.items) (map (λ s. s.items) r.1.items)) }
     ensures fault { IfErr result (λ e. e ≡ RunFault.Memory) }
 {
     let threads = start(scope, alloc, store, passes, scripts, gate)?;
@@ -141,6 +162,7 @@ fn serve_at_once<R: Threads + Wait, G: Gate + Sync>(
     requires new { AreNew store.now 0 passes.items }
     requires count { length passes.items ≡ length scripts.now.items }
     ensures served { IfOk result (λ r. HaveServed store.now 0 (map (λ s. s.items) scripts.now.items) r.0.items) }
+    ensures replied { IfOk result (λ r. HaveReplied store.now.limits 0 (map (λ s. s.items) scripts.now.items) (map (λ s. s.items) r.1.items)) }
     ensures fault { IfErr result (λ e. e ≡ RunFault.Memory) }
 {
     thread::scope(
@@ -149,6 +171,7 @@ fn serve_at_once<R: Threads + Wait, G: Gate + Sync>(
         move |scope| -> Result<(Vec<Pass>, Vec<Vec<u8>>), RunFault>
             requires { AreNew store.now 0 passes.items × (length passes.items ≡ length scripts.now.items) }
             ensures served { IfOk result (λ r. HaveServed store.entry.now 0 (map (λ s. s.items) scripts.entry.now.items) r.0.items) }
+            ensures replied { IfOk result (λ r. HaveReplied store.entry.now.limits 0 (map (λ s. s.items) scripts.entry.now.items) (map (λ s. s.items) r.1.items)) }
             ensures fault { IfErr result (λ e. e ≡ RunFault.Memory) }
         { serve_in(scope, rt, alloc, store, passes, scripts, gate) },
     )
@@ -161,17 +184,23 @@ fn is_some_too_long(scripts: &[Vec<u8>]) -> bool
     scripts.iter().any(|script| script.len() > MAX_SCRIPT)
 }
 
+fn line_of(alloc: Global, pass: usize) -> Result<String, AllocError>
+    ensures { IfOk result (λ line. string_bytes line ≡ pass_line pass) }
+{
+    format!(in alloc; "pass {pass}\n")
+}
+
 /// Writes each pass's line and its replies.
 fn put_replies<W: Write>(
     alloc: Global,
     writer: &mut W,
     replies: &[Vec<u8>],
 ) -> Result<(), RunFault>
-    ensures ok { OnOk result (Wrote (W.contents writer.old) (W.contents writer.new) (λ _. Unit {0})) }
+    ensures ok { OnOk result (Appends (W.contents writer.old) (W.contents writer.new) (replies_text 0 (map (λ t. t.items) replies.now))) }
     ensures late { IfErr result IsLate }
 {
     for (pass, text) in replies.iter().enumerate() {
-        let Ok(line) = format!(in alloc; "pass {pass}\n") else {
+        let Ok(line) = line_of(alloc, pass) else {
             return Err(RunFault::Memory);
         };
         put(writer, line.as_bytes())?;
@@ -226,7 +255,7 @@ pub fn race<R: Threads + Wait, G: Gate + Sync, W: Write>(
     requires passes { limits.passes ≡ vec_len scripts }
     ensures limits { (result ≡ Err RunFault.Limits) ↔ (are_within limits ≡ false) }
     ensures long { (result ≡ Err RunFault.TooLong) ↔ ((are_within limits ≡ true) × (list_any (λ s. nat_lt (2 ^ 20) (vec_len s)) scripts.items ≡ true)) }
-    ensures ok { IfOk result (λ legal. (legal ≡ true) × Wrote (W.contents writer.old) (W.contents writer.new) (IsRace (map (λ s. s.items) scripts.items))) }
+    ensures ok { IfOk result (λ legal. (legal ≡ true) × Wrote (W.contents writer.old) (W.contents writer.new) (IsRace limits (map (λ s. s.items) scripts.items))) }
     ensures fault { IfErr result (λ e. Stops e (W.contents writer.old) (W.contents writer.new)) }
 {
     if !are_within(&limits) {

@@ -5,7 +5,7 @@ use Rattle.be_table.specs.History.{AllBelow}
 use Rattle.be_table.specs.Steps.{Has}
 use Rattle.be_table.specs.Works.{knows_of}
 use Rattle.be_script.specs.Own.{IsPartOf, operations, write_ops}
-use Rattle.be_script.specs.Race.{result_text}
+use Rattle.be_script.specs.Race.{HaveReplied, replies_text, result_text}
 use Rattle.be_script.proofs.RaceLemmas.{all_at, has_each, own_of, on_both}
 use Rattle.be_script.proofs.RunLemmas.{written_both}
 use Rattle.be_script.proofs.races.race.Goals as goal
@@ -28,17 +28,19 @@ returns-clause-ok g c =
     let limit : c.in-Ok.store.limits.passes ≡ c.args.limits.passes = ap (λ l. l.passes) c.in-Ok.ensures.0 in
     let passes : c.in-Ok.store.limits.passes ≡ length scripts = omega (arith, count, limit, c.requires.passes, c.args.scripts.ok.0) in
     let journal = c.close.result.entries in
-    let replies = c.in_ok-put_replies.ensures.ok in
+    let replies = map (λ s. s.items) c.in_ok-passes.replies.items in
     let holds = g.W.Write.contents in
     on_both c.put_result-2.result c.put_result-2.ensures.ok c.put_result-2.ensures.ok (λ legal is _. (
         is.0,
         record {
-          out = replies.out ++ result_text journal;
-          appended = written_both (holds c.args.writer.now) (holds c.put_replies.new.writer) (holds c.put_result-2.new.writer) replies.out (result_text journal) replies.appended is.1;
+          out = replies_text 0 replies ++ result_text journal;
+          appended = written_both (holds c.args.writer.now) (holds c.put_replies.new.writer) (holds c.put_result-2.new.writer) (replies_text 0 replies) (result_text journal)
+              c.in_ok-put_replies.ensures.ok is.1;
           is = record {
-            replies = replies.out;
+            replies = replies;
             journal = journal;
             is = refl;
+            replied = subst (λ l. HaveReplied l 0 scripts replies) c.in-Ok.ensures.0 c.in_ok-passes.ensures.replied;
             legal = c.close.ensures.legal;
             by = subst (λ n. AllBelow n journal) passes c.close.ensures.by;
             own = λ k below. subst (λ n. IsPartOf (operations (by_pass n journal)) (write_ops (slice_index_or scripts k []))) (zero-add k)

@@ -1,28 +1,37 @@
-use Rattle.std.proofs.Common.{◌≡◌, length, get_or, OnOk, ap, sym, ◌∙◌, subst, arith, zero-add}
-use Rattle.be_script.specs.Own.{IsPartOf, operations, write_ops}
-use Rattle.be_store.specs.Passes.{IsPassOf}
-use Rattle.be_script.specs.Race.{HaveServed}
-use Rattle.be_script.proofs.RaceLemmas.{served_from, on_both}
+use Rattle.std.proofs.Common.{◌≡◌, ℕ, ◌+◌, List, Vec, Global, length, map, get_or, IfOk, ap, sym, ◌∙◌, subst, arith, zero-add}
+use Rattle.std.proofs.lemmas.Result.{IfOk-weaker}
+use Rattle.be_script.specs.Race.{HaveServed, HaveReplied}
+use Rattle.be_script.proofs.RaceLemmas.{EndsAs, served_from, on_both}
 use Rattle.be_script.proofs.races.serve_in.Goals as goal
 
-pub returns-in-Ok-clause-served : goal.returns-in-Ok-clause-served
-returns-in-Ok-clause-served g c =
+abbrev items_of : Vec ℕ Global → List ℕ
+items_of v = v.items
+
+pub returns-in-Ok : goal.returns-in-Ok
+returns-in-Ok g c =
     let store = c.args.store.now in
     let scripts = c.args.scripts.now.items in
     let threads = c.in_ok-threads.threads in
     let outcomes = c.in-Ok.outcomes in
     let count : length outcomes.items ≡ length scripts = omega (arith, c.in-Ok.ensures.len, c.in_ok-threads.ensures.len, outcomes.ok.0, threads.ok.0) in
+    let both : IfOk c.part.result (λ r. HaveServed store 0 (map items_of scripts) r.0.items × HaveReplied store.limits 0 (map items_of scripts) (map items_of r.1.items)) =
     on_both c.part.result c.part.ensures.passes c.part.ensures.replies (λ r passes replies.
-        subst (HaveServed store 0 _) (sym passes)
-        (served_from store (λ s. s.items) 0 scripts outcomes.items r.1.items count
+        let all = served_from store items_of 0 scripts outcomes.items r.1.items count
         (λ i o s below.
             let kept = (c.in-Ok.ensures.each i o (omega (arith, c.in_ok-threads.ensures.len, threads.ok.0))).1 in
             let each = c.in_ok-threads.ensures.each i kept.handle s below in
             let of_store = ap (λ h. h.promise.store.value) kept.handle_is ∙ each.0 in
-            let of_number = ap (λ h. h.promise.number) kept.handle_is ∙ each.1 in
-            let of_script = ap (λ h. h.promise.script.value) kept.handle_is ∙ each.2 in (
-              subst (λ t. IsPassOf t (get_or outcomes.items i o).0) of_store kept.kept.0,
-              kept.kept.1 ∙ (of_number ∙ sym (zero-add i)),
-              subst (λ v. OnOk (get_or outcomes.items i o).1 (IsPartOf (operations (get_or outcomes.items i o).0.knows.mine) (write_ops v.items))) of_script kept.kept.2,
-            ))
-        replies))
+            let of_number = ap (λ h. h.promise.number) kept.handle_is ∙ (each.1 ∙ sym (zero-add i)) in
+            let of_script = ap (λ h. h.promise.script.value) kept.handle_is ∙ each.2 in
+            let promise = kept.handle.promise in
+            let o' = get_or outcomes.items i o in
+            subst (λ t. EndsAs t items_of (0 + i) (get_or scripts i s) o') of_store
+            (subst (λ n. EndsAs promise.store.value items_of n (get_or scripts i s) o') of_number
+            (subst (λ v. EndsAs promise.store.value items_of promise.number v o') of_script kept.kept)))
+        replies in
+        (subst (HaveServed store 0 (map items_of scripts)) (sym passes) all.0, all.1)) in
+    record {
+      served = IfOk-weaker _ _ _ (λ r h. h.0) both;
+      replied = IfOk-weaker _ _ _ (λ r h. h.1) both;
+      fault = c.part.ensures.fault;
+    }
