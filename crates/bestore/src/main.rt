@@ -5,8 +5,6 @@
 //! can be done, and 1, with one line on standard error, where a run or a race stopped before its end.
 #![tactic(auto)]
 
-ghost use Rattle.std.specs.Prelude.{◌≡◌, vec_len, IfOk};
-
 use be_script::{Limits, OpenGate, RunFault, Task, race, run, task};
 use clap::Error;
 use clap::error::ErrorKind;
@@ -35,14 +33,14 @@ fn fail_to_read(rt: &impl Eprint, file: &str) -> io::Result<ExitCode> {
     Ok(ExitCode::FAILURE)
 }
 
-/// Tells why no reply, or not all of them, could be written.
-fn tell_fault(rt: &impl Eprint, fault: RunFault, file: &str) -> io::Result<ExitCode> {
+/// Why a run or a race stopped.
+fn reason(fault: RunFault) -> &'static str {
     match fault {
-        RunFault::Limits => fail(rt, "a limit is out of its range"),
-        RunFault::Read => fail_to_read(rt, file),
-        RunFault::TooLong => fail(rt, "script too long"),
-        RunFault::Write => fail(rt, "write failed"),
-        RunFault::Memory => fail(rt, "out of memory"),
+        RunFault::Limits => "a limit is out of its range",
+        RunFault::Read => "cannot read a script",
+        RunFault::TooLong => "script too long",
+        RunFault::Write => "write failed",
+        RunFault::Memory => "out of memory",
     }
 }
 
@@ -56,7 +54,8 @@ fn run_file<R: Runtime + AllocGlobal>(
     };
     match run(rt.alloc(), &mut script, &mut io::writer(rt), limits) {
         Ok(()) => Ok(ExitCode::SUCCESS),
-        Err(fault) => tell_fault(rt, fault, file),
+        Err(RunFault::Read) => fail_to_read(rt, file),
+        Err(fault) => fail(rt, reason(fault)),
     }
 }
 
@@ -120,7 +119,7 @@ fn race_files<R: Runtime + AllocGlobal + Threads + Wait + Sync>(
     ) {
         Ok(true) => Ok(ExitCode::SUCCESS),
         Ok(false) => Ok(ExitCode::FAILURE),
-        Err(fault) => tell_fault(rt, fault, ""),
+        Err(fault) => fail(rt, reason(fault)),
     }
 }
 
