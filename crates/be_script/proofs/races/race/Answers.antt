@@ -1,5 +1,6 @@
 use Rattle.std.proofs.Common.{◌≡◌, ◌++◌, [], length, map, slice_index_or, refl, ap, sym, ◌∙◌, subst, arith, zero-add}
 use Rattle.std.proofs.lemmas.List.{length-map}
+use Rattle.std.specs.Io.KnownBytes.{Appends}
 use Rattle.be_journal.specs.Journal.{by_pass}
 use Rattle.be_table.specs.History.{AllBelow}
 use Rattle.be_table.specs.Steps.{Has}
@@ -35,7 +36,7 @@ returns-clause-ok g c =
         record {
           out = replies_text 0 replies ++ result_text journal;
           appended = written_both (holds c.args.writer.now) (holds c.put_replies.new.writer) (holds c.put_result-2.new.writer) (replies_text 0 replies) (result_text journal)
-              c.in_ok-put_replies.ensures.ok is.1;
+              (subst (λ ts. Appends (holds c.args.writer.now) (holds c.put_replies.new.writer) (replies_text 0 (map (λ t. t.items) ts))) c.deref-2.ensures.value c.in_ok-put_replies.ensures.ok) is.1;
           is = record {
             replies = replies;
             journal = journal;

@@ -1,5 +1,4 @@
 use Rattle.std.proofs.Common.{◌≡◌, ℕ, ◌+◌, List, Vec, Global, length, map, get_or, IfOk, ap, sym, ◌∙◌, subst, arith, zero-add}
-use Rattle.std.proofs.lemmas.Result.{IfOk-weaker}
 use Rattle.be_script.specs.Race.{HaveServed, HaveReplied}
 use Rattle.be_script.proofs.RaceLemmas.{EndsAs, served_from, on_both}
 use Rattle.be_script.proofs.races.serve_in.Goals as goal
@@ -31,7 +30,7 @@ returns-in-Ok g c =
         replies in
         (subst (HaveServed store 0 (map items_of scripts)) (sym passes) all.0, all.1)) in
     record {
-      served = IfOk-weaker _ _ _ (λ r h. h.0) both;
-      replied = IfOk-weaker _ _ _ (λ r h. h.1) both;
+      served = on_both c.part.result both both (λ r h _. h.0);
+      replied = on_both c.part.result both both (λ r h _. h.1);
       fault = c.part.ensures.fault;
     }
