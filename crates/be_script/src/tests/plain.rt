@@ -36,8 +36,14 @@ impl Model for PlainStore {
       journal = s.journal.entries;
       volume = s.volume;
       limit = s.journal.limit;
+      passes = 1;
+      pass = 0;
       pin = option_map (λ n. record { number = n; volume = unwrap_or s.kept s.volume }) s.pin;
     } };
+
+    ghost use Rattle.std.specs.Prelude.{◌≤◌, ◌+◌, ◌*◌, ◌^◌, ◌<◌, length};
+
+    ghost invariant = { λ s. (s.volume.next ≤ 1 + 64 * length s.journal.entries) × (length s.journal.entries ≤ s.journal.limit) × (s.journal.limit < 2 ^ 32) };
 }
 
 impl PlainStore {
@@ -77,6 +83,10 @@ fn keep(is_pinned: bool, kept: &mut Option<Volume>, volume: &Volume) -> Result<(
 }
 
 impl Server for PlainStore {
+    ghost Kept = { Unit {0} };
+
+    ghost kept = { λ s. tt };
+
     ghost shows = { λ s. s };
 
     /// A refusal of the volume goes before one of the journal, and the journal makes its room before the volume is
