@@ -8,6 +8,10 @@ use Rattle.std.proofs.lemmas.List.Concat.{flat_map-cons}
 use Rattle.be_journal.specs.declared.entries.Entry.{Entry}
 use Rattle.be_journal.specs.Journal.{by_pass}
 use Rattle.be_table.proofs.Histories.{by_pass-append, by_pass-own}
+use Rattle.be_table.specs.declared.pass.Commit.{Commit}
+use Rattle.be_table.specs.declared.pass.Knowledge.{Knowledge}
+use Rattle.be_table.specs.Rule.{entries}
+use Rattle.be_table.specs.Steps.{IsPass}
 use Rattle.be_value.specs.declared.refusals.Refusal.{Refusal}
 use Rattle.be_value.specs.declared.refusals.Refusal.TheVariants.{CommitsSpent}
 use Rattle.be_query.specs.Grammar.{Formula}
@@ -20,6 +24,7 @@ use Rattle.be_script.specs.Output.{Session, Replies, Serves, Answered, Outputs, 
 use Rattle.be_script.specs.Own.{IsPartOf, operations, write_op, write_ops}
 use Rattle.be_script.specs.Reply.{Reply, queued as queued_word, full_batch}
 use Rattle.be_script.specs.Request.{Request, silent, malformed, write, query, explain, get, attrs, indices, pin, unpin, live, refresh, begin, commit, abort, asked, lines_of}
+use Rattle.be_script.specs.Served.{known}
 use Rattle.be_script.specs.Store.{Pin, Store, Joins, IsOther, entered, viewed, written, written_by}
 use Rattle.be_script.proofs.JoinLemmas.{none_own}
 use Rattle.be_script.proofs.PartLemmas.{part_itself, part_both, part_front, part_on}
@@ -248,3 +253,10 @@ own_writes store new script out h =
           (part_on (own_ops h.0.store) (mine h.0) (own_ops store ++ write_ops script) (part_front (own_ops h.0.store) (queued h.0.batch))
           (subst (λ l. IsPartOf (mine h.0) (l ++ write_ops script)) (append-nil (own_ops store)) adds.part)),
     )
+
+-- what a pass wrote that had seen nothing
+pub pass_writes : (a c : Knowledge) (script out : List ℕ) → a.seen ≡ [] → IsPass c → IsOutputTo (known a) script (known c) out → IsPartOf (operations c.mine) (write_ops script)
+pass_writes a c script out fresh behind h =
+    let part : IsPartOf (own_ops (known c)) (own_ops (known a) ++ write_ops script) = (own_writes (known a) (known c) script out h).1 in
+    subst (λ l. IsPartOf (operations l) (write_ops script)) behind.mine
+    (subst (λ (seen : List Commit). IsPartOf (own_ops (known c)) (operations (by_pass a.number (entries seen)) ++ write_ops script)) fresh part)

@@ -225,3 +225,9 @@ pub writes_again : {X : Type 0} (a b c : Store) (dones_of : X → List Done) (op
 writes_again a b c dones_of ops refused r e is m n =
     let same : b ≡ m.now = (subst (λ r. MayWrite dones_of m.now ops r b) is m.is).0 in
     later a b (λ s. MayWrite dones_of s ops r c) (subst (Joins a) (sym same) m.joins) n
+
+-- a write leaves the pass its number
+pub same_number : {X : Type 0} (a c : Knowledge) (dones_of : X → List Done) (ops : List Op) (r : Result (ℕ × X) Refusal) → IfOk r (λ x. Accepts a c ops x.0 (dones_of x.1)) →
+    IfErr r (λ e. Learns a c × IsReason a c ops e) → c.number ≡ a.number
+same_number a c dones_of ops (Ok x) ok err = ok.pass
+same_number a c dones_of ops (Err e) ok err = err.0.pass

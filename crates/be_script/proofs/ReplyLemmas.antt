@@ -1,21 +1,56 @@
 -- What a write and a commit are answered.
-use Rattle.std.proofs.Common.{◌≡◌, ◌⊎◌, ◌≤◌, ℕ, List, [], ◌∷◌, length, Option, Some, None, IsOk, inl, inr, refl, sym, ap, ◌∙◌, subst, arith}
+use Rattle.std.proofs.Common.{◌≡◌, ◌⊎◌, ◌≤◌, ◌+◌, ℕ, true, false, is_some, List, [], ◌∷◌, length, Option, Some, None, IsOk, inl, inr, refl, sym, ap, ◌∙◌, subst, arith}
 use Rattle.std.specs.Prelude.{Result, Ok, Err}
 use Rattle.be_store.specs.Live.{LiveQuery}
 use Rattle.be_value.specs.declared.refusals.Refusal.{Refusal}
 use Rattle.be_value.specs.declared.refusals.Refusal.TheVariants.{Busy, OutOfMemory, Full}
 use Rattle.be_volume.specs.declared.ops.Done.{Done}
 use Rattle.be_volume.specs.declared.ops.Op.{Op}
-use Rattle.be_script.specs.Output.{Session, IsHeldUp, Replies, Serves, commit_reply, done_reply, write_reply}
-use Rattle.be_script.specs.Reply.{Reply, committed, refused}
-use Rattle.be_script.specs.Request.{Request, write, commit}
-use Rattle.be_script.specs.Store.{Store, Joins, Meanwhile, IsBusy, IsWant, MayWrite, written}
+use Rattle.be_script.specs.Output.{Session, IsHeldUp, Replies, Serves, commit_reply, done_reply, pinning, with_store, write_reply}
+use Rattle.be_script.specs.Reply.{Reply, already_pinned, committed, empty_batch, pinned_at, refused}
+use Rattle.be_script.specs.Request.{Request, write, pin, commit}
+use Rattle.be_script.specs.Store.{Pin, Store, Joins, Meanwhile, IsBusy, IsWant, MayWrite, pinned, written}
 use Rattle.be_script.specs.View.{unbatched, batched}
 use Rattle.be_script.proofs.JoinLemmas.{joins_itself}
 
 -- a reply from the store as it was
 pub serves_at_once : (s after : Session) (request : Request) (reply : Reply) → Replies s request reply after → Serves s request reply after
 serves_at_once s after request reply r = record { now = s.store; joins = joins_itself s.store; is = r }
+
+-- a reply from the store as others left it
+pub serves_joined : (s after : Session) (new : Store) (request : Request) (reply : Reply) → Joins s.store new → Replies (with_store s new) request reply after → Serves s request reply after
+serves_joined s after new request reply j r = record { now = new; joins = j; is = r }
+
+-- what is true of two values is true of their equals
+pub of_both : {B : Type 0} (P : B → B → Type 0) (b b' c c' : B) → b ≡ c → b' ≡ c' → P c c' → P b b'
+of_both P b b' c c' e e' h = subst (λ x. P x b') (sym e) (subst (λ y. P c y) (sym e') h)
+
+-- a pin where one stands
+pub pinned_already : (s : Session) → true ≡ is_some s.store.pin → Replies s pin already_pinned s
+pinned_already s h = by s.store.pin h
+  where
+    by : (p : Option Pin) → true ≡ is_some p → pinning s p ≡ (already_pinned, s)
+    by None g = cc
+    by (Some p) g = refl
+
+-- a pin where none stood
+pub pinned_now : (old new : Store) (batch : Option (List Op)) (l : Option LiveQuery) (n : ℕ) → old.pin ≡ None → Meanwhile old (λ s. (new ≡ pinned s) × (n ≡ length s.journal)) →
+    Serves (record { store = old; batch = batch; live = l }) pin (pinned_at n) (record { store = new; batch = batch; live = l })
+pinned_now old new batch l n none m = record {
+  now = m.now;
+  joins = m.joins;
+  is = ap (pinning (record { store = m.now; batch = batch; live = l })) (ap (λ (s : Store). s.pin) m.joins.store ∙ none)
+      ∙ (λ i. (pinned_at (sym m.is.1 i), record { store = sym m.is.0 i; batch = batch; live = l }));
+}
+
+pub no_pin : (p : Option Pin) → false ≡ is_some p → p ≡ None
+no_pin None h = refl
+no_pin (Some p) h = cc
+
+-- a commit of nothing
+pub commit_empty : (store : Store) (ops : List Op) (l : Option LiveQuery) → length ops ≡ 0 → Replies (batched store ops l) commit empty_batch (batched store ops l)
+commit_empty store [] l h = inl refl
+commit_empty store (op ∷ ops) l h = absurd (omega (arith, h))
 
 -- a refusal that comes in place of an accepted write is no memory, or holds the write up
 held_up : (s : Store) (ops : List Op) (e : Refusal) → (IsWant e × IsOk (written s ops)) ⊎ IsBusy s e → (refused e ≡ refused OutOfMemory) ⊎ IsHeldUp s ops (refused e)

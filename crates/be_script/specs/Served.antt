@@ -14,6 +14,10 @@ pub record Seated : Type 0 where
   pub store : Opened
   pub knows : Knowledge
 
+-- what stays the same of it: its store, and which pass it is
+abbrev pub seat_of : Seated → Opened × ℕ
+seat_of s = (s.store, s.knows.number)
+
 -- the version after the first n writes that the pass has seen
 abbrev pub pin_at : Knowledge → ℕ → Pin
 pin_at a n = record { number = n; volume = replay (take n (entries a.seen)) }

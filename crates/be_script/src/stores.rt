@@ -11,7 +11,7 @@ ghost use Rattle.be_value.specs.declared.refusals.Refusal.TheVariants.{OutOfMemo
 ghost use Rattle.be_volume.specs.Query.{scan};
 ghost use Rattle.be_volume.specs.Reading.{attribute, attributes_at, index_kinds};
 ghost use Rattle.be_script.specs.Limits.{are_within};
-ghost use Rattle.be_script.specs.Served.{known};
+ghost use Rattle.be_script.specs.Served.{known, seat_of};
 ghost use Rattle.be_script.specs.Store.{Store, Joins, Meanwhile, start, viewed, pinned, unpinned, MayWrite};
 
 use crate::Limits;
@@ -111,6 +111,7 @@ fn apply_once(
     requires pass { IsPassOf store.now pass.old }
     requires count { (1 ≤ length ops.now) × (length ops.now ≤ 64) }
     ensures pass { IsPassOf store.now pass.new }
+    ensures number { pass.new.knows.number ≡ pass.old.knows.number }
     ensures writes { Meanwhile (known pass.old.knows) (λ store. MayWrite (λ dones. dones.items) store ops.now result (known pass.new.knows)) }
 {
     pass.is_pass();
@@ -129,6 +130,7 @@ fn apply_at_last(
     requires pass { IsPassOf store.now pass.old }
     requires count { (1 ≤ length ops.now) × (length ops.now ≤ 64) }
     ensures pass { IsPassOf store.now pass.new }
+    ensures number { pass.new.knows.number ≡ pass.old.knows.number }
     ensures writes { Meanwhile (known pass.old.knows) (λ store. MayWrite (λ dones. dones.items) store ops.now result (known pass.new.knows)) }
 {
     let mut answer = apply_once(store, pass, ops);
@@ -180,7 +182,7 @@ impl<'a> PassServer<'a> {
 
     /// Pins for one read where no version is pinned, and tells whether it did.
     fn begin_read(&mut self) -> bool
-        ensures store { self.new.store ≡ self.old.store }
+        ensures stays { seat_of self.new ≡ seat_of self.old }
         ensures pinned { IsSome (known self.new.knows).pin }
         ensures same_view { viewed (known self.new.knows) ≡ viewed (if result then unpinned (known self.new.knows) else known self.new.knows) }
         ensures joins { Joins (known self.old.knows) (if result then unpinned (known self.new.knows) else known self.new.knows) }
@@ -195,7 +197,7 @@ impl<'a> PassServer<'a> {
     /// Gives the pin of one read up, where the read made it.
     fn end_read(&mut self, made: bool)
         requires { IsSome (known self.old.knows).pin }
-        ensures store { self.new.store ≡ self.old.store }
+        ensures stays { seat_of self.new ≡ seat_of self.old }
         ensures unpinned { known self.new.knows ≡ (if made then unpinned (known self.old.knows) else known self.old.knows) }
     {
         if made {
@@ -205,11 +207,13 @@ impl<'a> PassServer<'a> {
 }
 
 impl<'a> Server for PassServer<'a> {
+    ghost use Rattle.std.specs.Prelude.{ℕ};
+    ghost use Rattle.be_script.specs.Served.{seat_of};
     ghost use Rattle.be_table.specs.Place.{Opened};
 
-    ghost Kept = { Opened };
+    ghost Kept = { Opened × ℕ };
 
-    ghost kept = { λ s. s.store };
+    ghost kept = { seat_of };
 
     ghost shows = { λ s. known s.knows };
 
