@@ -67,7 +67,7 @@ module _ {V E : Type 0} (store : Opened) (items : V → List ℕ) where
       let rest : map Ok ts ≡ map (λ (o : Place × Result V E). o.1) os = cc in
       let told = if_this (λ text. IsPartOf (operations o.0.knows.mine) (write_ops (items s)) × IsOutputFrom (start_of store.limits k) (items s) (items text)) o.1 t first here.2 in
       let behind = served_from (k + 1) ss os ts (omega (arith, count)) (λ i d u below.
-          let e : k + suc i ≡ (k + 1) + i = omega arith in subst (λ n. EndsAs n (get_or ss i u) (get_or os i d)) e (each (suc i) d u (omega arith))) rest in (
+      let e : k + suc i ≡ (k + 1) + i = omega arith in subst (λ n. EndsAs n (get_or ss i u) (get_or os i d)) e (each (suc i) d u (omega arith))) rest in (
         (record { pass = here.0; number = here.1; own = told.0 }, behind.0),
         (told.1, behind.1),
       )

@@ -11,8 +11,10 @@ use clap::error::ErrorKind;
 use clap::{Arg, ArgAction, ArgMatches, Command, Error, value_parser};
 use std::alloc::{AllocError, Global};
 
-/// The name of the argument of `run` and of that of `race`, as help shows them.
+/// The argument of `run`, as help shows it.
 const FILE: &str = "FILE";
+
+/// The arguments of `race`.
 const SCRIPT: &str = "SCRIPT";
 
 /// A command that takes the limits of a store, and its files.

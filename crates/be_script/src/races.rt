@@ -50,17 +50,11 @@ impl Promise<(Pass, Result<Vec<u8>, RunFault>)> for Served {
         IsPassOf p.store.value outcome.0
         × (outcome.0.knows.number ≡ p.number)
         × IfOk outcome.1 (λ replies. IsPartOf (operations outcome.0.knows.mine) (write_ops p.script.value.items)
-            × IsOutputFrom (start_of p.store.value.limits p.number) p.script.value.items replies.items) };
+        × IsOutputFrom (start_of p.store.value.limits p.number) p.script.value.items replies.items) };
 }
 
 /// Serves a script from a new pass.
-fn serve_new<G: Gate>(
-    alloc: Global,
-    store: &Store,
-    pass: Pass,
-    gate: &G,
-    script: &[u8],
-) -> Outcome
+fn serve_new<G: Gate>(alloc: Global, store: &Store, pass: Pass, gate: &G, script: &[u8]) -> Outcome
     requires { IsNew store.now pass.knows.number pass }
     ensures pass { IsPassOf store.now result.0 }
     ensures number { result.0.knows.number ≡ pass.knows.number }
@@ -95,9 +89,12 @@ fn start<'s, E, G: Gate + Sync>(
             number,
             script: Snapshot::of(script),
         };
-        let thread = scope.spawn_with(promise, move || -> Outcome
-            requires { IsNew store.now pass.knows.number pass }
-        { serve_new(alloc, store, pass, gate, script) });
+        let thread = scope.spawn_with(
+            promise,
+            move || -> Outcome
+                requires { IsNew store.now pass.knows.number pass }
+            { serve_new(alloc, store, pass, gate, script) },
+        );
         let Ok(thread) = thread else {
             return Err(RunFault::Memory);
         };
@@ -191,11 +188,7 @@ fn line_of(alloc: Global, pass: usize) -> Result<String, AllocError>
 }
 
 /// Writes each pass's line and its replies.
-fn put_replies<W: Write>(
-    alloc: Global,
-    writer: &mut W,
-    replies: &[Vec<u8>],
-) -> Result<(), RunFault>
+fn put_replies<W: Write>(alloc: Global, writer: &mut W, replies: &[Vec<u8>]) -> Result<(), RunFault>
     ensures ok { OnOk result (Appends (W.contents writer.old) (W.contents writer.new) (replies_text 0 (map (λ t. t.items) replies.now))) }
     ensures late { IfErr result IsLate }
 {
@@ -210,11 +203,7 @@ fn put_replies<W: Write>(
 }
 
 /// Writes how many entries the journal has, their text, and the result of its check, which it answers.
-fn put_result<W: Write>(
-    alloc: Global,
-    writer: &mut W,
-    journal: &Journal,
-) -> Result<bool, RunFault>
+fn put_result<W: Write>(alloc: Global, writer: &mut W, journal: &Journal) -> Result<bool, RunFault>
     requires { IsLegal journal.now.entries }
     ensures ok { IfOk result (λ legal. (legal ≡ true) × Appends (W.contents writer.old) (W.contents writer.new) (result_text journal.now.entries)) }
     ensures late { IfErr result IsLate }

@@ -44,11 +44,7 @@ fn reason(fault: RunFault) -> &'static str {
     }
 }
 
-fn run_file<R: Runtime + AllocGlobal>(
-    rt: &R,
-    file: &str,
-    limits: Limits,
-) -> io::Result<ExitCode> {
+fn run_file<R: Runtime + AllocGlobal>(rt: &R, file: &str, limits: Limits) -> io::Result<ExitCode> {
     let Ok(mut script) = fs::open(rt, file) else {
         return fail_to_read(rt, file);
     };

@@ -4,13 +4,12 @@ use crate::{Gate, Limits, OpenGate, RunFault, race};
 use std::alloc::{AllocError, Global};
 use std::io::Write;
 use std::process::Abort;
-use std::str;
 use std::sync::Wait;
 use std::sync::atomic::AtomicU64;
 use std::sync::atomic::Ordering::SeqCst;
 use std::test::Fail;
-use std::thread;
 use std::thread::Threads;
+use std::{str, thread};
 
 /// The scripts as a race takes them.
 fn scripts_of(alloc: Global, texts: &[&str]) -> Result<Vec<Vec<u8>>, AllocError> {
@@ -161,7 +160,8 @@ fn both_threads_run(rt: HostRuntime) -> Result<(), Fail> {
 }
 
 /// Lines that write, read, pin and fail, and a batch.
-const MIXED: &str = "new\nmkindex k LONG\nset 1 k LONG 5\nset 2 k LONG 6\nquery k>4\nbegin\nnew\nset 3 k LONG 7\nnew\ncommit\npin\ndrop 1\nquery k>4\n\
+const MIXED: &str =
+    "new\nmkindex k LONG\nset 1 k LONG 5\nset 2 k LONG 6\nquery k>4\nbegin\nnew\nset 3 k LONG 7\nnew\ncommit\npin\ndrop 1\nquery k>4\n\
     unpin\nset 2 k LONG 8\nlive k==8\nrefresh\nrmindex k\ndrop 99\nset 2 \"\" CSTR x\nsett\n# a comment\nnew\n";
 
 /// Fails unless a race of so many such scripts ends with a right replay.
@@ -215,7 +215,8 @@ fn longest_scripts(rt: HostRuntime) -> Result<(), Fail> {
     let alloc = rt.alloc();
     for (length, fits) in [(1_048_577, false), (1_048_576, true)] {
         let mut written: Vec<u8> = Vec::new(alloc);
-        let (Ok(mut scripts), Ok(long)) = (scripts_of(alloc, &[""]), vec![in alloc; b'#'; length]) else {
+        let (Ok(mut scripts), Ok(long)) = (scripts_of(alloc, &[""]), vec![in alloc; b'#'; length])
+        else {
             return Ok(());
         };
         if scripts.push(long).is_err() {

@@ -65,7 +65,17 @@ fn races(rt: HostRuntime) -> Result<(), Fail> {
     }
     let Ok(found) = task_of(
         rt.alloc(),
-        &["bestore", "race", "--commits", "9", "a", "b", "--pages", "64", "c"],
+        &[
+            "bestore",
+            "race",
+            "--commits",
+            "9",
+            "a",
+            "b",
+            "--pages",
+            "64",
+            "c",
+        ],
     ) else {
         return Err(Fail::new("no task"));
     };

@@ -32,20 +32,20 @@ returns-clause-ok g c =
     let replies = map (λ s. s.items) c.in_ok-passes.replies.items in
     let holds = g.W.Write.contents in
     on_both c.put_result-2.result c.put_result-2.ensures.ok c.put_result-2.ensures.ok (λ legal is _. (
-        is.0,
-        record {
-          out = replies_text 0 replies ++ result_text journal;
-          appended = written_both (holds c.args.writer.now) (holds c.put_replies.new.writer) (holds c.put_result-2.new.writer) (replies_text 0 replies) (result_text journal)
-              (subst (λ ts. Appends (holds c.args.writer.now) (holds c.put_replies.new.writer) (replies_text 0 (map (λ t. t.items) ts))) c.deref-2.ensures.value c.in_ok-put_replies.ensures.ok) is.1;
-          is = record {
-            replies = replies;
-            journal = journal;
-            is = refl;
-            replied = subst (λ l. HaveReplied l 0 scripts replies) c.in-Ok.ensures.0 c.in_ok-passes.ensures.replied;
-            legal = c.close.ensures.legal;
-            by = subst (λ n. AllBelow n journal) passes c.close.ensures.by;
-            own = λ k below. subst (λ n. IsPartOf (operations (by_pass n journal)) (write_ops (slice_index_or scripts k []))) (zero-add k)
-                (own_of c.in-Ok.store 0 scripts c.in_ok-passes.passes.items journal c.in_ok-passes.ensures.served c.close.ensures.passes k below);
-          };
-        },
-      ))
+      is.0,
+      record {
+        out = replies_text 0 replies ++ result_text journal;
+        appended = written_both (holds c.args.writer.now) (holds c.put_replies.new.writer) (holds c.put_result-2.new.writer) (replies_text 0 replies) (result_text journal)
+            (subst (λ ts. Appends (holds c.args.writer.now) (holds c.put_replies.new.writer) (replies_text 0 (map (λ t. t.items) ts))) c.deref-2.ensures.value c.in_ok-put_replies.ensures.ok) is.1;
+        is = record {
+          replies = replies;
+          journal = journal;
+          is = refl;
+          replied = subst (λ l. HaveReplied l 0 scripts replies) c.in-Ok.ensures.0 c.in_ok-passes.ensures.replied;
+          legal = c.close.ensures.legal;
+          by = subst (λ n. AllBelow n journal) passes c.close.ensures.by;
+          own = λ k below. subst (λ n. IsPartOf (operations (by_pass n journal)) (write_ops (slice_index_or scripts k []))) (zero-add k)
+              (own_of c.in-Ok.store 0 scripts c.in_ok-passes.passes.items journal c.in_ok-passes.ensures.served c.close.ensures.passes k below);
+        };
+      },
+    ))
