@@ -1,5 +1,4 @@
 pub mod Codec
-pub mod NameOrder
 pub mod Indexing
 pub mod EmptyVolume
 pub mod Validity

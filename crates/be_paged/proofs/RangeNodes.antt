@@ -1,8 +1,8 @@
 -- The nodes that the keys of a range end with.
-use Rattle.std.proofs.Common.{◌≡◌, ◌⊎◌, ℕ, zero, suc, ◌+◌, ◌-◌, ◌<◌, ◌≤◌, ◌^◌, Bool, true, false, cond, not, List, [], ◌∷◌, ◌++◌, length, drop, map, get_or, Some, None, inl, inr, ap, sym, subst, ◌∙◌, refl, arith, is_some, if◌then◌else◌}
+use Rattle.std.proofs.Common.{◌≡◌, ◌⊎◌, ℕ, suc, ◌-◌, ◌<◌, ◌^◌, Bool, true, false, cond, not, List, [], ◌∷◌, length, drop, map, get_or, Some, None, inl, inr, ap, sym, subst, ◌∙◌, refl, arith, is_some, if◌then◌else◌}
 use Rattle.std.specs.Int.{from_be_bytes, to_be_bytes, w64}
 use Rattle.std.specs.List.{Contains}
-use Rattle.std.specs.Ordering.{is_eq, is_lt, is_gt}
+use Rattle.std.specs.Ordering.{is_eq, is_gt}
 use Rattle.std.specs.FinMap as fin
 use Rattle.std.specs.declared.cmp.Ordering.{Ordering}
 use Rattle.std.specs.declared.cmp.Ordering.TheVariants.{Less, Equal, Greater}
@@ -19,7 +19,6 @@ use Rattle.be_tree.specs.Range.{AreLong, HasFirst, is_from, is_past, number_of, 
 use Rattle.be_tree.specs.Tree.{pairs}
 use Rattle.be_tree.proofs.Order.{key_total, key_cmp_flip, key_cmp_flip_less, AllAbove_trans, payload_at_above, key_exact}
 use Rattle.be_volume.specs.Keys.{IsKey}
-use Rattle.be_volume.specs.Maps.{name_cmp}
 use Rattle.be_volume.specs.Sound.{IsSound}
 use Rattle.be_volume.specs.Volume.{State}
 use Rattle.be_plan.specs.Narrow.{Within, is_above}

@@ -10,11 +10,10 @@
 //!
 //! What narrows a range tells whether that leaves no value of which the comparison, or the whole query, is false. Then the node of each key is
 //! an answer, and nothing is asked of it. A pattern is decided where it says no more than how a text begins.
-ghost use Rattle.std.specs.Prelude.{◌≡◌, ◌<◌, ◌≤◌, ◌+◌, ◌^◌, ℕ, ℤ, ◌≤ℤ◌, true, false, List, [], ◌∷◌, ◌++◌, Some, IfSome, IsTrue, IsUtf8, length};
+ghost use Rattle.std.specs.Prelude.{◌≡◌, ◌<◌, ◌≤◌, ◌+◌, ◌^◌, ℕ, ℤ, ◌≤ℤ◌, true, false, List, [], ◌∷◌, ◌++◌, Some, IfSome, IsUtf8, length};
 ghost use Rattle.std.specs.Str.{chars};
 ghost use Rattle.be_pattern.specs.Match.{matches};
 ghost use Rattle.be_pattern.specs.Canonical.{is_plain};
-ghost use Rattle.std.specs.Ordering.{is_lt, is_gt};
 ghost use Rattle.be_value.specs.Key.{key as key_bytes, value_key, counted, IsValue};
 ghost use Rattle.be_value.specs.Name.{has_nul};
 ghost use Rattle.be_value.specs.Value.{kind_of};
@@ -84,6 +83,20 @@ fn narrow_by(
     }
 }
 
+/// The same by an integer, whose bytes in a key these are.
+fn narrow_by_integer(range: &mut Range, comparison: &Comparison, kind: Kind, bytes: &[u8]) -> bool
+    ghost bound: { AnyValue }
+    requires stands { StandsFor (literal comparison.now.literal) kind bound }
+    requires bytes { bytes.now ≡ value_key bound }
+    ensures within { (k : List ℕ) → IsIn range.new k → IsIn range.old k }
+    ensures keeps { (v : AnyValue) (n : ℕ) → IsPair kind v n → holds comparison.now.op v (literal comparison.now.literal) ≡ true →
+        IsIn range.old (key_bytes v n) → IsIn range.new (key_bytes v n) }
+    ensures decides { result ≡ true → (v : AnyValue) (n : ℕ) → IsPair kind v n → IsIn range.new (key_bytes v n) →
+        holds comparison.now.op v (literal comparison.now.literal) ≡ true }
+{
+    narrow_by(range, comparison, kind, bytes, &NUMBER_FIRST, &NUMBER_AFTER)
+}
+
 /// A number of 32 bits counted from the least one.
 fn counted32(n: i32) -> u32
     ensures { result ≡ counted (2 ^ 31) n }
@@ -102,21 +115,7 @@ fn counted64(n: i64) -> u64
     }
 }
 
-/// The same by the bytes of an integer that stands for the literal.
-fn narrow_by_integer(range: &mut Range, comparison: &Comparison, kind: Kind, bytes: &[u8]) -> bool
-    ghost bound: { AnyValue }
-    requires stands { StandsFor (literal comparison.now.literal) kind bound }
-    requires bytes { bytes.now ≡ value_key bound }
-    ensures within { (k : List ℕ) → IsIn range.new k → IsIn range.old k }
-    ensures keeps { (v : AnyValue) (n : ℕ) → IsPair kind v n → holds comparison.now.op v (literal comparison.now.literal) ≡ true →
-        IsIn range.old (key_bytes v n) → IsIn range.new (key_bytes v n) }
-    ensures decides { result ≡ true → (v : AnyValue) (n : ℕ) → IsPair kind v n → IsIn range.new (key_bytes v n) →
-        holds comparison.now.op v (literal comparison.now.literal) ≡ true }
-{
-    narrow_by(range, comparison, kind, bytes, &NUMBER_FIRST, &NUMBER_AFTER)
-}
-
-/// The same by the number that the literal spells, if a value of the kind is this number; elsewhere the range stays.
+/// The same by the number that the literal spells, if a value of the kind is this number; else the range stays.
 fn narrow_by_number(
     range: &mut Range,
     comparison: &Comparison,

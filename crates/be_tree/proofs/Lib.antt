@@ -1,5 +1,6 @@
 pub mod Codec
 pub mod Words
+pub mod Padded
 mod Branches
 mod Straddling
 pub mod Slots

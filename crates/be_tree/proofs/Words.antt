@@ -221,3 +221,11 @@ module _ (w : ℕ → ℕ) (at : ℕ) (k : List ℕ) where
       either : (c ≡ key_len w at) ⊎ (c ≡ length k) → (c ≡ length (item_at w at).key) ⊎ (c ≡ length k)
       either (inl e) = inl (e ∙ sym (item_key_length w at))
       either (inr e) = inr e
+
+-- the first word of a long key
+pub first_bytes : (w : ℕ → ℕ) (at : ℕ) → 8 ≤ key_len w at → to_be_bytes w64 (w (at + 1)) ≡ map (λ j. get_or (item_at w at).key j 0) (range_with_len 0 8)
+first_bytes w at long =
+    let e : at + 1 + 0 ≡ at + 1 = omega arith in
+    sym (sym (take_drop_range (item_at w at).key 0 8 (omega (arith, item_key_length w at, long)))
+    ∙ mine_is w at [] 0 8 (omega arith) (omega (arith, long))
+    ∙ ap (λ (n : ℕ). take 8 (to_be_bytes w64 (w n))) e)

@@ -110,7 +110,7 @@ fn steps<L: Look>(look: &mut L, root: u64, count: u64) -> bool
     cursor.next_key(look).is_none()
 }
 
-// A hundred pairs stand in two levels: some thirty words a look-up, one word a step and the pair's own.
+// A hundred pairs stand in two levels: some forty words a look-up, one word a step and the pair's own.
 #[test]
 fn counting_look(rt: HostRuntime) -> Result<(), Fail> {
     let mut room = room_of(rt.alloc(), 64)?;
@@ -121,10 +121,10 @@ fn counting_look(rt: HostRuntime) -> Result<(), Fail> {
     };
     assert!(rt; finds(&mut look, root, 100));
     let found = look.reads;
-    assert!(rt; found < 201 * 40);
+    assert!(rt; found < 201 * 50);
     assert!(rt; ranges(&mut look, root, 100));
     let ranged = look.reads;
-    assert!(rt; ranged < found + 101 * 40);
+    assert!(rt; ranged < found + 101 * 50);
     assert!(rt; steps(&mut look, root, 100));
     assert!(rt; look.reads < ranged + 101 * 8);
     let mut room = look.look;

@@ -60,7 +60,7 @@ impl Cursor {
     }
 
     /// Brings the cursor before the least pair of a tree whose key is at or after `from`; with `after` set, strictly after it.
-    /// It costs one descent, with a binary search in each page.
+    /// It costs one descent.
     pub fn seek<L: Look>(&mut self, look: &mut L, root: u64, from: &[u8], after: bool)
         requires tree { IsTree (L.standing look.old) (L.words look.old) root }
         ensures cursor { IsCursor (L.standing look.old) (L.words look.old) self.new }

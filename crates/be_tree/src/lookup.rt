@@ -1,16 +1,19 @@
 //! Look-ups of a key.
 //!
-//! Each level of the tree halves what is left by a binary search in one page. Items are compared with the key where they
-//! stand, so nothing is unpacked on the way.
-ghost use Rattle.std.specs.Prelude.{◌≡◌, ◌+◌, ◌-◌, ◌<◌, ◌≤◌, length, option_map, is_some, IfNone, IfSome, None, Some};
+//! On each level the items of one page are asked one after the other, where they stand, up to the first whose key is
+//! greater. A page has 12 at most, mostly their first words decide, and a processor reads ahead along them, while the steps
+//! of a binary search wait for each other.
+ghost use Rattle.std.specs.Prelude.{◌≡◌, ◌+◌, ◌-◌, ◌<◌, ◌≤◌, length, map, slice_index, option_map, is_some, IfNone, IfSome, None, Some};
 ghost use Rattle.std.specs.Prelude.{IsTrue};
-ghost use Rattle.std.specs.Ordering.{is_eq};
+ghost use Rattle.std.specs.Int.{to_be_bytes, w64};
+ghost use Rattle.std.specs.List.{range_with_len};
+ghost use Rattle.std.specs.Ordering.{is_eq, is_gt};
 ghost use Rattle.be_pages.specs.Pages.{IsUnchanged, is_readable};
 ghost use Rattle.be_tree.specs.Page.{IsItem, IsPage, item_at, items_of};
 ghost use Rattle.be_tree.specs.Key.{IsRank, key_cmp, payload_at};
 ghost use Rattle.be_tree.specs.Tree.{IsTree, pairs};
 
-use crate::page::{child_at, cmp_at, cmp_with, tail_of};
+use crate::page::{child_at, cmp_at, word_from};
 use crate::walk::load_payload;
 use arrayvec::ArrayVec;
 use be_pages::Look;
@@ -73,22 +76,38 @@ pub fn is_key_at<L: Look>(look: &mut L, page: u64, at: usize, key: &[u8]) -> boo
     cmp_at(look, page, at, key).is_eq()
 }
 
-/// How many of a page's items have keys that are not greater than a key.
+/// How many of a page's items have keys that are not greater than a key. Of most items it reads two words.
 pub(crate) fn rank<L: Look>(look: &mut L, page: u64, key: &[u8]) -> usize
     requires readable { IsTrue (is_readable (L.standing look.old page)) }
     requires page { IsPage (L.words look.old page) }
     ensures rank { IsRank key.now (items_of (L.words look.old page)) result }
     ensures unchanged { IsUnchanged L.kept L.standing L.words look.old look.new }
 {
-    let tail = tail_of(key);
-    let mut low = 0;
-    let mut high = look.word(page, 1) as usize;
-    while low < high {
-        let middle = low + (high - low) / 2;
-        match cmp_with(look, page, 2 + 42 * middle, key, tail) {
-            Ordering::Greater => high = middle,
-            Ordering::Less | Ordering::Equal => low = middle + 1,
+    let first = word_from(key, 0);
+    let count = look.word(page, 1) as usize;
+    for at in 0..count {
+        if is_above(look, page, 2 + 42 * at, key, first) {
+            return at;
         }
     }
-    low
+    count
+}
+
+/// Whether the key of the item at a place is greater than a key whose first word is at hand.
+fn is_above<L: Look>(look: &mut L, page: u64, at: usize, key: &[u8], first: u64) -> bool
+    requires readable { IsTrue (is_readable (L.standing look.old page)) }
+    requires in_page { at + 42 ≤ 512 }
+    requires item { IsItem (L.words look.old page) at }
+    requires first { to_be_bytes w64 first ≡ map (λ k. slice_index key.now k) (range_with_len 0 8) }
+    ensures above { result ≡ is_gt (key_cmp (item_at (L.words look.old page) at).key key.now) }
+    ensures unchanged { IsUnchanged L.kept L.standing L.words look.old look.new }
+{
+    let len = look.word(page, at) >> 32;
+    if len >= 8 {
+        let mine = look.word(page, at + 1);
+        if mine != first {
+            return mine.cmp(&first).is_gt();
+        }
+    }
+    cmp_at(look, page, at, key).is_gt()
 }

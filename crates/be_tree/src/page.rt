@@ -9,7 +9,7 @@ ghost use Rattle.be_tree.specs.Page.{place_of};
 ghost use Rattle.std.specs.Prelude.{◌^◌, ◌⊎◌};
 ghost use Rattle.be_tree.specs.declared.slot.Slot.TheVariants.{At};
 ghost use Rattle.be_tree.specs.Slot.{IsBeside, IsReady, branch_to, pair_of, pairs_of};
-ghost use Rattle.be_tree.specs.Key.{HasTail, key_cmp};
+ghost use Rattle.be_tree.specs.Key.{key_cmp};
 ghost use Rattle.be_tree.specs.Tree.{child};
 
 use crate::item::Item;
@@ -63,24 +63,6 @@ pub(crate) fn cmp_at<L: Look>(look: &mut L, page: u64, at: usize, key: &[u8]) ->
     ensures order { result ≡ key_cmp (item_at (L.words look.old page) at).key key.now }
     ensures unchanged { IsUnchanged L.kept L.standing L.words look.old look.new }
 {
-    cmp_with(look, page, at, key, tail_of(key))
-}
-
-/// The same with the word in which the key ends at hand, for one key and many items.
-pub(crate) fn cmp_with<L: Look>(
-    look: &mut L,
-    page: u64,
-    at: usize,
-    key: &[u8],
-    tail: u64,
-) -> Ordering
-    requires readable { IsTrue (is_readable (L.standing look.old page)) }
-    requires in_page { at + 42 ≤ 512 }
-    requires item { IsItem (L.words look.old page) at }
-    requires tail { HasTail tail key.now }
-    ensures order { result ≡ key_cmp (item_at (L.words look.old page) at).key key.now }
-    ensures unchanged { IsUnchanged L.kept L.standing L.words look.old look.new }
-{
     let len = (look.word(page, at) >> 32) as usize;
     let common = least_of(len, key.len());
     for i in 0..common / 8 {
@@ -95,7 +77,7 @@ pub(crate) fn cmp_with<L: Look>(
         return len.cmp(&key.len());
     }
     let mine = look.word(page, at + 1 + common / 8);
-    let other = word_of(key, tail, common / 8);
+    let other = word_from(key, 8 * (common / 8));
     let shift = 64 - 8 * rest;
     let mine_first = mine >> shift;
     let other_first = other >> shift;
@@ -103,29 +85,6 @@ pub(crate) fn cmp_with<L: Look>(
         return mine_first.cmp(&other_first);
     }
     len.cmp(&key.len())
-}
-
-/// The word in which a key ends, with zeros past its end. A key of whole words has none: 0.
-pub(crate) fn tail_of(key: &[u8]) -> u64
-    ensures { HasTail result key.now }
-{
-    if key.len() % 8 == 0 {
-        return 0;
-    }
-    word_from(key, 8 * (key.len() / 8))
-}
-
-/// The word of a key at a number, where the one in which it ends is at hand.
-fn word_of(key: &[u8], tail: u64, i: usize) -> u64
-    requires in_key { 8 * i < length key.now }
-    requires tail { HasTail tail key.now }
-    ensures { to_be_bytes w64 result ≡ map (λ k. slice_index key.now k) (range_with_len (8 * i) 8) }
-{
-    if i < key.len() / 8 {
-        whole_word(key, 8 * i)
-    } else {
-        tail
-    }
 }
 
 /// The lesser of two numbers.
@@ -200,8 +159,8 @@ fn whole_word(bytes: &[u8], from: usize) -> u64
 }
 
 /// The eight bytes from a place on, as a word, with zeros past the end.
-fn word_from(bytes: &[u8], from: usize) -> u64
-    requires { from ≤ length bytes.now }
+pub(crate) fn word_from(bytes: &[u8], from: usize) -> u64
+    requires { from ≤ 328 }
     ensures { to_be_bytes w64 result ≡ map (λ k. slice_index bytes.now k) (range_with_len from 8) }
 {
     if from + 8 <= bytes.len() {

@@ -2,7 +2,7 @@
 //!
 //! A tree is a sorted list of pairs, so what stands at or after a key is a tail of the list, and its first pair is the
 //! least. One descent finds where that tail begins: at each inner page it takes the last branch whose key isn't above the
-//! key that is sought, and in the leaf a binary search ends it.
+//! key that is sought, and in the leaf the search ends.
 ghost use Rattle.std.specs.Prelude.{◌≡◌, [], ◌+◌, ◌≤◌, IsTrue, option_map};
 ghost use Rattle.be_pages.specs.Pages.{IsUnchanged, is_readable};
 ghost use Rattle.be_tree.specs.Page.{IsItem, item_at};

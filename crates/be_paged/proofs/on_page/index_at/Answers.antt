@@ -1,6 +1,6 @@
-use Rattle.std.proofs.Common.{◌≡◌, ℕ, [], ◌+◌, ◌*◌, ◌≤◌, get_or, ap, subst, sym, ◌∙◌, arith}
+use Rattle.std.proofs.Common.{◌≡◌, ℕ, [], ◌+◌, ◌*◌, ◌≤◌, ap, subst, sym, ◌∙◌, arith}
 use Rattle.be_paged.specs.Entry.{Entry}
-use Rattle.be_paged.specs.Page.{contents_of, entry_at, kind_numbered, place_of}
+use Rattle.be_paged.specs.Page.{entry_at, kind_numbered, place_of}
 use Rattle.be_paged.proofs.PageIndices.{at_place}
 use Rattle.be_paged.proofs.on_page.index_at.Goals as goal
 

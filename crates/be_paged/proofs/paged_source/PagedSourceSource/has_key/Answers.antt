@@ -1,4 +1,4 @@
-use Rattle.std.proofs.Common.{ℕ, [], get_or, ap, sym, ◌∙◌, subst, is_some}
+use Rattle.std.proofs.Common.{ℕ, [], ap, sym, ◌∙◌, subst, is_some}
 use Rattle.be_tree.specs.Key.{payload_at}
 use Rattle.be_tree.specs.Tree.{IsTree, pairs}
 use Rattle.be_value.specs.declared.values.Kind.TheVariants as kinds

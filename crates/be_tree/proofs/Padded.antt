@@ -1,4 +1,4 @@
--- Names compared by words that hold zeros behind them: the first word that differs decides, and else the lengths.
+-- Bytes compared by words that hold zeros behind them: the first word that differs decides, and else the lengths.
 use Rattle.std.proofs.Common.{◌≡◌, ℕ, zero, suc, ◌+◌, ◌-◌, ◌*◌, ◌/◌, ◌^◌, ◌<◌, ◌≤◌, ◌⊎◌, List, [], ◌∷◌, ◌++◌, length, map, drop, get_or, ap, sym, ◌∙◌, refl, inl, inr, arith}
 use Rattle.std.specs.declared.cmp.Ordering.{Ordering}
 use Rattle.std.specs.declared.cmp.Ordering.TheVariants.{Less, Equal, Greater}
@@ -10,8 +10,9 @@ use Rattle.std.proofs.Math.Nat.{div-one}
 use Rattle.std.proofs.lemmas.Bool.{cases_lt}
 use Rattle.std.proofs.lemmas.List.{drop-drop}
 use Rattle.be_tree.proofs.Codec.{map_range_append}
-use Rattle.be_tree.proofs.Words.{part_cmp, less_cmp, more_cmp, same_cmp, cmp_suc, then_other, then_same}
-use Rattle.be_volume.specs.Maps.{name_cmp}
+use Rattle.be_tree.proofs.Words.{first_bytes, part_cmp, less_cmp, more_cmp, same_cmp, cmp_suc, then_other, then_same}
+use Rattle.be_tree.specs.Key.{key_cmp}
+use Rattle.be_tree.specs.Page.{item_at, key_len}
 
 -- the bytes from a place on, with zeros past the end
 abbrev pub padded : List ℕ → (from n : ℕ) → List ℕ
@@ -72,10 +73,10 @@ pad_cmp (suc n) (x ∷ xs) (y ∷ ys) le =
     ∙ ap (λ (o : Ordering). ordering_then (nat_cmp x y) (ordering_then rest o)) (cmp_suc (length xs) (length ys))
     ∙ then_then (nat_cmp x y) rest (nat_cmp (suc (length xs)) (suc (length ys)))
 
--- two names whose words before number j are the same: what stands from there on decides, in as many words as hold the second name and a zero
+-- two lists whose words before number j are the same: what stands from there on decides, in as many words as hold the second list and a zero
 abbrev pub AreAlike : (xs ys : List ℕ) (j : ℕ) → Type 0
 AreAlike xs ys j =
-    name_cmp xs ys ≡ ordering_then (slice_cmp nat_cmp (padded xs (8 * j) (8 * (length ys / 8 + 1 - j))) (padded ys (8 * j) (8 * (length ys / 8 + 1 - j)))) (nat_cmp (length xs) (length ys))
+    slice_cmp nat_cmp xs ys ≡ ordering_then (slice_cmp nat_cmp (padded xs (8 * j) (8 * (length ys / 8 + 1 - j))) (padded ys (8 * j) (8 * (length ys / 8 + 1 - j)))) (nat_cmp (length xs) (length ys))
 
 pub alike_first : (xs ys : List ℕ) → AreAlike xs ys 0
 alike_first xs ys =
@@ -84,7 +85,7 @@ alike_first xs ys =
     ∙ ap (λ (us : List ℕ). ordering_then (slice_cmp nat_cmp us (pad n ys)) (nat_cmp (length xs) (length ys))) (sym (is_pad xs 0 n))
     ∙ ap (λ (vs : List ℕ). ordering_then (slice_cmp nat_cmp (padded xs 0 n) vs) (nat_cmp (length xs) (length ys))) (sym (is_pad ys 0 n))
 
-pub alike_end : (xs ys : List ℕ) (j : ℕ) → length ys / 8 + 1 ≤ j → AreAlike xs ys j → name_cmp xs ys ≡ nat_cmp (length xs) (length ys)
+pub alike_end : (xs ys : List ℕ) (j : ℕ) → length ys / 8 + 1 ≤ j → AreAlike xs ys j → slice_cmp nat_cmp xs ys ≡ nat_cmp (length xs) (length ys)
 alike_end xs ys j end so_far =
     let none : 8 * (length ys / 8 + 1 - j) ≡ 0 = omega (arith, end) in
     so_far ∙ ap (λ (n : ℕ). ordering_then (slice_cmp nat_cmp (padded xs (8 * j) n) (padded ys (8 * j) n)) (nat_cmp (length xs) (length ys))) none
@@ -107,7 +108,7 @@ module _ (xs ys : List ℕ) (j a b : ℕ) (lt : j < length ys / 8 + 1) (la : a <
   abbrev rest : Ordering
   rest = slice_cmp nat_cmp (padded xs (8 * (j + 1)) (8 * m)) (padded ys (8 * (j + 1)) (8 * m))
 
-  by_word : name_cmp xs ys ≡ ordering_then (ordering_then (nat_cmp a b) rest) (nat_cmp (length xs) (length ys))
+  by_word : slice_cmp nat_cmp xs ys ≡ ordering_then (ordering_then (nat_cmp a b) rest) (nat_cmp (length xs) (length ys))
   by_word =
       so_far
       ∙ ap (λ (o : Ordering). ordering_then o (nat_cmp (length xs) (length ys)))
@@ -124,6 +125,14 @@ module _ (xs ys : List ℕ) (j a b : ℕ) (lt : j < length ys / 8 + 1) (la : a <
   pub alike_next : a ≡ b → AreAlike xs ys (j + 1)
   alike_next e = by_word ∙ ap (λ (o : Ordering). ordering_then o (nat_cmp (length xs) (length ys))) (then_same a b rest e)
 
-  pub alike_differ : (a ≡ b → ⊥) → name_cmp xs ys ≡ nat_cmp a b
+  pub alike_differ : (a ≡ b → ⊥) → slice_cmp nat_cmp xs ys ≡ nat_cmp a b
   alike_differ ne =
       by_word ∙ ap (λ (o : Ordering). ordering_then o (nat_cmp (length xs) (length ys))) (then_other a b rest ne) ∙ then_other a b (nat_cmp (length xs) (length ys)) ne
+
+-- the first words of an item's key and of a key decide where they differ
+pub key_differs : (w : ℕ → ℕ) (at : ℕ) (k : List ℕ) (mine first : ℕ) → 8 ≤ key_len w at → mine ≡ w (at + 1) → mine < 2 ^ 64 → first < 2 ^ 64 → to_be_bytes w64 first ≡ padded k 0 8
+    → (mine ≡ first → ⊥) → key_cmp (item_at w at).key k ≡ nat_cmp mine first
+unfolding key_cmp
+key_differs w at k mine first long is lm lf bytes ne =
+    let xs = (item_at w at).key in
+    alike_differ xs k 0 mine first (omega arith) lm lf (ap (to_be_bytes w64) is ∙ first_bytes w at long) bytes (alike_first xs k) ne

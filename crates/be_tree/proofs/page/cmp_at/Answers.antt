@@ -3,9 +3,9 @@ use Rattle.std.specs.Ordering.{nat_cmp, ordering_then}
 use Rattle.be_tree.specs.Key.{key_cmp}
 use Rattle.be_tree.specs.Page.{item_at, key_len}
 use Rattle.be_tree.proofs.Words.{next_word, last_word, at_end, then_same, then_other}
-use Rattle.be_tree.proofs.page.cmp_with.Given.{Over}
-use Rattle.be_tree.proofs.page.cmp_with.Goals as goal
-use Rattle.be_tree.proofs.page.cmp_with.Goals.{After-whole_word-other, After-word_of-other}
+use Rattle.be_tree.proofs.page.cmp_at.Given.{Over}
+use Rattle.be_tree.proofs.page.cmp_at.Goals as goal
+use Rattle.be_tree.proofs.page.cmp_at.Goals.{After-whole_word-other, After-word_from-other}
 
 next : (g : Over) (c : After-whole_word-other g) → key_cmp (item_at (g.L.Look.words c.args.look.now c.args.page) c.args.at).key c.args.key.now
     ≡ ordering_then (nat_cmp c.word-mine.result c.whole_word-other.result) (key_cmp (drop (8 * (c.loop-i.i + 1)) (item_at (g.L.Look.words c.args.look.now c.args.page) c.args.at).key) (drop (8 * (c.loop-i.i + 1)) c.args.key.now))
@@ -45,8 +45,8 @@ returns-then-rest-eq0-clause-order g c =
     ∙ c.loop-i.invariant.so_far
 
 -- the rest of the shorter key
-rest : (g : Over) (c : After-word_of-other g) → key_cmp (item_at (g.L.Look.words c.args.look.now c.args.page) c.args.at).key c.args.key.now
-    ≡ ordering_then (nat_cmp (c.word-mine-2.result / 2 ^ (64 - 8 * (c.least_of-common.result % 8))) (c.word_of-other.result / 2 ^ (64 - 8 * (c.least_of-common.result % 8)))) (nat_cmp (c.word.result / 2 ^ 32) (length c.args.key.now))
+rest : (g : Over) (c : After-word_from-other g) → key_cmp (item_at (g.L.Look.words c.args.look.now c.args.page) c.args.at).key c.args.key.now
+    ≡ ordering_then (nat_cmp (c.word-mine-2.result / 2 ^ (64 - 8 * (c.least_of-common.result % 8))) (c.word_from-other.result / 2 ^ (64 - 8 * (c.least_of-common.result % 8)))) (nat_cmp (c.word.result / 2 ^ 32) (length c.args.key.now))
 rest g c =
     let words = g.L.Look.words c.args.look.now in
     let common = c.least_of-common.result in
@@ -55,19 +55,22 @@ rest g c =
     let all : 8 * (common / 8) + common % 8 ≡ common = omega arith in
     let so_far = subst (λ (n : ℕ). key_cmp (drop (8 * n) (item_at (words c.args.page) c.args.at).key) (drop (8 * n) c.args.key.now) ≡ key_cmp (item_at (words c.args.page) c.args.at).key c.args.key.now) i c.loop-i.invariant.so_far in
     sym so_far
-    ∙ last_word (words c.args.page) c.args.at c.args.key.now (common / 8) (common % 8) c.word-mine-2.result c.word_of-other.result
-    (c.word-mine-2.ensures.value ∙ ap (λ (w : ℕ → ℕ → ℕ). w c.args.page (c.args.at + 1 + common / 8)) c.loop-i.invariant.unchanged.words) (omega arith) (omega arith) c.word_of-other.ensures
+    ∙ last_word (words c.args.page) c.args.at c.args.key.now (common / 8) (common % 8) c.word-mine-2.result c.word_from-other.result
+    (c.word-mine-2.ensures.value ∙ ap (λ (w : ℕ → ℕ → ℕ). w c.args.page (c.args.at + 1 + common / 8)) c.loop-i.invariant.unchanged.words) (omega arith) (omega arith) c.word_from-other.ensures
     (omega arith) (omega (arith, k, c.least_of-common.ensures.at_most)) (omega (arith, c.least_of-common.ensures.at_most))
-    ∙ ap (λ o. ordering_then (nat_cmp (c.word-mine-2.result / 2 ^ (64 - 8 * (common % 8))) (c.word_of-other.result / 2 ^ (64 - 8 * (common % 8)))) o)
+    ∙ ap (λ o. ordering_then (nat_cmp (c.word-mine-2.result / 2 ^ (64 - 8 * (common % 8))) (c.word_from-other.result / 2 ^ (64 - 8 * (common % 8)))) o)
     (ap (λ (n : ℕ). key_cmp (drop n (item_at (words c.args.page) c.args.at).key) (drop n c.args.key.now)) all
     ∙ at_end (words c.args.page) c.args.at c.args.key.now common (omega (arith, k, c.least_of-common.ensures.at_most)) (omega (arith, c.least_of-common.ensures.at_most)) (either_is refl k c.least_of-common.ensures.one)
     ∙ ap (λ (n : ℕ). nat_cmp n (length c.args.key.now)) (sym k))
 
-pub word_of-other-requires-clause-in_key : goal.word_of-other-requires-clause-in_key
-word_of-other-requires-clause-in_key g c = omega (arith, c.least_of-common.ensures.at_most, c.if-rest-eq0.false)
+-- a word of the key begins within it
+pub word_from-other-requires : goal.word_from-other-requires
+word_from-other-requires g c =
+    let k : c.word.result / 2 ^ 32 ≡ key_len (g.L.Look.words c.args.look.now c.args.page) c.args.at = ap (λ (h : ℕ). h / 2 ^ 32) c.word.ensures.value in
+    omega (arith, k, c.least_of-common.ensures.at_most, c.requires.item.key_fits)
 
 pub returns-then-mine_first-other_first-clause-order : goal.returns-then-mine_first-other_first-clause-order
-returns-then-mine_first-other_first-clause-order g c = c.cmp-then-mine_first-other_first.ensures ∙ sym (rest g (goal.at.returns-then-mine_first-other_first-clause-order g c).After-word_of-other ∙ then_other _ _ _ c.if-mine_first-other_first.true)
+returns-then-mine_first-other_first-clause-order g c = c.cmp-then-mine_first-other_first.ensures ∙ sym (rest g (goal.at.returns-then-mine_first-other_first-clause-order g c).After-word_from-other ∙ then_other _ _ _ c.if-mine_first-other_first.true)
 
 pub returns-clause-order : goal.returns-clause-order
-returns-clause-order g c = c.cmp-2.ensures ∙ sym (rest g (goal.at.returns-clause-order g c).After-word_of-other ∙ then_same _ _ _ c.if-mine_first-other_first.false)
+returns-clause-order g c = c.cmp-2.ensures ∙ sym (rest g (goal.at.returns-clause-order g c).After-word_from-other ∙ then_same _ _ _ c.if-mine_first-other_first.false)
