@@ -1,5 +1,10 @@
 pub mod CoverLemmas
-pub mod OnlyPass
+pub mod JoinLemmas
+pub mod OwnLemmas
+pub mod PartLemmas
+pub mod PassLemmas
+pub mod RaceLemmas
+pub mod ReplyLemmas
 pub mod RunLemmas
 pub mod StoreLemmas
 pub mod ValueLemmas

@@ -13,7 +13,8 @@ use Rattle.be_script.specs.declared.faults.RunFault.TheVariants.{Limits, Read, T
 use Rattle.be_script.specs.Store.{Store}
 use Rattle.be_script.specs.Request.{Request, silent, malformed, write, query, explain, get, attrs, indices, pin, unpin, live, refresh, begin, commit, abort, asked, lines_of}
 use Rattle.be_script.specs.Reply.{Reply, none, refused, text_of}
-use Rattle.be_script.specs.Output.{Session, Replies, Answered, Outputs, IsOutputFrom, IsFrontOfOutput, unwritten, opening, pinning}
+use Rattle.be_script.specs.Output.{Session, Replies, Serves, Answered, Outputs, IsOutputTo, IsOutputFrom, IsFrontOfOutput, unwritten, opening, pinning}
+use Rattle.be_script.proofs.ReplyLemmas.{serves_at_once}
 use Rattle.be_script.specs.Run.{Wrote, IsFrontOf, IsFrontOfAnswer, Completes, Leaves, ReadFault, ReadsAll, IsLate, IsOther, is_line_end}
 
 append_nothing : {A : Type 0} (xs : List A) → xs ++ [] ≡ xs
@@ -92,16 +93,16 @@ some_text s line = text_of (some_reply s (asked line)).0
 
 -- some text answers a line
 some_answer : (s : Session) (line : List ℕ) → Answered s line (after_some s line) (some_text s line)
-some_answer s line = ((some_reply s (asked line)).0, may_reply s (asked line), refl)
+some_answer s line = ((some_reply s (asked line)).0, serves_at_once s (after_some s line) (asked line) (some_reply s (asked line)).0 (may_reply s (asked line)), refl)
 
--- some text is an output of any lines
-some_output : (s : Session) (lines : List (List ℕ)) → (out : List ℕ) × Outputs s lines out
-some_output s [] = ([], refl)
+-- some text is an output of any lines, and some session is left
+some_output : (s : Session) (lines : List (List ℕ)) → (last : Session) × (out : List ℕ) × Outputs s lines last out
+some_output s [] = (s, [], (refl, refl))
 some_output s (line ∷ lines) =
     let after = after_some s line in
     let next = some_output after lines in
     let text = some_text s line in
-    (text ++ next.0, (after, text, next.0, some_answer s line, next.1, refl))
+    (next.0, text ++ next.1, (after, text, next.1, some_answer s line, next.2, refl))
 
 -- a line more is answered
 pub advance : (store : Store) (script left line left' : List ℕ) (s s' : Session) (old mid new : Option (List ℕ)) → lines_of left ≡ line ∷ lines_of left' →
@@ -109,17 +110,17 @@ pub advance : (store : Store) (script left line left' : List ℕ) (s s' : Sessio
 advance store script left line left' s s' old mid new e w r = record {
   out = w.out ++ r.out;
   appended = written_both old mid new w.out r.out w.appended r.appended;
-  is = λ more outputs. subst (IsOutputFrom store script) (sym (append_assoc w.out r.out more))
-      (w.is (r.out ++ more) (subst (λ (lines : List (List ℕ)). Outputs s lines (r.out ++ more)) (sym e) (s', r.out, more, r.is, outputs, refl)));
+  is = λ last more outputs. subst (Outputs (opening store) (lines_of script) last) (sym (append_assoc w.out r.out more))
+      (w.is last (r.out ++ more) (subst (λ (lines : List (List ℕ)). Outputs s lines last (r.out ++ more)) (sym e) (s', r.out, more, r.is, outputs, refl)));
 }
 
 -- the last line is answered
 pub finish : (store : Store) (script left : List ℕ) (s s' : Session) (old mid new : Option (List ℕ)) → lines_of left ≡ left ∷ [] →
-    Wrote old mid (Completes store script s left) → Wrote mid new (Answered s left s') → Wrote old new (IsOutputFrom store script)
+    Wrote old mid (Completes store script s left) → Wrote mid new (Answered s left s') → Wrote old new (IsOutputTo store script s'.store)
 finish store script left s s' old mid new e w r = record {
   out = w.out ++ r.out;
   appended = written_both old mid new w.out r.out w.appended r.appended;
-  is = w.is r.out (subst (λ (lines : List (List ℕ)). Outputs s lines r.out) (sym e) (s', r.out, [], r.is, refl, sym (append_nothing r.out)));
+  is = (s', w.is s' r.out (subst (λ (lines : List (List ℕ)). Outputs s lines s' r.out) (sym e) (s', r.out, [], r.is, (refl, refl), sym (append_nothing r.out))), refl);
 }
 
 -- a fault in the middle of a reply
@@ -127,42 +128,43 @@ pub stop : (store : Store) (script left line : List ℕ) (lines : List (List ℕ
     Wrote old mid (Completes store script s left) → Wrote mid new (IsFrontOfAnswer s line) → Wrote old new (IsFrontOfOutput store script)
 stop store script left line lines s old mid new e w r =
     let next = some_output r.is.0 lines in
+    let rest = r.is.1 ++ next.1 in
+    let whole : Outputs s (line ∷ lines) next.0 ((r.out ++ r.is.1) ++ next.1) = (r.is.0, r.out ++ r.is.1, next.1, r.is.2, next.2, refl) in
+    let output : Outputs (opening store) (lines_of script) next.0 (w.out ++ (r.out ++ rest)) =
+    w.is next.0 (r.out ++ rest) (subst (λ (ls : List (List ℕ)). Outputs s ls next.0 (r.out ++ rest)) (sym e)
+    (subst (Outputs s (line ∷ lines) next.0) (append_assoc r.out r.is.1 next.1) whole)) in
     record {
       out = w.out ++ r.out;
       appended = written_both old mid new w.out r.out w.appended r.appended;
-      is = (
-        r.is.1 ++ next.0,
-        subst (IsOutputFrom store script) (sym (append_assoc w.out r.out (r.is.1 ++ next.0)))
-            (subst (λ (z : List ℕ). IsOutputFrom store script (w.out ++ z)) (append_assoc r.out r.is.1 next.0)
-            (w.is ((r.out ++ r.is.1) ++ next.0) (subst (λ (ls : List (List ℕ)). Outputs s ls ((r.out ++ r.is.1) ++ next.0)) (sym e)
-            (r.is.0, r.out ++ r.is.1, next.0, r.is.2, next.1, refl)))),
-      );
+      is = (rest, (next.0.store, (next.0, subst (Outputs (opening store) (lines_of script) next.0) (sym (append_assoc w.out r.out rest)) output, refl)));
     }
 
 -- a script of which nothing was answered
 pub none_answered : (store : Store) (script : List ℕ) (known : Option (List ℕ)) → Wrote known known (IsFrontOfOutput store script)
-none_answered store script known = record { out = []; appended = none_written known; is = some_output (opening store) (lines_of script) }
+none_answered store script known =
+    let some = some_output (opening store) (lines_of script) in
+    record { out = []; appended = none_written known; is = (some.1, (some.0.store, (some.0, some.2, refl))) }
 
 -- a line that was not run
 pub none_of_line : (s : Session) (line : List ℕ) (known : Option (List ℕ)) → Wrote known known (IsFrontOfAnswer s line)
 none_of_line s line known = record { out = []; appended = none_written known; is = (after_some s line, some_text s line, some_answer s line) }
 
 -- a reply of which nothing was written
-pub none_of_reply : (s s' : Session) (line : List ℕ) (request : Request) (reply : Reply) (known : Option (List ℕ)) → request ≡ asked line → Replies s request reply s' →
+pub none_of_reply : (s s' : Session) (line : List ℕ) (request : Request) (reply : Reply) (known : Option (List ℕ)) → request ≡ asked line → Serves s request reply s' →
     Wrote known known (IsFrontOfAnswer s line)
 none_of_reply s s' line request reply known e r = record {
   out = [];
   appended = none_written known;
-  is = (s', text_of reply, (reply, subst (λ (q : Request). Replies s q reply s') e r, refl));
+  is = (s', text_of reply, (reply, subst (λ (q : Request). Serves s q reply s') e r, refl));
 }
 
 -- a front of a reply's text was written
-pub front_of_reply : (s s' : Session) (line text : List ℕ) (request : Request) (reply : Reply) (old new : Option (List ℕ)) → request ≡ asked line → Replies s request reply s' →
+pub front_of_reply : (s s' : Session) (line text : List ℕ) (request : Request) (reply : Reply) (old new : Option (List ℕ)) → request ≡ asked line → Serves s request reply s' →
     text ≡ text_of reply → Wrote old new (IsFrontOf text) → Wrote old new (IsFrontOfAnswer s line)
 front_of_reply s s' line text request reply old new e r t w = record {
   out = w.out;
   appended = w.appended;
-  is = (s', w.is.0, (reply, subst (λ (q : Request). Replies s q reply s') e r, sym w.is.1 ∙ t));
+  is = (s', w.is.0, (reply, subst (λ (q : Request). Serves s q reply s') e r, sym w.is.1 ∙ t));
 }
 
 -- a script of which nothing was answered yet
@@ -170,7 +172,7 @@ pub nothing_yet : (store : Store) (script : List ℕ) (s : Session) (known : Opt
 nothing_yet store script s known e = record {
   out = [];
   appended = none_written known;
-  is = λ more outputs. subst (λ (z : Session). Outputs z (lines_of script) more) e outputs;
+  is = λ last more outputs. subst (λ (z : Session). Outputs z (lines_of script) last more) e outputs;
 }
 
 pub on_ok : {T E P Q : Type 0} (r : Result T E) → (P → Q) → OnOk r P → OnOk r Q
@@ -219,9 +221,10 @@ left_late TooLong store input left old new bytes l h w = absurd l
 left_late Write store input left old new bytes l h w = all_read input left bytes (λ script. Wrote old new (IsFrontOfOutput store script)) h w
 left_late Memory store input left old new bytes l h w = all_read input left bytes (λ script. Wrote old new (IsFrontOfOutput store script)) h w
 
-pub whole_output : (store : Store) (input left old new : Option (List ℕ)) (bytes : List ℕ) → ReadsAll input left bytes → Wrote old new (IsOutputFrom store bytes) →
+pub whole_output : (store store' : Store) (input left old new : Option (List ℕ)) (bytes : List ℕ) → ReadsAll input left bytes → Wrote old new (IsOutputTo store bytes store') →
     IfSome input (λ script. Wrote old new (IsOutputFrom store script))
-whole_output store input left old new bytes h w = all_read input left bytes (λ script. Wrote old new (IsOutputFrom store script)) h w
+whole_output store store' input left old new bytes h w =
+    all_read input left bytes (λ script. Wrote old new (IsOutputFrom store script)) h (record { out = w.out; appended = w.appended; is = (store', w.is) })
 
 pub late_is_other : (e : RunFault) → IsLate e → IsOther e
 late_is_other Limits h = absurd h

@@ -1,5 +1,7 @@
 pub mod Limits
 pub mod Output
+pub mod Own
+pub mod Race
 pub mod Reply
 pub mod Request
 pub mod Run

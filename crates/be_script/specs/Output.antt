@@ -4,7 +4,7 @@ use Rattle.std.specs.declared.option.Option.{Option}
 use Rattle.std.specs.declared.result.Result.{Result}
 use Rattle.std.specs.declared.result.Result.TheVariants.{Ok, Err}
 use Rattle.be_value.specs.declared.refusals.Refusal.{Refusal}
-use Rattle.be_value.specs.declared.refusals.Refusal.TheVariants.{OutOfMemory, Full}
+use Rattle.be_value.specs.declared.refusals.Refusal.TheVariants.{Busy, OutOfMemory, Full}
 use Rattle.be_query.specs.Faults.{fault}
 use Rattle.be_query.specs.Grammar.{Formula, Spells}
 use Rattle.be_query.specs.Lexing.{tokens}
@@ -19,7 +19,7 @@ use Rattle.be_volume.specs.declared.ops.Done.TheVariants.{Node, Unit as Nothing}
 use Rattle.be_volume.specs.declared.ops.Op.{Op}
 use Rattle.be_script.specs.Reply.{Reply, none, bad_line, ok, node, nodes, value, attributes, kinds, cover, pinned_at, already_pinned, not_pinned, updates, no_live_query, queued, full_batch, empty_batch, already_begun, not_begun, committed, refused, text_of}
 use Rattle.be_script.specs.Request.{Request, silent, malformed, write, query, explain, get, attrs, indices, pin, unpin, live, refresh, begin, commit, abort, asked, lines_of}
-use Rattle.be_script.specs.Store.{Pin, Store, start, viewed, pinned, unpinned, written}
+use Rattle.be_script.specs.Store.{Pin, Store, Meanwhile, IsOther, start, viewed, pinned, unpinned, written}
 
 -- a script under way: its store, the operations of its batch where one is open, and its live query where it has one
 pub record Session : Type 0 where
@@ -123,7 +123,7 @@ abbrev pub IsQuery : List ℕ → Result Formula Refusal → Type 0
 IsQuery text (Ok f) = (fault text ≡ None) × Spells (tokens text) f
 IsQuery text (Err e) = fault text ≡ Some e
 
--- the session after a refusal for want of memory or of pages: only a commit ends its batch
+-- the session after a line that was answered with a want: only a commit ends its batch
 abbrev pub unwritten : Session → Request → Session
 unwritten s silent = s
 unwritten s malformed = s
@@ -141,16 +141,19 @@ unwritten s begin = s
 unwritten s commit = with_batch s None
 unwritten s abort = s
 
--- the operations that a line writes to the store
-abbrev pub write_of : Session → Option (List Op) → Request → List Op
-write_of s None (write (Ok op)) = op ∷ []
-write_of s (Some ops) commit = ops
-write_of s batch request = []
+-- There was no page for these operations, which should be accepted; or another pass was writing.
+abbrev pub IsHeldUp : Store → List Op → Reply → Type 0
+IsHeldUp store ops reply = ((least : ℕ) × (reply ≡ refused (Full least)) × IsOk (written store ops)) ⊎ ((pass : ℕ) × (reply ≡ refused (Busy pass)) × IsOther store pass)
 
--- There was no memory, or no page for a write that should be accepted; nothing was written.
+-- the same of the operations that a line writes to the store; no other line is held up
+abbrev pub IsHeldUpAt : Session → Option (List Op) → Request → Reply → Type 0
+IsHeldUpAt s None (write (Ok op)) reply = IsHeldUp s.store (op ∷ []) reply
+IsHeldUpAt s (Some (op ∷ ops)) commit reply = IsHeldUp s.store (op ∷ ops) reply
+IsHeldUpAt s batch request reply = ⊥
+
+-- There was no memory, or a write was held up; nothing was written.
 abbrev pub IsWanting : Session → Request → Reply → Session → Type 0
-IsWanting s request reply after = (after ≡ unwritten s request) ×
-    ((reply ≡ refused OutOfMemory) ⊎ ((least : ℕ) × (reply ≡ refused (Full least)) × IsOk (written s.store (write_of s s.batch request))))
+IsWanting s request reply after = (after ≡ unwritten s request) × ((reply ≡ refused OutOfMemory) ⊎ IsHeldUpAt s s.batch request reply)
 
 -- exactly this reply, and this session after it
 abbrev pub Gives : Reply × Session → Reply → Session → Type 0
@@ -183,18 +186,28 @@ Replies s begin reply after = MayReply s begin (beginning s s.batch) reply after
 Replies s commit reply after = MayReply s commit (committing s s.batch) reply after
 Replies s abort reply after = MayReply s abort (aborting s s.batch) reply after
 
+-- A request may get this reply, and leave this session, where the store has other passes: the reply is to the store as they
+-- left it. A store of one pass has no others, and it is then the store as it was.
+abbrev pub Serves : Session → Request → Reply → Session → Type 0
+Serves s request reply after = Meanwhile s.store (λ now. Replies (with_store s now) request reply after)
+
 -- a line may be answered by this text, and leave this session
 abbrev pub Answered : Session → List ℕ → Session → List ℕ → Type 0
-Answered s line after out = (reply : Reply) × Replies s (asked line) reply after × (out ≡ text_of reply)
+Answered s line after out = (reply : Reply) × Serves s (asked line) reply after × (out ≡ text_of reply)
 
--- the lines may be answered by this text, one after the other
-abbrev pub Outputs : Session → List (List ℕ) → List ℕ → Type 0
-Outputs s [] out = out ≡ []
-Outputs s (line ∷ lines) out = (after : Session) × (reply : List ℕ) × (rest : List ℕ) × Answered s line after reply × Outputs after lines rest × (out ≡ reply ++ rest)
+-- the lines may be answered by this text, one after the other, and leave this session
+abbrev pub Outputs : Session → List (List ℕ) → Session → List ℕ → Type 0
+Outputs s [] last out = (last ≡ s) × (out ≡ [])
+Outputs s (line ∷ lines) last out =
+    (after : Session) × (reply : List ℕ) × (rest : List ℕ) × Answered s line after reply × Outputs after lines last rest × (out ≡ reply ++ rest)
+
+-- the text is an output of the script, run from this store on, which is then the new one
+abbrev pub IsOutputTo : Store → List ℕ → Store → List ℕ → Type 0
+IsOutputTo store script new out = (last : Session) × Outputs (opening store) (lines_of script) last out × (last.store ≡ new)
 
 -- the text is an output of the script, run from this store on
 abbrev pub IsOutputFrom : Store → List ℕ → List ℕ → Type 0
-IsOutputFrom store script out = Outputs (opening store) (lines_of script) out
+IsOutputFrom store script out = (new : Store) × IsOutputTo store script new out
 
 -- the text is an output of the script, run from an empty store with this commits limit on
 abbrev pub IsOutput : ℕ → List ℕ → List ℕ → Type 0

@@ -2,7 +2,7 @@
 use Rattle.std.specs.Prelude.{◌==◌, ◌≡◌, ℕ, ◌<◌, ◌^◌, Bool, List, ◌++◌, length, IfSome}
 use Rattle.std.specs.Io.KnownBytes.{Appends, Keeps, Consumes, IsAtEnd}
 use Rattle.std.specs.declared.option.Option.{Option}
-use Rattle.be_script.specs.Output.{Session, Answered, Outputs, IsOutputFrom, IsFrontOfOutput}
+use Rattle.be_script.specs.Output.{Session, opening, Answered, Outputs, IsFrontOfOutput}
 use Rattle.be_script.specs.Request.{lines_of}
 use Rattle.be_script.specs.Store.{Store}
 use Rattle.be_script.specs.declared.faults.RunFault.{RunFault}
@@ -63,4 +63,4 @@ IsOther Memory = Unit {0}
 
 -- what is written, and any output of the lines left, is an output of the script
 abbrev pub Completes : Store → List ℕ → Session → List ℕ → List ℕ → Type 0
-Completes store script s left out = (more : List ℕ) → Outputs s (lines_of left) more → IsOutputFrom store script (out ++ more)
+Completes store script s left out = (last : Session) (more : List ℕ) → Outputs s (lines_of left) last more → Outputs (opening store) (lines_of script) last (out ++ more)

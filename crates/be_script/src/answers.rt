@@ -2,11 +2,12 @@
 //!
 //! A session is what serves the script and what the script has beside it: a batch where one is open, which is the operations
 //! queued for one write, and a live query. A line that is refused or bad leaves both as they were, but a commit ends its
-//! batch, refused or not.
-ghost use Rattle.std.specs.Prelude.{◌≡◌, ◌≤◌, ◌<◌, ◌+◌, ◌^◌, Ok, List, Option, length, vec_len};
+//! batch, refused or not. Where other passes write, a line is answered from the store as they left it: a read leaves that
+//! store, and its reply is said of it.
+ghost use Rattle.std.specs.Prelude.{◌≡◌, ◌≤◌, Ok, List, Option, length, vec_len};
 ghost use Rattle.be_script.specs.Output as spec;
 ghost use Rattle.be_script.specs.Request as requests;
-ghost use Rattle.be_script.specs.Store.{Store};
+ghost use Rattle.be_script.specs.Store.{Store, Joins};
 ghost use Rattle.be_script.specs.View.{request_of, reply_of, session, queued_ops, unbatched, batched, watched};
 ghost use Rattle.be_store.specs.Live.{LiveQuery};
 
@@ -17,7 +18,7 @@ use crate::stores::Server;
 use be_plan::{choose, explain};
 use be_query::parse;
 use be_store::Live;
-use be_value::Refusal;
+use be_value::{Name, Refusal};
 use be_volume::{Done, Op};
 use std::alloc::Global;
 
@@ -58,10 +59,9 @@ fn done_reply(dones: &[Done]) -> Reply
 
 /// Writes one operation.
 fn write<S: Server>(server: &mut S, op: Op) -> Reply
-    requires fits { (S.shows server.old).volume.next + 64 < 2 ^ 64 }
     ensures replies { (live : Option LiveQuery) →
-        spec.Replies (unbatched (S.shows server.old) live) (requests.write (Ok op)) (reply_of result) (unbatched (S.shows server.new) live) }
-    ensures grows { (S.shows server.new).volume.next ≤ (S.shows server.old).volume.next + 64 }
+        spec.Serves (unbatched (S.shows server.old) live) (requests.write (Ok op)) (reply_of result) (unbatched (S.shows server.new) live) }
+    ensures stays { S.kept server.new ≡ S.kept server.old }
 {
     match server.apply(&[op]) {
         Ok((_, dones)) => done_reply(dones.as_slice()),
@@ -87,10 +87,9 @@ fn enqueue(ops: &mut Vec<Op>, op: Op) -> Reply
 
 /// Writes an operation, or queues it where a batch is open.
 fn take<S: Server>(server: &mut S, client: &mut Client, op: Op) -> Reply
-    requires fits { (S.shows server.old).volume.next + 64 < 2 ^ 64 }
     requires few { length (queued_ops client.old) ≤ 64 }
-    ensures replies { spec.Replies (session (S.shows server.old) client.old) (requests.write (Ok op)) (reply_of result) (session (S.shows server.new) client.new) }
-    ensures grows { (S.shows server.new).volume.next ≤ (S.shows server.old).volume.next + 64 }
+    ensures replies { spec.Serves (session (S.shows server.old) client.old) (requests.write (Ok op)) (reply_of result) (session (S.shows server.new) client.new) }
+    ensures stays { S.kept server.new ≡ S.kept server.old }
     ensures few { length (queued_ops client.new) ≤ 64 }
 {
     match &mut client.batch {
@@ -99,12 +98,24 @@ fn take<S: Server>(server: &mut S, client: &mut Client, op: Op) -> Reply
     }
 }
 
+/// Writes or queues the operation of a write line, if the line gives one.
+fn write_line<S: Server>(server: &mut S, client: &mut Client, op: Result<Op, Refusal>) -> Reply
+    requires few { length (queued_ops client.old) ≤ 64 }
+    ensures replies { spec.Serves (session (S.shows server.old) client.old) (requests.write op) (reply_of result) (session (S.shows server.new) client.new) }
+    ensures stays { S.kept server.new ≡ S.kept server.old }
+    ensures few { length (queued_ops client.new) ≤ 64 }
+{
+    match op {
+        Ok(op) => take(server, client, op),
+        Err(refusal) => Reply::Refused(refusal),
+    }
+}
+
 /// Writes the operations of the batch as one. It ends then, refused or not.
 fn commit<S: Server>(server: &mut S, client: &mut Client) -> Reply
-    requires fits { (S.shows server.old).volume.next + 64 < 2 ^ 64 }
     requires few { length (queued_ops client.old) ≤ 64 }
-    ensures replies { spec.Replies (session (S.shows server.old) client.old) requests.commit (reply_of result) (session (S.shows server.new) client.new) }
-    ensures grows { (S.shows server.new).volume.next ≤ (S.shows server.old).volume.next + 64 }
+    ensures replies { spec.Serves (session (S.shows server.old) client.old) requests.commit (reply_of result) (session (S.shows server.new) client.new) }
+    ensures stays { S.kept server.new ≡ S.kept server.old }
     ensures few { length (queued_ops client.new) ≤ 64 }
 {
     let Some(ops) = client.batch.take() else {
@@ -122,8 +133,9 @@ fn commit<S: Server>(server: &mut S, client: &mut Client) -> Reply
 
 fn query<S: Server>(alloc: Global, server: &mut S, text: &str) -> Reply
     ensures replies { (client : Client) →
-        spec.Replies (session (S.shows server.old) client) (requests.query text.now) (reply_of result) (session (S.shows server.new) client) }
-    ensures same { S.shows server.new ≡ S.shows server.old }
+        spec.Replies (session (S.shows server.new) client) (requests.query text.now) (reply_of result) (session (S.shows server.new) client) }
+    ensures joins { Joins (S.shows server.old) (S.shows server.new) }
+    ensures stays { S.kept server.new ≡ S.kept server.old }
 {
     match parse(alloc, text) {
         Ok(query) => match server.query(&query) {
@@ -137,8 +149,9 @@ fn query<S: Server>(alloc: Global, server: &mut S, text: &str) -> Reply
 /// What a query would be answered from. The query's own faults come before the cover's refusal.
 fn explain_query<S: Server>(alloc: Global, server: &mut S, text: &str) -> Reply
     ensures replies { (client : Client) →
-        spec.Replies (session (S.shows server.old) client) (requests.explain text.now) (reply_of result) (session (S.shows server.new) client) }
-    ensures same { S.shows server.new ≡ S.shows server.old }
+        spec.Replies (session (S.shows server.new) client) (requests.explain text.now) (reply_of result) (session (S.shows server.new) client) }
+    ensures joins { Joins (S.shows server.old) (S.shows server.new) }
+    ensures stays { S.kept server.new ≡ S.kept server.old }
 {
     let query = match parse(alloc, text) {
         Ok(query) => query,
@@ -158,10 +171,23 @@ fn explain_query<S: Server>(alloc: Global, server: &mut S, text: &str) -> Reply
     }
 }
 
+fn get<S: Server>(server: &mut S, node: u64, name: Result<Name, Refusal>) -> Reply
+    ensures replies { (client : Client) →
+        spec.Replies (session (S.shows server.new) client) (requests.get node name) (reply_of result) (session (S.shows server.new) client) }
+    ensures joins { Joins (S.shows server.old) (S.shows server.new) }
+    ensures stays { S.kept server.new ≡ S.kept server.old }
+{
+    match name {
+        Ok(name) => Reply::Value(server.get(node, &name)),
+        Err(refusal) => Reply::Refused(refusal),
+    }
+}
+
 fn attrs<S: Server>(server: &mut S, node: u64) -> Reply
     ensures replies { (client : Client) →
-        spec.Replies (session (S.shows server.old) client) (requests.attrs node) (reply_of result) (session (S.shows server.new) client) }
-    ensures same { S.shows server.new ≡ S.shows server.old }
+        spec.Replies (session (S.shows server.new) client) (requests.attrs node) (reply_of result) (session (S.shows server.new) client) }
+    ensures joins { Joins (S.shows server.old) (S.shows server.new) }
+    ensures stays { S.kept server.new ≡ S.kept server.old }
 {
     match server.attrs(node) {
         Ok(list) => Reply::Attributes(list),
@@ -171,8 +197,9 @@ fn attrs<S: Server>(server: &mut S, node: u64) -> Reply
 
 fn indices<S: Server>(server: &mut S) -> Reply
     ensures replies { (client : Client) →
-        spec.Replies (session (S.shows server.old) client) requests.indices (reply_of result) (session (S.shows server.new) client) }
-    ensures same { S.shows server.new ≡ S.shows server.old }
+        spec.Replies (session (S.shows server.new) client) requests.indices (reply_of result) (session (S.shows server.new) client) }
+    ensures joins { Joins (S.shows server.old) (S.shows server.new) }
+    ensures stays { S.kept server.new ≡ S.kept server.old }
 {
     match server.indices() {
         Ok(list) => Reply::Kinds(list),
@@ -183,8 +210,8 @@ fn indices<S: Server>(server: &mut S) -> Reply
 /// Pins the version after all writes so far, where none is pinned.
 fn pin<S: Server>(server: &mut S) -> Reply
     ensures replies { (client : Client) →
-        spec.Replies (session (S.shows server.old) client) requests.pin (reply_of result) (session (S.shows server.new) client) }
-    ensures same { (S.shows server.new).volume ≡ (S.shows server.old).volume }
+        spec.Serves (session (S.shows server.old) client) requests.pin (reply_of result) (session (S.shows server.new) client) }
+    ensures stays { S.kept server.new ≡ S.kept server.old }
 {
     if server.is_pinned() {
         return Reply::AlreadyPinned;
@@ -195,7 +222,7 @@ fn pin<S: Server>(server: &mut S) -> Reply
 fn unpin<S: Server>(server: &mut S) -> Reply
     ensures replies { (client : Client) →
         spec.Replies (session (S.shows server.old) client) requests.unpin (reply_of result) (session (S.shows server.new) client) }
-    ensures same { (S.shows server.new).volume ≡ (S.shows server.old).volume }
+    ensures stays { S.kept server.new ≡ S.kept server.old }
 {
     if !server.is_pinned() {
         return Reply::NotPinned;
@@ -221,8 +248,9 @@ fn watch(alloc: Global, client: &mut Client, text: &str) -> Reply
 /// What came and what went since the live query was asked last.
 fn update<S: Server>(server: &mut S, live: &mut Live) -> Reply
     ensures replies { (batch : Option (List Op)) →
-        spec.Replies (watched (S.shows server.old) batch live.old) requests.refresh (reply_of result) (watched (S.shows server.new) batch live.new) }
-    ensures same { S.shows server.new ≡ S.shows server.old }
+        spec.Replies (watched (S.shows server.new) batch live.old) requests.refresh (reply_of result) (watched (S.shows server.new) batch live.new) }
+    ensures joins { Joins (S.shows server.old) (S.shows server.new) }
+    ensures stays { S.kept server.new ≡ S.kept server.old }
 {
     let nodes = match server.query(live.query()) {
         Ok(nodes) => nodes,
@@ -236,8 +264,10 @@ fn update<S: Server>(server: &mut S, live: &mut Live) -> Reply
 
 /// Asks the live query, if there is one.
 fn refresh<S: Server>(server: &mut S, client: &mut Client) -> Reply
-    ensures replies { spec.Replies (session (S.shows server.old) client.old) requests.refresh (reply_of result) (session (S.shows server.new) client.new) }
-    ensures same { (S.shows server.new ≡ S.shows server.old) × (client.new.batch ≡ client.old.batch) }
+    ensures replies { spec.Replies (session (S.shows server.new) client.old) requests.refresh (reply_of result) (session (S.shows server.new) client.new) }
+    ensures same { client.new.batch ≡ client.old.batch }
+    ensures joins { Joins (S.shows server.old) (S.shows server.new) }
+    ensures stays { S.kept server.new ≡ S.kept server.old }
 {
     match &mut client.live {
         Some(live) => update(server, live),
@@ -252,21 +282,18 @@ pub fn answer<S: Server>(
     client: &mut Client,
     request: Request,
 ) -> Reply
-    requires fits { (S.shows server.old).volume.next + 64 < 2 ^ 64 }
     requires few { length (queued_ops client.old) ≤ 64 }
-    ensures replies { spec.Replies (session (S.shows server.old) client.old) (request_of request) (reply_of result) (session (S.shows server.new) client.new) }
-    ensures grows { (S.shows server.new).volume.next ≤ (S.shows server.old).volume.next + 64 }
+    ensures replies { spec.Serves (session (S.shows server.old) client.old) (request_of request) (reply_of result) (session (S.shows server.new) client.new) }
+    ensures stays { S.kept server.new ≡ S.kept server.old }
     ensures few { length (queued_ops client.new) ≤ 64 }
 {
     match request {
         Request::Silent => Reply::Silent,
         Request::Malformed => Reply::BadLine,
-        Request::Write(Ok(op)) => take(server, client, op),
-        Request::Write(Err(refusal)) => Reply::Refused(refusal),
+        Request::Write(op) => write_line(server, client, op),
         Request::Query(text) => query(alloc, server, text.as_str()),
         Request::Explain(text) => explain_query(alloc, server, text.as_str()),
-        Request::Get(node, Ok(name)) => Reply::Value(server.get(node, &name)),
-        Request::Get(_, Err(refusal)) => Reply::Refused(refusal),
+        Request::Get(node, name) => get(server, node, name),
         Request::Attrs(node) => attrs(server, node),
         Request::Indices => indices(server),
         Request::Pin => pin(server),

@@ -6,29 +6,34 @@ ghost use Rattle.std.specs.Prelude.{◌≡◌, ◌<◌, ◌≤◌, ◌+◌, ◌*
 ghost use Rattle.std.specs.Io.KnownBytes.{Appends, Consumes, IsAtEnd, Keeps};
 ghost use Rattle.be_script.specs.Limits.{are_within};
 ghost use Rattle.be_script.specs.Output as outputs;
+ghost use Rattle.be_script.specs.Own.{IsPartOf, operations, write_ops};
 ghost use Rattle.be_script.specs.Request.{lines_of};
 ghost use Rattle.be_script.specs.Run as spec;
+ghost use Rattle.be_script.specs.Served.{known};
 ghost use Rattle.be_script.specs.Store.{start};
 ghost use Rattle.be_script.specs.View.{session, queued_ops};
+ghost use Rattle.be_store.specs.Passes.{IsPassOf};
 
 use crate::answers::answer;
 use crate::client::Client;
+use crate::gates::{Gate, OpenGate};
 use crate::limits::are_within;
 use crate::replies::reply_text;
 use crate::requests::read_line;
-use crate::stores::{Server, StoreServer};
+use crate::stores::{PassServer, Server, open_for_one};
 use crate::{Limits, RunFault};
+use be_store::{Pass, Store};
 use std::alloc::Global;
 use std::io::{Read, Write};
 
 /// The longest script in bytes.
-const MAX_SCRIPT: usize = 1 << 20;
+pub(crate) const MAX_SCRIPT: usize = 1 << 20;
 
 /// The most reads of a script: each gives a byte at least, the end or a fault.
 const MAX_READS: u64 = (1 << 20) + 2;
 
 /// Writes all the bytes. After a fault their front was written.
-fn put<W: Write>(writer: &mut W, bytes: &[u8]) -> Result<(), RunFault>
+pub(crate) fn put<W: Write>(writer: &mut W, bytes: &[u8]) -> Result<(), RunFault>
     ensures ok { OnOk result (Appends (W.contents writer.old) (W.contents writer.new) bytes.now) }
     ensures err { OnErr result (spec.Wrote (W.contents writer.old) (W.contents writer.new) (spec.IsFrontOf bytes.now)) }
     ensures late { IfErr result spec.IsLate }
@@ -51,14 +56,13 @@ fn run_line<S: Server, W: Write>(
     line: &[u8],
     writer: &mut W,
 ) -> Result<(), RunFault>
-    requires fits { (S.shows server.old).volume.next + 64 < 2 ^ 64 }
     requires few { length (queued_ops client.old) ≤ 64 }
     ensures ok { OnOk result (spec.Wrote (W.contents writer.old) (W.contents writer.new)
         (outputs.Answered (session (S.shows server.old) client.old) line.now (session (S.shows server.new) client.new))) }
     ensures err { OnErr result (spec.Wrote (W.contents writer.old) (W.contents writer.new)
         (spec.IsFrontOfAnswer (session (S.shows server.old) client.old) line.now)) }
     ensures late { IfErr result spec.IsLate }
-    ensures grows { (S.shows server.new).volume.next ≤ (S.shows server.old).volume.next + 64 }
+    ensures stays { S.kept server.new ≡ S.kept server.old }
     ensures few { length (queued_ops client.new) ≤ 64 }
 {
     let Ok(request) = read_line(alloc, line) else {
@@ -89,26 +93,66 @@ fn split_line(script: &[u8]) -> Option<(&[u8], &[u8])>
     }
 }
 
-/// Runs the lines of a script in turn.
-fn run_lines<S: Server, W: Write>(
+/// Runs the lines of a script in turn, each between two calls of the gate, which are told the pass's number and the line's.
+fn run_lines<S: Server, G: Gate, W: Write>(
     alloc: Global,
     server: &mut S,
+    pass: u64,
+    gate: &G,
     script: &[u8],
     writer: &mut W,
 ) -> Result<(), RunFault>
-    requires fits { (S.shows server.old).volume.next < 2 ^ 63 }
-    requires short { length script.now ≤ 2 ^ 20 }
-    ensures ok { OnOk result (spec.Wrote (W.contents writer.old) (W.contents writer.new) (outputs.IsOutputFrom (S.shows server.old) script.now)) }
+    ensures ok { OnOk result (spec.Wrote (W.contents writer.old) (W.contents writer.new)
+        (outputs.IsOutputTo (S.shows server.old) script.now (S.shows server.new))) }
     ensures err { OnErr result (spec.Wrote (W.contents writer.old) (W.contents writer.new) (outputs.IsFrontOfOutput (S.shows server.old) script.now)) }
     ensures late { IfErr result spec.IsLate }
+    ensures stays { S.kept server.new ≡ S.kept server.old }
 {
     let mut client = Client::new();
     let mut rest = script;
+    let mut number = 1;
     while let Some((line, behind)) = split_line(rest) {
-        run_line(alloc, server, &mut client, line, writer)?;
+        gate.before(pass, number);
+        let ran = run_line(alloc, server, &mut client, line, writer);
+        gate.after(pass, number);
+        ran?;
         rest = behind;
+        number += 1;
     }
-    run_line(alloc, server, &mut client, rest, writer)
+    gate.before(pass, number);
+    let ran = run_line(alloc, server, &mut client, rest, writer);
+    gate.after(pass, number);
+    ran
+}
+
+/// Serves a script from a pass that has seen nothing, while the other passes of the store may write. The gate is called
+/// before and after each line, with the pass's number and the line's; lines count from 1 over all lines. The replies are
+/// kept: Memory is the only fault. The pass comes back in either case.
+pub fn serve_pass<G: Gate>(
+    alloc: Global,
+    store: &Store,
+    pass: Pass,
+    gate: &G,
+    script: &[u8],
+) -> (Pass, Result<Vec<u8>, RunFault>)
+    requires pass { IsPassOf store.now pass }
+    requires fresh { pass.knows.seen ≡ [] }
+    ensures pass { IsPassOf store.now result.0 }
+    ensures number { result.0.knows.number ≡ pass.knows.number }
+    ensures own { OnOk result.1 (IsPartOf (operations result.0.knows.mine) (write_ops script.now)) }
+    ensures replies { IfOk result.1 (λ replies. outputs.IsOutputFrom (known pass.knows) script.now replies.items) }
+    ensures fault { IfErr result.1 (λ e. e ≡ RunFault.Memory) }
+{
+    let number = pass.number();
+    let mut server = PassServer::new(alloc, store, pass);
+    let mut replies = Vec::new(alloc);
+    let ran = run_lines(alloc, &mut server, number, gate, script, &mut replies);
+    let pass = server.into_pass();
+    pass.is_pass();
+    match ran {
+        Ok(()) => (pass, Ok(replies)),
+        Err(_) => (pass, Err(RunFault::Memory)),
+    }
 }
 
 /// Reads a whole script.
@@ -144,14 +188,13 @@ pub fn serve<S: Server, R: Read, W: Write>(
     reader: &mut R,
     writer: &mut W,
 ) -> Result<(), RunFault>
-    requires { (S.shows server.old).volume.next < 2 ^ 63 }
     ensures output { OnOk result (IfSome (R.remaining reader.old) (λ script.
         spec.Wrote (W.contents writer.old) (W.contents writer.new) (outputs.IsOutputFrom (S.shows server.old) script))) }
     ensures fault { IfErr result (λ e. spec.Leaves e (S.shows server.old) (R.remaining reader.old) (W.contents writer.old) (W.contents writer.new)) }
     ensures other { IfErr result spec.IsOther }
 {
     match read_script(alloc, reader) {
-        Ok(script) => run_lines(alloc, server, &script, writer),
+        Ok(script) => run_lines(alloc, server, 0, &OpenGate, &script, writer),
         Err(fault) => Err(fault),
     }
 }
@@ -178,8 +221,9 @@ pub fn run<R: Read, W: Write>(
     if !are_within(&limits) {
         return Err(RunFault::Limits);
     }
-    let Ok(mut server) = StoreServer::open(alloc, limits) else {
+    let Ok((store, pass)) = open_for_one(alloc, limits) else {
         return Err(RunFault::Memory);
     };
+    let mut server = PassServer::new(alloc, &store, pass);
     serve(alloc, &mut server, reader, writer)
 }

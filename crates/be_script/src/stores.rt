@@ -1,14 +1,18 @@
 //! What serves a script.
 //!
 //! A script's lines need few calls. [`Server`] names them, and tells by one ghost member what they are answered from: a
-//! journal, the volume that it stands for, the limit on its entries, and the pinned version. What runs scripts is proved
-//! over that trait, so it holds for whatever serves. [`StoreServer`] is the shared store with its one pass.
-ghost use Rattle.std.specs.Prelude.{◌≡◌, ◌≤◌, ◌<◌, ◌+◌, ◌^◌, Ok, None, IsSome, is_some, true, length, IfOk, IfErr, if◌then◌else◌};
+//! journal, the volume that it stands for, the limit on its entries, and the pinned version. Other passes may write
+//! between two calls, and a call is answered from the store as they left it. What runs scripts is proved over that trait,
+//! so it holds for whatever serves. [`PassServer`] is a shared store with one of its passes.
+ghost use Rattle.std.specs.Prelude.{◌≡◌, ◌≤◌, ◌<◌, ◌^◌, Ok, None, IsSome, is_some, true, length, IfOk, IfErr, MatchResult, if◌then◌else◌};
+ghost use Rattle.be_store.specs.Passes.{IsPassOf};
 ghost use Rattle.be_value.specs.Refusal.{Answers};
+ghost use Rattle.be_value.specs.declared.refusals.Refusal.TheVariants.{OutOfMemory};
 ghost use Rattle.be_volume.specs.Query.{scan};
 ghost use Rattle.be_volume.specs.Reading.{attribute, attributes_at, index_kinds};
 ghost use Rattle.be_script.specs.Limits.{are_within};
-ghost use Rattle.be_script.specs.Store.{Store, start, viewed, pinned, unpinned, MayWrite};
+ghost use Rattle.be_script.specs.Served.{known, seat_of};
+ghost use Rattle.be_script.specs.Store.{Store, Joins, Meanwhile, start, viewed, pinned, unpinned, MayWrite};
 
 use crate::Limits;
 use arrayvec::ArrayVec;
@@ -18,19 +22,27 @@ use be_value::{Kind, Name, Refusal, Value};
 use be_volume::{Done, Op};
 use std::alloc::Global;
 use std::marker::Model;
+use std::thread;
+
+/// How often a write is tried again while another pass is writing.
+const MAX_TRIES: u64 = 10_000_000;
 
 /// What serves a script. Reads are of the pinned version, or else of the volume after all writes.
 pub trait Server {
+    ghost Kept: { Type 0 };
+
+    /// What no call changes.
+    ghost kept: { Self → Kept };
+
     ghost shows: { Self → Store };
 
-    /// Writes operations, all or none: the number of the commit, and an answer for each. It is refused by 2 to 8, then 9,
-    /// then 10, then 11. A pin stays.
+    /// Writes operations, all or none: the number of the commit, and an answer for each. It is refused by 1 where another
+    /// pass is writing, else by 2 to 8, then 9, then 10, then 11. A pin stays.
     fn apply(&mut self, ops: &[Op]) -> Result<(u64, ArrayVec<Done, 64>), Refusal>
         requires some { 1 ≤ length ops.now }
         requires few { length ops.now ≤ 64 }
-        requires fits { (shows self.old).volume.next + 64 < 2 ^ 64 }
-        ensures writes { MayWrite (λ dones. dones.items) (shows self.old) ops.now result (shows self.new) }
-        ensures grows { (shows self.new).volume.next ≤ (shows self.old).volume.next + 64 };
+        ensures stays { kept self.new ≡ kept self.old }
+        ensures writes { Meanwhile (shows self.old) (λ store. MayWrite (λ dones. dones.items) store ops.now result (shows self.new)) };
 
     /// Whether a version is pinned.
     fn is_pinned(&self) -> bool
@@ -39,80 +51,143 @@ pub trait Server {
     /// Pins the version after all writes so far, and tells how many these are.
     fn pin(&mut self) -> u64
         requires { (shows self.old).pin ≡ None }
-        ensures pins { shows self.new ≡ pinned (shows self.old) }
-        ensures number { result ≡ length (shows self.old).journal };
+        ensures stays { kept self.new ≡ kept self.old }
+        ensures pins { Meanwhile (shows self.old) (λ store. (shows self.new ≡ pinned store) × (result ≡ length store.journal)) };
 
     /// Gives the pin up.
     fn unpin(&mut self)
         requires { IsSome (shows self.old).pin }
-        ensures { shows self.new ≡ unpinned (shows self.old) };
+        ensures stays { kept self.new ≡ kept self.old }
+        ensures unpins { shows self.new ≡ unpinned (shows self.old) };
 
     /// The nodes of which a query is true, ascending; or 17 or 10.
     fn query(&mut self, query: &Query) -> Result<Vec<u64>, Refusal>
-        ensures answers { Answers (λ nodes. nodes.items) result (scan (viewed (shows self.old)) query.now) }
-        ensures same { shows self.new ≡ shows self.old };
+        ensures stays { kept self.new ≡ kept self.old }
+        ensures joins { Joins (shows self.old) (shows self.new) }
+        ensures answers { Answers (λ nodes. nodes.items) result (scan (viewed (shows self.new)) query.now) };
 
     /// The value of an attribute.
     fn get(&mut self, node: u64, name: &Name) -> Option<Value>
-        ensures answer { result ≡ attribute (viewed (shows self.old)) node name.now }
-        ensures same { shows self.new ≡ shows self.old };
+        ensures stays { kept self.new ≡ kept self.old }
+        ensures joins { Joins (shows self.old) (shows self.new) }
+        ensures answer { result ≡ attribute (viewed (shows self.new)) node name.now };
 
     /// The attributes of a node, by ascending names; or 2 or 10.
     fn attrs(&mut self, node: u64) -> Result<Vec<(Name, Value)>, Refusal>
-        ensures answers { Answers (λ list. list.items) result (attributes_at (viewed (shows self.old)) node) }
-        ensures same { shows self.new ≡ shows self.old };
+        ensures stays { kept self.new ≡ kept self.old }
+        ensures joins { Joins (shows self.old) (shows self.new) }
+        ensures answers { Answers (λ list. list.items) result (attributes_at (viewed (shows self.new)) node) };
 
     /// The indices, by ascending names; or 10.
     fn indices(&mut self) -> Result<Vec<(Name, Kind)>, Refusal>
-        ensures answers { Answers (λ list. list.items) result (Ok (index_kinds (viewed (shows self.old)))) }
-        ensures same { shows self.new ≡ shows self.old };
+        ensures stays { kept self.new ≡ kept self.old }
+        ensures joins { Joins (shows self.old) (shows self.new) }
+        ensures answers { Answers (λ list. list.items) result (Ok (index_kinds (viewed (shows self.new)))) };
 }
 
-/// The shared store, served from its only pass, 0. What that pass has seen is all that was written, and by nobody else.
+/// Opens a store of one pass before its first write, with as many pages and commits as the limits say. Refused for want of
+/// memory alone.
+pub fn open_for_one(alloc: Global, limits: Limits) -> Result<(be_store::Store, Pass), Refusal>
+    requires { are_within limits ≡ true }
+    ensures opened { IfOk result (λ r. IsPassOf r.0 r.1 × (known r.1.knows ≡ start limits.commits)) }
+    ensures refused { IfErr result (λ e. e ≡ OutOfMemory) }
+{
+    let limits = Limits {
+        passes: 1,
+        ..limits
+    };
+    let (store, mut passes) = be_store::Store::open(alloc, limits)?;
+    let Some(pass) = passes.pop() else {
+        unreachable!()
+    };
+    Ok((store, pass))
+}
+
+/// Writes, or is refused at once where another pass is writing.
+fn apply_once(
+    store: &be_store::Store,
+    pass: &mut Pass,
+    ops: &[Op],
+) -> Result<(u64, ArrayVec<Done, 64>), Refusal>
+    requires pass { IsPassOf store.now pass.old }
+    requires count { (1 ≤ length ops.now) × (length ops.now ≤ 64) }
+    ensures pass { IsPassOf store.now pass.new }
+    ensures number { pass.new.knows.number ≡ pass.old.knows.number }
+    ensures writes { Meanwhile (known pass.old.knows) (λ store. MayWrite (λ dones. dones.items) store ops.now result (known pass.new.knows)) }
+{
+    pass.is_pass();
+    let answer = store.apply(pass, ops);
+    pass.is_pass();
+    answer
+}
+
+/// Writes, and tries again while another pass is writing, 10,000,000 times at most; then the answer is that of the last
+/// try. Before each further try another thread may run.
+fn apply_at_last(
+    store: &be_store::Store,
+    pass: &mut Pass,
+    ops: &[Op],
+) -> Result<(u64, ArrayVec<Done, 64>), Refusal>
+    requires pass { IsPassOf store.now pass.old }
+    requires count { (1 ≤ length ops.now) × (length ops.now ≤ 64) }
+    ensures pass { IsPassOf store.now pass.new }
+    ensures number { pass.new.knows.number ≡ pass.old.knows.number }
+    ensures writes { Meanwhile (known pass.old.knows) (λ store. MayWrite (λ dones. dones.items) store ops.now result (known pass.new.knows)) }
+{
+    let mut answer = apply_once(store, pass, ops);
+    for _ in 0..MAX_TRIES {
+        let Err(Refusal::Busy(_)) = &answer else {
+            return answer;
+        };
+        thread::yield_now();
+        answer = apply_once(store, pass, ops);
+    }
+    answer
+}
+
+/// A shared store, served from one of its passes. The others may write at any time; what this pass has seen is what a
+/// script is shown.
 #[derive(Drop)]
-pub struct StoreServer {
+pub struct PassServer<'a> {
     alloc: Global,
-    store: be_store::Store,
+    store: &'a be_store::Store,
     pass: Pass,
 }
 
-impl Model for StoreServer {
-    ghost use Rattle.be_script.specs.Store.{Store, coded_store};
+impl<'a> Model for PassServer<'a> {
+    ghost use Rattle.be_script.specs.Served.{Seated};
 
-    ghost Value = { Store };
+    ghost Value = { Seated };
 
-    ghost coded = { coded_store };
+    ghost use Rattle.be_store.specs.Passes.{IsPassOf};
 
-    ghost use Rattle.be_script.specs.Served.{served, IsAlone};
+    ghost view = { λ s. record { store = s.store.now; knows = s.pass.knows } };
 
-    ghost view = { served };
-
-    ghost invariant = { IsAlone };
+    ghost invariant = { λ s. IsPassOf s.store.now s.pass };
 }
 
-impl StoreServer {
-    /// A store of one pass before its first write, with as many pages and commits as the limits say. Refused for want of
-    /// memory alone.
-    pub fn open(alloc: Global, limits: Limits) -> Result<StoreServer, Refusal>
-        requires { are_within limits ≡ true }
-        ensures { IfOk result (λ server. server ≡ start limits.commits) }
+impl<'a> PassServer<'a> {
+    pub fn new(alloc: Global, store: &'a be_store::Store, pass: Pass) -> PassServer<'a>
+        requires { IsPassOf store.now pass }
+        ensures { (result.store ≡ store.now) × (result.knows ≡ pass.knows) }
     {
-        let limits = Limits {
-            passes: 1,
-            ..limits
-        };
-        let (store, mut passes) = be_store::Store::open(alloc, limits)?;
-        let Some(pass) = passes.pop() else {
-            unreachable!()
-        };
-        Ok(StoreServer { alloc, store, pass })
+        PassServer { alloc, store, pass }
+    }
+
+    /// Gives the pass back.
+    pub fn into_pass(self) -> Pass
+        ensures { IsPassOf self.entry.store result × (result.knows ≡ self.entry.knows) }
+    {
+        let PassServer { pass, .. } = self;
+        pass
     }
 
     /// Pins for one read where no version is pinned, and tells whether it did.
     fn begin_read(&mut self) -> bool
-        ensures pinned { IsSome self.new.pin }
-        ensures same_view { viewed self.new ≡ viewed self.old }
-        ensures restores { self.old ≡ (if result then unpinned self.new else self.new) }
+        ensures stays { seat_of self.new ≡ seat_of self.old }
+        ensures pinned { IsSome (known self.new.knows).pin }
+        ensures same_view { viewed (known self.new.knows) ≡ viewed (if result then unpinned (known self.new.knows) else known self.new.knows) }
+        ensures joins { Joins (known self.old.knows) (if result then unpinned (known self.new.knows) else known self.new.knows) }
     {
         if self.is_pinned() {
             return false;
@@ -123,8 +198,9 @@ impl StoreServer {
 
     /// Gives the pin of one read up, where the read made it.
     fn end_read(&mut self, made: bool)
-        requires { IsSome self.old.pin }
-        ensures { self.new ≡ (if made then unpinned self.old else self.old) }
+        requires { IsSome (known self.old.knows).pin }
+        ensures stays { seat_of self.new ≡ seat_of self.old }
+        ensures unpinned { known self.new.knows ≡ (if made then unpinned (known self.old.knows) else known self.old.knows) }
     {
         if made {
             self.unpin();
@@ -132,14 +208,19 @@ impl StoreServer {
     }
 }
 
-impl Server for StoreServer {
-    ghost shows = { λ s. s };
+impl<'a> Server for PassServer<'a> {
+    ghost use Rattle.std.specs.Prelude.{ℕ};
+    ghost use Rattle.be_script.specs.Served.{seat_of};
+    ghost use Rattle.be_table.specs.Place.{Opened};
+
+    ghost Kept = { Opened × ℕ };
+
+    ghost kept = { seat_of };
+
+    ghost shows = { λ s. known s.knows };
 
     fn apply(&mut self, ops: &[Op]) -> Result<(u64, ArrayVec<Done, 64>), Refusal> {
-        self.pass.is_pass();
-        let answer = self.store.apply(&mut self.pass, ops);
-        self.pass.is_pass();
-        answer
+        apply_at_last(self.store, &mut self.pass, ops)
     }
 
     fn is_pinned(&self) -> bool {

@@ -11,6 +11,7 @@ mod faults;
 mod limits;
 mod plain;
 mod pools;
+mod races;
 mod readings;
 mod tasks;
 

@@ -1,41 +1,134 @@
-//! `bestore`: runs a script and writes the reply to each of its lines to standard output.
+//! `bestore`: runs a script and writes the reply to each of its lines to standard output, or races scripts against one
+//! another and writes the replies of each and their journal.
 //!
-//! The status is 0 for a run to the script's end and for a request for help, 2 for a command line that says nothing that
-//! can be done, and 1, with one line on standard error, where the run stopped before its end.
+//! The status is 0 for a run or a race to its end and for a request for help, 2 for a command line that says nothing that
+//! can be done, and 1, with one line on standard error, where a run or a race stopped before its end.
 #![tactic(auto)]
+ghost use Rattle.std.specs.Prelude.{◌≡◌, length, vec_len, IfOk};
 
-use be_script::{Limits, RunFault, Task, run, task};
+use be_script::{Limits, OpenGate, RunFault, Task, race, run, task};
 use clap::Error;
 use clap::error::ErrorKind;
+use std::alloc::{AllocGlobal, Global};
+use std::io::{Eprint, Print, Read};
 use std::process::ExitCode;
+use std::rt::{Files, Runtime};
+use std::sync::Wait;
+use std::thread::Threads;
 use std::{env, fs, io};
 
+/// The status where a command line says nothing that can be done.
+const MISUSED: u8 = 2;
+
+/// A byte more than a script may have, so that one that is too long is told from one that isn't.
+const READ_MOST: u64 = 1_048_577;
+
 /// Ends with status 1 and one line on standard error.
-fn fail(rt: &HostRuntime, why: &str) -> io::Result<ExitCode> {
+fn fail(rt: &impl Eprint, why: &str) -> io::Result<ExitCode> {
     eprintln!(rt; "bestore: {why}")?;
     Ok(ExitCode::FAILURE)
 }
 
-fn fail_to_read(rt: &HostRuntime, file: &str) -> io::Result<ExitCode> {
+fn fail_to_read(rt: &impl Eprint, file: &str) -> io::Result<ExitCode> {
     eprintln!(rt; "bestore: cannot read {file}")?;
     Ok(ExitCode::FAILURE)
 }
 
-fn run_file(rt: &HostRuntime, file: &str, limits: Limits) -> io::Result<ExitCode> {
+/// Why a run or a race stopped.
+fn reason(fault: RunFault) -> &'static str {
+    match fault {
+        RunFault::Limits => "a limit is out of its range",
+        RunFault::Read => "cannot read a script",
+        RunFault::TooLong => "script too long",
+        RunFault::Write => "write failed",
+        RunFault::Memory => "out of memory",
+    }
+}
+
+fn run_file<R: Runtime + AllocGlobal>(rt: &R, file: &str, limits: Limits) -> io::Result<ExitCode> {
     let Ok(mut script) = fs::open(rt, file) else {
         return fail_to_read(rt, file);
     };
     match run(rt.alloc(), &mut script, &mut io::writer(rt), limits) {
         Ok(()) => Ok(ExitCode::SUCCESS),
-        Err(RunFault::Limits) => fail(rt, "a limit is out of its range"),
         Err(RunFault::Read) => fail_to_read(rt, file),
-        Err(RunFault::TooLong) => fail(rt, "script too long"),
-        Err(RunFault::Write) => fail(rt, "write failed"),
-        Err(RunFault::Memory) => fail(rt, "out of memory"),
+        Err(fault) => fail(rt, reason(fault)),
     }
 }
 
-fn run_task(rt: &HostRuntime, task: &Task) -> io::Result<ExitCode> {
+/// Reads a file to its end, or as much of it as is looked at.
+fn read_script<R: Files>(rt: &R, alloc: Global, file: &str) -> io::Result<Vec<u8>> {
+    let mut script = Vec::new(alloc);
+    fs::open(rt, file)?
+        .take(READ_MOST)
+        .read_to_end(&mut script)?;
+    Ok(script)
+}
+
+/// Reads the files in order, or gives the first that can't be read, with the reason.
+fn read_scripts<'a, R: Files>(
+    rt: &R,
+    alloc: Global,
+    files: &'a [String],
+) -> Result<Vec<Vec<u8>>, (&'a str, io::Error)>
+    ensures { IfOk result (λ scripts. vec_len scripts ≡ length files.now) }
+{
+    let mut scripts = Vec::new(alloc);
+    for file in files {
+        match read_script(rt, alloc, file.as_str()) {
+            Ok(script) => {
+                if scripts.push(script).is_err() {
+                    return Err((file.as_str(), io::Error::from(io::ErrorKind::OutOfMemory)));
+                }
+            }
+            Err(error) => return Err((file.as_str(), error)),
+        }
+    }
+    Ok(scripts)
+}
+
+/// Races the scripts of these files.
+fn race_files<R: Runtime + AllocGlobal + Threads + Wait + Sync>(
+    rt: &R,
+    files: &[String],
+    limits: Limits,
+) -> io::Result<ExitCode> {
+    if files.len() < 2 || files.len() > 4 {
+        eprintln!(rt; "bestore: race takes two to four scripts")?;
+        return Ok(ExitCode::from(MISUSED));
+    }
+    let scripts = match read_scripts(rt, rt.alloc(), files) {
+        Ok(scripts) => scripts,
+        Err((_, error)) if matches!(error.kind(), io::ErrorKind::OutOfMemory) => {
+            return fail(rt, "out of memory");
+        }
+        Err((file, _)) => return fail_to_read(rt, file),
+    };
+    let limits = Limits {
+        passes: scripts.len() as u64,
+        ..limits
+    };
+    match race(
+        rt,
+        rt.alloc(),
+        scripts,
+        limits,
+        &OpenGate,
+        &mut io::writer(rt),
+    ) {
+        Ok(true) => Ok(ExitCode::SUCCESS),
+        Ok(false) => Ok(ExitCode::FAILURE),
+        Err(fault) => fail(rt, reason(fault)),
+    }
+}
+
+fn run_task<R: Runtime + AllocGlobal + Threads + Wait + Sync>(
+    rt: &R,
+    task: &Task,
+) -> io::Result<ExitCode> {
+    if task.race {
+        return race_files(rt, task.files.as_slice(), task.limits);
+    }
     match task.files.first() {
         Some(file) => run_file(rt, file.as_str(), task.limits),
         None => Ok(ExitCode::SUCCESS),
@@ -43,14 +136,17 @@ fn run_task(rt: &HostRuntime, task: &Task) -> io::Result<ExitCode> {
 }
 
 /// Help goes to standard output, what is wrong with a command line to standard error.
-fn tell(rt: &HostRuntime, error: &Error) -> io::Result<ExitCode> {
+fn tell<R: Print + Eprint>(rt: &R, error: &Error) -> io::Result<ExitCode> {
     match error.print(rt) {
         Err(_) if error.exit_code() == 0 => fail(rt, "write failed"),
         _ => Ok(ExitCode::from(error.exit_code() as u8)),
     }
 }
 
-fn obey(rt: &HostRuntime, given: &[String]) -> io::Result<ExitCode> {
+fn obey<R: Runtime + AllocGlobal + Threads + Wait + Sync>(
+    rt: &R,
+    given: &[String],
+) -> io::Result<ExitCode> {
     let alloc = rt.alloc();
     let mut words = Vec::new(alloc);
     for word in given {
@@ -74,7 +170,7 @@ fn main(rt: HostRuntime) -> io::Result<ExitCode> {
         Ok(given) => obey(&rt, &given),
         Err(error) if matches!(error.kind(), io::ErrorKind::InvalidData) => {
             eprintln!(rt; "bestore: a word of the command line isn't UTF-8")?;
-            Ok(ExitCode::from(2))
+            Ok(ExitCode::from(MISUSED))
         }
         Err(_) => fail(&rt, "out of memory"),
     }

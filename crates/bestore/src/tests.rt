@@ -24,6 +24,13 @@ fn exit_statuses(rt: HostRuntime) -> Result<(), Fail> {
         ("bestore run --pages 7 script", 2),
         ("bestore run --commits 4294967296 script", 2),
         ("bestore run no-such-folder/script", 1),
+        ("bestore race --help", 0),
+        ("bestore race", 2),
+        ("bestore race a", 2),
+        ("bestore race a b c d e", 2),
+        ("bestore race --pages 7 a b", 2),
+        ("bestore race --commits 0 a b", 2),
+        ("bestore race no-such-folder/a no-such-folder/b", 1),
     ];
     for (line, status) in statuses {
         let words = words_of(rt.alloc(), line)?;

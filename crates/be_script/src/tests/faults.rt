@@ -79,11 +79,11 @@ fn failing_reader(rt: HostRuntime) -> Result<(), Fail> {
 /// Takes a byte a write while it has room, then fails or takes nothing. It needs no memory: it looks whether each byte is
 /// the one that is expected.
 #[derive(Drop)]
-struct Narrow<'a> {
-    expected: &'a [u8],
-    room: usize,
-    fails: bool,
-    is_as_expected: bool,
+pub struct Narrow<'a> {
+    pub expected: &'a [u8],
+    pub room: usize,
+    pub fails: bool,
+    pub is_as_expected: bool,
 }
 
 impl Write for Narrow<'_> {

@@ -1,7 +1,7 @@
 //! A volume with its journal on one thread, as another server of scripts.
-ghost use Rattle.std.specs.Prelude.{◌≡◌, ◌<◌, ◌^◌, OnOk, IfErr, IsSome, true, unwrap_or};
+ghost use Rattle.std.specs.Prelude.{◌≡◌, ◌≤◌, ◌<◌, ◌^◌, OnOk, IfErr, IsSome, true, length, unwrap_or};
 ghost use Rattle.be_value.specs.declared.refusals.Refusal.TheVariants.{OutOfMemory};
-ghost use Rattle.be_script.specs.Store.{start, viewed};
+ghost use Rattle.be_script.specs.Store.{start, viewed, MayWrite};
 
 use crate::stores::Server;
 use arrayvec::ArrayVec;
@@ -36,8 +36,14 @@ impl Model for PlainStore {
       journal = s.journal.entries;
       volume = s.volume;
       limit = s.journal.limit;
+      passes = 1;
+      pass = 0;
       pin = option_map (λ n. record { number = n; volume = unwrap_or s.kept s.volume }) s.pin;
     } };
+
+    ghost use Rattle.std.specs.Prelude.{◌≤◌, ◌+◌, ◌*◌, ◌^◌, ◌<◌, length};
+
+    ghost invariant = { λ s. (s.volume.next ≤ 1 + 64 * length s.journal.entries) × (length s.journal.entries ≤ s.journal.limit) × (s.journal.limit < 2 ^ 32) };
 }
 
 impl PlainStore {
@@ -52,6 +58,23 @@ impl PlainStore {
             pin: None,
             kept: None,
         }
+    }
+
+    /// A refusal of the volume goes before one of the journal, and the journal makes its room before the volume is
+    /// changed.
+    fn write(&mut self, ops: &[Op]) -> Result<(u64, ArrayVec<Done, 64>), Refusal>
+        requires some { 1 ≤ length ops.now }
+        requires few { length ops.now ≤ 64 }
+        ensures { MayWrite (λ dones. dones.items) self.old ops.now result self.new }
+    {
+        if let Some(refusal) = self.volume.refusal(ops) {
+            return Err(refusal);
+        }
+        self.journal.reserve(ops.len())?;
+        keep(self.pin.is_some(), &mut self.kept, &self.volume)?;
+        let dones = self.volume.apply(ops)?;
+        self.journal.push_reserved(0, ops, dones.as_slice());
+        Ok((self.journal.len(), dones))
     }
 
     fn viewed(&self) -> &Volume
@@ -77,19 +100,14 @@ fn keep(is_pinned: bool, kept: &mut Option<Volume>, volume: &Volume) -> Result<(
 }
 
 impl Server for PlainStore {
+    ghost Kept = { Unit {0} };
+
+    ghost kept = { λ s. tt };
+
     ghost shows = { λ s. s };
 
-    /// A refusal of the volume goes before one of the journal, and the journal makes its room before the volume is
-    /// changed.
     fn apply(&mut self, ops: &[Op]) -> Result<(u64, ArrayVec<Done, 64>), Refusal> {
-        if let Some(refusal) = self.volume.refusal(ops) {
-            return Err(refusal);
-        }
-        self.journal.reserve(ops.len())?;
-        keep(self.pin.is_some(), &mut self.kept, &self.volume)?;
-        let dones = self.volume.apply(ops)?;
-        self.journal.push_reserved(0, ops, dones.as_slice());
-        Ok((self.journal.len(), dones))
+        self.write(ops)
     }
 
     fn is_pinned(&self) -> bool {

@@ -47,6 +47,44 @@ fn plan_source(rt: HostRuntime) -> Result<(), Fail> {
     Ok(())
 }
 
+/// The words of a race: each script has a pass. How many there may be isn't looked at here.
+#[test]
+fn races(rt: HostRuntime) -> Result<(), Fail> {
+    for (words, count) in [
+        (["bestore", "race", "a"].as_slice(), 1),
+        (&["bestore", "race", "a", "b"], 2),
+        (&["bestore", "race", "a", "b", "c", "d", "e"], 5),
+    ] {
+        let Ok(found) = task_of(rt.alloc(), words) else {
+            return Err(Fail::new("no task"));
+        };
+        assert!(rt; found.race);
+        assert_eq!(rt; numbers(&found), (1024, count, 1_000_000));
+        assert_eq!(rt; found.files.len() as u64, count);
+        assert_eq!(rt; found.files[0].as_str(), "a");
+    }
+    let Ok(found) = task_of(
+        rt.alloc(),
+        &[
+            "bestore",
+            "race",
+            "--commits",
+            "9",
+            "a",
+            "b",
+            "--pages",
+            "64",
+            "c",
+        ],
+    ) else {
+        return Err(Fail::new("no task"));
+    };
+    assert_eq!(rt; numbers(&found), (64, 3, 9));
+    assert_eq!(rt; found.files.len(), 3);
+    assert_eq!(rt; found.files[2].as_str(), "c");
+    Ok(())
+}
+
 /// Command lines that ask for nothing, each with the kind of its fault.
 #[test]
 fn faults(rt: HostRuntime) -> Result<(), Fail> {
@@ -70,10 +108,19 @@ fn faults(rt: HostRuntime) -> Result<(), Fail> {
         (&["bestore", "run"], ErrorKind::MissingRequiredArgument),
         (&["bestore", "run", "f", "g"], ErrorKind::UnknownArgument),
         (&["bestore", "walk", "f"], ErrorKind::InvalidSubcommand),
-        (&["bestore", "race", "f", "g"], ErrorKind::InvalidSubcommand),
+        (&["bestore", "race"], ErrorKind::MissingRequiredArgument),
+        (
+            &["bestore", "race", "--pages", "7", "f", "g"],
+            ErrorKind::ValueValidation,
+        ),
+        (
+            &["bestore", "race", "--commits", "0", "f", "g"],
+            ErrorKind::ValueValidation,
+        ),
         (&["bestore"], ErrorKind::MissingSubcommand),
         (&["bestore", "--help"], ErrorKind::DisplayHelp),
         (&["bestore", "run", "--help"], ErrorKind::DisplayHelp),
+        (&["bestore", "race", "--help"], ErrorKind::DisplayHelp),
     ] {
         match task_of(rt.alloc(), words) {
             Ok(_) => return Err(Fail::new("a task")),

@@ -7,7 +7,7 @@ use Rattle.be_script.proofs.answers.refresh.Goals as goal
 
 pub returns-in-Some-clause-replies : goal.returns-in-Some-clause-replies
 returns-in-Some-clause-replies g c =
-    let with : Option LiveQuery → Session = λ l. record { store = g.S.Server.shows c.args.server.now; batch = queue c.args.client.now; live = l } in
+    let with : Option LiveQuery → Session = λ l. record { store = g.S.Server.shows c.update.new.server; batch = queue c.args.client.now; live = l } in
     subst (λ (l : Option LiveQuery). MayReply (with l) refresh (refreshing (with l) l) (reply_of c.update.result)
     (session (g.S.Server.shows c.update.new.server) (record c.args.client.now { live = Some c.update.new.live }))) (sym c.in-Some.is)
     (c.update.ensures.replies (queue c.args.client.now))

@@ -10,14 +10,14 @@ use Rattle.be_script.proofs.answers.update.Goals as goal
 
 pub update-requires : goal.update-requires
 update-requires g c =
-    let volume = viewed (g.S.Server.shows c.args.server.now) in
+    let volume = viewed (g.S.Server.shows c.query-2.new.self) in
     scan_rises volume c.args.live.now.query c.in-Ok.nodes.items (ap (λ (f : Formula). scan volume f) (sym c.query.ensures) ∙ c.in-Ok.ensures.answers)
 
 pub returns-in-Ok-update-clause-replies : goal.returns-in-Ok-update-clause-replies
 returns-in-Ok-update-clause-replies g c = λ batch.
-    let store = g.S.Server.shows c.args.server.now in
+    let store = g.S.Server.shows c.query-2.new.self in
     let old = c.args.live.now in
     let answer : scan (viewed store) old.query ≡ Ok c.in-Ok.nodes.items = ap (λ (f : Formula). scan (viewed store) f) (sym c.query.ensures) ∙ c.in-Ok.ensures.answers in
     let told = c.in-Ok-update.ensures.ok in
     inl (ap (updating (watched store batch old) old) answer
-    ∙ (λ i. (updates (sym told.1 i) (sym told.2 i), watched (sym c.query-2.ensures.same i) batch (sym told.0 i))))
+    ∙ (λ i. (updates (sym told.1 i) (sym told.2 i), watched store batch (sym told.0 i))))

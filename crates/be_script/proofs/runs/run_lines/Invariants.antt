@@ -1,12 +1,13 @@
-use Rattle.std.proofs.Common.{◌≤◌, ◌+◌, ◌*◌, length}
+use Rattle.std.proofs.Common.{◌≡◌, ◌≤◌, ◌+◌, length}
 use Rattle.be_script.specs.Run.{Wrote, Completes}
 use Rattle.be_script.specs.View.{session, queued_ops}
 use Rattle.be_script.proofs.runs.run_lines.Given as goal
 
 abbrev pub invariant-loop-line : goal.invariant-loop-line
 invariant-loop-line g l = record {
-  near : (g.S.Server.shows l.server).volume.next + 64 * length l.rest ≤ (g.S.Server.shows l.fn.server).volume.next + 64 * length l.script;
+  counted : l.number + length l.rest ≤ 1 + length l.script;
   few : length (queued_ops l.client) ≤ 64;
+  stays : g.S.Server.kept l.server ≡ g.S.Server.kept l.fn.server;
   so_far : Wrote (g.W.Write.contents l.fn.writer) (g.W.Write.contents l.writer)
       (Completes (g.S.Server.shows l.fn.server) l.script (session (g.S.Server.shows l.server) l.client) l.rest);
 }

@@ -1,10 +1,6 @@
-use Rattle.std.proofs.Common.{ap, length, arith}
-use Rattle.be_journal.specs.Journal.{Log}
-use Rattle.be_script.proofs.StoreLemmas.{length-dones}
+use Rattle.be_script.specs.Store.{MayWrite}
+use Rattle.be_script.proofs.JoinLemmas.{at_once}
 use Rattle.be_script.proofs.tests.plain.PlainStoreServer.apply.Goals as goal
 
-pub push_reserved-requires-clause-dones : goal.push_reserved-requires-clause-dones
-push_reserved-requires-clause-dones c =
-    let dones = length-dones c.self.inside.volume c.apply.new.self c.args.ops.now c.in_ok-dones.dones.items c.in_ok-dones.ensures.writes in
-    let room = ap (λ (l : Log). l.reserved) c.in_ok-reserve.ensures.0 in
-    omega (arith, dones, room, ap length c.as_slice.ensures.value)
+pub returns-clause-writes : goal.returns-clause-writes
+returns-clause-writes c = at_once c.args.self.now (λ store. MayWrite (λ dones. dones.items) store c.args.ops.now c.write.result c.write.new.self) c.write.ensures

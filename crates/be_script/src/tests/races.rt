@@ -1,0 +1,284 @@
+//! Races: scripts at once, each on a thread of its own.
+use super::faults::Narrow;
+use crate::{Gate, Limits, OpenGate, RunFault, race};
+use std::alloc::{AllocError, Global};
+use std::io::Write;
+use std::process::Abort;
+use std::sync::Wait;
+use std::sync::atomic::AtomicU64;
+use std::sync::atomic::Ordering::SeqCst;
+use std::test::Fail;
+use std::thread::Threads;
+use std::{str, thread};
+
+/// The scripts as a race takes them.
+fn scripts_of(alloc: Global, texts: &[&str]) -> Result<Vec<Vec<u8>>, AllocError> {
+    let mut scripts = Vec::new(alloc);
+    for text in texts {
+        scripts.push(text.as_bytes().to_vec(alloc)?)?;
+    }
+    Ok(scripts)
+}
+
+/// Races scripts on a store of so many pages and a thousand commits.
+fn race_on<R: Threads + Wait, G: Gate + Sync, W: Write>(
+    rt: &R,
+    scripts: Vec<Vec<u8>>,
+    pages: u64,
+    gate: &G,
+    writer: &mut W,
+) -> Result<bool, RunFault> {
+    let alloc = *scripts.allocator();
+    let limits = Limits {
+        pages,
+        passes: scripts.len() as u64,
+        commits: 1000,
+    };
+    if scripts.len() < 2 || scripts.len() > 4 {
+        return Err(RunFault::Limits);
+    }
+    race(rt, alloc, scripts, limits, gate, writer)
+}
+
+/// What a race writes, or None where memory was wanted.
+fn raced<R: Threads + Wait, G: Gate + Sync>(
+    rt: &R,
+    alloc: Global,
+    texts: &[&str],
+    gate: &G,
+) -> Result<Option<Vec<u8>>, RunFault> {
+    let Ok(scripts) = scripts_of(alloc, texts) else {
+        return Ok(None);
+    };
+    let mut written = Vec::new(alloc);
+    match race_on(rt, scripts, 256, gate, &mut written) {
+        Ok(true) if wants_memory(&written) => Ok(None),
+        Ok(true) => Ok(Some(written)),
+        Ok(false) => Err(RunFault::Limits),
+        // A vector that can't grow is a write that fails.
+        Err(RunFault::Memory | RunFault::Write) => Ok(None),
+        Err(fault) => Err(fault),
+    }
+}
+
+/// Whether a line was refused for want of memory.
+fn wants_memory(written: &[u8]) -> bool {
+    match str::from_utf8(written) {
+        Ok(text) => text.contains("refused 10 OutOfMemory\n"),
+        Err(_) => false,
+    }
+}
+
+/// What a race writes, raced again where memory was wanted.
+fn outcome_of<R: Threads + Wait, G: Gate + Sync>(
+    rt: &R,
+    alloc: Global,
+    texts: &[&str],
+    gate: &G,
+) -> Result<Vec<u8>, Fail> {
+    if let Some(written) = raced(rt, alloc, texts, gate)? {
+        return Ok(written);
+    }
+    match raced(rt, alloc, texts, gate)? {
+        Some(written) => Ok(written),
+        None => Err(Fail::new("out of memory")),
+    }
+}
+
+const OF_TWO: &str = "pass 0\nnode 1\npass 1\njournal 1\n1 by 0 new -> node 1\nreplay ok\n";
+
+#[test]
+fn race_of_two(rt: HostRuntime) -> Result<(), Fail> {
+    let written = outcome_of(&rt, rt.alloc(), &["new\n", ""], &OpenGate)?;
+    assert_eq!(rt; str::from_utf8(&written)?, OF_TWO);
+    Ok(())
+}
+
+/// A flag for each of two passes. Before its second line a pass raises its own and waits until the other's is up.
+#[derive(Drop)]
+struct Meeting {
+    flags: [AtomicU64; 2],
+    /// How many waits reached their limit.
+    missed: AtomicU64,
+    /// How many lines have begun and ended.
+    begun: AtomicU64,
+    ended: AtomicU64,
+}
+
+impl Meeting {
+    fn new() -> Meeting {
+        Meeting {
+            flags: [AtomicU64::new(0), AtomicU64::new(0)],
+            missed: AtomicU64::new(0),
+            begun: AtomicU64::new(0),
+            ended: AtomicU64::new(0),
+        }
+    }
+
+    /// Whether the other pass's flag is up after at most 100,000,000 turns.
+    fn meets(&self, pass: u64) -> bool {
+        let [first, second] = &self.flags;
+        let (mine, other) = if pass == 0 {
+            (first, second)
+        } else {
+            (second, first)
+        };
+        mine.store(1, SeqCst);
+        for _ in 0..100_000_000 {
+            if other.load(SeqCst) == 1 {
+                return true;
+            }
+            thread::yield_now();
+        }
+        false
+    }
+}
+
+impl Gate for Meeting {
+    fn before(&self, pass: u64, line: u64) {
+        self.begun.fetch_add(1, SeqCst);
+        if line == 2 && !self.meets(pass) {
+            self.missed.fetch_add(1, SeqCst);
+        }
+    }
+
+    fn after(&self, _pass: u64, _line: u64) {
+        self.ended.fetch_add(1, SeqCst);
+    }
+}
+
+/// Two threads are in the middle of their scripts at once. One thread can't pass, in whatever order it takes the lines.
+#[test]
+fn both_threads_run(rt: HostRuntime) -> Result<(), Fail> {
+    let gate = Meeting::new();
+    let written = outcome_of(&rt, rt.alloc(), &["new\nnew\n", "new\nnew\n"], &gate)?;
+    let written = str::from_utf8(&written)?;
+    assert_eq!(rt; gate.missed.load(SeqCst), 0);
+    assert_eq!(rt; gate.begun.load(SeqCst), gate.ended.load(SeqCst));
+    assert!(rt; written.contains("\njournal 4\n"));
+    assert!(rt; written.ends_with("\nreplay ok\n"));
+    Ok(())
+}
+
+/// Lines that write, read, pin and fail, and a batch.
+const MIXED: &str =
+    "new\nmkindex k LONG\nset 1 k LONG 5\nset 2 k LONG 6\nquery k>4\nbegin\nnew\nset 3 k LONG 7\nnew\ncommit\npin\ndrop 1\nquery k>4\n\
+    unpin\nset 2 k LONG 8\nlive k==8\nrefresh\nrmindex k\ndrop 99\nset 2 \"\" CSTR x\nsett\n# a comment\nnew\n";
+
+/// Fails unless a race of so many such scripts ends with a right replay.
+fn check_race(rt: &(impl Threads + Wait + Abort), alloc: Global, count: usize) -> Result<(), Fail> {
+    let texts = [MIXED; 4];
+    if count > 4 {
+        return Ok(());
+    }
+    let written = outcome_of(rt, alloc, &texts[..count], &OpenGate)?;
+    let written = str::from_utf8(&written)?;
+    assert!(rt; written.starts_with("pass 0\n"));
+    assert!(rt; written.contains("\njournal "));
+    assert!(rt; written.ends_with("\nreplay ok\n"));
+    Ok(())
+}
+
+#[test]
+fn races_of_two_to_four(rt: HostRuntime) -> Result<(), Fail> {
+    for count in 2..=4 {
+        check_race(&rt, rt.alloc(), count)?;
+    }
+    Ok(())
+}
+
+/// Batches of two scripts, which find each other writing: each is committed whole, as one entry.
+#[test]
+fn batches_at_once(rt: HostRuntime) -> Result<(), Fail> {
+    let batch = "begin\nnew\nnew\ncommit\n";
+    let script = match batch.repeat(rt.alloc(), 50) {
+        Ok(script) => script,
+        Err(_) => batch.repeat(rt.alloc(), 50)?,
+    };
+    let written = outcome_of(
+        &rt,
+        rt.alloc(),
+        &[script.as_str(), script.as_str()],
+        &OpenGate,
+    )?;
+    let written = str::from_utf8(&written)?;
+    assert!(rt; !written.contains("refused"));
+    assert!(rt; written.contains("\njournal 100\n"));
+    assert!(rt; written.contains("\n100 by "));
+    assert_eq!(rt; written.matches("new; new -> node ").count(), 100);
+    assert!(rt; written.ends_with("\nreplay ok\n"));
+    Ok(())
+}
+
+/// A script that is too long, behind one that is empty: nothing is written. A byte less, and it is run.
+#[test]
+fn longest_scripts(rt: HostRuntime) -> Result<(), Fail> {
+    let alloc = rt.alloc();
+    for (length, fits) in [(1_048_577, false), (1_048_576, true)] {
+        let mut written: Vec<u8> = Vec::new(alloc);
+        let (Ok(mut scripts), Ok(long)) = (scripts_of(alloc, &[""]), vec![in alloc; b'#'; length])
+        else {
+            return Ok(());
+        };
+        if scripts.push(long).is_err() {
+            return Ok(());
+        }
+        match race_on(&rt, scripts, 64, &OpenGate, &mut written) {
+            Ok(legal) => assert!(rt; fits && legal),
+            Err(RunFault::TooLong) => assert!(rt; !fits && written.is_empty()),
+            Err(RunFault::Memory | RunFault::Write) => assert!(rt; fits),
+            Err(fault) => return Err(fault.into()),
+        }
+    }
+    Ok(())
+}
+
+/// A limit that is out of its range is told first, and nothing is written.
+#[test]
+fn limits_of_a_race(rt: HostRuntime) -> Result<(), Fail> {
+    let alloc = rt.alloc();
+    let mut written: Vec<u8> = Vec::new(alloc);
+    for pages in [7, 16385] {
+        let Ok(scripts) = scripts_of(alloc, &["new\n", ""]) else {
+            return Ok(());
+        };
+        let result = race_on(&rt, scripts, pages, &OpenGate, &mut written);
+        assert!(rt; matches!(result, Err(RunFault::Limits)));
+    }
+    assert!(rt; written.is_empty());
+    Ok(())
+}
+
+/// Whether a race writes as many bytes as there is room for, and then ends with `Write`; or with success, where there is
+/// room for all.
+fn fills<R: Threads + Wait>(rt: &R, alloc: Global, room: usize) -> Result<bool, RunFault> {
+    let Ok(scripts) = scripts_of(alloc, &["new\n", ""]) else {
+        return Err(RunFault::Memory);
+    };
+    let mut writer = Narrow {
+        expected: OF_TWO.as_bytes(),
+        room,
+        fails: true,
+        is_as_expected: true,
+    };
+    let ends = match race_on(rt, scripts, 64, &OpenGate, &mut writer) {
+        Ok(legal) => legal && room >= OF_TWO.len(),
+        Err(RunFault::Write) => room < OF_TWO.len(),
+        Err(fault) => return Err(fault),
+    };
+    Ok(ends && writer.is_as_expected)
+}
+
+/// A writer that fails at each place: a front is written.
+#[test]
+fn failing_writer_of_a_race(rt: HostRuntime) -> Result<(), Fail> {
+    let alloc = rt.alloc();
+    for room in 0..=OF_TWO.len() {
+        match fills(&rt, alloc, room) {
+            Ok(fills) => assert!(rt; fills, "at {room}"),
+            Err(RunFault::Memory) => {}
+            Err(fault) => return Err(fault.into()),
+        }
+    }
+    Ok(())
+}
