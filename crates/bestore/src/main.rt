@@ -4,6 +4,7 @@
 //! The status is 0 for a run or a race to its end and for a request for help, 2 for a command line that says nothing that
 //! can be done, and 1, with one line on standard error, where a run or a race stopped before its end.
 #![tactic(auto)]
+
 ghost use Rattle.std.specs.Prelude.{◌≡◌, length, vec_len, IfOk};
 
 use be_script::{Limits, OpenGate, RunFault, Task, race, run, task};
