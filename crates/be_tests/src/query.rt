@@ -354,6 +354,24 @@ fn predicates(rt: HostRuntime) {
     );
 }
 
+/// An order operator takes its text as it is, a pattern's operator as a pattern.
+#[test]
+fn texts_of_predicates(rt: HostRuntime) {
+    for (op, want) in [
+        (Item::Lt, "\"n\"<\"a\\\\b\""),
+        (Item::Le, "\"n\"<=\"a\\\\b\""),
+        (Item::Gt, "\"n\">\"a\\\\b\""),
+        (Item::Ge, "\"n\">=\"a\\\\b\""),
+        (Item::Eq, "\"n\"==\"ab\""),
+    ] {
+        let items = [named("n"), texted(&rt, "a\\b"), op];
+        assert!(rt;
+            is_text(printed(&rt, built(&rt, &items)), want),
+            "at {want}"
+        );
+    }
+}
+
 /// Example `predicates`, and the order of the refusals of a predicate.
 #[test]
 fn refused_predicates(rt: HostRuntime) {

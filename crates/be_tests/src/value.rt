@@ -41,13 +41,36 @@ fn keys_are_these_bytes(rt: HostRuntime) -> Result<(), Fail> {
         key_of(&Value::text("ab")?, 2).as_slice(),
         [0x61, 0x62, 0, 0, 0, 0, 0, 0, 0, 0, 2].as_slice()
     );
-    assert_eq!(rt;
-        key_of(&Value::uint64(5), 1).as_slice(),
-        [0, 0, 0, 0, 0, 0, 0, 5, 0, 0, 0, 0, 0, 0, 0, 1].as_slice()
-    );
-    assert!(rt; read_key(Kind::Cstr, b"ab").is_none());
-    assert!(rt; read_key(Kind::Rawt, b"abcdefghi").is_none());
     Ok(())
+}
+
+/// Numbers of 64 bits, from the least one.
+#[test]
+fn wide_keys_are_these_bytes(rt: HostRuntime) -> Result<(), Fail> {
+    let keys = [
+        (Value::int64(i64::MIN), [0, 0, 0, 0, 0, 0, 0, 0]),
+        (
+            Value::int64(-1),
+            [0x7f, 0xff, 0xff, 0xff, 0xff, 0xff, 0xff, 0xff],
+        ),
+        (Value::int64(5), [0x80, 0, 0, 0, 0, 0, 0, 5]),
+        (Value::uint64(5), [0, 0, 0, 0, 0, 0, 0, 5]),
+    ];
+    for (value, bytes) in &keys {
+        let key = key_of(value, 1);
+        assert!(rt; key.as_slice().starts_with(bytes));
+    }
+    let longest = Value::text(&repeated(&rt, 'x', 255)?)?;
+    assert_eq!(rt; key_of(&longest, 1).len(), 264);
+    Ok(())
+}
+
+/// Bytes that are the key of no pair, and kinds that no index has.
+#[test]
+fn keys_of_no_pair(rt: HostRuntime) {
+    assert!(rt; read_key(Kind::Cstr, b"ab").is_none());
+    assert!(rt; read_key(Kind::Mims, b"ab\0\0\0\0\0\0\0\0\x01").is_none());
+    assert!(rt; read_key(Kind::Rawt, b"\0\0\0\0\0\0\0\x01").is_none());
 }
 
 #[test]
