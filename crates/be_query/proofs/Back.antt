@@ -88,7 +88,7 @@ joined_reads j ts us d n a b x y k own h g len xs more o al e = ⊎_elim
     (λ w.
     let v = first_whole w.0 j (us ++ more) w.1 w.2 in
     let s : first_fault Operand (parens d) n len xs ≡ first_fault Operand (parens d) (n + x) len v.1 =
-        w.3 ∙ ap (first_fault Joint (parens d) (n + x) len) v.2 ∙ goes_on Joint (parens d) (n + x) len v.0 j v.1 (Operand, parens d) v.3 k (own v.0.start) in
+    w.3 ∙ ap (first_fault Joint (parens d) (n + x) len) v.2 ∙ goes_on Joint (parens d) (n + x) len v.0 j v.1 (Operand, parens d) v.3 k (own v.0.start) in
     ⊎_elim
     (λ u. inl (s ∙ u.0, (let m = le-max_right a b in omega (arith, u.1))))
     (λ u.
@@ -116,11 +116,15 @@ grouped_reads ts d n a m h len xs more o al e =
     (λ u. inl (s ∙ u.0, omega (arith, u.1)))
     (λ u.
     let v = first_whole u.0 Close more u.1 u.2 in
-    inr (v.1, v.4, v.5,
+    inr (
+      v.1,
+      v.4,
+      v.5,
       s ∙ u.3 ∙ ap (first_fault Joint (Paren ∷ parens d) m len) v.2
           ∙ goes_on Joint (Paren ∷ parens d) m len v.0 Close v.1 (Joint, ended (parens d)) v.3 refl refl
           ∙ ap (λ l. first_fault Joint l m len v.1) (ended_parens d),
-      omega (arith, u.4)))
+      omega (arith, u.4),
+    ))
     (h len w.1 (Close ∷ more) (omega (arith, low)) w.4 (w.5 ∙ append_assoc ts (Close ∷ []) more)))
     (cases_Bool (nat_le 64 (length (parens d))))
 
