@@ -119,7 +119,7 @@ fn journal_with_refused_entry(rt: HostRuntime) -> Result<(), Fail> {
     Ok(())
 }
 
-/// A list is entered in the room that was reserved for it.
+/// Example `batches`: a list is entered in the room that was reserved for it.
 #[test]
 fn batches(rt: HostRuntime) -> Result<(), Fail> {
     let mut journal = Journal::new(rt.alloc(), 2);
@@ -127,10 +127,10 @@ fn batches(rt: HostRuntime) -> Result<(), Fail> {
     push(rt.alloc(), &mut journal, made, Done::Unit)?;
     let ops = [Op::New, set("k", Value::int32(5))?];
     reserve(&mut journal, 2)?;
-    journal.push_reserved(3, &ops, &[Done::Node(1), Done::Unit]);
+    journal.push_reserved(0, &ops, &[Done::Node(1), Done::Unit]);
     assert_eq!(rt;
         text(&journal)?.as_str(),
-        "1 by 0 mkindex \"k\" LONG -> ok\n2 by 3 new; set 1 \"k\" LONG 5 -> node 1; ok\n"
+        "1 by 0 mkindex \"k\" LONG -> ok\n2 by 0 new; set 1 \"k\" LONG 5 -> node 1; ok\n"
     );
     assert!(rt; check(&journal)?);
     assert!(rt; matches!(reserve(&mut journal, 1), Err(Refusal::CommitsSpent)));

@@ -41,6 +41,21 @@ fn printed_leaf(rt: &HostRuntime, answer: Result<Query, Refusal>) -> Result<Stri
     }
 }
 
+/// The canonical text of the pattern in an answer's one comparison, or the refusal.
+fn canonical_leaf(rt: &HostRuntime, answer: Result<Query, Refusal>) -> Result<String, Refusal> {
+    let query = answer?;
+    match query.tree() {
+        Tree::Leaf(comparison) => match &comparison.literal {
+            Literal::Pattern(pattern) => match pattern.canonical(rt.alloc()) {
+                Err(Refusal::OutOfMemory) => pattern.canonical(rt.alloc()),
+                text => text,
+            },
+            Literal::Text(_) => Err(Refusal::NotCovered),
+        },
+        _ => Err(Refusal::NotCovered),
+    }
+}
+
 fn refusal<T: Drop>(answer: Result<T, Refusal>) -> Option<Refusal> {
     match answer {
         Ok(_) => None,
@@ -352,6 +367,13 @@ fn predicates(rt: HostRuntime) {
             "(\"a\"!=\"1\" || \"b\"==\"2\") && \"c\"<\"3\""
         )
     );
+}
+
+/// Example `predicates`, the pattern of its second leaf.
+#[test]
+fn pattern_of_predicate(rt: HostRuntime) {
+    let name = [named("name"), texted(&rt, "a*"), Item::BeginsWith];
+    assert!(rt; is_text(canonical_leaf(&rt, built(&rt, &name)), "a\\**"));
 }
 
 /// An order operator takes its text as it is, a pattern's operator as a pattern.
