@@ -29,5 +29,3 @@ pub fn law()
     ensures runs { EachScheduleRuns }
 {}
 
-#[cfg(test)]
-mod tests;
