@@ -33,7 +33,7 @@ current_spelt k page t is = subst (λ p. SpellsVolume (reach_at k.seen (length k
 
 -- a pass that has just taken the lock begins a write
 pub begins_locked : (a k : Knowledge) → TakesLock a k → Begins k
-begins_locked a k t = record { open = ap (λ (x : Knowledge). x.published) t.same; begun = t.begun; spelt = t.spelt }
+begins_locked a k t = record { unpublished = ap (λ (x : Knowledge). x.published) t.same; begun = t.begun; spelt = t.spelt }
 
 swept_standing : (l : ℕ) (x : Place) → standing_at (swept_place l x) ≡ standing_at x
 swept_standing l Free = refl
@@ -61,7 +61,7 @@ begins_scanned old new least h b =
     let k : Knowledge = old.knows in
     let begun : (q : ℕ) → standing_in new.knows.places q ≡ at_start (has (reach_at k.seen (length k.seen)) q) = λ q. ap (λ ps. standing_in ps q) h.places ∙ swept_in least k.places q ∙ b.begun q in
     let same : new.knows ≡ record k { scanned = 0; least = least; places = new.knows.places; held = new.knows.held; steps = new.knows.steps } = ap (λ (w : Work). w.knows) h.same in record {
-      open = ap (λ (x : Knowledge). x.published) same ∙ b.open;
+      unpublished = ap (λ (x : Knowledge). x.published) same ∙ b.unpublished;
       begun = λ q. begun q ∙ ap (λ (x : List Commit). at_start (has (reach_at x (length x)) q)) (sym (ap (λ (x : Knowledge). x.seen) same));
       spelt = subst (λ (x : List Commit × List ℕ). SpellsVolume (reach_at x.0 (length x.0)) (word_in x.1) (page_at x.0 (length x.0)) (replay (entries x.0)))
           (λ i. (sym (ap (λ (x : Knowledge). x.seen) same) i, sym (ap (λ (x : Knowledge). x.words) same) i)) b.spelt;

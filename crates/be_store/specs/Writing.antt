@@ -16,7 +16,7 @@ use Rattle.be_store.specs.Passes.{volume_seen}
 
 -- an open write in which no page is taken yet: where the pages stand, and their words, are those of the current version
 pub record Begins (k : Knowledge) : Type 0 where
-  pub open : k.published ≡ false
+  pub unpublished : k.published ≡ false
   pub begun : (q : ℕ) → standing_in k.places q ≡ at_start (has (reach_at k.seen (length k.seen)) q)
   pub spelt : SpellsVolume (reach_at k.seen (length k.seen)) (word_in k.words) (page_at k.seen (length k.seen)) (volume_seen k)
 

@@ -19,7 +19,7 @@ pub apply_to-requires : goal.apply_to-requires
 apply_to-requires c =
     let t = c.requires.begins in let k = c.args.writing.now.knows in (
       begun_version k t.begun c.current-version_page.result.1 (replay (entries k.seen)) (current_spelt k c.current-version_page.result.1 t c.current-version_page.ensures.version.1),
-      (c.requires.count, (c.current-version_page.ensures.next, t.open)),
+      (c.requires.count, (c.current-version_page.ensures.next, t.unpublished)),
     )
 
 pub publish-number-requires-clause-entry : goal.publish-number-requires-clause-entry
