@@ -2,7 +2,7 @@
 ghost use Rattle.std.specs.Prelude.{◌≡◌, ◌+◌, ◌^◌, ◌<◌, ◌≤◌, IfOk, IfErr, MatchResult, false, length};
 ghost use Rattle.be_paged.specs.Changes.{Applies, IsRefused};
 ghost use Rattle.be_paged.specs.Version.{IsVersion};
-ghost use Rattle.be_store.specs.Writing.{Publishes, IsHeldBack};
+ghost use Rattle.be_store.specs.Writing.{Begins, Publishes, IsHeldBack};
 ghost use Rattle.be_table.specs.declared.pass.Knowledge.{Knowledge};
 ghost use Rattle.be_table.specs.Reading.{open_of, standing_in, standing_of, word_in, words_of};
 ghost use Rattle.be_table.specs.Works.{HoldsUnreached, TakesLock};
@@ -31,13 +31,25 @@ fn apply_to(
     apply(writing, version_page, ops)
 }
 
+/// Scans where a scan is due, so that the write takes pages that were given up lately.
+fn scan_early(writing: &mut Writing<'_>)
+    requires begins { Begins writing.old.knows }
+    ensures table { writing.new.table ≡ writing.old.table }
+    ensures begins { Begins writing.new.knows }
+    ensures kept { open_of writing.new ≡ open_of writing.old }
+{
+    if writing.is_scan_due() {
+        writing.scan();
+    }
+}
+
 /// Applies the operations to the current version, and publishes what they make. A refusal of 2 to 8 comes at once; the
 /// journal's want of room goes before that of a page.
-pub(crate) fn write(
+fn write_current(
     writing: &mut Writing<'_>,
     ops: &[Op],
 ) -> Result<(u64, ArrayVec<Done, 64>), Refusal>
-    requires begun { (a : Knowledge) × TakesLock a writing.old.knows }
+    requires begins { Begins writing.old.knows }
     requires count { (1 ≤ length ops.now) × (length ops.now ≤ 64) }
     ensures table { writing.new.table ≡ writing.old.table }
     ensures answer { MatchResult result (λ r. Publishes writing.old.knows writing.new.knows ops.now r.0 r.1.items) (λ e. IsHeldBack writing.old.knows writing.new.knows ops.now e) }
@@ -55,4 +67,18 @@ pub(crate) fn write(
         }
         Err(refusal) => Err(refusal),
     }
+}
+
+/// Writes to the current version, and scans before that where a scan is due.
+pub(crate) fn write(
+    writing: &mut Writing<'_>,
+    ops: &[Op],
+) -> Result<(u64, ArrayVec<Done, 64>), Refusal>
+    requires begun { (a : Knowledge) × TakesLock a writing.old.knows }
+    requires count { (1 ≤ length ops.now) × (length ops.now ≤ 64) }
+    ensures table { writing.new.table ≡ writing.old.table }
+    ensures answer { MatchResult result (λ r. Publishes writing.old.knows writing.new.knows ops.now r.0 r.1.items) (λ e. IsHeldBack writing.old.knows writing.new.knows ops.now e) }
+{
+    scan_early(writing);
+    write_current(writing, ops)
 }
