@@ -23,7 +23,7 @@ mod source;
 mod tests;
 mod walks;
 
-pub use choosing::choose;
+pub use choosing::{choose, choose_from};
 pub use coverage::covers;
 pub use explaining::explain;
 pub use laws::list_stands_for_volume;

@@ -1,9 +1,9 @@
 //! Worked examples, by calls. Most are written as lines `request => reply`, a list of one operation each.
 
-use crate::{Done, Op, Volume};
 use arrayvec::ArrayVec;
 use be_query::parse;
-use be_value::{Kind, Name, Refusal, Value, key_of, number_of, word_of};
+use be_value::{Kind, Name, Refusal, Value, number_of, word_of};
+use be_volume::{Done, Op, Volume};
 use std::alloc::Global;
 use std::test::Fail;
 
@@ -159,67 +159,126 @@ drop 2 => ok
 query k==x => nodes 1 3
 new => node 4";
 
-#[test]
-fn equal_values(rt: HostRuntime) -> Result<(), Fail> {
-    let mut volume = Volume::new(rt.alloc());
-    runs(rt.alloc(), &mut volume, EQUAL_VALUES)?;
-    assert!(rt; volume.get(2, &Name::new("k")?).is_none());
-    Ok(())
+/// The volume after these requests, each of which has its reply.
+fn after(alloc: Global, lines: &str) -> Result<Volume, Fail> {
+    let mut volume = Volume::new(alloc);
+    runs(alloc, &mut volume, lines)?;
+    Ok(volume)
+}
+
+fn has_attribute(volume: &Volume, node: u64, name: &str) -> bool {
+    match Name::new(name) {
+        Ok(name) => volume.get(node, &name).is_some(),
+        Err(_) => false,
+    }
 }
 
 #[test]
-fn volume_copy(rt: HostRuntime) -> Result<(), Fail> {
-    let mut volume = Volume::new(rt.alloc());
-    runs(rt.alloc(), &mut volume, EQUAL_VALUES)?;
+fn equal_values(rt: HostRuntime) -> Result<(), Fail> {
+    let volume = after(rt.alloc(), EQUAL_VALUES)?;
+    assert!(rt; !has_attribute(&volume, 2, "k"));
+    Ok(())
+}
+
+/// Runs requests on a copy. A call that is refused memory is made again.
+fn runs_on_copy(alloc: Global, volume: &Volume, lines: &str) -> Result<(), Fail> {
     let mut copy = match volume.copy() {
         Err(Refusal::OutOfMemory) => volume.copy()?,
         answer => answer?,
     };
-    runs(
+    runs(alloc, &mut copy, lines)
+}
+
+#[test]
+fn volume_copy(rt: HostRuntime) -> Result<(), Fail> {
+    let mut volume = after(rt.alloc(), EQUAL_VALUES)?;
+    runs_on_copy(
         rt.alloc(),
-        &mut copy,
+        &volume,
         "query k==x => nodes 1 3\ndrop 1 => ok\nquery k==x => nodes 3",
     )?;
     runs(rt.alloc(), &mut volume, "query k==x => nodes 1 3")
 }
 
+/// Whether the key at these bytes or after them is this one, or none where this has no bytes.
+fn is_next(volume: &Volume, index: &str, from: &[u8], after: bool, key: &[u8]) -> bool {
+    let Ok(name) = Name::new(index) else {
+        return false;
+    };
+    match volume.next_key(&name, from, after) {
+        Some(next) => next.as_slice() == key,
+        None => key.is_empty(),
+    }
+}
+
+fn has_key(volume: &Volume, index: &str, key: &[u8]) -> bool {
+    match Name::new(index) {
+        Ok(name) => volume.has_key(&name, key),
+        Err(_) => false,
+    }
+}
+
+fn kind_of(volume: &Volume, index: &str) -> Option<Kind> {
+    volume.kind_of(&Name::new(index).ok()?)
+}
+
+/// The key of the text x and node 1.
+const FIRST: [u8; 10] = [0x78, 0, 0, 0, 0, 0, 0, 0, 0, 1];
+
+/// The key of the text x and node 3.
+const LAST: [u8; 10] = [0x78, 0, 0, 0, 0, 0, 0, 0, 0, 3];
+
+/// Which key is next, and after which there is none.
+fn goes_on(volume: &Volume) -> bool {
+    is_next(volume, "k", &FIRST, true, &LAST)
+        && is_next(volume, "k", &LAST, true, &[])
+        && is_next(volume, "k", &LAST, false, &LAST)
+        && is_next(volume, "q", &LAST, false, &[])
+}
+
+/// Which keys and which indices are there.
+fn knows(volume: &Volume) -> bool {
+    has_key(volume, "k", &LAST)
+        && !has_key(volume, "k", &[0x78])
+        && matches!(kind_of(volume, "k"), Some(Kind::Cstr))
+        && kind_of(volume, "q").is_none()
+}
+
 #[test]
 fn plan_source(rt: HostRuntime) -> Result<(), Fail> {
-    let mut volume = Volume::new(rt.alloc());
-    runs(rt.alloc(), &mut volume, EQUAL_VALUES)?;
-    let k = Name::new("k")?;
-    let q = Name::new("q")?;
-    let first = key_of(&Value::text("x")?, 1);
-    let last = [0x78, 0, 0, 0, 0, 0, 0, 0, 0, 3];
-    let Some(next) = volume.next_key(&k, first.as_slice(), true) else {
-        return Err(Fail::new("no next key"));
-    };
-    assert_eq!(rt; next.as_slice(), last.as_slice());
-    assert!(rt; volume.next_key(&k, &last, true).is_none());
-    assert!(rt; volume.next_key(&k, &last, false).is_some());
-    assert!(rt; volume.has_key(&k, &last));
-    assert!(rt; !volume.has_key(&k, &[0x78]));
-    assert!(rt; volume.next_key(&q, &last, false).is_none());
-    assert!(rt; matches!(volume.kind_of(&k), Some(Kind::Cstr)));
-    assert!(rt; volume.kind_of(&q).is_none());
+    let volume = after(rt.alloc(), EQUAL_VALUES)?;
+    assert!(rt; goes_on(&volume));
+    assert!(rt; knows(&volume));
     Ok(())
+}
+
+/// The text 300 times. A call that is refused memory is made again.
+fn longer_than_keys(alloc: Global, text: &str) -> Result<String, Refusal> {
+    match text.repeat(alloc, 300) {
+        Err(_) => Ok(text.repeat(alloc, 300)?),
+        Ok(text) => Ok(text),
+    }
+}
+
+/// Whether bytes below all keys stand before the first one, those above them before none, and neither are a key.
+fn lie_between(volume: &Volume, below: &[u8], above: &[u8]) -> bool {
+    is_next(volume, "k", below, false, &FIRST)
+        && is_next(volume, "k", above, false, &[])
+        && !has_key(volume, "k", below)
 }
 
 /// Bytes that are longer than any key lie between keys.
 #[test]
 fn long_bytes_are_no_key(rt: HostRuntime) -> Result<(), Fail> {
-    let mut volume = Volume::new(rt.alloc());
-    runs(rt.alloc(), &mut volume, EQUAL_VALUES)?;
-    let k = Name::new("k")?;
-    assert!(rt; volume.next_key(&k, &[0; 300], false).is_some());
-    assert!(rt; volume.next_key(&k, &[0x79; 300], false).is_none());
-    assert!(rt; !volume.has_key(&k, &[0; 300]));
+    let below = longer_than_keys(rt.alloc(), "\0")?;
+    let above = longer_than_keys(rt.alloc(), "y")?;
+    let volume = after(rt.alloc(), EQUAL_VALUES)?;
+    assert!(rt; lie_between(&volume, below.as_bytes(), above.as_bytes()));
     Ok(())
 }
 
 #[test]
 fn integers(rt: HostRuntime) -> Result<(), Fail> {
-    let mut volume = Volume::new(rt.alloc());
     let lines = "mkindex n LONG => ok
 new => node 1
 new => node 2
@@ -236,12 +295,12 @@ query n==-0 => nodes 1
 query n!=0 => nodes 2 3 4
 query n!=abc => nodes
 query n<99999999999999999999 => nodes";
-    runs(rt.alloc(), &mut volume, lines)
+    let _volume = after(rt.alloc(), lines)?;
+    Ok(())
 }
 
 #[test]
 fn texts(rt: HostRuntime) -> Result<(), Fail> {
-    let mut volume = Volume::new(rt.alloc());
     let lines = "mkindex t CSTR => ok
 new => node 1
 new => node 2
@@ -254,12 +313,12 @@ set 4 t CSTR xxxxxxxxxxxxxxxxxxxxxxxxxxxxxxxxxxxxxxxxxxxxxxxxxxxxxxxxxxxxxxxxxxx
 query t<ab => nodes 1 3
 query t<=\"\" => nodes 3
 query t>a => nodes 2 4";
-    runs(rt.alloc(), &mut volume, lines)
+    let _volume = after(rt.alloc(), lines)?;
+    Ok(())
 }
 
 #[test]
 fn absent_attribute(rt: HostRuntime) -> Result<(), Fail> {
-    let mut volume = Volume::new(rt.alloc());
     let lines = "mkindex size LONG => ok
 new => node 1
 new => node 2
@@ -268,12 +327,12 @@ query !(size<5) => nodes 1
 query !(size>=5) => nodes
 query size!=7 => nodes
 query size!=8 => nodes 1";
-    runs(rt.alloc(), &mut volume, lines)
+    let _volume = after(rt.alloc(), lines)?;
+    Ok(())
 }
 
 #[test]
 fn patterns(rt: HostRuntime) -> Result<(), Fail> {
-    let mut volume = Volume::new(rt.alloc());
     let lines = "mkindex name CSTR => ok
 new => node 1
 new => node 2
@@ -290,12 +349,12 @@ query name==\"x.[^a-d]\" => nodes 2
 query name==\"x.\\*\" => nodes
 query name<\"x.[a-d]\" => nodes 2
 query ((name==\"*[cC]\")&&(name!=\"b*\")) => nodes 1 2";
-    runs(rt.alloc(), &mut volume, lines)
+    let _volume = after(rt.alloc(), lines)?;
+    Ok(())
 }
 
 #[test]
 fn two_indices(rt: HostRuntime) -> Result<(), Fail> {
-    let mut volume = Volume::new(rt.alloc());
     let lines = "new => node 1
 set 1 a LONG 1 => ok
 mkindex a LONG => ok
@@ -306,12 +365,12 @@ set 2 a LONG 1 => ok
 set 2 b LONG 2 => ok
 query a==1 && b==2 => nodes 2
 query b==2 => nodes 1 2";
-    runs(rt.alloc(), &mut volume, lines)
+    let _volume = after(rt.alloc(), lines)?;
+    Ok(())
 }
 
 #[test]
 fn coverage(rt: HostRuntime) -> Result<(), Fail> {
-    let mut volume = Volume::new(rt.alloc());
     let lines = "mkindex a LONG => ok
 new => node 1
 set 1 a LONG 1 => ok
@@ -320,7 +379,8 @@ query a==1||b==2 => refused 17
 query a==1&&b==2 => nodes 1
 query b==2 => refused 17
 query !(a==1||b==3) => nodes";
-    runs(rt.alloc(), &mut volume, lines)
+    let _volume = after(rt.alloc(), lines)?;
+    Ok(())
 }
 
 /// A line with this number in it.
@@ -331,9 +391,22 @@ fn numbered(alloc: Global, before: &str, i: u64, after: &str) -> Result<String, 
     }
 }
 
+/// Runs so many requests with a number from 0 on.
+fn runs_numbered(
+    alloc: Global,
+    volume: &mut Volume,
+    before: &str,
+    count: u64,
+    after: &str,
+) -> Result<(), Fail> {
+    for i in 0..count {
+        runs(alloc, volume, numbered(alloc, before, i, after)?.as_str())?;
+    }
+    Ok(())
+}
+
 #[test]
 fn refusals(rt: HostRuntime) -> Result<(), Fail> {
-    let mut volume = Volume::new(rt.alloc());
     let lines = "new => node 1
 drop 9 => refused 2
 unset 1 a => refused 3
@@ -341,15 +414,9 @@ mkindex r RAWT => refused 8
 rmindex r => refused 6
 mkindex r CSTR => ok
 mkindex r CSTR => refused 5";
-    runs(rt.alloc(), &mut volume, lines)?;
-    for i in 0..31 {
-        let line = numbered(rt.alloc(), "mkindex i", i, " LONG => ok")?;
-        runs(rt.alloc(), &mut volume, line.as_str())?;
-    }
-    for i in 0..64 {
-        let line = numbered(rt.alloc(), "set 1 a", i, " LONG 1 => ok")?;
-        runs(rt.alloc(), &mut volume, line.as_str())?;
-    }
+    let mut volume = after(rt.alloc(), lines)?;
+    runs_numbered(rt.alloc(), &mut volume, "mkindex i", 31, " LONG => ok")?;
+    runs_numbered(rt.alloc(), &mut volume, "set 1 a", 64, " LONG 1 => ok")?;
     let lines = "mkindex new LONG => refused 7
 mkindex new RAWT => refused 7
 mkindex r RAWT => refused 5
@@ -358,33 +425,55 @@ set 1 a0 LONG 2 => ok";
     runs(rt.alloc(), &mut volume, lines)
 }
 
+fn is_text(volume: &Volume, node: u64, name: &str) -> bool {
+    match Name::new(name) {
+        Ok(name) => matches!(volume.get(node, &name), Some(Value::Cstr(_))),
+        Err(_) => false,
+    }
+}
+
+/// Whether the node has one attribute, a text. A call that is refused memory is made again.
+fn has_one_text(volume: &Volume, node: u64) -> Result<bool, Refusal> {
+    let attributes = match volume.attrs(node) {
+        Err(Refusal::OutOfMemory) => volume.attrs(node)?,
+        answer => answer?,
+    };
+    Ok(matches!(attributes.as_slice(), [(_, Value::Cstr(_))]))
+}
+
+/// Whether the volume has one index, of the kind LONG. A call that is refused memory is made again.
+fn has_one_index(volume: &Volume) -> Result<bool, Refusal> {
+    let indices = match volume.indices() {
+        Err(Refusal::OutOfMemory) => volume.indices()?,
+        answer => answer?,
+    };
+    Ok(matches!(indices.as_slice(), [(_, Kind::Long)]))
+}
+
+fn lacks_node(volume: &Volume, node: u64) -> bool {
+    matches!(volume.attrs(node), Err(Refusal::NoNode))
+}
+
+/// Whether node 1 has a text where the one index has integers, and there is no node 2.
+fn has_changed(volume: &Volume) -> Result<bool, Refusal> {
+    let text = is_text(volume, 1, "k") && lacks_node(volume, 2);
+    Ok(text && has_one_text(volume, 1)? && has_one_index(volume)?)
+}
+
 #[test]
 fn kind_change(rt: HostRuntime) -> Result<(), Fail> {
-    let mut volume = Volume::new(rt.alloc());
     let lines = "mkindex k LONG => ok
 new => node 1
 set 1 k LONG 5 => ok
 set 1 k CSTR 5 => ok
 query k==5 => nodes";
-    runs(rt.alloc(), &mut volume, lines)?;
-    assert!(rt; matches!(volume.get(1, &Name::new("k")?), Some(Value::Cstr(_))));
-    let attributes = match volume.attrs(1) {
-        Err(Refusal::OutOfMemory) => volume.attrs(1)?,
-        answer => answer?,
-    };
-    assert!(rt; matches!(attributes.as_slice(), [(_, Value::Cstr(_))]));
-    let indices = match volume.indices() {
-        Err(Refusal::OutOfMemory) => volume.indices()?,
-        answer => answer?,
-    };
-    assert!(rt; matches!(indices.as_slice(), [(_, Kind::Long)]));
-    assert!(rt; matches!(volume.attrs(2), Err(Refusal::NoNode)));
+    let volume = after(rt.alloc(), lines)?;
+    assert!(rt; has_changed(&volume)?);
     Ok(())
 }
 
 #[test]
 fn index_removed(rt: HostRuntime) -> Result<(), Fail> {
-    let mut volume = Volume::new(rt.alloc());
     let lines = "mkindex k LONG => ok
 new => node 1
 set 1 k LONG 5 => ok
@@ -392,12 +481,12 @@ rmindex k => ok
 query k==5 => refused 17
 mkindex k LONG => ok
 query k==5 => nodes";
-    runs(rt.alloc(), &mut volume, lines)
+    let _volume = after(rt.alloc(), lines)?;
+    Ok(())
 }
 
 #[test]
 fn unsigned_values(rt: HostRuntime) -> Result<(), Fail> {
-    let mut volume = Volume::new(rt.alloc());
     let lines = "mkindex u ULLG => ok
 new => node 1
 new => node 2
@@ -412,35 +501,56 @@ mkindex n LONG => ok
 set 1 n LONG 5 => ok
 query n<9223372036854775808 => nodes 1
 query n==00000000000000000005 => nodes 1";
-    runs(rt.alloc(), &mut volume, lines)
+    let _volume = after(rt.alloc(), lines)?;
+    Ok(())
+}
+
+/// What a list of these two operations is answered.
+fn apply_both(
+    volume: &mut Volume,
+    first: &str,
+    second: &str,
+) -> Result<ArrayVec<Done, 64>, Refusal> {
+    let (Some(first), Some(second)) = (read_op(first), read_op(second)) else {
+        return Err(Refusal::BadLimits);
+    };
+    apply(volume, &[first, second])
 }
 
 /// Whether the list of these two operations is refused so.
 fn refuses(volume: &mut Volume, first: &str, second: &str, number: u8) -> bool {
-    let (Some(first), Some(second)) = (read_op(first), read_op(second)) else {
-        return false;
-    };
-    match apply(volume, &[first, second]) {
+    match apply_both(volume, first, second) {
         Err(refusal) => refusal.number() == number,
         Ok(_) => false,
     }
 }
 
-#[test]
-fn batches(rt: HostRuntime) -> Result<(), Fail> {
-    let mut volume = Volume::new(rt.alloc());
-    runs(rt.alloc(), &mut volume, "mkindex k LONG => ok")?;
-    let ops = [Op::New, Op::Set(1, Name::new("k")?, Value::int32(5))];
-    let dones = match apply(&mut volume, &ops) {
-        Err(Refusal::OutOfMemory) => apply(&mut volume, &ops)?,
+fn are_node_and_unit(dones: &[Done]) -> bool {
+    matches!(dones, [Done::Node(1), Done::Unit])
+}
+
+/// Whether a node and its first attribute are made by one list. A call that is refused memory is made again.
+fn makes_both(volume: &mut Volume) -> Result<bool, Refusal> {
+    let dones = match apply_both(volume, "new", "set 1 k LONG 5") {
+        Err(Refusal::OutOfMemory) => apply_both(volume, "new", "set 1 k LONG 5")?,
         answer => answer?,
     };
-    assert_eq!(rt; dones.as_slice(), [Done::Node(1), Done::Unit].as_slice());
-    assert!(rt; refuses(&mut volume, "set 1 k LONG 6", "drop 9", 2));
-    // These refusals rest on what the first operation does.
-    assert!(rt; refuses(&mut volume, "drop 1", "set 1 k LONG 6", 2));
-    assert!(rt; refuses(&mut volume, "new", "unset 2 k", 3));
-    assert!(rt; refuses(&mut volume, "rmindex k", "rmindex k", 6));
+    Ok(are_node_and_unit(dones.as_slice()))
+}
+
+/// Whether each list is refused; but for the first, by what its first operation does.
+fn refuses_lists(volume: &mut Volume) -> bool {
+    refuses(volume, "set 1 k LONG 6", "drop 9", 2)
+        && refuses(volume, "drop 1", "set 1 k LONG 6", 2)
+        && refuses(volume, "new", "unset 2 k", 3)
+        && refuses(volume, "rmindex k", "rmindex k", 6)
+}
+
+#[test]
+fn batches(rt: HostRuntime) -> Result<(), Fail> {
+    let mut volume = after(rt.alloc(), "mkindex k LONG => ok")?;
+    assert!(rt; makes_both(&mut volume)?);
+    assert!(rt; refuses_lists(&mut volume));
     runs(
         rt.alloc(),
         &mut volume,
