@@ -5,8 +5,8 @@
 //!
 //! What the helpers tell of a pass is that it is one of the store, and its number. Whether it is pinned, they ask it.
 //! Each borrows what it uses and answers with plain values, so a call's clauses end with the helper that makes it.
-ghost use Rattle.std.specs.Prelude.{◌≡◌, ◌≤◌, IfOk, None, length};
-ghost use Rattle.be_store.specs.Passes.{IsPassOf};
+ghost use Rattle.std.specs.Prelude.{◌≡◌, ◌≤◌, ℕ, IfOk, None, length};
+ghost use Rattle.be_store.specs.Passes.{IsPassOf, IsPinnedTo};
 ghost use Rattle.be_table.specs.Seats.{pinned_number};
 ghost use Rattle.be_table.specs.Works.{AreNew};
 
@@ -159,7 +159,24 @@ fn parsed(alloc: Global, text: &str) -> Result<Query, Refusal> {
     }
 }
 
-/// A query on the pin, in the same way. BadLimits where there is none.
+/// A query on the pin, in the same way.
+fn ask_pinned(
+    store: &Store,
+    alloc: Global,
+    pass: &mut Pass,
+    query: &Query,
+) -> Result<Answer, Refusal>
+    requires pass { IsPassOf store.now pass.old }
+    requires pinned { (n : ℕ) × IsPinnedTo pass.old.knows n }
+    ensures { IsPassOf store.now pass.new }
+{
+    match store.query(alloc, pass, query) {
+        Err(Refusal::OutOfMemory) => store.query(alloc, pass, query),
+        answer => answer,
+    }
+}
+
+/// The same of a pass that may be pinned. BadLimits where it isn't.
 fn ask(store: &Store, alloc: Global, pass: &mut Pass, query: &Query) -> Result<Answer, Refusal>
     requires { IsPassOf store.now pass.old }
     ensures { IsPassOf store.now pass.new }
@@ -167,10 +184,7 @@ fn ask(store: &Store, alloc: Global, pass: &mut Pass, query: &Query) -> Result<A
     if pass.pinned().is_none() {
         return Err(Refusal::BadLimits);
     }
-    match store.query(alloc, pass, query) {
-        Err(Refusal::OutOfMemory) => store.query(alloc, pass, query),
-        answer => answer,
-    }
+    ask_pinned(store, alloc, pass, query)
 }
 
 /// Whether the query of a text answers with this pin and these nodes.
@@ -208,7 +222,23 @@ fn value_of(store: &Store, pass: &mut Pass, name: &Name) -> Option<Value>
     store.get(pass, 1, name)
 }
 
-/// How many attributes node 1 has at the pin, at the second call where memory is refused at the first.
+/// Node 1's attributes at the pin, at the second call where memory is refused at the first.
+fn attrs_pinned(
+    store: &Store,
+    alloc: Global,
+    pass: &mut Pass,
+) -> Result<Vec<(Name, Value)>, Refusal>
+    requires pass { IsPassOf store.now pass.old }
+    requires pinned { (n : ℕ) × IsPinnedTo pass.old.knows n }
+    ensures { IsPassOf store.now pass.new }
+{
+    match store.attrs(alloc, pass, 1) {
+        Err(Refusal::OutOfMemory) => store.attrs(alloc, pass, 1),
+        answer => answer,
+    }
+}
+
+/// How many they are. BadLimits where the pass isn't pinned.
 fn count_attrs(store: &Store, alloc: Global, pass: &mut Pass) -> Result<usize, Refusal>
     requires { IsPassOf store.now pass.old }
     ensures { IsPassOf store.now pass.new }
@@ -216,14 +246,27 @@ fn count_attrs(store: &Store, alloc: Global, pass: &mut Pass) -> Result<usize, R
     if pass.pinned().is_none() {
         return Err(Refusal::BadLimits);
     }
-    let list = match store.attrs(alloc, pass, 1) {
-        Err(Refusal::OutOfMemory) => store.attrs(alloc, pass, 1),
-        answer => answer,
-    }?;
-    Ok(list.len())
+    Ok(attrs_pinned(store, alloc, pass)?.len())
 }
 
-/// How many indices there are at the pin, in the same way.
+/// The indices at the pin, at the second call where memory is refused at the first.
+fn indices_pinned(
+    store: &Store,
+    alloc: Global,
+    pass: &mut Pass,
+) -> Result<Vec<(Name, Kind)>, Refusal>
+    requires pass { IsPassOf store.now pass.old }
+    requires pinned { (n : ℕ) × IsPinnedTo pass.old.knows n }
+    ensures pass { IsPassOf store.now pass.new }
+    ensures number { pass.new.knows.number ≡ pass.old.knows.number }
+{
+    match store.indices(alloc, pass) {
+        Err(Refusal::OutOfMemory) => store.indices(alloc, pass),
+        answer => answer,
+    }
+}
+
+/// How many they are. BadLimits where the pass isn't pinned.
 fn count_indices(store: &Store, alloc: Global, pass: &mut Pass) -> Result<usize, Refusal>
     requires { IsPassOf store.now pass.old }
     ensures pass { IsPassOf store.now pass.new }
@@ -232,11 +275,7 @@ fn count_indices(store: &Store, alloc: Global, pass: &mut Pass) -> Result<usize,
     if pass.pinned().is_none() {
         return Err(Refusal::BadLimits);
     }
-    let list = match store.indices(alloc, pass) {
-        Err(Refusal::OutOfMemory) => store.indices(alloc, pass),
-        answer => answer,
-    }?;
-    Ok(list.len())
+    Ok(indices_pinned(store, alloc, pass)?.len())
 }
 
 /// Whether a store with these limits is refused for them.
@@ -273,7 +312,13 @@ fn open_limits(rt: HostRuntime) -> Result<(), Fail> {
 }
 
 /// Node 1 is made, and the reader pins. Then it gets an attribute, which the reader doesn't see.
-fn keeps_pin(store: &Store, alloc: Global, a: &mut Pass, b: &mut Pass, name: &Name) -> Result<bool, Refusal>
+fn keeps_pin(
+    store: &Store,
+    alloc: Global,
+    a: &mut Pass,
+    b: &mut Pass,
+    name: &Name,
+) -> Result<bool, Refusal>
     requires { IsPassOf store.now a.old × IsPassOf store.now b.old }
     ensures { IsPassOf store.now a.new × IsPassOf store.now b.new }
 {
@@ -360,7 +405,13 @@ fn live_query(rt: HostRuntime) -> Result<(), Fail> {
 
 /// Sets the attribute of node 1 to 1 to 500, while the other pass is pinned at 3 and finds node 1 where it is 0. The
 /// first value that found no page, if each after it found none either and the answers are as they should be.
-fn fill_pool(store: &Store, alloc: Global, writer: &mut Pass, reader: &mut Pass, name: &Name) -> Option<i32>
+fn fill_pool(
+    store: &Store,
+    alloc: Global,
+    writer: &mut Pass,
+    reader: &mut Pass,
+    name: &Name,
+) -> Option<i32>
     requires { IsPassOf store.now writer.old × IsPassOf store.now reader.old }
     ensures { IsPassOf store.now writer.new × IsPassOf store.now reader.new }
 {
@@ -479,11 +530,20 @@ fn drops_no_node(store: &Store, pass: &mut Pass) -> bool
     ensures pass { IsPassOf store.now pass.new }
     ensures number { pass.new.knows.number ≡ pass.old.knows.number }
 {
-    matches!(write_list(store, pass, &[Op::New, Op::Drop(99)]), Err(Refusal::NoNode))
+    matches!(
+        write_list(store, pass, &[Op::New, Op::Drop(99)]),
+        Err(Refusal::NoNode)
+    )
 }
 
 /// Whether node 1 has no attribute of this name, and there is no index, at the current version, which has this number.
-fn reads_bare(store: &Store, alloc: Global, pass: &mut Pass, name: &Name, number: u64) -> Result<bool, Refusal>
+fn reads_bare(
+    store: &Store,
+    alloc: Global,
+    pass: &mut Pass,
+    name: &Name,
+    number: u64,
+) -> Result<bool, Refusal>
     requires { IsPassOf store.now pass.old }
     ensures pass { IsPassOf store.now pass.new }
     ensures number { pass.new.knows.number ≡ pass.old.knows.number }
