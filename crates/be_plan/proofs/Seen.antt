@@ -58,21 +58,6 @@ module _ (s : State) (sound : IsSound s) (name : List ℕ) (node : ℕ) (fits : 
       (kind_of value ≡ kind → IsKey s name (key value node) → ⊥) → None ≡ sees s node name
   seen_none value kind has is not = by_index _ value kind refl has is not
 
-  -- where the node has no attribute, nothing is seen
-  pub unseen : attribute s node name ≡ None → None ≡ sees s node name
-  unseen is = by (map.get s.indices name) refl
-    where
-      of_pair : (index : Index) (found : Option Value) → map.get s.indices name ≡ Some index → map.get index.pairs node ≡ found → None ≡ found
-      of_pair index None there got = refl
-      of_pair index (Some v) there got =
-          let paired : IsPaired s name index.kind node v = sound.pairs name index node v there got in
-          let no : None ≡ Some v = sym is ∙ paired.attribute_is in
-          cc
-
-      by : (found : Option Index) → map.get s.indices name ≡ found → None ≡ sees s node name
-      by None there = sym is ∙ ap (λ i. seen_in i (attribute s node name) node) (sym there)
-      by (Some index) there = of_pair index _ there refl ∙ ap (λ i. seen_in i (attribute s node name) node) (sym there)
-
 -- the kind of an index is indexable
 pub kind_indexable : (s : State) → IsSound s → (name : List ℕ) (kind : Kind) → index_kind s name ≡ Some kind → IsTrue (is_indexable kind)
 kind_indexable s sound name kind is = by (map.get s.indices name) refl is

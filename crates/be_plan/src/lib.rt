@@ -19,8 +19,6 @@ mod plans;
 mod ranges;
 mod running;
 mod source;
-#[cfg(test)]
-mod tests;
 mod walks;
 
 pub use choosing::{choose, choose_from};

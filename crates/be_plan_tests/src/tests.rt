@@ -2,15 +2,18 @@
 //!
 //! A volume is made by lines such as `set 1 n LONG 5`. What is asked of it stands in lines `COMMAND QUERY => REPLY`. The command `explain` asks
 //! what the query is answered from, and `query` for its nodes by these picks. Digits are a command too: the nodes by these picks, a digit for
-//! each. Behind the nodes stands of which indices a key was asked, the first letter of the name for each call, as for each node of a
-//! range and for its end: `nodes 2 3 asks nnn`.
+//! each. Behind the nodes stands of which indices a key was asked, the first letter of the name for each call, and for a range that is asked
+//! for whole, one for each key that lies in it and one for its end: `nodes 2 3 asks nnn`.
 
 ghost use Rattle.be_volume.specs.Volume.{State};
+ghost use Rattle.be_plan.specs.Sources.{IsVolume};
 
-use crate::{Cover, Picks, Source, VolumeSource, choose, covers, explain, run, volume_source};
 use arrayvec::{ArrayString, ArrayVec};
+use be_plan::{
+    Cover, Picks, Source, VolumeSource, choose, choose_from, covers, explain, run, volume_source,
+};
 use be_query::{Query, parse};
-use be_value::{Kind, Name, Refusal, Value, key_of, number_of, word_of};
+use be_value::{Kind, Name, Refusal, Value, number_of, word_of};
 use be_volume::{Op, Volume};
 use std::alloc::Global;
 use std::test::Fail;
@@ -19,19 +22,57 @@ fn first_letter(name: &Name) -> char {
     name.as_str().chars().next().unwrap_or('?')
 }
 
-/// Writes down a step for each node of a range, and one for its end.
-fn write_steps(asked: &mut ArrayString<64>, name: &Name, nodes: usize) {
-    for _ in 0..=nodes {
+/// Whether the key is above the bound, if there is one.
+fn is_past(high: Option<&[u8]>, key: &[u8]) -> bool {
+    match high {
+        Some(high) => key > high,
+        None => false,
+    }
+}
+
+/// How many keys of the index lie from `low` to `high`, up to 64, counted from key to key.
+fn keys_within(volume: &Volume, name: &Name, low: &[u8], high: Option<&[u8]>) -> usize {
+    let mut next = volume.next_key(name, low, false);
+    for count in 0..64 {
+        let Some(key) = &next else {
+            return count;
+        };
+        if is_past(high, key.as_slice()) {
+            return count;
+        }
+        next = volume.next_key(name, key.as_slice(), true);
+    }
+    64
+}
+
+/// Writes down a step for each of so many keys, and one for the end.
+fn write_steps(asked: &mut ArrayString<64>, name: &Name, keys: usize) {
+    for _ in 0..=keys {
         let _full = asked.try_push(first_letter(name));
     }
 }
 
-/// A volume's source that writes down of which index it is asked for a key, and counts the ranges that it is asked for.
+/// A volume's source that writes down of which index it is asked for a key, and counts the kinds and the ranges that it is asked for.
 #[derive(Drop)]
 struct Recording<'a> {
     source: VolumeSource<'a>,
+    volume: &'a Volume,
     asked: ArrayString<64>,
+    kinds: u64,
     ranges: u64,
+}
+
+/// A source that has written nothing yet.
+fn start_recording(volume: &Volume) -> Recording<'_>
+    ensures { IsVolume result.source volume.now }
+{
+    Recording {
+        source: volume_source(volume),
+        volume,
+        asked: ArrayString::new(),
+        kinds: 0,
+        ranges: 0,
+    }
 }
 
 impl Source for Recording<'_> {
@@ -47,6 +88,7 @@ impl Source for Recording<'_> {
     ghost sound = { λ s volume is. is.sound };
 
     fn kind_of(&mut self, name: &Name) -> Option<Kind> {
+        self.kinds = self.kinds.wrapping_add(1);
         self.source.kind_of(name)
     }
 
@@ -63,10 +105,9 @@ impl Source for Recording<'_> {
         found: &mut Vec<u64>,
     ) -> Result<(), Refusal> {
         self.ranges = self.ranges.wrapping_add(1);
-        let before = found.len();
-        let done = self.source.nodes_within(name, low, high, found);
-        write_steps(&mut self.asked, name, found.len().saturating_sub(before));
-        done
+        let keys = keys_within(self.volume, name, low, high);
+        write_steps(&mut self.asked, name, keys);
+        self.source.nodes_within(name, low, high, found)
     }
 
     fn has_key(&mut self, name: &Name, key: &[u8]) -> bool {
@@ -173,11 +214,7 @@ fn nodes_text(alloc: Global, nodes: &[u64]) -> Result<String, Refusal> {
 
 /// The nodes by the cover, and what was asked for them.
 fn found(alloc: Global, volume: &Volume, query: &Query, cover: &Cover) -> Result<String, Refusal> {
-    let mut source = Recording {
-        source: volume_source(volume),
-        asked: ArrayString::new(),
-        ranges: 0,
-    };
+    let mut source = start_recording(volume);
     if !covers(cover, query, &mut source) {
         return Ok(String::from_str(alloc, "not covered")?);
     }
@@ -435,6 +472,24 @@ fn is_next<S: Source + Drop>(
     }
 }
 
+/// The key of the text x and node 1.
+const FIRST: [u8; 10] = [0x78, 0, 0, 0, 0, 0, 0, 0, 0, 1];
+
+/// The key of the text x and node 3.
+const LAST: [u8; 10] = [0x78, 0, 0, 0, 0, 0, 0, 0, 0, 3];
+
+fn gives_kinds(volume: &Volume, index: &Name, other: &Name) -> bool {
+    matches!(kind_by(volume_source(volume), index), Some(Kind::Cstr))
+        && kind_by(volume_source(volume), other).is_none()
+}
+
+fn gives_keys(volume: &Volume, index: &Name, other: &Name) -> bool {
+    is_next(volume_source(volume), index, &FIRST, true, &LAST)
+        && is_next(volume_source(volume), index, &LAST, true, &[])
+        && is_next(volume_source(volume), index, &LAST, false, &LAST)
+        && is_next(volume_source(volume), other, &LAST, false, &[])
+}
+
 #[test]
 fn plan_source(rt: HostRuntime) -> Result<(), Fail> {
     let lines = "mkindex k CSTR
@@ -446,17 +501,11 @@ set 2 k CSTR x
 set 3 k CSTR x
 drop 2
 new";
-    let volume = volume_of(rt.alloc(), lines)?;
     let k = Name::new("k")?;
     let q = Name::new("q")?;
-    let first = key_of(&Value::text("x")?, 1);
-    let last = [0x78, 0, 0, 0, 0, 0, 0, 0, 0, 3];
-    assert!(rt; matches!(kind_by(volume_source(&volume), &k), Some(Kind::Cstr)));
-    assert!(rt; kind_by(volume_source(&volume), &q).is_none());
-    assert!(rt; is_next(volume_source(&volume), &k, first.as_slice(), true, &last));
-    assert!(rt; is_next(volume_source(&volume), &k, &last, true, &[]));
-    assert!(rt; is_next(volume_source(&volume), &k, &last, false, &last));
-    assert!(rt; is_next(volume_source(&volume), &q, &last, false, &[]));
+    let volume = volume_of(rt.alloc(), lines)?;
+    assert!(rt; gives_kinds(&volume, &k, &q));
+    assert!(rt; gives_keys(&volume, &k, &q));
     Ok(())
 }
 
@@ -503,11 +552,7 @@ fn bounds_of_long_texts(rt: HostRuntime) -> Result<(), Fail> {
 fn chosen(alloc: Global, volume: &Volume, text: &str) -> Result<(Vec<u64>, u64), Refusal> {
     let query = parse(alloc, text)?;
     let cover = choose(alloc, &query, &volume.indices()?)?;
-    let mut source = Recording {
-        source: volume_source(volume),
-        asked: ArrayString::new(),
-        ranges: 0,
-    };
+    let mut source = start_recording(volume);
     if !covers(&cover, &query, &mut source) {
         return Err(Refusal::BadLimits);
     }
@@ -565,62 +610,119 @@ set 10 t CSTR b"
     )?)
 }
 
-/// A pattern that says how a text begins is answered by its range alone, and every other is asked of each key.
-#[test]
-fn patterns_by_range(rt: HostRuntime) -> Result<(), Fail> {
-    let alloc = rt.alloc();
+/// A volume of texts around the fronts of patterns. A call that is refused memory is made again.
+fn volume_by_front(alloc: Global) -> Result<Volume, Refusal> {
     let lines = match texts_by_front(alloc) {
         Err(Refusal::OutOfMemory) => texts_by_front(alloc)?,
         lines => lines?,
     };
-    let volume = volume_of(alloc, lines.as_str())?;
-    for (text, ranges) in [
-        ("t==a", 1),
-        ("t==\"\"", 1),
-        ("t==\"*\"", 1),
-        ("t==\"a*\"", 1),
-        ("t==\"a\u{1}*\"", 1),
-        ("t==\"aé*\"", 1),
-        ("t==\"\u{10ffff}*\"", 1),
-        ("t==\"é*\"", 1),
-        ("t==\"a*\" && t==\"aé*\"", 1),
-        ("t==\"a*\" && t<b", 1),
-        ("t==\"a*\" || t==b", 2),
-        ("t==\"a**\"", 0),
-        ("t==\"a?\"", 0),
-        ("t==\"*a\"", 0),
-        ("t==\"a*z\"", 0),
-        ("t==\"[a]*\"", 0),
-        ("t!=\"a*\"", 0),
-    ] {
-        decided(alloc, &volume, text, ranges)?;
+    volume_of(alloc, lines.as_str())
+}
+
+/// Queries, and the number of ranges that each is answered by whole.
+const BY_RANGE: [(&str, u64); 17] = [
+    ("t==a", 1),
+    ("t==\"\"", 1),
+    ("t==\"*\"", 1),
+    ("t==\"a*\"", 1),
+    ("t==\"a\u{1}*\"", 1),
+    ("t==\"aé*\"", 1),
+    ("t==\"\u{10ffff}*\"", 1),
+    ("t==\"é*\"", 1),
+    ("t==\"a*\" && t==\"aé*\"", 1),
+    ("t==\"a*\" && t<b", 1),
+    ("t==\"a*\" || t==b", 2),
+    ("t==\"a**\"", 0),
+    ("t==\"a?\"", 0),
+    ("t==\"*a\"", 0),
+    ("t==\"a*z\"", 0),
+    ("t==\"[a]*\"", 0),
+    ("t!=\"a*\"", 0),
+];
+
+fn all_decided(alloc: Global, volume: &Volume) -> Result<(), Fail> {
+    for (text, ranges) in BY_RANGE {
+        decided(alloc, volume, text, ranges)?;
     }
     Ok(())
 }
 
-/// The front of a pattern has up to 255 bytes, as a text has.
+/// A pattern that says how a text begins is answered by its range alone, and every other is asked of each key.
 #[test]
-fn longest_front(rt: HostRuntime) -> Result<(), Fail> {
-    let alloc = rt.alloc();
-    let lines = match texts_by_front(alloc) {
-        Err(Refusal::OutOfMemory) => texts_by_front(alloc)?,
-        lines => lines?,
-    };
-    let volume = volume_of(alloc, lines.as_str())?;
-    let longest = match front_of(alloc, 255) {
-        Err(Refusal::OutOfMemory) => front_of(alloc, 255)?,
-        text => text?,
-    };
-    decided(alloc, &volume, longest.as_str(), 1)?;
-    let longer = match front_of(alloc, 256) {
-        Err(Refusal::OutOfMemory) => front_of(alloc, 256)?,
-        text => text?,
-    };
-    decided(alloc, &volume, longer.as_str(), 0)
+fn patterns_by_range(rt: HostRuntime) -> Result<(), Fail> {
+    all_decided(rt.alloc(), &volume_by_front(rt.alloc())?)
 }
 
 /// A query by a front of so many bytes.
 fn front_of(alloc: Global, count: usize) -> Result<String, Refusal> {
     let front = "m".repeat(alloc, count)?;
     Ok(format!(in alloc; "t==\"{front}*\"")?)
+}
+
+/// Fails unless a front of so many bytes is answered by so many ranges. A call that is refused memory is made again.
+fn front_decided(alloc: Global, volume: &Volume, count: usize, ranges: u64) -> Result<(), Fail> {
+    let text = match front_of(alloc, count) {
+        Err(Refusal::OutOfMemory) => front_of(alloc, count)?,
+        text => text?,
+    };
+    decided(alloc, volume, text.as_str(), ranges)
+}
+
+/// The front of a pattern has up to 255 bytes, as a text has.
+#[test]
+fn longest_front(rt: HostRuntime) -> Result<(), Fail> {
+    let volume = volume_by_front(rt.alloc())?;
+    front_decided(rt.alloc(), &volume, 255, 1)?;
+    front_decided(rt.alloc(), &volume, 256, 0)
+}
+
+/// 256 comparisons on the names of 32 indices, joined by `||`: i0==0, i1==1, .. i31==255.
+fn most_comparisons(alloc: Global) -> Result<String, Refusal> {
+    let mut text = String::from_str(alloc, "i0==0")?;
+    for number in 1..256u32 {
+        let index = number % 32;
+        text.push_str(format!(in alloc; "||i{index}=={number}")?.as_str())?;
+    }
+    Ok(text)
+}
+
+/// The lines of a volume with 32 indices, of which the first and the last hold a value that the query asks for last.
+fn most_indices(alloc: Global) -> Result<String, Refusal> {
+    let mut lines = String::from_str(alloc, "new\nnew\nnew")?;
+    for index in 0..32u32 {
+        lines.push_str(format!(in alloc; "\nmkindex i{index} LONG")?.as_str())?;
+    }
+    lines.push_str("\nset 1 i31 LONG 255\nset 2 i0 LONG 224\nset 3 i0 LONG 1")?;
+    Ok(lines)
+}
+
+/// The nodes by what is chosen where the source tells the kinds, and the numbers of kinds and of ranges asked for.
+fn chosen_by_source(
+    alloc: Global,
+    volume: &Volume,
+    text: &str,
+) -> Result<(Vec<u64>, u64, u64), Refusal> {
+    let query = parse(alloc, text)?;
+    let mut source = start_recording(volume);
+    let cover = choose_from(alloc, &query, &mut source)?;
+    let nodes = run(alloc, &cover, &query, &mut source)?;
+    Ok((nodes, source.kinds, source.ranges))
+}
+
+/// Whether the largest query finds nodes 1 and 2, asking for the kind of each comparison's index once to choose and once to walk.
+fn asks_each_once(alloc: Global) -> Result<bool, Refusal> {
+    let volume = volume_of(alloc, most_indices(alloc)?.as_str())?;
+    let text = most_comparisons(alloc)?;
+    let (nodes, kinds, ranges) = chosen_by_source(alloc, &volume, text.as_str())?;
+    Ok(nodes.as_slice() == [1, 2].as_slice() && kinds == 512 && ranges == 256)
+}
+
+#[test]
+fn largest_query(rt: HostRuntime) -> Result<(), Fail> {
+    let so = match asks_each_once(rt.alloc()) {
+        Err(Refusal::OutOfMemory) => asks_each_once(rt.alloc())?,
+        answer => answer?,
+    };
+    assert!(rt; so);
+    Ok(())
 }
