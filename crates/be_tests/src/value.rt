@@ -3,11 +3,13 @@
 use be_value::{Kind, Name, Refusal, Value, key_of, node_of, number_of, read_key};
 use std::test::Fail;
 
-/// A text of so many times this letter.
+/// A text of so many times this letter. A push is made once more where it found no memory.
 fn repeated(rt: &HostRuntime, letter: char, count: usize) -> Result<String, Fail> {
     let mut text = String::new(rt.alloc());
     for _ in 0..count {
-        text.push(letter)?;
+        if text.push(letter).is_err() {
+            text.push(letter)?;
+        }
     }
     Ok(text)
 }
