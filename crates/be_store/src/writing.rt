@@ -5,7 +5,7 @@ ghost use Rattle.be_paged.specs.Version.{IsVersion};
 ghost use Rattle.be_store.specs.Writing.{Begins, Publishes, IsHeldBack};
 ghost use Rattle.be_table.specs.declared.pass.Knowledge.{Knowledge};
 ghost use Rattle.be_table.specs.Reading.{open_of, standing_in, standing_of, word_in, words_of};
-ghost use Rattle.be_table.specs.Works.{HoldsUnreached, TakesLock};
+ghost use Rattle.be_table.specs.Works.{IsSpent, TakesLock};
 ghost use Rattle.be_volume.specs.Volume.{State};
 
 use arrayvec::ArrayVec;
@@ -26,7 +26,7 @@ fn apply_to(
     requires fits { volume.next + 64 < 2 ^ 64 }
     requires open { writing.old.knows.published ≡ false }
     ensures ok { IfOk result (λ r. Applies open_of standing_of words_of version_page r.0 volume ops.now r.1.items writing.old writing.new) }
-    ensures err { IfErr result (λ e. IsRefused open_of standing_of words_of (λ w least. HoldsUnreached w.knows least) volume ops.now e writing.old writing.new) }
+    ensures err { IfErr result (λ e. IsRefused open_of standing_of words_of (λ w least. IsSpent w.knows least) volume ops.now e writing.old writing.new) }
 {
     apply(writing, version_page, ops)
 }
