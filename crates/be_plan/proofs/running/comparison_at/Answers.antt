@@ -1,5 +1,4 @@
-use Rattle.std.proofs.Common.{◌≤◌, arith}
-use Rattle.be_query.specs.Grammar.{comparisons}
+use Rattle.std.proofs.Common.{arith}
 use Rattle.be_query.specs.View.{formula}
 use Rattle.be_plan.proofs.Ways.{none_behind}
 use Rattle.be_plan.proofs.running.comparison_at.Goals as goal
