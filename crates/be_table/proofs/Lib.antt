@@ -18,3 +18,4 @@ pub mod Standings
 pub mod Told
 pub mod Keeping
 pub mod Answers
+pub mod Readers
