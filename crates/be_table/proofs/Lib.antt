@@ -19,3 +19,4 @@ pub mod Told
 pub mod Keeping
 pub mod Answers
 pub mod Readers
+pub mod Fills

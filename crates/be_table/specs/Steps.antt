@@ -100,6 +100,13 @@ scans_all a (n ∷ ns) = scans_all (scans a n) ns
 abbrev pub fills : Knowledge → ℕ → ℕ → ℕ → Knowledge
 fills a p i x = record a { places = slice_set a.places p Filled; words = slice_set a.words (word_place p i) x; steps = a.steps + 1 }
 
+-- A word of a page is filled: a load tells whether it is there already, and is the fill then; else a store follows.
+abbrev pub fill_steps : Knowledge → ℕ → ℕ → ℕ → ℕ
+fill_steps a p i x = if slice_index a.words (word_place p i) == x then 1 else 2
+
+abbrev pub fills_word : Knowledge → ℕ → ℕ → ℕ → Knowledge
+fills_word a p i x = record (fills a p i x) { steps = a.steps + fill_steps a p i x }
+
 -- a free page is taken
 abbrev pub takes_page : Knowledge → ℕ → Knowledge
 takes_page a p = record a { places = slice_set a.places p Reserved; steps = a.steps + 1 }
@@ -241,6 +248,10 @@ OwnRead st m n r = let a = pass_of m.0 in (r ≡ (counted a ∷ [], m.1)) × (n 
 
 abbrev pub FilledAt : Step (Option Ledger) → Me (Option Ledger) (List Knowledge) → ℕ → Me (Option Ledger) (List Knowledge) → Type 0
 FilledAt st m n r = let a = pass_of m.0 in (p i : ℕ) → st.word ≡ word_place p i → i < 512 → r ≡ (fills a p i n ∷ [], m.1)
+
+-- a word of a page was found there, and the page is filled with it
+abbrev pub FilledFound : Step (Option Ledger) → Me (Option Ledger) (List Knowledge) → ℕ → Me (Option Ledger) (List Knowledge) → Type 0
+FilledFound st m n r = let a = pass_of m.0 in ((p i : ℕ) → st.word ≡ word_place p i → i < 512 → r ≡ (fills a p i n ∷ [], m.1)) × (n ≡ slice_index a.words st.word)
 
 -- the page is taken or given up, at its first word
 abbrev pub PageTaken : Step (Option Ledger) → Me (Option Ledger) (List Knowledge) → ℕ → Me (Option Ledger) (List Knowledge) → Type 0
