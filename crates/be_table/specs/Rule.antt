@@ -193,7 +193,7 @@ Shows limits s = (b : Board) × Stands limits s b
 
 -- a pass that has seen nothing
 abbrev pub newcomer : Limits → ℕ → ℕ → Knowledge
-newcomer limits steps k = record { number = k; limits = limits; seen = []; mine = []; phase = Idle; image = []; writes = false; scanned = 0; least = 0; published = false; places = []; words = []; held = []; steps = steps }
+newcomer limits steps k = record { number = k; limits = limits; seen = []; mine = []; phase = Idle; image = []; writes = false; scanned = 0; least = 0; published = false; places = []; words = []; held = []; holders = []; steps = steps }
 
 -- the passes from k on, so many
 unfoldable pub newcomers : Limits → ℕ → ℕ → ℕ → List Knowledge

@@ -170,9 +170,13 @@ Gets m r =
     (ledger : Ledger) × (log : List Commit) × (words : List ℕ) × let a = pass_of m.0 in let c = takes_lock a log (ledger_places ledger) words in
     (r ≡ (c ∷ [], (0, Some ledger) ∷ m.1)) × StartsWith log a.seen × IsPass c × IsFound ledger c
 
--- another pass holds the lock
+-- a pass whose try found the pass b holding the lock
+abbrev pub finds_held : Knowledge → ℕ → Knowledge
+finds_held a b = record a { holders = b ∷ a.holders; steps = a.steps + 1 }
+
+-- another pass holds the lock, of whose number the word has one more
 abbrev pub IsLate : Me (Option Ledger) (List Knowledge) → ℕ → Me (Option Ledger) (List Knowledge) → Type 0
-IsLate m n r = let a = pass_of m.0 in (r ≡ (counted a ∷ [], m.1)) × (n ≢ a.number + 1) × (n < a.limits.passes + 1)
+IsLate m n r = let a = pass_of m.0 in (r ≡ (finds_held a (n - 1) ∷ [], m.1)) × (n ≢ a.number + 1) × (n < a.limits.passes + 1)
 
 abbrev pub Locked : Step (Option Ledger) → Me (Option Ledger) (List Knowledge) → ℕ → Me (Option Ledger) (List Knowledge) → Type 0
 Locked st m n r = MatchBool (n == 0) (Gets m r) (IsLate m n r)

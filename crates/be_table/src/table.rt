@@ -188,12 +188,13 @@ impl VersionTable {
         *seat = Seat::of(base, marks);
     }
 
-    /// Takes the lock, or answers Busy with the pass that has it, which is another one. One compare-exchange.
+    /// Takes the lock, or answers Busy with the pass that this try found holding it, which is another one. One
+    /// compare-exchange.
     pub fn lock(&self, seat: Seat) -> Result<Writing<'_>, (Seat, Refusal)>
         requires { IsSeatOf self.now seat }
         ensures { MatchResult result
             (λ w. (w.table ≡ self.now) × (w.reserved ≡ 0) × TakesLock seat.knows w.knows)
-            (λ r. IsSeatOf self.now r.0 × (r.0.knows ≡ counted seat.knows) × IsBusy r.1 seat.knows) }
+            (λ r. IsSeatOf self.now r.0 × IsBusy r.1 seat.knows r.0.knows) }
     {
         let (mut base, marks) = seat.into_base();
         let shared = &self.table.shared;
