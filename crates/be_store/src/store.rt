@@ -36,6 +36,7 @@ impl Store {
     ghost use Rattle.be_table.specs.History.{StartsWith, AllBelow};
     ghost use Rattle.be_paged.specs.Version.{IsVersion};
     ghost use Rattle.be_table.specs.Reading.{pinned_standing, word_in};
+    ghost use Rattle.be_table.specs.Rule.{IsWithin};
     ghost use Rattle.be_table.specs.Seats.{pinned_number};
     ghost use Rattle.be_table.specs.Steps.{Has, Keeps, longer, met, unpins};
     ghost use Rattle.be_table.specs.Works.{AllAt, AreNew, IsUnopened, knows_of};
@@ -45,11 +46,11 @@ impl Store {
 
     /// A store with an empty journal, and its passes in the order of their numbers, which have seen nothing.
     ///
-    /// BadLimits where a limit is out of its range, and OutOfMemory where a growth was refused. The memory of all pages,
+    /// BadLimits exactly where a limit is out of its range, and OutOfMemory where a growth was refused. The memory of all pages,
     /// 4 KiB each, is taken here.
     pub fn open(alloc: Global, limits: Limits) -> Result<(Store, Vec<Pass>), Refusal>
         ensures { MatchResult result
-            (λ r. (r.0.limits ≡ limits) × (length r.1.items ≡ limits.passes) × AreNew r.0 0 r.1.items)
+            (λ r. (r.0.limits ≡ limits) × (length r.1.items ≡ limits.passes) × AreNew r.0 0 r.1.items × IsWithin limits)
             (λ e. IsUnopened limits e) }
     {
         let (table, passes) = VersionTable::open(alloc, limits, &first_page())?;

@@ -107,7 +107,12 @@ pub record IsWithin (limits : Limits) : Type 0 where
   pub few_pages : limits.pages ≤ 16384
   pub some_pass : 0 < limits.passes
   pub few : limits.passes ≤ 64
+  pub some_commit : 0 < limits.commits
   pub short : limits.commits < 4294967296
+
+-- limits that no table may have
+abbrev pub AreBad : Limits → Type 0
+AreBad limits = ¬ (IsWithin limits)
 
 -- the pages of each version are those that its commit tells
 abbrev pub ReachesAgree : World → List Commit → Type 0

@@ -15,7 +15,7 @@ use Rattle.be_table.specs.Place.{Place, Opened, Work}
 use Rattle.be_table.specs.Reading.{standing_in, word_in}
 use Rattle.be_table.specs.Versions.{at_start, SpellsVolume}
 use Rattle.be_journal.specs.Journal.{replay}
-use Rattle.be_table.specs.Rule.{entries, page_at, reach_at, newcomer}
+use Rattle.be_table.specs.Rule.{AreBad, IsWithin, entries, page_at, reach_at, newcomer}
 use Rattle.be_table.specs.Steps.{Has, AllIdle, Keeps, IsPass, looks, finds_held, takes_lock, pins, takes_page, scans_all, IsLeast, pages_from, LeavesNone, Unreached}
 
 -- a seat of this table
@@ -106,13 +106,9 @@ pub record FindsNone (old new : Work) (least : ℕ) : Type 0 where
   pub none : (p : ℕ) → p < length new.knows.places → place_of new.knows.places p ≢ Free
   pub spent : IsSpent new.knows least
 
--- the limits that a table can't have
-abbrev pub AreBad : Limits → Type 0
-AreBad l = (l.pages < 8) ⊎ (16384 < l.pages) ⊎ (l.passes ≡ 0) ⊎ (64 < l.passes) ⊎ (l.commits ≡ 0) ⊎ (4294967296 ≤ l.commits)
-
 -- why a table with these limits was not opened
 abbrev pub IsUnopened : Limits → Refusal → Type 0
-IsUnopened l r = ((r ≡ BadLimits) × AreBad l) ⊎ ((r ≡ OutOfMemory) × (¬ (AreBad l)))
+IsUnopened l r = ((r ≡ BadLimits) × AreBad l) ⊎ ((r ≡ OutOfMemory) × IsWithin l)
 
 -- what a seat knows that has taken in these passes
 pub record Gathered (known v : List Knowledge) : Type 0 where
