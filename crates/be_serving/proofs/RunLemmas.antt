@@ -2,6 +2,7 @@
 use Rattle.std.proofs.Common.{◌≡◌, ℕ, ◌<◌, ◌≤◌, ◌+◌, ◌^◌, Bool, true, false, cond, not, nat_lt, take, drop, position, IfSome, OnOk, OnErr, length-append, List, [], ◌∷◌, ◌++◌, length, refl, sym, ap, ◌∙◌, subst, append_assoc, arith, inl, inr, Some, None}
 use Rattle.std.specs.declared.option.Option.{Option}
 use Rattle.std.specs.Io.KnownBytes.{Appends, Consumes, Keeps}
+use Rattle.std.specs.Str.{is_utf8, chars}
 use Rattle.std.specs.List.{position_or_len, onto_first}
 use Rattle.std.proofs.lemmas.List.Splits.{slice_split_first}
 use Rattle.std.proofs.lemmas.Bool.Decides.{nat_tests}
@@ -122,6 +123,22 @@ finish store script left s s' old mid new e w r = record {
   appended = written_both old mid new w.out r.out w.appended r.appended;
   is = (s', w.is s' r.out (subst (λ (lines : List (List ℕ)). Outputs s lines s' r.out) (sym e) (s', r.out, [], r.is, (refl, refl), sym (append_nothing r.out))), refl);
 }
+
+-- an empty line asks for nothing
+nothing_asked : asked [] ≡ silent
+unfolding is_utf8 chars
+nothing_asked = refl
+
+-- nothing is left behind the last LF
+pub finish_empty : (store : Store) (script left : List ℕ) (s : Session) (old new : Option (List ℕ)) → length left ≡ 0 → Wrote old new (Completes store script s left) →
+    Wrote old new (IsOutputTo store script s.store)
+finish_empty store script [] s old new empty w =
+    finish store script [] s s old new new refl w (record {
+      out = [];
+      appended = none_written new;
+      is = (none, subst (λ (q : Request). Serves s q none s) (sym nothing_asked) (serves_at_once s s silent none refl), refl);
+    })
+finish_empty store script (c ∷ left) s old new empty w = absurd (omega (arith, empty))
 
 -- a fault in the middle of a reply
 pub stop : (store : Store) (script left line : List ℕ) (lines : List (List ℕ)) (s : Session) (old mid new : Option (List ℕ)) → lines_of left ≡ line ∷ lines →
