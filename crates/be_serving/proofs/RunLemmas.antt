@@ -1,6 +1,7 @@
 -- How the parts of a run join.
 use Rattle.std.proofs.Common.{◌≡◌, ℕ, ◌<◌, ◌≤◌, ◌+◌, ◌^◌, Bool, true, false, cond, not, nat_lt, take, drop, position, IfSome, OnOk, OnErr, length-append, List, [], ◌∷◌, ◌++◌, length, refl, sym, ap, ◌∙◌, subst, append_assoc, arith, inl, inr, Some, None}
 use Rattle.std.specs.declared.option.Option.{Option}
+use Rattle.std.specs.Prelude.{IfErr}
 use Rattle.std.specs.Io.KnownBytes.{Appends, Consumes, Keeps}
 use Rattle.std.specs.Str.{is_utf8, chars}
 use Rattle.std.specs.List.{position_or_len, onto_first}
@@ -16,7 +17,7 @@ use Rattle.be_language.specs.Request.{Request, silent, malformed, write, query, 
 use Rattle.be_language.specs.Reply.{Reply, none, refused, text_of}
 use Rattle.be_serving.specs.Output.{Session, Replies, Serves, Answered, Outputs, IsOutputTo, IsOutputFrom, IsFrontOfOutput, unwritten, opening, pinning}
 use Rattle.be_serving.proofs.ReplyLemmas.{serves_at_once}
-use Rattle.be_serving.specs.Run.{Wrote, IsFrontOf, IsFrontOfAnswer, Completes, Leaves, ReadFault, ReadsAll, IsLate, IsOther, is_line_end}
+use Rattle.be_serving.specs.Run.{Wrote, IsFrontOf, IsFrontOfAnswer, Completes, HasRead, Leaves, ReadFault, ReadsAll, ReadsFew, IsLate, IsOther, is_line_end}
 
 append_nothing : {A : Type 0} (xs : List A) → xs ++ [] ≡ xs
 append_nothing [] = refl
@@ -39,6 +40,13 @@ read_both None b c xs ys h g = tt
 read_both (Some a) None c xs ys h g = absurd h
 read_both (Some a) (Some b) None xs ys h g = absurd g
 read_both (Some a) (Some b) (Some c) xs ys h g = h ∙ ap (λ z. xs ++ z) g ∙ sym (append_assoc xs ys c)
+
+-- a read that failed
+pub read_none : (a b c : Option (List ℕ)) (xs : List ℕ) → Consumes a b xs → Keeps b c → Consumes a c xs
+read_none None b c xs h k = tt
+read_none (Some a) None c xs h k = absurd h
+read_none (Some a) (Some b) None xs h k = absurd k
+read_none (Some a) (Some b) (Some c) xs h k = h ∙ ap (λ z. xs ++ z) (sym k)
 
 -- more of the bytes is written
 pub more_written : (old mid new : Option (List ℕ)) (bytes left front left' : List ℕ) → Wrote old mid (λ out. bytes ≡ out ++ left) → Appends mid new front → left ≡ front ++ left' →
@@ -229,6 +237,32 @@ all_read : (input left : Option (List ℕ)) (bytes : List ℕ) (P : List ℕ →
 all_read None left bytes P h p = tt
 all_read (Some xs) None bytes P h p = absurd h.0
 all_read (Some xs) (Some ys) bytes P h p = subst P (sym (h.0 ∙ ap (λ z. bytes ++ z) h.1 ∙ append_nothing bytes)) p
+
+-- nothing was read
+pub none_read : (known : Option (List ℕ)) → ReadsFew known known
+none_read None = ([], tt, omega arith)
+none_read (Some xs) = ([], refl, omega arith)
+
+-- a fault of the reading tells what was read
+pub read_by : (e : RunFault) (old new : Option (List ℕ)) → ReadFault e old new → HasRead e old new
+read_by Limits old new h = absurd h
+read_by Read old new h = h
+read_by TooLong old new h = h
+read_by Write old new h = absurd h
+read_by Memory old new h = h
+
+-- where the script was read whole, a later fault tells so too
+pub read_late : {T : Type 0} (r : Result T RunFault) (old new : Option (List ℕ)) (bytes : List ℕ) → IfErr r IsLate → ReadsAll old new bytes → length bytes ≤ 2 ^ 20 → IfErr r (λ e. HasRead e old new)
+read_late (Ok x) old new bytes l h few = tt
+read_late (Err Limits) old new bytes l h few = absurd l
+read_late (Err Read) old new bytes l h few = absurd l
+read_late (Err TooLong) old new bytes l h few = absurd l
+read_late (Err Write) old new bytes l h few = (bytes, h.0, few)
+read_late (Err Memory) old new bytes l h few = (bytes, h.0, few)
+
+pub whole_fits : {T E : Type 0} (r : Result T E) (input left : Option (List ℕ)) (bytes : List ℕ) → ReadsAll input left bytes → length bytes ≤ 2 ^ 20 → OnOk r (IfSome input (λ script. length script ≤ 2 ^ 20))
+whole_fits (Ok x) input left bytes h few = all_read input left bytes (λ script. length script ≤ 2 ^ 20) h few
+whole_fits (Err e) input left bytes h few = tt
 
 -- what a fault after the reading leaves
 pub left_late : (e : RunFault) (store : Store) (input left old new : Option (List ℕ)) (bytes : List ℕ) → IsLate e → ReadsAll input left bytes → Wrote old new (IsFrontOfOutput store bytes) → Leaves e store input old new

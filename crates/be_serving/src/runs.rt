@@ -37,6 +37,7 @@ const MAX_READS: u64 = (1 << 20) + 2;
 pub(crate) fn put<W: Write>(writer: &mut W, bytes: &[u8]) -> Result<(), RunFault>
     ensures ok { OnOk result (Appends (W.contents writer.old) (W.contents writer.new) bytes.now) }
     ensures err { OnErr result (spec.Wrote (W.contents writer.old) (W.contents writer.new) (spec.IsFrontOf bytes.now)) }
+    ensures fault { IfErr result (λ e. e ≡ RunFault.Write) }
     ensures late { IfErr result spec.IsLate }
 {
     let mut rest = bytes;
@@ -197,6 +198,8 @@ pub fn serve<S: Server, R: Read, W: Write>(
     ensures output { OnOk result (IfSome (R.remaining reader.old) (λ script.
         spec.Wrote (W.contents writer.old) (W.contents writer.new) (outputs.IsOutputFrom (S.shows server.old) script))) }
     ensures fault { IfErr result (λ e. spec.Leaves e (S.shows server.old) (R.remaining reader.old) (W.contents writer.old) (W.contents writer.new)) }
+    ensures fits { OnOk result (IfSome (R.remaining reader.old) (λ script. length script ≤ 2 ^ 20)) }
+    ensures read { IfErr result (λ e. spec.HasRead e (R.remaining reader.old) (R.remaining reader.new)) }
     ensures other { IfErr result spec.IsOther }
 {
     match read_script(alloc, reader) {
@@ -209,7 +212,8 @@ pub fn serve<S: Server, R: Read, W: Write>(
 ///
 /// The limits are looked at first, and then the store is opened. The script is read whole, in at most 1,048,578 reads,
 /// before its first line is run; any error of a read is `Read`. Each line is run before its reply is written; any error of
-/// a write, and a write of no bytes, is `Write`. Where the reader's bytes and the writer's are known, as those of a slice
+/// a write, and a write of no bytes, is `Write`. `TooLong` comes where more than 1,048,576 bytes were read, and no other
+/// fault comes then. Where the reader's bytes and the writer's are known, as those of a slice
 /// and a vector are, what is written is an output of the script; after `Write` and `Memory` it is the front of one, and
 /// after any other fault nothing was written.
 pub fn run<R: Read, W: Write>(
@@ -222,7 +226,9 @@ pub fn run<R: Read, W: Write>(
     ensures unread { result ≡ Err RunFault.Limits → reader.new ≡ reader.old }
     ensures output { OnOk result (IfSome (R.remaining reader.old) (λ script.
         spec.Wrote (W.contents writer.old) (W.contents writer.new) (outputs.IsOutput limits.commits script))) }
+    ensures fits { OnOk result (IfSome (R.remaining reader.old) (λ script. length script ≤ 2 ^ 20)) }
     ensures fault { IfErr result (λ e. spec.Leaves e (start limits.commits) (R.remaining reader.old) (W.contents writer.old) (W.contents writer.new)) }
+    ensures read { IfErr result (λ e. spec.HasRead e (R.remaining reader.old) (R.remaining reader.new)) }
 {
     if !are_within(&limits) {
         return Err(RunFault::Limits);

@@ -4,11 +4,14 @@ use Rattle.be_serving.specs.Output.{IsOutputFrom}
 use Rattle.be_serving.specs.Run.{Wrote}
 use Rattle.be_serving.specs.Served.{known}
 use Rattle.be_serving.specs.Store.{Store, start}
-use Rattle.be_serving.proofs.RunLemmas.{none_answered_if}
+use Rattle.be_serving.proofs.RunLemmas.{none_answered_if, none_read}
 use Rattle.be_serving.proofs.runs.run.Goals as goal
 
 pub returns-in_default-clause-fault : goal.returns-in_default-clause-fault
 returns-in_default-clause-fault g c = none_answered_if (start c.args.limits.commits) (g.R.Read.remaining c.args.reader.now) (g.W.Write.contents c.args.writer.now)
+
+pub returns-in_default-clause-read : goal.returns-in_default-clause-read
+returns-in_default-clause-read g c = none_read (g.R.Read.remaining c.args.reader.now)
 
 pub returns-clause-output : goal.returns-clause-output
 returns-clause-output g c =
