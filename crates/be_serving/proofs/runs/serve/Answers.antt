@@ -19,13 +19,13 @@ returns-in-Ok-clause-fits g c =
     whole_fits c.run_lines.result (g.R.Read.remaining c.args.reader.now) (g.R.Read.remaining c.read_script.new.reader) c.in-Ok.script.items c.in-Ok.ensures.ok
     (omega (arith, c.in-Ok.ensures.fits, c.in-Ok.script.ok.0))
 
-pub returns-in-Ok-clause-read : goal.returns-in-Ok-clause-read
-returns-in-Ok-clause-read g c =
+pub returns-in-Ok-clause-taken : goal.returns-in-Ok-clause-taken
+returns-in-Ok-clause-taken g c =
     read_late c.run_lines.result (g.R.Read.remaining c.args.reader.now) (g.R.Read.remaining c.read_script.new.reader) c.in-Ok.script.items c.run_lines.ensures.late c.in-Ok.ensures.ok
     (omega (arith, c.in-Ok.ensures.fits, c.in-Ok.script.ok.0))
 
-pub returns-in-Err-clause-read : goal.returns-in-Err-clause-read
-returns-in-Err-clause-read g c = read_by c.in-Err.fault (g.R.Read.remaining c.args.reader.now) (g.R.Read.remaining c.read_script.new.reader) c.in-Err.ensures.err
+pub returns-in-Err-clause-taken : goal.returns-in-Err-clause-taken
+returns-in-Err-clause-taken g c = read_by c.in-Err.fault (g.R.Read.remaining c.args.reader.now) (g.R.Read.remaining c.read_script.new.reader) c.in-Err.ensures.err
 
 pub returns-in-Err-clause-fault : goal.returns-in-Err-clause-fault
 returns-in-Err-clause-fault g c = left_by c.in-Err.fault (g.S.Server.shows c.args.server.now) (g.R.Read.remaining c.args.reader.now) (g.R.Read.remaining c.read_script.new.reader) (g.W.Write.contents c.args.writer.now) c.in-Err.ensures.err
