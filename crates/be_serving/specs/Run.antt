@@ -57,6 +57,14 @@ Leaves TooLong store input old new = Keeps old new × IfSome input (λ script. 2
 Leaves Write store input old new = IfSome input (λ script. Wrote old new (IsFrontOfOutput store script))
 Leaves Memory store input old new = IfSome input (λ script. Wrote old new (IsFrontOfOutput store script))
 
+-- a fault of the reading
+abbrev pub IsEarly : RunFault → Type 0
+IsEarly Limits = ⊥
+IsEarly Read = Unit {0}
+IsEarly TooLong = Unit {0}
+IsEarly Write = ⊥
+IsEarly Memory = Unit {0}
+
 -- a fault after the script was read
 abbrev pub IsLate : RunFault → Type 0
 IsLate Limits = ⊥

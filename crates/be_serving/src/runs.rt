@@ -163,10 +163,11 @@ pub fn serve_pass<G: Gate>(
 }
 
 /// Reads a whole script.
-fn read_script<R: Read>(alloc: Global, reader: &mut R) -> Result<Vec<u8>, RunFault>
+pub(crate) fn read_script<R: Read>(alloc: Global, reader: &mut R) -> Result<Vec<u8>, RunFault>
     ensures ok { IfOk result (λ script. spec.ReadsAll (R.remaining reader.old) (R.remaining reader.new) script.items) }
     ensures fits { IfOk result (λ script. vec_len script ≤ 2 ^ 20) }
     ensures err { IfErr result (λ e. spec.ReadFault e (R.remaining reader.old) (R.remaining reader.new)) }
+    ensures early { IfErr result spec.IsEarly }
 {
     let mut script = Vec::new(alloc);
     let mut buffer = [0u8; 4096];
