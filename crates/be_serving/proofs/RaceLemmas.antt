@@ -23,7 +23,7 @@ use Rattle.be_serving.specs.Output.{IsOutputTo}
 use Rattle.be_serving.specs.Run.{Wrote}
 use Rattle.be_serving.specs.Served.{known}
 use Rattle.be_serving.proofs.RunLemmas.{written_both}
-use Rattle.be_serving.specs.Race.{HaveServed, HaveReplied, HaveReplies, IsOutcome, IsReplied, pass_line, replies_text, result_text}
+use Rattle.be_serving.specs.Race.{HaveServed, HaveReplies, IsOutcome, IsReplied, pass_line, replies_text, result_text}
 
 -- what is so of each element, and of one more at its place, is so of all
 pub each_pushed : {X : Type 0} (P : ℕ → X → Type 0) (xs : List X) (x : X) → ((k : ℕ) (d : X) → k < length xs → P k (get_or xs k d)) → P (length xs) x →
