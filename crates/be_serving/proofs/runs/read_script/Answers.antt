@@ -18,7 +18,7 @@ returns-then-is_err-clause-err g c =
       items ++ more,
       read_both (g.R.Read.remaining c.args.reader.now) (g.R.Read.remaining c.loop-reads.reader) (g.R.Read.remaining c.read.new.self) items more
           c.loop-reads.invariant.taken c.in-Ok.ensures.bytes.0,
-      omega (arith, length-append items more, exact, c.loop-reads.script.ok.0, c.if-len-n-gt-MAX_SCRIPT.false),
+      omega (arith, length-append items more, exact, c.loop-reads.script.ok.0),
     )
 
 pub returns-then-len-n-gt-MAX_SCRIPT-clause-err : goal.returns-then-len-n-gt-MAX_SCRIPT-clause-err
