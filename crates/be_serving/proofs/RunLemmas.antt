@@ -1,10 +1,10 @@
 -- How the parts of a run join.
-use Rattle.std.proofs.Common.{◌≡◌, ℕ, ◌<◌, ◌≤◌, ◌+◌, ◌^◌, Bool, true, false, cond, not, nat_lt, take, drop, position, IfSome, OnOk, OnErr, length-append, List, [], ◌∷◌, ◌++◌, length, refl, sym, ap, ◌∙◌, subst, append_assoc, arith, inl, inr, Some, None}
+use Rattle.std.proofs.Common.{◌≡◌, ℕ, ◌<◌, ◌≤◌, ◌+◌, ◌^◌, Bool, true, false, ◌||◌, cond, not, nat_lt, take, drop, position, IfSome, OnOk, OnErr, length-append, List, [], ◌∷◌, ◌++◌, length, refl, sym, ap, ◌∙◌, subst, append_assoc, arith, inl, inr, Some, None}
 use Rattle.std.specs.declared.option.Option.{Option}
 use Rattle.std.specs.Prelude.{IfErr}
 use Rattle.std.specs.Io.KnownBytes.{Appends, Consumes, Keeps}
 use Rattle.std.specs.Str.{is_utf8, chars}
-use Rattle.std.specs.List.{position_or_len, onto_first}
+use Rattle.std.specs.List.{list_any, position_or_len, onto_first}
 use Rattle.std.proofs.lemmas.List.Splits.{slice_split_first}
 use Rattle.std.proofs.lemmas.Bool.Decides.{nat_tests}
 use Rattle.std.specs.declared.result.Result.{Result}
@@ -290,6 +290,19 @@ read_is_other Read old new h = tt
 read_is_other TooLong old new h = tt
 read_is_other Write old new h = tt
 read_is_other Memory old new h = tt
+
+-- what is so of no element, and not of one more, is so of none
+pub none_pushed : {X : Type 0} (P : X → Bool) (xs : List X) (x : X) → list_any P xs ≡ false → P x ≡ false → list_any P (xs ++ x ∷ []) ≡ false
+none_pushed P [] x h g = by (P x) g
+  where
+    by : (a : Bool) → a ≡ false → a || false ≡ false
+    by true h = h
+    by false h = refl
+none_pushed P (y ∷ ys) x h g = by (P y) (list_any P ys) (list_any P (ys ++ x ∷ [])) h (λ r. none_pushed P ys x r g)
+  where
+    by : (a b c : Bool) → a || b ≡ false → (b ≡ false → c ≡ false) → a || c ≡ false
+    by true b c h k = h
+    by false b c h k = k h
 
 -- the first line ends at the first LF
 pub first_line : (xs : List ℕ) (i : ℕ) → position is_line_end xs ≡ Some i → lines_of xs ≡ take i xs ∷ lines_of (drop (i + 1) xs)

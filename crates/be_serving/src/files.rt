@@ -1,5 +1,6 @@
 //! The scripts of files.
-ghost use Rattle.std.specs.Prelude.{◌≡◌, ◌≤◌, ◌<◌, ◌^◌, length, vec_len, IfOk, IfErr};
+ghost use Rattle.std.specs.Prelude.{◌≡◌, ◌≤◌, ◌<◌, ◌^◌, false, length, nat_lt, vec_len, IfOk, IfErr};
+ghost use Rattle.std.specs.List.{list_any};
 ghost use Rattle.be_serving.specs.Run.{IsEarly};
 
 use crate::RunFault;
@@ -27,6 +28,7 @@ pub fn read_files<R: Files>(
     files: &[String],
 ) -> Result<Vec<Vec<u8>>, (usize, RunFault)>
     ensures scripts { IfOk result (λ scripts. vec_len scripts ≡ length files.now) }
+    ensures short { IfOk result (λ scripts. list_any (λ s. nat_lt (2 ^ 20) (vec_len s)) scripts.items ≡ false) }
     ensures fault { IfErr result (λ stop. (stop.0 < length files.now) × IsEarly stop.1) }
 {
     let mut scripts = Vec::new(alloc);
