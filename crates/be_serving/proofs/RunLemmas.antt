@@ -1,10 +1,8 @@
 -- How the parts of a run join.
-use Rattle.std.proofs.Common.{◌≡◌, ℕ, ◌<◌, ◌≤◌, ◌+◌, ◌^◌, Bool, true, false, ◌||◌, cond, not, nat_lt, take, drop, position, IfSome, OnOk, OnErr, length-append, List, [], ◌∷◌, ◌++◌, length, refl, sym, ap, ◌∙◌, subst, append_assoc, arith, inl, inr, Some, None}
+use Rattle.std.proofs.Common.{◌≡◌, ℕ, ◌<◌, ◌≤◌, ◌+◌, ◌^◌, Bool, true, false, cond, not, nat_lt, take, drop, position, IfSome, OnOk, OnErr, length-append, List, [], ◌∷◌, ◌++◌, length, refl, sym, ap, ◌∙◌, subst, append_assoc, arith, inl, inr, Some, None}
 use Rattle.std.specs.declared.option.Option.{Option}
-use Rattle.std.specs.Prelude.{IfErr}
 use Rattle.std.specs.Io.KnownBytes.{Appends, Consumes, Keeps}
-use Rattle.std.specs.Str.{is_utf8, chars}
-use Rattle.std.specs.List.{list_any, position_or_len, onto_first}
+use Rattle.std.specs.List.{position_or_len, onto_first}
 use Rattle.std.proofs.lemmas.List.Splits.{slice_split_first}
 use Rattle.std.proofs.lemmas.Bool.Decides.{nat_tests}
 use Rattle.std.specs.declared.result.Result.{Result}
@@ -17,7 +15,7 @@ use Rattle.be_language.specs.Request.{Request, silent, malformed, write, query, 
 use Rattle.be_language.specs.Reply.{Reply, none, refused, text_of}
 use Rattle.be_serving.specs.Output.{Session, Replies, Serves, Answered, Outputs, IsOutputTo, IsOutputFrom, IsFrontOfOutput, unwritten, opening, pinning}
 use Rattle.be_serving.proofs.ReplyLemmas.{serves_at_once}
-use Rattle.be_serving.specs.Run.{Wrote, IsFrontOf, IsFrontOfAnswer, Completes, HasRead, Leaves, ReadFault, ReadsAll, ReadsFew, IsLate, IsOther, is_line_end}
+use Rattle.be_serving.specs.Run.{Wrote, IsFrontOf, IsFrontOfAnswer, Completes, Leaves, ReadFault, ReadsAll, IsLate, IsOther, is_line_end}
 
 append_nothing : {A : Type 0} (xs : List A) → xs ++ [] ≡ xs
 append_nothing [] = refl
@@ -40,13 +38,6 @@ read_both None b c xs ys h g = tt
 read_both (Some a) None c xs ys h g = absurd h
 read_both (Some a) (Some b) None xs ys h g = absurd g
 read_both (Some a) (Some b) (Some c) xs ys h g = h ∙ ap (λ z. xs ++ z) g ∙ sym (append_assoc xs ys c)
-
--- a read that failed
-pub read_none : (a b c : Option (List ℕ)) (xs : List ℕ) → Consumes a b xs → Keeps b c → Consumes a c xs
-read_none None b c xs h k = tt
-read_none (Some a) None c xs h k = absurd h
-read_none (Some a) (Some b) None xs h k = absurd k
-read_none (Some a) (Some b) (Some c) xs h k = h ∙ ap (λ z. xs ++ z) (sym k)
 
 -- more of the bytes is written
 pub more_written : (old mid new : Option (List ℕ)) (bytes left front left' : List ℕ) → Wrote old mid (λ out. bytes ≡ out ++ left) → Appends mid new front → left ≡ front ++ left' →
@@ -131,22 +122,6 @@ finish store script left s s' old mid new e w r = record {
   appended = written_both old mid new w.out r.out w.appended r.appended;
   is = (s', w.is s' r.out (subst (λ (lines : List (List ℕ)). Outputs s lines s' r.out) (sym e) (s', r.out, [], r.is, (refl, refl), sym (append_nothing r.out))), refl);
 }
-
--- an empty line asks for nothing
-nothing_asked : asked [] ≡ silent
-unfolding is_utf8 chars
-nothing_asked = refl
-
--- nothing is left behind the last LF
-pub finish_empty : (store : Store) (script left : List ℕ) (s : Session) (old new : Option (List ℕ)) → length left ≡ 0 → Wrote old new (Completes store script s left) →
-    Wrote old new (IsOutputTo store script s.store)
-finish_empty store script [] s old new empty w =
-    finish store script [] s s old new new refl w (record {
-      out = [];
-      appended = none_written new;
-      is = (none, subst (λ (q : Request). Serves s q none s) (sym nothing_asked) (serves_at_once s s silent none refl), refl);
-    })
-finish_empty store script (c ∷ left) s old new empty w = absurd (omega (arith, empty))
 
 -- a fault in the middle of a reply
 pub stop : (store : Store) (script left line : List ℕ) (lines : List (List ℕ)) (s : Session) (old mid new : Option (List ℕ)) → lines_of left ≡ line ∷ lines →
@@ -233,36 +208,10 @@ left_by TooLong store old new known h = (keeps known, too_long old new h.0 h.1 h
 left_by Write store old new known h = absurd h
 left_by Memory store old new known h = none_answered_if store old known
 
-all_read : (input left : Option (List ℕ)) (bytes : List ℕ) (P : List ℕ → Type 0) → ReadsAll input left bytes → P bytes → IfSome input P
+pub all_read : (input left : Option (List ℕ)) (bytes : List ℕ) (P : List ℕ → Type 0) → ReadsAll input left bytes → P bytes → IfSome input P
 all_read None left bytes P h p = tt
 all_read (Some xs) None bytes P h p = absurd h.0
 all_read (Some xs) (Some ys) bytes P h p = subst P (sym (h.0 ∙ ap (λ z. bytes ++ z) h.1 ∙ append_nothing bytes)) p
-
--- nothing was read
-pub none_read : (known : Option (List ℕ)) → ReadsFew known known
-none_read None = ([], tt, omega arith)
-none_read (Some xs) = ([], refl, omega arith)
-
--- a fault of the reading tells what was read
-pub read_by : (e : RunFault) (old new : Option (List ℕ)) → ReadFault e old new → HasRead e old new
-read_by Limits old new h = absurd h
-read_by Read old new h = h
-read_by TooLong old new h = h
-read_by Write old new h = absurd h
-read_by Memory old new h = h
-
--- where the script was read whole, a later fault tells so too
-pub read_late : {T : Type 0} (r : Result T RunFault) (old new : Option (List ℕ)) (bytes : List ℕ) → IfErr r IsLate → ReadsAll old new bytes → length bytes ≤ 2 ^ 20 → IfErr r (λ e. HasRead e old new)
-read_late (Ok x) old new bytes l h few = tt
-read_late (Err Limits) old new bytes l h few = absurd l
-read_late (Err Read) old new bytes l h few = absurd l
-read_late (Err TooLong) old new bytes l h few = absurd l
-read_late (Err Write) old new bytes l h few = (bytes, h.0, few)
-read_late (Err Memory) old new bytes l h few = (bytes, h.0, few)
-
-pub whole_fits : {T E : Type 0} (r : Result T E) (input left : Option (List ℕ)) (bytes : List ℕ) → ReadsAll input left bytes → length bytes ≤ 2 ^ 20 → OnOk r (IfSome input (λ script. length script ≤ 2 ^ 20))
-whole_fits (Ok x) input left bytes h few = all_read input left bytes (λ script. length script ≤ 2 ^ 20) h few
-whole_fits (Err e) input left bytes h few = tt
 
 -- what a fault after the reading leaves
 pub left_late : (e : RunFault) (store : Store) (input left old new : Option (List ℕ)) (bytes : List ℕ) → IsLate e → ReadsAll input left bytes → Wrote old new (IsFrontOfOutput store bytes) → Leaves e store input old new
@@ -290,19 +239,6 @@ read_is_other Read old new h = tt
 read_is_other TooLong old new h = tt
 read_is_other Write old new h = tt
 read_is_other Memory old new h = tt
-
--- what is so of no element, and not of one more, is so of none
-pub none_pushed : {X : Type 0} (P : X → Bool) (xs : List X) (x : X) → list_any P xs ≡ false → P x ≡ false → list_any P (xs ++ x ∷ []) ≡ false
-none_pushed P [] x h g = by (P x) g
-  where
-    by : (a : Bool) → a ≡ false → a || false ≡ false
-    by true h = h
-    by false h = refl
-none_pushed P (y ∷ ys) x h g = by (P y) (list_any P ys) (list_any P (ys ++ x ∷ [])) h (λ r. none_pushed P ys x r g)
-  where
-    by : (a b c : Bool) → a || b ≡ false → (b ≡ false → c ≡ false) → a || c ≡ false
-    by true b c h k = h
-    by false b c h k = k h
 
 -- the first line ends at the first LF
 pub first_line : (xs : List ℕ) (i : ℕ) → position is_line_end xs ≡ Some i → lines_of xs ≡ take i xs ∷ lines_of (drop (i + 1) xs)

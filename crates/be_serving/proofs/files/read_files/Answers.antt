@@ -1,7 +1,7 @@
 use Rattle.std.proofs.Common.{◌≡◌, ◌+◌, ◌^◌, ◌++◌, ◌∷◌, [], true, false, length, length-append, nat_lt, vec_len, ap, sym, ◌∙◌, subst, arith, is_ok, not, if◌then◌else◌}
 use Rattle.std.specs.List.{list_any}
 use Rattle.std.proofs.lemmas.Bool.Decides.{nat_tests}
-use Rattle.be_serving.proofs.RunLemmas.{none_pushed}
+use Rattle.be_serving.proofs.FileLemmas.{none_pushed}
 use Rattle.be_serving.proofs.files.read_files.Goals as goal
 
 pub loop-place-preserved : goal.loop-place-preserved

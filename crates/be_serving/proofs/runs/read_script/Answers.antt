@@ -1,5 +1,6 @@
 use Rattle.std.proofs.Common.{◌≡◌, ◌++◌, length, take, length-append, length-take-le, arith}
-use Rattle.be_serving.proofs.RunLemmas.{read_both, read_none}
+use Rattle.be_serving.proofs.ReadLemmas.{read_none}
+use Rattle.be_serving.proofs.RunLemmas.{read_both}
 use Rattle.be_serving.proofs.runs.read_script.Goals as goal
 
 pub returns-in-Err-clause-err : goal.returns-in-Err-clause-err

@@ -4,7 +4,8 @@ use Rattle.be_serving.specs.Output.{IsOutputFrom}
 use Rattle.be_serving.specs.Run.{Wrote}
 use Rattle.be_serving.specs.Served.{known}
 use Rattle.be_serving.specs.Store.{Store, start}
-use Rattle.be_serving.proofs.RunLemmas.{none_answered_if, none_read}
+use Rattle.be_serving.proofs.ReadLemmas.{none_read}
+use Rattle.be_serving.proofs.RunLemmas.{none_answered_if}
 use Rattle.be_serving.proofs.runs.run.Goals as goal
 
 pub returns-in_default-clause-fault : goal.returns-in_default-clause-fault

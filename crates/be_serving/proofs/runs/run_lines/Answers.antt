@@ -2,7 +2,8 @@ use Rattle.std.proofs.Common.{◌≡◌, [], length, refl, ◌∙◌, arith}
 use Rattle.std.proofs.lemmas.Bool.Decides.{nat_tests}
 use Rattle.be_language.specs.Request.{lines_of}
 use Rattle.be_serving.specs.View.{session}
-use Rattle.be_serving.proofs.RunLemmas.{advance, finish, finish_empty, nothing_yet, stop, on_ok, on_err, always_err}
+use Rattle.be_serving.proofs.EndLemmas.{finish_empty}
+use Rattle.be_serving.proofs.RunLemmas.{advance, finish, nothing_yet, stop, on_ok, on_err, always_err}
 use Rattle.be_serving.proofs.runs.run_lines.Goals as goal
 
 pub loop-line-init : goal.loop-line-init

@@ -1,7 +1,8 @@
 use Rattle.std.proofs.Common.{List, ℕ, subst, arith}
 use Rattle.be_serving.specs.Output.{IsOutputTo}
 use Rattle.be_serving.specs.Run.{Wrote}
-use Rattle.be_serving.proofs.RunLemmas.{left_by, on_ok, read_by, read_late, whole_fits, whole_output}
+use Rattle.be_serving.proofs.ReadLemmas.{read_by, read_late, whole_fits}
+use Rattle.be_serving.proofs.RunLemmas.{left_by, on_ok, whole_output}
 use Rattle.be_serving.proofs.runs.serve.Goals as goal
 
 pub returns-in-Ok-clause-output : goal.returns-in-Ok-clause-output
