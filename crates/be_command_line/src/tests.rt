@@ -119,8 +119,25 @@ fn words_exchanged(rt: HostRuntime) -> Result<(), Fail> {
     let words = &["bestore", "run", "race"];
     check_task(&rt, alloc, words, false, (1024, 1, 1_000_000), &["race"])?;
     let words = &["bestore", "race", "run", "race"];
-    check_task(&rt, alloc, words, true, (1024, 2, 1_000_000), &["run", "race"])?;
-    let words = &["bestore", "race", "b", "--pages", "64", "a", "--commits", "9", "b"];
+    check_task(
+        &rt,
+        alloc,
+        words,
+        true,
+        (1024, 2, 1_000_000),
+        &["run", "race"],
+    )?;
+    let words = &[
+        "bestore",
+        "race",
+        "b",
+        "--pages",
+        "64",
+        "a",
+        "--commits",
+        "9",
+        "b",
+    ];
     check_task(&rt, alloc, words, true, (64, 3, 9), &["b", "a", "b"])
 }
 

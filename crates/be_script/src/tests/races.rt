@@ -240,7 +240,10 @@ fn check_lines(
     for _ in 0..2 {
         let record = Record::new();
         if raced(rt, alloc, &[script, ""], &record)?.is_some() {
-            assert!(rt; record.first.are_of(lines) && record.second.are_of(0), "{script}");
+            assert!(rt;
+                record.first.are_of(lines) && record.second.are_of(0),
+                "{script}"
+            );
             return Ok(());
         }
     }

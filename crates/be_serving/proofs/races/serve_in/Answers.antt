@@ -27,9 +27,10 @@ returns-in-Ok g c =
     subst (λ t. EndsAs t items_of (0 + i) (get_or scripts i s) o') of_store
     (subst (λ n. EndsAs promise.store.value items_of n (get_or scripts i s) o') of_number
     (subst (λ v. EndsAs promise.store.value items_of promise.number v o') of_script kept.kept)))
-    replies in
-    (subst (HaveServed store 0 (map items_of scripts)) (sym passes) all.0,
-    subst (λ ps. AreRepliesOf store.limits 0 (map items_of scripts) ps (map items_of r.1.items)) (sym passes) all.1)) in
+    replies in (
+      subst (HaveServed store 0 (map items_of scripts)) (sym passes) all.0,
+      subst (λ ps. AreRepliesOf store.limits 0 (map items_of scripts) ps (map items_of r.1.items)) (sym passes) all.1,
+    )) in
     record {
       served = on_both c.part.result both both (λ r h _. h.0);
       replied = on_both c.part.result both both (λ r h _. h.1);
