@@ -7,6 +7,9 @@
 #include "workloads.h"
 
 #define MOST 32768
+#define PARSED 4000
+#define GETS 20000
+#define PINS 100000
 
 static uint64_t nodes_found[MOST];
 
@@ -32,40 +35,38 @@ static void ask_each(struct pass *pass, const struct data *data, const char *nam
 }
 
 static void ask_parsed(struct pass *pass, const struct data *data) {
-    const int count = 4000;
+    static struct asked texts[PARSED];
     uint64_t state = data->random;
+    for (int i = 0; i < PARSED; i++) texts[i] = text_of(ONE_NAME, data->nodes, 1, &state);
     double start = now();
-    for (int i = 0; i < count; i++) {
-        struct asked text = text_of(ONE_NAME, data->nodes, 1, &state);
+    for (int i = 0; i < PARSED; i++) {
         struct query query;
-        parse(&query, asked_text(&text));
+        parse(&query, asked_text(&texts[i]));
         ask(pass, &query, nodes_found, MOST);
         forget(&query);
     }
-    say_each("parsed", start, count);
+    say_each("parsed", start, PARSED);
 }
 
 static void get_sizes(struct pass *pass, const struct data *data) {
-    const int count = 20000;
     uint64_t state = data->random;
     int64_t size, sum = 0;
     double start = now();
-    for (int i = 0; i < count; i++) {
+    for (int i = 0; i < GETS; i++) {
         if (!get_number(pass, 1 + below(&state, data->nodes), SIZE, &size)) exit(1);
         sum += size;
     }
-    say_each("get", start, count);
+    say_each("get", start, GETS);
     if (sum < 0) exit(1);
 }
 
 static void pin_often(struct pass *pass) {
-    const int count = 100000;
     double start = now();
-    for (int i = 0; i < count; i++) {
+    for (int i = 0; i < PINS; i++) {
         pin(pass);
         unpin(pass);
     }
-    say_each("pin", start, count);
+    say_each("pin", start, PINS);
 }
 
 void run_reads(const struct data *data) {

@@ -20,22 +20,22 @@ struct job {
     uint64_t random, count;
 };
 
-/* Sets a size at last, however often it is refused meanwhile. */
-static void set_at_last(struct job *job) {
-    for (;;) {
+/* Sets a size at last, however often it is refused meanwhile, if time isn't over before. */
+static bool set_at_last(struct job *job) {
+    do {
         switch (set_random_size(job->pass, job->data->nodes, &job->random)) {
-        case DONE: return;
+        case DONE: return true;
         case BUSY: break;
         case FULL: sched_yield(); break;
         }
-        if (now() >= job->end) return;
-    }
+    } while (now() < job->end);
+    return false;
 }
 
 static void *write_on(void *argument) {
     struct job *job = argument;
-    for (; now() < job->end; job->count += 16)
-        for (int i = 0; i < 16; i++) set_at_last(job);
+    while (now() < job->end)
+        for (int i = 0; i < 16; i++) job->count += set_at_last(job);
     return NULL;
 }
 
@@ -49,10 +49,10 @@ static void *ask_on(void *argument) {
         texts[i] = text_of(NAME_FRONT, job->data->nodes, 100, &job->random);
         parse(&queries[i], asked_text(&texts[i]));
     }
-    for (; now() < job->end; job->count += 16)
-        for (int i = 0; i < 16; i++) {
+    for (; now() < job->end; job->count += TEXTS)
+        for (int i = 0; i < TEXTS; i++) {
             pin(job->pass);
-            if (ask(job->pass, &queries[(job->count + i) % TEXTS], nodes, MOST) != 100) exit(1);
+            if (ask(job->pass, &queries[i], nodes, MOST) != 100) exit(1);
             unpin(job->pass);
         }
     for (int i = 0; i < TEXTS; i++) forget(&queries[i]);

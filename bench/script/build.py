@@ -10,7 +10,7 @@ from peers import OURS, PEERS
 
 BENCH = os.path.dirname(os.path.dirname(os.path.abspath(__file__)))
 REPOSITORY = os.path.dirname(BENCH)
-DEPENDENCIES = "arrayvec be_value be_query be_volume be_core be_table be_store"
+LINE = "bench_store tests_may=Threads+Wait: arrayvec be_value be_query be_volume be_core be_table be_store\n"
 
 
 def built_programs(folder):
@@ -26,6 +26,17 @@ def built_programs(folder):
     return programs
 
 
+def built_peak(folder):
+    """The program that tells of another one's memory."""
+    program = os.path.join(folder, "peak")
+    compile_c(program, [f"{BENCH}/peak.c"])
+    return program
+
+
+def compile_c(program, words):
+    subprocess.run(["cc", "-std=gnu11", "-O2", "-o", program, *words], check=True)
+
+
 def has_library(peer):
     """Whether the compiler finds the peer's library."""
     words = ["cc", "-x", "c", "-", "-o", "/dev/null", f"-l{peer.library}"]
@@ -38,7 +49,7 @@ def build_peer(peer, folder):
     program = os.path.join(folder, peer.name)
     sources = glob.glob(f"{BENCH}/driver/*.c") + glob.glob(f"{BENCH}/peers/{peer.sources}")
     libraries = [f"-l{peer.library}"] if peer.library else []
-    subprocess.run(["cc", "-std=gnu11", "-O2", *peer.flags, "-o", program, *sources, *libraries, "-lpthread"], check=True)
+    compile_c(program, [*peer.flags, *sources, *libraries, "-lpthread"])
     return program
 
 
@@ -62,7 +73,7 @@ def lay_copy(copy):
     shutil.copy2(f"{REPOSITORY}/HANDLES", copy)
     with open(f"{copy}/crates.txt", "w") as lines:
         lines.writelines(line for line in crate_lines() if name_in(line) in names)
-        lines.write(f"bench_store: {DEPENDENCIES}\n")
+        lines.write(LINE)
     return crate
 
 
@@ -94,10 +105,14 @@ def name_in(line):
     return line.split(":")[0].split()[0]
 
 
+def libraries_in(line):
+    return line.split(":")[1].split()
+
+
 def needed_crates():
     """The repository's crates that the program stands on."""
-    below = {name_in(line): line.split(":")[1].split() for line in crate_lines()}
-    needed, waiting = set(), DEPENDENCIES.split()
+    below = {name_in(line): libraries_in(line) for line in crate_lines()}
+    needed, waiting = set(), libraries_in(LINE)
     while waiting:
         name = waiting.pop()
         if name in below and name not in needed:

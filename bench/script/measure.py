@@ -52,13 +52,16 @@ def is_rate(case):
     return case.startswith(("readers-", "commits-", "writers-"))
 
 
-def measure(programs, rounds, milliseconds):
+def measure(programs, peak, rounds, milliseconds):
+    """What the programs print; `peak` is the program that tells of another one's memory."""
     results = Results()
     for number in range(1, rounds + 1):
         results.loads.append(os.getloadavg()[0])
         for peer in PEERS:
             if peer.name in programs:
                 measure_peer(results, peer, programs[peer.name], milliseconds)
+                if peer.has_journal:
+                    measure_memory(results, peer.name, [peak, programs[peer.name]])
         print(f"round {number}, load {os.getloadavg()[0]:.1f}", file=sys.stderr)
     results.loads.append(os.getloadavg()[0])
     return results
@@ -67,35 +70,30 @@ def measure(programs, rounds, milliseconds):
 def measure_peer(results, peer, program, milliseconds):
     for nodes in SIZES:
         for workload in ("writes", "reads"):
-            keep(results, peer, nodes, run([program, workload, str(nodes)])[0])
-    keep(results, peer, NODES, run([program, "indices", str(NODES)])[0])
+            keep(results, peer, nodes, run([program, workload, str(nodes)]))
+    keep(results, peer, NODES, run([program, "indices", str(NODES)]))
     if peer.has_threads:
-        keep(results, peer, NODES, run([program, "threads", str(NODES), str(milliseconds)])[0])
-    if peer.has_journal:
-        measure_memory(results, peer, program)
+        keep(results, peer, NODES, run([program, "threads", str(NODES), str(milliseconds)]))
 
 
-def measure_memory(results, peer, program):
+def measure_memory(results, name, program):
     """What opening takes at its peak, and what a commit leaves in the journal: by the process's memory."""
     for pages in POOLS:
-        text, peak = run([program, "open", str(pages)])
-        results.add(peer.name, NODES, f"open-{pages}", float(text.split()[1]))
-        results.add(peer.name, NODES, f"peak-{pages}", peak)
-    fewer, more = (run([program, "journal", "1000", str(commits)])[1] for commits in COMMITS)
-    results.add(peer.name, NODES, "journal", (more - fewer) / (COMMITS[1] - COMMITS[0]))
+        said = dict(run([*program, "open", str(pages)]))
+        results.add(name, NODES, f"open-{pages}", said["open"])
+        results.add(name, NODES, f"peak-{pages}", said["peak"])
+    fewer, more = (dict(run([*program, "journal", "1000", str(commits)]))["peak"] for commits in COMMITS)
+    results.add(name, NODES, "journal", (more - fewer) / (COMMITS[1] - COMMITS[0]))
 
 
-def keep(results, peer, nodes, text):
-    for line in text.splitlines():
-        case, value = line.split()
-        results.add(peer.name, nodes, case, float(value))
+def keep(results, peer, nodes, said):
+    for case, value in said:
+        results.add(peer.name, nodes, case, value)
 
 
 def run(words):
-    """What a program prints, and the most bytes of memory that it had."""
-    process = subprocess.Popen(words, stdout=subprocess.PIPE, text=True)
-    text = process.stdout.read()
-    _, status, usage = os.wait4(process.pid, 0)
-    if status != 0:
-        sys.exit(f"{' '.join(words)} has ended with status {os.waitstatus_to_exitcode(status)}")
-    return text, usage.ru_maxrss * 1024
+    """The cases and values that a program prints."""
+    ended = subprocess.run(words, stdout=subprocess.PIPE, text=True)
+    if ended.returncode != 0:
+        sys.exit(f"{' '.join(words)} has ended with status {ended.returncode}")
+    return [(case, float(value)) for case, value in map(str.split, ended.stdout.splitlines())]
