@@ -68,6 +68,7 @@ def lay_copy(copy):
     names = needed_crates()
     for name in names:
         lay_folder(f"{REPOSITORY}/crates/{name}", f"{copy}/crates/{name}")
+        lay_proved(f"{REPOSITORY}/crates/{name}", f"{copy}/crates/{name}")
     crate = f"{copy}/crates/bench_store"
     lay_folder(f"{BENCH}/store", crate, ending=".txt")
     shutil.copy2(f"{REPOSITORY}/HANDLES", copy)
@@ -78,17 +79,29 @@ def lay_copy(copy):
 
 
 def lay_folder(source, target, ending=""):
-    """Copies what has changed, without an ending of its names. What was proved before, in out/, is copied the first time."""
-    for folder, folders, files in os.walk(source):
-        to = target + folder[len(source) :]
-        if os.path.basename(folder) == "out" and os.path.dirname(folder) == source:
-            folders.clear()
-            if not os.path.exists(to):
-                shutil.copytree(folder, to)
-            continue
-        os.makedirs(to, exist_ok=True)
-        for file in files:
-            lay_file(f"{folder}/{file}", f"{to}/{file.removesuffix(ending)}")
+    """Makes a folder the same as another one, whose names lose an ending. A folder out/ stays as it is."""
+    os.makedirs(target, exist_ok=True)
+    there = {name.removesuffix(ending): f"{source}/{name}" for name in os.listdir(source) if name != "out"}
+    for name in set(os.listdir(target)) - {*there, "out"}:
+        remove(f"{target}/{name}")
+    for name, path in there.items():
+        if os.path.isdir(path):
+            lay_folder(path, f"{target}/{name}", ending)
+        else:
+            lay_file(path, f"{target}/{name}")
+
+
+def remove(path):
+    if os.path.isdir(path):
+        shutil.rmtree(path)
+    else:
+        os.remove(path)
+
+
+def lay_proved(source, target):
+    """Copies what was proved before, the first time."""
+    if os.path.exists(f"{source}/out") and not os.path.exists(f"{target}/out"):
+        shutil.copytree(f"{source}/out", f"{target}/out")
 
 
 def lay_file(source, target):

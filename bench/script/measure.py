@@ -53,27 +53,24 @@ def is_rate(case):
 
 
 def measure(programs, peak, rounds, milliseconds):
-    """What the programs print; `peak` is the program that tells of another one's memory."""
+    """What the programs print, each workload by one peer after the other. `peak` tells of a program's memory."""
     results = Results()
+    workloads = [(name, nodes) for nodes in SIZES for name in ("writes", "reads")]
+    workloads += [("indices", NODES), ("threads", NODES)]
+    peers = [peer for peer in PEERS if peer.name in programs]
     for number in range(1, rounds + 1):
         results.loads.append(os.getloadavg()[0])
-        for peer in PEERS:
-            if peer.name in programs:
-                measure_peer(results, peer, programs[peer.name], milliseconds)
-                if peer.has_journal:
-                    measure_memory(results, peer.name, [peak, programs[peer.name]])
+        for workload, nodes in workloads:
+            for peer in peers:
+                if workload != "threads" or peer.has_threads:
+                    said = run([programs[peer.name], workload, str(nodes), str(milliseconds)])
+                    keep(results, peer.name, nodes, said)
+        for peer in peers:
+            if peer.has_journal:
+                measure_memory(results, peer.name, [peak, programs[peer.name]])
         print(f"round {number}, load {os.getloadavg()[0]:.1f}", file=sys.stderr)
     results.loads.append(os.getloadavg()[0])
     return results
-
-
-def measure_peer(results, peer, program, milliseconds):
-    for nodes in SIZES:
-        for workload in ("writes", "reads"):
-            keep(results, peer, nodes, run([program, workload, str(nodes)]))
-    keep(results, peer, NODES, run([program, "indices", str(NODES)]))
-    if peer.has_threads:
-        keep(results, peer, NODES, run([program, "threads", str(NODES), str(milliseconds)]))
 
 
 def measure_memory(results, name, program):
@@ -86,9 +83,9 @@ def measure_memory(results, name, program):
     results.add(name, NODES, "journal", (more - fewer) / (COMMITS[1] - COMMITS[0]))
 
 
-def keep(results, peer, nodes, said):
+def keep(results, name, nodes, said):
     for case, value in said:
-        results.add(peer.name, nodes, case, value)
+        results.add(name, nodes, case, value)
 
 
 def run(words):
