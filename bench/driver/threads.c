@@ -12,9 +12,9 @@
 #define TEXTS 64
 #define MOST 4096
 
-/* What a thread does until `end`, and how often it did so. */
+/* What a thread does until `end`, and how often it did so: on a line of the cache of its own. */
 struct job {
-    struct pass *pass;
+    _Alignas(64) struct pass *pass;
     const struct data *data;
     double end;
     uint64_t random, count;

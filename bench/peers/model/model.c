@@ -31,7 +31,8 @@ struct store {
 };
 
 struct store *store_open(uint64_t pages, int passes) {
-    struct store *store = calloc(1, sizeof *store);
+    struct store *store = aligned_alloc(64, sizeof *store);
+    memset(store, 0, sizeof *store);
     open_pool(&store->pool, pages, passes);
     fill_word(&store->pool, 0, 2, 1);
     store->passes = passes;

@@ -25,11 +25,12 @@ struct retired {
     uint32_t page, number;
 };
 
+/* What readers read stands on another line of the cache than what the writer changes. */
 struct pool {
     word *words;
     uint64_t pages;
     int passes;
-    uint32_t *free;
+    _Alignas(64) uint32_t *free;
     size_t free_count;
     struct retired *retired; /* a ring, from `first` to `last` */
     uint64_t first, last;
