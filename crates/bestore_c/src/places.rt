@@ -1,0 +1,34 @@
+//! What is put where C has room for it.
+ghost use Rattle.std.specs.Prelude.{◌≡◌, map};
+ghost use Rattle.bestore_c.specs.Places.{over, node_of};
+
+use be_volume::Done;
+
+/// Puts numbers into the first places, as many as there are places.
+pub(crate) fn put<T: Copy>(places: &mut [T], numbers: &[T])
+    ensures { places.new ≡ over numbers.now places.old }
+{
+    if numbers.len() <= places.len() {
+        places[..numbers.len()].copy_from_slice(numbers);
+    } else {
+        places.copy_from_slice(&numbers[..places.len()]);
+    }
+}
+
+fn node_of(done: Done) -> u64
+    ensures { result ≡ node_of done }
+{
+    match done {
+        Done::Node(node) => node,
+        Done::Unit => 0,
+    }
+}
+
+/// Puts the numbers of new nodes into the first places, and 0 for what is none.
+pub(crate) fn put_nodes(places: &mut [u64], dones: &[Done])
+    ensures { places.new ≡ over (map node_of dones.now) places.old }
+{
+    for (place, done) in places.iter_mut().zip(dones) {
+        *place = node_of(*done);
+    }
+}
