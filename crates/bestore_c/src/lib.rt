@@ -120,7 +120,7 @@ pub extern "C" fn bes_close(alloc: Global, pass: &mut Handle) -> u32
 /// Pins the current version, and puts out its number.
 #[unsafe(no_mangle)]
 pub extern "C" fn bes_pin(alloc: Global, pass: &mut Handle, number: &mut u64) -> u32
-    ensures { Calls pass.old.owned.value pass.new.owned.value result (λ s t. ((result ≡ 0) × Pins s.knows t.knows number.new) ⊎ ((result ≡ 67) × (t ≡ s))) }
+    ensures pass { Calls pass.old.owned.value pass.new.owned.value result (λ s t. ((result ≡ 0) × Pins s.knows t.knows number.new) ⊎ ((result ≡ 67) × (t ≡ s))) }
     ensures kept { (result ≡ 0) ⊎ (number.new ≡ number.old) }
 {
     if !pass.live {
@@ -141,7 +141,7 @@ pub extern "C" fn bes_pin(alloc: Global, pass: &mut Handle, number: &mut u64) ->
 /// Gives the pin up.
 #[unsafe(no_mangle)]
 pub extern "C" fn bes_unpin(alloc: Global, pass: &mut Handle) -> u32
-    ensures { Calls pass.old.owned.value pass.new.owned.value result (λ s t. ((result ≡ 0) × (t.knows ≡ unpins s.knows)) ⊎ ((result ≡ 66) × (t ≡ s))) }
+    ensures pass { Calls pass.old.owned.value pass.new.owned.value result (λ s t. ((result ≡ 0) × (t.knows ≡ unpins s.knows)) ⊎ ((result ≡ 66) × (t ≡ s))) }
 {
     if !pass.live {
         return CLOSED;
@@ -166,7 +166,7 @@ pub extern "C" fn bes_apply(
     made: &mut [u64],
     entries: &mut u64,
 ) -> u32
-    ensures { Calls pass.old.owned.value pass.new.owned.value result (λ s t. Writes s t spelled.now bytes.now made.old made.new entries.new result) }
+    ensures pass { Calls pass.old.owned.value pass.new.owned.value result (λ s t. Writes s t spelled.now bytes.now made.old made.new entries.new result) }
     ensures kept { (result ≡ 0) ⊎ ((entries.new ≡ entries.old) × (made.new ≡ made.old)) }
 {
     if !pass.live {
@@ -199,7 +199,7 @@ pub extern "C" fn bes_query(
     nodes: &mut [u64],
     count: &mut u64,
 ) -> u32
-    ensures { Calls pass.old.owned.value pass.new.owned.value result (λ s t. Finds s t text.now nodes.old nodes.new count.new result) }
+    ensures pass { Calls pass.old.owned.value pass.new.owned.value result (λ s t. Finds s t text.now nodes.old nodes.new count.new result) }
     ensures kept { (result ≡ 0) ⊎ ((count.new ≡ count.old) × (nodes.new ≡ nodes.old)) }
 {
     if !pass.live {
@@ -233,7 +233,7 @@ pub extern "C" fn bes_get(
     attribute: &mut Attribute,
     bytes: &mut [u8],
 ) -> u32
-    ensures { Calls pass.old.owned.value pass.new.owned.value result (λ s t. Reads s t node name_bytes.now attribute.new bytes.old bytes.new result) }
+    ensures pass { Calls pass.old.owned.value pass.new.owned.value result (λ s t. Reads s t node name_bytes.now attribute.new bytes.old bytes.new result) }
     ensures kept { (result ≡ 0) ⊎ ((attribute.new ≡ attribute.old) × (bytes.new ≡ bytes.old)) }
 {
     if !pass.live {
