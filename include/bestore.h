@@ -115,7 +115,7 @@ typedef struct bes_operation {
 /* What bes_get puts out of a value. */
 typedef struct bes_attribute {
     uint32_t code;    /* the type code */
-    uint32_t length;  /* of a text or a raw value: how many bytes it has */
+    uint64_t length;  /* of a text or a raw value: how many bytes it has */
     uint64_t number;  /* of a number: the value; (int64_t)number of a signed one */
 } bes_attribute;
 

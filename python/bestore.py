@@ -61,7 +61,7 @@ class _Operation(ctypes.Structure):
 
 
 class _Attribute(ctypes.Structure):
-    _fields_ = [("code", ctypes.c_uint32), ("length", ctypes.c_uint32), ("number", ctypes.c_uint64)]
+    _fields_ = [("code", ctypes.c_uint32), ("length", ctypes.c_uint64), ("number", ctypes.c_uint64)]
 
 
 def _load():

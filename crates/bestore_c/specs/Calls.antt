@@ -5,7 +5,7 @@ use Rattle.be_query.specs.Grammar.{Formula, IsTextOf}
 use Rattle.be_session.specs.Fault.{fault_code}
 use Rattle.be_session.specs.Meaning.{IsNoName, IsValueMeant}
 use Rattle.be_session.specs.Operations.{AreMeant, IsMisspelt}
-use Rattle.be_session.specs.Sitting.{AtPin, IsHeldBack, IsNoQuery, Sitting, Tells}
+use Rattle.be_session.specs.Sitting.{IsHeldBack, IsNoQuery, Sitting}
 use Rattle.be_session.specs.declared.faults.Fault.{Fault}
 use Rattle.be_session.specs.declared.lists.Operation.{Operation}
 use Rattle.be_store.specs.History.{Accepts}
@@ -57,18 +57,22 @@ Writes s t spelled bytes places filled entries code =
     (((code ≡ 0) × (dones : List Done) × Accepts s.knows t.knows ops entries dones × (filled ≡ over (map node_of dones) places))
     ⊎ ((e : Fault) × (code ≡ fault_code e) × IsHeldBack s.knows t.knows ops e)))
 
--- what is told is put out, or the fault's number is answered
-abbrev pub Put : Result (List ℕ) Fault → List ℕ → List ℕ → ℕ → ℕ → Type 0
-Put (Ok nodes) places filled count code = (code ≡ 0) × (count ≡ length nodes) × (filled ≡ over nodes places)
-Put (Err e) places filled count code = code ≡ fault_code e
+-- what a query answers in a version: how many nodes meet it, and as many of them as there are places; or why there is no answer
+abbrev pub Scanned : Result (List ℕ) Refusal → List ℕ → List ℕ → ℕ → ℕ → Type 0
+Scanned (Ok nodes) places filled count code = (code ≡ 0) × (count ≡ length nodes) × (filled ≡ over nodes places)
+Scanned (Err why) places filled count code = code ≡ refusal_number why
 
--- A query by its text: the bytes are no query, and then nothing has happened; or they are one, and what the session told is put out: how many nodes meet it, and as many as there are places.
+-- what it answers in the pinned version, if there is a pin; 10 where a growth was refused
+abbrev pub Found : Option ℕ → Result (List ℕ) Refusal → List ℕ → List ℕ → ℕ → ℕ → Type 0
+Found None answer places filled count code = code ≡ 66
+Found (Some n) answer places filled count code = (code ≡ 10) ⊎ Scanned answer places filled count code
+
+-- A query by its text: the bytes are no query, and then nothing has happened; or they are one, and its answer is put out.
 abbrev pub Finds : Sitting → Sitting → List ℕ → List ℕ → List ℕ → ℕ → ℕ → Type 0
 Finds s t text places filled count code =
     ((e : Fault) × (code ≡ fault_code e) × IsNoQuery text e × (t ≡ s))
-    ⊎ ((query : Formula) × (told : Result (List ℕ) Fault) × IsTextOf text query × HasRead s.knows t.knows
-    × AtPin (pinned_number s.knows.phase) told (Tells (λ nodes. nodes) told (scan (volume_pinned s.knows) query))
-    × Put told places filled count code)
+    ⊎ ((query : Formula) × IsTextOf text query × HasRead s.knows t.knows
+    × Found (pinned_number s.knows.phase) (scan (volume_pinned s.knows) query) places filled count code)
 
 -- what is there in the pinned version, if there is a pin: its type code, number and length are told, and as many of its bytes as there are places
 abbrev pub Shown : Option ℕ → Option Value → Attribute → List ℕ → List ℕ → ℕ → Type 0

@@ -19,6 +19,6 @@ pub struct Handle {
 #[derive(Clone, Copy)]
 pub struct Attribute {
     pub code: u32,
-    pub length: u32,
+    pub length: u64,
     pub number: u64,
 }

@@ -20,7 +20,7 @@ use be_session::{Fault, Operation, Session, name, operations, query_of, spelled}
 use be_store::Limits;
 use handle::{Attribute, Handle};
 use owned::Owned;
-use places::{put, put_nodes};
+use places::{nodes_of, put};
 use std::alloc::Global;
 use std::mem;
 
@@ -182,7 +182,7 @@ pub extern "C" fn bes_apply(
     match answer {
         Ok((length, dones)) => {
             *entries = length;
-            put_nodes(made, dones.as_slice());
+            put(made, nodes_of(&dones).as_slice());
             DONE
         }
         Err(fault) => fault.code(),
@@ -251,7 +251,7 @@ pub extern "C" fn bes_get(
             let (code, number, spelled) = spelled(&value);
             *attribute = Attribute {
                 code,
-                length: spelled.len() as u32,
+                length: spelled.len() as u64,
                 number,
             };
             put(bytes, spelled);

@@ -2,6 +2,7 @@
 ghost use Rattle.std.specs.Prelude.{◌≡◌, map};
 ghost use Rattle.bestore_c.specs.Places.{over, node_of};
 
+use arrayvec::ArrayVec;
 use be_volume::Done;
 
 /// Puts numbers into the first places, as many as there are places.
@@ -24,11 +25,13 @@ fn node_of(done: Done) -> u64
     }
 }
 
-/// Puts the numbers of new nodes into the first places, and 0 for what is none.
-pub(crate) fn put_nodes(places: &mut [u64], dones: &[Done])
-    ensures { places.new ≡ over (map node_of dones.now) places.old }
+/// The numbers of new nodes, and 0 for what is none.
+pub(crate) fn nodes_of(dones: &ArrayVec<Done, 64>) -> ArrayVec<u64, 64>
+    ensures { result.items ≡ map node_of dones.now.items }
 {
-    for (place, done) in places.iter_mut().zip(dones) {
-        *place = node_of(*done);
+    let mut nodes = ArrayVec::new();
+    for done in dones.as_slice() {
+        nodes.push(node_of(*done));
     }
+    nodes
 }
