@@ -28,6 +28,3 @@ pub fn law()
     ensures leaves_none { Always ScanLeavesNone }
     ensures runs { EachScheduleRuns }
 {}
-
-#[cfg(test)]
-mod tests;

@@ -103,8 +103,8 @@ impl Journal {
             return Err(Refusal::CommitsSpent);
         }
         self.entries.reserve(1)?;
-        self.spare_ops.reserve(count)?;
-        self.spare_dones.reserve(count)?;
+        self.spare_ops.reserve_exact(count)?;
+        self.spare_dones.reserve_exact(count)?;
         self.reserved = count;
         Ok(())
     }

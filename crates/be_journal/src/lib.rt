@@ -7,8 +7,6 @@
 mod entries;
 mod journals;
 mod laws;
-#[cfg(test)]
-mod tests;
 mod texts;
 
 pub use entries::{Dones, Entry, Ops};

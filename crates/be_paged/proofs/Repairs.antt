@@ -136,3 +136,9 @@ seen_at {B} P (Some y) x h e = subst P (same y x e) h
   where
     same : (a b : B) → Some a ≡ Some b → a ≡ b
     same a b e = cc
+
+-- the key of a value of the kind is there
+pub key_there : (kind : Kind) (node : ℕ) (value : Option Value) (seen : Option (List ℕ)) → IfSome seen (Leaves kind node value) → IfNone seen (HasNone kind value)
+    → (v : Value) → value ≡ Some v → kind_of v ≡ kind → IsTrue (is_indexable kind) → seen ≡ Some (key v node)
+key_there kind node value None some none v is of_kind indexable = absurd (none v is of_kind indexable)
+key_there kind node value (Some k) some none v is of_kind indexable = ap Some (some.4 ∙ ap (λ (w : Value). key w node) (same_value some.0 v (sym some.1 ∙ is)))

@@ -53,6 +53,8 @@ fn holds_both<L: Look>(
 ) -> bool
     requires tree { IsTree (L.standing look.old) (L.words look.old) root }
     ensures found { result ≡ true → (k : List ℕ) × (option_map (λ k. k.items) key.now ≡ Some k) × (is_some (payload_at (pairs (L.words look.old) root) k) ≡ true) }
+    ensures finds { (k : List ℕ) → option_map (λ k. k.items) other.now ≡ Some k → option_map (λ k. k.items) key.now ≡ Some k →
+        is_some (payload_at (pairs (L.words look.old) root) k) ≡ true → result ≡ true }
     ensures unchanged { IsUnchanged L.kept L.standing L.words look.old look.new }
 {
     match (other, key) {
@@ -100,7 +102,7 @@ fn put_key<R: Room>(
 }
 
 /// Changes the node's pair in the tree of an index: that of the old value leaves, and that of the new one enters, each if it is of the index's
-/// kind. A pair that stands already isn't touched: it is looked for only where the old value has it too, since an index has no pair of another value.
+/// kind. A pair that stands already isn't touched, and the root and the room are as they were: it is looked for only where the old value has it too, since an index has no pair of another value.
 fn change_root<R: Room>(
     room: &mut R,
     root: u64,
@@ -115,6 +117,8 @@ fn change_root<R: Room>(
     ensures swaps { IfOk result (λ r. Swaps R.kept R.standing R.words (pages (R.words room.old) root) (pages (R.words room.new) r) room.old room.new) }
     ensures keys { IfOk result (λ r. (index : AnyIndex) → IsIndexOf (pairs (R.words room.old) root) index → IsReady index kind node old.now →
         IsIndexOf (pairs (R.words room.new) r) (repaired index node new.now)) }
+    ensures stays { IfOk result (λ r. (v : AnyValue) → kind_in v ≡ kind → IsTrue (is_indexable kind) → old.now ≡ Some v → new.now ≡ Some v →
+        is_some (payload_at (pairs (R.words room.old) root) (key v node)) ≡ true → (r ≡ root) × IsUnchanged R.kept R.standing R.words room.old room.new) }
     ensures err { OnErr result (KeepsStart R.kept R.standing R.words room.old room.new) }
     ensures full { IfErr result (IsFullOf (R.full room.new)) }
 {

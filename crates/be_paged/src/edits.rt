@@ -2,7 +2,7 @@
 //!
 //! Refusals are found before, so each operation only does its work and fails for want of pages alone. What it leaves then is not said: the write
 //! is undone.
-ghost use Rattle.std.specs.Prelude.{◌≡◌, ◌+◌, ◌≤◌, ◌<◌, ◌^◌, length, IsTrue, IfOk, IfErr, OnOk, OnErr, IsOk};
+ghost use Rattle.std.specs.Prelude.{◌≡◌, [], ◌+◌, ◌≤◌, ◌<◌, ◌^◌, length, IsTrue, IfOk, IfErr, OnOk, OnErr, IsOk};
 ghost use Rattle.be_pages.specs.Pages.{KeepsStart};
 ghost use Rattle.be_pages.specs.Refusal.{IsFullOf};
 ghost use Rattle.be_volume.specs.Sound.{IsSound};
@@ -184,26 +184,28 @@ fn edit<R: Room>(room: &mut R, version: &mut Version, op: &Op) -> Result<Done, R
     }
 }
 
-/// A list of operations that are accepted, one after the other.
+/// A list of operations that are accepted, one after the other, whose answers enter an empty list. It is filled where it stands, since a list that is
+/// given by value costs its whole capacity.
 pub(crate) fn edit_all<R: Room>(
     room: &mut R,
     version: &mut Version,
     ops: &[Op],
-) -> Result<ArrayVec<Done, 64>, Refusal>
+    dones: &mut ArrayVec<Done, 64>,
+) -> Result<(), Refusal>
     requires few { length ops.now ≤ 64 }
+    requires empty { dones.old.items ≡ [] }
     requires in_hand { IsInHand (R.standing room.old) (R.words room.old) (contents version.old) }
     requires fits { version.old.next + 64 < 2 ^ 64 }
     requires open { IsTrue (R.is_open (R.kept room.old)) }
     ensures changes { OnOk result (Changes R.kept R.standing R.words (contents version.old) (contents version.new) room.old room.new) }
-    ensures steps { IfOk result (λ dones. (volume : State) → Spells (R.words room.old) (contents version.old) volume → IsSound volume →
-        IsOk (steps volume ops.now) → Reaches (R.words room.new) (contents version.new) volume ops.now dones.items) }
+    ensures steps { OnOk result ((volume : State) → Spells (R.words room.old) (contents version.old) volume → IsSound volume →
+        IsOk (steps volume ops.now) → Reaches (R.words room.new) (contents version.new) volume ops.now dones.new.items) }
     ensures err { OnErr result (KeepsStart R.kept R.standing R.words room.old room.new) }
     ensures full { IfErr result (IsFullOf (R.full room.new)) }
 {
-    let mut dones = ArrayVec::new();
     for op in ops {
         op.valid();
         dones.push(edit(room, version, op)?);
     }
-    Ok(dones)
+    Ok(())
 }

@@ -35,16 +35,3 @@ pub use paged_source::{PagedSource, source};
 pub use reading::{attrs, get, indices};
 pub use spelling::one_spelling;
 pub use writes::apply;
-
-#[cfg(test)]
-mod both;
-#[cfg(test)]
-mod lines;
-#[cfg(test)]
-mod look_tests;
-#[cfg(test)]
-mod random_lists;
-#[cfg(test)]
-mod test_looks;
-#[cfg(test)]
-mod tests;

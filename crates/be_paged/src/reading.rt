@@ -13,7 +13,8 @@ ghost use Rattle.be_paged.specs.Version.{IsVersion};
 use crate::attributes::list_attributes;
 use crate::catalog::{catalog_key, read_payload};
 use crate::entries::kinds;
-use crate::version::load_version;
+use crate::version::{Version, fill_version};
+use arrayvec::ArrayVec;
 use be_pages::Look;
 use be_tree::{find, has_key};
 use be_value::{Kind, Name, Refusal, Value};
@@ -71,6 +72,11 @@ pub fn indices<L: Look>(
         Answers (λ list. list.items) result (Ok (index_kinds volume)) }
     ensures unchanged { IsUnchanged L.kept L.standing L.words look.old look.new }
 {
-    let version = load_version(look, version_page);
+    let mut version = Version {
+        next: 0,
+        catalog: 0,
+        entries: ArrayVec::new(),
+    };
+    fill_version(look, version_page, &mut version);
     Ok(kinds(alloc, &version.entries)?)
 }

@@ -17,22 +17,6 @@ pub(crate) struct Version {
     pub(crate) entries: ArrayVec<Entry, 32>,
 }
 
-/// What a version page tells.
-pub(crate) fn load_version<L: Look>(look: &mut L, page: u64) -> Version
-    requires readable { IsTrue (is_readable (L.standing look.old page)) }
-    requires page { IsVersionPage (L.words look.old page) }
-    ensures contents { contents result ≡ contents_of (L.words look.old page) }
-    ensures unchanged { IsUnchanged L.kept L.standing L.words look.old look.new }
-{
-    let mut version = Version {
-        next: 0,
-        catalog: 0,
-        entries: ArrayVec::new(),
-    };
-    fill_version(look, page, &mut version);
-    version
-}
-
 /// Puts what a version page tells into contents that have no index yet. They are filled where they stand, since contents that are given by value
 /// cost their whole capacity.
 pub(crate) fn fill_version<L: Look>(look: &mut L, page: u64, version: &mut Version)

@@ -92,7 +92,8 @@ pub fn apply<R: Room>(
     if let Some(reason) = refusal(room, &version, ops) {
         return Err(reason);
     }
-    let dones = edit_all(room, &mut version, ops)?;
+    let mut dones = ArrayVec::new();
+    edit_all(room, &mut version, ops, &mut dones)?;
     let page = replace_version(room, version_page, &version)?;
     Ok((page, dones))
 }

@@ -13,8 +13,6 @@
 mod page_pool;
 mod page_set;
 mod room;
-#[cfg(test)]
-mod tests;
 mod vec_room;
 
 pub use page_pool::{PagePool, Place};

@@ -10,8 +10,6 @@ pub mod matching;
 mod parsing;
 mod pattern;
 mod printing;
-#[cfg(test)]
-mod tests;
 mod token;
 
 pub use pattern::Pattern;

@@ -123,6 +123,10 @@ below indexed [] p h = cc
 below indexed (x ∷ xs) zero h = omega arith
 below indexed (x ∷ xs) (suc p) h = omega (arith, below indexed xs p h)
 
+-- a pick that rests on an index is a place
+pub pick_below : (indexed : List ℕ → Bool) (f : Formula) (pick : ℕ) → rests_on indexed f pick ≡ true → pick < comparisons f
+pick_below indexed f pick h = let here : pick < length (leaves f) = below indexed (leaves f) pick h in omega (arith, length-leaves f)
+
 less : (n m : ℕ) → n < m → nat_lt n m ≡ true
 less n m h = grind (arith, nat_tests)
 

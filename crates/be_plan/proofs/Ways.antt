@@ -4,7 +4,10 @@ use Rattle.std.proofs.lemmas.Bool.Decides.{nat_tests}
 use Rattle.std.specs.Prelude.{slice_get}
 use Rattle.std.specs.List.{list_any, list_all}
 use Rattle.std.specs.Option.{option_map_or}
+use Rattle.std.specs.Result.{IfOk}
 use Rattle.std.specs.declared.option.Option.{Option}
+use Rattle.std.specs.declared.result.Result.{Result}
+use Rattle.std.specs.declared.result.Result.TheVariants.{Ok, Err}
 use Rattle.be_value.specs.declared.values.Value.{Value}
 use Rattle.be_query.specs.Grammar.{Formula, Leaf, And, Or, comparisons}
 use Rattle.be_volume.specs.Query.{sat, sees, holds, covered, has_index}
@@ -35,6 +38,15 @@ pub leaf_right : (a b : Formula) (i : ℕ) → comparisons a ≤ i → slice_get
 leaf_right a b i h =
     let e : length (leaves a) + (i - comparisons a) ≡ i = omega (arith, length-leaves a) in
     ap (slice_get (leaves a ++ leaves b)) (sym e) ∙ slice_get_right (leaves a) (leaves b) (i - comparisons a)
+
+-- and there is none behind both
+slice_get_behind : (xs : List Comparison) (i : ℕ) → length xs ≤ i → None ≡ slice_get xs i
+slice_get_behind [] i h = refl
+slice_get_behind (x ∷ xs) zero h = absurd (omega arith)
+slice_get_behind (x ∷ xs) (suc i) h = slice_get_behind xs i (omega arith)
+
+pub none_behind : (f : Formula) (i : ℕ) → comparisons f ≤ i → None ≡ slice_get (leaves f) i
+none_behind f i h = slice_get_behind (leaves f) i (omega (arith, length-leaves f))
 
 -- the part is the whole's from the place `at` on
 abbrev pub IsPart : Formula → ℕ → Formula → Type 0
@@ -192,3 +204,7 @@ is_covered s picks whole rest at (And a b) part covers =
 is_covered s picks whole rest at (Or a b) part covers =
     ap (λ t. t && covered s b) (is_covered s picks whole rest at a (left_part whole at a b part) (and_first (covers_part picks at a) (covers_part picks (at + comparisons a) b) covers))
     ∙ is_covered s picks whole rest (at + comparisons a) b (right_part whole at a b part) (and_second (covers_part picks at a) (covers_part picks (at + comparisons a) b) covers)
+
+pub if_ok : {A E : Type 0} {P Q : A → Type 0} (r : Result A E) → ((x : A) → P x → Q x) → IfOk r P → IfOk r Q
+if_ok (Ok x) f h = f x h
+if_ok (Err e) f h = h

@@ -3,16 +3,17 @@
 //! Each comparison on an indexed name has a score by its operator, from 1 for an exact match to 5 for `!=`, which passes nearly the whole index.
 //! An `||` needs both its sides, so their scores are added; an `&&` is answered from the cheaper one, as the Be File System drives an `&&`
 //! (Giampaolo, "Practical File System Design", on queries).
-ghost use Rattle.std.specs.Prelude.{◌≡◌, ◌≤◌, ◌<◌, ◌+◌, ◌*◌, ◌∷◌, ◌++◌, [], IfOk, IfErr, IfSome, ◌⊎◌, true, false};
+ghost use Rattle.std.specs.Prelude.{◌≡◌, ◌≤◌, ◌<◌, ◌+◌, ◌*◌, ◌∷◌, ◌++◌, [], IfOk, IfErr, IfSome, ◌⊎◌, true, false, Some, None, if◌then◌else◌};
 ghost use Rattle.be_value.specs.Refusal.{Answers};
 ghost use Rattle.be_value.specs.declared.refusals.Refusal.TheVariants.{OutOfMemory, NotCovered};
 ghost use Rattle.be_query.specs.Grammar.{comparisons};
 ghost use Rattle.be_query.specs.View.{formula, literal};
-ghost use Rattle.be_volume.specs.Query.{rests};
+ghost use Rattle.be_volume.specs.Query.{covered, has_index, rests};
+ghost use Rattle.be_volume.specs.Volume.{State};
 ghost use Rattle.be_plan.specs.Explain.{are_places};
 ghost use Rattle.be_plan.specs.Cover.{chosen, choice, covers, cheaper, joined, is_listed, score_of};
 
-use crate::{Cover, Picks};
+use crate::{Cover, Picks, Source};
 use be_query::{Cmp, Comparison, Literal, Query, Tree};
 use be_value::{Kind, Name, Refusal};
 use std::alloc::{AllocError, Global};
@@ -28,10 +29,63 @@ pub fn choose(alloc: Global, query: &Query, indices: &[(Name, Kind)]) -> Result<
     ensures places { IfOk result (λ cover. are_places query.now cover.picks ≡ true) }
     ensures refused { IfErr result (λ e. (e ≡ OutOfMemory) ⊎ ((e ≡ NotCovered) × (rests (is_listed indices.now) (query.now) ≡ false))) }
 {
-    match choose_in(alloc, query.tree(), 0, indices)? {
+    match choose_by_list(alloc, query.tree(), indices)? {
         Some(cover) => Ok(cover),
         None => Err(Refusal::NotCovered),
     }
+}
+
+/// The same comparisons, where a source tells which names have an index. It asks for the names of the query alone, once for each comparison,
+/// so the number of the volume's indices doesn't matter.
+pub fn choose_from<S: Source>(
+    alloc: Global,
+    query: &Query,
+    source: &mut S,
+) -> Result<Cover, Refusal>
+    ghost volume: { State }
+    requires { S.answers_for source.old volume }
+    ensures choice { Answers (λ cover. cover) result (chosen (has_index volume) query.now) }
+    ensures covers { IfOk result (λ cover. covers (has_index volume) cover.picks query.now ≡ true) }
+    ensures rests { IfOk result (λ _. covered volume query.now ≡ true) }
+    ensures places { IfOk result (λ cover. are_places query.now cover.picks ≡ true) }
+    ensures refused { IfErr result (λ e. (e ≡ OutOfMemory) ⊎ ((e ≡ NotCovered) × (covered volume query.now ≡ false))) }
+    ensures stays { S.kept source.new ≡ S.kept source.old }
+    ensures answers { S.answers_for source.new volume }
+{
+    match choose_by_source(alloc, query.tree(), source)? {
+        Some(cover) => Ok(cover),
+        None => Err(Refusal::NotCovered),
+    }
+}
+
+/// The choice for a whole query, by a list of the indices.
+fn choose_by_list(
+    alloc: Global,
+    tree: &Tree,
+    indices: &[(Name, Kind)],
+) -> Result<Option<Cover>, AllocError>
+    requires { comparisons (formula tree.now) ≤ 256 }
+    ensures choice { IfOk result (λ cover. cover ≡ choice (is_listed indices.now) 0 (formula tree.now)) }
+{
+    let PartChoice { cover, end: _ } = choose_in(alloc, tree, 0, indices)?;
+    Ok(cover)
+}
+
+/// The choice for a whole query, where a source tells which names have an index.
+fn choose_by_source<S: Source>(
+    alloc: Global,
+    tree: &Tree,
+    source: &mut S,
+) -> Result<Option<Cover>, AllocError>
+    ghost volume: { State }
+    requires answers { S.answers_for source.old volume }
+    requires few { comparisons (formula tree.now) ≤ 256 }
+    ensures choice { IfOk result (λ cover. cover ≡ choice (has_index volume) 0 (formula tree.now)) }
+    ensures stays { S.kept source.new ≡ S.kept source.old }
+    ensures answers { S.answers_for source.new volume }
+{
+    let PartChoice { cover, end: _ } = choose_asking(alloc, tree, 0, source)?;
+    Ok(cover)
 }
 
 /// The number of comparisons.
@@ -45,43 +99,123 @@ pub(crate) fn count(tree: &Tree) -> usize
     }
 }
 
+/// What is chosen for a part of a query, and the place behind its last comparison.
+#[derive(Drop)]
+struct PartChoice {
+    cover: Option<Cover>,
+    end: usize,
+}
+
 /// The choice for a part of a query whose first comparison has the place `at`.
 fn choose_in(
     alloc: Global,
     tree: &Tree,
     at: usize,
     indices: &[(Name, Kind)],
-) -> Result<Option<Cover>, AllocError>
+) -> Result<PartChoice, AllocError>
     requires { at + comparisons (formula tree.now) ≤ 256 }
-    ensures choice { IfOk result (λ cover. cover ≡ choice (is_listed indices.now) at (formula tree.now)) }
-    ensures small { IfOk result (λ cover. IfSome cover (λ c. c.score ≤ 5 * comparisons (formula tree.now))) }
+    ensures choice { IfOk result (λ c. c.cover ≡ choice (is_listed indices.now) at (formula tree.now)) }
+    ensures end { IfOk result (λ c. c.end ≡ at + comparisons (formula tree.now)) }
+    ensures small { IfOk result (λ c. IfSome c.cover (λ cover. cover.score ≤ 5 * comparisons (formula tree.now))) }
 {
     match tree {
         Tree::Leaf(comparison) => {
-            if !is_listed(indices, &comparison.name) {
-                return Ok(None);
-            }
-            let mut places = Vec::new(alloc);
-            places.push(at)?;
-            Ok(Some(Cover {
-                picks: Picks::new(places),
-                score: score_of(comparison),
-            }))
+            let indexed = is_listed(indices, &comparison.name);
+            choose_leaf(alloc, comparison, at, indexed)
         }
         Tree::And(a, b) => {
             let left = choose_in(alloc, a, at, indices)?;
-            let right = choose_in(alloc, b, at + count(a), indices)?;
-            Ok(cheaper(left, right))
+            let right = choose_in(alloc, b, left.end, indices)?;
+            let end = right.end;
+            let cover = cheaper(left.cover, right.cover);
+            Ok(PartChoice { cover, end })
         }
         Tree::Or(a, b) => {
             let left = choose_in(alloc, a, at, indices)?;
-            let right = choose_in(alloc, b, at + count(a), indices)?;
-            match (left, right) {
-                (Some(left), Some(right)) => Ok(Some(join(left, right)?)),
-                _ => Ok(None),
+            let right = choose_in(alloc, b, left.end, indices)?;
+            let end = right.end;
+            match (left.cover, right.cover) {
+                (Some(left), Some(right)) => Ok(PartChoice {
+                    cover: Some(join(left, right)?),
+                    end,
+                }),
+                _ => Ok(PartChoice { cover: None, end }),
             }
         }
     }
+}
+
+/// The same, where the source tells which names have an index: it is asked once for each comparison.
+fn choose_asking<S: Source>(
+    alloc: Global,
+    tree: &Tree,
+    at: usize,
+    source: &mut S,
+) -> Result<PartChoice, AllocError>
+    requires volume { (volume : State) × S.answers_for source.old volume }
+    requires few { at + comparisons (formula tree.now) ≤ 256 }
+    ensures choice { (volume : State) → S.answers_for source.old volume → IfOk result (λ c. c.cover ≡ choice (has_index volume) at (formula tree.now)) }
+    ensures end { IfOk result (λ c. c.end ≡ at + comparisons (formula tree.now)) }
+    ensures small { IfOk result (λ c. IfSome c.cover (λ cover. cover.score ≤ 5 * comparisons (formula tree.now))) }
+    ensures stays { S.kept source.new ≡ S.kept source.old }
+    ensures answers { (volume : State) → S.answers_for source.old volume → S.answers_for source.new volume }
+    ensures still { (volume : State) × S.answers_for source.new volume }
+{
+    match tree {
+        Tree::Leaf(comparison) => {
+            let indexed = source.kind_of(&comparison.name).is_some();
+            choose_leaf(alloc, comparison, at, indexed)
+        }
+        Tree::And(a, b) => {
+            let left = choose_asking(alloc, a, at, source)?;
+            let right = choose_asking(alloc, b, left.end, source)?;
+            let end = right.end;
+            let cover = cheaper(left.cover, right.cover);
+            Ok(PartChoice { cover, end })
+        }
+        Tree::Or(a, b) => {
+            let left = choose_asking(alloc, a, at, source)?;
+            let right = choose_asking(alloc, b, left.end, source)?;
+            let end = right.end;
+            match (left.cover, right.cover) {
+                (Some(left), Some(right)) => Ok(PartChoice {
+                    cover: Some(join(left, right)?),
+                    end,
+                }),
+                _ => Ok(PartChoice { cover: None, end }),
+            }
+        }
+    }
+}
+
+/// The choice for a comparison at a place, if its name has an index.
+fn choose_leaf(
+    alloc: Global,
+    comparison: &Comparison,
+    at: usize,
+    indexed: bool,
+) -> Result<PartChoice, AllocError>
+    requires { at < 256 }
+    ensures cover { IfOk result (λ c. c.cover ≡ if indexed
+        then Some (record { picks = at ∷ []; score = score_of comparison.now.op (literal comparison.now.literal) })
+        else None) }
+    ensures small { IfOk result (λ c. IfSome c.cover (λ cover. cover.score ≤ 5)) }
+    ensures end { IfOk result (λ c. c.end ≡ at + 1) }
+{
+    let end = at + 1;
+    if !indexed {
+        return Ok(PartChoice { cover: None, end });
+    }
+    let mut places = Vec::new(alloc);
+    places.push(at)?;
+    let cover = Cover {
+        picks: Picks::new(places),
+        score: score_of(comparison),
+    };
+    Ok(PartChoice {
+        cover: Some(cover),
+        end,
+    })
 }
 
 /// The one with the smaller score, the left one at a tie.

@@ -2,10 +2,11 @@
 //!
 //! A comparison on an indexed name sees what the index holds. A source has no call for that; but a pair of an index is always its node's
 //! attribute, so the index holds the attribute or nothing, and whether it has the attribute's key tells which.
-ghost use Rattle.std.specs.Prelude.{◌≡◌, ◌<◌, ◌^◌, Some};
+ghost use Rattle.std.specs.Prelude.{◌≡◌, ◌<◌, ◌^◌, true, false, Some, None};
 ghost use Rattle.be_query.specs.Grammar.{Leaf};
 ghost use Rattle.be_query.specs.View.{formula, literal};
 ghost use Rattle.be_volume.specs.Query.{sees, sat};
+ghost use Rattle.be_volume.specs.Reading.{attribute};
 ghost use Rattle.be_volume.specs.Volume.{State};
 
 use crate::Source;
@@ -13,26 +14,25 @@ use be_query::{Comparison, Tree};
 use be_value::{Name, Value, key_of};
 use be_volume::holds;
 
-/// What a comparison on this name sees of the node.
-fn seen<S: Source>(source: &mut S, node: u64, name: &Name) -> Option<Value>
+/// Whether a comparison on this name sees the node's attribute, which is this value.
+fn sees_it<S: Source>(source: &mut S, node: u64, name: &Name, value: &Value) -> bool
     requires { (volume : State) × S.answers_for source.old volume }
-    ensures answer { (volume : State) → S.answers_for source.old volume → result ≡ sees volume node name.now }
+    ensures sees { result ≡ true → (volume : State) → S.answers_for source.old volume → attribute volume node name.now ≡ Some value.now →
+        sees volume node name.now ≡ Some value.now }
+    ensures not { result ≡ false → (volume : State) → S.answers_for source.old volume → attribute volume node name.now ≡ Some value.now →
+        sees volume node name.now ≡ None }
     ensures stays { S.kept source.new ≡ S.kept source.old }
     ensures answers { (volume : State) → S.answers_for source.old volume → S.answers_for source.new volume }
     ensures still { (volume : State) × S.answers_for source.new volume }
 {
     let Some(_) = source.kind_of(name) else {
-        return source.value(node, name);
+        return true;
     };
-    let value = source.value(node, name)?;
-    if value.kind().indexable() && source.has_key(name, key_of(&value, node).as_slice()) {
-        Some(value)
-    } else {
-        None
-    }
+    value.kind().indexable() && source.has_key(name, key_of(value, node).as_slice())
 }
 
-/// Whether the comparison is true of what it sees of the node.
+/// Whether the comparison is true of what it sees of the node. Of the attribute it is asked first: where it is false, what the index holds
+/// can't make it true, and the index isn't searched.
 fn is_seen_true<S: Source>(source: &mut S, comparison: &Comparison, node: u64) -> bool
     requires { (volume : State) × S.answers_for source.old volume }
     ensures answer { (volume : State) → S.answers_for source.old volume →
@@ -41,10 +41,10 @@ fn is_seen_true<S: Source>(source: &mut S, comparison: &Comparison, node: u64) -
     ensures answers { (volume : State) → S.answers_for source.old volume → S.answers_for source.new volume }
     ensures still { (volume : State) × S.answers_for source.new volume }
 {
-    match seen(source, node, &comparison.name) {
-        Some(value) => holds(comparison, &value),
-        None => false,
-    }
+    let Some(value) = source.value(node, &comparison.name) else {
+        return false;
+    };
+    holds(comparison, &value) && sees_it(source, node, &comparison.name, &value)
 }
 
 /// Whether the tree is true of the node, where a comparison on `name` sees this value of it. Only for comparisons on other names the source

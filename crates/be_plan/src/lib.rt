@@ -19,11 +19,9 @@ mod plans;
 mod ranges;
 mod running;
 mod source;
-#[cfg(test)]
-mod tests;
 mod walks;
 
-pub use choosing::choose;
+pub use choosing::{choose, choose_from};
 pub use coverage::covers;
 pub use explaining::explain;
 pub use laws::list_stands_for_volume;

@@ -10,7 +10,7 @@
 //!
 //! What narrows a range tells whether that leaves no value of which the comparison, or the whole query, is false. Then the node of each key is
 //! an answer, and nothing is asked of it. A pattern is decided where it says no more than how a text begins.
-ghost use Rattle.std.specs.Prelude.{◌≡◌, ◌<◌, ◌≤◌, ◌+◌, ◌^◌, ℕ, ℤ, ◌≤ℤ◌, true, false, List, [], ◌∷◌, ◌++◌, Some, IfSome, IsUtf8, length};
+ghost use Rattle.std.specs.Prelude.{◌≡◌, ◌<◌, ◌≤◌, ◌+◌, ◌^◌, ℕ, ℤ, ◌≤ℤ◌, true, false, List, [], ◌∷◌, ◌++◌, Some, IfSome, IfOk, IfErr, IsUtf8, length};
 ghost use Rattle.std.specs.Str.{chars};
 ghost use Rattle.be_pattern.specs.Match.{matches};
 ghost use Rattle.be_pattern.specs.Canonical.{is_plain};
@@ -24,7 +24,6 @@ ghost use Rattle.be_volume.specs.Maps.{name_cmp};
 ghost use Rattle.be_volume.specs.Query.{holds, holds_of_number, is_true_of, literal_number};
 ghost use Rattle.be_plan.specs.Narrow.{IsIn, IsBetween, IsPair, StandsFor, HasEnds, Allows, Decides, high_of, limit};
 
-use crate::choosing::count;
 use crate::ranges::Range;
 use be_pattern::Pattern;
 use be_query::{Cmp, Comparison, Literal, Tree};
@@ -322,8 +321,27 @@ fn narrow(range: &mut Range, comparison: &Comparison, kind: Kind) -> bool
     }
 }
 
+/// Leaves out keys of values that a node can't have at this name where the part is true of it. An `||` leaves out none, since neither of its
+/// sides need be true. Whether what is left decides that the part is true.
+fn narrow_beside(range: &mut Range, tree: &Tree, name: &Name, kind: Kind) -> bool
+    ensures within { (k : List ℕ) → IsIn range.new k → IsIn range.old k }
+    ensures keeps { (pick at : ℕ) (v : AnyValue) (n : ℕ) → IsPair kind v n → Allows pick at (formula tree.now) name.now v →
+        IsIn range.old (key_bytes v n) → IsIn range.new (key_bytes v n) }
+    ensures decides { result ≡ true → Decides (formula tree.now) name.now kind range.new.low.items (high_of range.new) }
+{
+    match tree {
+        Tree::Leaf(comparison) => comparison.name == *name && narrow(range, comparison, kind),
+        Tree::And(a, b) => {
+            let left = narrow_beside(range, a, name, kind);
+            narrow_beside(range, b, name, kind) && left
+        }
+        Tree::Or(_, _) => false,
+    }
+}
+
 /// Leaves out keys of values that a node can't have at this name where the part, whose first comparison has the place `at`, is true of it by
-/// way of the pick. Whether that decides that the part is true. An `||` is decided by the side of the pick.
+/// way of the pick. Whether that decides that the part is true; an `||` is decided by the side of the pick. Where the part ends before the
+/// pick, the range stays, and the answer is the place behind the part.
 pub(crate) fn narrow_all(
     range: &mut Range,
     tree: &Tree,
@@ -331,28 +349,33 @@ pub(crate) fn narrow_all(
     pick: usize,
     name: &Name,
     kind: Kind,
-) -> bool
-    requires { at + comparisons (formula tree.now) ≤ 256 }
+) -> Result<bool, usize>
+    requires few { at + comparisons (formula tree.now) ≤ 256 }
+    requires from { at ≤ pick }
     ensures within { (k : List ℕ) → IsIn range.new k → IsIn range.old k }
     ensures keeps { (v : AnyValue) (n : ℕ) → IsPair kind v n → Allows pick at (formula tree.now) name.now v →
         IsIn range.old (key_bytes v n) → IsIn range.new (key_bytes v n) }
-    ensures decides { result ≡ true → Decides (formula tree.now) name.now kind range.new.low.items (high_of range.new) }
+    ensures decides { IfOk result (λ decided. decided ≡ true → Decides (formula tree.now) name.now kind range.new.low.items (high_of range.new)) }
+    ensures inside { IfOk result (λ _. pick < at + comparisons (formula tree.now)) }
+    ensures behind { IfErr result (λ end. (end ≡ at + comparisons (formula tree.now)) × (end ≤ pick) × (range.new ≡ range.old)) }
 {
     match tree {
-        Tree::Leaf(comparison) => comparison.name == *name && narrow(range, comparison, kind),
-        Tree::And(a, b) => {
-            let left = narrow_all(range, a, at, pick, name, kind);
-            narrow_all(range, b, at + count(a), pick, name, kind) && left
-        }
-        Tree::Or(a, b) => {
-            let middle = at + count(a);
-            if at <= pick && pick < middle {
-                narrow_all(range, a, at, pick, name, kind)
-            } else if middle <= pick && pick < middle + count(b) {
-                narrow_all(range, b, middle, pick, name, kind)
-            } else {
-                false
+        Tree::Leaf(comparison) => {
+            if at < pick {
+                return Err(at + 1);
             }
+            Ok(comparison.name == *name && narrow(range, comparison, kind))
         }
+        Tree::And(a, b) => match narrow_all(range, a, at, pick, name, kind) {
+            Ok(decided) => Ok(narrow_beside(range, b, name, kind) && decided),
+            Err(middle) => {
+                let decided = narrow_all(range, b, middle, pick, name, kind)?;
+                Ok(narrow_beside(range, a, name, kind) && decided)
+            }
+        },
+        Tree::Or(a, b) => match narrow_all(range, a, at, pick, name, kind) {
+            Ok(decided) => Ok(decided),
+            Err(middle) => narrow_all(range, b, middle, pick, name, kind),
+        },
     }
 }

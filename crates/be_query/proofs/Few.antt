@@ -312,9 +312,9 @@ unfolding LeavesComparison Stands
 compares_stand at n op things None l h = tt
 compares_stand at n op things (Some c) l h = go (bad_pattern op c.1)
   where
-    go : (o : Option ℕ) → Stands (elim o [ Some _ ↦ Err (BadPattern at) | None ↦ rpn.counts n (Leaf c.0 op (literal_of op c.1)) c.2 ])
+    go : (o : Option ℕ) → Stands (elim o [ Some _ ↦ Err (BadPattern at) | None ↦ rpn.counts n (Leaf c.0 op (rpn.given_literal op c.1)) c.2 ])
     go (Some x) = tt
-    go None = counts_stand n (Leaf c.0 op (literal_of op c.1)) c.2 refl (omega arith)
+    go None = counts_stand n (Leaf c.0 op (rpn.given_literal op c.1)) c.2 refl (omega arith)
 
 surrounds_stand : (at n : ℕ) (before behind : Bool) (things : List rpn.Thing) (o : Option (List ℕ × List ℕ × List rpn.Thing)) → LeavesComparison things o → on_stack things ≤ n → Stands (rpn.surrounds at n before behind o)
 unfolding LeavesComparison Stands

@@ -3,9 +3,9 @@ use Rattle.std.proofs.Common.{◌≡◌, ℕ, Option, Some, None, Result, Err, L
 use Rattle.be_value.specs.declared.refusals.Refusal.{Refusal}
 use Rattle.be_value.specs.declared.refusals.Refusal.TheVariants.{BadPattern, BadRpn}
 use Rattle.be_query.specs.declared.tree.Cmp.{Cmp}
-use Rattle.be_query.specs.Grammar.{Formula, Leaf, literal_of}
+use Rattle.be_query.specs.Grammar.{Formula, Leaf}
 use Rattle.be_query.specs.Faults.{bad_pattern}
-use Rattle.be_query.specs.Rpn.{Thing, Attribute, Value, Whole, compares, counts, top_tree, one_tree, thing_of, things_of}
+use Rattle.be_query.specs.Rpn.{Thing, Attribute, Value, Whole, given_literal, compares, counts, top_tree, one_tree, thing_of, things_of}
 use Rattle.be_query.specs.declared.rpn.Thing as code_thing
 use Rattle.std.proofs.lemmas.List.{length-map, length-reverse}
 
@@ -14,7 +14,7 @@ pub value_refused : (at n place : ℕ) (op : Cmp) (c : List ℕ × List ℕ × L
 value_refused at n place op c h = ap told h
   where
     told : Option ℕ → Result (ℕ × List Thing) Refusal
-    told o = elim o [ Some _ ↦ Err (BadPattern at) | None ↦ counts n (Leaf c.0 op (literal_of op c.1)) c.2 ]
+    told o = elim o [ Some _ ↦ Err (BadPattern at) | None ↦ counts n (Leaf c.0 op (given_literal op c.1)) c.2 ]
 
 -- more than one thing stands
 pub many_things : (at : ℕ) (things rest : List Thing) (t : Formula) → top_tree things ≡ Some (t, rest) → (length rest ≡ 0 → ⊥) → one_tree at things ≡ Err (BadRpn at)

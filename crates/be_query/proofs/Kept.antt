@@ -164,7 +164,7 @@ canonical_whole ps z rest = canonical_passes ps z (34 ∷ rest) ∙ ap Ends (ome
 
 -- What is kept by printing.
 
-kept_name : (n : List ℕ) → name_from n ≡ Ok n → is_name (escaped n) ≡ true
+pub kept_name : (n : List ℕ) → name_from n ≡ Ok n → is_name (escaped n) ≡ true
 kept_name n h = ap (λ x. is_ok (name_from x)) (plain-escaped n) ∙ ap is_ok h
 
 kept_literal : (op : Cmp) (v : Literal) → IsKeptBy op v → (literal_of op (value_text v) ≡ v) × IsWhole (value_text v)
@@ -195,7 +195,7 @@ kept_printable (Leaf n op v) h = (kept_name n h.0, plain-escaped n, (kept_litera
 kept_printable (And l r) h = (kept_printable l h.0, kept_printable r h.1)
 kept_printable (Or l r) h = (kept_printable l h.0, kept_printable r h.1)
 
-kept_quotable : (t : Formula) → IsKept t → IsQuotable t
+pub kept_quotable : (t : Formula) → IsKept t → IsQuotable t
 kept_quotable (Leaf n op v) h = (escaped_whole n (no_nul n h.0), (kept_literal op v h.1).1)
 kept_quotable (And l r) h = (kept_quotable l h.0, kept_quotable r h.1)
 kept_quotable (Or l r) h = (kept_quotable l h.0, kept_quotable r h.1)

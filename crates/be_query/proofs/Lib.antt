@@ -16,3 +16,4 @@ pub mod Clean
 pub mod Held
 pub mod Worked
 pub mod Few
+pub mod Back

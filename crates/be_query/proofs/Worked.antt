@@ -20,11 +20,11 @@ use Rattle.be_pattern.specs.Match.{Part, Run, Only}
 use Rattle.be_pattern.specs.Canonical.{around, run_if, is_formed, has_only}
 use Rattle.be_pattern.proofs.Back.{canonical_read}
 use Rattle.be_query.specs.declared.tree.Cmp.{Cmp}
-use Rattle.be_query.specs.declared.tree.Cmp.TheVariants.{Eq}
-use Rattle.be_query.specs.Grammar.{Formula, Leaf, And, Or, Wild, literal_of}
+use Rattle.be_query.specs.declared.tree.Cmp.TheVariants.{Eq, Ne, Lt, Le, Gt, Ge}
+use Rattle.be_query.specs.Grammar.{Formula, Leaf, And, Or, Wild}
 use Rattle.be_query.specs.Faults.{bad_pattern}
 use Rattle.be_query.specs.Printing.{IsKept, IsKeptBy}
-use Rattle.be_query.specs.Rpn.{Thing, Attribute, Value, Whole, Item, Attr, Given, Number, Compare, Around, Both, Either, Complement, top_tree, comparison_below, top_comparison, tree_below, top_trees, counts, compares, surrounds, joins, complements, work, shallow, one_tree, ItemClean}
+use Rattle.be_query.specs.Rpn.{Thing, Attribute, Value, Whole, Item, Attr, Given, Number, Compare, Around, Both, Either, Complement, top_tree, comparison_below, top_comparison, tree_below, top_trees, counts, given_literal, compares, surrounds, joins, complements, work, shallow, one_tree, ItemClean}
 use Rattle.be_query.proofs.Held.{some, all_some, scalars_all, chars_clean, parts_kept, literal_kept, complement_kept}
 
 abbrev pub ThingKept : Thing → Type 0
@@ -111,14 +111,22 @@ around_kept before behind text h u =
 counts_kept : (n : ℕ) (leaf : Formula) (things : List Thing) → IsKept leaf → StackKept things → WorkKept (counts n leaf things)
 counts_kept n leaf things h k = cond_both (nat_le 256 n) _ _ WorkKept (λ e. tt) (λ e. (h, k))
 
+given_kept : (op : Cmp) (text : List ℕ) → has_nul text ≡ false → IsUtf8 text → IsKeptBy op (given_literal op text)
+given_kept Eq text h u = literal_kept Eq text h u
+given_kept Ne text h u = literal_kept Ne text h u
+given_kept Lt text h u = (refl, h)
+given_kept Le text h u = (refl, h)
+given_kept Gt text h u = (refl, h)
+given_kept Ge text h u = (refl, h)
+
 compares_kept : (at n : ℕ) (op : Cmp) (o : Option (List ℕ × List ℕ × List Thing)) → ComparisonKept o → WorkKept (compares at n op o)
 unfolding ComparisonKept
 compares_kept at n op None h = tt
 compares_kept at n op (Some c) h = go (bad_pattern op c.1)
   where
-    go : (o : Option ℕ) → WorkKept (elim o [ Some _ ↦ Err (BadPattern at) | None ↦ counts n (Leaf c.0 op (literal_of op c.1)) c.2 ])
+    go : (o : Option ℕ) → WorkKept (elim o [ Some _ ↦ Err (BadPattern at) | None ↦ counts n (Leaf c.0 op (given_literal op c.1)) c.2 ])
     go (Some x) = tt
-    go None = counts_kept n (Leaf c.0 op (literal_of op c.1)) c.2 (h.0, literal_kept op c.1 h.1.0 h.1.1) h.2
+    go None = counts_kept n (Leaf c.0 op (given_literal op c.1)) c.2 (h.0, given_kept op c.1 h.1.0 h.1.1) h.2
 
 surrounds_kept : (at n : ℕ) (before behind : Bool) (o : Option (List ℕ × List ℕ × List Thing)) → ComparisonKept o → WorkKept (surrounds at n before behind o)
 unfolding ComparisonKept

@@ -1,6 +1,8 @@
 -- The canonical text of a tree.
-use Rattle.std.specs.Prelude.{◌≡◌, Ok, ℕ, Bool, true, false, List, [], ◌∷◌, ◌++◌, length, ◌||◌, ◌==◌, if◌then◌else◌, encode_utf8_all, codes}
+use Rattle.std.specs.Prelude.{◌≡◌, Ok, Some, None, ℕ, ◌+◌, max, nat_lt, Option, Bool, true, false, List, [], ◌∷◌, ◌++◌, length, ◌||◌, ◌==◌, if◌then◌else◌, encode_utf8_all, codes}
 use Rattle.be_pattern.specs.Canonical.{canonical}
+use Rattle.be_value.specs.declared.refusals.Refusal.{Refusal}
+use Rattle.be_value.specs.declared.refusals.Refusal.TheVariants.{TooLong, TooDeep}
 use Rattle.be_query.specs.declared.tree.Cmp.{Cmp}
 use Rattle.be_query.specs.declared.tree.Cmp.TheVariants.{Eq, Ne, Lt, Le, Gt, Ge}
 use Rattle.be_query.specs.declared.lexer.Span.TheVariants.{Ends}
@@ -52,6 +54,27 @@ abbrev mutual
   operand_text (Leaf n op v) = leaf_text n op v
   operand_text (And l r) = codes "(" ++ and_text l ++ codes " && " ++ operand_text r ++ codes ")"
   operand_text (Or l r) = codes "(" ++ or_text l ++ codes " || " ++ and_text r ++ codes ")"
+
+-- How many parentheses stand round a comparison of that text at most.
+abbrev mutual
+  pub or_depth : Formula → ℕ
+  or_depth (Leaf n op v) = 0
+  or_depth (And l r) = max (and_depth l) (operand_depth r)
+  or_depth (Or l r) = max (or_depth l) (and_depth r)
+
+  pub and_depth : Formula → ℕ
+  and_depth (Leaf n op v) = 0
+  and_depth (And l r) = max (and_depth l) (operand_depth r)
+  and_depth (Or l r) = 1 + max (or_depth l) (and_depth r)
+
+  pub operand_depth : Formula → ℕ
+  operand_depth (Leaf n op v) = 0
+  operand_depth (And l r) = 1 + max (and_depth l) (operand_depth r)
+  operand_depth (Or l r) = 1 + max (or_depth l) (and_depth r)
+
+-- the limit that the text is past
+abbrev pub limit_of : Formula → Option Refusal
+limit_of t = if nat_lt 4096 (length (or_text t)) then Some TooLong else (if nat_lt 64 (or_depth t) then Some TooDeep else None)
 
 -- The tokens of the same.
 abbrev pub leaf_tokens : List ℕ → Cmp → Literal → List Token

@@ -11,8 +11,8 @@ use Rattle.be_query.specs.declared.rpn.Item as code_item
 use Rattle.be_query.specs.declared.rpn.Thing as code_thing
 use Rattle.be_query.specs.declared.rpn.Stack as code_stack
 use Rattle.be_value.specs.Name.{name_from, has_nul}
-use Rattle.be_query.specs.Grammar.{Formula, Leaf, And, Or, complement, literal_of, Wild}
-use Rattle.be_query.specs.Faults.{bad_pattern}
+use Rattle.be_query.specs.Grammar.{Formula, Leaf, And, Or, complement, Literal, Wild, Exact, literal_of}
+use Rattle.be_query.specs.Faults.{takes_pattern, bad_pattern}
 use Rattle.be_query.specs.View.{formula}
 
 pub data Thing : Type 0 where
@@ -64,9 +64,13 @@ top_trees stack = tree_below (top_tree stack)
 abbrev pub counts : ℕ → Formula → List Thing → Result (ℕ × List Thing) Refusal
 counts n leaf stack = if nat_le 256 n then Err TooMany else Ok (n + 1, Whole leaf ∷ stack)
 
+-- what a text is compared as: a pattern, or by an order operator as it is
+abbrev pub given_literal : Cmp → List ℕ → Literal
+given_literal op text = if takes_pattern op then literal_of op text else Exact text
+
 abbrev pub compares : ℕ → ℕ → Cmp → Option (List ℕ × List ℕ × List Thing) → Result (ℕ × List Thing) Refusal
 compares at n op None = Err (BadRpn at)
-compares at n op (Some c) = elim (bad_pattern op c.1) [ Some _ ↦ Err (BadPattern at) | None ↦ counts n (Leaf c.0 op (literal_of op c.1)) c.2 ]
+compares at n op (Some c) = elim (bad_pattern op c.1) [ Some _ ↦ Err (BadPattern at) | None ↦ counts n (Leaf c.0 op (given_literal op c.1)) c.2 ]
 
 abbrev pub surrounds : ℕ → ℕ → Bool → Bool → Option (List ℕ × List ℕ × List Thing) → Result (ℕ × List Thing) Refusal
 surrounds at n before behind None = Err (BadRpn at)

@@ -1,10 +1,11 @@
 //! What the definitions of the grammar and of canonical texts imply.
-ghost use Rattle.std.specs.Prelude.{ℕ, ◌≡◌, false, List, Some, None, []};
-ghost use Rattle.be_query.specs.Grammar.{Formula, OrPhrase, Spells, IsTextOf, Viable, or_tokens};
+ghost use Rattle.std.specs.Prelude.{ℕ, ◌≡◌, ◌≤◌, false, List, Some, None, []};
+ghost use Rattle.be_query.specs.Faults.{fault};
+ghost use Rattle.be_query.specs.Grammar.{Formula, OrPhrase, comparisons, Spells, IsTextOf, Viable, or_tokens};
 ghost use Rattle.be_query.specs.Reading.{Place, Joint, Mark, read};
 ghost use Rattle.be_query.specs.Tokens.{Token, plain};
 ghost use Rattle.be_value.specs.Name.{has_nul};
-ghost use Rattle.be_query.specs.Printing.{IsKept, IsPrintable, IsQuotable, IsWhole, escaped, or_printed, or_text};
+ghost use Rattle.be_query.specs.Printing.{IsKept, IsPrintable, IsQuotable, IsWhole, escaped, or_printed, or_text, limit_of};
 ghost use Rattle.be_query.specs.Lexing.{tokens};
 
 /// A token list is read on exactly as long as some tokens behind it make a sentence, is a sentence
@@ -29,4 +30,10 @@ pub fn printing()
     ensures spells { (t : Formula) → IsQuotable t → IsPrintable t → Spells (tokens (or_text t)) t }
     // A name, or an order operator's value, is one token if it has no NUL.
     ensures whole { (bs : List ℕ) → has_nul bs ≡ false → IsWhole (escaped bs) }
+{}
+
+/// The canonical text of a query has no fault but the limit that it is past. So `parse` reads it back wherever it has
+/// at most 4,096 bytes and 64 parentheses round a comparison, and by `printing` to the same tree.
+pub fn reading_back()
+    ensures { (t : Formula) → IsKept t → comparisons t ≤ 256 → fault (or_text t) ≡ limit_of t }
 {}

@@ -11,8 +11,6 @@ mod parser;
 mod printing;
 mod query;
 mod rpn;
-#[cfg(test)]
-mod tests;
 mod token;
 mod tree;
 

@@ -1,7 +1,8 @@
 //! Queries from items in reverse Polish order, which are worked on a stack (after `BQuery` of the Be Book).
 ghost use Rattle.std.specs.Prelude.{◌≡◌, ◌≤◌, ℕ, ◌∷◌, Ok, Err, Some, None, IfOk, IfErr, MatchOption, map, string_bytes};
+ghost use Rattle.be_query.specs.Faults.{bad_pattern};
 ghost use Rattle.be_query.specs.Grammar.{And, Or, Leaf};
-ghost use Rattle.be_query.specs.Rpn.{Number, Attribute, Value, Whole, top_value, top_attribute, top_tree, top_comparison, top_trees, counts, compares, surrounds, joins, complements, work, shallow, one_tree, rpn, thing_of, things_of, stack_of, item_of, ItemClean};
+ghost use Rattle.be_query.specs.Rpn.{Number, Attribute, Value, Whole, top_value, top_attribute, top_tree, top_comparison, top_trees, counts, given_literal, compares, surrounds, joins, complements, work, shallow, one_tree, rpn, thing_of, things_of, stack_of, item_of, ItemClean};
 ghost use Rattle.be_value.specs.Name.{has_nul};
 ghost use Rattle.std.specs.Fmt.{decimal, signed_decimal};
 ghost use Rattle.be_query.specs.View.{IsMemory, formula, literal};
@@ -11,7 +12,7 @@ use crate::query::Query;
 use crate::tree::{Cmp, Comparison, Literal, Tree};
 use be_pattern::Pattern;
 use be_value::{Name, Refusal};
-use std::alloc::Global;
+use std::alloc::{AllocError, Global};
 
 /// How many comparisons a query may have.
 const MAX_COMPARISONS: usize = 256;
@@ -286,7 +287,7 @@ fn compare(alloc: Global, stack: Stack, at: usize, op: Cmp) -> Result<Stack, Ref
     let Some((name, text, things)) = pop_comparison(things) else {
         return Err(Refusal::BadRpn(at));
     };
-    let literal = match read_literal(alloc, op, &text)? {
+    let literal = match given_literal(alloc, op, text)? {
         Ok(literal) => literal,
         Err(_) => return Err(Refusal::BadPattern(at)),
     };
@@ -297,6 +298,17 @@ fn compare(alloc: Global, stack: Stack, at: usize, op: Cmp) -> Result<Stack, Ref
         },
         Comparison { name, op, literal },
     )
+}
+
+/// What a text is compared as: a pattern, or where it is faulty as one; by an order operator the text as it is.
+fn given_literal(alloc: Global, op: Cmp, text: String) -> Result<Result<Literal, usize>, AllocError>
+    ensures ok { IfOk result (λ r. IfOk r (λ l. (literal l ≡ given_literal op (string_bytes text)) × (bad_pattern op (string_bytes text) ≡ None))) }
+    ensures err { IfOk result (λ r. IfErr r (λ place. bad_pattern op (string_bytes text) ≡ Some place)) }
+{
+    match op {
+        Cmp::Eq | Cmp::Ne => read_literal(alloc, op, &text),
+        Cmp::Lt | Cmp::Le | Cmp::Gt | Cmp::Ge => Ok(Ok(Literal::Text(text))),
+    }
 }
 
 /// The stack behind a comparison with a literal text that may have a `*` before it and behind it.

@@ -1,11 +1,1 @@
-pub mod CoverLemmas
-pub mod JoinLemmas
-pub mod OwnLemmas
-pub mod PartLemmas
-pub mod PassLemmas
-pub mod RaceLemmas
-pub mod ReplyLemmas
-pub mod RunLemmas
 pub mod StoreLemmas
-pub mod ValueLemmas
-pub mod WordLemmas

@@ -13,10 +13,9 @@ mod plain;
 mod pools;
 mod races;
 mod readings;
-mod tasks;
 
-use crate::runs::serve;
 use crate::{Limits, RunFault, run};
+use be_serving::serve;
 use be_value::word_of;
 use plain::PlainStore;
 use std::alloc::{AllocError, Global};

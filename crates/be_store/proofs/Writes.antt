@@ -1,15 +1,21 @@
 -- What a write makes of the pass that holds the lock.
-use Rattle.std.proofs.Common.{arith, ◌≡◌, inl, inr, ℕ, List, [], ◌∷◌, ◌++◌, length, Ok, Err, sym, ap, ◌∙◌, subst}
-use Rattle.std.specs.Prelude.{IsOk, Result, MatchResult}
+use Rattle.std.proofs.Common.{arith, ◌≡◌, inl, inr, ℕ, zero, suc, List, [], ◌∷◌, ◌++◌, length, map, Bool, true, false, nat_lt, if◌then◌else◌, Ok, Err, refl, sym, ap, ◌∙◌, subst}
+use Rattle.std.specs.Prelude.{IsOk, Result, MatchResult, slice_index_or}
 use Rattle.std.specs.Result.{IsErrAnd}
 use Rattle.be_journal.specs.Journal.{replay}
+use Rattle.be_core.specs.Machine.{has}
+use Rattle.be_pages.specs.Place.{swept_place}
+use Rattle.be_pages.specs.declared.page_pool.Place.{Place}
+use Rattle.be_pages.specs.declared.page_pool.Place.TheVariants.{Free, Reserved, Filled, Current, GivenUp, Retired}
+use Rattle.be_pages.specs.declared.room.Standing.TheVariants.{Free as Nowhere}
+use Rattle.be_table.specs.declared.pass.Commit.{Commit}
 use Rattle.be_table.specs.declared.pass.Knowledge.{Knowledge}
 use Rattle.be_table.specs.Place.{Work}
-use Rattle.be_table.specs.Reading.{open_of, standing_of, word_in, words_of, StaysOpen}
+use Rattle.be_table.specs.Reading.{open_of, standing_at, standing_in, standing_of, word_in, words_of, StaysOpen}
 use Rattle.be_table.specs.Rule.{entries, page_at, reach_at}
 use Rattle.be_table.specs.Steps.{commit_of, entry_of, publishes}
-use Rattle.be_table.specs.Versions.{SpellsVolume}
-use Rattle.be_table.specs.Works.{HasNoRoom, TakesLock}
+use Rattle.be_table.specs.Versions.{at_start, SpellsVolume}
+use Rattle.be_table.specs.Works.{HasNoRoom, MakesScan, TakesLock}
 use Rattle.be_volume.specs.Volume.{State, steps}
 use Rattle.be_volume.specs.declared.ops.Done.{Done}
 use Rattle.be_volume.specs.declared.ops.Op.{Op}
@@ -18,12 +24,72 @@ use Rattle.be_value.specs.declared.refusals.Refusal.TheVariants.{Full}
 use Rattle.be_pages.specs.declared.room.Standing.{Standing}
 use Rattle.be_pages.specs.Pages.{KeepsStart}
 use Rattle.be_paged.specs.Changes.{IsRefused}
-use Rattle.be_store.specs.Writing.{Publishes, IsHeldBack}
+use Rattle.be_store.specs.Writing.{Begins, Publishes, IsHeldBack}
 use Rattle.be_store.proofs.Refusals.{steps_refuse}
 
 -- the version at the page that the ledger tells is that of the whole journal
-pub current_spelt : (a k : Knowledge) (page : ℕ) → TakesLock a k → page ≡ page_at k.seen (length k.seen) → SpellsVolume (reach_at k.seen (length k.seen)) (word_in k.words) page (replay (entries k.seen))
-current_spelt a k page t is = subst (λ p. SpellsVolume (reach_at k.seen (length k.seen)) (word_in k.words) p (replay (entries k.seen))) (sym is) t.spelt
+pub current_spelt : (k : Knowledge) (page : ℕ) → Begins k → page ≡ page_at k.seen (length k.seen) → SpellsVolume (reach_at k.seen (length k.seen)) (word_in k.words) page (replay (entries k.seen))
+current_spelt k page t is = subst (λ p. SpellsVolume (reach_at k.seen (length k.seen)) (word_in k.words) p (replay (entries k.seen))) (sym is) t.spelt
+
+-- a pass that has just taken the lock begins a write
+pub begins_locked : (a k : Knowledge) → TakesLock a k → Begins k
+begins_locked a k t = record { unpublished = ap (λ (x : Knowledge). x.published) t.same; begun = t.begun; spelt = t.spelt }
+
+swept_standing : (l : ℕ) (x : Place) → standing_at (swept_place l x) ≡ standing_at x
+swept_standing l Free = refl
+swept_standing l Reserved = refl
+swept_standing l Filled = refl
+swept_standing l Current = refl
+swept_standing l GivenUp = refl
+swept_standing l (Retired r) = by (nat_lt r l)
+  where
+    by : (b : Bool) → standing_at (if b then Free else Retired r) ≡ standing_at (Retired r)
+    by true = refl
+    by false = refl
+
+swept_in : (l : ℕ) (places : List Place) (q : ℕ) → standing_in (map (swept_place l) places) q ≡ standing_in places q
+swept_in l places q = ap (λ s. if nat_lt q 16384 then s else Nowhere) (by places q)
+  where
+    by : (xs : List Place) (k : ℕ) → standing_at (slice_index_or (map (swept_place l) xs) k Free) ≡ standing_at (slice_index_or xs k Free)
+    by [] k = refl
+    by (x ∷ xs) zero = swept_standing l x
+    by (x ∷ xs) (suc k) = by xs k
+
+-- a scan frees only pages that stand nowhere
+pub begins_scanned : (old new : Work) (least : ℕ) → MakesScan old new least → Begins old.knows → Begins new.knows
+begins_scanned old new least h b =
+    let k : Knowledge = old.knows in
+    let begun : (q : ℕ) → standing_in new.knows.places q ≡ at_start (has (reach_at k.seen (length k.seen)) q) = λ q. ap (λ ps. standing_in ps q) h.places ∙ swept_in least k.places q ∙ b.begun q in
+    let same : new.knows ≡ record k { scanned = 0; least = least; places = new.knows.places; held = new.knows.held; steps = new.knows.steps } = ap (λ (w : Work). w.knows) h.same in record {
+      unpublished = ap (λ (x : Knowledge). x.published) same ∙ b.unpublished;
+      begun = λ q. begun q ∙ ap (λ (x : List Commit). at_start (has (reach_at x (length x)) q)) (sym (ap (λ (x : Knowledge). x.seen) same));
+      spelt = subst (λ (x : List Commit × List ℕ). SpellsVolume (reach_at x.0 (length x.0)) (word_in x.1) (page_at x.0 (length x.0)) (replay (entries x.0)))
+          (λ i. (sym (ap (λ (x : Knowledge). x.seen) same) i, sym (ap (λ (x : Knowledge). x.words) same) i)) b.spelt;
+    }
+
+-- what a write makes of the pass, told from before a scan that came first
+pub published_from : (w v : Work) (c : Knowledge) (ops : List Op) (n : ℕ) (dones : List Done) → open_of v ≡ open_of w → Publishes v.knows c ops n dones → Publishes w.knows c ops n dones
+published_from w v c ops n dones kept p =
+    let number : v.knows.number ≡ w.knows.number = ap (λ (o : StaysOpen). o.number) kept in
+    let seen : v.knows.seen ≡ w.knows.seen = ap (λ (o : StaysOpen). o.seen) kept in record {
+      same = record { pass = p.same.pass ∙ number; pin = p.same.pin ∙ ap (λ (o : StaysOpen). o.phase) kept };
+      commit = p.commit;
+      entry = p.entry ∙ ap (λ k. record { by = k; ops = ops; dones = dones }) number;
+      seen = p.seen ∙ ap (λ l. l ++ p.commit ∷ []) seen;
+      answered = (p.answered.0, ap (λ l. steps (replay (entries l)) ops) (sym seen) ∙ p.answered.1);
+      number = p.number;
+    }
+
+pub held_back_from : (w v : Work) (c : Knowledge) (ops : List Op) (e : Refusal) → open_of v ≡ open_of w → IsHeldBack v.knows c ops e → IsHeldBack w.knows c ops e
+held_back_from w v c ops e kept p = record {
+  same = record { pass = p.same.pass ∙ ap (λ (o : StaysOpen). o.number) kept; pin = p.same.pin ∙ ap (λ (o : StaysOpen). o.phase) kept };
+  seen = p.seen ∙ ap (λ (o : StaysOpen). o.seen) kept;
+  reason = p.reason;
+}
+
+pub both_from : {T E : Type 0} (r : Result T E) (P R : T → Type 0) (Q S : E → Type 0) → ((x : T) → P x → R x) → ((e : E) → Q e → S e) → MatchResult r P Q → MatchResult r R S
+both_from (Ok x) P R Q S f g m = f x m
+both_from (Err e) P R Q S f g m = g e m
 
 pub published : (w v r p : Work) (ops : List Op) (page n : ℕ) (dones shown : List Done) (made : State)
     → open_of v ≡ open_of w → r.knows ≡ v.knows → p.knows ≡ publishes r.knows (entry_of r.knows ops shown) page → shown ≡ dones

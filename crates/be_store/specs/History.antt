@@ -7,7 +7,7 @@ use Rattle.be_table.specs.declared.pass.Knowledge.{Knowledge}
 use Rattle.be_table.specs.History.{StartsWith}
 use Rattle.be_table.specs.Rule.{entries}
 use Rattle.be_table.specs.Steps.{entry_of}
-use Rattle.be_table.specs.Works.{IsBusy, HasNoRoom, HoldsUnreached}
+use Rattle.be_table.specs.Works.{IsBusy, HasNoRoom, IsSpent}
 use Rattle.be_value.specs.declared.refusals.Refusal.{Refusal}
 use Rattle.be_volume.specs.Volume.{steps}
 use Rattle.be_volume.specs.declared.ops.Done.{Done}
@@ -39,7 +39,7 @@ abbrev pub IsRefusedAt : (c : Knowledge) (ops : List Op) → Refusal → Type 0
 IsRefusedAt c ops e =
     (steps (volume_seen c) ops ≡ Err e)
     ⊎ (IsOk (steps (volume_seen c) ops) × HasNoRoom e c)
-    ⊎ (IsOk (steps (volume_seen c) ops) × (length c.seen < c.limits.commits) × IsFullOf (HoldsUnreached c) e)
+    ⊎ (IsOk (steps (volume_seen c) ops) × (length c.seen < c.limits.commits) × IsFullOf (IsSpent c) e)
 
 -- Why a write is refused: another pass holds the lock, and nothing more was seen; or else.
 abbrev pub IsReason : (a c : Knowledge) (ops : List Op) → Refusal → Type 0

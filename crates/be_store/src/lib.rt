@@ -22,8 +22,6 @@ mod asking;
 pub mod laws;
 mod live;
 mod store;
-#[cfg(test)]
-mod tests;
 mod writing;
 
 pub use answers::{Answer, Updates};

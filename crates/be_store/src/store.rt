@@ -62,7 +62,7 @@ impl Store {
     /// Busy where another pass holds the lock: the call may be made again. Else a refusal of 2 to 8 as the volume gives
     /// it; else CommitsSpent where the journal is at its limit, OutOfMemory where its entry found no memory, and Full
     /// where no page is free. What a refused write did is undone. It costs new pages on the way to each change, and
-    /// where none is free a look at each announcement and at the pages that this frees.
+    /// where none is free, or many wait for it, a look at each announcement and at the pages that this frees.
     pub fn apply(&self, pass: &mut Pass, ops: &[Op]) -> Result<(u64, ArrayVec<Done, 64>), Refusal>
         requires pass { IsPassOf self.now pass.old }
         requires count { (1 ≤ length ops.now) × (length ops.now ≤ 64) }

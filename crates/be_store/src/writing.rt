@@ -2,10 +2,10 @@
 ghost use Rattle.std.specs.Prelude.{◌≡◌, ◌+◌, ◌^◌, ◌<◌, ◌≤◌, IfOk, IfErr, MatchResult, false, length};
 ghost use Rattle.be_paged.specs.Changes.{Applies, IsRefused};
 ghost use Rattle.be_paged.specs.Version.{IsVersion};
-ghost use Rattle.be_store.specs.Writing.{Publishes, IsHeldBack};
+ghost use Rattle.be_store.specs.Writing.{Begins, Publishes, IsHeldBack};
 ghost use Rattle.be_table.specs.declared.pass.Knowledge.{Knowledge};
 ghost use Rattle.be_table.specs.Reading.{open_of, standing_in, standing_of, word_in, words_of};
-ghost use Rattle.be_table.specs.Works.{HoldsUnreached, TakesLock};
+ghost use Rattle.be_table.specs.Works.{IsSpent, TakesLock};
 ghost use Rattle.be_volume.specs.Volume.{State};
 
 use arrayvec::ArrayVec;
@@ -26,18 +26,30 @@ fn apply_to(
     requires fits { volume.next + 64 < 2 ^ 64 }
     requires open { writing.old.knows.published ≡ false }
     ensures ok { IfOk result (λ r. Applies open_of standing_of words_of version_page r.0 volume ops.now r.1.items writing.old writing.new) }
-    ensures err { IfErr result (λ e. IsRefused open_of standing_of words_of (λ w least. HoldsUnreached w.knows least) volume ops.now e writing.old writing.new) }
+    ensures err { IfErr result (λ e. IsRefused open_of standing_of words_of (λ w least. IsSpent w.knows least) volume ops.now e writing.old writing.new) }
 {
     apply(writing, version_page, ops)
 }
 
+/// Scans where a scan is due, so that the write takes pages that were given up lately.
+fn scan_early(writing: &mut Writing<'_>)
+    requires begins { Begins writing.old.knows }
+    ensures table { writing.new.table ≡ writing.old.table }
+    ensures begins { Begins writing.new.knows }
+    ensures kept { open_of writing.new ≡ open_of writing.old }
+{
+    if writing.is_scan_due() {
+        writing.scan();
+    }
+}
+
 /// Applies the operations to the current version, and publishes what they make. A refusal of 2 to 8 comes at once; the
 /// journal's want of room goes before that of a page.
-pub(crate) fn write(
+fn write_current(
     writing: &mut Writing<'_>,
     ops: &[Op],
 ) -> Result<(u64, ArrayVec<Done, 64>), Refusal>
-    requires begun { (a : Knowledge) × TakesLock a writing.old.knows }
+    requires begins { Begins writing.old.knows }
     requires count { (1 ≤ length ops.now) × (length ops.now ≤ 64) }
     ensures table { writing.new.table ≡ writing.old.table }
     ensures answer { MatchResult result (λ r. Publishes writing.old.knows writing.new.knows ops.now r.0 r.1.items) (λ e. IsHeldBack writing.old.knows writing.new.knows ops.now e) }
@@ -55,4 +67,18 @@ pub(crate) fn write(
         }
         Err(refusal) => Err(refusal),
     }
+}
+
+/// Writes to the current version, and scans before that where a scan is due.
+pub(crate) fn write(
+    writing: &mut Writing<'_>,
+    ops: &[Op],
+) -> Result<(u64, ArrayVec<Done, 64>), Refusal>
+    requires begun { (a : Knowledge) × TakesLock a writing.old.knows }
+    requires count { (1 ≤ length ops.now) × (length ops.now ≤ 64) }
+    ensures table { writing.new.table ≡ writing.old.table }
+    ensures answer { MatchResult result (λ r. Publishes writing.old.knows writing.new.knows ops.now r.0 r.1.items) (λ e. IsHeldBack writing.old.knows writing.new.knows ops.now e) }
+{
+    scan_early(writing);
+    write_current(writing, ops)
 }

@@ -77,10 +77,15 @@ pub record MakesScan (old new : Work) (least : ℕ) : Type 0 where
   pub leaves : LeavesNone new.knows
   pub same : new ≡ record old { knows = record old.knows { scanned = 0; least = least; places = new.knows.places; held = new.knows.held; steps = new.knows.steps } }
 
--- a free page is taken, maybe after a whole scan
+-- no page is free
+abbrev pub HasNoFree : Work → Type 0
+HasNoFree w = (p : ℕ) → p < length w.knows.places → place_of w.knows.places p ≢ Free
+
+-- a free page is taken, and a whole scan comes before that only where none was free
 pub record TakesPage (old new : Work) (page : ℕ) : Type 0 where
   pub between : Work
   pub scan : (between ≡ old) ⊎ ((least : ℕ) × MakesScan old between least)
+  pub because : (between ≡ old) ⊎ HasNoFree old
   pub inside : page < length between.knows.places
   pub small : page < 16384
   pub free : place_of between.knows.places page ≡ Free
@@ -90,11 +95,16 @@ pub record TakesPage (old new : Work) (page : ℕ) : Type 0 where
 abbrev pub HoldsUnreached : Knowledge → ℕ → Type 0
 HoldsUnreached a least = (p : ℕ) → p < a.limits.pages → Unreached a.seen least p → IsTrue (has a.held p)
 
--- after a whole scan no page was free
+-- this is the least of the write's last whole scan, and of the pages that no version from there on reaches the write held each
+abbrev pub IsSpent : Knowledge → ℕ → Type 0
+IsSpent a least = (least ≡ a.least) × HoldsUnreached a least
+
+-- no page was free, and none after a whole scan
 pub record FindsNone (old new : Work) (least : ℕ) : Type 0 where
+  pub before : HasNoFree old
   pub scan : MakesScan old new least
   pub none : (p : ℕ) → p < length new.knows.places → place_of new.knows.places p ≢ Free
-  pub holds : HoldsUnreached new.knows least
+  pub spent : IsSpent new.knows least
 
 -- the limits that a table can't have
 abbrev pub AreBad : Limits → Type 0

@@ -20,6 +20,8 @@ pub struct Ledger {
     pub page: u64,
     /// Where each page is.
     pub pool: PagePool,
+    /// How many pages the last whole scan left retired.
+    pub left: usize,
 }
 
 impl Ledger {
@@ -44,6 +46,7 @@ impl Ledger {
         ensures { (self.new.journal ≡ self.old.journal) × (self.new.page ≡ self.old.page) × (places self.new.pool ≡ map (swept_place least) (places self.old.pool)) }
     {
         self.pool.sweep(least);
+        self.left = self.pool.retired();
     }
 
     /// The entry comes last, with this version page. What was filled is of the current version, and what was given up
@@ -69,6 +72,7 @@ impl Ledger {
             journal,
             page: _,
             pool: _,
+            left: _,
         } = self;
         journal
     }

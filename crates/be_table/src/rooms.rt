@@ -30,9 +30,9 @@ impl<'a> Look for Writing<'a> {
 }
 
 impl<'a> Room for Writing<'a> {
-    ghost use Rattle.be_table.specs.Works.{HoldsUnreached};
+    ghost use Rattle.be_table.specs.Works.{IsSpent};
 
-    ghost full = { λ w least. HoldsUnreached w.knows least };
+    ghost full = { λ w least. IsSpent w.knows least };
 
     fn take(&mut self) -> Result<u64, Refusal> {
         Writing::take(self)

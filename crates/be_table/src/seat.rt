@@ -45,19 +45,6 @@ impl Seat {
     ghost use Rattle.be_table.specs.Steps.{IsPass};
     ghost use Rattle.be_table.specs.Versions.{SpellsVolume};
 
-    fn blank() -> Seat
-        ensures { result.blank ≡ true }
-    {
-        Seat {
-            badge: Badge::blank(),
-            marks: Marks {
-                number: 0,
-                seen: 0,
-                pin: None,
-            },
-        }
-    }
-
     pub(crate) fn of(base: Base, marks: Marks) -> Seat
         requires number { marks.number < 64 }
         requires pass { base.me ≡ (pass_of base.me.0 ∷ [], []) }
@@ -138,6 +125,8 @@ impl Seat {
     pub fn move_out(&mut self) -> Seat
         ensures { (result ≡ self.old) × (self.new.blank ≡ true) }
     {
-        mem::replace(self, Seat::blank())
+        let marks = self.marks;
+        let badge = mem::replace(&mut self.badge, Badge::blank());
+        Seat { badge, marks }
     }
 }

@@ -105,6 +105,7 @@ impl VersionTable {
             journal: Journal::new(alloc, limits.commits),
             page: 0,
             pool,
+            left: 0,
         }));
         let Ok(mut words) = vec![in alloc; 0; PAGES + 512 * limits.pages as usize] else {
             return Err(Refusal::OutOfMemory);

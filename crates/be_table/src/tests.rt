@@ -44,13 +44,13 @@ fn opened(alloc: Global, limits: Limits) -> Result<(VersionTable, Vec<Seat>), Re
 }
 
 /// A table for two passes, and their seats.
-fn for_two(alloc: Global) -> Result<(VersionTable, Seat, Seat), Refusal>
+fn for_two(alloc: Global, pages: u64) -> Result<(VersionTable, Seat, Seat), Refusal>
     ensures table { IfOk result (λ r. r.0.limits.passes ≡ 2) }
     ensures first { IfOk result (λ r. IsSeatOf r.0 r.1 × (r.1.knows ≡ newcomer r.0.limits 1 0)) }
     ensures second { IfOk result (λ r. IsSeatOf r.0 r.2 × (r.2.knows ≡ newcomer r.0.limits 2 1)) }
 {
     let limits = Limits {
-        pages: 64,
+        pages,
         passes: 2,
         commits: 1000,
     };
@@ -312,7 +312,7 @@ fn open_limits(rt: HostRuntime) -> Result<(), Fail> {
 
 #[test]
 fn busy(rt: HostRuntime) -> Result<(), Fail> {
-    let (table, first, mut second) = for_two(rt.alloc())?;
+    let (table, first, mut second) = for_two(rt.alloc(), 64)?;
     let writing = locked(&table, first)?;
     let refusal = refusal_of_lock(&table, &mut second);
     let number = pin(&table, &mut second);
@@ -326,7 +326,7 @@ fn busy(rt: HostRuntime) -> Result<(), Fail> {
 // While a pass holds the lock, another pins and reads: before the write is published, and after.
 #[test]
 fn reading_under_held_lock(rt: HostRuntime) -> Result<(), Fail> {
-    let (table, first, mut second) = for_two(rt.alloc())?;
+    let (table, first, mut second) = for_two(rt.alloc(), 64)?;
     let mut writing = locked(&table, first)?;
     let before = pin(&table, &mut second);
     let entered = write_node(&mut writing);
@@ -346,7 +346,7 @@ fn reading_under_held_lock(rt: HostRuntime) -> Result<(), Fail> {
 // write changes it.
 #[test]
 fn pinned_volume(rt: HostRuntime) -> Result<(), Fail> {
-    let (table, first, mut second) = for_two(rt.alloc())?;
+    let (table, first, mut second) = for_two(rt.alloc(), 64)?;
     let name = Name::new("size")?;
     let ops = [
         Op::MkIndex(name.copy(), Kind::Long),
@@ -381,7 +381,7 @@ fn pinned_volume(rt: HostRuntime) -> Result<(), Fail> {
 
 #[test]
 fn stale_announcement(rt: HostRuntime) -> Result<(), Fail> {
-    let (table, mut first, mut second) = for_two(rt.alloc())?;
+    let (table, mut first, mut second) = for_two(rt.alloc(), 64)?;
     enter_many(&table, &mut first, 2)?;
     let looked = table.look(&mut second);
     assert_eq!(rt; looked, 2);
@@ -394,9 +394,56 @@ fn stale_announcement(rt: HostRuntime) -> Result<(), Fail> {
     Ok(())
 }
 
+/// Whether a write that begins now would do well to scan first.
+fn is_due(table: &VersionTable, pass: &mut Seat) -> Result<bool, Refusal>
+    requires seat { IsSeatOf table.now pass.old }
+    ensures seat { IsSeatOf table.now pass.new }
+{
+    let writing = match table.lock(pass.move_out()) {
+        Ok(writing) => writing,
+        Err((seat, refusal)) => {
+            *pass = seat;
+            return Err(refusal);
+        }
+    };
+    let due = writing.is_scan_due();
+    *pass = writing.unlock();
+    Ok(due)
+}
+
+/// Enters nodes until a scan is due, and tells how many. BadLimits where it is not after 1,000.
+fn enter_until_due(table: &VersionTable, pass: &mut Seat) -> Result<u64, Refusal>
+    requires seat { IsSeatOf table.now pass.old }
+    ensures seat { IsSeatOf table.now pass.new }
+{
+    for count in 0..1000 {
+        if is_due(table, pass)? {
+            return Ok(count);
+        }
+        enter(table, pass)?;
+    }
+    Err(Refusal::BadLimits)
+}
+
+// A scan is due once 256 pages are retired, and, where a pin keeps them, again once there are 256 more.
+#[test]
+fn scan_due(rt: HostRuntime) -> Result<(), Fail> {
+    let (table, mut first, mut second) = for_two(rt.alloc(), 1024)?;
+    assert_eq!(rt; pin(&table, &mut second), 0);
+    let before = enter_until_due(&table, &mut first)?;
+    assert_eq!(rt; scan(&table, &mut first)?, 0);
+    let beyond = enter_until_due(&table, &mut first)?;
+    assert!(rt; before >= 64 && beyond >= 64);
+    assert_eq!(rt; read(&table, &mut second), 1);
+    table.unpin(&mut second);
+    assert_eq!(rt; scan(&table, &mut first)?, before.saturating_add(beyond));
+    assert!(rt; !is_due(&table, &mut first)?);
+    Ok(())
+}
+
 #[test]
 fn meeting(rt: HostRuntime) -> Result<(), Fail> {
-    let (table, mut first, second) = for_two(rt.alloc())?;
+    let (table, mut first, second) = for_two(rt.alloc(), 64)?;
     assert_eq!(rt; enter(&table, &mut first)?, 1);
     assert_eq!(rt; second.seen(), 0);
     let (second, first, both) = table.meet(second, first);
@@ -474,7 +521,7 @@ fn is_legal(journal: &Journal) -> Result<bool, Refusal> {
 
 #[test]
 fn two_writers(rt: HostRuntime) -> Result<(), Fail> {
-    let (table, first, second) = for_two(rt.alloc())?;
+    let (table, first, second) = for_two(rt.alloc(), 64)?;
     let (first, second) = enter_both(&rt, &table, first, second);
     assert!(rt; first.1 && second.1);
     let journal = journal_of(rt.alloc(), table, first.0, second.0)?;

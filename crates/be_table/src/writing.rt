@@ -3,11 +3,11 @@
 //! A write takes pages, fills them, gives pages up, and publishes. Until it publishes, nothing of it can be seen by
 //! others, and `unlock` undoes it. It is never let go of but by `unlock`, since it has no `Drop`: so the ledger always
 //! comes back.
-ghost use Rattle.std.specs.Prelude.{◌≡◌, ◌≤◌, All, suc, ◌+◌, ◌*◌, ◌^◌, ◌<◌, true, false, [], ◌∷◌, length, None, MatchResult, ℕ, map, slice_index, IsTrue, List, IfOk, IfErr, IfSome, IfNone, ◌≢◌};
+ghost use Rattle.std.specs.Prelude.{◌≡◌, ◌≤◌, All, suc, ◌+◌, ◌*◌, ◌^◌, ◌<◌, true, false, [], ◌∷◌, length, count_by, None, MatchResult, ℕ, map, slice_index, IsTrue, List, IfOk, IfErr, IfSome, IfNone, ◌≢◌};
 ghost use Rattle.be_volume.specs.Sound.{IsOperation};
 ghost use Rattle.be_pages.specs.declared.room.Standing.TheVariants.{Taken, Filled as Full};
 ghost use Rattle.be_table.specs.Reading.{standing_in};
-ghost use Rattle.be_pages.specs.Place.{is_in_hand, is_held_page, place_of, given_place};
+ghost use Rattle.be_pages.specs.Place.{is_in_hand, is_held_page, is_retired, place_of, given_place};
 ghost use Rattle.be_table.specs.Rule.{pass_of, counted, word_place, current_word};
 ghost use Rattle.be_table.specs.Steps.{IsNewest, IsPass, IsFound, MayPublish, publishes, MayScan, IsPart, fills, takes_page, gives_up, scans, scans_out, scans_all, least_found, IsLeast, LeavesNone};
 
@@ -20,6 +20,11 @@ use be_pages::Place;
 use be_value::Refusal;
 use be_volume::{Done, Op};
 use std::marker::{Brand, Model};
+
+// A retired page is used again only once a scan has freed it. A write that lets the pool run empty first goes through
+// the memory of every page, where those that were given up last are still near: 256 of them are a mebibyte, which a
+// processor's cache holds. A scan that comes so late costs less than a load for each page that it frees.
+const EARLY: usize = 256;
 
 /// The lock is held by this pass. It has no `Drop`, so it ends in `unlock`.
 pub struct Writing<'a> {
@@ -160,6 +165,14 @@ impl<'a> Writing<'a> {
             Some(page) => Ok(page),
             None => Err(Refusal::Full(least)),
         }
+    }
+
+    /// Whether a scan pays though pages may be free: 256 or more pages were retired since the last whole scan, beyond
+    /// those that it had to leave for readers. No step.
+    pub fn is_scan_due(&self) -> bool
+        ensures { IsTrue result → 256 ≤ count_by is_retired self.now.knows.places }
+    {
+        self.ledger.pool.retired().saturating_sub(self.ledger.left) >= EARLY
     }
 
     /// Reads every announcement once. Answers the least of them and of the current number; the pages that were retired

@@ -2,8 +2,6 @@
 #![tactic(auto)]
 
 mod clearing;
-#[cfg(test)]
-mod counting_look;
 mod cursor;
 mod edit;
 mod item;
@@ -15,8 +13,6 @@ mod removal;
 mod siblings;
 mod slot;
 mod stop;
-#[cfg(test)]
-mod tests;
 mod walk;
 
 pub use clearing::clear;

@@ -116,6 +116,7 @@ fn read_value(kind: Kind, bytes: &[u8]) -> Option<Value>
     ensures valid { IfSome result IsValue }
     ensures found { IfSome result (λ v. (kind_of v ≡ kind) × (bytes.now ≡ value_key v)) }
     ensures none { IfNone result ((v : AnyValue) → IsValue v → IsTrue (is_indexable kind) → kind_of v ≡ kind → bytes.now ≡ value_key v → ⊥) }
+    ensures indexable { IfSome result (λ _. IsTrue (is_indexable kind)) }
 {
     match kind {
         Kind::Cstr => read_text(bytes),
@@ -157,6 +158,9 @@ pub fn read_key(kind: Kind, bytes: &[u8]) -> Option<(Value, u64)>
     // No other pair has this key.
     ensures only { IfSome result (λ pair. (v : AnyValue) (n : ℕ) → IsValue v → n < 2 ^ 64 → IsTrue (is_indexable kind) →
         kind_of v ≡ kind → bytes.now ≡ key v n → (pair.0 ≡ v) × (pair.1 ≡ n)) }
+
+    // A kind that no index has gives no key.
+    ensures indexable { IfSome result (λ _. IsTrue (is_indexable kind)) }
 {
     let at = bytes.len().checked_sub(8)?;
     let (front, last) = bytes.split_at(at);

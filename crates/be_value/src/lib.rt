@@ -5,8 +5,6 @@ mod keys;
 mod names;
 mod numbers;
 mod refusals;
-#[cfg(test)]
-mod tests;
 mod values;
 
 pub use keys::{key_of, key_order, keys_differ, node_of, read_key};

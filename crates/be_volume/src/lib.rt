@@ -14,8 +14,6 @@ mod maps;
 mod ops;
 mod pairs;
 mod queries;
-#[cfg(test)]
-mod tests;
 mod volumes;
 
 pub use ahead::first_refusal;

@@ -1,4 +1,5 @@
-use Rattle.std.proofs.Common.{ℕ, List, ap, sym, subst, ◌∙◌, rules}
+use Rattle.std.proofs.Common.{◌≡◌, ℕ, List, true, false, ap, sym, subst, ◌∙◌, rules}
+use Rattle.be_value.specs.Key.{key}
 use Rattle.std.specs.Option.{option_map}
 use Rattle.be_pages.specs.Pages.{Swaps}
 use Rattle.be_tree.specs.Pair.{Pair}
@@ -8,7 +9,7 @@ use Rattle.be_volume.specs.Indices.{unpaired}
 use Rattle.be_paged.specs.Catalog.{IsIndexOf}
 use Rattle.be_paged.specs.Changes.{repaired, key_taken}
 use Rattle.be_paged.proofs.Composing.{tree_read, start_since}
-use Rattle.be_paged.proofs.Repairs.{taken, entered, stands, Leaves, HasNone, seen_some, seen_none, seen_at}
+use Rattle.be_paged.proofs.Repairs.{taken, entered, stands, Leaves, HasNone, key_there, seen_some, seen_none, seen_at}
 use Rattle.be_paged.proofs.changes.change_root.Goals as goal
 
 pub returns-then-holds_both-clause-swaps : goal.returns-then-holds_both-clause-swaps
@@ -48,6 +49,21 @@ returns-clause-keys g c = λ index h ready.
     (entered index kind node c.args.old.now c.ranges.node.fits ready (pairs (w c.take_key.new.room) c.in_ok-rest.rest) enters c.args.new.now
     (seen_some (λ k. k.items) (Leaves kind node c.args.new.now) c.key_in-enters.result c.key_in-enters.ensures.some)
     (seen_none (λ k. k.items) (HasNone kind c.args.new.now) c.key_in-enters.result c.key_in-enters.ensures.none) rest)
+
+clash : false ≡ true → ⊥
+clash e = cc
+
+pub returns-clause-stays : goal.returns-clause-stays
+returns-clause-stays g c = λ v of_kind indexable was is found.
+    let kind = c.args.kind in
+    let node = c.args.node in
+    let leaves = key_there kind node c.args.old.now (option_map (λ k. k.items) c.key_in-leaves.result)
+    (seen_some (λ k. k.items) (Leaves kind node c.args.old.now) c.key_in-leaves.result c.key_in-leaves.ensures.some)
+    (seen_none (λ k. k.items) (HasNone kind c.args.old.now) c.key_in-leaves.result c.key_in-leaves.ensures.none) v was of_kind indexable in
+    let enters = key_there kind node c.args.new.now (option_map (λ k. k.items) c.key_in-enters.result)
+    (seen_some (λ k. k.items) (Leaves kind node c.args.new.now) c.key_in-enters.result c.key_in-enters.ensures.some)
+    (seen_none (λ k. k.items) (HasNone kind c.args.new.now) c.key_in-enters.result c.key_in-enters.ensures.none) v is of_kind indexable in
+    absurd (clash (sym c.if-holds_both.false ∙ c.holds_both.ensures.finds (key v node) leaves enters found))
 
 pub returns-in_err-rest-clause-err : goal.returns-in_err-rest-clause-err
 returns-in_err-rest-clause-err g c =

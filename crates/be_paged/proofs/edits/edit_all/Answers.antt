@@ -11,9 +11,9 @@ use Rattle.be_paged.proofs.edits.edit_all.Goals as goal
 pub loop-op-init : goal.loop-op-init
 loop-op-init g c = record {
   changes = changes_none g.R.Look.kept g.R.Look.standing g.R.Look.words (contents c.args.version.now) c.args.room.now c.requires.in_hand;
-  steps = λ volume spells sound ok. record { made = volume; stepped = ap (λ xs. Ok (volume, xs)) (sym c.new-dones.ensures); spells = spells; sound = sound };
+  steps = λ volume spells sound ok. record { made = volume; stepped = ap (λ xs. Ok (volume, xs)) (sym c.requires.empty); spells = spells; sound = sound };
   next = omega arith;
-  counted = ap length c.new-dones.ensures;
+  counted = ap length c.requires.empty;
 }
 
 pub loop-op-preserved : goal.loop-op-preserved

@@ -11,11 +11,11 @@ entries_of d = d.entries
 
 pub kinds-requires : goal.kinds-requires
 kinds-requires g c = record {
-  named = subst (λ (es : List Entry). All (λ e. IsName e.name) es) (sym (c.deref.ensures.0 ∙ ap entries_of c.load_version-version.ensures.contents)) c.requires.version.1.in_hand.named;
+  named = subst (λ (es : List Entry). All (λ e. IsName e.name) es) (sym (c.deref.ensures.0 ∙ ap entries_of c.fill_version.ensures.contents)) c.requires.version.1.in_hand.named;
 }
 
 pub returns-clause-answer : goal.returns-clause-answer
 returns-clause-answer g c = λ volume version.
     let w = g.L.Look.words c.args.look.now in
-    ap Ok (sym (c.in_ok-kinds.ensures ∙ ap (map listed_entry) (c.deref.ensures.0 ∙ ap entries_of c.load_version-version.ensures.contents)
+    ap Ok (sym (c.in_ok-kinds.ensures ∙ ap (map listed_entry) (c.deref.ensures.0 ∙ ap entries_of c.fill_version.ensures.contents)
     ∙ kinds_are w (contents_of (w c.args.version_page)).entries (fin.entries volume.indices) version.spells.indices))

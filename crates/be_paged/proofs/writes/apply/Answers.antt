@@ -14,7 +14,7 @@ replace_version-requires-clause-in_use g c =
     let before = contents c.fill_version.new.version in
     let after = contents c.edit_all.new.version in
     let same = unchanged_trans g.R.Look.kept g.R.Look.standing g.R.Look.words c.args.room.now c.fill_version.new.look c.refusal.new.look c.fill_version.ensures.unchanged c.refusal.ensures.unchanged in
-    let change = changes_since g.R.Look.kept g.R.Look.standing g.R.Look.words before after c.args.room.now c.refusal.new.look c.edit_all.new.room same c.in_ok-dones.ensures.changes in
+    let change = changes_since g.R.Look.kept g.R.Look.standing g.R.Look.words before after c.args.room.now c.refusal.new.look c.edit_all.new.room same c.in_ok-edit_all.ensures.changes in
     page_stays g.R.Look.kept g.R.Look.standing g.R.Look.words c.args.room.now c.edit_all.new.room c.args.version_page after g.volume c.requires.1.0
     (subst (λ (d : Contents). Changes {K = g.R.Look.Kept} g.R.Look.kept g.R.Look.standing g.R.Look.words d after c.args.room.now c.edit_all.new.room) c.fill_version.ensures.contents change)
 
@@ -24,13 +24,13 @@ returns-clause-ok g c =
     let after = contents c.edit_all.new.version in
     let version = c.requires.1.0 in
     let same = unchanged_trans g.R.Look.kept g.R.Look.standing g.R.Look.words c.args.room.now c.fill_version.new.look c.refusal.new.look c.fill_version.ensures.unchanged c.refusal.ensures.unchanged in
-    let change = changes_since g.R.Look.kept g.R.Look.standing g.R.Look.words before after c.args.room.now c.refusal.new.look c.edit_all.new.room same c.in_ok-dones.ensures.changes in
+    let change = changes_since g.R.Look.kept g.R.Look.standing g.R.Look.words before after c.args.room.now c.refusal.new.look c.edit_all.new.room same c.in_ok-edit_all.ensures.changes in
     let ok = is_accepted (steps g.volume c.args.ops.now) (sym c.refusal.ensures.answer ∙ c.in_default.is) in
     let read = subst (λ (w : ℕ → ℕ → ℕ). Spells w before g.volume) (sym same.words) (subst (λ (d : Contents). Spells (g.R.Look.words c.args.room.now) d g.volume) (sym c.fill_version.ensures.contents) version.spells) in
-    let reached = c.in_ok-dones.ensures.steps g.volume read version.sound ok in
+    let reached = c.in_ok-edit_all.ensures.steps g.volume read version.sound ok in
     applied g.R.Look.kept g.R.Look.standing g.R.Look.words c.args.room.now c.edit_all.new.room c.args.version_page after g.volume version
     (subst (λ (d : Contents). Changes {K = g.R.Look.Kept} g.R.Look.kept g.R.Look.standing g.R.Look.words d after c.args.room.now c.edit_all.new.room) c.fill_version.ensures.contents change)
-    c.in_ok-page.page c.replace_version.new.room reached.made c.args.ops.now c.in_ok-dones.dones.items reached.stepped reached.spells reached.sound
+    c.in_ok-page.page c.replace_version.new.room reached.made c.args.ops.now c.edit_all.new.dones.items reached.stepped reached.spells reached.sound
     c.in_ok-page.ensures.swaps c.in_ok-page.ensures.contents c.in_ok-page.ensures.page c.in_ok-page.ensures.taken
 
 pub returns-in_err-page-clause-err : goal.returns-in_err-page-clause-err
@@ -38,7 +38,7 @@ returns-in_err-page-clause-err g c =
     let before = contents c.fill_version.new.version in
     let after = contents c.edit_all.new.version in
     let same = unchanged_trans g.R.Look.kept g.R.Look.standing g.R.Look.words c.args.room.now c.fill_version.new.look c.refusal.new.look c.fill_version.ensures.unchanged c.refusal.ensures.unchanged in
-    let change = changes_since g.R.Look.kept g.R.Look.standing g.R.Look.words before after c.args.room.now c.refusal.new.look c.edit_all.new.room same c.in_ok-dones.ensures.changes in
+    let change = changes_since g.R.Look.kept g.R.Look.standing g.R.Look.words before after c.args.room.now c.refusal.new.look c.edit_all.new.room same c.in_ok-edit_all.ensures.changes in
     let a = is_accepted (steps g.volume c.args.ops.now) (sym c.refusal.ensures.answer ∙ c.in_default.is) in
     let k = start_after g.R.Look.kept g.R.Look.standing g.R.Look.words before after c.args.room.now c.edit_all.new.room c.replace_version.new.room change c.in_err-page.ensures.err in
     search (rules, k, a)

@@ -1,64 +1,12 @@
-use Rattle.std.proofs.Common.{◌≡◌, ℕ, Ok, sym, ap, ◌∙◌, subst}
-use Rattle.be_core.specs.Machine.{bit}
-use Rattle.be_journal.specs.Journal.{replay}
-use Rattle.be_pages.specs.Pages.{is_kept, times}
-use Rattle.be_paged.specs.Page.{reach}
-use Rattle.be_paged.specs.Version.{IsVersion}
-use Rattle.be_volume.specs.Ahead.{after, reached}
-use Rattle.be_volume.specs.Volume.{State, steps}
-use Rattle.be_table.specs.declared.pass.Knowledge.{Knowledge}
-use Rattle.be_table.specs.Place.{Work}
-use Rattle.be_table.specs.Reading.{standing_in, word_in, StaysOpen}
-use Rattle.be_table.specs.Rule.{entries}
-use Rattle.be_table.specs.Works.{HoldsUnreached}
-use Rattle.be_table.proofs.Keeping.{begun_version, keeps_exactly}
-use Rattle.be_store.proofs.Writes.{current_spelt, full_unroomed, passed_up, published}
+use Rattle.be_store.proofs.Writes.{begins_locked, both_from, held_back_from, published_from}
 use Rattle.be_store.proofs.writing.write.Goals as goal
 
-pub apply_to-requires : goal.apply_to-requires
-apply_to-requires c =
-    let t = c.requires.begun.1 in let k = c.args.writing.now.knows in (
-      begun_version k t.begun c.current-version_page.result.1 (replay (entries k.seen)) (current_spelt c.requires.begun.0 k c.current-version_page.result.1 t c.current-version_page.ensures.version.1),
-      (c.requires.count, (c.current-version_page.ensures.next, ap (λ (x : Knowledge). x.published) t.same)),
-    )
+pub scan_early-requires : goal.scan_early-requires
+scan_early-requires c = record { begins = begins_locked c.requires.begun.0 c.args.writing.now.knows c.requires.begun.1 }
 
-pub publish-number-requires-clause-entry : goal.publish-number-requires-clause-entry
-publish-number-requires-clause-entry c =
-    let ok = c.in-Ok.ensures.ok in
-    let same = ap (λ (o : StaysOpen). steps (replay (entries o.seen)) c.args.ops.now) ok.swaps.kept in
-    (ok.made, ap (λ (w : Work). steps (replay (entries w.knows.seen)) c.args.ops.now) c.in_ok-reserve-in-Ok.ensures.0 ∙ same ∙ ok.stepped ∙ ap (λ d. Ok (ok.made, d)) (sym c.as_slice.ensures.value))
-
-pub publish-number-requires-clause-filled : goal.publish-number-requires-clause-filled
-publish-number-requires-clause-filled c =
-    let t = c.requires.begun.1 in let ok = c.in-Ok.ensures.ok in let old = c.args.writing.now in
-    let first = current_spelt c.requires.begun.0 old.knows c.current-version_page.result.1 t c.current-version_page.ensures.version.1 in
-    λ q e. (keeps_exactly old c.apply_to.new.writing c.current-version_page.result.1 c.in-Ok.page _ ok.made t.begun first ok.version ok.swaps q).1 (ap (λ (w : Work). standing_in w.knows.places q) (sym c.in_ok-reserve-in-Ok.ensures.0) ∙ e)
-
-pub publish-number-requires-clause-volume : goal.publish-number-requires-clause-volume
-publish-number-requires-clause-volume c =
-    let ok = c.in-Ok.ensures.ok in let old = c.args.writing.now in let same = ap (λ (w : Work). w.knows) c.in_ok-reserve-in-Ok.ensures.0 in
-    let made : after (replay (entries c.reserve.new.self.knows.seen)) c.args.ops.now ≡ ok.made =
-    ap (λ (k : Knowledge). after (replay (entries k.seen)) c.args.ops.now) same
-    ∙ ap (λ (o : StaysOpen). after (replay (entries o.seen)) c.args.ops.now) ok.swaps.kept
-    ∙ ap (reached (replay (entries old.knows.seen))) ok.stepped in
-    subst (λ (x : Knowledge × State). IsVersion (standing_in x.0.places) (word_in x.0.words) c.in-Ok.page x.1) (λ i. (sym same i, sym made i)) ok.version
-
-pub publish-number-requires-clause-exact : goal.publish-number-requires-clause-exact
-publish-number-requires-clause-exact c =
-    let t = c.requires.begun.1 in let ok = c.in-Ok.ensures.ok in let old = c.args.writing.now in
-    let first = current_spelt c.requires.begun.0 old.knows c.current-version_page.result.1 t c.current-version_page.ensures.version.1 in
-    subst (λ (w : Work). (q : ℕ) → times q (reach (word_in w.knows.words) c.in-Ok.page) ≡ bit (is_kept (standing_in w.knows.places q))) (sym c.in_ok-reserve-in-Ok.ensures.0)
-    (λ q. (keeps_exactly old c.apply_to.new.writing c.current-version_page.result.1 c.in-Ok.page _ ok.made t.begun first ok.version ok.swaps q).0)
-
-pub returns-in_ok-reserve-in-Ok-clause-answer : goal.returns-in_ok-reserve-in-Ok-clause-answer
-returns-in_ok-reserve-in-Ok-clause-answer c =
-    let ok = c.in-Ok.ensures.ok in
-    published c.args.writing.now c.apply_to.new.writing c.reserve.new.self c.publish-number.new.self c.args.ops.now c.in-Ok.page c.publish-number.result c.in-Ok.dones.items c.as_slice.result.now ok.made
-    ok.swaps.kept (ap (λ (w : Work). w.knows) c.in_ok-reserve-in-Ok.ensures.0) (ap (λ (w : Work). w.knows) c.publish-number.ensures.write) c.as_slice.ensures.value ok.stepped c.publish-number.ensures.result
-
-pub returns-in_err-reserve-in-Err-Full-clause-answer : goal.returns-in_err-reserve-in-Err-Full-clause-answer
-returns-in_err-reserve-in-Err-Full-clause-answer c =
-    let none = c.in_err-reserve-in-Err-Full.ensures in
-    let refused = c.in-Err-Full.ensures.err in
-    passed_up c.from_residual-in_err-reserve-in-Err-Full.result c.in_err-reserve-in-Err-Full.field-0.0 _ _ c.from_residual-in_err-reserve-in-Err-Full.ensures.1
-    (full_unroomed c.args.writing.now c.apply_to.new.writing c.reserve-in-Err-Full.new.self (λ (w : Work) least. HoldsUnreached w.knows least) c.args.ops.now c.in-Err-Full.least c.in-Err-Full.field-0 _ c.in-Err-Full.field-0-is refused none.0 none.1)
+pub returns-clause-answer : goal.returns-clause-answer
+returns-clause-answer c =
+    both_from c.write_current.result _ _ _ _
+    (λ r p. published_from c.args.writing.now c.scan_early.new.writing c.write_current.new.writing.knows c.args.ops.now r.0 r.1.items c.scan_early.ensures.kept p)
+    (λ e p. held_back_from c.args.writing.now c.scan_early.new.writing c.write_current.new.writing.knows c.args.ops.now e c.scan_early.ensures.kept p)
+    c.write_current.ensures.answer

@@ -6,13 +6,13 @@ use Rattle.be_table.proofs.writing.Writing.take.Goals as goal
 
 pub returns-in-Some-clause-ok : goal.returns-in-Some-clause-ok
 returns-in-Some-clause-ok c =
-    let e = c.in-Some.ensures in record { between = c.args.self.now; scan = inl refl; inside = e.some.0; small = e.small; free = e.some.1; taken = e.taken }
+    let e = c.in-Some.ensures in record { between = c.args.self.now; scan = inl refl; because = inl refl; inside = e.some.0; small = e.small; free = e.some.1; taken = e.taken }
 
 pub returns-in-Some-take_free-clause-ok : goal.returns-in-Some-take_free-clause-ok
 returns-in-Some-take_free-clause-ok c =
     let e = c.in-Some-take_free.ensures in
     let h = subst (λ (w : Work). MakesScan w c.scan-least.new.self c.scan-least.result) c.in_default.ensures.same c.scan-least.ensures in
-    record { between = c.scan-least.new.self; scan = inr (c.scan-least.result, h); inside = e.some.0; small = e.small; free = e.some.1; taken = e.taken }
+    record { between = c.scan-least.new.self; scan = inr (c.scan-least.result, h); because = inr c.in_default.ensures.none; inside = e.some.0; small = e.small; free = e.some.1; taken = e.taken }
 
 pub returns-in-None-clause-full : goal.returns-in-None-clause-full
 returns-in-None-clause-full c =
@@ -20,5 +20,5 @@ returns-in-None-clause-full c =
     let h = subst (λ (w : Work). MakesScan w c.scan-least.new.self c.scan-least.result) c.in_default.ensures.same c.scan-least.ensures in (
       c.scan-least.result,
       refl,
-      subst (λ (w : Work). FindsNone c.args.self.now w c.scan-least.result) (sym e.same) (record { scan = h; none = e.none; holds = λ p lt. all_held c.args.self.now c.scan-least.new.self c.scan-least.result h e.none p (let count = e.count in omega arith) }),
+      subst (λ (w : Work). FindsNone c.args.self.now w c.scan-least.result) (sym e.same) (record { before = c.in_default.ensures.none; scan = h; none = e.none; spent = (sym h.least_is, λ p lt. all_held c.args.self.now c.scan-least.new.self c.scan-least.result h e.none p (let count = e.count in omega arith)) }),
     )

@@ -1,5 +1,5 @@
-use Rattle.be_script.specs.Store.{MayWrite}
-use Rattle.be_script.proofs.JoinLemmas.{at_once}
+use Rattle.be_serving.specs.Store.{MayWrite}
+use Rattle.be_serving.proofs.JoinLemmas.{at_once}
 use Rattle.be_script.proofs.tests.plain.PlainStoreServer.apply.Goals as goal
 
 pub returns-clause-writes : goal.returns-clause-writes

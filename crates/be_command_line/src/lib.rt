@@ -1,0 +1,10 @@
+//! The command line of bestore: its words, and the task that they ask for.
+#![tactic(auto)]
+
+mod command_line;
+mod tasks;
+#[cfg(test)]
+mod tests;
+
+pub use command_line::task;
+pub use tasks::Task;

@@ -1,0 +1,5 @@
+pub mod Reply
+pub mod Request
+pub mod Values
+pub mod View
+pub mod Words

@@ -1,7 +1,0 @@
-use Rattle.be_paged.proofs.both.ask.Given as goal
-
-abbrev pub ghost-covers : goal.ghost-covers
-ghost-covers g a = g.volume
-
-abbrev pub ghost-run : goal.ghost-run
-ghost-run g a = g.volume

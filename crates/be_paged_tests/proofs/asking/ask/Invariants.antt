@@ -1,0 +1,7 @@
+use Rattle.be_paged_tests.proofs.asking.ask.Given as goal
+
+abbrev pub ghost-covers : goal.ghost-covers
+ghost-covers g a = g.volume
+
+abbrev pub ghost-run : goal.ghost-run
+ghost-run g a = g.volume

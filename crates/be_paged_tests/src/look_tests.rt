@@ -1,0 +1,177 @@
+//! Versions read by readers of the tests' own.
+ghost use Rattle.std.specs.Prelude.{◌≡◌, IfOk};
+ghost use Rattle.be_pages.specs.Pages.{IsUnchanged, after_undo};
+ghost use Rattle.be_tree.specs.Forest.{IsWriteStart};
+ghost use Rattle.be_paged.specs.Version.{IsVersion};
+
+use crate::asking::{query_both, read_query};
+use crate::both::Both;
+use crate::lines::is_answer;
+use crate::test_looks::Before;
+use crate::tests::{expect, run_lines};
+use crate::writing::{accepts, apply_pages};
+use be_pages::{Look, VecRoom};
+use be_value::{Name, Refusal, Value};
+use be_volume::{Op, Volume};
+use std::alloc::Global;
+use std::test::Fail;
+
+/// Makes a node with a value.
+fn make_node(both: Both, name: &Name, value: i32) -> Result<Both, Fail> {
+    let node = both.plain.next();
+    let ops = [Op::New, Op::Set(node, name.copy(), Value::int32(value))];
+    let (both, answer) = both.write(&ops)?;
+    answer?;
+    Ok(both)
+}
+
+/// A volume with an index and a hundred nodes in it.
+fn hundred(alloc: Global) -> Result<Both, Fail> {
+    let name = Name::new("k")?;
+    let mut both = run_lines(alloc, Both::new(alloc, 128)?, "mkindex k LONG => ok")?;
+    for i in 0..100 {
+        both = make_node(both, &name, i)?;
+    }
+    Ok(both)
+}
+
+// A walk over a hundred keys reads some words for each, and the look comes back with its count. The version stands.
+#[test]
+fn counting_look(rt: HostRuntime) -> Result<(), Fail> {
+    let both = hundred(rt.alloc())?;
+    let query = read_query(rt.alloc(), "k>=0")?;
+    let (both, answer, reads) = both.query_counting(rt.alloc(), &query, 0)?;
+    assert_eq!(rt; answer?.len(), 100);
+    assert!(rt; reads > 100 && reads < 100 * 200);
+    let query = read_query(rt.alloc(), "k==7")?;
+    let (_both, answer, more) = both.query_counting(rt.alloc(), &query, reads)?;
+    assert!(rt; is_answer(&answer, "nodes 8"));
+    assert!(rt; more > reads && more < reads + 1000);
+    Ok(())
+}
+
+/// Fails unless both forms give these nodes. Gives the look as it was.
+fn expect_look<L: Look + Drop>(
+    alloc: Global,
+    plain: &Volume,
+    look: L,
+    page: u64,
+    text: &str,
+    expected: &str,
+) -> Result<L, Fail>
+    requires version { IsVersion (L.standing look) (L.words look) page plain.now }
+    ensures unchanged { IfOk result (λ r. IsUnchanged L.kept L.standing L.words look r) }
+{
+    let query = read_query(alloc, text)?;
+    let (look, answer) = query_both(alloc, plain, look, page, &query, None)?;
+    expect(is_answer(&answer, expected), text)?;
+    Ok(look)
+}
+
+/// An equal volume, copied again where memory is refused.
+fn copy_of(plain: &Volume) -> Result<Volume, Refusal>
+    ensures { IfOk result (λ copy. copy ≡ plain.now) }
+{
+    match plain.copy() {
+        Err(Refusal::OutOfMemory) => plain.copy(),
+        copy => copy,
+    }
+}
+
+/// Fails unless the version that stood when the open write began gives these nodes. Gives the room as it was.
+fn expect_before(
+    alloc: Global,
+    plain: &Volume,
+    room: VecRoom,
+    page: u64,
+    text: &str,
+    expected: &str,
+) -> Result<VecRoom, Fail>
+    requires version { IsVersion (λ q. after_undo (⟦<VecRoom as Look>⟧.standing room q)) (⟦<VecRoom as Look>⟧.words room) page plain.now }
+    ensures unchanged { IfOk result (λ r. IsUnchanged ⟦<VecRoom as Look>⟧.kept ⟦<VecRoom as Look>⟧.standing ⟦<VecRoom as Look>⟧.words room r) }
+{
+    let before = Before { look: room };
+    let before = expect_look(alloc, plain, before, page, text, expected)?;
+    Ok(before.look)
+}
+
+/// Reads a version and the copy of which a node was dropped, while the write is open.
+fn read_copies(
+    alloc: Global,
+    original: &Volume,
+    copy: &Volume,
+    room: VecRoom,
+    page: u64,
+    new_page: u64,
+) -> Result<VecRoom, Fail>
+    requires before { IsVersion (λ q. after_undo (⟦<VecRoom as Look>⟧.standing room q)) (⟦<VecRoom as Look>⟧.words room) page original.now }
+    requires version { IsVersion (⟦<VecRoom as Look>⟧.standing room) (⟦<VecRoom as Look>⟧.words room) new_page copy.now }
+    ensures version { IfOk result (λ r. IsVersion (⟦<VecRoom as Look>⟧.standing r) (⟦<VecRoom as Look>⟧.words r) new_page copy.now) }
+{
+    let room = expect_before(alloc, original, room, page, "k==x", "nodes 1 3")?;
+    let room = expect_look(alloc, copy, room, new_page, "k==x", "nodes 3")?;
+    Ok(room)
+}
+
+/// Drops node 1 of the copy, and gives it with the room and the new version page, while the write is open.
+fn drop_first(
+    original: &Volume,
+    mut copy: Volume,
+    mut room: VecRoom,
+    page: u64,
+) -> Result<(Volume, VecRoom, u64), Fail>
+    requires same { copy ≡ original.now }
+    requires version { IsVersion (⟦<VecRoom as Look>⟧.standing room) (⟦<VecRoom as Look>⟧.words room) page original.now }
+    requires start { IsWriteStart (⟦<VecRoom as Look>⟧.standing room) }
+    ensures before { IfOk result (λ r. IsVersion (λ q. after_undo (⟦<VecRoom as Look>⟧.standing r.1 q)) (⟦<VecRoom as Look>⟧.words r.1) page original.now) }
+    ensures version { IfOk result (λ r. IsVersion (⟦<VecRoom as Look>⟧.standing r.1) (⟦<VecRoom as Look>⟧.words r.1) r.2 r.0) }
+{
+    if original.next() > u64::MAX - 65 {
+        return Err(Fail::new("no node number is left"));
+    }
+    let ops = [Op::Drop(1)];
+    match apply_pages(original, &mut room, page, &ops) {
+        Ok((new_page, dones)) => {
+            accepts(&mut copy, &ops, dones.as_slice())?;
+            Ok((copy, room, new_page))
+        }
+        Err(_) => Err(Fail::new("the drop is refused")),
+    }
+}
+
+/// Keeps the write, and reads the copy.
+fn read_kept(alloc: Global, copy: &Volume, mut room: VecRoom, page: u64) -> Result<(), Fail>
+    requires version { IsVersion (⟦<VecRoom as Look>⟧.standing room) (⟦<VecRoom as Look>⟧.words room) page copy.now }
+{
+    room.keep();
+    let _room = expect_look(alloc, copy, room, page, "k==x", "nodes 3")?;
+    Ok(())
+}
+
+/// Drops node 1 of a copy. The version page of before the write stands for the original, until the write is kept.
+fn drop_of_copy(alloc: Global, both: Both) -> Result<(), Fail> {
+    let Both {
+        plain: original,
+        room,
+        page,
+    } = both;
+    let copy = copy_of(&original)?;
+    let (copy, room, new_page) = drop_first(&original, copy, room, page)?;
+    let room = read_copies(alloc, &original, &copy, room, page, new_page)?;
+    read_kept(alloc, &copy, room, new_page)
+}
+
+#[test]
+fn volume_copy(rt: HostRuntime) -> Result<(), Fail> {
+    let lines = "mkindex k CSTR => ok
+new => node 1
+new => node 2
+new => node 3
+set 1 k CSTR x => ok
+set 2 k CSTR x => ok
+set 3 k CSTR x => ok
+drop 2 => ok
+query k==x => nodes 1 3";
+    let both = run_lines(rt.alloc(), Both::new(rt.alloc(), 64)?, lines)?;
+    drop_of_copy(rt.alloc(), both)
+}

@@ -1,0 +1,728 @@
+//! Worked examples, over a plain volume's source that writes down its calls.
+//!
+//! A volume is made by lines such as `set 1 n LONG 5`. What is asked of it stands in lines `COMMAND QUERY => REPLY`. The command `explain` asks
+//! what the query is answered from, and `query` for its nodes by these picks. Digits are a command too: the nodes by these picks, a digit for
+//! each. Behind the nodes stands of which indices a key was asked, the first letter of the name for each call, and for a range that is asked
+//! for whole, one for each key that lies in it and one for its end: `nodes 2 3 asks nnn`.
+
+ghost use Rattle.be_volume.specs.Volume.{State};
+ghost use Rattle.be_plan.specs.Sources.{IsVolume};
+
+use arrayvec::{ArrayString, ArrayVec};
+use be_plan::{
+    Cover, Picks, Source, VolumeSource, choose, choose_from, covers, explain, run, volume_source,
+};
+use be_query::{Query, parse};
+use be_value::{Kind, Name, Refusal, Value, number_of, word_of};
+use be_volume::{Op, Volume};
+use std::alloc::Global;
+use std::test::Fail;
+
+fn first_letter(name: &Name) -> char {
+    name.as_str().chars().next().unwrap_or('?')
+}
+
+/// Whether the key is above the bound, if there is one.
+fn is_past(high: Option<&[u8]>, key: &[u8]) -> bool {
+    match high {
+        Some(high) => key > high,
+        None => false,
+    }
+}
+
+/// How many keys of the index lie from `low` to `high`, up to 64, counted from key to key.
+fn keys_within(volume: &Volume, name: &Name, low: &[u8], high: Option<&[u8]>) -> usize {
+    let mut next = volume.next_key(name, low, false);
+    for count in 0..64 {
+        let Some(key) = &next else {
+            return count;
+        };
+        if is_past(high, key.as_slice()) {
+            return count;
+        }
+        next = volume.next_key(name, key.as_slice(), true);
+    }
+    64
+}
+
+/// Writes down a step for each of so many keys, and one for the end.
+fn write_steps(asked: &mut ArrayString<64>, name: &Name, keys: usize) {
+    for _ in 0..=keys {
+        let _full = asked.try_push(first_letter(name));
+    }
+}
+
+/// A volume's source that writes down of which index it is asked for a key, and counts the kinds and the ranges that it is asked for.
+#[derive(Drop)]
+struct Recording<'a> {
+    source: VolumeSource<'a>,
+    volume: &'a Volume,
+    asked: ArrayString<64>,
+    kinds: u64,
+    ranges: u64,
+}
+
+/// A source that has written nothing yet.
+fn start_recording(volume: &Volume) -> Recording<'_>
+    ensures { IsVolume result.source volume.now }
+{
+    Recording {
+        source: volume_source(volume),
+        volume,
+        asked: ArrayString::new(),
+        kinds: 0,
+        ranges: 0,
+    }
+}
+
+impl Source for Recording<'_> {
+    ghost use Rattle.be_volume.specs.Volume.{State};
+    ghost use Rattle.be_plan.specs.Sources.{IsVolume};
+
+    ghost Kept = { State };
+
+    ghost kept = { λ s. s.source };
+
+    ghost answers_for = { λ s volume. IsVolume s.source volume };
+
+    ghost sound = { λ s volume is. is.sound };
+
+    fn kind_of(&mut self, name: &Name) -> Option<Kind> {
+        self.kinds = self.kinds.wrapping_add(1);
+        self.source.kind_of(name)
+    }
+
+    fn next_key(&mut self, name: &Name, from: &[u8], after: bool) -> Option<ArrayVec<u8, 264>> {
+        let _full = self.asked.try_push(first_letter(name));
+        self.source.next_key(name, from, after)
+    }
+
+    fn nodes_within(
+        &mut self,
+        name: &Name,
+        low: &[u8],
+        high: Option<&[u8]>,
+        found: &mut Vec<u64>,
+    ) -> Result<(), Refusal> {
+        self.ranges = self.ranges.wrapping_add(1);
+        let keys = keys_within(self.volume, name, low, high);
+        write_steps(&mut self.asked, name, keys);
+        self.source.nodes_within(name, low, high, found)
+    }
+
+    fn has_key(&mut self, name: &Name, key: &[u8]) -> bool {
+        self.source.has_key(name, key)
+    }
+
+    fn value(&mut self, node: u64, name: &Name) -> Option<Value> {
+        self.source.value(node, name)
+    }
+}
+
+fn read_kind(word: &str) -> Option<Kind> {
+    if word == "CSTR" {
+        Some(Kind::Cstr)
+    } else if word == "LONG" {
+        Some(Kind::Long)
+    } else if word == "LLNG" {
+        Some(Kind::Llng)
+    } else if word == "ULNG" {
+        Some(Kind::Ulng)
+    } else if word == "ULLG" {
+        Some(Kind::Ullg)
+    } else {
+        None
+    }
+}
+
+fn read_value(kind: Kind, word: &str) -> Option<Value> {
+    match kind {
+        Kind::Long => Some(Value::int32(i32::try_from(number_of(word)?).ok()?)),
+        Kind::Llng => Some(Value::int64(i64::try_from(number_of(word)?).ok()?)),
+        Kind::Ulng => Some(Value::uint32(u32::try_from(number_of(word)?).ok()?)),
+        Kind::Ullg => Some(Value::uint64(u64::try_from(number_of(word)?).ok()?)),
+        Kind::Cstr | Kind::Mims | Kind::Rawt => Value::text(word).ok(),
+    }
+}
+
+/// The operation of a line.
+fn read_op(line: &str) -> Option<Op> {
+    let mut words = line.split(' ');
+    let command = words.next()?;
+    if command == "new" {
+        return Some(Op::New);
+    }
+    let first = words.next()?;
+    if command == "drop" {
+        return Some(Op::Drop(word_of(first.as_bytes())?));
+    }
+    let second = words.next()?;
+    if command == "mkindex" {
+        return Some(Op::MkIndex(Name::new(first).ok()?, read_kind(second)?));
+    }
+    let node = word_of(first.as_bytes())?;
+    let kind = read_kind(words.next()?)?;
+    Some(Op::Set(
+        node,
+        Name::new(second).ok()?,
+        read_value(kind, words.next()?)?,
+    ))
+}
+
+/// Does the operation of a line, which has to be accepted.
+fn write(volume: &mut Volume, line: &str) -> Result<(), Refusal> {
+    let Some(op) = read_op(line) else {
+        return Err(Refusal::BadLimits);
+    };
+    if volume.next() > u64::MAX - 64 {
+        return Err(Refusal::BadLimits);
+    }
+    volume.apply(&[op])?;
+    Ok(())
+}
+
+/// Makes a volume. A line that is refused memory is run again.
+fn volume_of(alloc: Global, lines: &str) -> Result<Volume, Refusal> {
+    let mut volume = Volume::new(alloc);
+    for line in lines.lines() {
+        match write(&mut volume, line) {
+            Err(Refusal::OutOfMemory) => write(&mut volume, line)?,
+            done => done?,
+        }
+    }
+    Ok(volume)
+}
+
+/// The picks of digits.
+fn picks_of(alloc: Global, digits: &str) -> Result<Picks, Refusal> {
+    let mut places = Vec::new(alloc);
+    for digit in digits.bytes() {
+        places.push(usize::from(digit.wrapping_sub(b'0')))?;
+    }
+    Ok(Picks::new(places))
+}
+
+/// The words `nodes` and each number.
+fn nodes_text(alloc: Global, nodes: &[u64]) -> Result<String, Refusal> {
+    let mut text = String::from_str(alloc, "nodes")?;
+    for node in nodes {
+        text.push_str(" ")?;
+        text.push_str(node.to_string(alloc)?.as_str())?;
+    }
+    Ok(text)
+}
+
+/// The nodes by the cover, and what was asked for them.
+fn found(alloc: Global, volume: &Volume, query: &Query, cover: &Cover) -> Result<String, Refusal> {
+    let mut source = start_recording(volume);
+    if !covers(cover, query, &mut source) {
+        return Ok(String::from_str(alloc, "not covered")?);
+    }
+    let nodes = run(alloc, cover, query, &mut source)?;
+    let mut text = nodes_text(alloc, &nodes)?;
+    text.push_str(" asks ")?;
+    text.push_str(source.asked.as_str())?;
+    Ok(text)
+}
+
+/// The answer to a command.
+fn answer(alloc: Global, volume: &Volume, command: &str, query: &Query) -> Result<String, Refusal> {
+    if command == "explain" {
+        return explain(alloc, query, &choose(alloc, query, &volume.indices()?)?);
+    }
+    let cover = if command == "query" {
+        choose(alloc, query, &volume.indices()?)?
+    } else {
+        Cover {
+            picks: picks_of(alloc, command)?,
+            score: 0,
+        }
+    };
+    found(alloc, volume, query, &cover)
+}
+
+/// The reply to a request; refused with 10 alone.
+fn reply_to(alloc: Global, volume: &Volume, request: &str) -> Result<String, Refusal> {
+    let Some((command, text)) = request.split_once(' ') else {
+        return Ok(String::new(alloc));
+    };
+    match answer(alloc, volume, command, &parse(alloc, text)?) {
+        Err(Refusal::NotCovered) => Ok(String::from_str(alloc, "refused 17")?),
+        reply => reply,
+    }
+}
+
+/// Fails unless each request has its reply. A request that is refused memory is made again: so each example passes with any one request for
+/// memory refused.
+fn replies(alloc: Global, volume: &Volume, lines: &str) -> Result<(), Fail> {
+    for line in lines.lines() {
+        let Some((request, expected)) = line.split_once(" => ") else {
+            return Err(Fail::new("no reply"));
+        };
+        let reply = match reply_to(alloc, volume, request) {
+            Err(Refusal::OutOfMemory) => reply_to(alloc, volume, request)?,
+            reply => reply?,
+        };
+        if reply.as_str() != expected {
+            return Err(Fail::new(line));
+        }
+    }
+    Ok(())
+}
+
+/// Each pick asks for keys of its own index alone.
+#[test]
+fn two_indices(rt: HostRuntime) -> Result<(), Fail> {
+    let lines = "new
+set 1 a LONG 1
+mkindex a LONG
+mkindex b LONG
+new
+set 1 b LONG 2
+set 2 a LONG 1
+set 2 b LONG 2";
+    let requests = "query a==1 && b==2 => nodes 2 asks aa
+explain a==1 && b==2 => \"a\"==\"1\" score 1
+query b==2 => nodes 1 2 asks bbb
+0 a==1 && b==2 => nodes 2 asks aa
+1 a==1 && b==2 => nodes 2 asks bbb
+01 a==1 && b==2 => nodes 2 asks aabbb
+01 a==1 || b==2 => nodes 1 2 asks aabbb
+10 a==1 || b==2 => nodes 1 2 asks bbbaa
+0 a==1 || b==2 => not covered
+2 a==1 || b==2 => not covered";
+    replies(rt.alloc(), &volume_of(rt.alloc(), lines)?, requests)
+}
+
+#[test]
+fn coverage(rt: HostRuntime) -> Result<(), Fail> {
+    let lines = "mkindex a LONG
+new
+set 1 a LONG 1
+set 1 b LONG 2";
+    let requests = "query a==1||b==2 => refused 17
+query a==1&&b==2 => nodes 1 asks aa
+query b==2 => refused 17
+query !(a==1||b==3) => nodes asks aa
+explain !(a==2||b==3) => \"a\"!=\"2\" score 5
+explain b==2 => refused 17
+0 b==2 => not covered";
+    replies(rt.alloc(), &volume_of(rt.alloc(), lines)?, requests)
+}
+
+/// The cheapest side of an `&&`, the left one at a tie, and both sides of an `||`.
+#[test]
+fn choices(rt: HostRuntime) -> Result<(), Fail> {
+    let lines = "mkindex a LONG
+mkindex b LONG
+mkindex t CSTR";
+    let requests = "explain a==1 && b==2 => \"a\"==\"1\" score 1
+explain b==2 && a==1 => \"b\"==\"2\" score 1
+explain a!=1 && b!=2 => \"a\"!=\"1\" score 5
+explain t==x && t==\"x*\" => \"t\"==\"x\" score 1
+explain a>1 && t==\"x*\" => \"t\"==\"x*\" score 2
+explain t==\"*x\" && a<=1 => \"a\"<=\"1\" score 3
+explain a!=1 && t==\"*x\" => \"t\"==\"*x\" score 4
+explain z==1 && a!=1 => \"a\"!=\"1\" score 5
+explain a==1 || b>2 => \"a\"==\"1\" || \"b\">\"2\" score 4
+explain (a==1 || b==2) && t==\"x*\" => \"a\"==\"1\" || \"b\"==\"2\" score 2
+explain (a==1 || b>2) && t==\"x*\" => \"t\"==\"x*\" score 2
+explain a==1 && (b==2 || z==3) => \"a\"==\"1\" score 1
+explain z==1 && (b==2 || z==3) => refused 17";
+    replies(rt.alloc(), &volume_of(rt.alloc(), lines)?, requests)
+}
+
+/// Six nodes, where m is 7 less n.
+const NUMBERS: &str = "mkindex n LONG
+mkindex m LONG
+new
+new
+new
+new
+new
+new
+set 1 n LONG 1
+set 2 n LONG 2
+set 3 n LONG 3
+set 4 n LONG 4
+set 5 n LONG 5
+set 6 n LONG 6
+set 1 m LONG 6
+set 2 m LONG 5
+set 3 m LONG 4
+set 4 m LONG 3
+set 5 m LONG 2
+set 6 m LONG 1";
+
+/// A walk is bounded by what stands beside its pick under `&&`, and by nothing under an `||` that the pick isn't in.
+#[test]
+fn bounds(rt: HostRuntime) -> Result<(), Fail> {
+    let requests = "0 n==3 => nodes 3 asks nn
+0 n!=3 => nodes 1 2 4 5 6 asks nnnnnnn
+0 n>=2 && n<5 => nodes 2 3 4 asks nnnn
+1 n>=2 && n<5 => nodes 2 3 4 asks nnnn
+0 n>2 && n<=5 => nodes 3 4 5 asks nnnn
+0 !(n<=2 || n>5) => nodes 3 4 5 asks nnnn
+0 n>=2 && (m>=3 && n<5) => nodes 2 3 4 asks nnnn
+1 n>=2 && (m>=3 && n<5) => nodes 2 3 4 asks mmmmm
+0 n>=2 && (n<5 || m==1) => nodes 2 3 4 6 asks nnnnnn
+12 n>=2 && (n<5 || m==1) => nodes 2 3 4 6 asks nnnnmm
+12 (n<5 || m==1) && n>=2 => nodes 2 3 4 6 asks mmnnnnnn
+01 (n<5 || m==1) && n>=2 => nodes 2 3 4 6 asks nnnnmm
+01 n<2 || n>5 => nodes 1 6 asks nnnn
+01 n<4 || n<3 => nodes 1 2 3 asks nnnnnnn
+0 n>4 && n<2 => nodes asks n";
+    replies(rt.alloc(), &volume_of(rt.alloc(), NUMBERS)?, requests)
+}
+
+/// A number outside the kind of the index bounds a walk as well, and so does what spells no number.
+#[test]
+fn bounds_outside_the_kind(rt: HostRuntime) -> Result<(), Fail> {
+    let requests = "0 n>=2147483648 => nodes asks n
+0 n>2147483648 => nodes asks n
+0 n==2147483648 => nodes asks n
+0 n<=-2147483649 => nodes asks n
+0 n<-2147483649 => nodes asks n
+0 n==-2147483649 => nodes asks n
+0 n>=2 && n<abc => nodes asks n
+0 n!=abc => nodes asks n
+0 n==\"3*\" => nodes asks n
+0 n>=5 && n<2147483648 => nodes 5 6 asks nnn
+0 n>-2147483649 && n<=2 => nodes 1 2 asks nnn
+0 n>=5 && n!=2147483648 => nodes 5 6 asks nnn
+0 n<=2147483647 && n>5 => nodes 6 asks nn";
+    replies(rt.alloc(), &volume_of(rt.alloc(), NUMBERS)?, requests)
+}
+
+/// The ranges of the other integer kinds.
+#[test]
+fn bounds_of_each_kind(rt: HostRuntime) -> Result<(), Fail> {
+    let lines = "mkindex l LLNG
+mkindex u ULNG
+mkindex w ULLG
+new
+set 1 l LLNG 5
+set 1 u ULNG 5
+set 1 w ULLG 5";
+    let requests = "0 l<9223372036854775808 => nodes 1 asks ll
+0 l>=9223372036854775808 => nodes asks l
+0 l>=-9223372036854775808 => nodes 1 asks ll
+0 u>=-1 => nodes 1 asks uu
+0 u<0 => nodes asks u
+0 u<=-1 => nodes asks u
+0 u<4294967296 => nodes 1 asks uu
+0 u>=4294967296 => nodes asks u
+0 w>-1 => nodes 1 asks ww
+0 w==-5 => nodes asks w
+0 w<=18446744073709551615 => nodes 1 asks ww
+0 w<=18446744073709551616 => nodes asks w";
+    replies(rt.alloc(), &volume_of(rt.alloc(), lines)?, requests)
+}
+
+/// Texts are bounded by their bytes, and patterns by their literal characters before the first wildcard.
+#[test]
+fn bounds_of_texts(rt: HostRuntime) -> Result<(), Fail> {
+    let lines = "mkindex t CSTR
+new
+new
+new
+new
+new
+new
+set 1 t CSTR a
+set 2 t CSTR ab
+set 3 t CSTR abc
+set 4 t CSTR ac
+set 5 t CSTR b
+set 6 t CSTR é";
+    let requests = "0 t==ab => nodes 2 asks tt
+0 t==\"ab*\" => nodes 2 3 asks ttt
+0 t==\"a?\" => nodes 2 4 asks ttttt
+0 t==\"[ab]*\" => nodes 1 2 3 4 5 asks ttttttt
+0 t==\"é*\" => nodes 6 asks tt
+0 t!=ab => nodes 1 3 4 5 6 asks ttttttt
+0 t>=ab && t<b => nodes 2 3 4 asks tttt
+0 t==\"a*\" && t>ab => nodes 3 4 asks ttt
+1 t==\"a*\" && t>ab => nodes 3 4 asks ttt";
+    replies(rt.alloc(), &volume_of(rt.alloc(), lines)?, requests)
+}
+
+/// The kind that a source gives to an index.
+fn kind_by<S: Source + Drop>(mut source: S, name: &Name) -> Option<Kind>
+    ghost volume: { State }
+    requires { S.answers_for source volume }
+{
+    source.kind_of(name)
+}
+
+/// Whether the next key that a source gives is this one.
+fn is_next<S: Source + Drop>(
+    mut source: S,
+    name: &Name,
+    from: &[u8],
+    after: bool,
+    key: &[u8],
+) -> bool
+    ghost volume: { State }
+    requires { S.answers_for source volume }
+{
+    match source.next_key(name, from, after) {
+        Some(next) => next.as_slice() == key,
+        None => key.is_empty(),
+    }
+}
+
+/// The key of the text x and node 1.
+const FIRST: [u8; 10] = [0x78, 0, 0, 0, 0, 0, 0, 0, 0, 1];
+
+/// The key of the text x and node 3.
+const LAST: [u8; 10] = [0x78, 0, 0, 0, 0, 0, 0, 0, 0, 3];
+
+fn gives_kinds(volume: &Volume, index: &Name, other: &Name) -> bool {
+    matches!(kind_by(volume_source(volume), index), Some(Kind::Cstr))
+        && kind_by(volume_source(volume), other).is_none()
+}
+
+fn gives_keys(volume: &Volume, index: &Name, other: &Name) -> bool {
+    is_next(volume_source(volume), index, &FIRST, true, &LAST)
+        && is_next(volume_source(volume), index, &LAST, true, &[])
+        && is_next(volume_source(volume), index, &LAST, false, &LAST)
+        && is_next(volume_source(volume), other, &LAST, false, &[])
+}
+
+#[test]
+fn plan_source(rt: HostRuntime) -> Result<(), Fail> {
+    let lines = "mkindex k CSTR
+new
+new
+new
+set 1 k CSTR x
+set 2 k CSTR x
+set 3 k CSTR x
+drop 2
+new";
+    let k = Name::new("k")?;
+    let q = Name::new("q")?;
+    let volume = volume_of(rt.alloc(), lines)?;
+    assert!(rt; gives_kinds(&volume, &k, &q));
+    assert!(rt; gives_keys(&volume, &k, &q));
+    Ok(())
+}
+
+/// The lines of a volume of texts of 255 bytes, and requests with longer ones.
+fn long_texts(alloc: Global) -> Result<(String, String), Refusal> {
+    let m = "m".repeat(alloc, 254)?;
+    let lines = format!(in alloc;
+        "mkindex t CSTR
+new
+new
+new
+new
+set 1 t CSTR a
+set 2 t CSTR {m}m
+set 3 t CSTR {m}n
+set 4 t CSTR z"
+    )?;
+    let requests = format!(in alloc;
+        "0 t>={m}mm => nodes 3 4 asks ttt
+0 t>{m}mm => nodes 3 4 asks ttt
+0 t<{m}mm => nodes 1 2 asks ttt
+0 t<={m}nn => nodes 1 2 3 asks tttt
+0 t=={m}m => nodes 2 asks tt
+0 t==\"{m}m*\" => nodes 2 asks tt
+0 t=={m}mm => nodes asks t
+0 t==\"{m}mm*\" => nodes asks t
+0 t==\"{m}{m}*\" => nodes asks t"
+    )?;
+    Ok((lines, requests))
+}
+
+/// A text longer than any value's bounds a walk by the bytes that a value may have, and a pattern of more literal bytes leaves out all keys.
+#[test]
+fn bounds_of_long_texts(rt: HostRuntime) -> Result<(), Fail> {
+    let alloc = rt.alloc();
+    let (lines, requests) = match long_texts(alloc) {
+        Err(Refusal::OutOfMemory) => long_texts(alloc)?,
+        texts => texts?,
+    };
+    replies(alloc, &volume_of(alloc, lines.as_str())?, requests.as_str())
+}
+
+/// The nodes by what is chosen, and the number of ranges asked for.
+fn chosen(alloc: Global, volume: &Volume, text: &str) -> Result<(Vec<u64>, u64), Refusal> {
+    let query = parse(alloc, text)?;
+    let cover = choose(alloc, &query, &volume.indices()?)?;
+    let mut source = start_recording(volume);
+    if !covers(&cover, &query, &mut source) {
+        return Err(Refusal::BadLimits);
+    }
+    let nodes = run(alloc, &cover, &query, &mut source)?;
+    Ok((nodes, source.ranges))
+}
+
+/// The nodes of a scan.
+fn scanned(alloc: Global, volume: &Volume, text: &str) -> Result<Vec<u64>, Refusal> {
+    volume.query(&parse(alloc, text)?)
+}
+
+/// Fails unless the query gives the nodes of a scan, and is answered by this many ranges asked for whole. Each call is made again where it is
+/// refused memory.
+fn decided(alloc: Global, volume: &Volume, text: &str, ranges: u64) -> Result<(), Fail> {
+    let (nodes, asked) = match chosen(alloc, volume, text) {
+        Err(Refusal::OutOfMemory) => chosen(alloc, volume, text)?,
+        answer => answer?,
+    };
+    let all = match scanned(alloc, volume, text) {
+        Err(Refusal::OutOfMemory) => scanned(alloc, volume, text)?,
+        answer => answer?,
+    };
+    if nodes.as_slice() != all.as_slice() || asked != ranges {
+        return Err(Fail::new(text));
+    }
+    Ok(())
+}
+
+/// Texts around the fronts of patterns: of one, two and four bytes a character, with the least byte behind a front, and of 255 bytes.
+fn texts_by_front(alloc: Global) -> Result<String, Refusal> {
+    let long = "m".repeat(alloc, 254)?;
+    Ok(format!(in alloc;
+        "mkindex t CSTR
+new
+new
+new
+new
+new
+new
+new
+new
+new
+new
+set 1 t CSTR a
+set 2 t CSTR a\u{1}
+set 3 t CSTR ab
+set 4 t CSTR aé
+set 5 t CSTR aéz
+set 6 t CSTR aè
+set 7 t CSTR \u{10ffff}
+set 8 t CSTR {long}m
+set 9 t CSTR {long}
+set 10 t CSTR b"
+    )?)
+}
+
+/// A volume of texts around the fronts of patterns. A call that is refused memory is made again.
+fn volume_by_front(alloc: Global) -> Result<Volume, Refusal> {
+    let lines = match texts_by_front(alloc) {
+        Err(Refusal::OutOfMemory) => texts_by_front(alloc)?,
+        lines => lines?,
+    };
+    volume_of(alloc, lines.as_str())
+}
+
+/// Queries, and the number of ranges that each is answered by whole.
+const BY_RANGE: [(&str, u64); 17] = [
+    ("t==a", 1),
+    ("t==\"\"", 1),
+    ("t==\"*\"", 1),
+    ("t==\"a*\"", 1),
+    ("t==\"a\u{1}*\"", 1),
+    ("t==\"aé*\"", 1),
+    ("t==\"\u{10ffff}*\"", 1),
+    ("t==\"é*\"", 1),
+    ("t==\"a*\" && t==\"aé*\"", 1),
+    ("t==\"a*\" && t<b", 1),
+    ("t==\"a*\" || t==b", 2),
+    ("t==\"a**\"", 0),
+    ("t==\"a?\"", 0),
+    ("t==\"*a\"", 0),
+    ("t==\"a*z\"", 0),
+    ("t==\"[a]*\"", 0),
+    ("t!=\"a*\"", 0),
+];
+
+fn all_decided(alloc: Global, volume: &Volume) -> Result<(), Fail> {
+    for (text, ranges) in BY_RANGE {
+        decided(alloc, volume, text, ranges)?;
+    }
+    Ok(())
+}
+
+/// A pattern that says how a text begins is answered by its range alone, and every other is asked of each key.
+#[test]
+fn patterns_by_range(rt: HostRuntime) -> Result<(), Fail> {
+    all_decided(rt.alloc(), &volume_by_front(rt.alloc())?)
+}
+
+/// A query by a front of so many bytes.
+fn front_of(alloc: Global, count: usize) -> Result<String, Refusal> {
+    let front = "m".repeat(alloc, count)?;
+    Ok(format!(in alloc; "t==\"{front}*\"")?)
+}
+
+/// Fails unless a front of so many bytes is answered by so many ranges. A call that is refused memory is made again.
+fn front_decided(alloc: Global, volume: &Volume, count: usize, ranges: u64) -> Result<(), Fail> {
+    let text = match front_of(alloc, count) {
+        Err(Refusal::OutOfMemory) => front_of(alloc, count)?,
+        text => text?,
+    };
+    decided(alloc, volume, text.as_str(), ranges)
+}
+
+/// The front of a pattern has up to 255 bytes, as a text has.
+#[test]
+fn longest_front(rt: HostRuntime) -> Result<(), Fail> {
+    let volume = volume_by_front(rt.alloc())?;
+    front_decided(rt.alloc(), &volume, 255, 1)?;
+    front_decided(rt.alloc(), &volume, 256, 0)
+}
+
+/// 256 comparisons on the names of 32 indices, joined by `||`: i0==0, i1==1, .. i31==255.
+fn most_comparisons(alloc: Global) -> Result<String, Refusal> {
+    let mut text = String::from_str(alloc, "i0==0")?;
+    for number in 1..256u32 {
+        let index = number % 32;
+        text.push_str(format!(in alloc; "||i{index}=={number}")?.as_str())?;
+    }
+    Ok(text)
+}
+
+/// The lines of a volume with 32 indices, of which the first and the last hold a value that the query asks for last.
+fn most_indices(alloc: Global) -> Result<String, Refusal> {
+    let mut lines = String::from_str(alloc, "new\nnew\nnew")?;
+    for index in 0..32u32 {
+        lines.push_str(format!(in alloc; "\nmkindex i{index} LONG")?.as_str())?;
+    }
+    lines.push_str("\nset 1 i31 LONG 255\nset 2 i0 LONG 224\nset 3 i0 LONG 1")?;
+    Ok(lines)
+}
+
+/// The nodes by what is chosen where the source tells the kinds, and the numbers of kinds and of ranges asked for.
+fn chosen_by_source(
+    alloc: Global,
+    volume: &Volume,
+    text: &str,
+) -> Result<(Vec<u64>, u64, u64), Refusal> {
+    let query = parse(alloc, text)?;
+    let mut source = start_recording(volume);
+    let cover = choose_from(alloc, &query, &mut source)?;
+    let nodes = run(alloc, &cover, &query, &mut source)?;
+    Ok((nodes, source.kinds, source.ranges))
+}
+
+/// Whether the largest query finds nodes 1 and 2, asking for the kind of each comparison's index once to choose and once to walk.
+fn asks_each_once(alloc: Global) -> Result<bool, Refusal> {
+    let volume = volume_of(alloc, most_indices(alloc)?.as_str())?;
+    let text = most_comparisons(alloc)?;
+    let (nodes, kinds, ranges) = chosen_by_source(alloc, &volume, text.as_str())?;
+    Ok(nodes.as_slice() == [1, 2].as_slice() && kinds == 512 && ranges == 256)
+}
+
+#[test]
+fn largest_query(rt: HostRuntime) -> Result<(), Fail> {
+    let so = match asks_each_once(rt.alloc()) {
+        Err(Refusal::OutOfMemory) => asks_each_once(rt.alloc())?,
+        answer => answer?,
+    };
+    assert!(rt; so);
+    Ok(())
+}

@@ -1,0 +1,158 @@
+-- Threads and passes, each at its place.
+use Rattle.std.proofs.Common.{◌≡◌, ℕ, zero, suc, ◌<◌, ◌+◌, List, [], ◌∷◌, ◌++◌, length, map, get_or, drop, IfOk, OnOk, add-zero, add-one, append_assoc, append-nil, ◌≤◌, ap, sym, ◌∙◌, subst, arith, refl, slice_index_or, inl, inr}
+use Rattle.std.proofs.lemmas.Result.{IfOk-at_ok}
+use Rattle.std.specs.Prelude.{codes}
+use Rattle.std.specs.Fmt.{decimal}
+use Rattle.std.specs.declared.result.Result.{Result}
+use Rattle.std.specs.declared.result.Result.TheVariants.{Ok, Err}
+use Rattle.be_store.specs.Passes.{IsPassOf}
+use Rattle.be_journal.specs.Journal.{by_pass}
+use Rattle.be_journal.specs.Text.{lines_from}
+use Rattle.be_journal.specs.declared.entries.Entry.{Entry}
+use Rattle.be_table.specs.Place.{Opened, Place}
+use Rattle.be_table.specs.Rule.{newcomer}
+use Rattle.be_table.specs.declared.limits.Limits.{Limits}
+use Rattle.be_table.specs.declared.pass.Knowledge.{Knowledge}
+use Rattle.be_table.specs.Steps.{Has, Keeps}
+use Rattle.be_table.specs.Works.{AllAt, knows_of}
+use Rattle.be_serving.specs.Own.{IsPartOf, operations, write_ops}
+use Rattle.std.specs.declared.option.Option.{Option}
+use Rattle.std.specs.Io.KnownBytes.{Appends}
+use Rattle.be_serving.specs.Output.{IsOutputFrom}
+use Rattle.be_serving.specs.Run.{Wrote}
+use Rattle.be_serving.specs.Served.{known}
+use Rattle.be_serving.proofs.RunLemmas.{written_both}
+use Rattle.be_serving.specs.Race.{HaveServed, HaveReplied, start_of, pass_line, replies_text, result_text}
+
+-- what is so of each element, and of one more at its place, is so of all
+pub each_pushed : {X : Type 0} (P : ℕ → X → Type 0) (xs : List X) (x : X) → ((k : ℕ) (d : X) → k < length xs → P k (get_or xs k d)) → P (length xs) x →
+    (k : ℕ) (d : X) → k < length (xs ++ x ∷ []) → P k (get_or (xs ++ x ∷ []) k d)
+each_pushed P [] x each last zero d h = last
+each_pushed P [] x each last (suc k) d h = absurd (omega arith)
+each_pushed P (y ∷ ys) x each last zero d h = each zero d (omega arith)
+each_pushed P (y ∷ ys) x each last (suc k) d h = each_pushed (λ n. P (suc n)) ys x (λ n e b. each (suc n) e (omega arith)) last k d (omega arith)
+
+-- the promise of one more thread
+pub each_promised : {H S : Type 0} (store_of : H → Opened) (number_of : H → ℕ) (script_of : H → S) (store : Opened) (scripts : List S) (threads : List H) (thread : H) (more : List H) →
+    ((k : ℕ) (t : H) (s : S) → k < length threads → (store_of (get_or threads k t) ≡ store) × (number_of (get_or threads k t) ≡ k) × (script_of (get_or threads k t) ≡ get_or scripts k s)) →
+    store_of thread ≡ store → number_of thread ≡ length threads → ((s : S) → script_of thread ≡ get_or scripts (length threads) s) → more ≡ threads ++ thread ∷ [] →
+    (k : ℕ) (t : H) (s : S) → k < length more → (store_of (get_or more k t) ≡ store) × (number_of (get_or more k t) ≡ k) × (script_of (get_or more k t) ≡ get_or scripts k s)
+each_promised {H} {S} store_of number_of script_of store scripts threads thread more each of_store of_number of_script is k t s below =
+    let P : ℕ → H → Type 0 = λ n h. (u : S) → (store_of h ≡ store) × (number_of h ≡ n) × (script_of h ≡ get_or scripts n u) in
+    let all : (n : ℕ) (h : H) → n < length (threads ++ thread ∷ []) → P n (get_or (threads ++ thread ∷ []) n h) =
+    each_pushed P threads thread (λ n h b u. each n h u b) (λ u. (of_store, of_number, of_script u)) in
+    let whole : (n : ℕ) (h : H) → n < length more → P n (get_or more n h) = subst (λ hs. (n : ℕ) (h : H) → n < length hs → P n (get_or hs n h)) (sym is) all in
+    whole k t below s
+
+-- what two facts of an answer give
+pub on_both : {X E : Type 0} {P Q R : X → Type 0} (r : Result X E) → IfOk r P → IfOk r Q → ((x : X) → P x → Q x → R x) → IfOk r R
+on_both (Ok x) p q f = f x p q
+on_both (Err e) p q f = tt
+
+-- a new pass sees an empty store
+pub from_new : {X E : Type 0} (A : Type 0) (text : X → List ℕ) (limits : Limits) (steps k : ℕ) (a : Knowledge) (script : List ℕ) (r : Result X E) → a ≡ newcomer limits steps k →
+    OnOk r A → IfOk r (λ x. IsOutputFrom (known a) script (text x)) → IfOk r (λ x. A × IsOutputFrom (start_of limits k) script (text x))
+from_new A text limits steps k a script (Ok x) is own replies = (own, subst (λ b. IsOutputFrom (known b) script (text x)) is replies)
+from_new A text limits steps k a script (Err e) is own replies = tt
+
+module _ {V E : Type 0} (store : Opened) (items : V → List ℕ) where
+  -- what the thread of the pass k has promised
+  abbrev pub EndsAs : ℕ → V → Place × Result V E → Type 0
+  EndsAs k script o = IsPassOf store o.0 × (o.0.knows.number ≡ k)
+      × IfOk o.1 (λ text. IsPartOf (operations o.0.knows.mine) (write_ops (items script)) × IsOutputFrom (start_of store.limits k) (items script) (items text))
+
+  -- the outcomes from the number k on, none of which is a fault
+  pub served_from : (k : ℕ) (scripts : List V) (outcomes : List (Place × Result V E)) (texts : List V) → length outcomes ≡ length scripts →
+      ((i : ℕ) (o : Place × Result V E) (s : V) → i < length scripts → EndsAs (k + i) (get_or scripts i s) (get_or outcomes i o)) →
+      map Ok texts ≡ map (λ (o : Place × Result V E). o.1) outcomes →
+      HaveServed store k (map items scripts) (map (λ (o : Place × Result V E). o.0) outcomes) × HaveReplied store.limits k (map items scripts) (map items texts)
+  served_from k [] [] [] count each all = (tt, tt)
+  served_from k [] [] (t ∷ ts) count each all = cc
+  served_from k [] (o ∷ os) texts count each all = absurd (omega (arith, count))
+  served_from k (s ∷ ss) [] texts count each all = absurd (omega (arith, count))
+  served_from k (s ∷ ss) (o ∷ os) [] count each all = cc
+  served_from k (s ∷ ss) (o ∷ os) (t ∷ ts) count each all =
+      let here = subst (λ n. EndsAs n s o) (add-zero k) (each 0 o s (omega arith)) in
+      let first : Ok t ≡ o.1 = cc in
+      let rest : map Ok ts ≡ map (λ (o : Place × Result V E). o.1) os = cc in
+      let told = IfOk-at_ok (λ text. IsPartOf (operations o.0.knows.mine) (write_ops (items s)) × IsOutputFrom (start_of store.limits k) (items s) (items text)) (sym first) here.2 in
+      let behind = served_from (k + 1) ss os ts (omega (arith, count)) (λ i d u below.
+      let e : k + suc i ≡ (k + 1) + i = omega arith in subst (λ n. EndsAs n (get_or ss i u) (get_or os i d)) e (each (suc i) d u (omega arith))) rest in (
+        (record { pass = here.0; number = here.1; own = told.0 }, behind.0),
+        (told.1, behind.1),
+      )
+
+-- an end is one by equal promises
+pub same_end : {V E : Type 0} (items : V → List ℕ) (store store' : Opened) (k k' : ℕ) (script script' : V) (o : Place × Result V E) → store ≡ store' → k ≡ k' → script ≡ script' →
+    EndsAs store items k script o → EndsAs store' items k' script' o
+same_end items store store' k k' script script' o of_store of_number of_script end =
+    subst (λ s. EndsAs s items k' script' o) of_store (subst (λ n. EndsAs store items n script' o) of_number (subst (λ v. EndsAs store items k v o) of_script end))
+
+-- the text of the replies from a place on is that of the replies there, and of those behind it
+next_at : {V : Type 0} (items : V → List ℕ) (n k : ℕ) (texts : List V) (t : V) → k < length texts → t ≡ get_or texts k t →
+    replies_text n (drop k (map items texts)) ≡ (pass_line n ++ items t) ++ replies_text (n + 1) (drop (suc k) (map items texts))
+next_at items n k [] t below is = absurd (omega (arith, below))
+next_at items n zero (x ∷ xs) t below is = ap (λ y. (pass_line n ++ items y) ++ replies_text (n + 1) (map items xs)) (sym is)
+next_at items n (suc k) (x ∷ xs) t below is = next_at items n k xs t (omega (arith, below)) is
+
+done_at : {V : Type 0} (items : V → List ℕ) (n k : ℕ) (texts : List V) → length texts ≤ k → replies_text n (drop k (map items texts)) ≡ []
+done_at items n zero [] past = refl
+done_at items n (suc k) [] past = refl
+done_at items n zero (x ∷ xs) past = absurd (omega (arith, past))
+done_at items n (suc k) (x ∷ xs) past = done_at items n k xs (omega (arith, past))
+
+module _ {V : Type 0} (items : V → List ℕ) (texts : List V) (k : ℕ) (old mid : Option (List ℕ))
+    (w : Wrote old mid (λ out. replies_text 0 (map items texts) ≡ out ++ replies_text k (drop k (map items texts)))) where
+  -- the replies of one more pass are written
+  pub replies_more : (near new : Option (List ℕ)) (t : V) (line text : List ℕ) → k < length texts → t ≡ get_or texts k t → line ≡ pass_line k → text ≡ items t →
+      Appends mid near line → Appends near new text → Wrote old new (λ out. replies_text 0 (map items texts) ≡ out ++ replies_text (k + 1) (drop (k + 1) (map items texts)))
+  replies_more near new t line text below at of_line of_text first second =
+      let rest = replies_text (k + 1) (drop (suc k) (map items texts)) in
+      let both : line ++ text ≡ pass_line k ++ items t = ap (λ l. l ++ text) of_line ∙ ap (λ u. pass_line k ++ u) of_text in
+      let next : replies_text 0 (map items texts) ≡ w.out ++ ((pass_line k ++ items t) ++ rest) = w.is ∙ ap (λ z. w.out ++ z) (next_at items k k texts t below at) in
+      let split : w.out ++ ((pass_line k ++ items t) ++ rest) ≡ (w.out ++ (line ++ text)) ++ rest =
+      ap (λ z. w.out ++ (z ++ rest)) (sym both) ∙ sym (append_assoc w.out (line ++ text) rest) in
+      record {
+        out = w.out ++ (line ++ text);
+        appended = written_both old mid new w.out (line ++ text) w.appended (written_both mid near new line text first second);
+        is = subst (λ m. replies_text 0 (map items texts) ≡ (w.out ++ (line ++ text)) ++ replies_text (k + 1) (drop m (map items texts))) (sym (add-one k)) (next ∙ split);
+      }
+
+  -- all replies are written
+  pub replies_all : length texts ≤ k → Appends old mid (replies_text 0 (map items texts))
+  replies_all past = subst (Appends old mid) (sym (w.is ∙ (ap (λ z. w.out ++ z) (done_at items k k texts past) ∙ append-nil w.out))) w.appended
+
+-- the passes are of the store
+pub all_at : (store : Opened) (k : ℕ) (scripts : List (List ℕ)) (passes : List Place) → HaveServed store k scripts passes → AllAt store.id passes
+all_at store k [] [] h = tt
+all_at store k [] (p ∷ ps) h = absurd h
+all_at store k (s ∷ ss) [] h = tt
+all_at store k (s ∷ ss) (p ∷ ps) h = ((h.0.pass.0.0, h.0.pass.0.1), all_at store (k + 1) ss ps h.1)
+
+-- each number has its pass
+pub has_each : (store : Opened) (k : ℕ) (scripts : List (List ℕ)) (passes : List Place) → HaveServed store k scripts passes → (n : ℕ) → n < length scripts → Has (map knows_of passes) (k + n)
+has_each store k [] passes h n below = absurd (omega (arith, below))
+has_each store k (s ∷ ss) [] h n below = absurd h
+has_each store k (s ∷ ss) (p ∷ ps) h zero below = inl (h.0.number ∙ omega arith)
+has_each store k (s ∷ ss) (p ∷ ps) h (suc n) below =
+    let e : (k + 1) + n ≡ k + suc n = omega arith in inr (subst (Has (map knows_of ps)) e (has_each store (k + 1) ss ps h.1 n (omega (arith, below))))
+
+-- what a journal that keeps the passes' writes has of each number is of that number's script
+pub own_of : (store : Opened) (k : ℕ) (scripts : List (List ℕ)) (passes : List Place) (log : List Entry) → HaveServed store k scripts passes → Keeps log (map knows_of passes) →
+    (n : ℕ) → n < length scripts → IsPartOf (operations (by_pass (k + n) log)) (write_ops (slice_index_or scripts n []))
+own_of store k [] passes log h keeps n below = absurd (omega (arith, below))
+own_of store k (s ∷ ss) [] log h keeps n below = absurd h
+own_of store k (s ∷ ss) (p ∷ ps) log h keeps zero below =
+    let e : p.knows.number ≡ k + 0 = h.0.number ∙ omega arith in
+    subst (λ m. IsPartOf (operations (by_pass m log)) (write_ops s)) e (subst (λ es. IsPartOf (operations es) (write_ops s)) (sym keeps.1) h.0.own)
+own_of store k (s ∷ ss) (p ∷ ps) log h keeps (suc n) below =
+    let e : (k + 1) + n ≡ k + suc n = omega arith in
+    subst (λ m. IsPartOf (operations (by_pass m log)) (write_ops (slice_index_or ss n []))) e (own_of store (k + 1) ss ps log h.1 keeps.2 n (omega (arith, below)))
+
+-- the journal's length, its lines and the result of its check are written one after the other
+pub result_written : (a b c d : Option (List ℕ)) (log : List Entry) (head text last : List ℕ) → head ≡ codes "journal " ++ (decimal (length log) ++ codes "\n") → text ≡ lines_from 1 log →
+    last ≡ codes "replay ok\n" → Appends a b head → Appends b c text → Appends c d last → Appends a d (result_text log)
+result_written a b c d log head text last of_head of_text of_last first second third =
+    let is : head ++ (text ++ last) ≡ result_text log = ap (λ h. h ++ (text ++ last)) of_head
+    ∙ ap (λ t. (codes "journal " ++ (decimal (length log) ++ codes "\n")) ++ t) (ap (λ t. t ++ last) of_text ∙ ap (λ l. lines_from 1 log ++ l) of_last) in
+    subst (Appends a d) is (written_both a b d head (text ++ last) first (written_both b c d text last second third))

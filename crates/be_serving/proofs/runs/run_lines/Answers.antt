@@ -1,0 +1,46 @@
+use Rattle.std.proofs.Common.{[], refl, ◌∙◌, arith}
+use Rattle.be_language.specs.Request.{lines_of}
+use Rattle.be_serving.specs.View.{session}
+use Rattle.be_serving.proofs.RunLemmas.{advance, finish, nothing_yet, stop, on_ok, on_err, always_err}
+use Rattle.be_serving.proofs.runs.run_lines.Goals as goal
+
+pub loop-line-init : goal.loop-line-init
+loop-line-init g c = record {
+  counted = omega arith;
+  few = c.new-client.ensures.few;
+  stays = refl;
+  so_far = nothing_yet (g.S.Server.shows c.args.server.now) c.args.script.now (session (g.S.Server.shows c.args.server.now) c.new-client.result)
+      (g.W.Write.contents c.args.writer.now) (c.new-client.ensures.opening (g.S.Server.shows c.args.server.now));
+}
+
+pub returns-in_err-ran-clause-err : goal.returns-in_err-ran-clause-err
+returns-in_err-ran-clause-err g c = always_err c.from_residual.result
+    (stop (g.S.Server.shows c.args.server.now) c.args.script.now c.loop-line.rest.now c.in-Some.line.now (lines_of c.in-Some.behind.now)
+    (session (g.S.Server.shows c.loop-line.server) c.loop-line.client)
+    (g.W.Write.contents c.args.writer.now) (g.W.Write.contents c.loop-line.writer) (g.W.Write.contents c.run_line-ran.new.writer)
+    c.in-Some.ensures.first c.loop-line.invariant.so_far c.in_err-ran.ensures.err)
+
+pub loop-line-preserved : goal.loop-line-preserved
+loop-line-preserved g c = record {
+  counted = omega (arith, c.in-Some.ensures.shorter, c.loop-line.invariant.counted);
+  few = c.run_line-ran.ensures.few;
+  stays = c.run_line-ran.ensures.stays ∙ c.loop-line.invariant.stays;
+  so_far = advance (g.S.Server.shows c.args.server.now) c.args.script.now c.loop-line.rest.now c.in-Some.line.now c.in-Some.behind.now
+      (session (g.S.Server.shows c.loop-line.server) c.loop-line.client) (session (g.S.Server.shows c.run_line-ran.new.server) c.run_line-ran.new.client)
+      (g.W.Write.contents c.args.writer.now) (g.W.Write.contents c.loop-line.writer) (g.W.Write.contents c.run_line-ran.new.writer)
+      c.in-Some.ensures.first c.loop-line.invariant.so_far c.in_ok-ran.ensures.ok;
+}
+
+pub returns-clause-ok : goal.returns-clause-ok
+returns-clause-ok g c = on_ok c.run_line-ran-2.result (λ w.
+    finish (g.S.Server.shows c.args.server.now) c.args.script.now c.loop-line.rest.now
+    (session (g.S.Server.shows c.loop-line.server) c.loop-line.client) (session (g.S.Server.shows c.run_line-ran-2.new.server) c.run_line-ran-2.new.client)
+    (g.W.Write.contents c.args.writer.now) (g.W.Write.contents c.loop-line.writer) (g.W.Write.contents c.run_line-ran-2.new.writer)
+    c.in_default.ensures.last c.loop-line.invariant.so_far w) c.run_line-ran-2.ensures.ok
+
+pub returns-clause-err : goal.returns-clause-err
+returns-clause-err g c = on_err c.run_line-ran-2.result (λ w.
+    stop (g.S.Server.shows c.args.server.now) c.args.script.now c.loop-line.rest.now c.loop-line.rest.now []
+    (session (g.S.Server.shows c.loop-line.server) c.loop-line.client)
+    (g.W.Write.contents c.args.writer.now) (g.W.Write.contents c.loop-line.writer) (g.W.Write.contents c.run_line-ran-2.new.writer)
+    c.in_default.ensures.last c.loop-line.invariant.so_far w) c.run_line-ran-2.ensures.err

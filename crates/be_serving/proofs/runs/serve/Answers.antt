@@ -1,0 +1,18 @@
+use Rattle.std.proofs.Common.{List, ℕ, subst}
+use Rattle.be_serving.specs.Output.{IsOutputTo}
+use Rattle.be_serving.specs.Run.{Wrote}
+use Rattle.be_serving.proofs.RunLemmas.{left_by, on_ok, whole_output}
+use Rattle.be_serving.proofs.runs.serve.Goals as goal
+
+pub returns-in-Ok-clause-output : goal.returns-in-Ok-clause-output
+returns-in-Ok-clause-output g c =
+    let store = g.S.Server.shows c.args.server.now in
+    let after = g.S.Server.shows c.run_lines.new.server in
+    let old = g.W.Write.contents c.args.writer.now in
+    let new = g.W.Write.contents c.run_lines.new.writer in
+    on_ok c.run_lines.result (λ w.
+    whole_output store after (g.R.Read.remaining c.args.reader.now) (g.R.Read.remaining c.read_script.new.reader) old new c.in-Ok.script.items c.in-Ok.ensures.ok
+    (subst (λ (script : List ℕ). Wrote old new (IsOutputTo store script after)) c.deref.ensures.value w)) c.run_lines.ensures.ok
+
+pub returns-in-Err-clause-fault : goal.returns-in-Err-clause-fault
+returns-in-Err-clause-fault g c = left_by c.in-Err.fault (g.S.Server.shows c.args.server.now) (g.R.Read.remaining c.args.reader.now) (g.R.Read.remaining c.read_script.new.reader) (g.W.Write.contents c.args.writer.now) c.in-Err.ensures.err

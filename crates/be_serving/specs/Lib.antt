@@ -1,0 +1,8 @@
+pub mod Limits
+pub mod Output
+pub mod Own
+pub mod Race
+pub mod Run
+pub mod Served
+pub mod Store
+pub mod View

@@ -1,0 +1,78 @@
+-- What a race gives: what its passes have served, and what it writes.
+use Rattle.std.specs.Prelude.{◌≡◌, ℕ, ◌+◌, ◌<◌, List, [], ◌∷◌, ◌++◌, None, false, length, slice_index_or, codes}
+use Rattle.std.specs.Fmt.{decimal}
+use Rattle.std.specs.Io.KnownBytes.{Keeps}
+use Rattle.std.specs.declared.option.Option.{Option}
+use Rattle.be_volume.specs.Volume.{empty}
+use Rattle.be_journal.specs.Journal.{IsLegal, by_pass}
+use Rattle.be_journal.specs.Text.{lines_from}
+use Rattle.be_journal.specs.declared.entries.Entry.{Entry}
+use Rattle.be_table.specs.History.{AllBelow}
+use Rattle.be_table.specs.Place.{Opened, Place}
+use Rattle.be_table.specs.Rule.{newcomer}
+use Rattle.be_table.specs.declared.limits.Limits.{Limits as StoreLimits}
+use Rattle.be_store.specs.Passes.{IsPassOf}
+use Rattle.be_serving.specs.Output.{IsOutputFrom}
+use Rattle.be_serving.specs.Own.{IsPartOf, operations, write_ops}
+use Rattle.be_serving.specs.Store.{Store}
+use Rattle.be_serving.specs.declared.faults.RunFault.{RunFault}
+use Rattle.be_serving.specs.declared.faults.RunFault.TheVariants.{Limits, Read, TooLong, Write, Memory}
+
+-- the pass k of the store, which has seen and written nothing
+abbrev pub IsNew : Opened → ℕ → Place → Type 0
+IsNew store k pass = (pass.blank ≡ false) × (pass.table ≡ store.id) × (pass.knows ≡ newcomer store.limits (k + 1) k)
+
+-- an empty store as its pass k sees it
+abbrev pub start_of : StoreLimits → ℕ → Store
+start_of limits k = record { journal = []; volume = empty; limit = limits.commits; passes = limits.passes; pass = k; pin = None }
+
+-- The pass has the number k, and its own writes are some of those that the script asks for, in their order.
+pub record HasServed (store : Opened) (k : ℕ) (script : List ℕ) (p : Place) : Type 0 where
+  pub pass : IsPassOf store p
+  pub number : p.knows.number ≡ k
+  pub own : IsPartOf (operations p.knows.mine) (write_ops script)
+
+-- a pass for each script, by its number, from the number k on
+abbrev pub HaveServed : Opened → ℕ → List (List ℕ) → List Place → Type 0
+HaveServed store k [] [] = Unit {0}
+HaveServed store k [] (pass ∷ passes) = ⊥
+HaveServed store k (script ∷ scripts) [] = ⊥
+HaveServed store k (script ∷ scripts) (pass ∷ passes) = HasServed store k script pass × HaveServed store (k + 1) scripts passes
+
+-- replies to each script, by its number, from the number k on: an output of it, where the other passes may write
+abbrev pub HaveReplied : StoreLimits → ℕ → List (List ℕ) → List (List ℕ) → Type 0
+HaveReplied limits k [] [] = Unit {0}
+HaveReplied limits k [] (text ∷ texts) = ⊥
+HaveReplied limits k (script ∷ scripts) [] = ⊥
+HaveReplied limits k (script ∷ scripts) (text ∷ texts) = IsOutputFrom (start_of limits k) script text × HaveReplied limits (k + 1) scripts texts
+
+-- the line of a pass, and its replies
+abbrev pub pass_line : ℕ → List ℕ
+pass_line k = codes "pass " ++ (decimal k ++ codes "\n")
+
+abbrev pub replies_text : ℕ → List (List ℕ) → List ℕ
+replies_text k [] = []
+replies_text k (text ∷ texts) = (pass_line k ++ text) ++ replies_text (k + 1) texts
+
+-- the last lines of a race: the journal with its length, and that its replay is right
+abbrev pub result_text : List Entry → List ℕ
+result_text journal = (codes "journal " ++ (decimal (length journal) ++ codes "\n")) ++ (lines_from 1 journal ++ codes "replay ok\n")
+
+-- What a race writes is the replies to its scripts, and a legal journal. Each entry is by one of the scripts, and the
+-- operations that are by a script are some of those that its lines ask for, in their order.
+pub record IsRace (limits : StoreLimits) (scripts : List (List ℕ)) (out : List ℕ) : Type 0 where
+  pub replies : List (List ℕ)
+  pub journal : List Entry
+  pub is : out ≡ replies_text 0 replies ++ result_text journal
+  pub replied : HaveReplied limits 0 scripts replies
+  pub legal : IsLegal journal
+  pub by : AllBelow (length scripts) journal
+  pub own : (k : ℕ) → k < length scripts → IsPartOf (operations (by_pass k journal)) (write_ops (slice_index_or scripts k []))
+
+-- What a fault leaves: where the limits or a script's length are at fault, nothing was written.
+abbrev pub Stops : RunFault → Option (List ℕ) → Option (List ℕ) → Type 0
+Stops Limits old new = Keeps old new
+Stops Read old new = ⊥
+Stops TooLong old new = Keeps old new
+Stops Write old new = Unit {0}
+Stops Memory old new = Unit {0}

@@ -1,0 +1,66 @@
+-- What a run reads, writes and leaves.
+use Rattle.std.specs.Prelude.{◌==◌, ◌≡◌, ℕ, ◌<◌, ◌^◌, Bool, List, ◌++◌, length, IfSome}
+use Rattle.std.specs.Io.KnownBytes.{Appends, Keeps, Consumes, IsAtEnd}
+use Rattle.std.specs.declared.option.Option.{Option}
+use Rattle.be_serving.specs.Output.{Session, opening, Answered, Outputs, IsFrontOfOutput}
+use Rattle.be_language.specs.Request.{lines_of}
+use Rattle.be_serving.specs.Store.{Store}
+use Rattle.be_serving.specs.declared.faults.RunFault.{RunFault}
+use Rattle.be_serving.specs.declared.faults.RunFault.TheVariants.{Limits, Read, TooLong, Write, Memory}
+
+-- what a writer holds grew by a text of which P holds
+pub record Wrote (old new : Option (List ℕ)) (P : List ℕ → Type 0) : Type 0 where
+  pub out : List ℕ
+  pub appended : Appends old new out
+  pub is : P out
+
+-- a front of the bytes
+abbrev pub IsFrontOf : List ℕ → List ℕ → Type 0
+IsFrontOf bytes front = (rest : List ℕ) × (bytes ≡ front ++ rest)
+
+-- a front of a text by which a line may be answered
+abbrev pub IsFrontOfAnswer : Session → List ℕ → List ℕ → Type 0
+IsFrontOfAnswer s line front = (after : Session) × (rest : List ℕ) × Answered s line after (front ++ rest)
+
+abbrev pub is_line_end : ℕ → Bool
+is_line_end c = c == 10
+
+-- these are all the bytes that the reader had
+abbrev pub ReadsAll : Option (List ℕ) → Option (List ℕ) → List ℕ → Type 0
+ReadsAll old new bytes = Consumes old new bytes × IsAtEnd new
+
+-- a fault before the script was read whole, or too many bytes
+abbrev pub ReadFault : RunFault → Option (List ℕ) → Option (List ℕ) → Type 0
+ReadFault Limits old new = ⊥
+ReadFault Read old new = Unit {0}
+ReadFault TooLong old new = (bytes : List ℕ) × Consumes old new bytes × (2 ^ 20 < length bytes)
+ReadFault Write old new = ⊥
+ReadFault Memory old new = Unit {0}
+
+-- What a fault leaves. Where the script was not read whole or was too long, nothing was written; else the front of an output.
+abbrev pub Leaves : RunFault → Store → Option (List ℕ) → Option (List ℕ) → Option (List ℕ) → Type 0
+Leaves Limits store input old new = Keeps old new
+Leaves Read store input old new = Keeps old new
+Leaves TooLong store input old new = Keeps old new × IfSome input (λ script. 2 ^ 20 < length script)
+Leaves Write store input old new = IfSome input (λ script. Wrote old new (IsFrontOfOutput store script))
+Leaves Memory store input old new = IfSome input (λ script. Wrote old new (IsFrontOfOutput store script))
+
+-- a fault after the script was read
+abbrev pub IsLate : RunFault → Type 0
+IsLate Limits = ⊥
+IsLate Read = ⊥
+IsLate TooLong = ⊥
+IsLate Write = Unit {0}
+IsLate Memory = Unit {0}
+
+-- a fault other than a limit out of range
+abbrev pub IsOther : RunFault → Type 0
+IsOther Limits = ⊥
+IsOther Read = Unit {0}
+IsOther TooLong = Unit {0}
+IsOther Write = Unit {0}
+IsOther Memory = Unit {0}
+
+-- what is written, and any output of the lines left, is an output of the script
+abbrev pub Completes : Store → List ℕ → Session → List ℕ → List ℕ → Type 0
+Completes store script s left out = (last : Session) (more : List ℕ) → Outputs s (lines_of left) last more → Outputs (opening store) (lines_of script) last (out ++ more)

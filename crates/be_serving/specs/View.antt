@@ -1,0 +1,30 @@
+-- What a script has beside its store, as a session.
+use Rattle.std.specs.Prelude.{List, [], Some, None, unwrap_or}
+use Rattle.std.specs.Option.{option_map}
+use Rattle.std.specs.declared.option.Option.{Option}
+use Rattle.be_volume.specs.declared.ops.Op.{Op}
+use Rattle.be_store.specs.Live.{LiveQuery}
+use Rattle.be_serving.specs.Output.{Session}
+use Rattle.be_serving.specs.Store.{Store}
+use Rattle.be_serving.specs.declared.client.Client.{Client}
+
+-- the operations of an open batch
+abbrev pub queue : Client → Option (List Op)
+queue client = option_map (λ ops. ops.items) client.batch
+
+abbrev pub queued_ops : Client → List Op
+queued_ops client = unwrap_or (queue client) []
+
+-- a store, and what a script has beside it, as a session
+abbrev pub session : Store → Client → Session
+session store client = record { store = store; batch = queue client; live = client.live }
+
+-- the same from its parts: with no batch open, with these operations queued, and with this live query
+abbrev pub unbatched : Store → Option LiveQuery → Session
+unbatched store l = record { store = store; batch = None; live = l }
+
+abbrev pub batched : Store → List Op → Option LiveQuery → Session
+batched store ops l = record { store = store; batch = Some ops; live = l }
+
+abbrev pub watched : Store → Option (List Op) → LiveQuery → Session
+watched store batch l = record { store = store; batch = batch; live = Some l }

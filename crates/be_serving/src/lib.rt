@@ -1,0 +1,26 @@
+//! What runs scripts.
+//!
+//! [`run`] reads a script whole, runs its lines in order on a shared store of its own, from that store's one pass, and
+//! writes the replies. What a script may be answered is one definition (`Output` in specs/), and `run` is proved to write
+//! nothing else. [`race`] runs several scripts at once, each on a thread of its own and from a pass of its own of one
+//! store, and writes their replies and the store's journal, which is proved to be legal and to have nothing that the
+//! scripts don't ask for. From the bottom up: what serves a line, the reply to it, the run, and the race.
+#![tactic(auto)]
+
+mod answers;
+mod client;
+mod faults;
+mod gates;
+pub mod laws;
+mod limits;
+mod races;
+mod runs;
+mod stores;
+
+pub use be_store::Limits;
+pub use faults::RunFault;
+pub use gates::{Gate, OpenGate};
+pub use limits::are_within;
+pub use races::race;
+pub use runs::{run, serve};
+pub use stores::Server;
