@@ -6,7 +6,6 @@ use Rattle.be_query.specs.Faults.{fault}
 use Rattle.be_query.specs.View.{IsMemory}
 use Rattle.be_store.specs.History.{IsReason, Learns}
 use Rattle.be_table.specs.Place.{Opened}
-use Rattle.be_table.specs.Seats.{pinned_number}
 use Rattle.be_table.specs.declared.pass.Knowledge.{Knowledge}
 use Rattle.be_value.specs.declared.refusals.Refusal.{Refusal}
 use Rattle.be_value.specs.declared.refusals.Refusal.TheVariants.{OutOfMemory}

@@ -1,0 +1,47 @@
+-- What a query's answer is to C.
+use Rattle.std.proofs.Common.{◌≡◌, ◌⊎◌, ℕ, List, [], ◌∷◌, ◌++◌, ◌+◌, ◌<◌, length, map, take, get_or, Option, Some, None, Result, Ok, Err, inl, inr, ap, sym, subst, ◌∙◌}
+use Rattle.std.proofs.lemmas.List.{map-append, take_more}
+use Rattle.be_session.specs.Fault.{fault_code}
+use Rattle.be_session.specs.Sitting.{AtPin, Tells}
+use Rattle.be_session.specs.declared.faults.Fault.{Fault}
+use Rattle.be_session.specs.declared.faults.Fault.TheVariants.{NotPinned, AlreadyPinned, NoPass, BadCount, NotUtf8, NoOperation, NoKind, NoValue, BadPart, Refused}
+use Rattle.be_value.specs.Refusal.{refusal_number}
+use Rattle.be_value.specs.declared.refusals.Refusal.{Refusal}
+use Rattle.be_value.specs.declared.refusals.Refusal.TheVariants.{OutOfMemory}
+use Rattle.bestore_c.specs.Calls.{Found, Scanned}
+use Rattle.bestore_c.specs.Places.{over}
+
+-- one more of what is mapped
+pub map_next : {A B : Type 0} (f : A → B) (xs : List A) (i : ℕ) (d : A) (ys : List B) → i < length xs → ys ≡ map f (take i xs)
+    → ys ++ f (get_or xs i d) ∷ [] ≡ map f (take (i + 1) xs)
+map_next f xs i d ys low is =
+    ap (λ zs. zs ++ f (get_or xs i d) ∷ []) is ∙ sym (ap (map f) (take_more xs i d low) ∙ map-append f (take i xs) (get_or xs i d ∷ []))
+
+-- an answer that was told
+pub found_nodes : {X : Type 0} (view : X → List ℕ) (pin : Option ℕ) (x : X) (meant : Result (List ℕ) Refusal) (places filled : List ℕ) (count code : ℕ)
+    → AtPin pin (Ok x) (Tells view (Ok x) meant) → code ≡ 0 → count ≡ length (view x) → filled ≡ over (view x) places
+    → Found pin meant places filled count code
+found_nodes view None x meant places filled count code pinned done counted put = cc
+found_nodes view (Some n) x meant places filled count code pinned done counted put =
+    inr (subst (λ m. Scanned m places filled count code) (sym pinned) (done, counted, put))
+
+-- a fault in place of one
+pub found_fault : {X : Type 0} (view : X → List ℕ) (pin : Option ℕ) (e : Fault) (meant : Result (List ℕ) Refusal) (places filled : List ℕ) (count code : ℕ)
+    → AtPin pin (Err e) (Tells view (Err e) meant) → code ≡ fault_code e
+    → Found pin meant places filled count code
+found_fault view None e meant places filled count code pinned is = let same : e ≡ NotPinned = cc in is ∙ ap fault_code same
+found_fault view (Some n) NotPinned meant places filled count code pinned is = absurd pinned
+found_fault view (Some n) AlreadyPinned meant places filled count code pinned is = absurd pinned
+found_fault view (Some n) NoPass meant places filled count code pinned is = absurd pinned
+found_fault view (Some n) BadCount meant places filled count code pinned is = absurd pinned
+found_fault view (Some n) NotUtf8 meant places filled count code pinned is = absurd pinned
+found_fault view (Some n) NoOperation meant places filled count code pinned is = absurd pinned
+found_fault view (Some n) NoKind meant places filled count code pinned is = absurd pinned
+found_fault view (Some n) NoValue meant places filled count code pinned is = absurd pinned
+found_fault view (Some n) BadPart meant places filled count code pinned is = absurd pinned
+found_fault view (Some n) (Refused why) meant places filled count code pinned is =
+    let known : (why ≡ OutOfMemory) ⊎ (meant ≡ Err why) = pinned in
+    elim known [
+      | inl none ↦ inl (is ∙ ap refusal_number none)
+      | inr told ↦ inr (subst (λ m. Scanned m places filled count code) (sym told) is)
+    ]
