@@ -127,6 +127,9 @@ static void values(void)
     CHECK(bes_read(&pass, 1, "", &told, bytes, 255) == BES_NAME_LENGTH);
     CHECK(bes_read(&pass, 1, "\xff", &told, bytes, 255) == BES_NOT_UTF8);
     CHECK(bes_unpin(&pass) == BES_OK && bes_unpin(&pass) == BES_NOT_PINNED);
+    CHECK(bes_set_mime(&pass, 1, "m", "a/b") == BES_OK && bes_set_raw(&pass, 1, "r", "\0", 1) == BES_OK);
+    CHECK(bes_set_int64(&pass, 1, "l", -1) == BES_OK && bes_set_uint32(&pass, 1, "u", 1) == BES_OK);
+    CHECK(bes_set_uint64(&pass, 1, "v", UINT64_MAX) == BES_OK);
     CHECK(bes_unset(&pass, 1, "raw") == BES_OK && bes_unset(&pass, 1, "raw") == BES_NO_ATTRIBUTE);
     CHECK(bes_remove_node(&pass, 1) == BES_OK && bes_remove_node(&pass, 1) == BES_NO_NODE);
     CHECK(bes_close(&pass) == BES_OK);
@@ -172,6 +175,8 @@ static void spent(void)
 
 enum { WRITES = 300 };
 
+static int rounds = 400; /* fewer where the program is told to be short */
+
 static void *writer(void *arg)
 {
     bes_pass *pass = arg;
@@ -194,7 +199,7 @@ static void *reader(void *arg)
 {
     bes_pass *pass = arg;
     uint64_t seen = 0, last = 0, number = 0, count = 0, again = 0, nodes[WRITES], same[WRITES];
-    for (int round = 0; round < 400; round++) {
+    for (int round = 0; round < rounds; round++) {
         CHECK(bes_pin(pass, &number) == BES_OK && number >= seen);
         seen = number;
         CHECK(bes_find(pass, "MAIL:from==\"ann\"", nodes, WRITES, &count) == BES_OK);
@@ -225,8 +230,10 @@ static void threads(void)
     CHECK(bes_close(&passes[3]) == BES_OK);
 }
 
-int main(void)
+int main(int argc, char **argv)
 {
+    if (argc > 1 && strcmp(argv[1], "short") == 0)
+        rounds = 20;
     closed_handle();
     opening();
     wrong_writes();

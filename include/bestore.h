@@ -32,6 +32,7 @@ extern "C" {
 
 #define BES_VERSION_MAJOR 0
 #define BES_VERSION_MINOR 1
+#define BES_VERSION "0.1.0"
 
 /* Both fields are the library's. */
 typedef struct bes_pass {
@@ -349,6 +350,18 @@ static inline uint32_t bes_set_text(bes_pass *pass, uint64_t node, const char *n
     return bes_apply_one(pass, BES_SET, node, name, BES_STRING_TYPE, 0, text, strlen(text), &made);
 }
 
+static inline uint32_t bes_set_mime(bes_pass *pass, uint64_t node, const char *name, const char *text)
+{
+    uint64_t made = 0;
+    return bes_apply_one(pass, BES_SET, node, name, BES_MIME_STRING_TYPE, 0, text, strlen(text), &made);
+}
+
+static inline uint32_t bes_set_raw(bes_pass *pass, uint64_t node, const char *name, const void *value, size_t length)
+{
+    uint64_t made = 0;
+    return bes_apply_one(pass, BES_SET, node, name, BES_RAW_TYPE, 0, value, length, &made);
+}
+
 static inline uint32_t bes_set_int32(bes_pass *pass, uint64_t node, const char *name, int32_t value)
 {
     uint64_t made = 0;
@@ -359,6 +372,18 @@ static inline uint32_t bes_set_int64(bes_pass *pass, uint64_t node, const char *
 {
     uint64_t made = 0;
     return bes_apply_one(pass, BES_SET, node, name, BES_INT64_TYPE, (uint64_t)value, NULL, 0, &made);
+}
+
+static inline uint32_t bes_set_uint32(bes_pass *pass, uint64_t node, const char *name, uint32_t value)
+{
+    uint64_t made = 0;
+    return bes_apply_one(pass, BES_SET, node, name, BES_UINT32_TYPE, value, NULL, 0, &made);
+}
+
+static inline uint32_t bes_set_uint64(bes_pass *pass, uint64_t node, const char *name, uint64_t value)
+{
+    uint64_t made = 0;
+    return bes_apply_one(pass, BES_SET, node, name, BES_UINT64_TYPE, value, NULL, 0, &made);
 }
 
 static inline uint32_t bes_unset(bes_pass *pass, uint64_t node, const char *name)

@@ -60,6 +60,26 @@ static const char *header(char *line, const char *name)
     return line + length;
 }
 
+/* The seconds since 1970 of a date as "Mon, 3 Mar 2025 09:12:00 +0000", or -1 where it is none. */
+static int64_t seconds(const char *date)
+{
+    static const char months[] = "JanFebMarAprMayJunJulAugSepOctNovDec";
+    const char *comma = strchr(date, ','), *found;
+    char name[4] = "";
+    int64_t year, month, days;
+    int day, shown_year, hour, minute, second, zone;
+    if (sscanf(comma ? comma + 1 : date, "%d %3s %d %d:%d:%d %d", &day, name, &shown_year, &hour, &minute, &second, &zone) != 7)
+        return -1;
+    found = strstr(months, name);
+    if (!found || strlen(name) != 3)
+        return -1;
+    month = (found - months) / 3 - 2; /* counted from March, so that a leap day comes last in its year */
+    year = month < 0 ? shown_year - 1 : shown_year;
+    month = month < 0 ? month + 12 : month;
+    days = 365 * year + year / 4 - year / 100 + year / 400 + (153 * month + 2) / 5 + day - 719469;
+    return ((days * 24 + hour) * 60 + minute - zone / 100 * 60 - zone % 100) * 60 + second;
+}
+
 /* Writes a mail's attributes at once, and begins an empty batch for the next. */
 static void write_mail(bes_pass *pass, bes_batch *batch, uint64_t *number)
 {
@@ -78,7 +98,7 @@ static uint64_t read_mails(bes_pass *pass, FILE *file)
 {
     static bes_batch batch;
     static const char *const names[][2] = {
-        {"From: ", "MAIL:from"}, {"To: ", "MAIL:to"}, {"Subject: ", "MAIL:subject"}, {"Date: ", "MAIL:when"}
+        {"From: ", "MAIL:from"}, {"To: ", "MAIL:to"}, {"Subject: ", "MAIL:subject"}
     };
     char line[4096];
     uint64_t number = 0, node = 0;
@@ -99,6 +119,8 @@ static uint64_t read_mails(bes_pass *pass, FILE *file)
             if (text)
                 stop_at(text, bes_batch_set_text(&batch, node, names[i][1], text));
         }
+        if (in_head && header(line, "Date: "))
+            stop_at("batch", bes_batch_set_int64(&batch, node, "MAIL:when", seconds(line + strlen("Date: "))));
     }
     write_mail(pass, &batch, &number);
     return number;
@@ -118,7 +140,7 @@ static void print(bes_pass *pass, const char *query)
 
 int main(int argc, char **argv)
 {
-    static const char *const indexed[] = {"MAIL:from", "MAIL:to", "MAIL:subject", "MAIL:when"};
+    static const char *const indexed[] = {"MAIL:from", "MAIL:to", "MAIL:subject"};
     bes_pass pass = BES_PASS_INIT;
     struct watch watch = {BES_PASS_INIT, argv[argc > 2 ? 2 : 0], 0, PTHREAD_MUTEX_INITIALIZER, 0};
     pthread_t running;
@@ -132,6 +154,7 @@ int main(int argc, char **argv)
     stop_at("another", bes_another(&pass, &watch.pass));
     for (size_t i = 0; i < sizeof indexed / sizeof *indexed; i++)
         stop_at(indexed[i], bes_make_index(&pass, indexed[i], BES_STRING_TYPE));
+    stop_at("MAIL:when", bes_make_index(&pass, "MAIL:when", BES_INT64_TYPE));
     if (pthread_create(&running, NULL, watcher, &watch) != 0)
         return 1;
     last = read_mails(&pass, file);
