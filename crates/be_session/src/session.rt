@@ -19,7 +19,7 @@ use be_query::{Query, parse};
 use be_store::{Limits, Pass, Store};
 use be_value::{Kind, Name, Refusal, Value};
 use be_volume::{Done, Op};
-use std::alloc::Global;
+use std::alloc::{AllocFailed, Global};
 use std::marker::Model;
 use std::sync::Arc;
 
@@ -85,12 +85,13 @@ impl Session {
         seated(alloc, store, pass, passes)
     }
 
-    /// A session of the same store, with a pass that had none. NoPass where each pass has one, and OutOfMemory.
+    /// A session of the same store, with a pass that had none, in a box. NoPass where each pass has one, and OutOfMemory; no
+    /// pass is lost then.
     ///
     /// It is asked of the session that opened the store: the others have no passes to give.
-    pub fn another(&mut self, alloc: Global) -> Result<Session, Fault>
+    pub fn another(&mut self, alloc: Global) -> Result<Box<Session, Global>, Fault>
         ensures same { (self.new.store ≡ self.old.store) × (self.new.knows ≡ self.old.knows) }
-        ensures ok { IfOk result (λ s. (s.store ≡ self.old.store) × (s.spare ≡ 0) × (self.old.spare ≡ self.new.spare + 1)) }
+        ensures ok { IfOk result (λ s. (s.value.store ≡ self.old.store) × (s.value.spare ≡ 0) × (self.old.spare ≡ self.new.spare + 1)) }
         ensures err { IfErr result (λ e. (self.new ≡ self.old) × ((e ≡ Refused OutOfMemory) ⊎ ((e ≡ NoPass) × (self.old.spare ≡ 0)))) }
     {
         let Ok(store) = Arc::try_clone(&self.store) else {
@@ -99,11 +100,20 @@ impl Session {
         let Some(pass) = self.spare.pop() else {
             return Err(Fault::NoPass);
         };
-        Ok(Session {
-            store,
+        let spare = Vec::new(alloc);
+        let AllocFailed { value } = match Box::new(alloc, Session { store, pass, spare }) {
+            Ok(session) => return Ok(session),
+            Err(failed) => failed,
+        };
+        let Session {
+            store: _store,
             pass,
-            spare: Vec::new(alloc),
-        })
+            spare: _spare,
+        } = value;
+        let Ok(()) = self.spare.push(pass) else {
+            unreachable!()
+        };
+        Err(Fault::Refused(Refusal::OutOfMemory))
     }
 
     /// Pins the version that is current, and answers its number: how many writes it has.

@@ -88,16 +88,13 @@ pub extern "C" fn bes_another(alloc: Global, pass: &mut Handle, other: &mut Hand
     let made = session.another(alloc);
     pass.owned = Owned::of(session);
     match made {
-        Ok(session) => match Box::new(alloc, session) {
-            Ok(session) => {
-                *other = Handle {
-                    live: true,
-                    owned: Owned::of(session),
-                };
-                DONE
-            }
-            Err(_) => NO_MEMORY,
-        },
+        Ok(session) => {
+            *other = Handle {
+                live: true,
+                owned: Owned::of(session),
+            };
+            DONE
+        }
         Err(fault) => fault.code(),
     }
 }
