@@ -12,6 +12,7 @@ static void closed_handle(void)
     uint64_t number = 7, nodes[2] = {7, 7};
     bes_attribute told = {7, 7, 7};
     uint8_t bytes[2] = {7, 7};
+    bes_item item = {0, 0, 0, 0};
     bes_operation op;
     memset(&op, 0, sizeof op);
     CHECK(bes_pin(&pass, &number) == BES_CLOSED && number == 7);
@@ -20,6 +21,7 @@ static void closed_handle(void)
     CHECK(bes_another(&pass, &other) == BES_CLOSED);
     CHECK(bes_apply(&pass, &op, 1, bytes, 0, nodes, 2, &number) == BES_CLOSED && nodes[0] == 7);
     CHECK(bes_find(&pass, "a==1", nodes, 2, &number) == BES_CLOSED && number == 7);
+    CHECK(bes_query_items(&pass, &item, 1, bytes, 0, nodes, 2, &number) == BES_CLOSED && number == 7);
     CHECK(bes_read(&pass, 1, "a", &told, bytes, 2) == BES_CLOSED && told.code == 7 && bytes[0] == 7);
 }
 
@@ -139,6 +141,8 @@ static void queries(void)
 {
     bes_pass pass = BES_PASS_INIT;
     uint64_t node = 0, number = 0, count = 0, nodes[4] = {7, 7, 7, 7};
+    bes_item less[3] = {{BES_ITEM_ATTRIBUTE, 0, 4, 0}, {BES_ITEM_INT64, 0, 0, (uint64_t)-1}, {BES_ITEM_LT, 0, 0, 0}};
+    bes_item none = {16, 0, 0, 0};
     CHECK(bes_open(64, 1, 100, &pass) == BES_OK);
     CHECK(bes_make_index(&pass, "size", BES_INT32_TYPE) == BES_OK);
     CHECK(bes_make_index(&pass, "size", BES_INT32_TYPE) == BES_INDEX_EXISTS);
@@ -152,6 +156,10 @@ static void queries(void)
     CHECK(nodes[0] == 1 && nodes[1] == 2 && nodes[2] == 7);
     CHECK(bes_find(&pass, "size<-1", nodes, 4, &count) == BES_OK && count == 2 && nodes[0] == 2 && nodes[1] == 3);
     CHECK(nodes[2] == 7);
+    CHECK(bes_query_items(&pass, less, 3, (const uint8_t *)"size", 4, nodes, 4, &count) == BES_OK && count == 2 && nodes[0] == 2);
+    CHECK(bes_query_items(&pass, less, 2, (const uint8_t *)"size", 4, nodes, 4, &count) == BES_BAD_RPN && count == 2);
+    CHECK(bes_query_items(&pass, less, 3, (const uint8_t *)"size", 3, nodes, 4, &count) == BES_BAD_PART);
+    CHECK(bes_query_items(&pass, &none, 1, (const uint8_t *)"", 0, nodes, 4, &count) == BES_NO_ITEM);
     CHECK(bes_find(&pass, "size<", nodes, 4, &count) == BES_SYNTAX && count == 2);
     CHECK(bes_find(&pass, "name==1", nodes, 4, &count) == BES_NOT_COVERED);
     CHECK(bes_find(&pass, "\xff", nodes, 4, &count) == BES_NOT_UTF8);

@@ -33,10 +33,12 @@ _MEANINGS = {
     9: "the journal is at its limit", 10: "out of memory", 11: "no page is free", 12: "the query leaves the grammar",
     13: "a pattern is malformed", 14: "the query is too long", 15: "the query is too deep", 16: "too many comparisons",
     17: "no index serves the query", 18: "a name has not 1 to 63 bytes", 19: "a value has more than 255 bytes",
-    20: "a text has a zero byte", 21: "a limit is out of its range", 64: "the handle is closed", 65: "the handle is open",
+    20: "a text has a zero byte", 21: "a limit is out of its range",
+    22: "the items build no query", 64: "the handle is closed", 65: "the handle is open",
     66: "the pass isn't pinned", 67: "the pass is pinned", 68: "each pass is in use",
     69: "a write has not 1 to 64 operations", 70: "the bytes are no UTF-8", 71: "no such operation", 72: "no such kind",
     73: "the number doesn't fit the kind", 74: "a part isn't within the bytes",
+    75: "no such item",
 }
 
 

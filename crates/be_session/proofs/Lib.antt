@@ -1,2 +1,3 @@
 pub mod Spare
 pub mod Meant
+pub mod Built

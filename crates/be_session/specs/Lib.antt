@@ -2,3 +2,4 @@ pub mod Fault
 pub mod Meaning
 pub mod Sitting
 pub mod Operations
+pub mod Items

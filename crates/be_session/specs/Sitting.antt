@@ -11,7 +11,7 @@ use Rattle.be_value.specs.declared.refusals.Refusal.{Refusal}
 use Rattle.be_value.specs.declared.refusals.Refusal.TheVariants.{OutOfMemory}
 use Rattle.be_volume.specs.declared.ops.Op.{Op}
 use Rattle.be_session.specs.declared.faults.Fault.{Fault}
-use Rattle.be_session.specs.declared.faults.Fault.TheVariants.{NotPinned, AlreadyPinned, NoPass, BadCount, NotUtf8, NoOperation, NoKind, NoValue, BadPart, Refused}
+use Rattle.be_session.specs.declared.faults.Fault.TheVariants.{NotPinned, AlreadyPinned, NoPass, BadCount, NotUtf8, NoOperation, NoKind, NoValue, BadPart, NoItem, Refused}
 
 -- the store, what its pass knows, and how many of the store's passes wait here for a session of their own
 pub record Sitting : Type 0 where
@@ -31,6 +31,7 @@ IsHeldBack a c ops NoOperation = ⊥
 IsHeldBack a c ops NoKind = ⊥
 IsHeldBack a c ops NoValue = ⊥
 IsHeldBack a c ops BadPart = ⊥
+IsHeldBack a c ops NoItem = ⊥
 
 -- A read answered what is meant, seen by view, or a growth was refused; the store has no other refusal than the meant one.
 abbrev pub Tells : {X Y : Type 0} → (X → Y) → Result X Fault → Result Y Refusal → Type 0
@@ -45,6 +46,7 @@ Tells view (Err NoOperation) meant = ⊥
 Tells view (Err NoKind) meant = ⊥
 Tells view (Err NoValue) meant = ⊥
 Tells view (Err BadPart) meant = ⊥
+Tells view (Err NoItem) meant = ⊥
 
 -- NotPinned just where there is no pin; else this
 abbrev pub AtPin : {X : Type 0} → Option ℕ → Result X Fault → Type 0 → Type 0

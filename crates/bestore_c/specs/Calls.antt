@@ -3,10 +3,12 @@ use Rattle.std.specs.Prelude.{◌≡◌, ◌⊎◌, ℕ, ◌+◌, List, length, 
 use Rattle.std.specs.declared.result.Result.{Result}
 use Rattle.be_query.specs.Grammar.{Formula, IsTextOf}
 use Rattle.be_session.specs.Fault.{fault_code}
+use Rattle.be_session.specs.Items.{IsBuilt, IsUnbuilt}
 use Rattle.be_session.specs.Meaning.{IsNoName, IsValueMeant}
 use Rattle.be_session.specs.Operations.{AreMeant, IsMisspelt}
 use Rattle.be_session.specs.Sitting.{IsHeldBack, IsNoQuery, Sitting}
 use Rattle.be_session.specs.declared.faults.Fault.{Fault}
+use Rattle.be_session.specs.declared.items.PredicateItem.{PredicateItem}
 use Rattle.be_session.specs.declared.lists.Operation.{Operation}
 use Rattle.be_store.specs.History.{Accepts}
 use Rattle.be_store.specs.Passes.{HasRead, volume_pinned}
@@ -72,6 +74,13 @@ abbrev pub Finds : Sitting → Sitting → List ℕ → List ℕ → List ℕ �
 Finds s t text places filled count code =
     ((e : Fault) × (code ≡ fault_code e) × IsNoQuery text e × (t ≡ s))
     ⊎ ((query : Formula) × IsTextOf text query × HasRead s.knows t.knows
+    × Found (pinned_number s.knows.phase) (scan (volume_pinned s.knows) query) places filled count code)
+
+-- A query by its items: they are none, and then nothing has happened; or they build one, and its answer is put out.
+abbrev pub FindsBuilt : Sitting → Sitting → List PredicateItem → List ℕ → List ℕ → List ℕ → ℕ → ℕ → Type 0
+FindsBuilt s t spelled bytes places filled count code =
+    ((e : Fault) × (code ≡ fault_code e) × IsUnbuilt spelled bytes e × (t ≡ s))
+    ⊎ ((query : Formula) × IsBuilt spelled bytes query × HasRead s.knows t.knows
     × Found (pinned_number s.knows.phase) (scan (volume_pinned s.knows) query) places filled count code)
 
 -- what is there in the pinned version, if there is a pin: its type code, number and length are told, and as many of its bytes as there are places

@@ -7,8 +7,9 @@
 ghost use Rattle.std.specs.Prelude.{◌≡◌, ◌⊎◌, None};
 ghost use Rattle.be_store.specs.History.{Pins};
 ghost use Rattle.be_table.specs.Steps.{unpins};
-ghost use Rattle.bestore_c.specs.Calls.{Answers, Calls, Finds, Gives, Opens, Reads, Writes};
+ghost use Rattle.bestore_c.specs.Calls.{Answers, Calls, Finds, FindsBuilt, Gives, Opens, Reads, Writes};
 
+mod asking;
 mod handle;
 mod loose;
 mod owned;
@@ -16,7 +17,10 @@ mod places;
 #[cfg(test)]
 mod tests;
 
-use be_session::{Fault, Operation, Session, name, operations, query_of, spelled};
+use asking::tell;
+use be_session::{
+    Operation, PredicateItem, Session, name, operations, query_of, query_of_items, spelled,
+};
 use be_store::Limits;
 use handle::{Attribute, Handle};
 use owned::Owned;
@@ -209,14 +213,33 @@ pub extern "C" fn bes_query(
     let mut session = mem::replace(&mut pass.owned, Owned::none(alloc)).into_box();
     let answer = session.query(alloc, &query);
     pass.owned = Owned::of(session);
-    match answer {
-        Ok(found) => {
-            *count = found.len() as u64;
-            put(nodes, found.as_slice());
-            DONE
-        }
-        Err(fault) => fault.code(),
+    tell(answer, nodes, count)
+}
+
+/// Asks the query that items in reverse Polish order build, as `bes_query` does.
+#[unsafe(no_mangle)]
+pub extern "C" fn bes_query_items(
+    alloc: Global,
+    pass: &mut Handle,
+    spelled: &[PredicateItem],
+    bytes: &[u8],
+    nodes: &mut [u64],
+    count: &mut u64,
+) -> u32
+    ensures pass { Calls pass.old.owned.value pass.new.owned.value result (λ s t. FindsBuilt s t spelled.now bytes.now nodes.old nodes.new count.new result) }
+    ensures kept { (result ≡ 0) ⊎ ((count.new ≡ count.old) × (nodes.new ≡ nodes.old)) }
+{
+    if !pass.live {
+        return CLOSED;
     }
+    let query = match query_of_items(alloc, spelled, bytes) {
+        Ok(query) => query,
+        Err(fault) => return fault.code(),
+    };
+    let mut session = mem::replace(&mut pass.owned, Owned::none(alloc)).into_box();
+    let answer = session.query(alloc, &query);
+    pass.owned = Owned::of(session);
+    tell(answer, nodes, count)
 }
 
 /// Reads a node's attribute in the pinned version. Puts out its type code, its number and its length in bytes, and as many
