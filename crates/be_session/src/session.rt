@@ -1,10 +1,11 @@
 //! A pass with its share of the store, and its calls.
-ghost use Rattle.std.specs.Prelude.{◌≡◌, ◌⊎◌, ◌≤◌, ◌+◌, Ok, IfOk, IfErr, length, All};
-ghost use Rattle.be_session.specs.Sitting.{AtPin, IsHeldBack, IsNoQuery, Tells};
+ghost use Rattle.std.specs.Prelude.{◌≡◌, ◌⊎◌, ◌≤◌, ◌+◌, ℕ, Ok, IfOk, IfErr, length, All};
+ghost use Rattle.be_session.specs.Sitting.{AtPin, IsHeldBack, IsNoQuery, IsUnrefreshed, Tells};
 ghost use Rattle.be_session.specs.declared.faults.Fault.TheVariants.{AlreadyPinned, NoPass, NotPinned, Refused};
 ghost use Rattle.be_query.specs.Grammar.{IsTextOf};
 ghost use Rattle.be_store.specs.History.{Accepts, Pins};
-ghost use Rattle.be_store.specs.Passes.{HasRead, IsPassOf, volume_pinned};
+ghost use Rattle.be_store.specs.Live.{Refreshes};
+ghost use Rattle.be_store.specs.Passes.{HasRead, IsPassOf, IsPinnedTo, volume_pinned};
 ghost use Rattle.be_table.specs.Seats.{pinned_number};
 ghost use Rattle.be_table.specs.Steps.{unpins};
 ghost use Rattle.be_table.specs.Works.{AreNew, IsUnopened};
@@ -16,7 +17,7 @@ ghost use Rattle.be_volume.specs.Reading.{attribute, attributes_at, index_kinds}
 use crate::Fault;
 use arrayvec::ArrayVec;
 use be_query::{Query, parse};
-use be_store::{Limits, Pass, Store};
+use be_store::{Limits, Live, Pass, Store, Updates};
 use be_value::{Kind, Name, Refusal, Value};
 use be_volume::{Done, Op};
 use std::alloc::{AllocFailed, Global};
@@ -165,6 +166,21 @@ impl Session {
             return Err(Fault::NotPinned);
         };
         Ok(self.store.query(alloc, &mut self.pass, query)?.nodes)
+    }
+
+    /// Asks a live query in the pinned version, and tells which nodes came and which went since its last refresh. A fault
+    /// leaves it as it was.
+    pub fn refresh(&mut self, live: &mut Live) -> Result<Updates, Fault>
+        ensures store { (self.new.store ≡ self.old.store) × (self.new.spare ≡ self.old.spare) }
+        ensures read { HasRead self.old.knows self.new.knows }
+        ensures ok { IfOk result (λ u. Refreshes (volume_pinned self.old.knows) live.old live.new u.created.items u.removed.items) }
+        ensures pin { IfOk result (λ u. (n : ℕ) × IsPinnedTo self.old.knows n) }
+        ensures err { IfErr result (λ e. (live.new ≡ live.old) × IsUnrefreshed (pinned_number self.old.knows.phase) (scan (volume_pinned self.old.knows) live.old.query) e) }
+    {
+        let Some(_) = self.pass.pinned() else {
+            return Err(Fault::NotPinned);
+        };
+        Ok(live.refresh(&self.store, &mut self.pass)?)
     }
 
     /// A node's attribute in the pinned version, if it has one.
