@@ -1,6 +1,6 @@
 -- One item more.
 use Rattle.std.proofs.Common.{ℕ, List, [], ◌∷◌, ◌++◌, ◌<◌, ◌+◌, map, take, length, get_or, subst, sym}
-use Rattle.std.proofs.lemmas.List.{map-append, take_more}
+use Rattle.std.proofs.lemmas.List.{map_push, take_more}
 use Rattle.be_query.specs.Rpn.{Item, item_of}
 use Rattle.be_query.specs.declared.rpn.Item as code
 use Rattle.be_session.specs.Items.{AreItemsMeant, IsItemMeant}
@@ -20,5 +20,5 @@ pub items_next : (ss : List PredicateItem) (i : ℕ) (d : PredicateItem) (bytes 
     → AreItemsMeant (take (i + 1) ss) bytes (map item_of (items ++ item ∷ []))
 items_next ss i d bytes items item low are is =
     subst (λ xs. AreItemsMeant xs bytes (map item_of (items ++ item ∷ []))) (sym (take_more ss i d low))
-    (subst (λ xs. AreItemsMeant (take i ss ++ get_or ss i d ∷ []) bytes xs) (sym (map-append item_of items (item ∷ [])))
+    (subst (λ xs. AreItemsMeant (take i ss ++ get_or ss i d ∷ []) bytes xs) (sym (map_push item_of items item))
     (items_more (take i ss) (get_or ss i d) bytes (map item_of items) (item_of item) are is))

@@ -1,6 +1,6 @@
 -- What a query's answer is to C.
 use Rattle.std.proofs.Common.{◌≡◌, ◌⊎◌, ℕ, List, [], ◌∷◌, ◌++◌, ◌+◌, ◌<◌, length, map, take, get_or, Option, Some, None, Result, Ok, Err, inl, inr, ap, sym, subst, ◌∙◌}
-use Rattle.std.proofs.lemmas.List.{map-append, take_more}
+use Rattle.std.proofs.lemmas.List.{map_more}
 use Rattle.be_session.specs.Fault.{fault_code}
 use Rattle.be_session.specs.Sitting.{AtPin, Tells}
 use Rattle.be_session.specs.declared.faults.Fault.{Fault}
@@ -15,7 +15,7 @@ use Rattle.bestore_c.specs.Places.{over}
 pub map_next : {A B : Type 0} (f : A → B) (xs : List A) (i : ℕ) (d : A) (ys : List B) → i < length xs → ys ≡ map f (take i xs)
     → ys ++ f (get_or xs i d) ∷ [] ≡ map f (take (i + 1) xs)
 map_next f xs i d ys low is =
-    ap (λ zs. zs ++ f (get_or xs i d) ∷ []) is ∙ sym (ap (map f) (take_more xs i d low) ∙ map-append f (take i xs) (get_or xs i d ∷ []))
+    ap (λ zs. zs ++ f (get_or xs i d) ∷ []) is ∙ sym (map_more f xs i d low)
 
 -- an answer that was told
 pub found_nodes : {X : Type 0} (view : X → List ℕ) (pin : Option ℕ) (x : X) (meant : Result (List ℕ) Refusal) (places filled : List ℕ) (count code : ℕ)
