@@ -5,7 +5,7 @@ use Rattle.be_query.specs.Grammar.{Formula, IsTextOf}
 use Rattle.be_session.specs.Fault.{fault_code}
 use Rattle.be_session.specs.Items.{IsBuilt, IsUnbuilt}
 use Rattle.be_session.specs.Meaning.{IsNoName, IsValueMeant}
-use Rattle.be_session.specs.Operations.{AreMeant, IsMisspelt}
+use Rattle.be_session.specs.Operations.{AreMeant, AreSpelled, IsMisspelt}
 use Rattle.be_session.specs.Sitting.{IsHeldBack, IsNoQuery, Sitting}
 use Rattle.be_session.specs.declared.faults.Fault.{Fault}
 use Rattle.be_session.specs.declared.items.PredicateItem.{PredicateItem}
@@ -24,6 +24,7 @@ use Rattle.be_volume.specs.declared.ops.Done.{Done}
 use Rattle.be_volume.specs.declared.ops.Op.{Op}
 use Rattle.bestore_c.specs.Places.{node_of, over}
 use Rattle.bestore_c.specs.declared.handle.Attribute.{Attribute}
+use Rattle.bestore_c.specs.declared.handle.Counts.{Counts}
 
 -- A call of a handle that is closed leaves it closed and answers 64. One of a handle that is open leaves it open with a session of the same store, and what it makes of its session is this.
 abbrev pub Calls : Option Sitting → Option Sitting → ℕ → (Sitting → Sitting → Type 0) → Type 0
@@ -95,3 +96,12 @@ abbrev pub Reads : Sitting → Sitting → ℕ → List ℕ → Attribute → Li
 Reads s t node name told places filled code =
     ((e : Fault) × (code ≡ fault_code e) × IsNoName name e × (t ≡ s))
     ⊎ (HasRead s.knows t.knows × Shown (pinned_number s.knows.phase) (attribute (volume_pinned s.knows) node name) told places filled code)
+
+-- What a list is told as in the pinned version, if there is a pin: the operations that would make it, with how many these and their bytes are, as far as there are places; or why there is no list.
+abbrev pub Listed : {A : Type 0} → (A → Op) → Option ℕ → Result (List A) Refusal → Counts → List Operation → List Operation → List ℕ → List ℕ → ℕ → Type 0
+Listed makes None meant counts places filled byte_places bytes code = code ≡ 66
+Listed makes (Some n) (Err why) counts places filled byte_places bytes code = (code ≡ 10) ⊎ (code ≡ refusal_number why)
+Listed makes (Some n) (Ok list) counts places filled byte_places bytes code =
+    (code ≡ 10)
+    ⊎ ((code ≡ 0) × (os : List Operation) × (bs : List ℕ) × AreSpelled os bs (map makes list)
+    × (counts.operations ≡ length os) × (filled ≡ over os places) × (counts.bytes ≡ length bs) × (bytes ≡ over bs byte_places))
