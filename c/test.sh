@@ -57,6 +57,14 @@ build -O2 ../examples/c/mailbox.c -o "$work/mailbox"
     cmp - ../examples/c/mailbox.stdout
 echo "mailbox: ok"
 
+c++ -std=c++17 -O2 "${warn[@]}" -I../include ../examples/c/catalogue.cpp libbestore.a -o "$work/catalogue"
+mkdir "$work/files"
+printf 12345 >"$work/files/five.txt"
+printf 123456789 >"$work/files/nine.c"
+"$work/catalogue" "$work/files" 'size>5' 'kind==text' >"$work/said"
+printf '2 files\nsize>5: 1\n  nine.c 9\nkind==text: 1\n  five.txt 5\n' | cmp - "$work/said"
+echo "catalogue: ok"
+
 if command -v python3 >/dev/null; then
     run Python env PYTHONDONTWRITEBYTECODE=1 BESTORE_LIBRARY="$PWD/libbestore.so" python3 -W error -m unittest discover -q -s ../python
 else

@@ -14,6 +14,7 @@ time. The shared object is looked for beside this file, in ../c, and where the s
 """
 
 import ctypes
+import enum
 import os
 
 STRING = 0x43535452
@@ -140,6 +141,29 @@ def _kind_of(value):
     if isinstance(value, (bytes, bytearray)):
         return RAW
     return INT64
+
+
+class Name(str):
+    """The name of an attribute, as an item of `Version.query_items`."""
+
+
+class Operator(enum.IntEnum):
+    """What an item of `Version.query_items` does to those before it."""
+
+    EQ, NE, LT, LE, GT, GE, CONTAINS, BEGINS_WITH, ENDS_WITH, AND, OR, NOT = range(4, 16)
+
+
+def _item(item):
+    """An item's kind, number and bytes."""
+    if isinstance(item, Operator):
+        return item.value, 0, b""
+    if isinstance(item, Name):
+        return 0, 0, item.encode()
+    if isinstance(item, str):
+        return 1, 0, item.encode()
+    if item < 0:
+        return 2, _spelled(INT64, item)[0], b""
+    return 3, _spelled(UINT64, item)[0], b""
 
 
 class Batch:
@@ -270,16 +294,31 @@ class Version:
         """Gives the pin up."""
         _check(_library.bes_unpin(ctypes.byref(self._user._handle)))
 
-    def query(self, text):
-        """The nodes that meet the query, ascending."""
-        spelled, room = text.encode(), 256
+    def _find(self, call, *query):
+        room = 256
         while True:
             nodes, count = (ctypes.c_uint64 * room)(), ctypes.c_uint64()
-            _check(_library.bes_query(ctypes.byref(self._user._handle), spelled, len(spelled), nodes, room,
-                                      ctypes.byref(count)))
+            _check(call(ctypes.byref(self._user._handle), *query, nodes, room, ctypes.byref(count)))
             if count.value <= room:
                 return list(nodes[:count.value])
             room = count.value
+
+    def query(self, text):
+        """The nodes that meet the query, ascending."""
+        spelled = text.encode()
+        return self._find(_library.bes_query, spelled, len(spelled))
+
+    def query_items(self, *items):
+        """The nodes that meet the query which items in reverse Polish order build: names, texts, numbers and operators.
+
+            version.query_items(bestore.Name("size"), 5, bestore.Operator.LT)
+        """
+        spelled, texts = (_Item * max(len(items), 1))(), b""
+        for place, item in enumerate(items):
+            kind, number, text = _item(item)
+            spelled[place] = _Item(kind, len(texts), len(text), number)
+            texts += text
+        return self._find(_library.bes_query_items, spelled, len(items), texts, len(texts))
 
     def _list(self, call, *node):
         """The operations that a list is told as, each with its name and the bytes of its value."""

@@ -28,6 +28,8 @@ class Values(unittest.TestCase):
             with store.pin() as version:
                 self.assertEqual(version.attributes(node), {"name": "ann", "size": -1})
                 self.assertEqual(version.indices(), {"size": bestore.INT32})
+                self.assertEqual(version.query_items(bestore.Name("size"), -1, bestore.Operator.EQ), [node])
+                self.assertEqual(version.query_items(bestore.Name("size"), "1", bestore.Operator.CONTAINS), [node])
                 with self.assertRaises(bestore.Error):
                     version.attributes(node + 1)
 
