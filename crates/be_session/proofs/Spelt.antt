@@ -1,6 +1,6 @@
 -- Bytes that grow at the end: what lay within them stays.
-use Rattle.std.proofs.Common.{◌≡◌, ◌≤◌, ◌+◌, ◌-◌, ℕ, List, [], ◌∷◌, ◌++◌, append_assoc, arith, drop, length, length-append, length-drop, refl, sym, ap, subst, take, ◌∙◌}
-use Rattle.std.proofs.lemmas.List.{drop-append-le, drop_at, take-append-le, take_all, take_at}
+use Rattle.std.proofs.Common.{◌≡◌, ◌<◌, ◌≤◌, ◌+◌, ◌-◌, ℕ, List, [], ◌∷◌, ◌++◌, append_assoc, arith, drop, get_or, length, length-append, length-drop, refl, sym, ap, subst, take, ◌∙◌}
+use Rattle.std.proofs.lemmas.List.{drop-append-le, drop_at, map_more, take-append-le, take_all, take_at}
 use Rattle.be_volume.specs.declared.ops.Op.{Op}
 use Rattle.be_session.specs.Meaning.{IsMeant}
 use Rattle.be_session.specs.Operations.{AreSpelled, IsMeantBy, IsWithin, part}
@@ -47,3 +47,12 @@ pub spelled_next : (os : List Operation) (o : Operation) (bytes more all : List 
     → IsWithin o (length all) → IsMeantBy o all op → AreSpelled (os ++ o ∷ []) all (ops ++ op ∷ [])
 spelled_next os o bytes more all ops op are grown within is =
     spelled_more os o all ops op (subst (λ bs. AreSpelled os bs ops) (sym grown) (spelled_kept os bytes more ops are)) within is
+
+-- one more of a list that is spelled as operations
+pub listed_next : {A : Type 0} (f : A → Op) (xs : List A) (i : ℕ) (d : A) (os later : List Operation) (o : Operation) (bytes more all : List ℕ) → i < length xs
+    → AreSpelled os bytes (map f (take i xs)) → all ≡ bytes ++ more → IsWithin o (length all) → IsMeantBy o all (f (get_or xs i d)) → later ≡ os ++ o ∷ []
+    → AreSpelled later all (map f (take (i + 1) xs))
+listed_next f xs i d os later o bytes more all low are grown within is pushed =
+    subst (λ ns. AreSpelled ns all (map f (take (i + 1) xs))) (sym pushed)
+    (subst (λ ops. AreSpelled (os ++ o ∷ []) all ops) (sym (map_more f xs i d low))
+    (spelled_next os o bytes more all (map f (take i xs)) (f (get_or xs i d)) are grown within is))

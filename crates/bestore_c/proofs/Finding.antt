@@ -46,3 +46,15 @@ found_fault view (Some n) (Refused why) meant places filled count code pinned is
       | inl none ↦ inl (is ∙ ap refusal_number none)
       | inr told ↦ inr (subst (λ m. Scanned m places filled count code) (sym told) is)
     ]
+
+-- the same of an answer that is known to be one or the other
+pub found_ok : {X : Type 0} (view : X → List ℕ) (pin : Option ℕ) (answer : Result X Fault) (x : X) (meant : Result (List ℕ) Refusal) (places filled : List ℕ) (count code : ℕ)
+    → answer ≡ Ok x → AtPin pin answer (Tells view answer meant) → code ≡ 0 → count ≡ length (view x) → filled ≡ over (view x) places
+    → Found pin meant places filled count code
+found_ok {X} view pin answer x meant places filled count code is pinned =
+    found_nodes view pin x meant places filled count code (subst (λ (a : Result X Fault). AtPin pin a (Tells view a meant)) is pinned)
+
+pub found_err : {X : Type 0} (view : X → List ℕ) (pin : Option ℕ) (answer : Result X Fault) (e : Fault) (meant : Result (List ℕ) Refusal) (places filled : List ℕ) (count code : ℕ)
+    → answer ≡ Err e → AtPin pin answer (Tells view answer meant) → code ≡ fault_code e → Found pin meant places filled count code
+found_err {X} view pin answer e meant places filled count code is pinned =
+    found_fault view pin e meant places filled count code (subst (λ (a : Result X Fault). AtPin pin a (Tells view a meant)) is pinned)
