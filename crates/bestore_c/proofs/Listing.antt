@@ -15,7 +15,7 @@ use Rattle.bestore_c.specs.Places.{over}
 use Rattle.bestore_c.specs.declared.handle.Counts.{Counts}
 
 module _ {A X : Type 0} (makes : A → Op) (view : X → List A) (counts : Counts) (places filled : List Operation) (byte_places bytes : List ℕ) (code : ℕ) where
-  abbrev Told : Option ℕ → Result (List A) Refusal → Type 0
+  abbrev pub Told : Option ℕ → Result (List A) Refusal → Type 0
   Told pin meant = Listed makes pin meant counts places filled byte_places bytes code
 
   -- there was no memory for it
