@@ -12,7 +12,6 @@ static void closed_handle(void)
     uint64_t number = 7, nodes[2] = {7, 7};
     bes_attribute told = {7, 7, 7};
     uint8_t bytes[2] = {7, 7};
-    bes_item item = {0, 0, 0, 0};
     bes_operation op;
     memset(&op, 0, sizeof op);
     CHECK(bes_pin(&pass, &number) == BES_CLOSED && number == 7);
@@ -21,7 +20,6 @@ static void closed_handle(void)
     CHECK(bes_another(&pass, &other) == BES_CLOSED);
     CHECK(bes_apply(&pass, &op, 1, bytes, 0, nodes, 2, &number) == BES_CLOSED && nodes[0] == 7);
     CHECK(bes_find(&pass, "a==1", nodes, 2, &number) == BES_CLOSED && number == 7);
-    CHECK(bes_query_items(&pass, &item, 1, bytes, 0, nodes, 2, &number) == BES_CLOSED && number == 7);
     CHECK(bes_read(&pass, 1, "a", &told, bytes, 2) == BES_CLOSED && told.code == 7 && bytes[0] == 7);
 }
 
@@ -137,46 +135,10 @@ static void values(void)
     CHECK(bes_close(&pass) == BES_OK);
 }
 
-static void lists(void)
-{
-    static bes_batch batch;
-    bes_pass pass = BES_PASS_INIT;
-    bes_counts counts = {7, 7};
-    bes_operation listed[3];
-    uint8_t bytes[16];
-    uint64_t made[64], number = 0;
-    memset(listed, 7, sizeof listed);
-    CHECK(bes_attributes(&pass, 1, &counts, listed, 3, bytes, 16) == BES_CLOSED);
-    CHECK(bes_indices(&pass, &counts, listed, 3, bytes, 16) == BES_CLOSED);
-    CHECK(bes_open(64, 1, 100, &pass) == BES_OK);
-    bes_batch_clear(&batch);
-    CHECK(bes_batch_make_index(&batch, "size", BES_UINT64_TYPE) == BES_OK);
-    CHECK(bes_batch_new_node(&batch) == BES_OK);
-    CHECK(bes_batch_set_text(&batch, 1, "name", "ann") == BES_OK);
-    CHECK(bes_batch_set_uint64(&batch, 1, "size", 9) == BES_OK);
-    CHECK(bes_batch_apply(&pass, &batch, 1, made, 64, &number) == BES_OK);
-    CHECK(bes_attributes(&pass, 1, &counts, listed, 3, bytes, 16) == BES_NOT_PINNED);
-    CHECK(bes_indices(&pass, &counts, listed, 3, bytes, 16) == BES_NOT_PINNED && counts.bytes == 7);
-    CHECK(bes_pin(&pass, &number) == BES_OK);
-    CHECK(bes_attributes(&pass, 2, &counts, listed, 3, bytes, 16) == BES_NO_NODE && counts.operations == 7);
-    CHECK(bes_attributes(&pass, 1, &counts, listed, 1, bytes, 2) == BES_OK && counts.operations == 2 && counts.bytes == 11);
-    CHECK(listed[1].kind == 0x07070707 && memcmp(bytes, "na", 2) == 0);
-    CHECK(bes_attributes(&pass, 1, &counts, listed, 3, bytes, 16) == BES_OK);
-    CHECK(memcmp(bytes, "nameannsize", 11) == 0 && listed[2].kind == 0x07070707);
-    CHECK(listed[0].kind == BES_SET && listed[0].node == 1 && listed[0].code == BES_STRING_TYPE);
-    CHECK(listed[1].code == BES_UINT64_TYPE && listed[1].number == 9 && listed[1].name_at == 7);
-    CHECK(bes_apply(&pass, listed, 2, bytes, 11, made, 64, &number) == BES_OK && number == 2);
-    CHECK(bes_indices(&pass, &counts, listed, 3, bytes, 16) == BES_OK && counts.operations == 1 && counts.bytes == 4);
-    CHECK(listed[0].kind == BES_MAKE_INDEX && listed[0].code == BES_UINT64_TYPE && memcmp(bytes, "size", 4) == 0);
-    CHECK(bes_close(&pass) == BES_OK);
-}
-
 static void queries(void)
 {
     bes_pass pass = BES_PASS_INIT;
     uint64_t node = 0, number = 0, count = 0, nodes[4] = {7, 7, 7, 7};
-    bes_item less[3] = {{BES_ITEM_ATTRIBUTE, 0, 4, 0}, {BES_ITEM_INT64, 0, 0, (uint64_t)-1}, {BES_ITEM_LT, 0, 0, 0}};
-    bes_item none = {16, 0, 0, 0};
     CHECK(bes_open(64, 1, 100, &pass) == BES_OK);
     CHECK(bes_make_index(&pass, "size", BES_INT32_TYPE) == BES_OK);
     CHECK(bes_make_index(&pass, "size", BES_INT32_TYPE) == BES_INDEX_EXISTS);
@@ -190,10 +152,6 @@ static void queries(void)
     CHECK(nodes[0] == 1 && nodes[1] == 2 && nodes[2] == 7);
     CHECK(bes_find(&pass, "size<-1", nodes, 4, &count) == BES_OK && count == 2 && nodes[0] == 2 && nodes[1] == 3);
     CHECK(nodes[2] == 7);
-    CHECK(bes_query_items(&pass, less, 3, (const uint8_t *)"size", 4, nodes, 4, &count) == BES_OK && count == 2 && nodes[0] == 2);
-    CHECK(bes_query_items(&pass, less, 2, (const uint8_t *)"size", 4, nodes, 4, &count) == BES_BAD_RPN && count == 2);
-    CHECK(bes_query_items(&pass, less, 3, (const uint8_t *)"size", 3, nodes, 4, &count) == BES_BAD_PART);
-    CHECK(bes_query_items(&pass, &none, 1, (const uint8_t *)"", 0, nodes, 4, &count) == BES_NO_ITEM);
     CHECK(bes_find(&pass, "size<", nodes, 4, &count) == BES_SYNTAX && count == 2);
     CHECK(bes_find(&pass, "name==1", nodes, 4, &count) == BES_NOT_COVERED);
     CHECK(bes_find(&pass, "\xff", nodes, 4, &count) == BES_NOT_UTF8);
@@ -280,7 +238,6 @@ int main(int argc, char **argv)
     opening();
     wrong_writes();
     values();
-    lists();
     queries();
     spent();
     threads();

@@ -66,7 +66,6 @@ enum {
     BES_DATA_LENGTH = 19,     /* a value has more than 255 bytes */
     BES_HAS_NUL = 20,         /* a name or a text has a zero byte */
     BES_BAD_LIMITS = 21,      /* a limit of bes_open is out of its range */
-    BES_BAD_RPN = 22,         /* items of a predicate that build no query */
     BES_CLOSED = 64,          /* the handle is closed */
     BES_OPEN = 65,            /* the handle that was to be opened is open */
     BES_NOT_PINNED = 66,      /* the call reads, and the pass isn't pinned */
@@ -77,8 +76,7 @@ enum {
     BES_NO_OPERATION = 71,    /* the number of an operation is none */
     BES_NO_KIND = 72,         /* the type code is none */
     BES_NO_VALUE = 73,        /* the number doesn't fit the kind */
-    BES_BAD_PART = 74,        /* a name or value isn't within the bytes */
-    BES_NO_ITEM = 75          /* the number of an item of a predicate is none */
+    BES_BAD_PART = 74         /* a name or value isn't within the bytes */
 };
 
 /* The kinds of values, by the type codes of BeOS. */
@@ -115,47 +113,12 @@ typedef struct bes_operation {
     uint32_t value_length;
 } bes_operation;
 
-/* What an item of a predicate does: a predicate is items in reverse Polish order. */
-enum {
-    BES_ITEM_ATTRIBUTE = 0, /* an attribute, by the bytes of its name */
-    BES_ITEM_TEXT = 1,      /* a text */
-    BES_ITEM_INT64 = 2,     /* a number; (uint64_t)n */
-    BES_ITEM_UINT64 = 3,
-    BES_ITEM_EQ = 4,        /* 4 to 12 take an attribute and a value behind it: a comparison */
-    BES_ITEM_NE = 5,
-    BES_ITEM_LT = 6,
-    BES_ITEM_LE = 7,
-    BES_ITEM_GT = 8,
-    BES_ITEM_GE = 9,
-    BES_ITEM_CONTAINS = 10,
-    BES_ITEM_BEGINS_WITH = 11,
-    BES_ITEM_ENDS_WITH = 12,
-    BES_ITEM_AND = 13,      /* 13 and 14 take two queries, and 15 takes one */
-    BES_ITEM_OR = 14,
-    BES_ITEM_NOT = 15
-};
-
-/* An item of a predicate. Its bytes are a part of those that go with all items; what it has no use for is as in an
- * operation. */
-typedef struct bes_item {
-    uint32_t kind;
-    uint32_t at;
-    uint32_t length;
-    uint64_t number;
-} bes_item;
-
 /* What bes_get puts out of a value. */
 typedef struct bes_attribute {
     uint32_t code;    /* the type code */
     uint64_t length;  /* of a text or a raw value: how many bytes it has */
     uint64_t number;  /* of a number: the value; (int64_t)number of a signed one */
 } bes_attribute;
-
-/* How much a list has. */
-typedef struct bes_counts {
-    uint64_t operations;
-    uint64_t bytes;
-} bes_counts;
 
 /* Opens a store in memory, and the handle as its first pass. The store has so many pages of 4 KiB (8 to 16,384), which are
  * taken at once, so many passes (1 to 64), and takes so many writes (1 to 2^32 - 1).
@@ -190,29 +153,12 @@ uint32_t bes_apply(bes_pass *pass, const bes_operation *operations, size_t opera
 uint32_t bes_query(bes_pass *pass, const uint8_t *text, size_t text_length, uint64_t *nodes, size_t nodes_room,
                    uint64_t *count);
 
-/* Asks the query that items in reverse Polish order build, as bes_query does. BES_NO_ITEM, BES_BAD_PART, BES_NAME_LENGTH,
- * BES_HAS_NUL: an item is misspelt. BES_BAD_RPN, BES_BAD_PATTERN, BES_TOO_DEEP, BES_TOO_MANY: the items build no query. */
-uint32_t bes_query_items(bes_pass *pass, const bes_item *items, size_t items_count, const uint8_t *bytes, size_t bytes_count,
-                         uint64_t *nodes, size_t nodes_room, uint64_t *count);
-
 /* Reads a node's attribute in the pinned version: its type code, number and length, and its first bytes, as far as bytes
  * has room (255 are enough for every value). Takes one descent of a tree.
  * BES_CLOSED, BES_NOT_PINNED, BES_NO_ATTRIBUTE (also where there is no such node), BES_NOT_UTF8, BES_NAME_LENGTH,
  * BES_HAS_NUL. */
 uint32_t bes_get(bes_pass *pass, uint64_t node, const uint8_t *name, size_t name_length, bes_attribute *attribute,
                  uint8_t *bytes, size_t bytes_room);
-
-/* Lists a node's attributes in the pinned version, by ascending names: as the operations that set them, with the bytes that
- * their names and values are parts of, as for bes_apply. Puts out how many operations and bytes there are, and of both as many
- * as there is room for: where there are more, the same call with more room answers the same.
- * BES_CLOSED, BES_NOT_PINNED, BES_NO_NODE, BES_NO_MEMORY. */
-uint32_t bes_attributes(bes_pass *pass, uint64_t node, bes_counts *counts, bes_operation *operations, size_t operations_room,
-                        uint8_t *bytes, size_t bytes_room);
-
-/* Lists the indices of the pinned version, by ascending names, as the operations that make them; else as bes_attributes.
- * BES_CLOSED, BES_NOT_PINNED, BES_NO_MEMORY. */
-uint32_t bes_indices(bes_pass *pass, bes_counts *counts, bes_operation *operations, size_t operations_room, uint8_t *bytes,
-                     size_t bytes_room);
 
 /* What an answer means, in English. */
 static inline const char *bes_strerror(uint32_t answer)
@@ -222,14 +168,12 @@ static inline const char *bes_strerror(uint32_t answer)
         "no such index", "too many indices", "no index may have this kind", "the journal is at its limit", "out of memory",
         "no page is free", "the query leaves the grammar", "a pattern is malformed", "the query is too long",
         "the query is too deep", "too many comparisons", "no index serves the query", "a name has not 1 to 63 bytes",
-        "a value has more than 255 bytes", "a text has a zero byte", "a limit is out of its range",
-        "the items build no query"
+        "a value has more than 255 bytes", "a text has a zero byte", "a limit is out of its range"
     };
     static const char *const faults[] = {
         "the handle is closed", "the handle is open", "the pass isn't pinned", "the pass is pinned", "each pass is in use",
         "a write has not 1 to 64 operations", "the bytes are no UTF-8", "no such operation", "no such kind",
-        "the number doesn't fit the kind", "a part isn't within the bytes",
-        "no such item"
+        "the number doesn't fit the kind", "a part isn't within the bytes"
     };
     if (answer < sizeof refusals / sizeof *refusals)
         return refusals[answer];

@@ -14,7 +14,6 @@ time. The shared object is looked for beside this file, in ../c, and where the s
 """
 
 import ctypes
-import enum
 import os
 
 STRING = 0x43535452
@@ -34,12 +33,10 @@ _MEANINGS = {
     9: "the journal is at its limit", 10: "out of memory", 11: "no page is free", 12: "the query leaves the grammar",
     13: "a pattern is malformed", 14: "the query is too long", 15: "the query is too deep", 16: "too many comparisons",
     17: "no index serves the query", 18: "a name has not 1 to 63 bytes", 19: "a value has more than 255 bytes",
-    20: "a text has a zero byte", 21: "a limit is out of its range",
-    22: "the items build no query", 64: "the handle is closed", 65: "the handle is open",
+    20: "a text has a zero byte", 21: "a limit is out of its range", 64: "the handle is closed", 65: "the handle is open",
     66: "the pass isn't pinned", 67: "the pass is pinned", 68: "each pass is in use",
     69: "a write has not 1 to 64 operations", 70: "the bytes are no UTF-8", 71: "no such operation", 72: "no such kind",
     73: "the number doesn't fit the kind", 74: "a part isn't within the bytes",
-    75: "no such item",
 }
 
 
@@ -63,14 +60,6 @@ class _Operation(ctypes.Structure):
     ]
 
 
-class _Counts(ctypes.Structure):
-    _fields_ = [("operations", ctypes.c_uint64), ("bytes", ctypes.c_uint64)]
-
-
-class _Item(ctypes.Structure):
-    _fields_ = [("kind", ctypes.c_uint32), ("at", ctypes.c_uint32), ("length", ctypes.c_uint32), ("number", ctypes.c_uint64)]
-
-
 class _Attribute(ctypes.Structure):
     _fields_ = [("code", ctypes.c_uint32), ("length", ctypes.c_uint64), ("number", ctypes.c_uint64)]
 
@@ -91,11 +80,7 @@ def _load():
     library.bes_apply.argtypes = [handle, ctypes.POINTER(_Operation), size, text, size, words, size, words]
     library.bes_query.argtypes = [handle, text, size, words, size, words]
     library.bes_get.argtypes = [handle, word, text, size, ctypes.POINTER(_Attribute), text, size]
-    library.bes_query_items.argtypes = [handle, ctypes.POINTER(_Item), size, text, size, words, size, words]
-    listed = [ctypes.POINTER(_Counts), ctypes.POINTER(_Operation), size, text, size]
-    library.bes_attributes.argtypes = [handle, word] + listed
-    library.bes_indices.argtypes = [handle] + listed
-    for call in ("open", "another", "close", "pin", "unpin", "apply", "query", "query_items", "get", "attributes", "indices"):
+    for call in ("open", "another", "close", "pin", "unpin", "apply", "query", "get"):
         getattr(library, "bes_" + call).restype = ctypes.c_uint32
     return library
 
@@ -123,17 +108,6 @@ def _spelled(code, value):
     return value % 2**64, b""
 
 
-def _value(code, number, value):
-    """The value that these spell."""
-    if code in (STRING, MIME):
-        return value.decode()
-    if code == RAW:
-        return value
-    if code in (INT32, INT64) and number >= 2**63:
-        return number - 2**64
-    return number
-
-
 def _kind_of(value):
     """The kind of a value that is given without one."""
     if isinstance(value, str):
@@ -141,29 +115,6 @@ def _kind_of(value):
     if isinstance(value, (bytes, bytearray)):
         return RAW
     return INT64
-
-
-class Name(str):
-    """The name of an attribute, as an item of `Version.query_items`."""
-
-
-class Operator(enum.IntEnum):
-    """What an item of `Version.query_items` does to those before it."""
-
-    EQ, NE, LT, LE, GT, GE, CONTAINS, BEGINS_WITH, ENDS_WITH, AND, OR, NOT = range(4, 16)
-
-
-def _item(item):
-    """An item's kind, number and bytes."""
-    if isinstance(item, Operator):
-        return item.value, 0, b""
-    if isinstance(item, Name):
-        return 0, 0, item.encode()
-    if isinstance(item, str):
-        return 1, 0, item.encode()
-    if item < 0:
-        return 2, _spelled(INT64, item)[0], b""
-    return 3, _spelled(UINT64, item)[0], b""
 
 
 class Batch:
@@ -294,53 +245,16 @@ class Version:
         """Gives the pin up."""
         _check(_library.bes_unpin(ctypes.byref(self._user._handle)))
 
-    def _find(self, call, *query):
-        room = 256
+    def query(self, text):
+        """The nodes that meet the query, ascending."""
+        spelled, room = text.encode(), 256
         while True:
             nodes, count = (ctypes.c_uint64 * room)(), ctypes.c_uint64()
-            _check(call(ctypes.byref(self._user._handle), *query, nodes, room, ctypes.byref(count)))
+            _check(_library.bes_query(ctypes.byref(self._user._handle), spelled, len(spelled), nodes, room,
+                                      ctypes.byref(count)))
             if count.value <= room:
                 return list(nodes[:count.value])
             room = count.value
-
-    def query(self, text):
-        """The nodes that meet the query, ascending."""
-        spelled = text.encode()
-        return self._find(_library.bes_query, spelled, len(spelled))
-
-    def query_items(self, *items):
-        """The nodes that meet the query which items in reverse Polish order build: names, texts, numbers and operators.
-
-            version.query_items(bestore.Name("size"), 5, bestore.Operator.LT)
-        """
-        spelled, texts = (_Item * max(len(items), 1))(), b""
-        for place, item in enumerate(items):
-            kind, number, text = _item(item)
-            spelled[place] = _Item(kind, len(texts), len(text), number)
-            texts += text
-        return self._find(_library.bes_query_items, spelled, len(items), texts, len(texts))
-
-    def _list(self, call, *node):
-        """The operations that a list is told as, each with its name and the bytes of its value."""
-        counts, operations_room, bytes_room = _Counts(), 64, 4096
-        while True:
-            operations, texts = (_Operation * operations_room)(), ctypes.create_string_buffer(bytes_room)
-            _check(call(ctypes.byref(self._user._handle), *node, ctypes.byref(counts), operations, operations_room, texts,
-                        bytes_room))
-            if counts.operations <= operations_room and counts.bytes <= bytes_room:
-                break
-            operations_room, bytes_room = max(counts.operations, 1), max(counts.bytes, 1)
-        return [(told, texts.raw[told.name_at:told.name_at + told.name_length].decode(),
-                 texts.raw[told.value_at:told.value_at + told.value_length]) for told in operations[:counts.operations]]
-
-    def attributes(self, node):
-        """A node's attributes: a dict of names and values, by ascending names."""
-        return {name: _value(told.code, told.number, value)
-                for told, name, value in self._list(_library.bes_attributes, node)}
-
-    def indices(self):
-        """The indices: a dict of names and kinds, by ascending names."""
-        return {name: told.code for told, name, _ in self._list(_library.bes_indices)}
 
     def get(self, node, name):
         """A node's attribute, or None: a str, bytes or an int."""
@@ -349,7 +263,13 @@ class Version:
         if answer == _NO_ATTRIBUTE:
             return None
         _check(answer)
-        return _value(told.code, told.number, room.raw[:told.length])
+        if told.code in (STRING, MIME):
+            return room.raw[:told.length].decode()
+        if told.code == RAW:
+            return room.raw[:told.length]
+        if told.code in (INT32, INT64) and told.number >= 2**63:
+            return told.number - 2**64
+        return told.number
 
 
 def open(pages=4096, passes=8, commits=2**32 - 1):

@@ -20,19 +20,6 @@ class Values(unittest.TestCase):
                     self.assertEqual(version.get(node, "k"), value)
                     self.assertIsNone(version.get(node + 1, "k"))
 
-    def test_lists(self):
-        with bestore.open(64, 1, 100) as store:
-            store.make_index("size", bestore.INT32)
-            node = store.new_node()
-            store.apply(bestore.Batch().set(node, "size", -1, bestore.INT32).set(node, "name", "ann"))
-            with store.pin() as version:
-                self.assertEqual(version.attributes(node), {"name": "ann", "size": -1})
-                self.assertEqual(version.indices(), {"size": bestore.INT32})
-                self.assertEqual(version.query_items(bestore.Name("size"), -1, bestore.Operator.EQ), [node])
-                self.assertEqual(version.query_items(bestore.Name("size"), "1", bestore.Operator.CONTAINS), [node])
-                with self.assertRaises(bestore.Error):
-                    version.attributes(node + 1)
-
     def test_wrong_values(self):
         with bestore.open(64, 1, 100) as store:
             for kind, value, number in [(bestore.INT32, 2**31, 73), (bestore.STRING, "a\0b", 20), (1, "a", 72)]:

@@ -1,4 +1,2 @@
 pub mod Spare
 pub mod Meant
-pub mod Built
-pub mod Spelt

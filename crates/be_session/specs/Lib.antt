@@ -2,4 +2,3 @@ pub mod Fault
 pub mod Meaning
 pub mod Sitting
 pub mod Operations
-pub mod Items

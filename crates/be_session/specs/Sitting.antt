@@ -5,30 +5,19 @@ use Rattle.std.specs.declared.result.Result.{Result}
 use Rattle.be_query.specs.Faults.{fault}
 use Rattle.be_query.specs.View.{IsMemory}
 use Rattle.be_store.specs.History.{IsReason, Learns}
-use Rattle.be_store.specs.Passes.{IsPassOf}
-use Rattle.be_table.specs.Place.{Opened, Place}
-use Rattle.be_table.specs.Rule.{newcomer}
-use Rattle.be_table.specs.declared.limits.Limits.{Limits}
+use Rattle.be_table.specs.Place.{Opened}
 use Rattle.be_table.specs.declared.pass.Knowledge.{Knowledge}
 use Rattle.be_value.specs.declared.refusals.Refusal.{Refusal}
 use Rattle.be_value.specs.declared.refusals.Refusal.TheVariants.{OutOfMemory}
 use Rattle.be_volume.specs.declared.ops.Op.{Op}
 use Rattle.be_session.specs.declared.faults.Fault.{Fault}
-use Rattle.be_session.specs.declared.faults.Fault.TheVariants.{NotPinned, AlreadyPinned, NoPass, BadCount, NotUtf8, NoOperation, NoKind, NoValue, BadPart, NoItem, Refused}
+use Rattle.be_session.specs.declared.faults.Fault.TheVariants.{NotPinned, AlreadyPinned, NoPass, BadCount, NotUtf8, NoOperation, NoKind, NoValue, BadPart, Refused}
 
 -- the store, what its pass knows, and how many of the store's passes wait here for a session of their own
 pub record Sitting : Type 0 where
   pub store : Opened
   pub knows : Knowledge
   pub spare : ℕ
-
--- a pass of a store with these limits that has seen and written nothing, and isn't pinned
-abbrev pub IsNewcomer : Limits → Knowledge → Type 0
-IsNewcomer limits a = (steps : ℕ) × (number : ℕ) × (a ≡ newcomer limits steps number)
-
--- a pass of the store that nobody has used
-abbrev pub IsSpare : Opened → Place → Type 0
-IsSpare store pass = IsPassOf store pass × IsNewcomer store.limits pass.knows
 
 -- why a write did nothing, and what it left: the store's own refusal, or a count that isn't 1 to 64
 abbrev pub IsHeldBack : Knowledge → Knowledge → List Op → Fault → Type 0
@@ -42,7 +31,6 @@ IsHeldBack a c ops NoOperation = ⊥
 IsHeldBack a c ops NoKind = ⊥
 IsHeldBack a c ops NoValue = ⊥
 IsHeldBack a c ops BadPart = ⊥
-IsHeldBack a c ops NoItem = ⊥
 
 -- A read answered what is meant, seen by view, or a growth was refused; the store has no other refusal than the meant one.
 abbrev pub Tells : {X Y : Type 0} → (X → Y) → Result X Fault → Result Y Refusal → Type 0
@@ -57,7 +45,6 @@ Tells view (Err NoOperation) meant = ⊥
 Tells view (Err NoKind) meant = ⊥
 Tells view (Err NoValue) meant = ⊥
 Tells view (Err BadPart) meant = ⊥
-Tells view (Err NoItem) meant = ⊥
 
 -- NotPinned just where there is no pin; else this
 abbrev pub AtPin : {X : Type 0} → Option ℕ → Result X Fault → Type 0 → Type 0

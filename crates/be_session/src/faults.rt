@@ -5,7 +5,7 @@ ghost use Rattle.be_session.specs.declared.faults.Fault.TheVariants.{Refused};
 ghost use Rattle.be_value.specs.declared.refusals.Refusal.TheVariants.{OutOfMemory};
 
 use be_value::Refusal;
-use std::alloc::{AllocError, AllocFailed};
+use std::alloc::AllocFailed;
 
 /// Why a call of a session did nothing. A refused write may have shown the pass more of the journal.
 #[derive(Clone, Copy, Debug, PartialEq, Eq)]
@@ -26,8 +26,6 @@ pub enum Fault {
     NoValue,
     /// A part that isn't within the bytes.
     BadPart,
-    /// The number of an item of a predicate that is none.
-    NoItem,
     Refused(Refusal),
 }
 
@@ -47,7 +45,6 @@ impl Fault {
             Fault::NoKind => 72,
             Fault::NoValue => 73,
             Fault::BadPart => 74,
-            Fault::NoItem => 75,
         }
     }
 }
@@ -64,14 +61,6 @@ impl<T: Drop> From<AllocFailed<T>> for Fault {
     ghost from_gives = { λ _ fault. fault ≡ Refused OutOfMemory };
 
     fn from(_failed: AllocFailed<T>) -> Fault {
-        Fault::Refused(Refusal::OutOfMemory)
-    }
-}
-
-impl From<AllocError> for Fault {
-    ghost from_gives = { λ _ fault. fault ≡ Refused OutOfMemory };
-
-    fn from(_failed: AllocError) -> Fault {
         Fault::Refused(Refusal::OutOfMemory)
     }
 }

@@ -5,15 +5,11 @@
 #![tactic(auto)]
 
 mod faults;
-mod items;
 mod lists;
 mod meanings;
 mod session;
-mod spellings;
 
 pub use faults::Fault;
-pub use items::{PredicateItem, query_of_items};
 pub use lists::{Operation, operations};
 pub use meanings::{kind_of_code, name, operation, spelled, value};
 pub use session::{Session, may_move, query_of};
-pub use spellings::{Spelling, attributes_spelled, indices_spelled};

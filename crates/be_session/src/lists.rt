@@ -25,7 +25,7 @@ pub struct Operation {
 }
 
 /// A part of the bytes, if it is within them.
-pub(crate) fn part(bytes: &[u8], at: u32, len: u32) -> Option<&[u8]>
+fn part(bytes: &[u8], at: u32, len: u32) -> Option<&[u8]>
     ensures some { IfSome result (λ found. (at + len ≤ length bytes.now) × (found.now ≡ part bytes.now at len)) }
     ensures none { IfNone result (length bytes.now < at + len) }
 {

@@ -38,7 +38,7 @@ fn kind(code: u32) -> Result<Kind, Fault>
     }
 }
 
-pub(crate) fn text(bytes: &[u8]) -> Result<&str, Fault>
+fn text(bytes: &[u8]) -> Result<&str, Fault>
     ensures ok { IfOk result (λ text. (text.now ≡ bytes.now) × IsUtf8 bytes.now) }
     ensures err { IfErr result (λ e. (e ≡ NotUtf8) × (¬ (IsUtf8 bytes.now))) }
 {

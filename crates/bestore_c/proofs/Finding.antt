@@ -4,7 +4,7 @@ use Rattle.std.proofs.lemmas.List.{map_more}
 use Rattle.be_session.specs.Fault.{fault_code}
 use Rattle.be_session.specs.Sitting.{AtPin, Tells}
 use Rattle.be_session.specs.declared.faults.Fault.{Fault}
-use Rattle.be_session.specs.declared.faults.Fault.TheVariants.{NotPinned, AlreadyPinned, NoPass, BadCount, NotUtf8, NoOperation, NoKind, NoValue, BadPart, NoItem, Refused}
+use Rattle.be_session.specs.declared.faults.Fault.TheVariants.{NotPinned, AlreadyPinned, NoPass, BadCount, NotUtf8, NoOperation, NoKind, NoValue, BadPart, Refused}
 use Rattle.be_value.specs.Refusal.{refusal_number}
 use Rattle.be_value.specs.declared.refusals.Refusal.{Refusal}
 use Rattle.be_value.specs.declared.refusals.Refusal.TheVariants.{OutOfMemory}
@@ -39,7 +39,6 @@ found_fault view (Some n) NoOperation meant places filled count code pinned is =
 found_fault view (Some n) NoKind meant places filled count code pinned is = absurd pinned
 found_fault view (Some n) NoValue meant places filled count code pinned is = absurd pinned
 found_fault view (Some n) BadPart meant places filled count code pinned is = absurd pinned
-found_fault view (Some n) NoItem meant places filled count code pinned is = absurd pinned
 found_fault view (Some n) (Refused why) meant places filled count code pinned is =
     let known : (why ≡ OutOfMemory) ⊎ (meant ≡ Err why) = pinned in
     elim known [

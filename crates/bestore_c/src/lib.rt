@@ -4,18 +4,13 @@
 //! of a fault, or 64 and 65, which are the handle's own. None has a `requires`.
 #![tactic(auto)]
 
-ghost use Rattle.std.specs.Prelude.{◌≡◌, ◌⊎◌, None, Ok};
-ghost use Rattle.be_session.specs.Operations.{makes, sets};
+ghost use Rattle.std.specs.Prelude.{◌≡◌, ◌⊎◌, None};
 ghost use Rattle.be_store.specs.History.{Pins};
-ghost use Rattle.be_store.specs.Passes.{HasRead, volume_pinned};
-ghost use Rattle.be_table.specs.Seats.{pinned_number};
 ghost use Rattle.be_table.specs.Steps.{unpins};
-ghost use Rattle.be_volume.specs.Reading.{attributes_at, index_kinds};
-ghost use Rattle.bestore_c.specs.Calls.{Answers, Calls, Finds, FindsBuilt, Gives, Listed, Opens, Reads, Writes};
+ghost use Rattle.bestore_c.specs.Calls.{Answers, Calls, Finds, Gives, Opens, Reads, Writes};
 
 mod asking;
 mod handle;
-mod listing;
 mod loose;
 mod owned;
 mod places;
@@ -23,12 +18,9 @@ mod places;
 mod tests;
 
 use asking::tell;
-use be_session::{
-    Operation, PredicateItem, Session, name, operations, query_of, query_of_items, spelled,
-};
+use be_session::{Operation, Session, name, operations, query_of, spelled};
 use be_store::Limits;
-use handle::{Attribute, Counts, Handle};
-use listing::{tell_attributes, tell_indices};
+use handle::{Attribute, Handle};
 use owned::Owned;
 use places::{nodes_of, put};
 use std::alloc::Global;
@@ -222,32 +214,6 @@ pub extern "C" fn bes_query(
     tell(answer, nodes, count)
 }
 
-/// Asks the query that items in reverse Polish order build, as `bes_query` does.
-#[unsafe(no_mangle)]
-pub extern "C" fn bes_query_items(
-    alloc: Global,
-    pass: &mut Handle,
-    spelled: &[PredicateItem],
-    bytes: &[u8],
-    nodes: &mut [u64],
-    count: &mut u64,
-) -> u32
-    ensures pass { Calls pass.old.owned.value pass.new.owned.value result (λ s t. FindsBuilt s t spelled.now bytes.now nodes.old nodes.new count.new result) }
-    ensures kept { (result ≡ 0) ⊎ ((count.new ≡ count.old) × (nodes.new ≡ nodes.old)) }
-{
-    if !pass.live {
-        return CLOSED;
-    }
-    let query = match query_of_items(alloc, spelled, bytes) {
-        Ok(query) => query,
-        Err(fault) => return fault.code(),
-    };
-    let mut session = mem::replace(&mut pass.owned, Owned::none(alloc)).into_box();
-    let answer = session.query(alloc, &query);
-    pass.owned = Owned::of(session);
-    tell(answer, nodes, count)
-}
-
 /// Reads a node's attribute in the pinned version. Puts out its type code, its number and its length in bytes, and as many
 /// of its bytes as there is room for.
 #[unsafe(no_mangle)]
@@ -286,48 +252,4 @@ pub extern "C" fn bes_get(
         Ok(None) => NO_ATTRIBUTE,
         Err(fault) => fault.code(),
     }
-}
-
-/// Lists a node's attributes in the pinned version, as the operations that set them. Puts out how many they are, and how many
-/// bytes their parts are in, and of both as much as there is room for.
-#[unsafe(no_mangle)]
-pub extern "C" fn bes_attributes(
-    alloc: Global,
-    pass: &mut Handle,
-    node: u64,
-    counts: &mut Counts,
-    listed: &mut [Operation],
-    bytes: &mut [u8],
-) -> u32
-    ensures pass { Calls pass.old.owned.value pass.new.owned.value result (λ s t. HasRead s.knows t.knows × Listed (sets node) (pinned_number s.knows.phase) (attributes_at (volume_pinned s.knows) node) counts.new listed.old listed.new bytes.old bytes.new result) }
-    ensures kept { (result ≡ 0) ⊎ ((counts.new ≡ counts.old) × (listed.new ≡ listed.old) × (bytes.new ≡ bytes.old)) }
-{
-    if !pass.live {
-        return CLOSED;
-    }
-    let mut session = mem::replace(&mut pass.owned, Owned::none(alloc)).into_box();
-    let answer = session.attrs(alloc, node);
-    pass.owned = Owned::of(session);
-    tell_attributes(alloc, node, answer, counts, listed, bytes)
-}
-
-/// Lists the indices of the pinned version, as the operations that make them; else as `bes_attributes`.
-#[unsafe(no_mangle)]
-pub extern "C" fn bes_indices(
-    alloc: Global,
-    pass: &mut Handle,
-    counts: &mut Counts,
-    listed: &mut [Operation],
-    bytes: &mut [u8],
-) -> u32
-    ensures pass { Calls pass.old.owned.value pass.new.owned.value result (λ s t. HasRead s.knows t.knows × Listed makes (pinned_number s.knows.phase) (Ok (index_kinds (volume_pinned s.knows))) counts.new listed.old listed.new bytes.old bytes.new result) }
-    ensures kept { (result ≡ 0) ⊎ ((counts.new ≡ counts.old) × (listed.new ≡ listed.old) × (bytes.new ≡ bytes.old)) }
-{
-    if !pass.live {
-        return CLOSED;
-    }
-    let mut session = mem::replace(&mut pass.owned, Owned::none(alloc)).into_box();
-    let answer = session.indices(alloc);
-    pass.owned = Owned::of(session);
-    tell_indices(alloc, answer, counts, listed, bytes)
 }
