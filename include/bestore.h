@@ -126,7 +126,7 @@ typedef struct bes_attribute {
 uint32_t bes_open(uint64_t pages, uint64_t passes, uint64_t commits, bes_pass *pass);
 
 /* Opens another handle, for a pass of the same store that has none yet. Ask it of the handle that bes_open opened: the
- * others answer BES_NO_PASS. BES_CLOSED, BES_OPEN (of other), BES_NO_PASS, BES_NO_MEMORY: no pass is lost. */
+ * others answer BES_NO_PASS. BES_CLOSED, BES_OPEN (of other), BES_NO_PASS, BES_NO_MEMORY (which may cost a pass). */
 uint32_t bes_another(bes_pass *pass, bes_pass *other);
 
 /* Closes the handle, pinned or not. Its pass isn't used again. BES_CLOSED. */

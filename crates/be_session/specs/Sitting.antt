@@ -51,11 +51,6 @@ abbrev pub AtPin : {X : Type 0} → Option ℕ → Result X Fault → Type 0 →
 AtPin None answer told = answer ≡ Err NotPinned
 AtPin (Some n) answer told = told
 
--- why a live query wasn't refreshed: there is no pin; or there is one, and the query has no answer there, or a growth was refused
-abbrev pub IsUnrefreshed : Option ℕ → Result (List ℕ) Refusal → Fault → Type 0
-IsUnrefreshed None meant e = e ≡ NotPinned
-IsUnrefreshed (Some n) meant e = (e ≡ Refused OutOfMemory) ⊎ ((why : Refusal) × (e ≡ Refused why) × (meant ≡ Err why))
-
 -- why bytes are no text of a query: they are no UTF-8, or the text has this fault, or a growth was refused
 abbrev pub IsNoQuery : List ℕ → Fault → Type 0
 IsNoQuery text e = ((e ≡ NotUtf8) × (¬ (IsUtf8 text))) ⊎ ((why : Refusal) × (e ≡ Refused why) × IsMemory why (fault text ≡ Some why))

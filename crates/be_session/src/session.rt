@@ -1,11 +1,10 @@
 //! A pass with its share of the store, and its calls.
-ghost use Rattle.std.specs.Prelude.{◌≡◌, ◌⊎◌, ◌≤◌, ◌+◌, ℕ, Ok, IfOk, IfErr, length, All};
-ghost use Rattle.be_session.specs.Sitting.{AtPin, IsHeldBack, IsNoQuery, IsUnrefreshed, Tells};
+ghost use Rattle.std.specs.Prelude.{◌≡◌, ◌⊎◌, ◌≤◌, ◌+◌, Ok, IfOk, IfErr, length, All};
+ghost use Rattle.be_session.specs.Sitting.{AtPin, IsHeldBack, IsNoQuery, Tells};
 ghost use Rattle.be_session.specs.declared.faults.Fault.TheVariants.{AlreadyPinned, NoPass, NotPinned, Refused};
 ghost use Rattle.be_query.specs.Grammar.{IsTextOf};
 ghost use Rattle.be_store.specs.History.{Accepts, Pins};
-ghost use Rattle.be_store.specs.Live.{Refreshes};
-ghost use Rattle.be_store.specs.Passes.{HasRead, IsPassOf, IsPinnedTo, volume_pinned};
+ghost use Rattle.be_store.specs.Passes.{HasRead, IsPassOf, volume_pinned};
 ghost use Rattle.be_table.specs.Seats.{pinned_number};
 ghost use Rattle.be_table.specs.Steps.{unpins};
 ghost use Rattle.be_table.specs.Works.{AreNew, IsUnopened};
@@ -17,10 +16,10 @@ ghost use Rattle.be_volume.specs.Reading.{attribute, attributes_at, index_kinds}
 use crate::Fault;
 use arrayvec::ArrayVec;
 use be_query::{Query, parse};
-use be_store::{Limits, Live, Pass, Store, Updates};
+use be_store::{Limits, Pass, Store};
 use be_value::{Kind, Name, Refusal, Value};
 use be_volume::{Done, Op};
-use std::alloc::{AllocFailed, Global};
+use std::alloc::Global;
 use std::marker::Model;
 use std::sync::Arc;
 
@@ -86,13 +85,12 @@ impl Session {
         seated(alloc, store, pass, passes)
     }
 
-    /// A session of the same store, with a pass that had none, in a box. NoPass where each pass has one, and OutOfMemory; no
-    /// pass is lost then.
+    /// A session of the same store, with a pass that had none. NoPass where each pass has one, and OutOfMemory.
     ///
     /// It is asked of the session that opened the store: the others have no passes to give.
-    pub fn another(&mut self, alloc: Global) -> Result<Box<Session, Global>, Fault>
+    pub fn another(&mut self, alloc: Global) -> Result<Session, Fault>
         ensures same { (self.new.store ≡ self.old.store) × (self.new.knows ≡ self.old.knows) }
-        ensures ok { IfOk result (λ s. (s.value.store ≡ self.old.store) × (s.value.spare ≡ 0) × (self.old.spare ≡ self.new.spare + 1)) }
+        ensures ok { IfOk result (λ s. (s.store ≡ self.old.store) × (s.spare ≡ 0) × (self.old.spare ≡ self.new.spare + 1)) }
         ensures err { IfErr result (λ e. (self.new ≡ self.old) × ((e ≡ Refused OutOfMemory) ⊎ ((e ≡ NoPass) × (self.old.spare ≡ 0)))) }
     {
         let Ok(store) = Arc::try_clone(&self.store) else {
@@ -101,20 +99,11 @@ impl Session {
         let Some(pass) = self.spare.pop() else {
             return Err(Fault::NoPass);
         };
-        let spare = Vec::new(alloc);
-        let AllocFailed { value } = match Box::new(alloc, Session { store, pass, spare }) {
-            Ok(session) => return Ok(session),
-            Err(failed) => failed,
-        };
-        let Session {
-            store: _store,
+        Ok(Session {
+            store,
             pass,
-            spare: _spare,
-        } = value;
-        let Ok(()) = self.spare.push(pass) else {
-            unreachable!()
-        };
-        Err(Fault::Refused(Refusal::OutOfMemory))
+            spare: Vec::new(alloc),
+        })
     }
 
     /// Pins the version that is current, and answers its number: how many writes it has.
@@ -166,21 +155,6 @@ impl Session {
             return Err(Fault::NotPinned);
         };
         Ok(self.store.query(alloc, &mut self.pass, query)?.nodes)
-    }
-
-    /// Asks a live query in the pinned version, and tells which nodes came and which went since its last refresh. A fault
-    /// leaves it as it was.
-    pub fn refresh(&mut self, live: &mut Live) -> Result<Updates, Fault>
-        ensures store { (self.new.store ≡ self.old.store) × (self.new.spare ≡ self.old.spare) }
-        ensures read { HasRead self.old.knows self.new.knows }
-        ensures ok { IfOk result (λ u. Refreshes (volume_pinned self.old.knows) live.old live.new u.created.items u.removed.items) }
-        ensures pin { IfOk result (λ u. (n : ℕ) × IsPinnedTo self.old.knows n) }
-        ensures err { IfErr result (λ e. (live.new ≡ live.old) × IsUnrefreshed (pinned_number self.old.knows.phase) (scan (volume_pinned self.old.knows) live.old.query) e) }
-    {
-        let Some(_) = self.pass.pinned() else {
-            return Err(Fault::NotPinned);
-        };
-        Ok(live.refresh(&self.store, &mut self.pass)?)
     }
 
     /// A node's attribute in the pinned version, if it has one.

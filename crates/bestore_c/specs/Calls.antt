@@ -47,7 +47,7 @@ abbrev pub Gives : Sitting → Sitting → Option Sitting → Option Sitting →
 Gives s t (Some o) (Some p) code = (code ≡ 65) × (p ≡ o) × (t ≡ s)
 Gives s t (Some o) None code = ⊥
 Gives s t None (Some p) code = (code ≡ 0) × (p.store ≡ s.store) × (t.knows ≡ s.knows) × (s.spare ≡ t.spare + 1)
-Gives s t None None code = (t ≡ s) × ((code ≡ 10) ⊎ ((code ≡ 68) × (s.spare ≡ 0)))
+Gives s t None None code = (t.knows ≡ s.knows) × ((code ≡ 10) ⊎ ((code ≡ 68) × (s.spare ≡ 0) × (t ≡ s)))
 
 -- A write: what is spelled is misspelt, and then nothing has happened; or it means operations, which the session accepted, and the numbers of the new nodes and the length of the journal are put out, or which it held back.
 abbrev pub Writes : Sitting → Sitting → List Operation → List ℕ → List ℕ → List ℕ → ℕ → ℕ → Type 0

@@ -90,13 +90,16 @@ pub extern "C" fn bes_another(alloc: Global, pass: &mut Handle, other: &mut Hand
     let made = session.another(alloc);
     pass.owned = Owned::of(session);
     match made {
-        Ok(session) => {
-            *other = Handle {
-                live: true,
-                owned: Owned::of(session),
-            };
-            DONE
-        }
+        Ok(session) => match Box::new(alloc, session) {
+            Ok(session) => {
+                *other = Handle {
+                    live: true,
+                    owned: Owned::of(session),
+                };
+                DONE
+            }
+            Err(_) => NO_MEMORY,
+        },
         Err(fault) => fault.code(),
     }
 }
