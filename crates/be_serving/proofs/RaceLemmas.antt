@@ -23,7 +23,7 @@ use Rattle.be_serving.specs.Output.{IsOutputTo}
 use Rattle.be_serving.specs.Run.{Wrote}
 use Rattle.be_serving.specs.Served.{known}
 use Rattle.be_serving.proofs.RunLemmas.{written_both}
-use Rattle.be_serving.specs.Race.{HaveServed, HaveReplied, HaveReplies, IsOutcome, IsReplied, pass_line, replies_text, result_text}
+use Rattle.be_serving.specs.Race.{HaveServed, AreRepliesOf, IsOutcome, IsReplied, pass_line, replies_text, result_text}
 
 -- what is so of each element, and of one more at its place, is so of all
 pub each_pushed : {X : Type 0} (P : ℕ → X → Type 0) (xs : List X) (x : X) → ((k : ℕ) (d : X) → k < length xs → P k (get_or xs k d)) → P (length xs) x →
@@ -81,7 +81,7 @@ module _ {V E : Type 0} (store : Opened) (items : V → List ℕ) where
       ((i : ℕ) (o : Place × Result V E) (s : V) → i < length scripts → EndsAs (k + i) (get_or scripts i s) (get_or outcomes i o)) →
       map Ok texts ≡ map (λ (o : Place × Result V E). o.1) outcomes →
       HaveServed store k (map items scripts) (map (λ (o : Place × Result V E). o.0) outcomes)
-      × HaveReplies store.limits k (map items scripts) (map (λ (o : Place × Result V E). o.0) outcomes) (map items texts)
+      × AreRepliesOf store.limits k (map items scripts) (map (λ (o : Place × Result V E). o.0) outcomes) (map items texts)
   served_from k [] [] [] count each all = (tt, λ journal keeps. tt)
   served_from k [] [] (t ∷ ts) count each all = cc
   served_from k [] (o ∷ os) texts count each all = absurd (omega (arith, count))

@@ -65,9 +65,9 @@ HaveReplied limits journal k [] (text ∷ texts) = ⊥
 HaveReplied limits journal k (script ∷ scripts) [] = ⊥
 HaveReplied limits journal k (script ∷ scripts) (text ∷ texts) = IsReplied limits journal k script text × HaveReplied limits journal (k + 1) scripts texts
 
--- the replies are by the store of these passes: of whatever journal keeps what they have seen and written
-abbrev pub HaveReplies : StoreLimits → ℕ → List (List ℕ) → List Place → List (List ℕ) → Type 0
-HaveReplies limits k scripts passes texts = (journal : List Entry) → KeepsSeen journal (map knows_of passes) → HaveReplied limits journal k scripts texts
+-- The replies are those of the store of these passes: by whatever journal keeps what they have seen and written.
+abbrev pub AreRepliesOf : StoreLimits → ℕ → List (List ℕ) → List Place → List (List ℕ) → Type 0
+AreRepliesOf limits k scripts passes texts = (journal : List Entry) → KeepsSeen journal (map knows_of passes) → HaveReplied limits journal k scripts texts
 
 -- the line of a pass, and its replies
 abbrev pub pass_line : ℕ → List ℕ

@@ -13,7 +13,7 @@ ghost use Rattle.std.specs.Io.KnownBytes.{Appends};
 ghost use Rattle.std.specs.List.{list_any};
 ghost use Rattle.be_journal.specs.Journal.{IsLegal};
 ghost use Rattle.be_serving.specs.Limits.{are_within};
-ghost use Rattle.be_serving.specs.Race.{IsOutcome, HaveReplies, HaveServed, IsNew, IsRace, Stops, pass_line, replies_text, result_text};
+ghost use Rattle.be_serving.specs.Race.{IsOutcome, AreRepliesOf, HaveServed, IsNew, IsRace, Stops, pass_line, replies_text, result_text};
 ghost use Rattle.be_serving.specs.Run.{Wrote, IsLate};
 ghost use Rattle.be_store.specs.Passes.{IsPassOf};
 ghost use Rattle.std.specs.String.{string_bytes};
@@ -139,7 +139,7 @@ fn serve_in<'s, E, R: Threads, G: Gate + Sync>(
     requires new { AreNew store.now 0 passes.items }
     requires count { length passes.items ≡ length scripts.now.items }
     ensures served { IfOk result (λ r. HaveServed store.now 0 (map (λ s. s.items) scripts.now.items) r.0.items) }
-    ensures replied { IfOk result (λ r. HaveReplies store.now.limits 0 (map (λ s. s.items) scripts.now.items) r.0.items (map (λ s. s.items) r.1.items)) }
+    ensures replied { IfOk result (λ r. AreRepliesOf store.now.limits 0 (map (λ s. s.items) scripts.now.items) r.0.items (map (λ s. s.items) r.1.items)) }
     ensures fault { IfErr result (λ e. e ≡ RunFault.Memory) }
 {
     let threads = start(scope, alloc, store, passes, scripts, gate)?;
@@ -161,7 +161,7 @@ fn serve_at_once<R: Threads + Wait, G: Gate + Sync>(
     requires new { AreNew store.now 0 passes.items }
     requires count { length passes.items ≡ length scripts.now.items }
     ensures served { IfOk result (λ r. HaveServed store.now 0 (map (λ s. s.items) scripts.now.items) r.0.items) }
-    ensures replied { IfOk result (λ r. HaveReplies store.now.limits 0 (map (λ s. s.items) scripts.now.items) r.0.items (map (λ s. s.items) r.1.items)) }
+    ensures replied { IfOk result (λ r. AreRepliesOf store.now.limits 0 (map (λ s. s.items) scripts.now.items) r.0.items (map (λ s. s.items) r.1.items)) }
     ensures fault { IfErr result (λ e. e ≡ RunFault.Memory) }
 {
     thread::scope(
@@ -170,7 +170,7 @@ fn serve_at_once<R: Threads + Wait, G: Gate + Sync>(
         move |scope| -> Result<(Vec<Pass>, Vec<Vec<u8>>), RunFault>
             requires { AreNew store.now 0 passes.items × (length passes.items ≡ length scripts.now.items) }
             ensures served { IfOk result (λ r. HaveServed store.entry.now 0 (map (λ s. s.items) scripts.entry.now.items) r.0.items) }
-            ensures replied { IfOk result (λ r. HaveReplies store.entry.now.limits 0
+            ensures replied { IfOk result (λ r. AreRepliesOf store.entry.now.limits 0
                 (map (λ s. s.items) scripts.entry.now.items) r.0.items (map (λ s. s.items) r.1.items)) }
             ensures fault { IfErr result (λ e. e ≡ RunFault.Memory) }
         { serve_in(scope, rt, alloc, store, passes, scripts, gate) },
