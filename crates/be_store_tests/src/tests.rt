@@ -7,15 +7,13 @@
 //! Each borrows what it uses and answers with plain values, so a call's clauses end with the helper that makes it.
 ghost use Rattle.std.specs.Prelude.{◌≡◌, ◌≤◌, ℕ, IfOk, None, length};
 ghost use Rattle.be_store.specs.Passes.{IsPassOf, IsPinnedTo};
-ghost use Rattle.be_table.specs.Seats.{pinned_number};
-ghost use Rattle.be_table.specs.Works.{AreNew};
+ghost use Rattle.be_store.specs.Seats.{pinned_number};
+ghost use Rattle.be_store.specs.Works.{AreNew};
 
-use arrayvec::ArrayVec;
-use be_journal::Journal;
-use be_query::{Query, parse};
-use be_store::{Answer, Limits, Live, Pass, Store, Updates};
-use be_value::{Kind, Name, Refusal, Value};
-use be_volume::{Done, Op};
+use be_store::{
+    Answer, ArrayVec, Done, Journal, Kind, Limits, Live, Name, Op, Pass, Query, Refusal, Store,
+    Updates, Value, parse,
+};
 use std::alloc::{AllocError, Global};
 use std::test::Fail;
 use std::thread;
