@@ -18,7 +18,7 @@ fill_word-requires c =
       seat = i.table_is;
       pass = (ap (λ m. m.0) i.me_is, i.writes, ap (λ n. n.published) k ∙ c.requires.open);
       small = omega (arith, lp, count, few, u);
-      page = (omega (arith, lp, count), lp, may_fill _ (subst (λ (n : Knowledge). IsTrue (is_in_hand (place_of n.places c.args.page))) (sym k) c.requires.taken.1));
+      page = (omega (arith, lp, count), (lp, may_fill _ (subst (λ (n : Knowledge). IsTrue (is_in_hand (place_of n.places c.args.page))) (sym k) c.requires.taken.1)));
       place = c.requires.place;
     }
 
