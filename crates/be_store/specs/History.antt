@@ -41,9 +41,9 @@ IsRefusedAt c ops e =
     ⊎ (IsOk (steps (volume_seen c) ops) × HasNoRoom e c)
     ⊎ (IsOk (steps (volume_seen c) ops) × (length c.seen < c.limits.commits) × IsFullOf (IsSpent c) e)
 
--- Why a write is refused: another pass holds the lock, and nothing more was seen; or else.
+-- Why a write is refused: its one try found that another pass holds the lock, and nothing more was seen; or else.
 abbrev pub IsReason : (a c : Knowledge) (ops : List Op) → Refusal → Type 0
-IsReason a c ops e = (IsBusy e a × (c.seen ≡ a.seen)) ⊎ IsRefusedAt c ops e
+IsReason a c ops e = (IsBusy e a c × (c.seen ≡ a.seen)) ⊎ IsRefusedAt c ops e
 
 -- The pass is pinned to all that it has then seen, by three steps.
 pub record Pins (a c : Knowledge) (n : ℕ) : Type 0 where

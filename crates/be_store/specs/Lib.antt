@@ -3,3 +3,5 @@ pub mod History
 pub mod Writing
 pub mod Live
 pub mod Alone
+pub use Rattle.be_table.specs.Seats
+pub use Rattle.be_table.specs.Works

@@ -7,15 +7,13 @@
 //! Each borrows what it uses and answers with plain values, so a call's clauses end with the helper that makes it.
 ghost use Rattle.std.specs.Prelude.{◌≡◌, ◌≤◌, ℕ, IfOk, None, length};
 ghost use Rattle.be_store.specs.Passes.{IsPassOf, IsPinnedTo};
-ghost use Rattle.be_table.specs.Seats.{pinned_number};
-ghost use Rattle.be_table.specs.Works.{AreNew};
+ghost use Rattle.be_store.specs.Seats.{pinned_number};
+ghost use Rattle.be_store.specs.Works.{AreNew};
 
-use arrayvec::ArrayVec;
-use be_journal::Journal;
-use be_query::{Query, parse};
-use be_store::{Answer, Limits, Live, Pass, Store, Updates};
-use be_value::{Kind, Name, Refusal, Value};
-use be_volume::{Done, Op};
+use be_store::{
+    Answer, ArrayVec, Done, Journal, Kind, Limits, Live, Name, Op, Pass, Query, Refusal, Store,
+    Updates, Value, parse,
+};
 use std::alloc::{AllocError, Global};
 use std::test::Fail;
 use std::thread;
@@ -682,9 +680,10 @@ fn writes_64(store: &Store, alloc: Global, pass: &mut Pass, name: &Name) -> bool
     }
 }
 
+// The list that is accepted is by pass 1, and the one that is refused by pass 0, which stays pinned.
 #[test]
 fn batches_in_store(rt: HostRuntime) -> Result<(), Fail> {
-    let (store, mut a, mut b) = for_two(rt.alloc(), 32, 100)?;
+    let (store, mut b, mut a) = for_two(rt.alloc(), 32, 100)?;
     let name = Name::new("k")?;
     assert_eq!(rt; index_zero(&store, &mut a, &name)?, 3);
     assert_eq!(rt; pin(&store, &mut b), 3);
@@ -692,7 +691,7 @@ fn batches_in_store(rt: HostRuntime) -> Result<(), Fail> {
     assert!(rt; finds(&store, rt.alloc(), &mut b, "k==0", 3, &[1]));
     assert_eq!(rt; pin(&store, &mut b), 4);
     assert!(rt; finds(&store, rt.alloc(), &mut b, "k==64", 4, &[1]));
-    let refused = write_64(&store, rt.alloc(), &mut a, &name, true);
+    let refused = write_64(&store, rt.alloc(), &mut b, &name, true);
     assert!(rt; matches!(refused, Err(Refusal::NoNode)));
     assert_eq!(rt; pin(&store, &mut a), 4);
     assert!(rt; finds(&store, rt.alloc(), &mut a, "k==64", 4, &[1]));

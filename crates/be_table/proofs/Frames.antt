@@ -19,7 +19,7 @@ use Rattle.be_journal.specs.declared.entries.Entry.{Entry}
 use Rattle.be_journal.specs.Journal.{by_pass, replay}
 use Rattle.be_table.specs.History.{StartsWith, AllBelow}
 use Rattle.be_table.specs.Rule.{Board, entries, nothing, reach_at, page_at, lock_word, announce_word, word_place, PagesAgree, is_holder, holder_of, WordsAgree, IsHome, IsWithin, ReachesAgree, AreInside, IsSound, Holds, ImageIs, Fits, AllFit, ViewsFit, Stands, counted}
-use Rattle.be_table.specs.Steps.{IsPass}
+use Rattle.be_table.specs.Steps.{IsPass, finds_held}
 use Rattle.be_table.specs.Reading.{word_in}
 use Rattle.be_table.specs.Versions.{in_pages, SpellsVolume}
 use Rattle.be_table.proofs.Histories.{legal-front, below-front}
@@ -56,6 +56,9 @@ views_step limits b d views i a c h at others mine =
 
 pub fits_counted : (limits : Limits) (b : Board) (i : ℕ) (a : Knowledge) → Fits limits b i a → Fits limits b i (counted a)
 fits_counted limits b i a f = record { number = f.number; limits_are = f.limits_are; seat_is = f.seat_is; seen = f.seen; mine = f.mine; own = f.own; writes = f.writes; whole = λ t. let h = f.whole t in record { log = h.log; holder = h.holder; turn = h.turn; count = h.count; shown = h.shown; size = h.size; words = h.words }; phase = f.phase; pin = f.pin; image = f.image }
+
+pub fits_late : (limits : Limits) (b : Board) (i n : ℕ) (a : Knowledge) → Fits limits b i a → Fits limits b i (finds_held a n)
+fits_late limits b i n a f = record { number = f.number; limits_are = f.limits_are; seat_is = f.seat_is; seen = f.seen; mine = f.mine; own = f.own; writes = f.writes; whole = λ t. let h = f.whole t in record { log = h.log; holder = h.holder; turn = h.turn; count = h.count; shown = h.shown; size = h.size; words = h.words }; phase = f.phase; pin = f.pin; image = f.image }
 
 -- ## Journals with versions
 

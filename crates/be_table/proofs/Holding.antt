@@ -19,7 +19,7 @@ use Rattle.be_table.specs.Laws.{AllowsBy, NoEvent, IsFill, IsReturn, IsScan}
 use Rattle.be_pages.specs.Place.{place_of, is_in_hand, is_held_page, given_place, swept_place}
 use Rattle.be_table.specs.Ledger.{is_taken, is_free, retired_with}
 use Rattle.be_table.specs.Rule.{Board, page_at, reach_at, announce_word, word_place, holder_of, WordsAgree, Holds, Fits, Stands, Shows, counted}
-use Rattle.be_table.specs.Steps.{fills, takes_page, gives_up, least_found, least_then, pages_from, scans_on, scans_out, scans, MayBeFilled, OwnRead, FilledAt, PageTaken, PageGivenUp, Scanned}
+use Rattle.be_table.specs.Steps.{fills, takes_page, gives_up, least_found, least_then, pages_from, scans_on, scans_out, scans, MayBeFilled, OwnRead, FilledAt, FilledFound, PageTaken, PageGivenUp, Scanned}
 use Rattle.be_table.proofs.Frames.{Table, Me1, views_step, fits_counted, words_load, words_fill, pages_fill, same_place, not_holder, fits_world, sound_world}
 use Rattle.be_table.proofs.Moves.{forget}
 use Rattle.be_table.proofs.Locks.{at_work, held_by, same_some, unheld_by}
@@ -122,6 +122,17 @@ module _ (limits : Limits) (slots i : ℕ) (a : Knowledge) (carried : List (ℕ 
         ),
         (λ q k e lk. let z = same_place p j q k lj lk e in ap (λ (y : ℕ × ℕ). (fills a y.0 y.1 x ∷ [], carried)) (λ o. (z.0 o, z.1 o))),
       )
+
+  -- a load that finds a word is the fill of that word
+  pub found_by : (p j : ℕ) → a.writes ≡ true → a.published ≡ false → MayBeFilled a.places p → j < 512
+      → AllowsBy limits slots i (a ∷ [], carried) (word_place p j) (λ n. n) (λ n. IsFill a.number p j n n) (FilledFound (step slots (word_place p j) 0 0 none) (a ∷ [], carried))
+  found_by p j writes unpublished may lj s b0 h0 sized at fits =
+      let y = fill_by p j (slice_index s.words (word_place p j)) writes unpublished may lj s b0 h0 sized at fits in
+      let work = at_work limits s b0 i a h0 at writes in
+      let b : Board = held_by b0 (Some (holder_of a)) in
+      let m = work.1 in
+      let lp : p < b.world.pages = omega (arith, may.0, m.count) in
+      (y.0, y.1, y.2, y.3, (y.4, work.0.table.words.pages p j lp lj ∙ sym (m.words p j lp lj)))
 
   -- a load by the holder, before which a page goes to another place that is the same for the machine
   note_by : (p : ℕ) (x : Place) → a.writes ≡ true → p < length a.places → is_free x ≡ is_free (place_of a.places p) → is_taken x ≡ is_taken (place_of a.places p) → retired_with x ≡ retired_with (place_of a.places p)
@@ -319,6 +330,11 @@ module _ (limits : Limits) (slots i : ℕ) (a : Knowledge) (carried : List (ℕ 
   fills_as p j x word writes un may lj at =
       subst (λ (q : Me1 × ℕ). Allows (Shows limits) slots i q.0 q.1 (λ _. x) (λ _. FilledAt (step slots q.1 x 0 none) q.0 x)) (λ k. (sym e k, sym at k))
       (forget limits slots i (a ∷ [], carried) (word_place p j) (λ _. x) (IsFill a.number p j x) (λ _. FilledAt (step slots (word_place p j) x 0 none) (a ∷ [], carried) x) (fill_by limits slots i a carried p j x writes un may lj))
+
+  pub found_as : (p j word : ℕ) → a.writes ≡ true → a.published ≡ false → MayBeFilled a.places p → j < 512 → word ≡ word_place p j → Allows (Shows limits) slots i me word (λ n. n) (FilledFound (step slots word 0 0 none) me)
+  found_as p j word writes un may lj at =
+      subst (λ (q : Me1 × ℕ). Allows (Shows limits) slots i q.0 q.1 (λ n. n) (FilledFound (step slots q.1 0 0 none) q.0)) (λ k. (sym e k, sym at k))
+      (forget limits slots i (a ∷ [], carried) (word_place p j) (λ n. n) (λ n. IsFill a.number p j n n) (FilledFound (step slots (word_place p j) 0 0 none) (a ∷ [], carried)) (found_by limits slots i a carried p j writes un may lj))
 
   pub takes_as : (p word : ℕ) → a.writes ≡ true → p < length a.places → place_of a.places p ≡ Free → word ≡ word_place p 0 → Allows (Shows limits) slots i me word (λ n. n) (PageTaken (step slots word 0 0 none) me)
   takes_as p word writes lp is at =

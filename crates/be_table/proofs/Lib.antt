@@ -18,3 +18,5 @@ pub mod Standings
 pub mod Told
 pub mod Keeping
 pub mod Answers
+pub mod Readers
+pub mod Fills

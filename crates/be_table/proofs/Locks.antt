@@ -1,5 +1,5 @@
 -- The lock is taken and given back.
-use Rattle.std.proofs.Common.{◌≡◌, ◌≢◌, ℕ, ◌+◌, ◌*◌, ◌<◌, ◌≤◌, eqb, eq-eqb, ne_eqb, MatchBool, List, [], ◌∷◌, length, set, Bool, true, false, true≢false, Option, Some, None, refl, sym, ap, ◌∙◌, subst, arith, slice_index, map, take, IsTrue}
+use Rattle.std.proofs.Common.{◌≡◌, ◌≢◌, ℕ, ◌+◌, ◌-◌, ◌*◌, ◌<◌, ◌≤◌, eqb, eq-eqb, ne_eqb, MatchBool, List, [], ◌∷◌, length, set, Bool, true, false, true≢false, Option, Some, None, refl, sym, ap, ◌∙◌, subst, arith, slice_index, map, take, IsTrue}
 use Rattle.std.proofs.lemmas.List.{length-map}
 use mathlib.Core.Option.{some, none}
 use mathlib.Core.Logic.{dite}
@@ -17,10 +17,10 @@ use Rattle.be_table.specs.declared.pass.Knowledge.{Knowledge}
 use Rattle.be_table.specs.Laws.{AllowsBy, IsLock, IsUnlock}
 use Rattle.be_pages.specs.Place.{undone_place}
 use Rattle.be_table.specs.Ledger.{ShowsPlaces}
-use Rattle.be_table.specs.Rule.{ledger_places, Board, entries, reach_at, page_at, word_place, lock_word, is_holder, holder_of, IsHome, IsSound, Holds, Fits, Stands, Shows, counted}
-use Rattle.be_table.specs.Steps.{takes_lock, leaves, Gets, IsLate, Locked, Unlocked}
+use Rattle.be_table.specs.Rule.{ledger_places, Board, entries, reach_at, page_at, word_place, lock_word, is_holder, holder_of, IsHome, IsSound, Holds, Fits, Stands, Shows}
+use Rattle.be_table.specs.Steps.{takes_lock, finds_held, leaves, Gets, IsLate, Locked, Unlocked}
 use Rattle.be_table.proofs.Histories.{starts_itself}
-use Rattle.be_table.proofs.Frames.{Table, Me1, views_step, fits_counted, longer_seen, is_pass, in_time_later, words_load, words_lock, not_holder, fits_world, not_other, sound_world}
+use Rattle.be_table.proofs.Frames.{Table, Me1, views_step, fits_late, longer_seen, is_pass, in_time_later, words_load, words_lock, not_holder, fits_world, not_other, sound_world}
 use Rattle.std.proofs.Math.Nat.{le_refl}
 use Rattle.be_table.specs.Versions.{at_start, in_pages, SpellsVolume}
 use Rattle.be_table.specs.Reading.{word_in}
@@ -129,7 +129,7 @@ module _ (limits : Limits) (slots i : ℕ) (a : Knowledge) (carried : List (ℕ 
   lock_late s b h at idle held =
       let fa = (h.views i (a ∷ []) at).0 in
       let late = taken b.world.holder b.world.passes held (λ g e. rw h.sound.passes (h.sound.holder g e)) (sym fa.writes ∙ idle) in (
-        counted a ∷ [],
+        finds_held a (lock_word b.world.holder - 1) ∷ [],
         keeps,
         tt,
         (
@@ -137,7 +137,7 @@ module _ (limits : Limits) (slots i : ℕ) (a : Knowledge) (carried : List (ℕ 
           record {
             table = record { words = words_load b.world (page_at b.log (length b.log)) s.words h.table.words 0; home = h.table.home; version = h.table.version };
             sound = h.sound;
-            views = views_step limits b b s.views i a (counted a) h.views at (λ j x _ f. f) (fits_counted limits b i a fa);
+            views = views_step limits b b s.views i a (finds_held a (lock_word b.world.holder - 1)) h.views at (λ j x _ f. f) (fits_late limits b i (lock_word b.world.holder - 1) a fa);
           },
           refl,
         ),

@@ -17,7 +17,7 @@ use Rattle.be_table.proofs.Listed.{listed, tested}
 use Rattle.be_pages.specs.declared.page_pool.Place.{Place}
 use Rattle.be_pages.specs.declared.page_pool.Place.TheVariants.{Free, Reserved, Filled, Current, GivenUp, Retired}
 use Rattle.be_table.specs.declared.pass.Knowledge.{Knowledge}
-use Rattle.be_table.specs.Steps.{fills, IsPass, Unreached}
+use Rattle.be_table.specs.Steps.{IsPass, Unreached}
 use Rattle.be_pages.specs.Place.{is_in_hand, place_of, swept_place}
 use Rattle.be_table.specs.Ledger.{is_taken, is_free}
 
@@ -28,9 +28,6 @@ may_fill Filled h = refl
 may_fill Current h = h
 may_fill GivenUp h = h
 may_fill (Retired r) h = h
-
-pub filled_pass : (a : Knowledge) (p i x : ℕ) → IsPass a → IsPass (fills a p i x)
-filled_pass a p i x h = record { within = h.within; legal = h.legal; number_below = h.number_below; by_passes = h.by_passes; room = h.room; inside = h.inside; own_pages = h.own_pages; pin = h.pin; mine = h.mine; spelt = h.spelt }
 
 in_hand_of : (x : Place) → IsTrue (is_free x || is_taken x) → x ≢ Free → IsTrue (is_in_hand x)
 in_hand_of Free h ne = absurd (ne refl)

@@ -14,7 +14,7 @@ use Rattle.be_pages.specs.declared.page_pool.Place.TheVariants.{Free}
 use Rattle.be_pages.specs.Place.{undone_place, is_held_page, place_of}
 use Rattle.be_table.specs.Ledger.{is_given}
 use Rattle.be_table.specs.Rule.{ledger_places, Board, Stands, entries, page_at, reach_at, word_place, current_word, counted, joined}
-use Rattle.be_table.specs.Steps.{LookTold, Told, PinnedAt, Unpinned, PinnedRead, Locked, Unlocked, Scanned, OwnRead, FilledAt, PageTaken, PageGivenUp, MayBeFilled, MayPublish, Published, Compared, pages_from}
+use Rattle.be_table.specs.Steps.{LookTold, Told, PinnedAt, Unpinned, PinnedRead, Locked, Unlocked, Scanned, OwnRead, FilledAt, FilledFound, PageTaken, PageGivenUp, MayBeFilled, MayPublish, Published, Compared, pages_from}
 
 -- ## The events: what a step that found the number n does to the machine
 
@@ -101,6 +101,11 @@ module _ (limits : Limits) (slots id : ℕ) (a : Knowledge) (carried : List (ℕ
   abbrev pub FillIsItsEvent : Type 0
   FillIsItsEvent = (p i x : ℕ) → a.writes ≡ true → a.published ≡ false → MayBeFilled a.places p → i < 512
       → AllowsBy limits slots id (a ∷ [], carried) (word_place p i) (λ _. x) (IsFill a.number p i x) (λ _. FilledAt (step slots (word_place p i) x 0 none) (a ∷ [], carried) x)
+
+  -- a load of a word of a page in hand fills it with the word that is there
+  abbrev pub FoundFillIsItsEvent : Type 0
+  FoundFillIsItsEvent = (p i : ℕ) → a.writes ≡ true → a.published ≡ false → MayBeFilled a.places p → i < 512
+      → AllowsBy limits slots id (a ∷ [], carried) (word_place p i) (λ n. n) (λ n. IsFill a.number p i n n) (FilledFound (step slots (word_place p i) 0 0 none) (a ∷ [], carried))
 
   abbrev pub OwnReadIsNoEvent : Type 0
   OwnReadIsNoEvent = (p i : ℕ) → a.writes ≡ true → p < a.limits.pages → i < 512

@@ -107,7 +107,12 @@ pub record IsWithin (limits : Limits) : Type 0 where
   pub few_pages : limits.pages ≤ 16384
   pub some_pass : 0 < limits.passes
   pub few : limits.passes ≤ 64
+  pub some_commit : 0 < limits.commits
   pub short : limits.commits < 4294967296
+
+-- limits that no table may have
+abbrev pub AreBad : Limits → Type 0
+AreBad limits = ¬ (IsWithin limits)
 
 -- the pages of each version are those that its commit tells
 abbrev pub ReachesAgree : World → List Commit → Type 0
@@ -193,7 +198,7 @@ Shows limits s = (b : Board) × Stands limits s b
 
 -- a pass that has seen nothing
 abbrev pub newcomer : Limits → ℕ → ℕ → Knowledge
-newcomer limits steps k = record { number = k; limits = limits; seen = []; mine = []; phase = Idle; image = []; writes = false; scanned = 0; least = 0; published = false; places = []; words = []; held = []; steps = steps }
+newcomer limits steps k = record { number = k; limits = limits; seen = []; mine = []; phase = Idle; image = []; writes = false; scanned = 0; least = 0; published = false; places = []; words = []; held = []; holders = []; steps = steps }
 
 -- the passes from k on, so many
 unfoldable pub newcomers : Limits → ℕ → ℕ → ℕ → List Knowledge

@@ -100,6 +100,13 @@ scans_all a (n ∷ ns) = scans_all (scans a n) ns
 abbrev pub fills : Knowledge → ℕ → ℕ → ℕ → Knowledge
 fills a p i x = record a { places = slice_set a.places p Filled; words = slice_set a.words (word_place p i) x; steps = a.steps + 1 }
 
+-- A word of a page is filled: a load tells whether it is there already, and is the fill then; else a store follows.
+abbrev pub fill_steps : Knowledge → ℕ → ℕ → ℕ → ℕ
+fill_steps a p i x = if slice_index a.words (word_place p i) == x then 1 else 2
+
+abbrev pub fills_word : Knowledge → ℕ → ℕ → ℕ → Knowledge
+fills_word a p i x = record (fills a p i x) { steps = a.steps + fill_steps a p i x }
+
 -- a free page is taken
 abbrev pub takes_page : Knowledge → ℕ → Knowledge
 takes_page a p = record a { places = slice_set a.places p Reserved; steps = a.steps + 1 }
@@ -163,9 +170,13 @@ Gets m r =
     (ledger : Ledger) × (log : List Commit) × (words : List ℕ) × let a = pass_of m.0 in let c = takes_lock a log (ledger_places ledger) words in
     (r ≡ (c ∷ [], (0, Some ledger) ∷ m.1)) × StartsWith log a.seen × IsPass c × IsFound ledger c
 
--- another pass holds the lock
+-- a pass whose try found the pass b holding the lock
+abbrev pub finds_held : Knowledge → ℕ → Knowledge
+finds_held a b = record a { holders = b ∷ a.holders; steps = a.steps + 1 }
+
+-- another pass holds the lock, of whose number the word has one more
 abbrev pub IsLate : Me (Option Ledger) (List Knowledge) → ℕ → Me (Option Ledger) (List Knowledge) → Type 0
-IsLate m n r = let a = pass_of m.0 in (r ≡ (counted a ∷ [], m.1)) × (n ≢ a.number + 1) × (n < a.limits.passes + 1)
+IsLate m n r = let a = pass_of m.0 in (r ≡ (finds_held a (n - 1) ∷ [], m.1)) × (n ≢ a.number + 1) × (n < a.limits.passes + 1)
 
 abbrev pub Locked : Step (Option Ledger) → Me (Option Ledger) (List Knowledge) → ℕ → Me (Option Ledger) (List Knowledge) → Type 0
 Locked st m n r = MatchBool (n == 0) (Gets m r) (IsLate m n r)
@@ -241,6 +252,10 @@ OwnRead st m n r = let a = pass_of m.0 in (r ≡ (counted a ∷ [], m.1)) × (n 
 
 abbrev pub FilledAt : Step (Option Ledger) → Me (Option Ledger) (List Knowledge) → ℕ → Me (Option Ledger) (List Knowledge) → Type 0
 FilledAt st m n r = let a = pass_of m.0 in (p i : ℕ) → st.word ≡ word_place p i → i < 512 → r ≡ (fills a p i n ∷ [], m.1)
+
+-- a word of a page was found there, and the page is filled with it
+abbrev pub FilledFound : Step (Option Ledger) → Me (Option Ledger) (List Knowledge) → ℕ → Me (Option Ledger) (List Knowledge) → Type 0
+FilledFound st m n r = let a = pass_of m.0 in ((p i : ℕ) → st.word ≡ word_place p i → i < 512 → r ≡ (fills a p i n ∷ [], m.1)) × (n ≡ slice_index a.words st.word)
 
 -- the page is taken or given up, at its first word
 abbrev pub PageTaken : Step (Option Ledger) → Me (Option Ledger) (List Knowledge) → ℕ → Me (Option Ledger) (List Knowledge) → Type 0

@@ -15,8 +15,8 @@ use Rattle.be_table.specs.Place.{Place, Opened, Work}
 use Rattle.be_table.specs.Reading.{standing_in, word_in}
 use Rattle.be_table.specs.Versions.{at_start, SpellsVolume}
 use Rattle.be_journal.specs.Journal.{replay}
-use Rattle.be_table.specs.Rule.{entries, page_at, reach_at, newcomer}
-use Rattle.be_table.specs.Steps.{Has, AllIdle, Keeps, IsPass, looks, takes_lock, pins, takes_page, scans_all, IsLeast, pages_from, LeavesNone, Unreached}
+use Rattle.be_table.specs.Rule.{AreBad, IsWithin, entries, page_at, reach_at, newcomer}
+use Rattle.be_table.specs.Steps.{Has, AllIdle, Keeps, IsPass, looks, finds_held, takes_lock, pins, takes_page, scans_all, IsLeast, pages_from, LeavesNone, Unreached}
 
 -- a seat of this table
 abbrev pub IsSeatOf : Opened → Place → Type 0
@@ -60,9 +60,9 @@ pub record Pins (a c : Knowledge) : Type 0 where
   pub same : (x : ℕ) × (a.phase ≡ Announced x) × (c ≡ pins a x c.seen c.image)
   pub pass : IsPass c
 
--- another pass of the table holds the lock
-abbrev pub IsBusy : Refusal → Knowledge → Type 0
-IsBusy r a = (b : ℕ) × (r ≡ Busy b) × (b < a.limits.passes) × (b ≢ a.number)
+-- the pass made one try, which found that another pass of the table holds the lock; the refusal names that pass
+abbrev pub IsBusy : Refusal → Knowledge → Knowledge → Type 0
+IsBusy r a c = (b : ℕ) × (r ≡ Busy b) × (b < a.limits.passes) × (b ≢ a.number) × (c ≡ finds_held a b)
 
 -- why an entry has no room
 abbrev pub HasNoRoom : Refusal → Knowledge → Type 0
@@ -106,13 +106,9 @@ pub record FindsNone (old new : Work) (least : ℕ) : Type 0 where
   pub none : (p : ℕ) → p < length new.knows.places → place_of new.knows.places p ≢ Free
   pub spent : IsSpent new.knows least
 
--- the limits that a table can't have
-abbrev pub AreBad : Limits → Type 0
-AreBad l = (l.pages < 8) ⊎ (16384 < l.pages) ⊎ (l.passes ≡ 0) ⊎ (64 < l.passes) ⊎ (l.commits ≡ 0) ⊎ (4294967296 ≤ l.commits)
-
 -- why a table with these limits was not opened
 abbrev pub IsUnopened : Limits → Refusal → Type 0
-IsUnopened l r = ((r ≡ BadLimits) × AreBad l) ⊎ ((r ≡ OutOfMemory) × (¬ (AreBad l)))
+IsUnopened l r = ((r ≡ BadLimits) × AreBad l) ⊎ ((r ≡ OutOfMemory) × IsWithin l)
 
 -- what a seat knows that has taken in these passes
 pub record Gathered (known v : List Knowledge) : Type 0 where

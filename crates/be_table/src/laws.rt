@@ -9,7 +9,7 @@ ghost use Rattle.std.specs.Prelude.{ℕ, List, Option};
 ghost use Rattle.be_table.specs.declared.ledger.Ledger.{Ledger};
 ghost use Rattle.be_table.specs.declared.limits.Limits.{Limits};
 ghost use Rattle.be_table.specs.declared.pass.Knowledge.{Knowledge};
-ghost use Rattle.be_table.specs.Laws.{LookIsItsEvent, AnnounceIsItsEvent, LookAgainIsItsEvent, UnpinIsItsEvent, PinnedReadIsItsEvent, LockIsItsEvent, ScanIsItsEvent, FillIsItsEvent, OwnReadIsNoEvent, TakeIsNoEvent, GiveUpIsNoEvent, PublishIsItsEvent, UnlockIsItsEvent, CompareIsNoEvent, SplitIsNoEvent, JoinIsNoEvent, ArrivalIsNoEvent};
+ghost use Rattle.be_table.specs.Laws.{LookIsItsEvent, AnnounceIsItsEvent, LookAgainIsItsEvent, UnpinIsItsEvent, PinnedReadIsItsEvent, LockIsItsEvent, ScanIsItsEvent, FillIsItsEvent, FoundFillIsItsEvent, OwnReadIsNoEvent, TakeIsNoEvent, GiveUpIsNoEvent, PublishIsItsEvent, UnlockIsItsEvent, CompareIsNoEvent, SplitIsNoEvent, JoinIsNoEvent, ArrivalIsNoEvent};
 
 /// A load of the current number is Look.
 pub fn look()
@@ -49,6 +49,11 @@ pub fn scan()
 /// The store of a page word is Fill.
 pub fn fill()
     ensures { (limits : Limits) (slots id : ℕ) (a : Knowledge) (carried : List (ℕ × Option Ledger)) → FillIsItsEvent limits slots id a carried }
+{}
+
+/// A load of a word of a page that the holder has in hand is Fill, of the word that is there.
+pub fn found_fill()
+    ensures { (limits : Limits) (slots id : ℕ) (a : Knowledge) (carried : List (ℕ × Option Ledger)) → FoundFillIsItsEvent limits slots id a carried }
 {}
 
 /// A load of a page word by the holder is no event.

@@ -40,6 +40,8 @@ pub struct Knowledge {
     pub words: LinkedList<u64>,
     /// The pages that its write had taken and not given back when its last whole scan ended.
     pub held: LinkedList<u64>,
+    /// The passes that its tries to take the lock found holding it, the last one first.
+    pub holders: LinkedList<u64>,
     /// The number of its steps on words.
     pub steps: u64,
 }

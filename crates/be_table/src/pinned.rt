@@ -2,17 +2,23 @@
 //!
 //! Its readable pages are those of the version, with the words that they had when it was published. Each read is one
 //! load, and no other call is a step.
-ghost use Rattle.std.specs.Prelude.{◌≡◌};
+ghost use Rattle.std.specs.Prelude.{◌≡◌, ◌<◌, IsTrue, slice_index};
+ghost use Rattle.be_pages.specs.Pages.{is_readable};
+ghost use Rattle.be_table.specs.Reading.{pinned_standing};
+ghost use Rattle.be_table.specs.Rule.{counted, word_place};
 
-use crate::seat::Seat;
-use crate::table::VersionTable;
+use crate::marks::Marks;
+use crate::rule::PinnedWord;
+use crate::seat::{Base, Seat};
+use crate::table::{PAGES, VersionTable};
 use be_pages::Look;
 use std::marker::Model;
 
 /// A pinned pass that reads pages.
 pub struct PinnedLook<'a> {
     table: &'a VersionTable,
-    seat: Seat,
+    base: Base,
+    marks: Marks,
 }
 
 impl<'a> Model for PinnedLook<'a> {
@@ -20,11 +26,11 @@ impl<'a> Model for PinnedLook<'a> {
 
     ghost Value = { Pin };
 
-    ghost use Rattle.be_table.specs.Works.{IsSeatOf};
+    ghost use Rattle.be_table.specs.Readers.{reader_of, IsReader};
 
-    ghost view = { λ p. record { table = p.table.now; knows = p.seat.knows } };
+    ghost view = { reader_of };
 
-    ghost invariant = { λ p. IsSeatOf p.table.now p.seat };
+    ghost invariant = { IsReader };
 }
 
 impl<'a> PinnedLook<'a> {
@@ -34,15 +40,32 @@ impl<'a> PinnedLook<'a> {
         requires { IsSeatOf table.now seat }
         ensures { (result.table ≡ table.now) × (result.knows ≡ seat.knows) }
     {
-        PinnedLook { table, seat }
+        let (base, marks) = seat.into_base();
+        PinnedLook { table, base, marks }
+    }
+
+    // Word i of a page of the pinned version. One load.
+    fn read(&mut self, page: u64, i: usize) -> u64
+        requires page { IsTrue (is_readable (pinned_standing self.old.knows page)) }
+        requires place { i < 512 }
+        ensures look { self.new ≡ record self.old { knows = counted self.old.knows } }
+        ensures word { result ≡ slice_index self.old.knows.image (word_place page i) }
+    {
+        let table = self.table;
+        let word = PAGES + 512 * page as usize + i;
+        table.table.shared.load::<PinnedWord>(&mut self.base, word)
     }
 
     /// Gives the seat back.
     pub fn into_seat(self) -> Seat
         ensures { IsSeatOf self.entry.table result × (result.knows ≡ self.entry.knows) }
     {
-        let PinnedLook { table: _, seat } = self;
-        seat
+        let PinnedLook {
+            table: _,
+            base,
+            marks,
+        } = self;
+        Seat::of(base, marks)
     }
 }
 
@@ -50,7 +73,7 @@ impl<'a> Look for PinnedLook<'a> {
     ghost use Rattle.std.specs.Prelude.{true};
     ghost use Rattle.be_table.specs.declared.pass.Knowledge.{Knowledge};
     ghost use Rattle.be_table.specs.Place.{Opened};
-    ghost use Rattle.be_table.specs.Reading.{steady, pinned_standing, word_in, small_pin};
+    ghost use Rattle.be_table.specs.Reading.{steady, word_in, small_pin};
 
     ghost Kept = { Opened × Knowledge };
 
@@ -65,7 +88,6 @@ impl<'a> Look for PinnedLook<'a> {
     ghost pages_small = { small_pin };
 
     fn word(&mut self, page: u64, i: usize) -> u64 {
-        let table = self.table;
-        table.pinned_word(&mut self.seat, page, i)
+        self.read(page, i)
     }
 }

@@ -4,7 +4,7 @@
 //! its pass is the definition that its name carries.
 ghost use Rattle.std.specs.Prelude.{[]};
 ghost use Rattle.be_table.specs.Rule.{Shows, everyone, first_seat, other_seats, joined};
-ghost use Rattle.be_table.specs.Steps.{LookTold, Locked, Unlocked, Compared, Arrived, Told, PinnedAt, Unpinned, Scanned, PinnedRead, OwnRead, FilledAt, PageTaken, PageGivenUp, Published};
+ghost use Rattle.be_table.specs.Steps.{LookTold, Locked, Unlocked, Compared, Arrived, Told, PinnedAt, Unpinned, Scanned, PinnedRead, OwnRead, FilledAt, FilledFound, PageTaken, PageGivenUp, Published};
 
 use crate::ledger::Ledger;
 use crate::limits::Limits;
@@ -107,6 +107,13 @@ pub(crate) struct Fill;
 
 impl Play<Option<Ledger>, View> for Fill {
     ghost then = { FilledAt };
+}
+
+/// A load that fills a word with what is there.
+pub(crate) struct FoundFill;
+
+impl Play<Option<Ledger>, View> for FoundFill {
+    ghost then = { FilledFound };
 }
 
 pub(crate) struct TakePage;

@@ -61,7 +61,7 @@ impl VersionTable {
     ghost use Rattle.be_core.specs.declared.event.Phase.TheVariants.{Pinned};
     ghost use Rattle.be_journal.specs.Journal.{IsLegal, replay};
     ghost use Rattle.be_table.specs.Reading.{pinned_standing, word_in};
-    ghost use Rattle.be_table.specs.Rule.{entries};
+    ghost use Rattle.be_table.specs.Rule.{IsWithin, entries};
     ghost use Rattle.be_table.specs.History.{StartsWith, AllBelow};
     ghost use Rattle.std.specs.Prelude.{[], ◌∷◌, take};
     ghost use Rattle.be_table.specs.Versions.{at_start};
@@ -71,8 +71,8 @@ impl VersionTable {
     /// A table with an empty journal, and the seats of its passes in the order of their numbers. Version 0 is the page
     /// `first`, which spells the empty volume, at page 0; the other pages are free.
     ///
-    /// BadLimits where a limit is out of its range, and OutOfMemory where a growth was refused. No later call but
-    /// `reserve` takes memory.
+    /// BadLimits exactly where a limit is out of its range, and OutOfMemory where a growth was refused. No later call
+    /// but `reserve` takes memory.
     pub fn open(
         alloc: Global,
         limits: Limits,
@@ -80,16 +80,10 @@ impl VersionTable {
     ) -> Result<(VersionTable, Vec<Seat>), Refusal>
         requires { IsVersion (λ q. at_start (has (0 ∷ []) q)) (λ q i. slice_index first.now i) 0 empty }
         ensures { MatchResult result
-            (λ r. (r.0.limits ≡ limits) × (length r.1.items ≡ limits.passes) × AreNew r.0 0 r.1.items)
+            (λ r. (r.0.limits ≡ limits) × (length r.1.items ≡ limits.passes) × AreNew r.0 0 r.1.items × IsWithin limits)
             (λ r. IsUnopened limits r) }
     {
-        if limits.pages < 8
-            || limits.pages > 16384
-            || limits.passes == 0
-            || limits.passes > 64
-            || limits.commits == 0
-            || limits.commits >= 1 << 32
-        {
+        if !limits.are_within() {
             return Err(Refusal::BadLimits);
         }
         let Ok(mut seats) = Vec::with_capacity(alloc, limits.passes as usize) else {
@@ -188,12 +182,13 @@ impl VersionTable {
         *seat = Seat::of(base, marks);
     }
 
-    /// Takes the lock, or answers Busy with the pass that has it, which is another one. One compare-exchange.
+    /// Takes the lock, or answers Busy with the pass that this try found holding it, which is another one. One
+    /// compare-exchange.
     pub fn lock(&self, seat: Seat) -> Result<Writing<'_>, (Seat, Refusal)>
         requires { IsSeatOf self.now seat }
         ensures { MatchResult result
             (λ w. (w.table ≡ self.now) × (w.reserved ≡ 0) × TakesLock seat.knows w.knows)
-            (λ r. IsSeatOf self.now r.0 × (r.0.knows ≡ counted seat.knows) × IsBusy r.1 seat.knows) }
+            (λ r. IsSeatOf self.now r.0 × IsBusy r.1 seat.knows r.0.knows) }
     {
         let (mut base, marks) = seat.into_base();
         let shared = &self.table.shared;

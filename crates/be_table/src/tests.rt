@@ -323,6 +323,51 @@ fn busy(rt: HostRuntime) -> Result<(), Fail> {
     Ok(())
 }
 
+/// A table for three passes, and their seats.
+fn for_three(alloc: Global) -> Result<(VersionTable, Seat, Seat, Seat), Refusal>
+    ensures { IfOk result (λ r. IsSeatOf r.0 r.1 × IsSeatOf r.0 r.2 × IsSeatOf r.0 r.3) }
+{
+    let limits = Limits {
+        pages: 64,
+        passes: 3,
+        commits: 10,
+    };
+    let (table, mut seats) = opened(alloc, limits)?;
+    let Some(third) = seats.pop() else {
+        unreachable!()
+    };
+    let Some(second) = seats.pop() else {
+        unreachable!()
+    };
+    let Some(first) = seats.pop() else {
+        unreachable!()
+    };
+    Ok((table, first, second, third))
+}
+
+// Of three passes each is told which of the others holds the lock.
+#[test]
+fn busy_of_three(rt: HostRuntime) -> Result<(), Fail> {
+    let (table, mut first, mut second, third) = for_three(rt.alloc())?;
+    let writing = locked(&table, third)?;
+    let told_first = refusal_of_lock(&table, &mut first);
+    let told_second = refusal_of_lock(&table, &mut second);
+    let mut third = writing.unlock();
+    let writing = locked(&table, second)?;
+    let told_again = refusal_of_lock(&table, &mut first);
+    let told_third = refusal_of_lock(&table, &mut third);
+    drop(writing.unlock());
+    assert_eq!(rt;
+        (told_first, told_second),
+        (Some(Refusal::Busy(2)), Some(Refusal::Busy(2)))
+    );
+    assert_eq!(rt;
+        (told_again, told_third),
+        (Some(Refusal::Busy(1)), Some(Refusal::Busy(1)))
+    );
+    Ok(())
+}
+
 // While a pass holds the lock, another pins and reads: before the write is published, and after.
 #[test]
 fn reading_under_held_lock(rt: HostRuntime) -> Result<(), Fail> {

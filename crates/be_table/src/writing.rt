@@ -9,11 +9,11 @@ ghost use Rattle.be_pages.specs.declared.room.Standing.TheVariants.{Taken, Fille
 ghost use Rattle.be_table.specs.Reading.{standing_in};
 ghost use Rattle.be_pages.specs.Place.{is_in_hand, is_held_page, is_retired, place_of, given_place};
 ghost use Rattle.be_table.specs.Rule.{pass_of, counted, word_place, current_word};
-ghost use Rattle.be_table.specs.Steps.{IsNewest, IsPass, IsFound, MayPublish, publishes, MayScan, IsPart, fills, takes_page, gives_up, scans, scans_out, scans_all, least_found, IsLeast, LeavesNone};
+ghost use Rattle.be_table.specs.Steps.{IsNewest, IsPass, IsFound, MayPublish, publishes, MayBeFilled, MayScan, IsPart, fills_word, takes_page, gives_up, scans, scans_out, scans_all, least_found, IsLeast, LeavesNone};
 
 use crate::ledger::Ledger;
 use crate::marks::Marks;
-use crate::rule::{Announced, Fill, GiveUp, OwnWord, Publish, Scan, TakePage, Unlock};
+use crate::rule::{Announced, Fill, FoundFill, GiveUp, OwnWord, Publish, Scan, TakePage, Unlock};
 use crate::seat::{Base, Seat};
 use crate::table::{ANNOUNCE, CURRENT, LOCK, PAGES, VersionTable};
 use be_pages::Place;
@@ -104,17 +104,16 @@ impl<'a> Writing<'a> {
         table.table.shared.load::<OwnWord>(&mut self.base, word)
     }
 
-    /// Writes word i of a page that was taken in this write. One store.
+    /// Writes word i of a page that was taken in this write. One load, and one store where the word isn't there yet: a
+    /// page that is used again has many of its words, and a store costs far more than a load.
     pub fn fill(&mut self, page: u64, i: usize, word: u64)
         requires open { self.old.knows.published ≡ false }
         requires taken { (page < length self.old.knows.places) × IsTrue (is_in_hand (place_of self.old.knows.places page)) }
         requires place { i < 512 }
-        ensures write { self.new ≡ record self.old { knows = fills self.old.knows page i word } }
+        ensures write { self.new ≡ record self.old { knows = fills_word self.old.knows page i word } }
         ensures inside { word_place page i < length self.old.knows.words }
     {
-        let table = self.table;
-        let at = PAGES + 512 * page as usize + i;
-        table.table.shared.store::<Fill>(&mut self.base, at, word);
+        fill_word(self.table, &mut self.base, page, i, word);
         self.ledger.pool.fill(page);
     }
 
@@ -297,6 +296,24 @@ fn tell_taken(table: &VersionTable, base: &mut Base, page: u64)
 {
     let at = PAGES + 512 * page as usize;
     table.table.shared.load::<TakePage>(base, at);
+}
+
+// Stores a word of a page in hand, where it isn't there.
+fn fill_word(table: &VersionTable, base: &mut Base, page: u64, i: usize, word: u64)
+    requires seat { base.old.table_id ≡ table.now.id }
+    requires pass { (base.old.me.0 ≡ pass_of base.old.me.0 ∷ []) × ((pass_of base.old.me.0).writes ≡ true) × ((pass_of base.old.me.0).published ≡ false) }
+    requires small { page < 16384 }
+    requires page { (page < table.now.limits.pages) × MayBeFilled (pass_of base.old.me.0).places page }
+    requires place { i < 512 }
+    ensures seat { (base.new.table_id ≡ base.old.table_id) × (base.new.id ≡ base.old.id) }
+    ensures me { base.new.me ≡ (fills_word (pass_of base.old.me.0) page i word ∷ [], base.old.me.1) }
+{
+    let shared = &table.table.shared;
+    let at = PAGES + 512 * page as usize + i;
+    let found = shared.load::<FoundFill>(base, at);
+    if found != word {
+        shared.store::<Fill>(base, at, word);
+    }
 }
 
 // One announcement, of the pass whose turn it is.

@@ -1,7 +1,8 @@
-use Rattle.std.proofs.Common.{◌+◌, Some, sym, ap, ◌∙◌, arith}
+use Rattle.std.proofs.Common.{◌+◌, ◌-◌, Some, sym, ap, ◌∙◌, arith}
 use Rattle.be_table.proofs.Locks.{locks_as, got, late, is_out}
-use Rattle.be_table.specs.Rule.{counted, pass_of}
-use Rattle.be_table.proofs.Told.{told_as, stepped_pass}
+use Rattle.be_table.specs.Rule.{pass_of}
+use Rattle.be_table.specs.Steps.{finds_held}
+use Rattle.be_table.proofs.Told.{told_as, late_pass}
 use Rattle.be_table.proofs.table.VersionTable.lock.Goals as goal
 
 pub compare_exchange-found-requires : goal.compare_exchange-found-requires
@@ -20,6 +21,7 @@ pub of-requires-else-found-eq0-clause-told : goal.of-requires-else-found-eq0-cla
 of-requires-else-found-eq0-clause-told c =
     let t = c.into_base-base.ensures.told.1 in
     let l = late c.into_base-base.result.0.me c.compare_exchange-found.result c.compare_exchange-found.new.seat.me c.compare_exchange-found.ensures.2 c.if-found-eq0.false in
-    told_as (counted c.args.seat.knows) c.compare_exchange-found.new.seat.me c.into_base-base.result.1.number c.into_base-base.result.1.seen
-    (ap (λ m. pass_of m.0) l.0 ∙ ap (λ m. counted (pass_of m.0)) c.into_base-base.ensures.pass.1)
-    (record { number_is = t.number_is; seen_is = t.seen_is; writes = t.writes; pass = stepped_pass c.args.seat.knows _ t.pass })
+    let b = c.compare_exchange-found.result - 1 in
+    told_as (finds_held c.args.seat.knows b) c.compare_exchange-found.new.seat.me c.into_base-base.result.1.number c.into_base-base.result.1.seen
+    (ap (λ m. pass_of m.0) l.0 ∙ ap (λ m. finds_held (pass_of m.0) b) c.into_base-base.ensures.pass.1)
+    (record { number_is = t.number_is; seen_is = t.seen_is; writes = t.writes; pass = late_pass c.args.seat.knows b t.pass })

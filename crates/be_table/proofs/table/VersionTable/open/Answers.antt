@@ -1,4 +1,4 @@
-use Rattle.std.proofs.Common.{◌+◌, length, ap, ◌∙◌, arith, refl}
+use Rattle.std.proofs.Common.{◌+◌, length, ap, ◌∙◌, arith, rules, refl}
 use Rattle.std.specs.Prelude.{slice_index}
 use Rattle.std.proofs.lemmas.List.{get_or-replicate}
 use Rattle.be_table.proofs.Deals.{begins_as, only_one}
@@ -9,7 +9,7 @@ pub new-requires-3 : goal.new-requires-3
 new-requires-3 c =
     let z = c.lay_first.ensures in
     begins_as c.args.limits c.as_slice.result.now _ _ (only_one _ _ _ c.push_reserved.ensures.items c.in-Ok-with_capacity.ensures.items)
-    record { some_pages = omega arith; few_pages = omega arith; some_pass = omega arith; few = omega arith; short = omega (arith, c.if-limits.false) }
+    (c.are_within.ensures.within (search rules))
     (let v = ap length c.as_slice.ensures.value in let l = c.in-Ok-vec.ensures.len in let o = c.in-Ok-vec.words.ok.0 in omega (arith, z.0))
     (λ k lt. ap (λ ws. slice_index ws k) c.as_slice.ensures.value ∙ z.1 k lt ∙ ap (λ ws. slice_index ws k) (c.in-Ok-vec.ensures.items_if_clones_equal (λ a b. b)) ∙ get_or-replicate _ k 0 0 (omega arith))
     (ap (λ j. j.entries) c.new-2.ensures) (ap (λ j. j.limit) c.new-2.ensures) refl c.in-Ok-new.ensures.pages c.in-Ok-new.ensures.used c.in-Ok-new.ensures.free

@@ -1,0 +1,37 @@
+-- A word of a page is filled, by one step or by two.
+use Rattle.std.proofs.Common.{◌≡◌, ◌≢◌, ℕ, ◌+◌, ◌*◌, ◌<◌, ◌==◌, ◌||◌, if◌then◌else◌, List, [], ◌∷◌, length, Bool, slice_index, slice_set, sym, ap, ◌∙◌, arith, eq-eqb, ne_eqb, length-set, get_or-set_same}
+use Rattle.std.proofs.lemmas.List.{set-set}
+use Rattle.be_pages.specs.declared.page_pool.Place.{Place}
+use Rattle.be_pages.specs.declared.page_pool.Place.TheVariants.{Filled, Current}
+use Rattle.be_table.specs.declared.pass.Knowledge.{Knowledge}
+use Rattle.be_table.specs.Rule.{pass_of, word_place}
+use Rattle.be_table.specs.Ledger.{is_free, is_taken}
+use Rattle.be_table.specs.Steps.{MayBeFilled, fills, fill_steps, fills_word}
+use Rattle.be_table.proofs.Frames.{Me1}
+
+-- a page that was filled may be filled again
+pub may_again : (places : List Place) (p : ℕ) → p < length places → MayBeFilled (slice_set places p Filled) p
+may_again places p lt = (omega (arith, lt, length-set places p Filled), ap (λ (x : Place). is_taken x || is_free x) (get_or-set_same places p Filled Current lt))
+
+-- the word was there
+pub there : (a : Knowledge) (p i n x : ℕ) → n ≡ slice_index a.words (word_place p i) → n ≡ x → fills a p i n ≡ fills_word a p i x
+there a p i n x found same =
+    let one : 1 ≡ fill_steps a p i x = sym (ap (λ (b : Bool). if b then 1 else 2) (eq-eqb (slice_index a.words (word_place p i)) x (sym found ∙ same))) in
+    ap (λ (q : ℕ × ℕ). record (fills a p i q.0) { steps = a.steps + q.1 }) (λ k. (same k, one k))
+
+-- another word was there, and the new one was stored
+pub stored : (a : Knowledge) (p i n x : ℕ) → n ≡ slice_index a.words (word_place p i) → n ≢ x → fills (fills a p i n) p i x ≡ fills_word a p i x
+stored a p i n x found other =
+    let two : fill_steps a p i x ≡ 2 = ap (λ (b : Bool). if b then 1 else 2) (ne_eqb (slice_index a.words (word_place p i)) x (λ e. other (found ∙ e))) in
+    let steps : a.steps + 1 + 1 ≡ a.steps + fill_steps a p i x = omega (arith, two) in
+    let places : slice_set (slice_set a.places p Filled) p Filled ≡ slice_set a.places p Filled = set-set a.places p Filled Filled in
+    let words : slice_set (slice_set a.words (word_place p i) n) (word_place p i) x ≡ slice_set a.words (word_place p i) x = set-set a.words (word_place p i) n x in
+    ap (λ (q : List Place × List ℕ × ℕ). record a { places = q.0; words = q.1; steps = q.2 }) (λ k. (places k, words k, steps k))
+
+-- the same, of seats before, between and after
+pub there_as : (me r : Me1) (p i n x : ℕ) → r ≡ (fills (pass_of me.0) p i n ∷ [], me.1) → n ≡ slice_index (pass_of me.0).words (word_place p i) → n ≡ x → r ≡ (fills_word (pass_of me.0) p i x ∷ [], me.1)
+there_as me r p i n x is found same = is ∙ ap (λ (a : Knowledge). (a ∷ [], me.1)) (there (pass_of me.0) p i n x found same)
+
+pub stored_as : (me r q : Me1) (p i n x : ℕ) → r ≡ (fills (pass_of me.0) p i n ∷ [], me.1) → q ≡ (fills (pass_of r.0) p i x ∷ [], r.1) → n ≡ slice_index (pass_of me.0).words (word_place p i) → n ≢ x → q ≡ (fills_word (pass_of me.0) p i x ∷ [], me.1)
+stored_as me r q p i n x first next found other =
+    next ∙ ap (λ (m : Me1). (fills (pass_of m.0) p i x ∷ [], m.1)) first ∙ ap (λ (a : Knowledge). (a ∷ [], me.1)) (stored (pass_of me.0) p i n x found other)
