@@ -20,7 +20,7 @@ use Rattle.be_volume.specs.Query.{scan}
 use Rattle.be_volume.specs.Volume.{State, steps}
 use Rattle.be_volume.specs.declared.ops.Done.{Done}
 use Rattle.be_volume.specs.declared.ops.Op.{Op}
-use Rattle.be_serving.specs.Output.{Session, Replies, Serves, Outputs, IsOutputTo, IsOutputFrom, Gives, MayReply, MayReplyTo, opening, unwritten, write_reply, taken, commit_reply, committing, beginning, aborting, pinning, unpinning, watching, updating, refreshing, with_store, with_batch}
+use Rattle.be_serving.specs.Output.{Session, Replies, Serves, Outputs, IsOutputTo, Gives, MayReply, MayReplyTo, opening, unwritten, write_reply, taken, commit_reply, committing, beginning, aborting, pinning, unpinning, watching, updating, refreshing, with_store, with_batch}
 use Rattle.be_serving.specs.Own.{IsPartOf, operations, write_op, write_ops}
 use Rattle.be_language.specs.Reply.{Reply, queued as queued_word, full_batch}
 use Rattle.be_language.specs.Request.{Request, silent, malformed, write, query, explain, get, attrs, indices, pin, unpin, live, refresh, begin, commit, abort, asked, lines_of}
@@ -283,9 +283,9 @@ pass_writes a c script out fresh behind h =
 
 -- what a script was replied that was served from such a pass, and what the pass wrote
 pub pass_served : (a first last c : Knowledge) (script old text : List ℕ) → first ≡ a → c ≡ last → a.seen ≡ [] → IsPass c → old ≡ [] →
-    Wrote (Some old) (Some text) (IsOutputTo (known first) script (known last)) → IsOutputFrom (known a) script text × IsPartOf (operations c.mine) (write_ops script)
+    Wrote (Some old) (Some text) (IsOutputTo (known first) script (known last)) → IsOutputTo (known a) script (known c) text × IsPartOf (operations c.mine) (write_ops script)
 pass_served a first last c script old text begun ended fresh behind empty w =
     let out : IsOutputTo (known first) script (known last) text = subst (IsOutputTo (known first) script (known last)) (sym (w.appended ∙ ap (λ l. l ++ w.out) empty)) w.is in
     let from : IsOutputTo (known a) script (known last) text = subst (λ (k : Knowledge). IsOutputTo (known k) script (known last) text) begun out in
     let to : IsOutputTo (known a) script (known c) text = subst (λ (k : Knowledge). IsOutputTo (known a) script (known k) text) (sym ended) from in
-    ((known c, to), pass_writes a c script text fresh behind to)
+    (to, pass_writes a c script text fresh behind to)

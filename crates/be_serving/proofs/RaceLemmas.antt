@@ -9,8 +9,9 @@ use Rattle.be_store.specs.Passes.{IsPassOf}
 use Rattle.be_journal.specs.Journal.{by_pass}
 use Rattle.be_journal.specs.Text.{lines_from}
 use Rattle.be_journal.specs.declared.entries.Entry.{Entry}
+use Rattle.be_table.specs.History.{StartsWith}
 use Rattle.be_table.specs.Place.{Opened, Place}
-use Rattle.be_table.specs.Rule.{newcomer}
+use Rattle.be_table.specs.Rule.{entries, newcomer}
 use Rattle.be_table.specs.declared.limits.Limits.{Limits}
 use Rattle.be_table.specs.declared.pass.Knowledge.{Knowledge}
 use Rattle.be_table.specs.Steps.{Has, Keeps}
@@ -18,11 +19,11 @@ use Rattle.be_table.specs.Works.{AllAt, knows_of}
 use Rattle.be_serving.specs.Own.{IsPartOf, operations, write_ops}
 use Rattle.std.specs.declared.option.Option.{Option}
 use Rattle.std.specs.Io.KnownBytes.{Appends}
-use Rattle.be_serving.specs.Output.{IsOutputFrom}
+use Rattle.be_serving.specs.Output.{IsOutputTo}
 use Rattle.be_serving.specs.Run.{Wrote}
 use Rattle.be_serving.specs.Served.{known}
 use Rattle.be_serving.proofs.RunLemmas.{written_both}
-use Rattle.be_serving.specs.Race.{HaveServed, HaveReplied, start_of, pass_line, replies_text, result_text}
+use Rattle.be_serving.specs.Race.{HaveServed, AreRepliesOf, IsOutcome, IsReplied, pass_line, replies_text, result_text}
 
 -- what is so of each element, and of one more at its place, is so of all
 pub each_pushed : {X : Type 0} (P : ℕ → X → Type 0) (xs : List X) (x : X) → ((k : ℕ) (d : X) → k < length xs → P k (get_or xs k d)) → P (length xs) x →
@@ -50,23 +51,38 @@ on_both (Ok x) p q f = f x p q
 on_both (Err e) p q f = tt
 
 -- a new pass sees an empty store
-pub from_new : {X E : Type 0} (A : Type 0) (text : X → List ℕ) (limits : Limits) (steps k : ℕ) (a : Knowledge) (script : List ℕ) (r : Result X E) → a ≡ newcomer limits steps k →
-    OnOk r A → IfOk r (λ x. IsOutputFrom (known a) script (text x)) → IfOk r (λ x. A × IsOutputFrom (start_of limits k) script (text x))
-from_new A text limits steps k a script (Ok x) is own replies = (own, subst (λ b. IsOutputFrom (known b) script (text x)) is replies)
-from_new A text limits steps k a script (Err e) is own replies = tt
+pub from_new : {X E : Type 0} (text : X → List ℕ) (limits : Limits) (steps k : ℕ) (a c : Knowledge) (script : List ℕ) (r : Result X E) → a ≡ newcomer limits steps k → c.number ≡ k →
+    OnOk r (by_pass c.number (entries c.seen) ≡ c.mine) → OnOk r (IsPartOf (operations c.mine) (write_ops script)) → IfOk r (λ x. IsOutputTo (known a) script (known c) (text x)) →
+    IfOk r (λ x. IsOutcome limits k script c (text x))
+from_new text limits steps k a c script (Ok x) is number mine own replies = record {
+  mine = subst (λ n. by_pass n (entries c.seen) ≡ c.mine) number mine;
+  own = own;
+  output = subst (λ (b : Knowledge). IsOutputTo (known b) script (known c) (text x)) is replies;
+}
+from_new text limits steps k a c script (Err e) is number mine own replies = tt
+
+-- a journal that keeps what a pass has seen and written is that of its script's replies
+replied_by : (limits : Limits) (journal : List Entry) (k : ℕ) (script text : List ℕ) (a : Knowledge) → a.number ≡ k → IsOutcome limits k script a text → StartsWith journal (entries a.seen) →
+    by_pass a.number journal ≡ a.mine → IsReplied limits journal k script text
+replied_by limits journal k script text a number o seen own = record {
+  last = known a;
+  output = o.output;
+  seen = seen;
+  own = subst (λ n. by_pass n journal ≡ a.mine) number own ∙ sym o.mine;
+}
 
 module _ {V E : Type 0} (store : Opened) (items : V → List ℕ) where
   -- what the thread of the pass k has promised
   abbrev pub EndsAs : ℕ → V → Place × Result V E → Type 0
-  EndsAs k script o = IsPassOf store o.0 × (o.0.knows.number ≡ k)
-      × IfOk o.1 (λ text. IsPartOf (operations o.0.knows.mine) (write_ops (items script)) × IsOutputFrom (start_of store.limits k) (items script) (items text))
+  EndsAs k script o = IsPassOf store o.0 × (o.0.knows.number ≡ k) × IfOk o.1 (λ text. IsOutcome store.limits k (items script) o.0.knows (items text))
 
   -- the outcomes from the number k on, none of which is a fault
   pub served_from : (k : ℕ) (scripts : List V) (outcomes : List (Place × Result V E)) (texts : List V) → length outcomes ≡ length scripts →
       ((i : ℕ) (o : Place × Result V E) (s : V) → i < length scripts → EndsAs (k + i) (get_or scripts i s) (get_or outcomes i o)) →
       map Ok texts ≡ map (λ (o : Place × Result V E). o.1) outcomes →
-      HaveServed store k (map items scripts) (map (λ (o : Place × Result V E). o.0) outcomes) × HaveReplied store.limits k (map items scripts) (map items texts)
-  served_from k [] [] [] count each all = (tt, tt)
+      HaveServed store k (map items scripts) (map (λ (o : Place × Result V E). o.0) outcomes)
+      × AreRepliesOf store.limits k (map items scripts) (map (λ (o : Place × Result V E). o.0) outcomes) (map items texts)
+  served_from k [] [] [] count each all = (tt, λ journal keeps. tt)
   served_from k [] [] (t ∷ ts) count each all = cc
   served_from k [] (o ∷ os) texts count each all = absurd (omega (arith, count))
   served_from k (s ∷ ss) [] texts count each all = absurd (omega (arith, count))
@@ -75,11 +91,11 @@ module _ {V E : Type 0} (store : Opened) (items : V → List ℕ) where
       let here = subst (λ n. EndsAs n s o) (add-zero k) (each 0 o s (omega arith)) in
       let first : Ok t ≡ o.1 = cc in
       let rest : map Ok ts ≡ map (λ (o : Place × Result V E). o.1) os = cc in
-      let told = IfOk-at_ok (λ text. IsPartOf (operations o.0.knows.mine) (write_ops (items s)) × IsOutputFrom (start_of store.limits k) (items s) (items text)) (sym first) here.2 in
+      let told : IsOutcome store.limits k (items s) o.0.knows (items t) = IfOk-at_ok (λ text. IsOutcome store.limits k (items s) o.0.knows (items text)) (sym first) here.2 in
       let behind = served_from (k + 1) ss os ts (omega (arith, count)) (λ i d u below.
       let e : k + suc i ≡ (k + 1) + i = omega arith in subst (λ n. EndsAs n (get_or ss i u) (get_or os i d)) e (each (suc i) d u (omega arith))) rest in (
-        (record { pass = here.0; number = here.1; own = told.0 }, behind.0),
-        (told.1, behind.1),
+        (record { pass = here.0; number = here.1; own = told.own }, behind.0),
+        (λ journal keeps. (replied_by store.limits journal k (items s) (items t) o.0.knows here.1 told keeps.0 keeps.1, behind.1 journal keeps.2)),
       )
 
 -- an end is one by equal promises

@@ -1,5 +1,5 @@
 -- What a race gives: what its passes have served, and what it writes.
-use Rattle.std.specs.Prelude.{◌≡◌, ℕ, ◌+◌, ◌<◌, List, [], ◌∷◌, ◌++◌, None, false, length, slice_index_or, codes}
+use Rattle.std.specs.Prelude.{◌≡◌, ℕ, ◌+◌, ◌<◌, List, [], ◌∷◌, ◌++◌, None, false, length, map, slice_index_or, codes}
 use Rattle.std.specs.Fmt.{decimal}
 use Rattle.std.specs.Io.KnownBytes.{Keeps}
 use Rattle.std.specs.declared.option.Option.{Option}
@@ -7,13 +7,17 @@ use Rattle.be_volume.specs.Volume.{empty}
 use Rattle.be_journal.specs.Journal.{IsLegal, by_pass}
 use Rattle.be_journal.specs.Text.{lines_from}
 use Rattle.be_journal.specs.declared.entries.Entry.{Entry}
-use Rattle.be_table.specs.History.{AllBelow}
+use Rattle.be_table.specs.History.{AllBelow, StartsWith}
 use Rattle.be_table.specs.Place.{Opened, Place}
-use Rattle.be_table.specs.Rule.{newcomer}
+use Rattle.be_table.specs.Rule.{entries, newcomer}
+use Rattle.be_table.specs.Steps.{Keeps as KeepsSeen}
+use Rattle.be_table.specs.Works.{knows_of}
 use Rattle.be_table.specs.declared.limits.Limits.{Limits as StoreLimits}
+use Rattle.be_table.specs.declared.pass.Knowledge.{Knowledge}
 use Rattle.be_store.specs.Passes.{IsPassOf}
-use Rattle.be_serving.specs.Output.{IsOutputFrom}
+use Rattle.be_serving.specs.Output.{IsOutputTo}
 use Rattle.be_serving.specs.Own.{IsPartOf, operations, write_ops}
+use Rattle.be_serving.specs.Served.{known}
 use Rattle.be_serving.specs.Store.{Store}
 use Rattle.be_serving.specs.declared.faults.RunFault.{RunFault}
 use Rattle.be_serving.specs.declared.faults.RunFault.TheVariants.{Limits, Read, TooLong, Write, Memory}
@@ -39,12 +43,31 @@ HaveServed store k [] (pass ∷ passes) = ⊥
 HaveServed store k (script ∷ scripts) [] = ⊥
 HaveServed store k (script ∷ scripts) (pass ∷ passes) = HasServed store k script pass × HaveServed store (k + 1) scripts passes
 
--- replies to each script, by its number, from the number k on: an output of it, where the other passes may write
-abbrev pub HaveReplied : StoreLimits → ℕ → List (List ℕ) → List (List ℕ) → Type 0
-HaveReplied limits k [] [] = Unit {0}
-HaveReplied limits k [] (text ∷ texts) = ⊥
-HaveReplied limits k (script ∷ scripts) [] = ⊥
-HaveReplied limits k (script ∷ scripts) (text ∷ texts) = IsOutputFrom (start_of limits k) script text × HaveReplied limits (k + 1) scripts texts
+-- What the pass k knows whose script was replied this text: its own writes are its entries of what it has seen, and some of
+-- those that the script asks for, in their order; and the text is an output of the script that leaves what the pass has seen.
+pub record IsOutcome (limits : StoreLimits) (k : ℕ) (script : List ℕ) (a : Knowledge) (text : List ℕ) : Type 0 where
+  pub mine : by_pass k (entries a.seen) ≡ a.mine
+  pub own : IsPartOf (operations a.mine) (write_ops script)
+  pub output : IsOutputTo (start_of limits k) script (known a) text
+
+-- What script k was replied, by the store of this journal: an output of the script, from an empty store on, where the other
+-- passes may write. The journal begins with what its pass saw at last, and has there all the entries by this pass.
+pub record IsReplied (limits : StoreLimits) (journal : List Entry) (k : ℕ) (script text : List ℕ) : Type 0 where
+  pub last : Store
+  pub output : IsOutputTo (start_of limits k) script last text
+  pub seen : StartsWith journal last.journal
+  pub own : by_pass k journal ≡ by_pass k last.journal
+
+-- replies to each script, by its number, from the number k on
+abbrev pub HaveReplied : StoreLimits → List Entry → ℕ → List (List ℕ) → List (List ℕ) → Type 0
+HaveReplied limits journal k [] [] = Unit {0}
+HaveReplied limits journal k [] (text ∷ texts) = ⊥
+HaveReplied limits journal k (script ∷ scripts) [] = ⊥
+HaveReplied limits journal k (script ∷ scripts) (text ∷ texts) = IsReplied limits journal k script text × HaveReplied limits journal (k + 1) scripts texts
+
+-- The replies are those of the store of these passes: by whatever journal keeps what they have seen and written.
+abbrev pub AreRepliesOf : StoreLimits → ℕ → List (List ℕ) → List Place → List (List ℕ) → Type 0
+AreRepliesOf limits k scripts passes texts = (journal : List Entry) → KeepsSeen journal (map knows_of passes) → HaveReplied limits journal k scripts texts
 
 -- the line of a pass, and its replies
 abbrev pub pass_line : ℕ → List ℕ
@@ -58,13 +81,13 @@ replies_text k (text ∷ texts) = (pass_line k ++ text) ++ replies_text (k + 1) 
 abbrev pub result_text : List Entry → List ℕ
 result_text journal = (codes "journal " ++ (decimal (length journal) ++ codes "\n")) ++ (lines_from 1 journal ++ codes "replay ok\n")
 
--- What a race writes is the replies to its scripts, and a legal journal. Each entry is by one of the scripts, and the
--- operations that are by a script are some of those that its lines ask for, in their order.
+-- What a race writes is the replies to its scripts, and a legal journal of the store that replied. Each entry is by one of
+-- the scripts, and the operations that are by a script are some of those that its lines ask for, in their order.
 pub record IsRace (limits : StoreLimits) (scripts : List (List ℕ)) (out : List ℕ) : Type 0 where
   pub replies : List (List ℕ)
   pub journal : List Entry
   pub is : out ≡ replies_text 0 replies ++ result_text journal
-  pub replied : HaveReplied limits 0 scripts replies
+  pub replied : HaveReplied limits journal 0 scripts replies
   pub legal : IsLegal journal
   pub by : AllBelow (length scripts) journal
   pub own : (k : ℕ) → k < length scripts → IsPartOf (operations (by_pass k journal)) (write_ops (slice_index_or scripts k []))

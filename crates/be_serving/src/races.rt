@@ -5,16 +5,15 @@
 //! are written, script by script; then the store is closed, and its journal and the result of the journal's check follow.
 //!
 //! A thread promises what it gives back ([`Served`]): a pass of the store, with the script's number, whose own writes are
-//! some of those that the script asks for, and replies that the script may get where others write. So every pass is there
-//! when the store is closed, and what the journal has of a pass is what its script asked for.
+//! some of those that the script asks for, and replies that the script may get where others write, of what the pass has
+//! seen. So every pass is there when the store is closed, what the journal has of a pass is what its script asked for, and
+//! each script was replied from that journal.
 ghost use Rattle.std.specs.Prelude.{◌≡◌, ◌≤◌, ◌<◌, ℕ, ◌^◌, ◌↔◌, true, false, length, vec_len, map, IfOk, IfErr, OnOk, Ok, Err, get_or, nat_lt};
 ghost use Rattle.std.specs.Io.KnownBytes.{Appends};
 ghost use Rattle.std.specs.List.{list_any};
 ghost use Rattle.be_journal.specs.Journal.{IsLegal};
 ghost use Rattle.be_serving.specs.Limits.{are_within};
-ghost use Rattle.be_serving.specs.Output.{IsOutputFrom};
-ghost use Rattle.be_serving.specs.Own.{IsPartOf, operations, write_ops};
-ghost use Rattle.be_serving.specs.Race.{HaveReplied, HaveServed, IsNew, IsRace, Stops, pass_line, replies_text, result_text, start_of};
+ghost use Rattle.be_serving.specs.Race.{IsOutcome, AreRepliesOf, HaveServed, IsNew, IsRace, Stops, pass_line, replies_text, result_text};
 ghost use Rattle.be_serving.specs.Run.{Wrote, IsLate};
 ghost use Rattle.be_store.specs.Passes.{IsPassOf};
 ghost use Rattle.std.specs.String.{string_bytes};
@@ -37,7 +36,8 @@ use std::thread::{Promise, PromisedHandle, Scope, Threads};
 type Outcome = (Pass, Result<Vec<u8>, RunFault>);
 
 /// What a thread promises of its outcome: the pass is of this store and has this number; and where there are replies, they
-/// are an output of this script, and the pass's own writes are some of those that the script asks for.
+/// are an output of this script that leaves what the pass has seen, and its own writes are some of those that the script
+/// asks for.
 #[derive(Drop)]
 struct Served {
     store: Snapshot<Store>,
@@ -49,8 +49,7 @@ impl Promise<(Pass, Result<Vec<u8>, RunFault>)> for Served {
     ghost kept_by = { λ p outcome.
         IsPassOf p.store.value outcome.0
         × (outcome.0.knows.number ≡ p.number)
-        × IfOk outcome.1 (λ replies. IsPartOf (operations outcome.0.knows.mine) (write_ops p.script.value.items)
-        × IsOutputFrom (start_of p.store.value.limits p.number) p.script.value.items replies.items) };
+        × IfOk outcome.1 (λ replies. IsOutcome p.store.value.limits p.number p.script.value.items outcome.0.knows replies.items) };
 }
 
 /// Serves a script from a new pass.
@@ -58,8 +57,7 @@ fn serve_new<G: Gate>(alloc: Global, store: &Store, pass: Pass, gate: &G, script
     requires { IsNew store.now pass.knows.number pass }
     ensures pass { IsPassOf store.now result.0 }
     ensures number { result.0.knows.number ≡ pass.knows.number }
-    ensures replies { IfOk result.1 (λ replies. IsPartOf (operations result.0.knows.mine) (write_ops script.now)
-        × IsOutputFrom (start_of store.now.limits pass.knows.number) script.now replies.items) }
+    ensures replies { IfOk result.1 (λ replies. IsOutcome store.now.limits pass.knows.number script.now result.0.knows replies.items) }
 {
     serve_pass(alloc, store, pass, gate, script)
 }
@@ -95,8 +93,8 @@ fn start<'s, E, G: Gate + Sync>(
                 requires { IsNew store.now pass.knows.number pass }
                 ensures pass { IsPassOf store.entry.now result.0 }
                 ensures number { result.0.knows.number ≡ pass.knows.number }
-                ensures replies { IfOk result.1 (λ replies. IsPartOf (operations result.0.knows.mine) (write_ops script.entry.now.items)
-                    × IsOutputFrom (start_of store.entry.now.limits pass.knows.number) script.entry.now.items replies.items) }
+                ensures replies { IfOk result.1 (λ replies.
+                    IsOutcome store.entry.now.limits pass.knows.number script.entry.now.items result.0.knows replies.items) }
             { serve_new(alloc, store, pass, gate, script) },
         );
         let Ok(thread) = thread else {
@@ -141,7 +139,7 @@ fn serve_in<'s, E, R: Threads, G: Gate + Sync>(
     requires new { AreNew store.now 0 passes.items }
     requires count { length passes.items ≡ length scripts.now.items }
     ensures served { IfOk result (λ r. HaveServed store.now 0 (map (λ s. s.items) scripts.now.items) r.0.items) }
-    ensures replied { IfOk result (λ r. HaveReplied store.now.limits 0 (map (λ s. s.items) scripts.now.items) (map (λ s. s.items) r.1.items)) }
+    ensures replied { IfOk result (λ r. AreRepliesOf store.now.limits 0 (map (λ s. s.items) scripts.now.items) r.0.items (map (λ s. s.items) r.1.items)) }
     ensures fault { IfErr result (λ e. e ≡ RunFault.Memory) }
 {
     let threads = start(scope, alloc, store, passes, scripts, gate)?;
@@ -163,7 +161,7 @@ fn serve_at_once<R: Threads + Wait, G: Gate + Sync>(
     requires new { AreNew store.now 0 passes.items }
     requires count { length passes.items ≡ length scripts.now.items }
     ensures served { IfOk result (λ r. HaveServed store.now 0 (map (λ s. s.items) scripts.now.items) r.0.items) }
-    ensures replied { IfOk result (λ r. HaveReplied store.now.limits 0 (map (λ s. s.items) scripts.now.items) (map (λ s. s.items) r.1.items)) }
+    ensures replied { IfOk result (λ r. AreRepliesOf store.now.limits 0 (map (λ s. s.items) scripts.now.items) r.0.items (map (λ s. s.items) r.1.items)) }
     ensures fault { IfErr result (λ e. e ≡ RunFault.Memory) }
 {
     thread::scope(
@@ -172,7 +170,8 @@ fn serve_at_once<R: Threads + Wait, G: Gate + Sync>(
         move |scope| -> Result<(Vec<Pass>, Vec<Vec<u8>>), RunFault>
             requires { AreNew store.now 0 passes.items × (length passes.items ≡ length scripts.now.items) }
             ensures served { IfOk result (λ r. HaveServed store.entry.now 0 (map (λ s. s.items) scripts.entry.now.items) r.0.items) }
-            ensures replied { IfOk result (λ r. HaveReplied store.entry.now.limits 0 (map (λ s. s.items) scripts.entry.now.items) (map (λ s. s.items) r.1.items)) }
+            ensures replied { IfOk result (λ r. AreRepliesOf store.entry.now.limits 0
+                (map (λ s. s.items) scripts.entry.now.items) r.0.items (map (λ s. s.items) r.1.items)) }
             ensures fault { IfErr result (λ e. e ≡ RunFault.Memory) }
         { serve_in(scope, rt, alloc, store, passes, scripts, gate) },
     )
@@ -233,9 +232,10 @@ fn put_result<W: Write>(alloc: Global, writer: &mut W, journal: &Journal) -> Res
 /// The limits are looked at first, then the lengths of the scripts, of at most 1,048,576 bytes each; a fault of these
 /// leaves nothing written. Script k is run from pass k, on a thread of its own; a write that finds another pass writing is
 /// tried again, at most 10,000,000 times, and its refusal is the reply then. It returns once all threads have ended. The
-/// replies are written behind a line `pass K` for each pass; then `journal N`, the journal's text, and `replay ok`. Memory
-/// where memory or a thread is missing; the replies may be written then. Any error of a write, and a write of no bytes, is
-/// Write.
+/// replies are written behind a line `pass K` for each pass; then `journal N`, the journal's text, and `replay ok`. The
+/// journal is of the store that replied: it begins with what each pass has seen, and has its writes just as they were
+/// answered. Memory where memory or a thread is missing; the replies may be written then. Any error of a write, and a write
+/// of no bytes, is Write.
 pub fn race<R: Threads + Wait, G: Gate + Sync, W: Write>(
     rt: &R,
     alloc: Global,

@@ -4,6 +4,7 @@
 //! Then each line is run, its reply is made as a text, and the text is written: a fault leaves the front of an output.
 ghost use Rattle.std.specs.Prelude.{◌≡◌, ◌<◌, ◌≤◌, ◌+◌, ◌*◌, ◌^◌, ◌↔◌, false, List, ℕ, ◌++◌, length, IfOk, OnOk, IfErr, IfSome, OnErr, IfNone, ◌∷◌, [], vec_len, position, Err};
 ghost use Rattle.std.specs.Io.KnownBytes.{Appends, Consumes, IsAtEnd, Keeps};
+ghost use Rattle.be_journal.specs.Journal.{by_pass};
 ghost use Rattle.be_serving.specs.Limits.{are_within};
 ghost use Rattle.be_serving.specs.Output as outputs;
 ghost use Rattle.be_serving.specs.Own.{IsPartOf, operations, write_ops};
@@ -13,6 +14,7 @@ ghost use Rattle.be_serving.specs.Served.{known};
 ghost use Rattle.be_serving.specs.Store.{start};
 ghost use Rattle.be_serving.specs.View.{session, queued_ops};
 ghost use Rattle.be_store.specs.Passes.{IsPassOf};
+ghost use Rattle.be_table.specs.Rule.{entries};
 
 use crate::answers::answer;
 use crate::client::Client;
@@ -138,8 +140,9 @@ pub fn serve_pass<G: Gate>(
     requires fresh { pass.knows.seen ≡ [] }
     ensures pass { IsPassOf store.now result.0 }
     ensures number { result.0.knows.number ≡ pass.knows.number }
+    ensures mine { OnOk result.1 (by_pass result.0.knows.number (entries result.0.knows.seen) ≡ result.0.knows.mine) }
     ensures own { OnOk result.1 (IsPartOf (operations result.0.knows.mine) (write_ops script.now)) }
-    ensures replies { IfOk result.1 (λ replies. outputs.IsOutputFrom (known pass.knows) script.now replies.items) }
+    ensures replies { IfOk result.1 (λ replies. outputs.IsOutputTo (known pass.knows) script.now (known result.0.knows) replies.items) }
     ensures fault { IfErr result.1 (λ e. e ≡ RunFault.Memory) }
 {
     let number = pass.number();

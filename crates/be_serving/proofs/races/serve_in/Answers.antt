@@ -1,5 +1,5 @@
 use Rattle.std.proofs.Common.{◌≡◌, ℕ, ◌+◌, List, Vec, Global, length, map, get_or, IfOk, ap, sym, ◌∙◌, subst, arith, zero-add}
-use Rattle.be_serving.specs.Race.{HaveServed, HaveReplied}
+use Rattle.be_serving.specs.Race.{HaveServed, AreRepliesOf}
 use Rattle.be_serving.proofs.RaceLemmas.{EndsAs, served_from, on_both}
 use Rattle.be_serving.proofs.races.serve_in.Goals as goal
 
@@ -13,7 +13,7 @@ returns-in-Ok g c =
     let threads = c.in_ok-threads.threads in
     let outcomes = c.in-Ok.outcomes in
     let count : length outcomes.items ≡ length scripts = omega (arith, c.in-Ok.ensures.len, c.in_ok-threads.ensures.len, outcomes.ok.0, threads.ok.0) in
-    let both : IfOk c.part.result (λ r. HaveServed store 0 (map items_of scripts) r.0.items × HaveReplied store.limits 0 (map items_of scripts) (map items_of r.1.items)) =
+    let both : IfOk c.part.result (λ r. HaveServed store 0 (map items_of scripts) r.0.items × AreRepliesOf store.limits 0 (map items_of scripts) r.0.items (map items_of r.1.items)) =
     on_both c.part.result c.part.ensures.passes c.part.ensures.replies (λ r passes replies.
     let all = served_from store items_of 0 scripts outcomes.items r.1.items count
     (λ i o s below.
@@ -27,8 +27,10 @@ returns-in-Ok g c =
     subst (λ t. EndsAs t items_of (0 + i) (get_or scripts i s) o') of_store
     (subst (λ n. EndsAs promise.store.value items_of n (get_or scripts i s) o') of_number
     (subst (λ v. EndsAs promise.store.value items_of promise.number v o') of_script kept.kept)))
-    replies in
-    (subst (HaveServed store 0 (map items_of scripts)) (sym passes) all.0, all.1)) in
+    replies in (
+      subst (HaveServed store 0 (map items_of scripts)) (sym passes) all.0,
+      subst (λ ps. AreRepliesOf store.limits 0 (map items_of scripts) ps (map items_of r.1.items)) (sym passes) all.1,
+    )) in
     record {
       served = on_both c.part.result both both (λ r h _. h.0);
       replied = on_both c.part.result both both (λ r h _. h.1);

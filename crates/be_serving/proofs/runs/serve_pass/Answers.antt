@@ -16,6 +16,9 @@ pub returns-in-Ok-clause-number : goal.returns-in-Ok-clause-number
 returns-in-Ok-clause-number g c =
     ap (λ k. k.number) c.into_pass-pass.ensures.1 ∙ (ap (λ s. s.1) c.run_lines-ran.ensures.stays ∙ ap (λ k. k.number) c.new-server.ensures.1)
 
+pub returns-in-Ok-clause-mine : goal.returns-in-Ok-clause-mine
+returns-in-Ok-clause-mine g c = c.is_pass.ensures.mine
+
 pub returns-in-Ok-clause-own : goal.returns-in-Ok-clause-own
 returns-in-Ok-clause-own g c =
     let first = c.new-server.result.knows in
