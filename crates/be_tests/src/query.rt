@@ -2,7 +2,7 @@
 //! where any one request for memory is refused.
 
 use be_query::{Item, Literal, Query, Tree, from_rpn, parse, print, print_comparison};
-use be_value::{Name, Refusal};
+use be_value::{Name, Refusal, number_of};
 
 /// What a text spells.
 fn read(rt: &HostRuntime, text: &str) -> Result<Query, Refusal> {
@@ -322,73 +322,130 @@ fn texted(rt: &HostRuntime, text: &str) -> Item {
     Item::Text(s)
 }
 
+/// The item of a word: a text behind a `'`, an operator, a number, or else a name.
+fn item_of(rt: &HostRuntime, word: &str) -> Item {
+    if let Some(text) = word.strip_prefix("'") {
+        return texted(rt, text);
+    }
+    if let Some(number) = number_of(word) {
+        return numbered(number);
+    }
+    match operator_of(word) {
+        Some(item) => item,
+        None => named(word),
+    }
+}
+
+fn numbered(number: i128) -> Item {
+    if let Ok(number) = i64::try_from(number) {
+        return Item::Int(number);
+    }
+    match u64::try_from(number) {
+        Ok(number) => Item::Uint(number),
+        Err(_) => Item::Not,
+    }
+}
+
+fn operator_of(word: &str) -> Option<Item> {
+    match word {
+        "==" => Some(Item::Eq),
+        "!=" => Some(Item::Ne),
+        "<" => Some(Item::Lt),
+        "<=" => Some(Item::Le),
+        ">" => Some(Item::Gt),
+        ">=" => Some(Item::Ge),
+        "contains" => Some(Item::Contains),
+        "begins" => Some(Item::BeginsWith),
+        "ends" => Some(Item::EndsWith),
+        "&&" => Some(Item::And),
+        "||" => Some(Item::Or),
+        "!" => Some(Item::Not),
+        _ => None,
+    }
+}
+
+/// The items of a line of words, none of an empty one.
+fn items_of(rt: &HostRuntime, line: &str) -> Vec<Item> {
+    let mut items = Vec::new(rt.alloc());
+    if line.is_empty() {
+        return items;
+    }
+    for word in line.split(' ') {
+        add(&mut items, item_of(rt, word));
+    }
+    items
+}
+
+/// What the items of a line build.
+fn built_of(rt: &HostRuntime, line: &str) -> Result<Query, Refusal> {
+    let items = items_of(rt, line);
+    built(rt, &items)
+}
+
 /// Examples `predicates` and `unsigned_keys`, and each reading of a predicate that is built.
 #[test]
 fn predicates(rt: HostRuntime) {
-    let size = [named("size"), Item::Int(5), Item::Lt, Item::Not];
-    assert!(rt; is_text(printed(&rt, built(&rt, &size)), "\"size\">=\"5\""));
-    assert!(rt; is_text(printed_leaf(&rt, built(&rt, &size)), "\"size\">=\"5\""));
-    let name = [named("name"), texted(&rt, "a*"), Item::BeginsWith];
-    assert!(rt; is_text(printed(&rt, built(&rt, &name)), "\"name\"==\"a\\**\""));
-    assert!(rt; is_text(printed_leaf(&rt, built(&rt, &name)), "\"name\"==\"a\\**\""));
-    let largest = [named("n"), Item::Uint(18446744073709551615), Item::Le];
-    assert!(rt;
-        is_text(
-            printed(&rt, built(&rt, &largest)),
-            "\"n\"<=\"18446744073709551615\""
-        )
-    );
-    let least = [named("n"), Item::Int(-9223372036854775808), Item::EndsWith];
-    assert!(rt;
-        is_text(
-            printed(&rt, built(&rt, &least)),
-            "\"n\"==\"*-9223372036854775808\""
-        )
-    );
-    let empty = [named("n"), texted(&rt, ""), Item::Contains];
-    assert!(rt; is_text(printed(&rt, built(&rt, &empty)), "\"n\"==\"**\""));
-    let sides = [
-        named("a"),
-        Item::Int(1),
-        Item::Eq,
-        named("b"),
-        Item::Int(2),
-        Item::Ne,
-        Item::And,
-        named("c"),
-        Item::Int(3),
-        Item::Ge,
-        Item::Or,
-        Item::Not,
-    ];
-    assert!(rt;
-        is_text(
-            printed(&rt, built(&rt, &sides)),
-            "(\"a\"!=\"1\" || \"b\"==\"2\") && \"c\"<\"3\""
-        )
-    );
+    for (line, want) in [
+        ("size 5 < !", "\"size\">=\"5\""),
+        ("name 'a* begins", "\"name\"==\"a\\**\""),
+        (
+            "n 18446744073709551615 <=",
+            "\"n\"<=\"18446744073709551615\"",
+        ),
+        (
+            "n -9223372036854775808 ends",
+            "\"n\"==\"*-9223372036854775808\"",
+        ),
+        ("n ' contains", "\"n\"==\"**\""),
+        (
+            "a 1 == b 2 != && c 3 >= || !",
+            "(\"a\"!=\"1\" || \"b\"==\"2\") && \"c\"<\"3\"",
+        ),
+    ] {
+        assert!(rt;
+            is_text(printed(&rt, built_of(&rt, line)), want),
+            "at {line}"
+        );
+    }
+}
+
+/// Example `predicates`: the one comparison of a query has the query's text.
+#[test]
+fn comparisons_of_predicates(rt: HostRuntime) {
+    for (line, want) in [
+        ("size 5 < !", "\"size\">=\"5\""),
+        ("name 'a* begins", "\"name\"==\"a\\**\""),
+    ] {
+        assert!(rt;
+            is_text(printed_leaf(&rt, built_of(&rt, line)), want),
+            "at {line}"
+        );
+    }
 }
 
 /// Example `predicates`, the pattern of its second leaf.
 #[test]
 fn pattern_of_predicate(rt: HostRuntime) {
-    let name = [named("name"), texted(&rt, "a*"), Item::BeginsWith];
-    assert!(rt; is_text(canonical_leaf(&rt, built(&rt, &name)), "a\\**"));
+    assert!(rt;
+        is_text(
+            canonical_leaf(&rt, built_of(&rt, "name 'a* begins")),
+            "a\\**"
+        )
+    );
 }
 
 /// An order operator takes its text as it is, a pattern's operator as a pattern.
 #[test]
 fn texts_of_predicates(rt: HostRuntime) {
-    for (op, want) in [
-        (Item::Lt, "\"n\"<\"a\\\\b\""),
-        (Item::Le, "\"n\"<=\"a\\\\b\""),
-        (Item::Gt, "\"n\">\"a\\\\b\""),
-        (Item::Ge, "\"n\">=\"a\\\\b\""),
-        (Item::Eq, "\"n\"==\"ab\""),
+    for (line, want) in [
+        ("n 'a\\b <", "\"n\"<\"a\\\\b\""),
+        ("n 'a\\b <=", "\"n\"<=\"a\\\\b\""),
+        ("n 'a\\b >", "\"n\">\"a\\\\b\""),
+        ("n 'a\\b >=", "\"n\">=\"a\\\\b\""),
+        ("n 'a\\b ==", "\"n\"==\"ab\""),
     ] {
-        let items = [named("n"), texted(&rt, "a\\b"), op];
         assert!(rt;
-            is_text(printed(&rt, built(&rt, &items)), want),
+            is_text(printed(&rt, built_of(&rt, line)), want),
             "at {want}"
         );
     }
@@ -397,90 +454,87 @@ fn texts_of_predicates(rt: HostRuntime) {
 /// Example `predicates`, and the order of the refusals of a predicate.
 #[test]
 fn refused_predicates(rt: HostRuntime) {
-    assert_eq!(rt;
-        refusal(built(&rt, &[named("a")])),
-        Some(Refusal::BadRpn(1))
-    );
-    assert_eq!(rt; refusal(built(&rt, &[Item::And])), Some(Refusal::BadRpn(0)));
-    assert_eq!(rt; refusal(built(&rt, &[])), Some(Refusal::BadRpn(0)));
-    assert_eq!(rt;
-        refusal(built(&rt, &[Item::Int(1), named("a"), Item::Eq])),
-        Some(Refusal::BadRpn(2))
-    );
-    assert_eq!(rt;
-        refusal(built(&rt, &[named("a"), texted(&rt, "[z-a]"), Item::Eq])),
-        Some(Refusal::BadPattern(2))
-    );
-    assert_eq!(rt;
-        refusal(built(&rt, &[named("a"), texted(&rt, "x\0"), Item::Eq])),
-        Some(Refusal::BadRpn(1))
-    );
-    assert_eq!(rt;
-        refusal(built(
-            &rt,
-            &[
-                named("a"),
-                Item::Int(1),
-                Item::Eq,
-                named("b"),
-                Item::Int(1),
-                Item::Eq
-            ]
-        )),
-        Some(Refusal::BadRpn(6))
-    );
+    for (line, want) in [
+        ("a", Refusal::BadRpn(1)),
+        ("&&", Refusal::BadRpn(0)),
+        ("", Refusal::BadRpn(0)),
+        ("1 a ==", Refusal::BadRpn(2)),
+        ("a '[z-a] ==", Refusal::BadPattern(2)),
+        ("a 'x\0 ==", Refusal::BadRpn(1)),
+        ("a 1 == b 1 ==", Refusal::BadRpn(6)),
+    ] {
+        assert_eq!(rt; refusal(built_of(&rt, line)), Some(want), "at {line}");
+    }
+}
+
+/// Adds a comparison.
+fn add_comparison(items: &mut Vec<Item>) {
+    add(items, named("a"));
+    add(items, Item::Int(1));
+    add(items, Item::Eq);
 }
 
 /// Adds a comparison and the item that joins it to the tree below.
 fn add_joined(items: &mut Vec<Item>, joint: Item) {
-    add(items, named("a"));
-    add(items, Item::Int(1));
-    add(items, Item::Eq);
+    add_comparison(items);
     add(items, joint);
+}
+
+/// A tree of so many joints of each kind in turn.
+fn nested(rt: &HostRuntime, count: usize) -> Vec<Item> {
+    let mut items = Vec::new(rt.alloc());
+    add_comparison(&mut items);
+    for i in 0..count {
+        let _ = i;
+        add_joined(&mut items, Item::Or);
+        add_joined(&mut items, Item::And);
+    }
+    items
 }
 
 /// Items may build a tree whose canonical text has more parentheses than `parse` takes.
 #[test]
 fn deep_predicate(rt: HostRuntime) {
-    let mut items = Vec::new(rt.alloc());
-    add(&mut items, named("a"));
-    add(&mut items, Item::Int(1));
-    add(&mut items, Item::Eq);
-    for i in 0..65 {
-        let _ = i;
-        add_joined(&mut items, Item::Or);
-        add_joined(&mut items, Item::And);
-    }
-    let back = match printed(&rt, built(&rt, &items)) {
+    let back = match printed(&rt, built(&rt, &nested(&rt, 65))) {
         Ok(text) => read(&rt, &text),
         Err(refusal) => Err(refusal),
     };
     assert_eq!(rt; refusal(back), Some(Refusal::TooDeep));
 }
 
+/// So many names, one above the other.
+fn stacked(rt: &HostRuntime, count: usize) -> Vec<Item> {
+    let mut items = Vec::new(rt.alloc());
+    for i in 0..count {
+        let _ = i;
+        add(&mut items, named("a"));
+    }
+    items
+}
+
+/// Comparisons, the first so many of them joined by `||`.
+fn compared(rt: &HostRuntime, joined: usize, alone: usize) -> Vec<Item> {
+    let mut items = Vec::new(rt.alloc());
+    for i in 0..joined {
+        add_comparison(&mut items);
+        if i > 0 {
+            add(&mut items, Item::Or);
+        }
+    }
+    for i in 0..alone {
+        let _ = i;
+        add_comparison(&mut items);
+    }
+    items
+}
+
 /// 64 things may stand on the stack, and 256 comparisons be built.
 #[test]
 fn predicate_limits(rt: HostRuntime) {
-    let mut things = Vec::new(rt.alloc());
-    for i in 0..64 {
-        let _ = i;
-        add(&mut things, named("a"));
+    for (count, want) in [(64, Refusal::BadRpn(64)), (65, Refusal::TooDeep)] {
+        assert_eq!(rt; refusal(built(&rt, &stacked(&rt, count))), Some(want));
     }
-    assert_eq!(rt; refusal(built(&rt, &things)), Some(Refusal::BadRpn(64)));
-    add(&mut things, named("a"));
-    assert_eq!(rt; refusal(built(&rt, &things)), Some(Refusal::TooDeep));
-    let mut comparisons = Vec::new(rt.alloc());
-    for i in 0..256 {
-        add(&mut comparisons, named("a"));
-        add(&mut comparisons, Item::Int(1));
-        add(&mut comparisons, Item::Eq);
-        if i > 0 {
-            add(&mut comparisons, Item::Or);
-        }
+    for (alone, want) in [(0, None), (1, Some(Refusal::TooMany))] {
+        assert_eq!(rt; refusal(built(&rt, &compared(&rt, 256, alone))), want);
     }
-    assert_eq!(rt; refusal(built(&rt, &comparisons)), None);
-    add(&mut comparisons, named("a"));
-    add(&mut comparisons, Item::Int(1));
-    add(&mut comparisons, Item::Eq);
-    assert_eq!(rt; refusal(built(&rt, &comparisons)), Some(Refusal::TooMany));
 }
