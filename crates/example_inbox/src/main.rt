@@ -67,7 +67,8 @@ fn file_both<R: Threads + Sync>(
     first: Pass,
     second: Pass,
 ) -> Result<(), Refusal>
-    requires { IsPassOf store.now first × IsPassOf store.now second }
+    requires first { IsPassOf store.now first }
+    requires second { IsPassOf store.now second }
 {
     let (ada, bob) = thread::join(
         rt,
@@ -102,15 +103,19 @@ fn ask_meanwhile<R: Threads + Sync>(
     first: Pass,
     second: Pass,
 ) -> ((Pass, Live, Result<usize, Refusal>), Result<(), Refusal>)
-    requires passes { IsPassOf store.now reader × IsPassOf store.now first × IsPassOf store.now second }
+    requires reader { IsPassOf store.now reader }
     requires pinned { (n : ℕ) × IsPinnedTo reader.knows n }
+    requires first { IsPassOf store.now first }
+    requires second { IsPassOf store.now second }
     ensures pass { IsPassOf store.now result.0.0 }
     ensures unpinned { pinned_number result.0.0.knows.phase ≡ None }
 {
     thread::join(
         rt,
         || ask(store, reader, live),
-        || file_both(rt, store, first, second),
+        ||
+            requires { IsPassOf store.now first × IsPassOf store.now second }
+        { file_both(rt, store, first, second) },
     )
 }
 
