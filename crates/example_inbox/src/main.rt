@@ -3,13 +3,9 @@
 
 ghost use Rattle.std.specs.Prelude.{◌≡◌, ◌≤◌, ℕ, None, length};
 ghost use Rattle.be_store.specs.Passes.{IsPassOf, IsPinnedTo};
-ghost use Rattle.be_table.specs.Seats.{pinned_number};
+ghost use Rattle.be_store.specs.Seats.{pinned_number};
 
-use arrayvec::ArrayVec;
-use be_query::parse;
-use be_store::{Limits, Live, Pass, Store};
-use be_value::{Kind, Name, Refusal, Value};
-use be_volume::{Done, Op};
+use be_store::{ArrayVec, Done, Kind, Limits, Live, Name, Op, Pass, Refusal, Store, Value, parse};
 use std::alloc::AllocGlobal;
 use std::process::ExitCode;
 use std::thread::Threads;
