@@ -1,4 +1,6 @@
 """The table: a row for each case, a column for each peer."""
+import sys
+
 from measure import is_rate
 from peers import OURS, PEERS
 
@@ -93,3 +95,14 @@ def table_lines(results):
         cells = [cell(results, peer.name, case) for peer in peers]
         if any(cells):
             yield f"| {title} | " + " | ".join(cells) + f" | {spread(results, case)} |"
+
+
+def write_table(results, path):
+    """Puts the table in the place of what stands between the two marks of a document."""
+    with open(path) as file:
+        before, mark, rest = file.read().partition("<!-- table -->\n")
+    _, end, after = rest.partition("<!-- end of the table -->\n")
+    if not end:
+        sys.exit(f"{path} has no marks <!-- table --> and <!-- end of the table -->")
+    with open(path, "w") as file:
+        file.write("\n".join([before + mark, *table_lines(results), "", end + after]))
