@@ -1,0 +1,39 @@
+/* What a peer offers to the driver: a store of nodes with attributes, indices, snapshots and queries.
+ * A peer that finds no memory, or is refused by the library that it stands on, ends the process. */
+#ifndef PEER_H
+#define PEER_H
+#include <stdbool.h>
+
+#include "query.h"
+#include "text.h"
+
+struct store;
+struct pass; /* one thread's hold on a store */
+
+/* BUSY: another pass is writing. FULL: pins keep the pages that are needed. */
+enum outcome { DONE, BUSY, FULL };
+
+/* A store, and its pass of a number below `passes`. Closing takes the passes back. */
+struct store *store_open(uint64_t pages, int passes);
+struct pass *store_pass(struct store *store, int number);
+void store_close(struct store *store);
+
+/* Each write is a commit of its own; between begin and commit up to 64 sets are one. */
+enum outcome begin(struct pass *pass);
+enum outcome commit(struct pass *pass);
+enum outcome make_index(struct pass *pass, struct text name, enum kind kind);
+enum outcome make_node(struct pass *pass, uint64_t *node);
+enum outcome drop_node(struct pass *pass, uint64_t node);
+enum outcome set(struct pass *pass, uint64_t node, struct text name, const struct value *value);
+
+/* A snapshot, on which the pass then asks. */
+void pin(struct pass *pass);
+void unpin(struct pass *pass);
+
+/* The nodes of a query, ascending: up to `most` of them. How many there are. */
+size_t ask(struct pass *pass, struct query *query, uint64_t *nodes, size_t most);
+bool get_number(struct pass *pass, uint64_t node, struct text name, int64_t *number);
+
+/* Lets go of what `ask` has prepared for a query. */
+void forget(struct query *query);
+#endif

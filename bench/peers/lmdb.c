@@ -1,0 +1,306 @@
+/* LMDB: an environment in memory (/dev/shm), with no syncs. A catalog of (node, name) to value, and a database for each
+ * index, with keys (value, node). A commit is a transaction, a pin a reading one. */
+#include <lmdb.h>
+#include <stdio.h>
+#include <stdlib.h>
+#include <string.h>
+#include <sys/stat.h>
+#include <unistd.h>
+
+#include "../driver/peer.h"
+
+#define INDICES 32
+#define PASSES 64
+#define KEY_MOST 320
+
+struct index {
+    char name[64];
+    size_t length;
+    enum kind kind;
+    MDB_dbi database;
+};
+
+struct pass {
+    struct store *store;
+    MDB_txn *list, *reading; /* `list`: an open commit of several writes */
+    MDB_cursor *cursors[INDICES];
+};
+
+struct store {
+    MDB_env *environment;
+    MDB_dbi catalog;
+    int indices;
+    struct index index[INDICES];
+    struct pass passes[PASSES];
+    char folder[64];
+};
+
+static void must_do(int status) {
+    if (!status) return;
+    fprintf(stderr, "lmdb: %s\n", mdb_strerror(status));
+    exit(1);
+}
+
+/* Keys */
+
+static void put_number(uint8_t *to, uint64_t number) {
+    number = __builtin_bswap64(number);
+    memcpy(to, &number, 8);
+}
+
+static uint64_t take_number(const uint8_t *from) {
+    uint64_t number;
+    memcpy(&number, from, 8);
+    return __builtin_bswap64(number);
+}
+
+static MDB_val catalog_key(uint8_t *to, uint64_t node, struct text name) {
+    put_number(to, node);
+    memcpy(to + 8, name.bytes, name.length);
+    return (MDB_val){8 + name.length, to};
+}
+
+/* A stored value: its kind, and then the number or the text. */
+static MDB_val stored(uint8_t *to, const struct value *value) {
+    to[0] = value->kind;
+    if (value->kind == IS_NUMBER) {
+        put_number(to + 1, value->number);
+        return (MDB_val){9, to};
+    }
+    memcpy(to + 1, value->text.bytes, value->text.length);
+    return (MDB_val){1 + value->text.length, to};
+}
+
+/* An index key of a stored value: in the order of the values, and then of the nodes. */
+static MDB_val index_key(uint8_t *to, MDB_val stored, uint64_t node) {
+    const uint8_t *from = stored.mv_data;
+    size_t length = stored.mv_size - 1;
+    memcpy(to, from + 1, length);
+    if (from[0] == IS_NUMBER) to[0] ^= 0x80;
+    else to[length++] = 0;
+    put_number(to + length, node);
+    return (MDB_val){length + 8, to};
+}
+
+/* Opening */
+
+struct store *store_open(uint64_t pages, int passes) {
+    struct store *store = calloc(1, sizeof *store);
+    MDB_txn *writing;
+    (void)pages;
+    snprintf(store->folder, sizeof store->folder, "/dev/shm/bestore-lmdb-%d", (int)getpid());
+    mkdir(store->folder, 0700);
+    must_do(mdb_env_create(&store->environment));
+    must_do(mdb_env_set_mapsize(store->environment, 1ull << 30));
+    must_do(mdb_env_set_maxdbs(store->environment, INDICES + 1));
+    must_do(mdb_env_set_maxreaders(store->environment, PASSES));
+    unsigned flags = MDB_NOSYNC | MDB_WRITEMAP | MDB_NOMETASYNC | MDB_NOTLS | MDB_NOMEMINIT;
+    must_do(mdb_env_open(store->environment, store->folder, flags, 0600));
+    must_do(mdb_txn_begin(store->environment, NULL, 0, &writing));
+    must_do(mdb_dbi_open(writing, "catalog", MDB_CREATE, &store->catalog));
+    uint8_t key[8] = {0}, next[8];
+    put_number(next, 1);
+    must_do(mdb_put(writing, store->catalog, &(MDB_val){8, key}, &(MDB_val){8, next}, 0));
+    must_do(mdb_txn_commit(writing));
+    for (int i = 0; i < passes; i++) store->passes[i].store = store;
+    return store;
+}
+
+struct pass *store_pass(struct store *store, int number) { return &store->passes[number]; }
+
+void store_close(struct store *store) {
+    char file[96];
+    for (int i = 0; i < PASSES; i++) {
+        for (int j = 0; j < INDICES; j++)
+            if (store->passes[i].cursors[j]) mdb_cursor_close(store->passes[i].cursors[j]);
+        if (store->passes[i].reading) mdb_txn_abort(store->passes[i].reading);
+    }
+    mdb_env_close(store->environment);
+    snprintf(file, sizeof file, "%s/data.mdb", store->folder);
+    unlink(file);
+    snprintf(file, sizeof file, "%s/lock.mdb", store->folder);
+    unlink(file);
+    rmdir(store->folder);
+    free(store);
+}
+
+/* Writes */
+
+enum outcome begin(struct pass *pass) {
+    must_do(mdb_txn_begin(pass->store->environment, NULL, 0, &pass->list));
+    return DONE;
+}
+
+enum outcome commit(struct pass *pass) {
+    must_do(mdb_txn_commit(pass->list));
+    pass->list = NULL;
+    return DONE;
+}
+
+static MDB_txn *start(struct pass *pass) {
+    MDB_txn *writing = pass->list;
+    if (!writing) must_do(mdb_txn_begin(pass->store->environment, NULL, 0, &writing));
+    return writing;
+}
+
+static enum outcome end(struct pass *pass, MDB_txn *writing) {
+    if (writing != pass->list) must_do(mdb_txn_commit(writing));
+    return DONE;
+}
+
+static struct index *index_of(struct store *store, struct text name) {
+    for (int i = 0; i < store->indices; i++) {
+        struct index *index = &store->index[i];
+        if (same_text((struct text){index->name, index->length}, name)) return index;
+    }
+    return NULL;
+}
+
+enum outcome make_index(struct pass *pass, struct text name, enum kind kind) {
+    MDB_txn *writing = start(pass);
+    struct index *index = &pass->store->index[pass->store->indices++];
+    char database[80];
+    memcpy(index->name, name.bytes, name.length);
+    index->length = name.length;
+    index->kind = kind;
+    snprintf(database, sizeof database, "index %.*s", (int)name.length, name.bytes);
+    must_do(mdb_dbi_open(writing, database, MDB_CREATE, &index->database));
+    return end(pass, writing);
+}
+
+enum outcome make_node(struct pass *pass, uint64_t *node) {
+    MDB_txn *writing = start(pass);
+    MDB_dbi catalog = pass->store->catalog;
+    uint8_t key[8] = {0}, next[8];
+    MDB_val at = {8, key}, value;
+    must_do(mdb_get(writing, catalog, &at, &value));
+    *node = take_number(value.mv_data);
+    put_number(next, *node + 1);
+    must_do(mdb_put(writing, catalog, &at, &(MDB_val){8, next}, 0));
+    put_number(key, *node);
+    must_do(mdb_put(writing, catalog, &at, &(MDB_val){0, NULL}, 0));
+    return end(pass, writing);
+}
+
+static void leave_index(MDB_txn *writing, const struct index *index, MDB_val old, uint64_t node) {
+    uint8_t bytes[KEY_MOST];
+    if (*(uint8_t *)old.mv_data != index->kind) return;
+    MDB_val key = index_key(bytes, old, node);
+    must_do(mdb_del(writing, index->database, &key, NULL));
+}
+
+static void enter_index(MDB_txn *writing, const struct index *index, MDB_val new, uint64_t node) {
+    uint8_t bytes[KEY_MOST];
+    if (*(uint8_t *)new.mv_data != index->kind) return;
+    MDB_val key = index_key(bytes, new, node);
+    must_do(mdb_put(writing, index->database, &key, &(MDB_val){0, bytes}, 0));
+}
+
+enum outcome set(struct pass *pass, uint64_t node, struct text name, const struct value *value) {
+    MDB_txn *writing = start(pass);
+    MDB_dbi catalog = pass->store->catalog;
+    uint8_t key_bytes[80], bytes[KEY_MOST];
+    MDB_val key = catalog_key(key_bytes, node, (struct text){"", 0}), old, new = stored(bytes, value);
+    must_do(mdb_get(writing, catalog, &key, &old)); /* the node is there */
+    key = catalog_key(key_bytes, node, name);
+    struct index *index = index_of(pass->store, name);
+    if (index) {
+        if (!mdb_get(writing, catalog, &key, &old)) leave_index(writing, index, old, node);
+        enter_index(writing, index, new, node);
+    }
+    must_do(mdb_put(writing, catalog, &key, &new, 0));
+    return end(pass, writing);
+}
+
+enum outcome drop_node(struct pass *pass, uint64_t node) {
+    MDB_txn *writing = start(pass);
+    MDB_cursor *cursor;
+    uint8_t number[8];
+    MDB_val key = {8, number}, value;
+    put_number(number, node);
+    must_do(mdb_cursor_open(writing, pass->store->catalog, &cursor));
+    int status = mdb_cursor_get(cursor, &key, &value, MDB_SET_RANGE);
+    while (!status && !memcmp(key.mv_data, number, 8)) {
+        struct text name = {(char *)key.mv_data + 8, key.mv_size - 8};
+        struct index *index = name.length ? index_of(pass->store, name) : NULL;
+        if (index) leave_index(writing, index, value, node);
+        must_do(mdb_cursor_del(cursor, 0));
+        status = mdb_cursor_get(cursor, &key, &value, MDB_GET_CURRENT);
+        if (status) status = mdb_cursor_get(cursor, &key, &value, MDB_NEXT);
+    }
+    mdb_cursor_close(cursor);
+    return end(pass, writing);
+}
+
+/* Reads */
+
+void pin(struct pass *pass) {
+    if (pass->reading) must_do(mdb_txn_renew(pass->reading));
+    else must_do(mdb_txn_begin(pass->store->environment, NULL, MDB_RDONLY, &pass->reading));
+}
+
+void unpin(struct pass *pass) { mdb_txn_reset(pass->reading); }
+
+static MDB_cursor *cursor_of(struct pass *pass, const struct index *index) {
+    MDB_cursor **cursor = &pass->cursors[index - pass->store->index];
+    if (*cursor) must_do(mdb_cursor_renew(pass->reading, *cursor));
+    else must_do(mdb_cursor_open(pass->reading, index->database, cursor));
+    return *cursor;
+}
+
+/* The first key of a walk, and the bytes that no key of it goes beyond. */
+static size_t bounds(const struct query *query, enum kind kind, uint8_t *from, uint8_t *to) {
+    const struct comparison *pick = &query->comparisons[query->pick];
+    size_t length = pick->text.length;
+    if (kind == IS_NUMBER) {
+        int64_t low, high;
+        number_bounds(query, &low, &high);
+        put_number(from, (uint64_t)low ^ 1ull << 63);
+        put_number(to, (uint64_t)high ^ 1ull << 63);
+        return 8;
+    }
+    memcpy(from, pick->text.bytes, length);
+    if (pick->how == EQUAL) from[length++] = 0;
+    memcpy(to, from, length);
+    return length;
+}
+
+static bool holds(struct pass *pass, const struct comparison *it, uint64_t node) {
+    uint8_t bytes[80];
+    MDB_val key = catalog_key(bytes, node, it->name), value;
+    if (mdb_get(pass->reading, pass->store->catalog, &key, &value)) return false;
+    const uint8_t *from = value.mv_data;
+    if (from[0] == IS_NUMBER) return number_holds(it, take_number(from + 1));
+    return text_holds(it, (struct text){(const char *)from + 1, value.mv_size - 1});
+}
+
+static bool all_hold(struct pass *pass, const struct query *query, uint64_t node) {
+    for (int i = 0; i < query->count; i++)
+        if (i != query->pick && i != query->low && i != query->high && !holds(pass, &query->comparisons[i], node)) return false;
+    return true;
+}
+
+size_t ask(struct pass *pass, struct query *query, uint64_t *nodes, size_t most) {
+    struct index *index = index_of(pass->store, query->comparisons[query->pick].name);
+    MDB_cursor *cursor = cursor_of(pass, index);
+    uint8_t from[KEY_MOST], to[KEY_MOST];
+    size_t length = bounds(query, index->kind, from, to), count = 0;
+    MDB_val key = {length, from}, value;
+    int status = mdb_cursor_get(cursor, &key, &value, MDB_SET_RANGE);
+    for (; !status && memcmp(key.mv_data, to, length) <= 0; status = mdb_cursor_get(cursor, &key, &value, MDB_NEXT)) {
+        uint64_t node = take_number((uint8_t *)key.mv_data + key.mv_size - 8);
+        if (count < most && all_hold(pass, query, node)) nodes[count++] = node;
+    }
+    sort_nodes(nodes, count);
+    return count;
+}
+
+bool get_number(struct pass *pass, uint64_t node, struct text name, int64_t *number) {
+    uint8_t bytes[80];
+    MDB_val key = catalog_key(bytes, node, name), value;
+    if (mdb_get(pass->reading, pass->store->catalog, &key, &value)) return false;
+    *number = take_number((uint8_t *)value.mv_data + 1);
+    return true;
+}
+
+void forget(struct query *query) { (void)query; }

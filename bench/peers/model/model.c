@@ -1,0 +1,237 @@
+/* The page format of bestore in plain C, unproved: what its form allows. One writer at a time, by a lock that is tried and
+ * not waited for; a pin announces the current version; a journal keeps each operation whole; each write scans. */
+#include <stdlib.h>
+#include <string.h>
+
+#include "volume.h"
+
+#define LIST_MOST 64
+
+struct entry {
+    uint64_t pass, made;
+    struct operation operation;
+};
+
+struct pass {
+    struct store *store;
+    uint64_t number, pinned;
+    bool is_list;
+    int count;
+    struct operation list[LIST_MOST];
+    struct version version; /* the one that was pinned last */
+    struct write write;
+};
+
+struct store {
+    struct pool pool;
+    struct entry *journal;
+    size_t entries, room;
+    int passes;
+    struct pass *pass[PASSES];
+};
+
+struct store *store_open(uint64_t pages, int passes) {
+    struct store *store = aligned_alloc(64, sizeof *store);
+    memset(store, 0, sizeof *store);
+    open_pool(&store->pool, pages, passes);
+    fill_word(&store->pool, 0, 2, 1);
+    store->passes = passes;
+    for (int i = 0; i < passes; i++) {
+        store->pass[i] = calloc(1, sizeof *store->pass[i]);
+        store->pass[i]->store = store;
+        store->pass[i]->number = i;
+    }
+    return store;
+}
+
+struct pass *store_pass(struct store *store, int number) { return store->pass[number]; }
+
+void store_close(struct store *store) {
+    for (int i = 0; i < store->passes; i++) free(store->pass[i]);
+    close_pool(&store->pool);
+    free(store->journal);
+    free(store);
+}
+
+/* Writes */
+
+static void enter(struct store *store, const struct entry *entry) {
+    if (store->entries == store->room) {
+        store->room = store->room ? 2 * store->room : 64;
+        store->journal = realloc(store->journal, store->room * sizeof *store->journal);
+    }
+    store->journal[store->entries++] = *entry;
+}
+
+static enum outcome apply_locked(struct pass *pass, const struct operation *list, int count, uint64_t *node) {
+    struct store *store = pass->store;
+    struct write *write = &pass->write;
+    struct version version;
+    write->pool = &store->pool;
+    write->taken_count = write->given_count = 0;
+    scan(&store->pool);
+    if (setjmp(write->full)) {
+        undo(write);
+        return FULL;
+    }
+    load_version(&version, &store->pool, (uint32_t)atomic_load(&store->pool.words[CURRENT]));
+    for (int i = 0; i < count; i++) *node = work(write, &version, &list[i]);
+    uint32_t page = write_version(write, &version);
+    for (int i = 0; i < count; i++) enter(store, &(struct entry){pass->number, *node, list[i]});
+    publish(write, page);
+    return DONE;
+}
+
+static enum outcome apply(struct pass *pass, const struct operation *list, int count, uint64_t *node) {
+    word *lock = &pass->store->pool.words[LOCK];
+    uint64_t open = 0;
+    if (!atomic_compare_exchange_strong(lock, &open, pass->number + 1)) return BUSY;
+    enum outcome outcome = apply_locked(pass, list, count, node);
+    atomic_store(lock, 0);
+    return outcome;
+}
+
+/* Applies an operation, or adds it to the list that is open. */
+static enum outcome hand_in(struct pass *pass, const struct operation *operation, uint64_t *node) {
+    if (!pass->is_list) return apply(pass, operation, 1, node);
+    if (pass->count == LIST_MOST) exit(1);
+    pass->list[pass->count++] = *operation;
+    return DONE;
+}
+
+enum outcome begin(struct pass *pass) {
+    pass->is_list = true;
+    pass->count = 0;
+    return DONE;
+}
+
+enum outcome commit(struct pass *pass) {
+    uint64_t node;
+    pass->is_list = false;
+    return apply(pass, pass->list, pass->count, &node);
+}
+
+static void name_it(struct operation *operation, struct text name) {
+    operation->name_length = name.length;
+    memcpy(operation->name, name.bytes, name.length);
+}
+
+enum outcome make_index(struct pass *pass, struct text name, enum kind kind) {
+    struct operation operation;
+    uint64_t node;
+    operation.order = MAKE_INDEX;
+    operation.kind = kind;
+    name_it(&operation, name);
+    return hand_in(pass, &operation, &node);
+}
+
+enum outcome make_node(struct pass *pass, uint64_t *node) {
+    struct operation operation;
+    operation.order = MAKE_NODE;
+    return hand_in(pass, &operation, node);
+}
+
+enum outcome drop_node(struct pass *pass, uint64_t node) {
+    struct operation operation;
+    uint64_t none;
+    operation.order = DROP_NODE;
+    operation.node = node;
+    return hand_in(pass, &operation, &none);
+}
+
+enum outcome set(struct pass *pass, uint64_t node, struct text name, const struct value *value) {
+    struct operation operation;
+    uint64_t none;
+    operation.order = SET;
+    operation.kind = value->kind;
+    operation.node = node;
+    name_it(&operation, name);
+    operation.value_length = value->kind == IS_NUMBER ? 8 : value->text.length;
+    if (value->kind == IS_NUMBER) put_number(operation.value, value->number);
+    else memcpy(operation.value, value->text.bytes, value->text.length);
+    return hand_in(pass, &operation, &none);
+}
+
+/* Reads */
+
+void pin(struct pass *pass) {
+    word *words = pass->store->pool.words;
+    uint64_t number = atomic_load(&words[CURRENT]) >> 32;
+    atomic_store(&words[ANNOUNCEMENT(pass->number)], number + 1);
+    pass->pinned = (uint32_t)atomic_load(&words[CURRENT]);
+}
+
+void unpin(struct pass *pass) { atomic_store(&pass->store->pool.words[ANNOUNCEMENT(pass->number)], 0); }
+
+static bool value_holds(const struct comparison *it, const uint8_t *stored, uint32_t length) {
+    if (stored[0] == IS_NUMBER) return number_holds(it, take_number(stored + 1));
+    return text_holds(it, (struct text){(const char *)stored + 1, length - 1});
+}
+
+/* An indexed name is seen through its index. */
+static bool holds(const struct pass *pass, const struct comparison *it, uint64_t node) {
+    const struct pool *pool = &pass->store->pool;
+    uint8_t stored[VALUE_MOST], bytes[VALUE_MOST + 16];
+    uint32_t length;
+    if (!attribute(pool, pass->version.catalog, node, it->name, stored, &length)) return false;
+    const struct index *index = index_of(&pass->version, it->name);
+    if (index) {
+        if (stored[0] != index->kind) return false;
+        struct key key = key_of(bytes, index_bytes(bytes, index->kind, stored + 1, length - 1, node));
+        uint32_t none;
+        if (!find(pool, index->root, &key, bytes, &none)) return false;
+    }
+    return value_holds(it, stored, length);
+}
+
+static bool all_hold(const struct pass *pass, const struct query *query, uint64_t node) {
+    for (int i = 0; i < query->count; i++)
+        if (i != query->pick && i != query->low && i != query->high && !holds(pass, &query->comparisons[i], node)) return false;
+    return true;
+}
+
+/* The first key of a walk, and the bytes that no key of it goes beyond. */
+static uint32_t bounds(const struct query *query, enum kind kind, uint8_t *from, uint8_t *to) {
+    const struct comparison *pick = &query->comparisons[query->pick];
+    uint32_t length = pick->text.length;
+    if (kind == IS_NUMBER) {
+        int64_t low, high;
+        number_bounds(query, &low, &high);
+        put_number(from, (uint64_t)low ^ 1ull << 63);
+        put_number(to, (uint64_t)high ^ 1ull << 63);
+        return 8;
+    }
+    memcpy(from, pick->text.bytes, length);
+    if (pick->how == EQUAL) from[length++] = 0;
+    memcpy(to, from, length);
+    return length;
+}
+
+size_t ask(struct pass *pass, struct query *query, uint64_t *nodes, size_t most) {
+    struct cursor cursor;
+    uint8_t from[VALUE_MOST], to[VALUE_MOST], bytes[VALUE_MOST + 16];
+    size_t count = 0;
+    load_version(&pass->version, &pass->store->pool, pass->pinned);
+    const struct index *index = index_of(&pass->version, query->comparisons[query->pick].name);
+    uint32_t length = bounds(query, index->kind, from, to);
+    struct key key = key_of(from, length);
+    for (bool more = seek(&cursor, &pass->store->pool, index->root, &key); more; more = step(&cursor)) {
+        uint32_t found = key_at(&cursor, bytes);
+        if (memcmp(bytes, to, length) > 0) break;
+        uint64_t node = take_number(bytes + found - 8);
+        if (count < most && all_hold(pass, query, node)) nodes[count++] = node;
+    }
+    sort_nodes(nodes, count);
+    return count;
+}
+
+bool get_number(struct pass *pass, uint64_t node, struct text name, int64_t *number) {
+    const struct pool *pool = &pass->store->pool;
+    uint8_t stored[VALUE_MOST];
+    uint32_t length;
+    if (!attribute(pool, word_at(pool, pass->pinned, 3), node, name, stored, &length)) return false;
+    *number = take_number(stored + 1);
+    return true;
+}
+
+void forget(struct query *query) { (void)query; }

@@ -1,0 +1,63 @@
+/* Look-ups and walks. */
+#include "item.h"
+
+/* To the item at the place, or behind it. */
+static bool settle(struct cursor *cursor) {
+    int level = 0;
+    while (cursor->places[level] >= cursor->counts[level]) {
+        if (++level > cursor->top) return false;
+        cursor->places[level]++;
+    }
+    for (; level > 0; level--) {
+        uint64_t below = child_at(cursor->pool, cursor->pages[level], cursor->places[level]);
+        cursor->pages[level - 1] = below;
+        cursor->counts[level - 1] = word_at(cursor->pool, below, 1);
+        cursor->places[level - 1] = 0;
+    }
+    return true;
+}
+
+/* To the key in each level; whether the leaf has it. */
+static bool descend(struct cursor *cursor, const struct pool *pool, uint64_t root, const struct key *key) {
+    uint64_t page = root - 1;
+    cursor->pool = pool;
+    cursor->top = word_at(pool, page, 0);
+    for (int level = cursor->top;; level--) {
+        bool same;
+        cursor->pages[level] = page;
+        cursor->counts[level] = word_at(pool, page, 1);
+        int at = place_of(pool, page, cursor->counts[level], key, &same);
+        if (level > 0 && !same && at > 0) at--;
+        cursor->places[level] = at;
+        if (level == 0) return same;
+        page = child_at(pool, page, at);
+    }
+}
+
+bool seek(struct cursor *cursor, const struct pool *pool, uint64_t root, const struct key *key) {
+    return root && (descend(cursor, pool, root, key) || settle(cursor));
+}
+
+bool step(struct cursor *cursor) {
+    cursor->places[0]++;
+    return settle(cursor);
+}
+
+uint32_t key_at(const struct cursor *cursor, uint8_t *to) {
+    uint32_t length = item_head(cursor->pool, cursor->pages[0], cursor->places[0]) >> 32;
+    copy_bytes(cursor->pool, cursor->pages[0], cursor->places[0], 0, length, to);
+    return length;
+}
+
+uint32_t payload_at(const struct cursor *cursor, uint8_t *to) {
+    uint64_t head = item_head(cursor->pool, cursor->pages[0], cursor->places[0]);
+    copy_bytes(cursor->pool, cursor->pages[0], cursor->places[0], head >> 32, (uint32_t)head, to);
+    return (uint32_t)head;
+}
+
+bool find(const struct pool *pool, uint64_t root, const struct key *key, uint8_t *payload, uint32_t *length) {
+    struct cursor cursor;
+    if (!root || !descend(&cursor, pool, root, key)) return false;
+    *length = payload_at(&cursor, payload);
+    return true;
+}

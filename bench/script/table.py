@@ -1,0 +1,108 @@
+"""The table: a row for each case, a column for each peer."""
+import sys
+
+from measure import is_rate
+from peers import OURS, PEERS
+
+CASES = {
+    "create": "create: a node and three sets, an operation",
+    "set-indexed": "set, indexed",
+    "set-unindexed": "set, not indexed",
+    "list": "set, in lists of 64",
+    "drop": "drop",
+    "names-8": "set of a new name, in lists of 8 on a node",
+    "names-64": "the same, in lists of 64",
+    "one-text": '`name=="x"`, 1 node',
+    "one-text-32": "the same, with 32 indices in the store",
+    "parsed": "the same, parsed each time",
+    "one-number": "`size>=a && size<b`, 1 node",
+    "range-100": "the same, 100 nodes",
+    "from-1000": "`size>=a`, 1,000 nodes",
+    "front-100": '`name=="012*"`, 100 nodes',
+    "filter": '`name=="012*" && size>=a`',
+    "get": "get",
+    "any-4": "4 comparisons by `\\|\\|`, 32 indices",
+    "any-256": "256 comparisons by `\\|\\|`, 32 indices",
+    "pin": "pin and unpin",
+    "pin-beside": "the same, beside a writer",
+    "readers-1": "queries, 1 reader",
+    "readers-2": "queries, 2 readers",
+    "readers-4": "queries, 4 readers",
+    "readers-1-beside": "queries, 1 reader beside a writer",
+    "readers-2-beside": "queries, 2 readers beside a writer",
+    "readers-4-beside": "queries, 4 readers beside a writer",
+    "commits-0": "commits, 1 writer alone",
+    "commits-1": "commits beside 1 reader",
+    "commits-2": "commits beside 2 readers",
+    "commits-4": "commits beside 4 readers",
+    "writers-2": "commits of 2 writers together",
+    "open-1024": "opening 1,024 pages",
+    "open-16384": "opening 16,384 pages",
+    "peak-1024": "memory of the process for it, 1,024 pages",
+    "peak-16384": "memory of the process for it, 16,384 pages",
+    "journal": "memory a commit of one operation",
+}
+
+
+def number(value):
+    """Three digits, or all before the point."""
+    return f"{value:.0f}" if value >= 100 else f"{value:.3g}"
+
+
+def shown(case, value):
+    """A value with its unit."""
+    if is_rate(case):
+        return f"{number(value / 1e3)} k/s"
+    if case.startswith("peak-"):
+        return f"{number(value / 1e6)} MB"
+    if case == "journal":
+        return f"{number(value)} B"
+    for unit, size in (("ms", 1e6), ("µs", 1e3)):
+        if value >= size:
+            return f"{number(value / size)} {unit}"
+    return f"{number(value)} ns"
+
+
+def gain(case, ours, other):
+    """How many times as fast, or as small, bestore is."""
+    return ours / other if is_rate(case) else other / ours
+
+
+def cell(results, peer, case):
+    value, ours = results.best(peer, case), results.best(OURS, case)
+    if value is None:
+        return ""
+    if peer == OURS or not ours or not value:
+        return shown(case, value)
+    return f"{shown(case, value)} ({gain(case, ours, value):.2f})"
+
+
+def spread(results, case):
+    """The worst of bestore's rounds by the best."""
+    values = results.of(OURS, case)
+    return f"{max(values) / min(values):.2f}" if values and min(values) > 0 else ""
+
+
+def table_lines(results):
+    peers = [peer for peer in PEERS if any(results.of(peer.name, case) for case in CASES)]
+    rounds = max((len(values) for values in results.values.values()), default=0)
+    yield f"The best of {rounds} rounds in turn; load of the machine {min(results.loads):.1f} to {max(results.loads):.1f}."
+    yield "In brackets: how many times as fast, or as small, bestore is. Spread: the worst of its rounds by the best."
+    yield ""
+    yield "| case | " + " | ".join(peer.title for peer in peers) + " | spread |"
+    yield "|---|" + "---|" * (len(peers) + 1)
+    for case, title in CASES.items():
+        cells = [cell(results, peer.name, case) for peer in peers]
+        if any(cells):
+            yield f"| {title} | " + " | ".join(cells) + f" | {spread(results, case)} |"
+
+
+def write_table(results, path):
+    """Puts the table in the place of what stands between the two marks of a document."""
+    with open(path) as file:
+        before, mark, rest = file.read().partition("<!-- table -->\n")
+    _, end, after = rest.partition("<!-- end of the table -->\n")
+    if not end:
+        sys.exit(f"{path} has no marks <!-- table --> and <!-- end of the table -->")
+    with open(path, "w") as file:
+        file.write("\n".join([before + mark, *table_lines(results), "", end + after]))
