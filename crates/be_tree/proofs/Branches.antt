@@ -1,12 +1,13 @@
 -- A branch that was written: its key's whole words were copied, and the rest of the key and the number were stored as bytes.
-use Rattle.std.proofs.Common.{◌≡◌, ℕ, ◌+◌, ◌*◌, ◌/◌, ◌%◌, ◌^◌, ◌<◌, List, ◌++◌, length, map, ap, sym, ◌∙◌, arith, append_assoc}
+use Rattle.std.proofs.Common.{◌≡◌, ℕ, ◌+◌, ◌*◌, ◌/◌, ◌%◌, ◌^◌, ◌<◌, ◌≤◌, List, ◌++◌, length, map, ap, sym, subst, ◌∙◌, arith, append_assoc}
 use Rattle.std.specs.List.{flat_map, range_with_len}
 use Rattle.std.specs.Int.{to_be_bytes, w64}
 use Rattle.std.proofs.lemmas.List.{length-append, length-take-le}
 use Rattle.be_tree.specs.Pair.{Pair}
-use Rattle.be_tree.specs.Page.{bytes_at, item_at, key_len, words_for}
+use Rattle.be_tree.specs.Page.{bytes_at, item_at, key_len, words_for, IsItem, IsPadded}
 use Rattle.be_tree.proofs.Codec.{bytes_at_copied, bytes_at_split, flat_map_length, item_at_stored, key_at}
 use Rattle.be_tree.proofs.Words.{item_key_length}
+use Rattle.be_tree.proofs.Zeros.{IsItem_stored, behind_later}
 
 bytes_at_length : (words : ℕ → ℕ) (at n : ℕ) → length (bytes_at words at n) ≡ n
 bytes_at_length words at n =
@@ -43,3 +44,13 @@ module _ (v w : ℕ → ℕ) (page at : ℕ) (tail : List ℕ) (header : w at �
       ∙ ap (λ (xs : List ℕ). xs ++ number) (sym key_is) in
       let head : w at ≡ length key * 2 ^ 32 + length number = header ∙ ap (λ (n : ℕ). n * 2 ^ 32 + 8) (sym klen) in
       item_at_stored w at (record { key = key; payload = number }) head (omega (arith, eight)) all
+
+  pub branch_fits : key_len v 2 ≤ 264 → IsPadded w (at + 1 + key_len v 2 / 8) (length tail) → IsItem w at
+  branch_fits fits zeros =
+      let k = key_len v 2 in
+      let number = to_be_bytes w64 page in
+      let eight : length number ≡ 8 = omega arith in
+      let back = bytes_at v (3 + k / 8) (k % 8) in
+      let len : length tail ≡ k % 8 + 8 = omega (arith, eight, ap length tail_is, length-append back number, bytes_at_length v (3 + k / 8) (k % 8)) in
+      let all : 8 * (k / 8) + length tail ≡ k + 8 = omega (arith, len) in
+      IsItem_stored w at k 8 header (omega arith) fits (omega (arith, fits)) (subst (λ (n : ℕ). IsPadded w (at + 1) n) all (behind_later w (at + 1) (k / 8) (length tail) zeros))

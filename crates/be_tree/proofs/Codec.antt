@@ -72,9 +72,6 @@ item_at_same v w at fits same =
     let bytes = bytes_at_same v w (at + 1) (key_len v at + payload_len v at) fits.fits (λ j ge lt. same j (omega arith) (omega arith)) in
     rw header (rw bytes refl)
 
-pub IsItem_same : (v w : ℕ → ℕ) (at : ℕ) → IsItem v at → w at ≡ v at → IsItem w at
-IsItem_same v w at fits same = record { key_fits = rw same fits.key_fits; fits = rw same fits.fits }
-
 -- an item is read back from its header and its bytes
 pub item_at_stored : (words : ℕ → ℕ) (at : ℕ) (item : Pair) → words at ≡ length item.key * 2 ^ 32 + length item.payload → length item.payload < 2 ^ 32
     → bytes_at words (at + 1) (length (item.key ++ item.payload)) ≡ item.key ++ item.payload → item_at words at ≡ item
@@ -112,7 +109,7 @@ flat_map_length words (suc n) =
     eight : (n : ℕ) → length (to_be_bytes w64 n) ≡ 8
     eight n = refl
 
-flat_map_range_append : (f : ℕ → ℕ) (n m : ℕ) → flat_map (to_be_bytes w64) (map f (range_with_len 0 (n + m))) ≡ flat_map (to_be_bytes w64) (map f (range_with_len 0 n)) ++ flat_map (to_be_bytes w64) (map f (range_with_len (0 + n) m))
+pub flat_map_range_append : (f : ℕ → ℕ) (n m : ℕ) → flat_map (to_be_bytes w64) (map f (range_with_len 0 (n + m))) ≡ flat_map (to_be_bytes w64) (map f (range_with_len 0 n)) ++ flat_map (to_be_bytes w64) (map f (range_with_len (0 + n) m))
 flat_map_range_append f n m = ap (flat_map (to_be_bytes w64)) (map_range_append f 0 n m) ∙ flat_map-append (to_be_bytes w64) (map f (range_with_len 0 n)) (map f (range_with_len (0 + n) m))
 
 pub bytes_at_prefix : (words : ℕ → ℕ) (at k n : ℕ) → k ≤ n → take k (bytes_at words at n) ≡ bytes_at words at k
@@ -137,7 +134,7 @@ unfolding item_at
 key_at words at = bytes_at_prefix words (at + 1) (key_len words at) (key_len words at + payload_len words at) (omega arith)
 
 -- the same words, counted from elsewhere
-maps_along : {A : Type 0} (g h : ℕ → A) (a b n : ℕ) → ((k : ℕ) → g (a + k) ≡ h (b + k)) → map g (range_with_len a n) ≡ map h (range_with_len b n)
+pub maps_along : {A : Type 0} (g h : ℕ → A) (a b n : ℕ) → ((k : ℕ) → g (a + k) ≡ h (b + k)) → map g (range_with_len a n) ≡ map h (range_with_len b n)
 maps_along g h a b zero same = refl
 maps_along g h a b (suc n) same =
     let ea : a + 0 ≡ a = omega arith in

@@ -1,4 +1,5 @@
 pub mod Codec
+mod Zeros
 pub mod Words
 pub mod Padded
 mod Branches

@@ -4,7 +4,7 @@ ghost use Rattle.std.specs.List.{range_with_len};
 ghost use Rattle.std.specs.Int.{from_be_bytes, to_be_bytes, w64};
 ghost use Rattle.be_pages.specs.Pages.{is_readable, is_taken, IsUnchanged, OnlyWrites, StandsAt};
 ghost use Rattle.be_pages.specs.declared.room.Standing.TheVariants.{Filled};
-ghost use Rattle.be_tree.specs.Page.{IsItem, IsPage, item_at, bytes_at, key_len, level_of, items_of, words_for};
+ghost use Rattle.be_tree.specs.Page.{IsItem, IsPadded, IsPage, item_at, bytes_at, key_len, level_of, items_of, words_for};
 ghost use Rattle.be_tree.specs.Page.{place_of};
 ghost use Rattle.std.specs.Prelude.{◌^◌, ◌⊎◌};
 ghost use Rattle.be_tree.specs.declared.slot.Slot.TheVariants.{At};
@@ -186,6 +186,7 @@ pub(crate) fn store_bytes<R: Room>(room: &mut R, page: u64, at: usize, bytes: &[
     requires fits { length bytes.now ≤ 328 }
     requires open { IsTrue (R.is_open (R.kept room.old)) }
     ensures bytes { bytes_at (R.words room.new page) at (length bytes.now) ≡ bytes.now }
+    ensures padded { IsPadded (R.words room.new page) at (length bytes.now) }
     ensures only { OnlyWrites R.kept R.standing R.words page at (at + words_for (length bytes.now)) room.old room.new }
 {
     for i in 0..(bytes.len() + 7) / 8 {

@@ -4,7 +4,8 @@ use Rattle.std.proofs.lemmas.Bool.{cases_lt}
 use Rattle.be_tree.specs.declared.slot.Slot.{Slot}
 use Rattle.be_tree.specs.Page.{IsItem, item_at, place_of}
 use Rattle.be_tree.specs.Slot.{pair_of}
-use Rattle.be_tree.proofs.Codec.{item_at_same, IsItem_same}
+use Rattle.be_tree.proofs.Codec.{item_at_same}
+use Rattle.be_tree.proofs.Zeros.{IsItem_same}
 use Rattle.be_tree.proofs.Slots.{pair_same, stored_map}
 use Rattle.be_tree.proofs.page.store_node.Goals as goal
 
@@ -26,7 +27,7 @@ loop-j-preserved g c =
             subst (λ n. item_at w (place_of n) ≡ pair_of (g.R.Look.words c.args.room.now) c.args.pair.now (get_or c.args.slots.now n d)) e (this d)
       ];
       fit = λ k lt. elim (cases_lt k c.loop-j.j) [
-        | inl below ↦ IsItem_same v w (place_of k) (c.loop-j.invariant.fit k below) (only.before (place_of k) (omega arith))
+        | inl below ↦ IsItem_same v w (place_of k) (c.loop-j.invariant.fit k below) (λ i ge up. only.before i (omega arith))
         | inr above ↦
             let e : c.loop-j.j ≡ k = omega arith in
             subst (λ n. IsItem w (place_of n)) e c.store_slot.ensures.fits
