@@ -1,5 +1,5 @@
 -- The version that a write leaves, put together from the changes of its trees and its new page.
-use Rattle.std.proofs.Common.{◌≡◌, ℕ, zero, suc, ◌<◌, ◌≤◌, List, [], ◌∷◌, IsTrue, Ok, ap, sym, subst, ◌∙◌, refl, inl, inr, arith}
+use Rattle.std.proofs.Common.{◌≡◌, ℕ, zero, suc, ◌<◌, ◌≤◌, List, [], ◌∷◌, All, IsTrue, Ok, ap, sym, subst, ◌∙◌, refl, inl, inr, arith}
 use mathlib.Core.Bool.{false≢true}
 use Rattle.std.proofs.lemmas.Bool.{cases_eq}
 use Rattle.be_pages.specs.declared.room.Standing.{Standing}
@@ -13,7 +13,7 @@ use Rattle.be_volume.specs.Volume.{State, steps}
 use Rattle.be_volume.specs.declared.ops.Done.{Done}
 use Rattle.be_volume.specs.declared.ops.Op.{Op}
 use Rattle.be_paged.specs.Catalog.{IsCatalog}
-use Rattle.be_paged.specs.Changes.{Changes, Applies}
+use Rattle.be_paged.specs.Changes.{Changes, Applies, SetsWhatStands}
 use Rattle.be_paged.specs.Page.{Contents, contents_of, IsVersionPage, roots, reach}
 use Rattle.be_paged.specs.Version.{IsInHand, IsVersion, Spells}
 use Rattle.be_paged.proofs.Hand.{entries_same}
@@ -116,8 +116,9 @@ module _ {S K : Type 0} (kept_of : S → K) (standing_of : S → ℕ → Standin
 
     pub applied : (new_page : ℕ) (new : S) (made : State) (ops : List Op) (dones : List Done) → steps volume ops ≡ Ok (made, dones) → Spells (words_of mid) after made → IsSound made
         → Swaps kept_of standing_of words_of (page ∷ []) (new_page ∷ []) mid new → contents_of (words_of new new_page) ≡ after → IsVersionPage (words_of new new_page) → standing_of new new_page ≡ Filled
+        → (All (SetsWhatStands volume) ops → after.entries ≡ (contents_of (words_of old page)).entries)
         → Applies kept_of standing_of words_of page new_page volume ops dones old new
-    applied new_page new made ops dones stepped spells sound swaps written is_page filled = record {
+    applied new_page new made ops dones stepped spells sound swaps written is_page filled stays = record {
       made = made;
       stepped = stepped;
       version = new_version page new_page after mid new change.in_hand page_stays page_apart swaps written is_page filled made spells sound;
@@ -126,4 +127,5 @@ module _ {S K : Type 0} (kept_of : S → K) (standing_of : S → ℕ → Standin
           (λ q. omega (arith, times-cons q page before, times-cons q page [])) (λ q. omega (arith, times-cons q page (pages_of (words_of mid) (roots after)), times-cons q page [])) once_before used_page)
           (new_reach page new_page after mid new change.in_hand page_stays page_apart swaps written is_page filled);
       taken = filled;
+      stays = λ stands. ap (λ (d : Contents). d.entries) written ∙ stays stands;
     }

@@ -35,6 +35,7 @@ spells_unindexed w c volume name node i value spells gap =
 -- the index of a name that is there
 pub record Indexed (w : ℕ → ℕ → ℕ) (c : Contents) (volume : State) (name : List ℕ) (node i : ℕ) (old new : Option Value) : Type 0 where
   pub index : Index
+  pub there : fin.get volume.indices name ≡ Some index
   pub keys : (d : Entry) → IsIndexOf (pairs w (get_or c.entries i d).root) index
   pub ready : (d : Entry) → IsReady index (get_or c.entries i d).kind node old
   pub changed : with_change volume.indices name node new ≡ fin.insert volume.indices name (repaired index node new)
@@ -56,6 +57,7 @@ indexed w c volume name node i old new spells sound value at =
     let there = fin.get-entries volume.indices name ∙ found.found in
     record {
       index = found.index;
+      there = there;
       keys = λ d. (found.entry d).keys;
       ready = λ d. ready_index volume name found.index (get_or c.entries i d).kind node old sound there (sym (found.entry d).kind_is) value;
       changed = change_some volume.indices name node new found.index there;

@@ -11,6 +11,7 @@ pub mod Hand
 pub mod Walks
 pub mod Repairs
 pub mod EntryChange
+mod Settled
 pub mod Replacing
 pub mod Making
 pub mod Applied

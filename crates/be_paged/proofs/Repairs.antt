@@ -21,7 +21,7 @@ use Rattle.be_paged.specs.Changes.{IsReady, repaired, key_taken, key_put}
 use Rattle.be_paged.proofs.Finding.{found_pair}
 use Rattle.be_paged.proofs.IndexKeys.{index_without, index_bare, index_with, index_still}
 
-kinds_agree : (a b : Kind) → a ≡ b → same_kind a b ≡ true
+pub kinds_agree : (a b : Kind) → a ≡ b → same_kind a b ≡ true
 kinds_agree a b e = ap (same_kind a) (sym e) ∙ itself a
   where
     itself : (k : Kind) → same_kind k k ≡ true
@@ -33,7 +33,7 @@ kinds_agree a b e = ap (same_kind a) (sym e) ∙ itself a
     itself kinds.Ulng = refl
     itself kinds.Ullg = refl
 
-kinds_same : (a b : Kind) → same_kind a b ≡ true → a ≡ b
+pub kinds_same : (a b : Kind) → same_kind a b ≡ true → a ≡ b
 kinds_same kinds.Cstr kinds.Cstr h = refl
 kinds_same kinds.Long kinds.Long h = refl
 kinds_same kinds.Llng kinds.Llng h = refl
@@ -43,7 +43,7 @@ kinds_same kinds.Ulng kinds.Ulng h = refl
 kinds_same kinds.Ullg kinds.Ullg h = refl
 kinds_same a b h = cc
 
-same_value : (a b : Value) → Some a ≡ Some b → a ≡ b
+pub same_value : (a b : Value) → Some a ≡ Some b → a ≡ b
 same_value a b e = cc
 
 -- the value, if there is one, is of the kind, and this is its key; or it has none

@@ -1,5 +1,5 @@
 -- What a write does to the contents in hand, and to the version that it began with.
-use Rattle.std.specs.Prelude.{◌≡◌, ◌⊎◌, ℕ, ◌+◌, ◌^◌, ◌<◌, ◌≤◌, List, [], Some, IsTrue, IsOk, Ok, Err, true}
+use Rattle.std.specs.Prelude.{◌≡◌, ◌⊎◌, ℕ, ◌+◌, ◌^◌, ◌<◌, ◌≤◌, List, [], All, Some, IsTrue, IsOk, Ok, Err, true}
 use Rattle.std.specs.FinMap as map
 use Rattle.std.specs.declared.option.Option.{Option}
 use Rattle.std.specs.declared.option.Option.TheVariants as options
@@ -21,8 +21,10 @@ use Rattle.be_volume.specs.Sound.{IsSound}
 use Rattle.be_volume.specs.Volume.{State, step, steps}
 use Rattle.be_volume.specs.declared.maps.Index.{Index}
 use Rattle.be_volume.specs.declared.ops.Done.{Done}
+use Rattle.be_volume.specs.declared.ops.Done.TheVariants.{Unit as Nothing}
 use Rattle.be_volume.specs.declared.ops.Op.{Op}
-use Rattle.be_paged.specs.Page.{Contents, roots, reach}
+use Rattle.be_volume.specs.declared.ops.Op.TheVariants.{New, Set, MkIndex, Drop, Unset, RmIndex}
+use Rattle.be_paged.specs.Page.{Contents, contents_of, roots, reach}
 use Rattle.be_paged.specs.Version.{IsInHand, IsVersion, Spells}
 
 -- an index after the node got the value there, or lost the one that it had
@@ -98,8 +100,18 @@ pub record IsBare (words : ℕ → ℕ → ℕ) (c : Contents) (volume : State) 
   pub leaves : Leaves volume left node
   pub bare : map.len (attributes_of left.nodes node) ≡ 0
 
+-- the operation sets what stands: a Set that leaves the volume as it is, its indices too
+abbrev pub SetsWhatStands : State → Op → Type 0
+SetsWhatStands volume New = ⊥
+SetsWhatStands volume (Set node name value) = step volume (Set node name value) ≡ Ok (volume, Nothing)
+SetsWhatStands volume (MkIndex name kind) = ⊥
+SetsWhatStands volume (Drop node) = ⊥
+SetsWhatStands volume (Unset node name) = ⊥
+SetsWhatStands volume (RmIndex name) = ⊥
+
 -- A list of operations on a version: the new version page spells what the steps make of the volume. The pages of the old version have become
--- exactly those of the new one, each of which is old or filled, and the new version page is one that this write has taken.
+-- exactly those of the new one, each of which is old or filled, and the new version page is one that this write has taken. Where all of them set
+-- what stands, each index has the root that it had.
 pub record Applies {S K : Type 0} (kept_of : S → K) (standing_of : S → ℕ → Standing) (words_of : S → ℕ → ℕ → ℕ)
     (page new_page : ℕ) (volume : State) (ops : List Op) (dones : List Done) (old new : S) : Type 0 where
   pub made : State
@@ -107,6 +119,7 @@ pub record Applies {S K : Type 0} (kept_of : S → K) (standing_of : S → ℕ �
   pub version : IsVersion (standing_of new) (words_of new) new_page made
   pub swaps : Swaps kept_of standing_of words_of (reach (words_of old) page) (reach (words_of new) new_page) old new
   pub taken : standing_of new new_page ≡ Filled
+  pub stays : All (SetsWhatStands volume) ops → (contents_of (words_of new new_page)).entries ≡ (contents_of (words_of old page)).entries
 
 -- A refused list: the steps refuse it so, and no page was taken, filled or given up; or the steps accept it and no page was left, and what
 -- stood when the write began stands once it is undone.

@@ -2,7 +2,7 @@
 //!
 //! An attribute and its pair in an index change one after the other. Between the two the contents spell a volume of which an index says other
 //! than the attribute, so what is kept from one change to the next is that the trees stand, apart from what they say.
-ghost use Rattle.std.specs.Prelude.{◌≡◌, ℕ, ◌<◌, length, IsTrue, IfOk, IfErr, OnOk, OnErr, IfSome, IfNone, Some, option_map, true, is_some, List};
+ghost use Rattle.std.specs.Prelude.{◌≡◌, ℕ, ◌<◌, length, IsTrue, IfOk, IfErr, OnOk, OnErr, IfSome, IfNone, Some, None, option_map, true, is_some, List};
 ghost use Rattle.be_value.specs.Key.{key, IsValue};
 ghost use Rattle.be_value.specs.Value.{kind_of as kind_in, is_indexable};
 ghost use Rattle.be_value.specs.declared.values.Value.{Value as AnyValue};
@@ -10,6 +10,7 @@ ghost use Rattle.be_pages.specs.Pages.{IsUnchanged, KeepsStart, Swaps};
 ghost use Rattle.be_pages.specs.Refusal.{IsFullOf};
 ghost use Rattle.be_tree.specs.Key.{payload_at};
 ghost use Rattle.be_tree.specs.Tree.{BecomesTree, IsTree, pages, pairs};
+ghost use Rattle.be_volume.specs.Indices.{with_pair};
 ghost use Rattle.be_volume.specs.Reading.{attribute};
 ghost use Rattle.be_volume.specs.Sound.{IsSound};
 ghost use Rattle.be_volume.specs.Volume.{State};
@@ -73,6 +74,7 @@ fn take_key<R: Room>(
     requires open { IsTrue (R.is_open (R.kept room.old)) }
     ensures ok { IfOk result (λ new. BecomesTree R.kept R.standing R.words (pages (R.words room.old) root)
         (key_taken (option_map (λ k. k.items) key.now) (pairs (R.words room.old) root)) new room.old room.new) }
+    ensures none { IfOk result (λ new. option_map (λ k. k.items) key.now ≡ None → new ≡ root) }
     ensures err { OnErr result (KeepsStart R.kept R.standing R.words room.old room.new) }
     ensures full { IfErr result (IsFullOf (R.full room.new)) }
 {
@@ -92,6 +94,7 @@ fn put_key<R: Room>(
     requires open { IsTrue (R.is_open (R.kept room.old)) }
     ensures ok { IfOk result (λ new. BecomesTree R.kept R.standing R.words (pages (R.words room.old) root)
         (key_put (option_map (λ k. k.items) key.now) (pairs (R.words room.old) root)) new room.old room.new) }
+    ensures none { IfOk result (λ new. option_map (λ k. k.items) key.now ≡ None → new ≡ root) }
     ensures err { OnErr result (KeepsStart R.kept R.standing R.words room.old room.new) }
     ensures full { IfErr result (IsFullOf (R.full room.new)) }
 {
@@ -119,6 +122,7 @@ fn change_root<R: Room>(
         IsIndexOf (pairs (R.words room.new) r) (repaired index node new.now)) }
     ensures stays { IfOk result (λ r. (v : AnyValue) → kind_in v ≡ kind → IsTrue (is_indexable kind) → old.now ≡ Some v → new.now ≡ Some v →
         is_some (payload_at (pairs (R.words room.old) root) (key v node)) ≡ true → (r ≡ root) × IsUnchanged R.kept R.standing R.words room.old room.new) }
+    ensures apart { IfOk result (λ r. (v : AnyValue) → (kind_in v ≡ kind → ⊥) → old.now ≡ Some v → new.now ≡ Some v → r ≡ root) }
     ensures err { OnErr result (KeepsStart R.kept R.standing R.words room.old room.new) }
     ensures full { IfErr result (IsFullOf (R.full room.new)) }
 {
@@ -148,6 +152,9 @@ fn change_at<R: Room>(
     ensures spells { OnOk result ((volume : State) (name : List ℕ) → IsNamedAt version.old.entries.items name at →
         Spells (R.words room.old) (contents version.old) volume → IsSound volume → old.now ≡ attribute volume node name →
         Spells (R.words room.new) (contents version.new) (with_indices volume name node new.now)) }
+    ensures stays { OnOk result ((volume : State) (name : List ℕ) → IsNamedAt version.old.entries.items name at →
+        Spells (R.words room.old) (contents version.old) volume → IsSound volume → old.now ≡ attribute volume node name → (v : AnyValue) →
+        old.now ≡ Some v → new.now ≡ Some v → with_pair volume.indices name node v ≡ volume.indices → version.new.entries.items ≡ version.old.entries.items) }
     ensures catalog { OnOk result (version.new.catalog ≡ version.old.catalog) }
     ensures next { OnOk result (version.new.next ≡ version.old.next) }
     ensures err { OnErr result (KeepsStart R.kept R.standing R.words room.old room.new) }
@@ -172,6 +179,9 @@ pub(crate) fn change_entry<R: Room>(
     ensures changes { OnOk result (Changes R.kept R.standing R.words (contents version.old) (contents version.new) room.old room.new) }
     ensures spells { OnOk result ((volume : State) → Spells (R.words room.old) (contents version.old) volume → IsSound volume →
         Spells (R.words room.new) (contents version.new) (with_indices volume name.now node new.now)) }
+    ensures stays { OnOk result ((volume : State) → Spells (R.words room.old) (contents version.old) volume → IsSound volume → (v : AnyValue) →
+        attribute volume node name.now ≡ Some v → new.now ≡ Some v → with_pair volume.indices name.now node v ≡ volume.indices →
+        version.new.entries.items ≡ version.old.entries.items) }
     ensures catalog { OnOk result (version.new.catalog ≡ version.old.catalog) }
     ensures next { OnOk result (version.new.next ≡ version.old.next) }
     ensures err { OnErr result (KeepsStart R.kept R.standing R.words room.old room.new) }

@@ -2,13 +2,13 @@
 //!
 //! Refusals are found before, so each operation only does its work and fails for want of pages alone. What it leaves then is not said: the write
 //! is undone.
-ghost use Rattle.std.specs.Prelude.{◌≡◌, [], ◌+◌, ◌≤◌, ◌<◌, ◌^◌, length, IsTrue, IfOk, IfErr, OnOk, OnErr, IsOk};
+ghost use Rattle.std.specs.Prelude.{◌≡◌, [], ◌+◌, ◌≤◌, ◌<◌, ◌^◌, All, length, IsTrue, IfOk, IfErr, OnOk, OnErr, IsOk};
 ghost use Rattle.be_pages.specs.Pages.{KeepsStart};
 ghost use Rattle.be_pages.specs.Refusal.{IsFullOf};
 ghost use Rattle.be_volume.specs.Sound.{IsSound};
 ghost use Rattle.be_volume.specs.Volume.{State, step, steps};
 ghost use Rattle.be_volume.specs.declared.ops.Op.TheVariants as ops;
-ghost use Rattle.be_paged.specs.Changes.{Changes, IsBare, Steps, Reaches};
+ghost use Rattle.be_paged.specs.Changes.{Changes, IsBare, SetsWhatStands, Steps, Reaches};
 ghost use Rattle.be_paged.specs.Page.{contents};
 ghost use Rattle.be_paged.specs.Version.{IsInHand, Spells};
 
@@ -61,6 +61,8 @@ fn set_value<R: Room>(
     ensures changes { OnOk result (Changes R.kept R.standing R.words (contents version.old) (contents version.new) room.old room.new) }
     ensures steps { IfOk result (λ done. (volume : State) → Spells (R.words room.old) (contents version.old) volume → IsSound volume →
         IsOk (step volume (ops.Set node name.now value.now)) → Steps (R.words room.new) (contents version.new) volume (ops.Set node name.now value.now) done) }
+    ensures stays { IfOk result (λ done. (volume : State) → Spells (R.words room.old) (contents version.old) volume → IsSound volume →
+        SetsWhatStands volume (ops.Set node name.now value.now) → version.new.entries.items ≡ version.old.entries.items) }
     ensures next { OnOk result (version.new.next ≡ version.old.next) }
     ensures err { OnErr result (KeepsStart R.kept R.standing R.words room.old room.new) }
     ensures full { IfErr result (IsFullOf (R.full room.new)) }
@@ -170,6 +172,8 @@ fn edit<R: Room>(room: &mut R, version: &mut Version, op: &Op) -> Result<Done, R
     ensures changes { OnOk result (Changes R.kept R.standing R.words (contents version.old) (contents version.new) room.old room.new) }
     ensures steps { IfOk result (λ done. (volume : State) → Spells (R.words room.old) (contents version.old) volume → IsSound volume →
         volume.next + 1 < 2 ^ 64 → IsOk (step volume op.now) → Steps (R.words room.new) (contents version.new) volume op.now done) }
+    ensures stays { IfOk result (λ done. (volume : State) → Spells (R.words room.old) (contents version.old) volume → IsSound volume →
+        SetsWhatStands volume op.now → version.new.entries.items ≡ version.old.entries.items) }
     ensures next { OnOk result (version.new.next ≤ version.old.next + 1) }
     ensures err { OnErr result (KeepsStart R.kept R.standing R.words room.old room.new) }
     ensures full { IfErr result (IsFullOf (R.full room.new)) }
@@ -200,6 +204,8 @@ pub(crate) fn edit_all<R: Room>(
     ensures changes { OnOk result (Changes R.kept R.standing R.words (contents version.old) (contents version.new) room.old room.new) }
     ensures steps { OnOk result ((volume : State) → Spells (R.words room.old) (contents version.old) volume → IsSound volume →
         IsOk (steps volume ops.now) → Reaches (R.words room.new) (contents version.new) volume ops.now dones.new.items) }
+    ensures stays { OnOk result ((volume : State) → Spells (R.words room.old) (contents version.old) volume → IsSound volume →
+        All (SetsWhatStands volume) ops.now → version.new.entries.items ≡ version.old.entries.items) }
     ensures err { OnErr result (KeepsStart R.kept R.standing R.words room.old room.new) }
     ensures full { IfErr result (IsFullOf (R.full room.new)) }
 {

@@ -11,6 +11,7 @@ use Rattle.be_paged.specs.Version.{Spells}
 use Rattle.be_volume.specs.Indices.{Indices}
 use Rattle.be_paged.proofs.EntryChange.{indexed}
 use Rattle.be_paged.proofs.Hand.{entry_changes, entry_spells, replaced}
+use Rattle.be_paged.proofs.Settled.{by_kinds, paired_same, root_kept}
 use Rattle.be_paged.proofs.SourceKeys.{entry_tree}
 use Rattle.be_paged.proofs.changes.change_at.Goals as goal
 
@@ -56,3 +57,19 @@ returns-clause-spells g c = λ volume name at spells sound value.
     spells at (at.here nowhere) (ix.kind nowhere ∙ ix.kept) keys in
     subst (λ (xs : List Entry). Spells (w new) (record { next = before.next; catalog = before.catalog; entries = xs }) (record { next = volume.next; nodes = volume.nodes; indices = with_change volume.indices name node c.args.new.now })) (sym (c.set_root.ensures nowhere))
     (subst (λ (is : Indices). Spells (w new) (record { next = before.next; catalog = before.catalog; entries = replaced es i e }) (record { next = volume.next; nodes = volume.nodes; indices = is })) (sym ix.changed) told)
+
+pub returns-clause-stays : goal.returns-clause-stays
+returns-clause-stays g c = λ volume name at spells sound value v was is same.
+    let before = contents c.args.version.now in
+    let es = c.args.version.now.entries.items in
+    let w = g.R.Look.words c.args.room.now in
+    let i = c.args.at in
+    let node = c.args.node in
+    let root = c.index_at-kind.ensures.root nowhere ∙ ap (λ (xs : List Entry). (get_or xs i nowhere).root) c.deref.ensures.0 in
+    let kind = c.index_at-kind.ensures.kind nowhere ∙ ap (λ (xs : List Entry). (get_or xs i nowhere).kind) c.deref.ensures.0 in
+    let ix = indexed w before volume name node i c.args.old.now c.args.new.now spells sound value at in
+    let keys = subst (λ (r : ℕ). IsIndexOf (pairs w r) ix.index) (sym root) (ix.keys nowhere) in
+    let ready = subst (λ (k : Kind). IsReady ix.index k node c.args.old.now) (sym kind) (ix.ready nowhere) in
+    let kept = by_kinds _ ix.index _ node v c.args.old.now c.args.new.now _ _ keys ready.kind_is ready.indexable (paired_same volume.indices name ix.index node v ix.there same) was is
+    c.in_ok-changed.ensures.stays c.in_ok-changed.ensures.apart in
+    c.set_root.ensures nowhere ∙ root_kept es i nowhere c.in_ok-changed.changed c.requires.in_range (kept ∙ root)

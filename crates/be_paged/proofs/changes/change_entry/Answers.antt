@@ -1,4 +1,4 @@
-use Rattle.std.proofs.Common.{ℕ, List, sym, subst, rules, arith}
+use Rattle.std.proofs.Common.{ℕ, List, sym, subst, ◌∙◌, rules, arith}
 use Rattle.be_paged.specs.Entry.{Entry}
 use Rattle.be_paged.specs.Page.{IsNamedAt, IsGapAt, contents}
 use Rattle.be_paged.specs.Version.{Spells}
@@ -42,3 +42,10 @@ pub returns-in_err-change_at-clause-err : goal.returns-in_err-change_at-clause-e
 returns-in_err-change_at-clause-err g c =
     let k = start_since g.R.Look.kept g.R.Look.standing g.R.Look.words c.args.room.now c.value_in-old.new.look c.change_at.new.room c.value_in-old.ensures.unchanged c.in_err-change_at.ensures.err in
     search (rules, k)
+
+pub returns-clause-stays : goal.returns-clause-stays
+returns-clause-stays g c = λ volume spells sound v has is same.
+    let at = subst (λ (xs : List Entry). IsNamedAt xs c.args.name.now c.in-Ok.at) c.deref.ensures.0 c.in-Ok.ensures.found in
+    let old = c.value_in-old.ensures.value volume.nodes spells.catalog (values_valid volume sound) in
+    let read = subst (λ (w : ℕ → ℕ → ℕ). Spells w (contents c.args.version.now) volume) (sym c.value_in-old.ensures.unchanged.words) spells in
+    c.in_ok-change_at.ensures.stays volume c.args.name.now at read sound old v (old ∙ has) is same

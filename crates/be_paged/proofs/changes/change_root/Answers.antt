@@ -10,6 +10,7 @@ use Rattle.be_paged.specs.Catalog.{IsIndexOf}
 use Rattle.be_paged.specs.Changes.{repaired, key_taken}
 use Rattle.be_paged.proofs.Composing.{tree_read, start_since}
 use Rattle.be_paged.proofs.Repairs.{taken, entered, stands, Leaves, HasNone, key_there, seen_some, seen_none, seen_at}
+use Rattle.be_paged.proofs.Settled.{no_key}
 use Rattle.be_paged.proofs.changes.change_root.Goals as goal
 
 pub returns-then-holds_both-clause-swaps : goal.returns-then-holds_both-clause-swaps
@@ -77,3 +78,13 @@ returns-in_err-last-clause-err g c =
     (swaps_start g.R.Look.kept g.R.Look.standing g.R.Look.words _ _ c.holds_both.new.look mid c.in_ok-rest.ensures.ok.swaps) c.in_err-last.ensures.err in
     let k = start_since g.R.Look.kept g.R.Look.standing g.R.Look.words c.args.room.now c.holds_both.new.look c.put_key.new.room c.holds_both.ensures.unchanged more in
     search (rules, k)
+
+pub returns-clause-apart : goal.returns-clause-apart
+returns-clause-apart g c = λ v ne was is.
+    let kind = c.args.kind in
+    let node = c.args.node in
+    let leaves = no_key kind node c.args.old.now (option_map (λ k. k.items) c.key_in-leaves.result)
+    (seen_some (λ k. k.items) (Leaves kind node c.args.old.now) c.key_in-leaves.result c.key_in-leaves.ensures.some) v was ne in
+    let enters = no_key kind node c.args.new.now (option_map (λ k. k.items) c.key_in-enters.result)
+    (seen_some (λ k. k.items) (Leaves kind node c.args.new.now) c.key_in-enters.result c.key_in-enters.ensures.some) v is ne in
+    c.in_ok-last.ensures.none enters ∙ c.in_ok-rest.ensures.none leaves

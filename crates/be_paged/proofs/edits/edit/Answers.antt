@@ -3,8 +3,9 @@ use Rattle.std.proofs.lemmas.Result.{IfOk-weaker}
 use Rattle.be_volume.specs.Volume.{step}
 use Rattle.be_volume.specs.declared.ops.Op.{Op}
 use Rattle.be_volume.specs.declared.ops.Op.TheVariants.{MkIndex}
-use Rattle.be_paged.specs.Changes.{Steps}
+use Rattle.be_paged.specs.Changes.{SetsWhatStands, Steps}
 use Rattle.be_paged.specs.Page.{contents}
+use Rattle.be_paged.proofs.Settled.{if_ok}
 use Rattle.be_paged.proofs.edits.edit.Goals as goal
 
 pub returns-in-New-clause-steps : goal.returns-in-New-clause-steps
@@ -33,3 +34,21 @@ pub returns-in-RmIndex-clause-steps : goal.returns-in-RmIndex-clause-steps
 returns-in-RmIndex-clause-steps g c = λ volume spells sound fits ok.
     subst (λ (op : Op). Steps (g.R.Look.words c.remove_index.new.room) (contents c.remove_index.new.version) volume op c.remove_index.result) (sym c.in-RmIndex.is)
     (c.remove_index.ensures.steps volume spells (subst (λ (op : Op). IsOk (step volume op)) c.in-RmIndex.is ok))
+
+pub returns-in-New-clause-stays : goal.returns-in-New-clause-stays
+returns-in-New-clause-stays g c = if_ok c.add_node.result _ (λ done volume spells sound stands. absurd (subst (SetsWhatStands volume) c.in-New.is stands))
+
+pub returns-in-Drop-clause-stays : goal.returns-in-Drop-clause-stays
+returns-in-Drop-clause-stays g c = if_ok c.drop_node.result _ (λ done volume spells sound stands. absurd (subst (SetsWhatStands volume) c.in-Drop.is stands))
+
+pub returns-in-Unset-clause-stays : goal.returns-in-Unset-clause-stays
+returns-in-Unset-clause-stays g c = if_ok c.unset_value.result _ (λ done volume spells sound stands. absurd (subst (SetsWhatStands volume) c.in-Unset.is stands))
+
+pub returns-in-MkIndex-clause-stays : goal.returns-in-MkIndex-clause-stays
+returns-in-MkIndex-clause-stays g c = λ volume spells sound stands. absurd (subst (SetsWhatStands volume) c.in-MkIndex.is stands)
+
+pub returns-in-RmIndex-clause-stays : goal.returns-in-RmIndex-clause-stays
+returns-in-RmIndex-clause-stays g c = λ volume spells sound stands. absurd (subst (SetsWhatStands volume) c.in-RmIndex.is stands)
+
+pub returns-in-Set-clause-stays : goal.returns-in-Set-clause-stays
+returns-in-Set-clause-stays g c = IfOk-weaker c.set_value.result _ _ (λ done e volume spells sound stands. e volume spells sound (subst (SetsWhatStands volume) c.in-Set.is stands)) c.set_value.ensures.stays

@@ -3,15 +3,18 @@ use Rattle.be_volume.specs.Volume.{State, step}
 use Rattle.be_volume.specs.Ahead.{reached}
 use Rattle.be_volume.proofs.StepLemmas.{turn, performed}
 use Rattle.be_volume.proofs.Soundness.{step_sound}
-use Rattle.be_paged.specs.Changes.{Reaches}
+use Rattle.be_paged.specs.Changes.{Reaches, SetsWhatStands}
 use Rattle.be_paged.specs.Page.{contents}
+use Rattle.be_paged.specs.Version.{Spells}
 use Rattle.be_paged.proofs.Composing.{changes_none, changes_trans, start_after}
+use Rattle.be_paged.proofs.Settled.{sets_ok, sets_same}
 use Rattle.be_paged.proofs.edits.edit_all.Goals as goal
 
 pub loop-op-init : goal.loop-op-init
 loop-op-init g c = record {
   changes = changes_none g.R.Look.kept g.R.Look.standing g.R.Look.words (contents c.args.version.now) c.args.room.now c.requires.in_hand;
   steps = λ volume spells sound ok. record { made = volume; stepped = ap (λ xs. Ok (volume, xs)) (sym c.requires.empty); spells = spells; sound = sound };
+  stays = λ volume spells sound stands. (spells, refl);
   next = omega arith;
   counted = ap length c.requires.empty;
 }
@@ -35,6 +38,14 @@ loop-op-preserved g c =
             spells = e.spells;
             sound = step_sound r.made e.made c.op-item.result _ r.sound fits c.valid.ensures e.stepped;
           };
+      stays = λ volume spells sound stands.
+          let r = c.loop-op.invariant.stays volume spells sound stands in
+          let this : SetsWhatStands volume c.op-item.result = subst (SetsWhatStands volume) (sym c.op-item.is) (stands c.loop-op.op-index c.op-item.result c.loop-op-test.true) in
+          let fits : volume.next + 1 < 2 ^ 64 = omega (arith, r.0.next, c.loop-op.invariant.next, c.requires.fits, few, more) in
+          let e = c.in_ok-edit.ensures.steps volume r.0 sound fits (sets_ok volume c.op-item.result this) in (
+            subst (λ (s : State). Spells (g.R.Look.words c.edit.new.room) (contents c.edit.new.version) s) (sets_same volume e.made c.op-item.result _ this e.stepped) e.spells,
+            c.in_ok-edit.ensures.stays volume r.0 sound this ∙ r.1,
+          );
       next = omega (arith, c.loop-op.invariant.next, c.in_ok-edit.ensures.next);
       counted = ap length c.push.ensures.items ∙ length-append _ _ ∙ ap (λ n. n + 1) c.loop-op.invariant.counted;
     }
@@ -54,3 +65,6 @@ pub returns-clause-steps : goal.returns-clause-steps
 returns-clause-steps g c = λ volume spells sound ok.
     subst (λ ops. Reaches (g.R.Look.words c.loop-op.room) (contents c.loop-op.version) volume ops c.loop-op.dones.items) (take_past c.args.ops.now c.loop-op.op-index c.loop-op-test.false)
     (c.loop-op.invariant.steps volume spells sound ok)
+
+pub returns-clause-stays : goal.returns-clause-stays
+returns-clause-stays g c = λ volume spells sound stands. (c.loop-op.invariant.stays volume spells sound stands).1

@@ -1,7 +1,7 @@
-use Rattle.std.proofs.Common.{◌≡◌, ◌+◌, ◌≤◌, IsOk, take, length}
+use Rattle.std.proofs.Common.{◌≡◌, ◌+◌, ◌≤◌, All, IsOk, take, length}
 use Rattle.be_volume.specs.Sound.{IsSound}
 use Rattle.be_volume.specs.Volume.{State, steps}
-use Rattle.be_paged.specs.Changes.{Changes, Reaches}
+use Rattle.be_paged.specs.Changes.{Changes, Reaches, SetsWhatStands}
 use Rattle.be_paged.specs.Page.{contents}
 use Rattle.be_paged.specs.Version.{Spells}
 use Rattle.be_paged.proofs.edits.edit_all.Given as goal
@@ -12,6 +12,8 @@ invariant-loop-op g l = record {
   changes : Changes g.R.Look.kept g.R.Look.standing g.R.Look.words (contents l.initial.version) (contents l.version) l.initial.room l.room;
   steps : (volume : State) → Spells (g.R.Look.words l.initial.room) (contents l.initial.version) volume → IsSound volume → IsOk (steps volume l.ops) →
       Reaches (g.R.Look.words l.room) (contents l.version) volume (take l.op-index l.ops) l.dones.items;
+  stays : (volume : State) → Spells (g.R.Look.words l.initial.room) (contents l.initial.version) volume → IsSound volume → All (SetsWhatStands volume) l.ops →
+      Spells (g.R.Look.words l.room) (contents l.version) volume × (l.version.entries.items ≡ l.initial.version.entries.items);
   next : l.version.next ≤ l.initial.version.next + l.op-index;
   counted : length l.dones.items ≡ l.op-index;
 }

@@ -1,4 +1,4 @@
-use Rattle.std.proofs.Common.{sym, ◌∙◌, subst, Some, rules, arith}
+use Rattle.std.proofs.Common.{ap, sym, ◌∙◌, subst, Some, rules, arith}
 use Rattle.be_value.specs.declared.values.Value.{Value}
 use Rattle.be_tree.specs.Pair.{Pair}
 use Rattle.be_tree.specs.Tree.{pairs}
@@ -12,6 +12,7 @@ use Rattle.be_paged.specs.Version.{Spells}
 use Rattle.be_paged.proofs.Composing.{changes_trans, start_after}
 use Rattle.be_paged.proofs.Hand.{catalog_changes, catalog_spells}
 use Rattle.be_paged.proofs.Items.{catalog_set}
+use Rattle.be_paged.proofs.Settled.{settled}
 use Rattle.be_paged.proofs.Stepping.{stepped_is}
 use Rattle.be_paged.proofs.edits.set_value.Goals as goal
 
@@ -55,3 +56,8 @@ returns-in_err-version-clause-err g c =
     let new = c.insert.new.room in
     let k = start_after g.R.Look.kept g.R.Look.standing g.R.Look.words (contents c.args.version.now) (contents c.change_entry.new.version) c.args.room.now c.change_entry.new.room new c.in_ok-change_entry.ensures.changes c.in_err-version.ensures.err in
     search (rules, k)
+
+pub returns-clause-stays : goal.returns-clause-stays
+returns-clause-stays g c = λ volume spells sound stands.
+    let s = settled volume c.args.node c.args.name.now c.args.value.now stands in
+    c.in_ok-change_entry.ensures.stays volume spells sound c.args.value.now s.has (ap (λ (v : Value). Some v) c.copy.ensures) s.indices

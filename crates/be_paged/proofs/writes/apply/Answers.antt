@@ -1,4 +1,4 @@
-use Rattle.std.proofs.Common.{ℕ, sym, subst, ◌∙◌, rules}
+use Rattle.std.proofs.Common.{ℕ, ap, sym, subst, ◌∙◌, rules}
 use Rattle.be_tree.proofs.Frame.{unchanged_trans}
 use Rattle.be_volume.specs.Volume.{steps}
 use Rattle.be_volume.proofs.StepLemmas.{is_accepted}
@@ -32,6 +32,7 @@ returns-clause-ok g c =
     (subst (λ (d : Contents). Changes {K = g.R.Look.Kept} g.R.Look.kept g.R.Look.standing g.R.Look.words d after c.args.room.now c.edit_all.new.room) c.fill_version.ensures.contents change)
     c.in_ok-page.page c.replace_version.new.room reached.made c.args.ops.now c.edit_all.new.dones.items reached.stepped reached.spells reached.sound
     c.in_ok-page.ensures.swaps c.in_ok-page.ensures.contents c.in_ok-page.ensures.page c.in_ok-page.ensures.taken
+    (λ stands. c.in_ok-edit_all.ensures.stays g.volume read version.sound stands ∙ ap (λ (d : Contents). d.entries) c.fill_version.ensures.contents)
 
 pub returns-in_err-page-clause-err : goal.returns-in_err-page-clause-err
 returns-in_err-page-clause-err g c =
