@@ -231,7 +231,7 @@ fn put_result<W: Write>(alloc: Global, writer: &mut W, journal: &Journal) -> Res
 ///
 /// The limits are looked at first, then the lengths of the scripts, of at most 1,048,576 bytes each; a fault of these
 /// leaves nothing written. Script k is run from pass k, on a thread of its own; a write that finds another pass writing is
-/// tried again, at most 10,000,000 times, and its refusal is the reply then. It returns once all threads have ended. The
+/// tried again, 10,000,000 times at most in all, and its refusal is the reply then. It returns once all threads have ended. The
 /// replies are written behind a line `pass K` for each pass; then `journal N`, the journal's text, and `replay ok`. The
 /// journal is of the store that replied: it begins with what each pass has seen, and has its writes just as they were
 /// answered. Memory where memory or a thread is missing; the replies may be written then. Any error of a write, and a write

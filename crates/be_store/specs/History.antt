@@ -1,5 +1,7 @@
 -- What a call makes of the pass that calls: what it has seen of the journal, its own writes, and its pin.
-use Rattle.std.specs.Prelude.{◌≡◌, ◌≢◌, ◌⊎◌, ℕ, ◌+◌, ◌<◌, List, [], ◌∷◌, ◌++◌, length, IsOk, Err}
+use Rattle.std.specs.Prelude.{◌≡◌, ◌≢◌, ◌⊎◌, ℕ, ◌+◌, ◌<◌, Bool, true, false, List, [], ◌∷◌, ◌++◌, length, IsOk}
+use Rattle.std.specs.declared.result.Result.{Result}
+use Rattle.std.specs.declared.result.Result.TheVariants.{Ok, Err}
 use Rattle.be_journal.specs.Journal.{Agrees, by_pass, replay}
 use Rattle.be_pages.specs.Refusal.{IsFullOf}
 use Rattle.be_table.specs.declared.pass.Commit.{Commit}
@@ -45,6 +47,16 @@ IsRefusedAt c ops e =
 -- Why a write is refused: its one try found that another pass holds the lock, and nothing more was seen; or else.
 abbrev pub IsReason : (a c : Knowledge) (ops : List Op) → Refusal → Type 0
 IsReason a c ops e = (IsBusy e a c × (c.seen ≡ a.seen)) ⊎ IsRefusedAt c ops e
+
+-- the refusal says that another pass holds the lock
+abbrev pub is_busy : Refusal → Bool
+is_busy (Busy b) = true
+is_busy e = false
+
+-- the write found that another pass holds the lock
+abbrev pub was_busy : {X : Type 0} → Result X Refusal → Bool
+was_busy (Ok x) = false
+was_busy (Err e) = is_busy e
 
 -- the pass after tries that found these passes holding the lock, the last one first
 abbrev pub tried : Knowledge → List ℕ → Knowledge

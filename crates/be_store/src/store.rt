@@ -5,6 +5,7 @@ ghost use Rattle.be_store.specs.History.{Accepts, Learns, IsReason, IsLastReason
 
 use crate::answers::Answer;
 use crate::asking::ask;
+use crate::tries::was_busy;
 use crate::writing::write;
 use crate::{Limits, Pass};
 use arrayvec::ArrayVec;
@@ -101,10 +102,11 @@ impl Store {
         ensures refused { IfErr result (λ e. Learns pass.old.knows pass.new.knows × IsLastReason tries pass.old.knows pass.new.knows ops.now e) }
     {
         for _made in 1..tries {
-            match self.apply(pass, ops) {
-                Err(Refusal::Busy(_)) => thread::yield_now(),
-                answer => return answer,
+            let answer = self.apply(pass, ops);
+            if !was_busy(&answer) {
+                return answer;
             }
+            thread::yield_now();
         }
         self.apply(pass, ops)
     }
