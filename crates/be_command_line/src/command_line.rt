@@ -6,7 +6,7 @@ ghost use Rattle.std.specs.Prelude.{IfOk, IfSome};
 ghost use Rattle.be_command_line.specs.Task.{IsTask};
 
 use crate::Task;
-use be_serving::{Limits, are_within};
+use be_serving::Limits;
 use clap::error::ErrorKind;
 use clap::{Arg, ArgAction, ArgMatches, Command, Error, value_parser};
 use std::alloc::{AllocError, Global};
@@ -126,12 +126,14 @@ fn task_of(
         passes: files.len() as u64,
         commits,
     };
-    if !are_within(&Limits {
+    let one = Limits {
         passes: 1,
         ..limits
-    }) || files.is_empty()
-        || !race && files.len() != 1
-    {
+    };
+    if !one.are_within() {
+        return Ok(None);
+    }
+    if files.is_empty() || !race && files.len() != 1 {
         return Ok(None);
     }
     Ok(Some(Task {

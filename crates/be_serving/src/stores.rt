@@ -11,7 +11,7 @@ ghost use Rattle.be_value.specs.Refusal.{Answers};
 ghost use Rattle.be_value.specs.declared.refusals.Refusal.TheVariants.{OutOfMemory};
 ghost use Rattle.be_volume.specs.Query.{scan};
 ghost use Rattle.be_volume.specs.Reading.{attribute, attributes_at, index_kinds};
-ghost use Rattle.be_serving.specs.Limits.{are_within};
+ghost use Rattle.be_table.specs.Rule.{IsWithin};
 ghost use Rattle.be_serving.specs.Served.{known, seat_of};
 ghost use Rattle.be_serving.specs.Store.{Store, Joins, Meanwhile, start, viewed, pinned, unpinned, MayWrite};
 
@@ -88,7 +88,7 @@ pub trait Server {
 /// Opens a store of one pass before its first write, with as many pages and commits as the limits say. Refused for want of
 /// memory alone.
 pub fn open_for_one(alloc: Global, limits: Limits) -> Result<(be_store::Store, Pass), Refusal>
-    requires { are_within limits ≡ true }
+    requires { IsWithin limits }
     ensures opened { IfOk result (λ r. IsPassOf r.0 r.1 × (known r.1.knows ≡ start limits.commits)) }
     ensures refused { IfErr result (λ e. e ≡ OutOfMemory) }
 {
