@@ -137,7 +137,7 @@ fn main(rt: HostRuntime) -> io::Result<ExitCode> {
             Ok(ExitCode::SUCCESS)
         }
         Err(refusal) => {
-            eprintln!(rt; "refused: {}", refusal.name())?;
+            eprintln!(rt; "{refusal}")?;
             Ok(ExitCode::FAILURE)
         }
     }
