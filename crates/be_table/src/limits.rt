@@ -14,8 +14,10 @@ pub struct Limits {
 }
 
 impl Limits {
-    /// The fewest and the most pages.
+    /// The fewest pages.
     pub const MIN_PAGES: u64 = 8;
+
+    /// The most pages.
     pub const MAX_PAGES: u64 = 16384;
 
     /// The most passes.
