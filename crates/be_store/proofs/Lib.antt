@@ -4,4 +4,4 @@ pub mod Refusals
 pub mod Applied
 pub mod Answering
 pub mod Alone
-pub mod Tries
+pub mod Retries

@@ -1,5 +1,5 @@
 use Rattle.std.proofs.Common.{sym}
-use Rattle.be_store.proofs.Tries.{no_busy}
+use Rattle.be_store.proofs.Retries.{no_busy}
 use Rattle.be_store.proofs.tries.is_busy.Goals as goal
 
 pub returns-in_default : goal.returns-in_default

@@ -1,6 +1,6 @@
 use Rattle.std.proofs.Common.{◌≡◌, ◌+◌, true, false, [], ◌∷◌, length, sym, ◌∙◌, arith}
 use Rattle.be_store.specs.History.{was_busy}
-use Rattle.be_store.proofs.Tries.{untried, held_again, accepted_at_last, refused_at_last, refused_else}
+use Rattle.be_store.proofs.Retries.{untried, held_again, accepted_at_last, refused_at_last, refused_else}
 use Rattle.be_store.proofs.store.Store.apply_or_retry.Goals as goal
 
 pub loop-made-init : goal.loop-made-init
