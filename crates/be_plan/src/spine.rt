@@ -6,10 +6,20 @@
 ghost use Rattle.std.specs.Prelude.{◌≡◌, ◌≤◌};
 ghost use Rattle.be_query.specs.Grammar.{comparisons};
 ghost use Rattle.be_query.specs.View.{formula};
-ghost use Rattle.be_plan.specs.Spine.{cut_to, front_for, last_side, last_from};
+ghost use Rattle.be_plan.specs.Spine.{IsUnderOr, cut_to, front_for, last_side, last_from};
 
 use crate::choosing::count;
 use be_query::Tree;
+
+/// How many comparisons the query has, as the first front to look in.
+pub(crate) fn whole_front(tree: &Tree) -> usize
+    requires { comparisons (formula tree.now) ≤ 256 }
+    ensures count { result ≡ comparisons (formula tree.now) }
+    ensures few { result ≤ 256 }
+    ensures under { IsUnderOr (formula tree.now) 0 (formula tree.now) }
+{
+    count(tree)
+}
 
 /// The front without the last sides of its joints `||` that begin behind the pick, and how many comparisons that has.
 fn cut_to(front: &Tree, end: usize, pick: usize) -> (&Tree, usize)
