@@ -3,9 +3,11 @@ use Rattle.std.proofs.Common.{◌≡◌, ◌<◌, ◌≤◌, ◌+◌, ◌-◌, �
 use Rattle.std.proofs.lemmas.Bool.Decides.{nat_tests}
 use Rattle.std.specs.Prelude.{slice_get}
 use Rattle.std.specs.Option.{option_map_or}
+use Rattle.be_value.specs.declared.values.Value.{Value}
 use Rattle.be_query.specs.Grammar.{Formula, Leaf, And, Or, comparisons}
 use Rattle.be_volume.specs.Query.{sat}
 use Rattle.be_plan.specs.Cover.{Comparison, leaves, rests_on}
+use Rattle.be_plan.specs.Narrow.{Allows}
 use Rattle.be_plan.specs.Spine.{IsUnderOr, StandsIn, cut_to, last_side, last_from, front_for}
 use Rattle.be_plan.proofs.Ways.{left_part, right_part}
 
@@ -26,17 +28,23 @@ whole_under f = record {
   tells = λ s node h. h;
 }
 
+-- what an "or" allows, by its sides
+by_sides : (pick from : ℕ) (a b : Formula) (name : List ℕ) (v : Value) → Allows pick from (Or a b) name v →
+    (from ≤ pick → pick < from + comparisons a → Allows pick from a name v)
+    × (from + comparisons a ≤ pick → pick < from + comparisons a + comparisons b → Allows pick (from + comparisons a) b name v)
+by_sides pick from a b name v h = h
+
 left_under : (whole : Formula) (from : ℕ) (a b : Formula) → IsUnderOr whole from (Or a b) → IsUnderOr whole from a
 left_under whole from a b u = record {
   places = left_part whole from a b u.places;
-  allows = λ pick name v lo hi h. (u.allows pick name v lo (omega (arith, hi)) h).0 lo hi;
+  allows = λ pick name v lo hi h. (by_sides pick from a b name v (u.allows pick name v lo (omega (arith, hi)) h)).0 lo hi;
   tells = λ s node h. u.tells s node (ap (λ t. t || sat s b node) h);
 }
 
 right_under : (whole : Formula) (from : ℕ) (a b : Formula) → IsUnderOr whole from (Or a b) → IsUnderOr whole (from + comparisons a) b
 right_under whole from a b u = record {
   places = right_part whole from a b u.places;
-  allows = λ pick name v lo hi h. (u.allows pick name v (omega (arith, lo)) (omega (arith, hi)) h).1 lo hi;
+  allows = λ pick name v lo hi h. (by_sides pick from a b name v (u.allows pick name v (omega (arith, lo)) (omega (arith, hi)) h)).1 lo hi;
   tells = λ s node h. u.tells s node (or_true (sat s a node) _ h);
 }
 
@@ -54,16 +62,25 @@ under_cut whole pick end (Or a b) u =
 abbrev pub IsLast : ℕ → Formula → Type 0
 IsLast pick f = (last_from (comparisons f) f ≤ pick) × (pick < comparisons f)
 
+at_least : (n : ℕ) → 0 ≤ n
+at_least n = omega arith
+
 last_cut : (pick end : ℕ) (f : Formula) → end ≡ comparisons f → pick < end → IsLast pick (cut_to pick end f)
-last_cut pick end (Leaf name op literal) e lt = (omega arith, omega (arith, e, lt))
-last_cut pick end (And a b) e lt = (omega arith, omega (arith, e, lt))
+last_cut pick end (Leaf name op literal) e lt = (at_least pick, omega (arith, e, lt))
+last_cut pick end (And a b) e lt = (at_least pick, omega (arith, e, lt))
 last_cut pick end (Or a b) e lt =
-    by (nat_lt pick (end - comparisons b)) refl (λ less. last_cut pick (end - comparisons b) a (omega (arith, e)) less)
+    let ends : end ≡ comparisons a + comparisons b = e in
+    by (nat_lt pick (end - comparisons b)) refl (λ less. last_cut pick (end - comparisons b) a (omega (arith, ends)) less)
   where
     by : (t : Bool) → nat_lt pick (end - comparisons b) ≡ t → (pick < end - comparisons b → IsLast pick (cut_to pick (end - comparisons b) a)) →
         IsLast pick (if t then cut_to pick (end - comparisons b) a else Or a b)
     by true is left = left (is_less pick (end - comparisons b) is)
-    by false is left = let behind : end - comparisons b ≤ pick = not_less pick (end - comparisons b) is in (omega (arith, e, behind), omega (arith, e, lt))
+    by false is left =
+        let ends : end ≡ comparisons a + comparisons b = e in
+        let behind : end - comparisons b ≤ pick = not_less pick (end - comparisons b) is in
+        let first : comparisons a + comparisons b - comparisons b ≤ pick = omega (arith, ends, behind) in
+        let last : pick < comparisons a + comparisons b = omega (arith, ends, lt) in
+        (first, last)
 
 -- what is looked at for a pick begins the query, and the pick stands in its last side
 pub under_front : (whole front : Formula) (pick end : ℕ) → IsUnderOr whole 0 front → IsUnderOr whole 0 (front_for pick whole end front)
@@ -83,13 +100,16 @@ last_front whole front pick end e lt = by (nat_lt pick end) refl
 side_ends : (end : ℕ) (f : Formula) → end ≡ comparisons f → last_from end f + comparisons (last_side f) ≡ end
 side_ends end (Leaf name op literal) e = omega (arith, e)
 side_ends end (And a b) e = omega (arith, e)
-side_ends end (Or a b) e = omega (arith, e)
+side_ends end (Or a b) e =
+    let ends : end ≡ comparisons a + comparisons b = e in
+    omega (arith, ends)
 
 under_side : (whole : Formula) (end : ℕ) (f : Formula) → end ≡ comparisons f → IsUnderOr whole 0 f → IsUnderOr whole (last_from end f) (last_side f)
 under_side whole end (Leaf name op literal) e u = u
 under_side whole end (And a b) e u = u
 under_side whole end (Or a b) e u =
-    let at : 0 + comparisons a ≡ end - comparisons b = omega (arith, e) in
+    let ends : end ≡ comparisons a + comparisons b = e in
+    let at : 0 + comparisons a ≡ end - comparisons b = omega (arith, ends) in
     let P : ℕ → Type 0 = λ n. IsUnderOr whole n b in
     subst P at (right_under whole 0 a b u)
 
