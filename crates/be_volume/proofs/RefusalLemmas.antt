@@ -45,6 +45,10 @@ unset_found s node name h = unset_passes (map.contains_key s.nodes node) (map.co
 pub not_full : (n : ℕ) → n < 64 → false ≡ nat_le 64 n
 not_full n h = grind (arith, nat_tests)
 
--- a count that the old one and the sets bound
+-- a count that two bound which don't reach the limit
+pub not_reached : (n both : ℕ) → n ≤ both → nat_le 64 both ≡ false → n < 64
+not_reached n both most h = grind (arith, nat_tests)
+
+-- a count before the first operation
 pub as_before : (n old : ℕ) → old ≡ n → n ≤ old + 0
 as_before n old e = omega (arith, e)

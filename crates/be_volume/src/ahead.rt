@@ -253,6 +253,13 @@ fn may_be_full<F: Facts>(facts: &mut F, before: &[Op], node: u64) -> bool
     for op in before {
         sets = sets_after(op, sets, node);
     }
+    reach_limit(old, sets)
+}
+
+/// Whether the two counts together reach the most attributes that a node may have.
+fn reach_limit(old: usize, sets: usize) -> bool
+    ensures { result ≡ nat_le 64 (old + sets) }
+{
     old >= MAX_ATTRIBUTES || sets >= MAX_ATTRIBUTES - old
 }
 
