@@ -15,7 +15,7 @@ pub walk_pick-requires : goal.walk_pick-requires
 walk_pick-requires g c κs within =
     let f = formula c.tree-tree.result.now in
     let picks = c.as_slice-picks.result.now in
-    let old = formula c.loop-i.front in
+    let old = formula c.loop-i.front.now in
     let next = formula c.front_for-next.result.0.now in
     let part = formula c.last_side-part.result.0.now in
     let end = c.front_for-next.result.1 in
@@ -42,7 +42,7 @@ pub loop-i-preserved : goal.loop-i-preserved
 loop-i-preserved g c =
     let f = formula c.tree-tree.result.now in
     let picks = c.as_slice-picks.result.now in
-    let old = formula c.loop-i.front in
+    let old = formula c.loop-i.front.now in
     let pick = c.from_last-pick.result in
     let found = c.walk_pick.new.found.items in
     let inv = c.loop-i.invariant in
