@@ -16,10 +16,10 @@ walk_pick-requires g c κs within =
     let f = formula c.tree-tree.result.now in
     let picks = c.as_slice-picks.result.now in
     let old = formula c.loop-i.front.now in
-    let next = formula c.front_for-next.result.0.now in
-    let part = formula c.last_side-part.result.0.now in
-    let end = c.front_for-next.result.1 in
-    let from = c.last_side-part.result.1 in
+    let next = formula c.front_for-next_end.result.0.now in
+    let part = formula c.last_side-from.result.0.now in
+    let end = c.front_for-next_end.result.1 in
+    let from = c.last_side-from.result.1 in
     let pick = c.from_last-pick.result in
     let inv = c.loop-i.invariant in
     let parts = covers_parts g.volume c.args.cover.now.picks picks _ f (sym c.as_slice-picks.ensures) (sym c.tree-tree.ensures.tree) c.requires.1.1 in
@@ -30,13 +30,13 @@ walk_pick-requires g c κs within =
     let below : pick < comparisons f = pick_below (has_index g.volume) f pick rests in
     let U : Formula → Type 0 = λ h. IsUnderOr f 0 h in
     let L : Formula → Type 0 = λ h. IsLast pick h in
-    let is_next : next ≡ front_for pick f c.loop-i.end old = c.front_for-next.ensures.front in
+    let is_next : next ≡ front_for pick f c.loop-i.end old = c.front_for-next_end.ensures.front in
     let under : IsUnderOr f 0 next = subst U (sym is_next) (under_front f old pick c.loop-i.end inv.under) in
     let last : IsLast pick next = subst L (sym is_next) (last_front f old pick c.loop-i.end inv.end below) in
     let stands : StandsIn f pick from part =
-    stands_in f next part end from pick under c.front_for-next.ensures.end last c.last_side-part.ensures.part c.last_side-part.ensures.from in
-    let ends : from + comparisons part ≡ end = part_ends next part end from c.front_for-next.ensures.end c.last_side-part.ensures.part c.last_side-part.ensures.from in
-    (within, (omega (arith, ends, c.front_for-next.ensures.few), (stands.first, (inv.answers, (rests_in (has_index g.volume) f part pick from stands rests, stands)))))
+    stands_in f next part end from pick under c.front_for-next_end.ensures.end last c.last_side-from.ensures.part c.last_side-from.ensures.from in
+    let ends : from + comparisons part ≡ end = part_ends next part end from c.front_for-next_end.ensures.end c.last_side-from.ensures.part c.last_side-from.ensures.from in
+    (within, (omega (arith, ends, c.front_for-next_end.ensures.few), (stands.first, (inv.answers, (rests_in (has_index g.volume) f part pick from stands rests, stands)))))
 
 pub loop-i-preserved : goal.loop-i-preserved
 loop-i-preserved g c =
@@ -53,9 +53,9 @@ loop-i-preserved g c =
       stays = c.walk_pick.ensures.stays ∙ inv.stays;
       answers = c.walk_pick.ensures.answers;
       satisfy = c.walk_pick.ensures.satisfy inv.satisfy;
-      end = c.front_for-next.ensures.end;
-      few = c.front_for-next.ensures.few;
-      under = subst U (sym c.front_for-next.ensures.front) (under_front f old pick c.loop-i.end inv.under);
+      end = c.front_for-next_end.ensures.end;
+      few = c.front_for-next_end.ensures.few;
+      under = subst U (sym c.front_for-next_end.ensures.front) (under_front f old pick c.loop-i.end inv.under);
       reached = below_more Q c.loop-i.i
           (λ k lt node r holds. c.walk_pick.ensures.keeps node (inv.reached k lt node r holds))
           (subst P c.from_last-pick.ensures c.in_ok-walk_pick.ensures.has);
