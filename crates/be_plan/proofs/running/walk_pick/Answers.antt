@@ -1,4 +1,4 @@
-use Rattle.std.proofs.Common.{◌≡◌, ◌<◌, ◌+◌, sym, ◌∙◌, arith}
+use Rattle.std.proofs.Common.{◌<◌, ◌+◌, sym, ◌∙◌, arith}
 use Rattle.be_value.specs.Key.{key}
 use Rattle.be_query.specs.Grammar.{comparisons}
 use Rattle.be_query.specs.View.{formula}
@@ -12,11 +12,16 @@ pub kind_of-requires : goal.kind_of-requires
 kind_of-requires g c = (g.volume, c.requires.1.1.1.0)
 
 pub walk-requires : goal.walk-requires
-walk-requires g c κs within =
-    (within, (c.kind_of.ensures.answers g.volume c.requires.1.1.1.0, (
+walk-requires g c κs within = (
+  within,
+  (
+    c.kind_of.ensures.answers g.volume c.requires.1.1.1.0,
+    (
       sym (c.in-Some-kind_of.ensures.answer g.volume c.requires.1.1.1.0),
       λ yes s v n p inside seen. c.requires.1.1.1.1.1.under.tells s n (c.in-Ok.ensures.decides yes s v n p inside seen),
-    )))
+    ),
+  ),
+)
 
 pub returns-clause-has : goal.returns-clause-has
 returns-clause-has g c =
