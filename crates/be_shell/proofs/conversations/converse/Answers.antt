@@ -1,6 +1,6 @@
 use Rattle.std.proofs.Common.{refl, ◌∙◌}
 use Rattle.be_serving.specs.View.{session}
-use Rattle.be_shell.proofs.TalkLemmas.{at_end, broken_off, none_yet, one_more, uncounted}
+use Rattle.be_shell.proofs.TalkLemmas.{at_end, broken_is_other, broken_off, none_yet, one_more, uncounted}
 use Rattle.be_shell.proofs.conversations.converse.Goals as goal
 
 pub loop-lines-init : goal.loop-lines-init
@@ -34,3 +34,8 @@ pub returns-clause-broke : goal.returns-clause-broke
 returns-clause-broke g c =
     uncounted g.P.Peer.does (session (g.S.Server.shows c.args.server.now) c.args.client.now) (session (g.S.Server.shows c.loop-lines.server) c.loop-lines.client)
     c.args.peer.now c.loop-lines.peer c.loop-lines.invariant.so_far
+
+pub returns-in-Err-clause-other : goal.returns-in-Err-clause-other
+returns-in-Err-clause-other g c =
+    let broke = c.in-Err.ensures.broke in
+    broken_is_other c.in-Err.fault (session (g.S.Server.shows c.loop-lines.server) c.loop-lines.client) broke.0 broke.1
