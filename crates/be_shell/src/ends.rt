@@ -1,5 +1,5 @@
 //! A reader and a writer as a peer.
-ghost use Rattle.std.specs.Prelude.{◌≡◌, ◌≤◌, ◌<◌, ℕ, ◌∷◌, ◌++◌, [], IfOk, IfErr, OnOk, vec_len, None};
+ghost use Rattle.std.specs.Prelude.{◌≡◌, ◌≤◌, ◌<◌, ◌∷◌, ◌++◌, [], IfOk, IfErr, OnOk, vec_len};
 ghost use Rattle.be_shell.specs.Bytes.{Hears, TakesByte};
 ghost use Rattle.be_shell.specs.Conversation.{IsDeaf, hearing, hears, ends, short_line, long_line, line_heard};
 

@@ -1,5 +1,5 @@
 //! A peer at a terminal.
-ghost use Rattle.std.specs.Prelude.{◌≡◌, ℕ, List};
+ghost use Rattle.std.specs.Prelude.{◌≡◌};
 
 use crate::Line;
 use crate::peers::Peer;
@@ -26,7 +26,11 @@ impl<'a, R: Eprint, P: Peer> Peer for Terminal<'a, R, P> {
     ghost does = { λ old event new. P.does old.peer event new.peer };
 
     fn hear(&mut self, alloc: Global, is_batch_open: bool) -> Result<Option<Line>, RunFault> {
-        let prompt = if is_batch_open { "batch> " } else { "bestore> " };
+        let prompt = if is_batch_open {
+            "batch> "
+        } else {
+            "bestore> "
+        };
         let _ = eprint!(self.rt; "{prompt}");
         self.peer.hear(alloc, is_batch_open)
     }

@@ -6,7 +6,9 @@
 //! Replies go through a buffer, which is written before the program ends; a shell writes each reply when it has it.
 #![tactic(auto)]
 
-use be_script::{Ends, Limits, OpenGate, Peer, RunFault, Task, Terminal, race, read_files, run, shell, task};
+use be_script::{
+    Ends, Limits, OpenGate, Peer, RunFault, Task, Terminal, race, read_files, run, shell, task,
+};
 use clap::Error;
 use clap::error::ErrorKind;
 use std::alloc::AllocGlobal;
@@ -94,7 +96,12 @@ fn race_files<R: Runtime + AllocGlobal + Threads + Wait + Sync>(
         eprintln!(rt; "bestore: race takes two to four scripts")?;
         return Ok(ExitCode::from(MISUSED));
     }
-    if files.iter().filter(|file| file.as_str() == STANDARD_INPUT).count() > 1 {
+    if files
+        .iter()
+        .filter(|file| file.as_str() == STANDARD_INPUT)
+        .count()
+        > 1
+    {
         eprintln!(rt; "bestore: - may stand for one script")?;
         return Ok(ExitCode::from(MISUSED));
     }

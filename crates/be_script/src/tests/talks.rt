@@ -134,7 +134,10 @@ fn ends_at(alloc: Global, call: usize) -> bool {
 #[test]
 fn failing_peer(rt: HostRuntime) -> Result<(), Fail> {
     for call in 0..CALLS + 1 {
-        assert!(rt; ends_at(rt.alloc(), call) || ends_at(rt.alloc(), call), "at {call}");
+        assert!(rt;
+            ends_at(rt.alloc(), call) || ends_at(rt.alloc(), call),
+            "at {call}"
+        );
     }
     Ok(())
 }
@@ -177,7 +180,11 @@ fn ends_of_lines(rt: HostRuntime) -> Result<(), Fail> {
         (b"", b"new\r\nnew\r", "node 1\nnode 2\n"),
         (b"", b"new\xff\nnew\n", "bad line\nnode 1\n"),
         (b"new", b"new", "node 1\nnode 2\n"),
-        (b"begin\nnew\n", b"commit\n", "ok\nqueued\ncommit 1\nnode 1\n"),
+        (
+            b"begin\nnew\n",
+            b"commit\n",
+            "ok\nqueued\ncommit 1\nnode 1\n",
+        ),
     ];
     for (first, bytes, replies) in rows {
         assert!(rt; says(rt.alloc(), first, bytes, replies), "{replies}");
