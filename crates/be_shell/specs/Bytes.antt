@@ -2,7 +2,9 @@
 use Rattle.std.specs.Prelude.{◌≡◌, ◌⊎◌, ◌≤◌, ◌<◌, ℕ, false, All, List, [], ◌∷◌, ◌++◌, length, Some, None}
 use Rattle.std.specs.Io.KnownBytes.{Appends, Consumes, IsAtEnd, Keeps}
 use Rattle.std.specs.declared.option.Option.{Option}
+use Rattle.be_serving.specs.Output.{Session, IsOutputTo}
 use Rattle.be_serving.specs.Run.{is_line_end}
+use Rattle.be_serving.specs.Store.{Store}
 use Rattle.be_shell.specs.Conversation.{Heard, short_line, long_line, Event, hears, ends, says, flushes, fails}
 use Rattle.be_shell.specs.declared.ends.Ends.{Ends}
 
@@ -54,3 +56,24 @@ Moves left left' told told' fails = Keeps told told'
 -- the same of a reader and a writer
 abbrev pub ends_do : {R W : Type 0} → (R → Option (List ℕ)) → (W → Option (List ℕ)) → Ends R W → Event → Ends R W → Type 0
 ends_do remaining contents old event new = Moves (remaining old.reader) (remaining new.reader) (contents old.writer) (contents new.writer) event
+
+-- the bytes that are left to be heard and those that were said, as a peer of their own
+pub record Known : Type 0 where
+  pub left : Option (List ℕ)
+  pub told : Option (List ℕ)
+
+abbrev pub knows : List ℕ → List ℕ → Known
+knows left told = record { left = Some left; told = Some told }
+
+abbrev pub known_do : Known → Event → Known → Type 0
+known_do old event new = Moves old.left new.left old.told new.told event
+
+-- no line is long
+abbrev pub AreShort : List (List ℕ) → Type 0
+AreShort lines = All (λ line. length line ≤ 65536) lines
+
+-- All of the script was heard, and what was said is an output of it.
+pub record IsWhole (store : Store) (script told : List ℕ) (last : Session) (end : Known) : Type 0 where
+  pub out : List ℕ
+  pub said : end.told ≡ Some (told ++ out)
+  pub output : IsOutputTo store script last.store out

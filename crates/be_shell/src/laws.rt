@@ -3,7 +3,8 @@ ghost use Rattle.std.specs.Prelude.{◌≡◌, List, ℕ, [], ◌∷◌, ◌++�
 ghost use Rattle.be_language.specs.Request.{lines_of};
 ghost use Rattle.be_serving.specs.Output.{Session, IsOutputTo, Outputs, opening};
 ghost use Rattle.be_serving.specs.Store.{Store};
-ghost use Rattle.be_shell.specs.Conversation.{Event, IsTalk, all_short, said};
+ghost use Rattle.be_shell.specs.Bytes.{AreShort, IsWhole, Known, known_do, knows};
+ghost use Rattle.be_shell.specs.Conversation.{Event, IsTalk, TalkedTo, all_short, said};
 
 /// What is said in a conversation is what its lines are answered in a script.
 pub fn talk_is_output()
@@ -17,4 +18,11 @@ pub fn talk_of_script_is_output()
         IsTalk (opening store) (all_short (lines_of script)) talk last → IsOutputTo store script last.store (said talk) }
     ensures ended { (store : Store) (script : List ℕ) (lines : List (List ℕ)) (talk : List Event) (last : Session) →
         lines_of script ≡ lines ++ [] ∷ [] → IsTalk (opening store) (all_short lines) talk last → IsOutputTo store script last.store (said talk) }
+{}
+
+/// Where the bytes that come are a script none of whose lines is long, a conversation over them to their end says an output
+/// of that script: as `run` does of the same bytes.
+pub fn talk_of_bytes_is_output()
+    ensures { (store : Store) (script told : List ℕ) (last : Session) (end : Known) → AreShort (lines_of script) →
+        TalkedTo known_do (opening store) (knows script told) last end → IsWhole store script told last end }
 {}
