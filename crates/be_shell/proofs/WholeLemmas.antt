@@ -55,7 +55,7 @@ no_line old new line e t = by t.taken
         omega (arith, ap length k.2, length-append t.bytes k.0, c.0)
 
 -- what a conversation to the end says, and the session that it leaves
-record Said (s : Session) (lines : List (List ℕ)) (told : List ℕ) (last : Session) (end : Known) : Type 0 where
+pub record Said (s : Session) (lines : List (List ℕ)) (told : List ℕ) (last : Session) (end : Known) : Type 0 where
   pub out : List ℕ
   pub said : end.told ≡ Some (told ++ out)
   pub output : Outputs s lines last out

@@ -7,10 +7,10 @@ returns-in-Ok-flush-clause-told g c = (c.say.new.self, c.in-Ok.ensures.said, (c.
 
 pub returns-in-Err-flush-clause-cut : goal.returns-in-Err-flush-clause-cut
 returns-in-Err-flush-clause-cut g c = (
-  c.in-Err.ensures.fault,
+  c.in-Err-flush.ensures.fault,
   says c.args.reply.now ∷ fails ∷ [],
   inr refl,
-  (c.say.new.self, c.in-Ok.ensures.said, (c.flush.new.self, c.in-Err.ensures.unsent, refl)),
+  (c.say.new.self, c.in-Ok.ensures.said, (c.flush.new.self, c.in-Err-flush.ensures.unsent, refl)),
 )
 
 pub returns-in-Err-clause-cut : goal.returns-in-Err-clause-cut

@@ -15,7 +15,7 @@ pub returns-in-Ok-converse-2-clause-talked : goal.returns-in-Ok-converse-2-claus
 returns-in-Ok-converse-2-clause-talked g c =
     let opened = c.new-client.ensures.opening (known c.new-server.result.knows) ∙ ap opening (ap known c.new-server.ensures.1 ∙ c.in-Ok.ensures.opened.1) in
     let mid = session (known c.converse.new.server.knows) c.converse.new.client in
-    let last = session (known c.converse-2.new.server.knows) c.converse-2.new.client in (
+    let last = session (known c.converse-in-Ok-converse.new.server.knows) c.converse-2.new.client in (
       mid,
       last,
       subst (λ (s : Session). TalkedTo g.F.Peer.does s c.args.first.now mid c.converse.new.peer) opened c.in-Ok-converse.ensures.talked,
