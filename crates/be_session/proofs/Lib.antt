@@ -1,0 +1,4 @@
+pub mod Spare
+pub mod Meant
+pub mod Built
+pub mod Spelt

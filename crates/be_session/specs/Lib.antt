@@ -1,0 +1,5 @@
+pub mod Fault
+pub mod Meaning
+pub mod Sitting
+pub mod Operations
+pub mod Items

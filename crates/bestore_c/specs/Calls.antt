@@ -1,0 +1,97 @@
+-- What calls make of handles.
+use Rattle.std.specs.Prelude.{◌≡◌, ◌⊎◌, ℕ, ◌+◌, List, length, map, Option, None, Some, Ok, Err}
+use Rattle.std.specs.declared.result.Result.{Result}
+use Rattle.be_query.specs.Grammar.{Formula, IsTextOf}
+use Rattle.be_session.specs.Fault.{fault_code}
+use Rattle.be_session.specs.Items.{IsBuilt, IsUnbuilt}
+use Rattle.be_session.specs.Meaning.{IsNoName, IsValueMeant}
+use Rattle.be_session.specs.Operations.{AreMeant, IsMisspelt}
+use Rattle.be_session.specs.Sitting.{IsHeldBack, IsNoQuery, Sitting}
+use Rattle.be_session.specs.declared.faults.Fault.{Fault}
+use Rattle.be_session.specs.declared.items.PredicateItem.{PredicateItem}
+use Rattle.be_session.specs.declared.lists.Operation.{Operation}
+use Rattle.be_store.specs.History.{Accepts}
+use Rattle.be_store.specs.Passes.{HasRead, volume_pinned}
+use Rattle.be_table.specs.Seats.{pinned_number}
+use Rattle.be_table.specs.Works.{IsUnopened}
+use Rattle.be_table.specs.declared.limits.Limits.{Limits}
+use Rattle.be_value.specs.Refusal.{refusal_number}
+use Rattle.be_value.specs.declared.refusals.Refusal.{Refusal}
+use Rattle.be_value.specs.declared.values.Value.{Value}
+use Rattle.be_volume.specs.Query.{scan}
+use Rattle.be_volume.specs.Reading.{attribute}
+use Rattle.be_volume.specs.declared.ops.Done.{Done}
+use Rattle.be_volume.specs.declared.ops.Op.{Op}
+use Rattle.bestore_c.specs.Places.{node_of, over}
+use Rattle.bestore_c.specs.declared.handle.Attribute.{Attribute}
+
+-- A call of a handle that is closed leaves it closed and answers 64. One of a handle that is open leaves it open with a session of the same store, and what it makes of its session is this.
+abbrev pub Calls : Option Sitting → Option Sitting → ℕ → (Sitting → Sitting → Type 0) → Type 0
+Calls None None code does = code ≡ 64
+Calls None (Some t) code does = ⊥
+Calls (Some s) None code does = ⊥
+Calls (Some s) (Some t) code does = (t.store ≡ s.store) × does s t
+
+-- 64 of a handle that is closed, and 0 of one that is open
+abbrev pub Answers : Option Sitting → ℕ → Type 0
+Answers None code = code ≡ 64
+Answers (Some s) code = code ≡ 0
+
+-- Opening: an open handle stays as it was and answers 65; a closed one holds a session of a store with these limits, or stays closed where the store says why, or where memory was refused.
+abbrev pub Opens : Limits → Option Sitting → Option Sitting → ℕ → Type 0
+Opens limits (Some s) (Some t) code = (code ≡ 65) × (t ≡ s)
+Opens limits (Some s) None code = ⊥
+Opens limits None (Some t) code = (code ≡ 0) × (t.store.limits ≡ limits)
+Opens limits None None code = (code ≡ 10) ⊎ ((why : Refusal) × (code ≡ refusal_number why) × IsUnopened limits why)
+
+-- A second handle: one that is open stays as it was, and the answer is 65; a closed one gets a session of the same store, with one of the passes that wait; 68 where none waits, and 10 where memory was refused.
+abbrev pub Gives : Sitting → Sitting → Option Sitting → Option Sitting → ℕ → Type 0
+Gives s t (Some o) (Some p) code = (code ≡ 65) × (p ≡ o) × (t ≡ s)
+Gives s t (Some o) None code = ⊥
+Gives s t None (Some p) code = (code ≡ 0) × (p.store ≡ s.store) × (t.knows ≡ s.knows) × (s.spare ≡ t.spare + 1)
+Gives s t None None code = (t.knows ≡ s.knows) × ((code ≡ 10) ⊎ ((code ≡ 68) × (s.spare ≡ 0) × (t ≡ s)))
+
+-- A write: what is spelled is misspelt, and then nothing has happened; or it means operations, which the session accepted, and the numbers of the new nodes and the length of the journal are put out, or which it held back.
+abbrev pub Writes : Sitting → Sitting → List Operation → List ℕ → List ℕ → List ℕ → ℕ → ℕ → Type 0
+Writes s t spelled bytes places filled entries code =
+    ((e : Fault) × (code ≡ fault_code e) × IsMisspelt spelled bytes e × (t ≡ s))
+    ⊎ ((ops : List Op) × AreMeant spelled bytes ops ×
+    (((code ≡ 0) × (dones : List Done) × Accepts s.knows t.knows ops entries dones × (filled ≡ over (map node_of dones) places))
+    ⊎ ((e : Fault) × (code ≡ fault_code e) × IsHeldBack s.knows t.knows ops e)))
+
+-- what a query answers in a version: how many nodes meet it, and as many of them as there are places; or why there is no answer
+abbrev pub Scanned : Result (List ℕ) Refusal → List ℕ → List ℕ → ℕ → ℕ → Type 0
+Scanned (Ok nodes) places filled count code = (code ≡ 0) × (count ≡ length nodes) × (filled ≡ over nodes places)
+Scanned (Err why) places filled count code = code ≡ refusal_number why
+
+-- what it answers in the pinned version, if there is a pin; 10 where a growth was refused
+abbrev pub Found : Option ℕ → Result (List ℕ) Refusal → List ℕ → List ℕ → ℕ → ℕ → Type 0
+Found None answer places filled count code = code ≡ 66
+Found (Some n) answer places filled count code = (code ≡ 10) ⊎ Scanned answer places filled count code
+
+-- A query by its text: the bytes are no query, and then nothing has happened; or they are one, and its answer is put out.
+abbrev pub Finds : Sitting → Sitting → List ℕ → List ℕ → List ℕ → ℕ → ℕ → Type 0
+Finds s t text places filled count code =
+    ((e : Fault) × (code ≡ fault_code e) × IsNoQuery text e × (t ≡ s))
+    ⊎ ((query : Formula) × IsTextOf text query × HasRead s.knows t.knows
+    × Found (pinned_number s.knows.phase) (scan (volume_pinned s.knows) query) places filled count code)
+
+-- A query by its items: they are none, and then nothing has happened; or they build one, and its answer is put out.
+abbrev pub FindsBuilt : Sitting → Sitting → List PredicateItem → List ℕ → List ℕ → List ℕ → ℕ → ℕ → Type 0
+FindsBuilt s t spelled bytes places filled count code =
+    ((e : Fault) × (code ≡ fault_code e) × IsUnbuilt spelled bytes e × (t ≡ s))
+    ⊎ ((query : Formula) × IsBuilt spelled bytes query × HasRead s.knows t.knows
+    × Found (pinned_number s.knows.phase) (scan (volume_pinned s.knows) query) places filled count code)
+
+-- what is there in the pinned version, if there is a pin: its type code, number and length are told, and as many of its bytes as there are places
+abbrev pub Shown : Option ℕ → Option Value → Attribute → List ℕ → List ℕ → ℕ → Type 0
+Shown None found told places filled code = code ≡ 66
+Shown (Some n) None told places filled code = code ≡ 3
+Shown (Some n) (Some value) told places filled code =
+    (code ≡ 0) × (bytes : List ℕ) × IsValueMeant told.code told.number bytes value × (told.length ≡ length bytes) × (filled ≡ over bytes places)
+
+-- A read of an attribute: the bytes are no name, and then nothing has happened; or what is there is shown.
+abbrev pub Reads : Sitting → Sitting → ℕ → List ℕ → Attribute → List ℕ → List ℕ → ℕ → Type 0
+Reads s t node name told places filled code =
+    ((e : Fault) × (code ≡ fault_code e) × IsNoName name e × (t ≡ s))
+    ⊎ (HasRead s.knows t.knows × Shown (pinned_number s.knows.phase) (attribute (volume_pinned s.knows) node name) told places filled code)
