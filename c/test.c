@@ -137,6 +137,40 @@ static void values(void)
     CHECK(bes_close(&pass) == BES_OK);
 }
 
+static void lists(void)
+{
+    static bes_batch batch;
+    bes_pass pass = BES_PASS_INIT;
+    bes_counts counts = {7, 7};
+    bes_operation listed[3];
+    uint8_t bytes[16];
+    uint64_t made[64], number = 0;
+    memset(listed, 7, sizeof listed);
+    CHECK(bes_attributes(&pass, 1, &counts, listed, 3, bytes, 16) == BES_CLOSED);
+    CHECK(bes_indices(&pass, &counts, listed, 3, bytes, 16) == BES_CLOSED);
+    CHECK(bes_open(64, 1, 100, &pass) == BES_OK);
+    bes_batch_clear(&batch);
+    CHECK(bes_batch_make_index(&batch, "size", BES_UINT64_TYPE) == BES_OK);
+    CHECK(bes_batch_new_node(&batch) == BES_OK);
+    CHECK(bes_batch_set_text(&batch, 1, "name", "ann") == BES_OK);
+    CHECK(bes_batch_set_uint64(&batch, 1, "size", 9) == BES_OK);
+    CHECK(bes_batch_apply(&pass, &batch, 1, made, 64, &number) == BES_OK);
+    CHECK(bes_attributes(&pass, 1, &counts, listed, 3, bytes, 16) == BES_NOT_PINNED);
+    CHECK(bes_indices(&pass, &counts, listed, 3, bytes, 16) == BES_NOT_PINNED && counts.bytes == 7);
+    CHECK(bes_pin(&pass, &number) == BES_OK);
+    CHECK(bes_attributes(&pass, 2, &counts, listed, 3, bytes, 16) == BES_NO_NODE && counts.operations == 7);
+    CHECK(bes_attributes(&pass, 1, &counts, listed, 1, bytes, 2) == BES_OK && counts.operations == 2 && counts.bytes == 11);
+    CHECK(listed[1].kind == 0x07070707 && memcmp(bytes, "na", 2) == 0);
+    CHECK(bes_attributes(&pass, 1, &counts, listed, 3, bytes, 16) == BES_OK);
+    CHECK(memcmp(bytes, "nameannsize", 11) == 0 && listed[2].kind == 0x07070707);
+    CHECK(listed[0].kind == BES_SET && listed[0].node == 1 && listed[0].code == BES_STRING_TYPE);
+    CHECK(listed[1].code == BES_UINT64_TYPE && listed[1].number == 9 && listed[1].name_at == 7);
+    CHECK(bes_apply(&pass, listed, 2, bytes, 11, made, 64, &number) == BES_OK && number == 2);
+    CHECK(bes_indices(&pass, &counts, listed, 3, bytes, 16) == BES_OK && counts.operations == 1 && counts.bytes == 4);
+    CHECK(listed[0].kind == BES_MAKE_INDEX && listed[0].code == BES_UINT64_TYPE && memcmp(bytes, "size", 4) == 0);
+    CHECK(bes_close(&pass) == BES_OK);
+}
+
 static void queries(void)
 {
     bes_pass pass = BES_PASS_INIT;
@@ -246,6 +280,7 @@ int main(int argc, char **argv)
     opening();
     wrong_writes();
     values();
+    lists();
     queries();
     spent();
     threads();

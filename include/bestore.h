@@ -151,13 +151,19 @@ typedef struct bes_attribute {
     uint64_t number;  /* of a number: the value; (int64_t)number of a signed one */
 } bes_attribute;
 
+/* How much a list has. */
+typedef struct bes_counts {
+    uint64_t operations;
+    uint64_t bytes;
+} bes_counts;
+
 /* Opens a store in memory, and the handle as its first pass. The store has so many pages of 4 KiB (8 to 16,384), which are
  * taken at once, so many passes (1 to 64), and takes so many writes (1 to 2^32 - 1).
  * BES_OPEN, BES_BAD_LIMITS, BES_NO_MEMORY. */
 uint32_t bes_open(uint64_t pages, uint64_t passes, uint64_t commits, bes_pass *pass);
 
 /* Opens another handle, for a pass of the same store that has none yet. Ask it of the handle that bes_open opened: the
- * others answer BES_NO_PASS. BES_CLOSED, BES_OPEN (of other), BES_NO_PASS, BES_NO_MEMORY (which may cost a pass). */
+ * others answer BES_NO_PASS. BES_CLOSED, BES_OPEN (of other), BES_NO_PASS, BES_NO_MEMORY: no pass is lost. */
 uint32_t bes_another(bes_pass *pass, bes_pass *other);
 
 /* Closes the handle, pinned or not. Its pass isn't used again. BES_CLOSED. */
@@ -195,6 +201,18 @@ uint32_t bes_query_items(bes_pass *pass, const bes_item *items, size_t items_cou
  * BES_HAS_NUL. */
 uint32_t bes_get(bes_pass *pass, uint64_t node, const uint8_t *name, size_t name_length, bes_attribute *attribute,
                  uint8_t *bytes, size_t bytes_room);
+
+/* Lists a node's attributes in the pinned version, by ascending names: as the operations that set them, with the bytes that
+ * their names and values are parts of, as for bes_apply. Puts out how many operations and bytes there are, and of both as many
+ * as there is room for: where there are more, the same call with more room answers the same.
+ * BES_CLOSED, BES_NOT_PINNED, BES_NO_NODE, BES_NO_MEMORY. */
+uint32_t bes_attributes(bes_pass *pass, uint64_t node, bes_counts *counts, bes_operation *operations, size_t operations_room,
+                        uint8_t *bytes, size_t bytes_room);
+
+/* Lists the indices of the pinned version, by ascending names, as the operations that make them; else as bes_attributes.
+ * BES_CLOSED, BES_NOT_PINNED, BES_NO_MEMORY. */
+uint32_t bes_indices(bes_pass *pass, bes_counts *counts, bes_operation *operations, size_t operations_room, uint8_t *bytes,
+                     size_t bytes_room);
 
 /* What an answer means, in English. */
 static inline const char *bes_strerror(uint32_t answer)

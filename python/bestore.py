@@ -63,6 +63,10 @@ class _Operation(ctypes.Structure):
     ]
 
 
+class _Counts(ctypes.Structure):
+    _fields_ = [("operations", ctypes.c_uint64), ("bytes", ctypes.c_uint64)]
+
+
 class _Item(ctypes.Structure):
     _fields_ = [("kind", ctypes.c_uint32), ("at", ctypes.c_uint32), ("length", ctypes.c_uint32), ("number", ctypes.c_uint64)]
 
@@ -88,7 +92,10 @@ def _load():
     library.bes_query.argtypes = [handle, text, size, words, size, words]
     library.bes_get.argtypes = [handle, word, text, size, ctypes.POINTER(_Attribute), text, size]
     library.bes_query_items.argtypes = [handle, ctypes.POINTER(_Item), size, text, size, words, size, words]
-    for call in ("open", "another", "close", "pin", "unpin", "apply", "query", "query_items", "get"):
+    listed = [ctypes.POINTER(_Counts), ctypes.POINTER(_Operation), size, text, size]
+    library.bes_attributes.argtypes = [handle, word] + listed
+    library.bes_indices.argtypes = [handle] + listed
+    for call in ("open", "another", "close", "pin", "unpin", "apply", "query", "query_items", "get", "attributes", "indices"):
         getattr(library, "bes_" + call).restype = ctypes.c_uint32
     return library
 
@@ -312,6 +319,28 @@ class Version:
             spelled[place] = _Item(kind, len(texts), len(text), number)
             texts += text
         return self._find(_library.bes_query_items, spelled, len(items), texts, len(texts))
+
+    def _list(self, call, *node):
+        """The operations that a list is told as, each with its name and the bytes of its value."""
+        counts, operations_room, bytes_room = _Counts(), 64, 4096
+        while True:
+            operations, texts = (_Operation * operations_room)(), ctypes.create_string_buffer(bytes_room)
+            _check(call(ctypes.byref(self._user._handle), *node, ctypes.byref(counts), operations, operations_room, texts,
+                        bytes_room))
+            if counts.operations <= operations_room and counts.bytes <= bytes_room:
+                break
+            operations_room, bytes_room = max(counts.operations, 1), max(counts.bytes, 1)
+        return [(told, texts.raw[told.name_at:told.name_at + told.name_length].decode(),
+                 texts.raw[told.value_at:told.value_at + told.value_length]) for told in operations[:counts.operations]]
+
+    def attributes(self, node):
+        """A node's attributes: a dict of names and values, by ascending names."""
+        return {name: _value(told.code, told.number, value)
+                for told, name, value in self._list(_library.bes_attributes, node)}
+
+    def indices(self):
+        """The indices: a dict of names and kinds, by ascending names."""
+        return {name: told.code for told, name, _ in self._list(_library.bes_indices)}
 
     def get(self, node, name):
         """A node's attribute, or None: a str, bytes or an int."""

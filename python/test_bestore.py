@@ -20,17 +20,18 @@ class Values(unittest.TestCase):
                     self.assertEqual(version.get(node, "k"), value)
                     self.assertIsNone(version.get(node + 1, "k"))
 
-    def test_query_items(self):
+    def test_lists(self):
         with bestore.open(64, 1, 100) as store:
             store.make_index("size", bestore.INT32)
             node = store.new_node()
             store.apply(bestore.Batch().set(node, "size", -1, bestore.INT32).set(node, "name", "ann"))
             with store.pin() as version:
+                self.assertEqual(version.attributes(node), {"name": "ann", "size": -1})
+                self.assertEqual(version.indices(), {"size": bestore.INT32})
                 self.assertEqual(version.query_items(bestore.Name("size"), -1, bestore.Operator.EQ), [node])
                 self.assertEqual(version.query_items(bestore.Name("size"), "1", bestore.Operator.CONTAINS), [node])
-                with self.assertRaises(bestore.Error) as fault:
-                    version.query_items(bestore.Name("size"))
-                self.assertEqual(fault.exception.number, 22)
+                with self.assertRaises(bestore.Error):
+                    version.attributes(node + 1)
 
     def test_wrong_values(self):
         with bestore.open(64, 1, 100) as store:

@@ -5,7 +5,10 @@ use Rattle.std.specs.declared.result.Result.{Result}
 use Rattle.be_query.specs.Faults.{fault}
 use Rattle.be_query.specs.View.{IsMemory}
 use Rattle.be_store.specs.History.{IsReason, Learns}
-use Rattle.be_table.specs.Place.{Opened}
+use Rattle.be_store.specs.Passes.{IsPassOf}
+use Rattle.be_table.specs.Place.{Opened, Place}
+use Rattle.be_table.specs.Rule.{newcomer}
+use Rattle.be_table.specs.declared.limits.Limits.{Limits}
 use Rattle.be_table.specs.declared.pass.Knowledge.{Knowledge}
 use Rattle.be_value.specs.declared.refusals.Refusal.{Refusal}
 use Rattle.be_value.specs.declared.refusals.Refusal.TheVariants.{OutOfMemory}
@@ -18,6 +21,14 @@ pub record Sitting : Type 0 where
   pub store : Opened
   pub knows : Knowledge
   pub spare : ℕ
+
+-- a pass of a store with these limits that has seen and written nothing, and isn't pinned
+abbrev pub IsNewcomer : Limits → Knowledge → Type 0
+IsNewcomer limits a = (steps : ℕ) × (number : ℕ) × (a ≡ newcomer limits steps number)
+
+-- a pass of the store that nobody has used
+abbrev pub IsSpare : Opened → Place → Type 0
+IsSpare store pass = IsPassOf store pass × IsNewcomer store.limits pass.knows
 
 -- why a write did nothing, and what it left: the store's own refusal, or a count that isn't 1 to 64
 abbrev pub IsHeldBack : Knowledge → Knowledge → List Op → Fault → Type 0

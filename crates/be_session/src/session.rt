@@ -1,6 +1,6 @@
 //! A pass with its share of the store, and its calls.
 ghost use Rattle.std.specs.Prelude.{◌≡◌, ◌⊎◌, ◌≤◌, ◌+◌, ℕ, Ok, IfOk, IfErr, length, All};
-ghost use Rattle.be_session.specs.Sitting.{AtPin, IsHeldBack, IsNoQuery, IsUnrefreshed, Tells};
+ghost use Rattle.be_session.specs.Sitting.{AtPin, IsHeldBack, IsNewcomer, IsNoQuery, IsSpare, IsUnrefreshed, Tells};
 ghost use Rattle.be_session.specs.declared.faults.Fault.TheVariants.{AlreadyPinned, NoPass, NotPinned, Refused};
 ghost use Rattle.be_query.specs.Grammar.{IsTextOf};
 ghost use Rattle.be_store.specs.History.{Accepts, Pins};
@@ -20,7 +20,7 @@ use be_query::{Query, parse};
 use be_store::{Limits, Live, Pass, Store, Updates};
 use be_value::{Kind, Name, Refusal, Value};
 use be_volume::{Done, Op};
-use std::alloc::Global;
+use std::alloc::{AllocFailed, Global};
 use std::marker::Model;
 use std::sync::Arc;
 
@@ -38,23 +38,24 @@ impl Model for Session {
     ghost Value = { Sitting };
 
     ghost use Rattle.std.specs.Prelude.{All, length};
+    ghost use Rattle.be_session.specs.Sitting.{IsSpare};
     ghost use Rattle.be_store.specs.Passes.{IsPassOf};
 
     ghost view = { λ s. record { store = s.store.value; knows = s.pass.knows; spare = length s.spare.items } };
 
-    ghost invariant = { λ s. IsPassOf s.store.value s.pass × All (IsPassOf s.store.value) s.spare.items };
+    ghost invariant = { λ s. IsPassOf s.store.value s.pass × All (IsSpare s.store.value) s.spare.items };
 }
 
-/// A law of a new store: its passes are passes of it. It does nothing.
+/// A law of a new store: its passes are passes of it that nobody has used. It does nothing.
 fn are_passes(_store: &Store, _passes: &Vec<Pass>)
     requires { AreNew _store.now 0 _passes.now.items }
-    ensures { All (IsPassOf _store.now) _passes.now.items }
+    ensures { All (IsSpare _store.now) _passes.now.items }
 {}
 
 /// A session of a store that nobody shares yet, with the passes that are left over.
 fn seated(alloc: Global, store: Store, pass: Pass, spare: Vec<Pass>) -> Result<Session, Fault>
     requires pass { IsPassOf store pass }
-    requires spare { All (IsPassOf store) spare.items }
+    requires spare { All (IsSpare store) spare.items }
     ensures ok { IfOk result (λ s. s ≡ record { store = store; knows = pass.knows; spare = length spare.items }) }
     ensures err { IfErr result (λ e. e ≡ Refused OutOfMemory) }
 {
@@ -69,7 +70,7 @@ impl Session {
     ///
     /// BadLimits where a limit is out of its range, and OutOfMemory. The memory of all pages is taken here.
     pub fn open(alloc: Global, limits: Limits) -> Result<Session, Fault>
-        ensures ok { IfOk result (λ s. (s.store.limits ≡ limits) × (limits.passes ≡ s.spare + 1)) }
+        ensures ok { IfOk result (λ s. (s.store.limits ≡ limits) × (limits.passes ≡ s.spare + 1) × IsNewcomer limits s.knows) }
         ensures err { IfErr result (λ e. (why : AnyRefusal) × (e ≡ Refused why) × ((why ≡ OutOfMemory) ⊎ IsUnopened limits why)) }
     {
         if limits.passes == 0 {
@@ -86,12 +87,13 @@ impl Session {
         seated(alloc, store, pass, passes)
     }
 
-    /// A session of the same store, with a pass that had none. NoPass where each pass has one, and OutOfMemory.
+    /// A session of the same store, with a pass that had none, in a box. NoPass where each pass has one, and OutOfMemory; no
+    /// pass is lost then.
     ///
     /// It is asked of the session that opened the store: the others have no passes to give.
-    pub fn another(&mut self, alloc: Global) -> Result<Session, Fault>
+    pub fn another(&mut self, alloc: Global) -> Result<Box<Session, Global>, Fault>
         ensures same { (self.new.store ≡ self.old.store) × (self.new.knows ≡ self.old.knows) }
-        ensures ok { IfOk result (λ s. (s.store ≡ self.old.store) × (s.spare ≡ 0) × (self.old.spare ≡ self.new.spare + 1)) }
+        ensures ok { IfOk result (λ s. (s.value.store ≡ self.old.store) × (s.value.spare ≡ 0) × IsNewcomer self.old.store.limits s.value.knows × (self.old.spare ≡ self.new.spare + 1)) }
         ensures err { IfErr result (λ e. (self.new ≡ self.old) × ((e ≡ Refused OutOfMemory) ⊎ ((e ≡ NoPass) × (self.old.spare ≡ 0)))) }
     {
         let Ok(store) = Arc::try_clone(&self.store) else {
@@ -100,11 +102,20 @@ impl Session {
         let Some(pass) = self.spare.pop() else {
             return Err(Fault::NoPass);
         };
-        Ok(Session {
-            store,
+        let spare = Vec::new(alloc);
+        let AllocFailed { value } = match Box::new(alloc, Session { store, pass, spare }) {
+            Ok(session) => return Ok(session),
+            Err(failed) => failed,
+        };
+        let Session {
+            store: _store,
             pass,
-            spare: Vec::new(alloc),
-        })
+            spare: _spare,
+        } = value;
+        let Ok(()) = self.spare.push(pass) else {
+            unreachable!()
+        };
+        Err(Fault::Refused(Refusal::OutOfMemory))
     }
 
     /// Pins the version that is current, and answers its number: how many writes it has.

@@ -5,8 +5,8 @@ use Rattle.be_query.specs.Grammar.{Formula, IsTextOf}
 use Rattle.be_session.specs.Fault.{fault_code}
 use Rattle.be_session.specs.Items.{IsBuilt, IsUnbuilt}
 use Rattle.be_session.specs.Meaning.{IsNoName, IsValueMeant}
-use Rattle.be_session.specs.Operations.{AreMeant, IsMisspelt}
-use Rattle.be_session.specs.Sitting.{IsHeldBack, IsNoQuery, Sitting}
+use Rattle.be_session.specs.Operations.{AreMeant, AreSpelled, IsMisspelt}
+use Rattle.be_session.specs.Sitting.{IsHeldBack, IsNewcomer, IsNoQuery, Sitting}
 use Rattle.be_session.specs.declared.faults.Fault.{Fault}
 use Rattle.be_session.specs.declared.items.PredicateItem.{PredicateItem}
 use Rattle.be_session.specs.declared.lists.Operation.{Operation}
@@ -24,6 +24,7 @@ use Rattle.be_volume.specs.declared.ops.Done.{Done}
 use Rattle.be_volume.specs.declared.ops.Op.{Op}
 use Rattle.bestore_c.specs.Places.{node_of, over}
 use Rattle.bestore_c.specs.declared.handle.Attribute.{Attribute}
+use Rattle.bestore_c.specs.declared.handle.Counts.{Counts}
 
 -- A call of a handle that is closed leaves it closed and answers 64. One of a handle that is open leaves it open with a session of the same store, and what it makes of its session is this.
 abbrev pub Calls : Option Sitting → Option Sitting → ℕ → (Sitting → Sitting → Type 0) → Type 0
@@ -37,19 +38,19 @@ abbrev pub Answers : Option Sitting → ℕ → Type 0
 Answers None code = code ≡ 64
 Answers (Some s) code = code ≡ 0
 
--- Opening: an open handle stays as it was and answers 65; a closed one holds a session of a store with these limits, or stays closed where the store says why, or where memory was refused.
+-- Opening: an open handle stays as it was and answers 65; a closed one holds a session of a store with these limits that has seen nothing, or stays closed where the store says why, or where memory was refused.
 abbrev pub Opens : Limits → Option Sitting → Option Sitting → ℕ → Type 0
 Opens limits (Some s) (Some t) code = (code ≡ 65) × (t ≡ s)
 Opens limits (Some s) None code = ⊥
-Opens limits None (Some t) code = (code ≡ 0) × (t.store.limits ≡ limits)
+Opens limits None (Some t) code = (code ≡ 0) × (t.store.limits ≡ limits) × IsNewcomer limits t.knows
 Opens limits None None code = (code ≡ 10) ⊎ ((why : Refusal) × (code ≡ refusal_number why) × IsUnopened limits why)
 
--- A second handle: one that is open stays as it was, and the answer is 65; a closed one gets a session of the same store, with one of the passes that wait; 68 where none waits, and 10 where memory was refused.
+-- A second handle: one that is open stays as it was, and the answer is 65; a closed one gets a session of the same store that has seen nothing, with one of the passes that wait; 68 where none waits, and 10 where memory was refused.
 abbrev pub Gives : Sitting → Sitting → Option Sitting → Option Sitting → ℕ → Type 0
 Gives s t (Some o) (Some p) code = (code ≡ 65) × (p ≡ o) × (t ≡ s)
 Gives s t (Some o) None code = ⊥
-Gives s t None (Some p) code = (code ≡ 0) × (p.store ≡ s.store) × (t.knows ≡ s.knows) × (s.spare ≡ t.spare + 1)
-Gives s t None None code = (t.knows ≡ s.knows) × ((code ≡ 10) ⊎ ((code ≡ 68) × (s.spare ≡ 0) × (t ≡ s)))
+Gives s t None (Some p) code = (code ≡ 0) × (p.store ≡ s.store) × IsNewcomer s.store.limits p.knows × (t.knows ≡ s.knows) × (s.spare ≡ t.spare + 1)
+Gives s t None None code = (t ≡ s) × ((code ≡ 10) ⊎ ((code ≡ 68) × (s.spare ≡ 0)))
 
 -- A write: what is spelled is misspelt, and then nothing has happened; or it means operations, which the session accepted, and the numbers of the new nodes and the length of the journal are put out, or which it held back.
 abbrev pub Writes : Sitting → Sitting → List Operation → List ℕ → List ℕ → List ℕ → ℕ → ℕ → Type 0
@@ -95,3 +96,12 @@ abbrev pub Reads : Sitting → Sitting → ℕ → List ℕ → Attribute → Li
 Reads s t node name told places filled code =
     ((e : Fault) × (code ≡ fault_code e) × IsNoName name e × (t ≡ s))
     ⊎ (HasRead s.knows t.knows × Shown (pinned_number s.knows.phase) (attribute (volume_pinned s.knows) node name) told places filled code)
+
+-- What a list is told as in the pinned version, if there is a pin: the operations that would make it, with how many these and their bytes are, as far as there are places; or why there is no list.
+abbrev pub Listed : {A : Type 0} → (A → Op) → Option ℕ → Result (List A) Refusal → Counts → List Operation → List Operation → List ℕ → List ℕ → ℕ → Type 0
+Listed makes None meant counts places filled byte_places bytes code = code ≡ 66
+Listed makes (Some n) (Err why) counts places filled byte_places bytes code = (code ≡ 10) ⊎ (code ≡ refusal_number why)
+Listed makes (Some n) (Ok list) counts places filled byte_places bytes code =
+    (code ≡ 10)
+    ⊎ ((code ≡ 0) × (os : List Operation) × (bs : List ℕ) × AreSpelled os bs (map makes list)
+    × (counts.operations ≡ length os) × (filled ≡ over os places) × (counts.bytes ≡ length bs) × (bytes ≡ over bs byte_places))

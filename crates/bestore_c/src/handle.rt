@@ -22,3 +22,11 @@ pub struct Attribute {
     pub length: u64,
     pub number: u64,
 }
+
+/// How many operations a list is told as, and how many bytes their parts are in.
+#[repr(C)]
+#[derive(Clone, Copy)]
+pub struct Counts {
+    pub operations: u64,
+    pub bytes: u64,
+}

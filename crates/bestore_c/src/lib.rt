@@ -4,13 +4,18 @@
 //! of a fault, or 64 and 65, which are the handle's own. None has a `requires`.
 #![tactic(auto)]
 
-ghost use Rattle.std.specs.Prelude.{◌≡◌, ◌⊎◌, None};
+ghost use Rattle.std.specs.Prelude.{◌≡◌, ◌⊎◌, None, Ok};
+ghost use Rattle.be_session.specs.Operations.{makes, sets};
 ghost use Rattle.be_store.specs.History.{Pins};
+ghost use Rattle.be_store.specs.Passes.{HasRead, volume_pinned};
+ghost use Rattle.be_table.specs.Seats.{pinned_number};
 ghost use Rattle.be_table.specs.Steps.{unpins};
-ghost use Rattle.bestore_c.specs.Calls.{Answers, Calls, Finds, FindsBuilt, Gives, Opens, Reads, Writes};
+ghost use Rattle.be_volume.specs.Reading.{attributes_at, index_kinds};
+ghost use Rattle.bestore_c.specs.Calls.{Answers, Calls, Finds, FindsBuilt, Gives, Listed, Opens, Reads, Writes};
 
 mod asking;
 mod handle;
+mod listing;
 mod loose;
 mod owned;
 mod places;
@@ -22,7 +27,8 @@ use be_session::{
     Operation, PredicateItem, Session, name, operations, query_of, query_of_items, spelled,
 };
 use be_store::Limits;
-use handle::{Attribute, Handle};
+use handle::{Attribute, Counts, Handle};
+use listing::{tell_attributes, tell_indices};
 use owned::Owned;
 use places::{nodes_of, put};
 use std::alloc::Global;
@@ -92,16 +98,13 @@ pub extern "C" fn bes_another(alloc: Global, pass: &mut Handle, other: &mut Hand
     let made = session.another(alloc);
     pass.owned = Owned::of(session);
     match made {
-        Ok(session) => match Box::new(alloc, session) {
-            Ok(session) => {
-                *other = Handle {
-                    live: true,
-                    owned: Owned::of(session),
-                };
-                DONE
-            }
-            Err(_) => NO_MEMORY,
-        },
+        Ok(session) => {
+            *other = Handle {
+                live: true,
+                owned: Owned::of(session),
+            };
+            DONE
+        }
         Err(fault) => fault.code(),
     }
 }
@@ -283,4 +286,48 @@ pub extern "C" fn bes_get(
         Ok(None) => NO_ATTRIBUTE,
         Err(fault) => fault.code(),
     }
+}
+
+/// Lists a node's attributes in the pinned version, as the operations that set them. Puts out how many they are, and how many
+/// bytes their parts are in, and of both as much as there is room for.
+#[unsafe(no_mangle)]
+pub extern "C" fn bes_attributes(
+    alloc: Global,
+    pass: &mut Handle,
+    node: u64,
+    counts: &mut Counts,
+    listed: &mut [Operation],
+    bytes: &mut [u8],
+) -> u32
+    ensures pass { Calls pass.old.owned.value pass.new.owned.value result (λ s t. HasRead s.knows t.knows × Listed (sets node) (pinned_number s.knows.phase) (attributes_at (volume_pinned s.knows) node) counts.new listed.old listed.new bytes.old bytes.new result) }
+    ensures kept { (result ≡ 0) ⊎ ((counts.new ≡ counts.old) × (listed.new ≡ listed.old) × (bytes.new ≡ bytes.old)) }
+{
+    if !pass.live {
+        return CLOSED;
+    }
+    let mut session = mem::replace(&mut pass.owned, Owned::none(alloc)).into_box();
+    let answer = session.attrs(alloc, node);
+    pass.owned = Owned::of(session);
+    tell_attributes(alloc, node, answer, counts, listed, bytes)
+}
+
+/// Lists the indices of the pinned version, as the operations that make them; else as `bes_attributes`.
+#[unsafe(no_mangle)]
+pub extern "C" fn bes_indices(
+    alloc: Global,
+    pass: &mut Handle,
+    counts: &mut Counts,
+    listed: &mut [Operation],
+    bytes: &mut [u8],
+) -> u32
+    ensures pass { Calls pass.old.owned.value pass.new.owned.value result (λ s t. HasRead s.knows t.knows × Listed makes (pinned_number s.knows.phase) (Ok (index_kinds (volume_pinned s.knows))) counts.new listed.old listed.new bytes.old bytes.new result) }
+    ensures kept { (result ≡ 0) ⊎ ((counts.new ≡ counts.old) × (listed.new ≡ listed.old) × (bytes.new ≡ bytes.old)) }
+{
+    if !pass.live {
+        return CLOSED;
+    }
+    let mut session = mem::replace(&mut pass.owned, Owned::none(alloc)).into_box();
+    let answer = session.indices(alloc);
+    pass.owned = Owned::of(session);
+    tell_indices(alloc, answer, counts, listed, bytes)
 }
