@@ -5,9 +5,8 @@ use Rattle.std.specs.declared.result.Result.{Result}
 use Rattle.be_query.specs.Faults.{fault}
 use Rattle.be_query.specs.View.{IsMemory}
 use Rattle.be_store.specs.History.{IsReason, Learns}
-use Rattle.be_store.specs.Passes.{IsPassOf}
-use Rattle.be_table.specs.Place.{Opened, Place}
-use Rattle.be_table.specs.Rule.{newcomer}
+use Rattle.be_table.specs.Place.{Opened}
+use Rattle.be_table.specs.Rule.{IsWithin, newcomer}
 use Rattle.be_table.specs.declared.limits.Limits.{Limits}
 use Rattle.be_table.specs.declared.pass.Knowledge.{Knowledge}
 use Rattle.be_value.specs.declared.refusals.Refusal.{Refusal}
@@ -22,13 +21,12 @@ pub record Sitting : Type 0 where
   pub knows : Knowledge
   pub spare : ℕ
 
--- a pass of a store with these limits that has seen and written nothing, and isn't pinned
-abbrev pub IsNewcomer : Limits → Knowledge → Type 0
-IsNewcomer limits a = (steps : ℕ) × (number : ℕ) × (a ≡ newcomer limits steps number)
-
--- a pass of the store that nobody has used
-abbrev pub IsSpare : Opened → Place → Type 0
-IsSpare store pass = IsPassOf store pass × IsNewcomer store.limits pass.knows
+-- A session that has just opened a store with these limits: its pass is the last one and has seen and written nothing, and the others wait.
+pub record IsOpened (limits : Limits) (s : Sitting) : Type 0 where
+  pub within : IsWithin limits
+  pub limits_are : s.store.limits ≡ limits
+  pub count : s.spare + 1 ≡ limits.passes
+  pub unused : s.knows ≡ newcomer limits (s.spare + 1) s.spare
 
 -- why a write did nothing, and what it left: the store's own refusal, or a count that isn't 1 to 64
 abbrev pub IsHeldBack : Knowledge → Knowledge → List Op → Fault → Type 0

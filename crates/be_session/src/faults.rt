@@ -4,7 +4,7 @@ ghost use Rattle.be_session.specs.Fault.{fault_code};
 ghost use Rattle.be_session.specs.declared.faults.Fault.TheVariants.{Refused};
 ghost use Rattle.be_value.specs.declared.refusals.Refusal.TheVariants.{OutOfMemory};
 
-use be_value::Refusal;
+use be_store::Refusal;
 use std::alloc::{AllocError, AllocFailed};
 
 /// Why a call of a session did nothing. A refused write may have shown the pass more of the journal.

@@ -8,7 +8,7 @@ ghost use Rattle.be_session.specs.declared.faults.Fault.TheVariants.{NoItem};
 use crate::Fault;
 use crate::lists::part;
 use crate::meanings::{name, text};
-use be_query::{Item, Query, from_rpn};
+use be_store::{Item, Query, from_rpn};
 use std::alloc::Global;
 
 /// An item of a predicate as C spells it. Its bytes are a part of one string of bytes that goes with all items.

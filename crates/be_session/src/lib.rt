@@ -8,6 +8,7 @@ mod faults;
 mod items;
 mod lists;
 mod meanings;
+mod passes;
 mod session;
 mod spellings;
 

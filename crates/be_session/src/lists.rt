@@ -3,7 +3,7 @@ ghost use Rattle.std.specs.Prelude.{◌≡◌, ◌+◌, ◌<◌, ◌≤◌, IfOk
 ghost use Rattle.be_session.specs.Operations.{AreMeant, IsMisspelt, IsMisspeltAt, IsMeantBy, part};
 
 use crate::{Fault, operation};
-use be_volume::Op;
+use be_store::Op;
 use std::alloc::Global;
 
 /// An operation as C spells it. Its name, and the bytes of its value, are parts of one string of bytes that goes with all

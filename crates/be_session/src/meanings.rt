@@ -8,8 +8,7 @@ ghost use Rattle.be_value.specs.Value.{code_of};
 ghost use Rattle.be_value.specs.declared.values.Kind.{Kind as AnyKind};
 
 use crate::Fault;
-use be_value::{Kind, Name, Value};
-use be_volume::Op;
+use be_store::{Kind, Name, Op, Value};
 
 /// The kind of this type code.
 pub fn kind_of_code(code: u32) -> Option<Kind>

@@ -1,11 +1,12 @@
 //! A pass with its share of the store, and its calls.
-ghost use Rattle.std.specs.Prelude.{◌≡◌, ◌⊎◌, ◌≤◌, ◌+◌, ℕ, Ok, IfOk, IfErr, length, All};
-ghost use Rattle.be_session.specs.Sitting.{AtPin, IsHeldBack, IsNewcomer, IsNoQuery, IsSpare, IsUnrefreshed, Tells};
+ghost use Rattle.std.specs.Prelude.{◌≡◌, ◌⊎◌, ◌≤◌, ◌+◌, ℕ, Ok, IfOk, IfErr, length, vec_len};
+ghost use Rattle.be_session.specs.Sitting.{AtPin, IsHeldBack, IsNoQuery, IsOpened, IsUnrefreshed, Tells};
 ghost use Rattle.be_session.specs.declared.faults.Fault.TheVariants.{AlreadyPinned, NoPass, NotPinned, Refused};
 ghost use Rattle.be_query.specs.Grammar.{IsTextOf};
 ghost use Rattle.be_store.specs.History.{Accepts, Pins};
 ghost use Rattle.be_store.specs.Live.{Refreshes};
 ghost use Rattle.be_store.specs.Passes.{HasRead, IsPassOf, IsPinnedTo, volume_pinned};
+ghost use Rattle.be_table.specs.Rule.{IsWithin, newcomer};
 ghost use Rattle.be_table.specs.Seats.{pinned_number};
 ghost use Rattle.be_table.specs.Steps.{unpins};
 ghost use Rattle.be_table.specs.Works.{AreNew, IsUnopened};
@@ -15,12 +16,12 @@ ghost use Rattle.be_volume.specs.Query.{scan};
 ghost use Rattle.be_volume.specs.Reading.{attribute, attributes_at, index_kinds};
 
 use crate::Fault;
-use arrayvec::ArrayVec;
-use be_query::{Query, parse};
-use be_store::{Limits, Live, Pass, Store, Updates};
-use be_value::{Kind, Name, Refusal, Value};
-use be_volume::{Done, Op};
-use std::alloc::{AllocFailed, Global};
+use crate::passes::{put_last, take_last};
+use be_store::{
+    ArrayVec, Done, Kind, Limits, Live, Name, Op, Pass, Query, Refusal, Store, Updates, Value,
+    parse,
+};
+use std::alloc::Global;
 use std::marker::Model;
 use std::sync::Arc;
 
@@ -37,85 +38,99 @@ impl Model for Session {
 
     ghost Value = { Sitting };
 
-    ghost use Rattle.std.specs.Prelude.{All, length};
-    ghost use Rattle.be_session.specs.Sitting.{IsSpare};
+    ghost use Rattle.std.specs.Prelude.{vec_len};
     ghost use Rattle.be_store.specs.Passes.{IsPassOf};
+    ghost use Rattle.be_table.specs.Works.{AreNew};
 
-    ghost view = { λ s. record { store = s.store.value; knows = s.pass.knows; spare = length s.spare.items } };
+    ghost view = { λ s. record { store = s.store.value; knows = s.pass.knows; spare = vec_len s.spare } };
 
-    ghost invariant = { λ s. IsPassOf s.store.value s.pass × All (IsSpare s.store.value) s.spare.items };
+    ghost invariant = { λ s. IsPassOf s.store.value s.pass × AreNew s.store.value 0 s.spare.items };
 }
 
-/// A law of a new store: its passes are passes of it that nobody has used. It does nothing.
-fn are_passes(_store: &Store, _passes: &Vec<Pass>)
-    requires { AreNew _store.now 0 _passes.now.items }
-    ensures { All (IsSpare _store.now) _passes.now.items }
-{}
-
 /// A session of a store that nobody shares yet, with the passes that are left over.
-fn seated(alloc: Global, store: Store, pass: Pass, spare: Vec<Pass>) -> Result<Session, Fault>
-    requires pass { IsPassOf store pass }
-    requires spare { All (IsSpare store) spare.items }
-    ensures ok { IfOk result (λ s. s ≡ record { store = store; knows = pass.knows; spare = length spare.items }) }
-    ensures err { IfErr result (λ e. e ≡ Refused OutOfMemory) }
+fn seated(
+    alloc: Global,
+    limits: Limits,
+    store: Store,
+    pass: Pass,
+    spare: Vec<Pass>,
+) -> Result<Session, Fault>
+    requires limits { (store.limits ≡ limits) × IsWithin limits }
+    requires pass { IsPassOf store pass × (pass.knows ≡ newcomer limits (vec_len spare + 1) (vec_len spare)) }
+    requires spare { AreNew store 0 spare.items × (vec_len spare + 1 ≡ limits.passes) }
+    ensures ok { IfOk result (λ s. IsOpened limits s) }
+    ensures err { IfErr result (λ e. (e ≡ Refused OutOfMemory) × IsWithin limits) }
 {
-    match Arc::new(alloc, store) {
-        Ok(store) => Ok(Session { store, pass, spare }),
-        Err(_) => Err(Fault::Refused(Refusal::OutOfMemory)),
-    }
+    let Ok(store) = Arc::new(alloc, store) else {
+        return Err(Fault::Refused(Refusal::OutOfMemory));
+    };
+    Ok(Session { store, pass, spare })
+}
+
+/// Takes a session apart for its pass. Its share of the store is given up, with the passes that wait.
+fn pass_of(session: Session) -> Pass
+    ensures pass { IsPassOf session.store result }
+    ensures knows { result.knows ≡ session.knows }
+{
+    let Session {
+        store: _store,
+        pass,
+        spare: _spare,
+    } = session;
+    pass
 }
 
 impl Session {
-    /// A new store, and the session of one of its passes, which has seen nothing.
+    /// A new store, and the session of the last of its passes, which has seen nothing. The others wait.
     ///
-    /// BadLimits where a limit is out of its range, and OutOfMemory. The memory of all pages is taken here.
+    /// BadLimits exactly where a limit is out of its range, and OutOfMemory. The memory of all pages, 4 KiB each, is taken
+    /// here.
     pub fn open(alloc: Global, limits: Limits) -> Result<Session, Fault>
-        ensures ok { IfOk result (λ s. (s.store.limits ≡ limits) × (limits.passes ≡ s.spare + 1) × IsNewcomer limits s.knows) }
-        ensures err { IfErr result (λ e. (why : AnyRefusal) × (e ≡ Refused why) × ((why ≡ OutOfMemory) ⊎ IsUnopened limits why)) }
+        ensures ok { IfOk result (λ s. IsOpened limits s) }
+        ensures err { IfErr result (λ e. (why : AnyRefusal) × (e ≡ Refused why) × IsUnopened limits why) }
     {
-        if limits.passes == 0 {
+        if !limits.are_within() {
             return Err(Fault::Refused(Refusal::BadLimits));
         }
         let (store, mut passes) = match Store::open(alloc, limits) {
             Ok(opened) => opened,
             Err(refusal) => return Err(Fault::Refused(refusal)),
         };
-        are_passes(&store, &passes);
-        let Some(pass) = passes.pop() else {
-            unreachable!()
+        let Some(pass) = take_last(&store, &mut passes) else {
+            return Err(Fault::Refused(Refusal::OutOfMemory));
         };
-        seated(alloc, store, pass, passes)
+        seated(alloc, limits, store, pass, passes)
     }
 
-    /// A session of the same store, with a pass that had none, in a box. NoPass where each pass has one, and OutOfMemory; no
-    /// pass is lost then.
+    /// A session of the same store, with the last pass that waits, in a box. NoPass where none waits, and OutOfMemory: it
+    /// goes on waiting then.
     ///
-    /// It is asked of the session that opened the store: the others have no passes to give.
+    /// It is asked of the session that opened the store: with the others no pass waits.
     pub fn another(&mut self, alloc: Global) -> Result<Box<Session, Global>, Fault>
         ensures same { (self.new.store ≡ self.old.store) × (self.new.knows ≡ self.old.knows) }
-        ensures ok { IfOk result (λ s. (s.value.store ≡ self.old.store) × (s.value.spare ≡ 0) × IsNewcomer self.old.store.limits s.value.knows × (self.old.spare ≡ self.new.spare + 1)) }
+        ensures session { IfOk result (λ s. (s.value.store ≡ self.old.store) × (s.value.spare ≡ 0)) }
+        ensures unused { IfOk result (λ s. s.value.knows ≡ newcomer self.old.store.limits (self.new.spare + 1) self.new.spare) }
+        ensures spare { IfOk result (λ s. self.old.spare ≡ self.new.spare + 1) }
         ensures err { IfErr result (λ e. (self.new ≡ self.old) × ((e ≡ Refused OutOfMemory) ⊎ ((e ≡ NoPass) × (self.old.spare ≡ 0)))) }
     {
         let Ok(store) = Arc::try_clone(&self.store) else {
             return Err(Fault::Refused(Refusal::OutOfMemory));
         };
-        let Some(pass) = self.spare.pop() else {
+        let Some(pass) = take_last(&self.store, &mut self.spare) else {
             return Err(Fault::NoPass);
         };
-        let spare = Vec::new(alloc);
-        let AllocFailed { value } = match Box::new(alloc, Session { store, pass, spare }) {
-            Ok(session) => return Ok(session),
-            Err(failed) => failed,
-        };
-        let Session {
-            store: _store,
+        let session = Session {
+            store,
             pass,
-            spare: _spare,
-        } = value;
-        let Ok(()) = self.spare.push(pass) else {
-            unreachable!()
+            spare: Vec::new(alloc),
         };
-        Err(Fault::Refused(Refusal::OutOfMemory))
+        match Box::new(alloc, session) {
+            Ok(session) => Ok(session),
+            Err(failed) => {
+                put_last(&self.store, &mut self.spare, pass_of(failed.value));
+                Err(Fault::Refused(Refusal::OutOfMemory))
+            }
+        }
     }
 
     /// Pins the version that is current, and answers its number: how many writes it has.

@@ -5,7 +5,7 @@ ghost use Rattle.be_session.specs.declared.faults.Fault.TheVariants.{Refused};
 ghost use Rattle.be_value.specs.declared.refusals.Refusal.TheVariants.{OutOfMemory};
 
 use crate::{Fault, Operation, spelled};
-use be_value::{Kind, Name, Refusal, Value};
+use be_store::{Kind, Name, Refusal, Value};
 use std::alloc::Global;
 
 /// Operations as they are spelled, with the bytes that their parts are in.
