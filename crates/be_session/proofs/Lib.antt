@@ -2,3 +2,4 @@ pub mod Spare
 pub mod Meant
 pub mod Built
 pub mod Spelt
+pub mod Covers

@@ -3,3 +3,4 @@ pub mod Meaning
 pub mod Sitting
 pub mod Operations
 pub mod Items
+pub mod Explained

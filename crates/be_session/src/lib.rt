@@ -4,6 +4,7 @@
 //! time. It may move to another thread between two calls. The store goes with its last session.
 #![tactic(auto)]
 
+mod explaining;
 mod faults;
 mod items;
 mod lists;

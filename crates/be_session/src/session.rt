@@ -1,5 +1,7 @@
 //! A pass with its share of the store, and its calls.
-ghost use Rattle.std.specs.Prelude.{◌≡◌, ◌⊎◌, ◌≤◌, ◌+◌, ℕ, Ok, IfOk, IfErr, length, vec_len};
+ghost use Rattle.std.specs.Prelude.{◌≡◌, ◌⊎◌, ◌≤◌, ◌+◌, ℕ, Ok, IfOk, IfErr, length, string_bytes, vec_len};
+ghost use Rattle.be_plan.specs.Cover.{is_listed};
+ghost use Rattle.be_session.specs.Explained.{explained};
 ghost use Rattle.be_session.specs.Sitting.{AtPin, IsHeldBack, IsNoQuery, IsOpened, IsUnrefreshed, Tells};
 ghost use Rattle.be_session.specs.declared.faults.Fault.TheVariants.{AlreadyPinned, NoPass, NotPinned, Refused};
 ghost use Rattle.be_query.specs.Grammar.{IsTextOf};
@@ -16,12 +18,13 @@ ghost use Rattle.be_volume.specs.Query.{scan};
 ghost use Rattle.be_volume.specs.Reading.{attribute, attributes_at, index_kinds};
 
 use crate::Fault;
+use crate::explaining::cover_text;
 use crate::passes::{put_last, take_last};
 use be_store::{
     ArrayVec, Done, Kind, Limits, Live, Name, Op, Pass, Query, Refusal, Store, Updates, Value,
     parse,
 };
-use std::alloc::Global;
+use std::alloc::{AllocFailed, Global};
 use std::marker::Model;
 use std::sync::Arc;
 
@@ -59,7 +62,7 @@ fn seated(
     requires pass { IsPassOf store pass × (pass.knows ≡ newcomer limits (vec_len spare + 1) (vec_len spare)) }
     requires spare { AreNew store 0 spare.items × (vec_len spare + 1 ≡ limits.passes) }
     ensures ok { IfOk result (λ s. IsOpened limits s) }
-    ensures err { IfErr result (λ e. (e ≡ Refused OutOfMemory) × IsWithin limits) }
+    ensures err { IfErr result (λ e. (why : AnyRefusal) × (e ≡ Refused why) × IsUnopened limits why) }
 {
     let Ok(store) = Arc::new(alloc, store) else {
         return Err(Fault::Refused(Refusal::OutOfMemory));
@@ -89,15 +92,12 @@ impl Session {
         ensures ok { IfOk result (λ s. IsOpened limits s) }
         ensures err { IfErr result (λ e. (why : AnyRefusal) × (e ≡ Refused why) × IsUnopened limits why) }
     {
-        if !limits.are_within() {
-            return Err(Fault::Refused(Refusal::BadLimits));
-        }
         let (store, mut passes) = match Store::open(alloc, limits) {
             Ok(opened) => opened,
             Err(refusal) => return Err(Fault::Refused(refusal)),
         };
         let Some(pass) = take_last(&store, &mut passes) else {
-            return Err(Fault::Refused(Refusal::OutOfMemory));
+            unreachable!()
         };
         seated(alloc, limits, store, pass, passes)
     }
@@ -126,8 +126,8 @@ impl Session {
         };
         match Box::new(alloc, session) {
             Ok(session) => Ok(session),
-            Err(failed) => {
-                put_last(&self.store, &mut self.spare, pass_of(failed.value));
+            Err(AllocFailed { value }) => {
+                put_last(&self.store, &mut self.spare, pass_of(value));
                 Err(Fault::Refused(Refusal::OutOfMemory))
             }
         }
@@ -197,6 +197,23 @@ impl Session {
             return Err(Fault::NotPinned);
         };
         Ok(live.refresh(&self.store, &mut self.pass)?)
+    }
+
+    /// What a query would be answered from in the pinned version: the comparisons that are picked, in canonical form and joined
+    /// by ` || `, and the score. NotCovered where the query rests on no index of that version, and OutOfMemory.
+    pub fn explain(&mut self, alloc: Global, query: &Query) -> Result<String, Fault>
+        ensures store { (self.new.store ≡ self.old.store) × (self.new.spare ≡ self.old.spare) }
+        ensures read { HasRead self.old.knows self.new.knows }
+        ensures text { AtPin (pinned_number self.old.knows.phase) result (Tells string_bytes result (explained (is_listed (index_kinds (volume_pinned self.old.knows))) query.now)) }
+    {
+        let Some(_) = self.pass.pinned() else {
+            return Err(Fault::NotPinned);
+        };
+        let indices = match self.store.indices(alloc, &mut self.pass) {
+            Ok(indices) => indices,
+            Err(_) => return Err(Fault::Refused(Refusal::OutOfMemory)),
+        };
+        Ok(cover_text(alloc, query, indices.as_slice())?)
     }
 
     /// A node's attribute in the pinned version, if it has one.
