@@ -1,7 +1,6 @@
 //! A pass with its share of the store, and its calls.
 ghost use Rattle.std.specs.Prelude.{◌≡◌, ◌⊎◌, ◌≤◌, ◌+◌, ℕ, Ok, IfOk, IfErr, length, string_bytes, vec_len};
-ghost use Rattle.be_plan.specs.Cover.{is_listed};
-ghost use Rattle.be_session.specs.Explained.{explained};
+ghost use Rattle.be_session.specs.Explained.{explained_in};
 ghost use Rattle.be_session.specs.Sitting.{AtPin, IsHeldBack, IsNoQuery, IsOpened, IsUnrefreshed, Tells};
 ghost use Rattle.be_session.specs.declared.faults.Fault.TheVariants.{AlreadyPinned, NoPass, NotPinned, Refused};
 ghost use Rattle.be_query.specs.Grammar.{IsTextOf};
@@ -204,7 +203,7 @@ impl Session {
     pub fn explain(&mut self, alloc: Global, query: &Query) -> Result<String, Fault>
         ensures store { (self.new.store ≡ self.old.store) × (self.new.spare ≡ self.old.spare) }
         ensures read { HasRead self.old.knows self.new.knows }
-        ensures text { AtPin (pinned_number self.old.knows.phase) result (Tells string_bytes result (explained (is_listed (index_kinds (volume_pinned self.old.knows))) query.now)) }
+        ensures text { AtPin (pinned_number self.old.knows.phase) result (Tells string_bytes result (explained_in (volume_pinned self.old.knows) query.now)) }
     {
         let Some(_) = self.pass.pinned() else {
             return Err(Fault::NotPinned);

@@ -25,7 +25,8 @@ found_nodes view None x meant places filled count code pinned done counted put =
 found_nodes view (Some n) x meant places filled count code pinned done counted put =
     inr (subst (λ m. Scanned m places filled count code) (sym pinned) (done, counted, put))
 
-fault_in : {X : Type 0} → Result X Fault → Fault
+-- the fault of an answer that has one
+pub fault_in : {X : Type 0} → Result X Fault → Fault
 fault_in (Ok x) = NotPinned
 fault_in (Err e) = e
 

@@ -6,12 +6,14 @@ use Rattle.be_session.specs.Fault.{fault_code}
 use Rattle.be_session.specs.Items.{IsBuilt, IsUnbuilt}
 use Rattle.be_session.specs.Meaning.{IsNoName, IsValueMeant}
 use Rattle.be_session.specs.Operations.{AreMeant, AreSpelled, IsMisspelt}
-use Rattle.be_session.specs.Sitting.{IsHeldBack, IsNewcomer, IsNoQuery, Sitting}
+use Rattle.be_session.specs.Explained.{explained_in}
+use Rattle.be_session.specs.Sitting.{IsHeldBack, IsNoQuery, IsOpened, Sitting}
 use Rattle.be_session.specs.declared.faults.Fault.{Fault}
 use Rattle.be_session.specs.declared.items.PredicateItem.{PredicateItem}
 use Rattle.be_session.specs.declared.lists.Operation.{Operation}
 use Rattle.be_store.specs.History.{Accepts}
 use Rattle.be_store.specs.Passes.{HasRead, volume_pinned}
+use Rattle.be_table.specs.Rule.{IsWithin, newcomer}
 use Rattle.be_table.specs.Seats.{pinned_number}
 use Rattle.be_table.specs.Works.{IsUnopened}
 use Rattle.be_table.specs.declared.limits.Limits.{Limits}
@@ -38,19 +40,26 @@ abbrev pub Answers : Option Sitting → ℕ → Type 0
 Answers None code = code ≡ 64
 Answers (Some s) code = code ≡ 0
 
--- Opening: an open handle stays as it was and answers 65; a closed one holds a session of a store with these limits that has seen nothing, or stays closed where the store says why, or where memory was refused.
+-- Opening: an open handle stays as it was and answers 65; a closed one holds a session that has just opened a store with these limits, or stays closed where the store says why, or where memory was refused.
 abbrev pub Opens : Limits → Option Sitting → Option Sitting → ℕ → Type 0
 Opens limits (Some s) (Some t) code = (code ≡ 65) × (t ≡ s)
 Opens limits (Some s) None code = ⊥
-Opens limits None (Some t) code = (code ≡ 0) × (t.store.limits ≡ limits) × IsNewcomer limits t.knows
-Opens limits None None code = (code ≡ 10) ⊎ ((why : Refusal) × (code ≡ refusal_number why) × IsUnopened limits why)
+Opens limits None (Some t) code = (code ≡ 0) × IsOpened limits t
+Opens limits None None code = ((code ≡ 10) × IsWithin limits) ⊎ ((why : Refusal) × (code ≡ refusal_number why) × IsUnopened limits why)
 
--- A second handle: one that is open stays as it was, and the answer is 65; a closed one gets a session of the same store that has seen nothing, with one of the passes that wait; 68 where none waits, and 10 where memory was refused.
+-- A second handle: one that is open stays as it was, and the answer is 65; a closed one gets a session of the same store with the last pass that waits, which has seen and written nothing; 68 where none waits, and 10 where memory was refused.
 abbrev pub Gives : Sitting → Sitting → Option Sitting → Option Sitting → ℕ → Type 0
 Gives s t (Some o) (Some p) code = (code ≡ 65) × (p ≡ o) × (t ≡ s)
 Gives s t (Some o) None code = ⊥
-Gives s t None (Some p) code = (code ≡ 0) × (p.store ≡ s.store) × IsNewcomer s.store.limits p.knows × (t.knows ≡ s.knows) × (s.spare ≡ t.spare + 1)
+Gives s t None (Some p) code =
+    (code ≡ 0) × (p.store ≡ s.store) × (p.spare ≡ 0) × (p.knows ≡ newcomer s.store.limits (t.spare + 1) t.spare) × (t.knows ≡ s.knows) × (s.spare ≡ t.spare + 1)
 Gives s t None None code = (t ≡ s) × ((code ≡ 10) ⊎ ((code ≡ 68) × (s.spare ≡ 0)))
+
+-- A handle is moved: what it holds goes to one that is closed, and it is closed then; 65 where the other is open, and 64 where it holds nothing.
+abbrev pub Moves : Option Sitting → Option Sitting → Option Sitting → Option Sitting → ℕ → Type 0
+Moves None o from to code = (code ≡ 64) × (from ≡ None) × (to ≡ o)
+Moves (Some s) (Some o) from to code = (code ≡ 65) × (from ≡ Some s) × (to ≡ Some o)
+Moves (Some s) None from to code = (code ≡ 0) × (from ≡ None) × (to ≡ Some s)
 
 -- A write: what is spelled is misspelt, and then nothing has happened; or it means operations, which the session accepted, and the numbers of the new nodes and the length of the journal are put out, or which it held back.
 abbrev pub Writes : Sitting → Sitting → List Operation → List ℕ → List ℕ → List ℕ → ℕ → ℕ → Type 0
@@ -60,7 +69,7 @@ Writes s t spelled bytes places filled entries code =
     (((code ≡ 0) × (dones : List Done) × Accepts s.knows t.knows ops entries dones × (filled ≡ over (map node_of dones) places))
     ⊎ ((e : Fault) × (code ≡ fault_code e) × IsHeldBack s.knows t.knows ops e)))
 
--- what a query answers in a version: how many nodes meet it, and as many of them as there are places; or why there is no answer
+-- What a version answers, a list of nodes or of a text's bytes: how many they are, and as many of them as there are places; or why there is no answer.
 abbrev pub Scanned : Result (List ℕ) Refusal → List ℕ → List ℕ → ℕ → ℕ → Type 0
 Scanned (Ok nodes) places filled count code = (code ≡ 0) × (count ≡ length nodes) × (filled ≡ over nodes places)
 Scanned (Err why) places filled count code = code ≡ refusal_number why
@@ -76,6 +85,13 @@ Finds s t text places filled count code =
     ((e : Fault) × (code ≡ fault_code e) × IsNoQuery text e × (t ≡ s))
     ⊎ ((query : Formula) × IsTextOf text query × HasRead s.knows t.knows
     × Found (pinned_number s.knows.phase) (scan (volume_pinned s.knows) query) places filled count code)
+
+-- What a query would be answered from, by its text: the bytes are no query, and then nothing has happened; or they are one, and what is said of it is put out.
+abbrev pub Explains : Sitting → Sitting → List ℕ → List ℕ → List ℕ → ℕ → ℕ → Type 0
+Explains s t text places filled count code =
+    ((e : Fault) × (code ≡ fault_code e) × IsNoQuery text e × (t ≡ s))
+    ⊎ ((query : Formula) × IsTextOf text query × HasRead s.knows t.knows
+    × Found (pinned_number s.knows.phase) (explained_in (volume_pinned s.knows) query) places filled count code)
 
 -- A query by its items: they are none, and then nothing has happened; or they build one, and its answer is put out.
 abbrev pub FindsBuilt : Sitting → Sitting → List PredicateItem → List ℕ → List ℕ → List ℕ → ℕ → ℕ → Type 0
@@ -97,11 +113,15 @@ Reads s t node name told places filled code =
     ((e : Fault) × (code ≡ fault_code e) × IsNoName name e × (t ≡ s))
     ⊎ (HasRead s.knows t.knows × Shown (pinned_number s.knows.phase) (attribute (volume_pinned s.knows) node name) told places filled code)
 
--- What a list is told as in the pinned version, if there is a pin: the operations that would make it, with how many these and their bytes are, as far as there are places; or why there is no list.
+-- A list is put out as these operations: how many there are in a spelling of them, with how many bytes, and of both as many as there are places; or memory was refused.
+abbrev pub IsPutOut : List Op → Counts → List Operation → List Operation → List ℕ → List ℕ → ℕ → Type 0
+IsPutOut ops counts places filled byte_places bytes code =
+    (code ≡ 10)
+    ⊎ ((code ≡ 0) × (os : List Operation) × (bs : List ℕ) × AreSpelled os bs ops
+    × (counts.operations ≡ length os) × (filled ≡ over os places) × (counts.bytes ≡ length bs) × (bytes ≡ over bs byte_places))
+
+-- A list in the pinned version, if there is a pin: it is put out as the operations that would make it; or why there is no list.
 abbrev pub Listed : {A : Type 0} → (A → Op) → Option ℕ → Result (List A) Refusal → Counts → List Operation → List Operation → List ℕ → List ℕ → ℕ → Type 0
 Listed makes None meant counts places filled byte_places bytes code = code ≡ 66
 Listed makes (Some n) (Err why) counts places filled byte_places bytes code = (code ≡ 10) ⊎ (code ≡ refusal_number why)
-Listed makes (Some n) (Ok list) counts places filled byte_places bytes code =
-    (code ≡ 10)
-    ⊎ ((code ≡ 0) × (os : List Operation) × (bs : List ℕ) × AreSpelled os bs (map makes list)
-    × (counts.operations ≡ length os) × (filled ≡ over os places) × (counts.bytes ≡ length bs) × (bytes ≡ over bs byte_places))
+Listed makes (Some n) (Ok list) counts places filled byte_places bytes code = IsPutOut (map makes list) counts places filled byte_places bytes code

@@ -11,7 +11,7 @@ ghost use Rattle.be_store.specs.Passes.{HasRead, volume_pinned};
 ghost use Rattle.be_table.specs.Seats.{pinned_number};
 ghost use Rattle.be_table.specs.Steps.{unpins};
 ghost use Rattle.be_volume.specs.Reading.{attributes_at, index_kinds};
-ghost use Rattle.bestore_c.specs.Calls.{Answers, Calls, Finds, FindsBuilt, Gives, Listed, Opens, Reads, Writes};
+ghost use Rattle.bestore_c.specs.Calls.{Answers, Calls, Explains, Finds, FindsBuilt, Gives, Listed, Moves, Opens, Reads, Writes};
 
 mod asking;
 mod handle;
@@ -22,7 +22,7 @@ mod places;
 #[cfg(test)]
 mod tests;
 
-use asking::tell;
+use asking::{tell, tell_text};
 use be_session::{
     Operation, PredicateItem, Session, name, operations, query_of, query_of_items, spelled,
 };
@@ -109,7 +109,26 @@ pub extern "C" fn bes_another(alloc: Global, pass: &mut Handle, other: &mut Hand
     }
 }
 
-/// Closes the handle. The store goes with its last handle.
+/// Moves what the handle holds into a handle that is closed, and closes it.
+#[unsafe(no_mangle)]
+pub extern "C" fn bes_move(alloc: Global, pass: &mut Handle, other: &mut Handle) -> u32
+    ensures { Moves pass.old.owned.value other.old.owned.value pass.new.owned.value other.new.owned.value result }
+{
+    if !pass.live {
+        return CLOSED;
+    }
+    if other.live {
+        return OPEN;
+    }
+    let closed = Handle {
+        live: false,
+        owned: Owned::none(alloc),
+    };
+    *other = mem::replace(pass, closed);
+    DONE
+}
+
+/// Closes the handle. A pin is given up, and the store goes with its last handle.
 #[unsafe(no_mangle)]
 pub extern "C" fn bes_close(alloc: Global, pass: &mut Handle) -> u32
     ensures closed { pass.new.owned.value ≡ None }
@@ -118,8 +137,10 @@ pub extern "C" fn bes_close(alloc: Global, pass: &mut Handle) -> u32
     if !pass.live {
         return CLOSED;
     }
-    let session = mem::replace(&mut pass.owned, Owned::none(alloc)).into_box();
+    let mut session = mem::replace(&mut pass.owned, Owned::none(alloc)).into_box();
     pass.live = false;
+    // The pin of a pass that is gone would keep its pages for good.
+    let _ = session.unpin();
     drop(session);
     DONE
 }
@@ -246,6 +267,32 @@ pub extern "C" fn bes_query_items(
     let answer = session.query(alloc, &query);
     pass.owned = Owned::of(session);
     tell(answer, nodes, count)
+}
+
+/// Says what the query of this text would be answered from in the pinned version. Puts out how many bytes that text has, and
+/// as many of them as there is room for.
+#[unsafe(no_mangle)]
+pub extern "C" fn bes_explain(
+    alloc: Global,
+    pass: &mut Handle,
+    text: &[u8],
+    bytes: &mut [u8],
+    count: &mut u64,
+) -> u32
+    ensures pass { Calls pass.old.owned.value pass.new.owned.value result (λ s t. Explains s t text.now bytes.old bytes.new count.new result) }
+    ensures kept { (result ≡ 0) ⊎ ((count.new ≡ count.old) × (bytes.new ≡ bytes.old)) }
+{
+    if !pass.live {
+        return CLOSED;
+    }
+    let query = match query_of(alloc, text) {
+        Ok(query) => query,
+        Err(fault) => return fault.code(),
+    };
+    let mut session = mem::replace(&mut pass.owned, Owned::none(alloc)).into_box();
+    let answer = session.explain(alloc, &query);
+    pass.owned = Owned::of(session);
+    tell_text(answer, bytes, count)
 }
 
 /// Reads a node's attribute in the pinned version. Puts out its type code, its number and its length in bytes, and as many
