@@ -19,6 +19,8 @@ static void closed_handle(void)
     CHECK(bes_unpin(&pass) == BES_CLOSED);
     CHECK(bes_close(&pass) == BES_CLOSED);
     CHECK(bes_another(&pass, &other) == BES_CLOSED);
+    CHECK(bes_move(&pass, &other) == BES_CLOSED);
+    CHECK(bes_explain(&pass, (const uint8_t *)"a==1", 4, bytes, 2, &number) == BES_CLOSED && number == 7 && bytes[0] == 7);
     CHECK(bes_apply(&pass, &op, 1, bytes, 0, nodes, 2, &number) == BES_CLOSED && nodes[0] == 7);
     CHECK(bes_find(&pass, "a==1", nodes, 2, &number) == BES_CLOSED && number == 7);
     CHECK(bes_query_items(&pass, &item, 1, bytes, 0, nodes, 2, &number) == BES_CLOSED && number == 7);
@@ -28,6 +30,7 @@ static void closed_handle(void)
 static void opening(void)
 {
     bes_pass mine = BES_PASS_INIT, theirs = BES_PASS_INIT, third = BES_PASS_INIT;
+    uint64_t number = 7;
     CHECK(bes_open(7, 2, 10, &mine) == BES_BAD_LIMITS);
     CHECK(bes_open(8, 0, 10, &mine) == BES_BAD_LIMITS);
     CHECK(bes_open(8, 65, 10, &mine) == BES_BAD_LIMITS);
@@ -38,6 +41,12 @@ static void opening(void)
     CHECK(bes_another(&mine, &theirs) == BES_OPEN);
     CHECK(bes_another(&mine, &third) == BES_NO_PASS);
     CHECK(bes_another(&theirs, &third) == BES_NO_PASS);
+    CHECK(bes_move(&mine, &theirs) == BES_OPEN);
+    CHECK(bes_pin(&theirs, &number) == BES_OK && number == 0);
+    CHECK(bes_move(&theirs, &third) == BES_OK);
+    CHECK(bes_unpin(&theirs) == BES_CLOSED);
+    CHECK(bes_pin(&third, &number) == BES_PINNED);
+    CHECK(bes_move(&third, &theirs) == BES_OK);
     CHECK(bes_close(&mine) == BES_OK && bes_close(&mine) == BES_CLOSED);
     CHECK(bes_close(&theirs) == BES_OK);
     CHECK(bes_close(&third) == BES_CLOSED);
@@ -174,9 +183,11 @@ static void lists(void)
 static void queries(void)
 {
     bes_pass pass = BES_PASS_INIT;
-    uint64_t node = 0, number = 0, count = 0, nodes[4] = {7, 7, 7, 7};
+    uint64_t node = 0, number = 0, count = 0, length = 0, nodes[4] = {7, 7, 7, 7};
+    uint8_t text[32];
     bes_item less[3] = {{BES_ITEM_ATTRIBUTE, 0, 4, 0}, {BES_ITEM_INT64, 0, 0, (uint64_t)-1}, {BES_ITEM_LT, 0, 0, 0}};
     bes_item none = {16, 0, 0, 0};
+    memset(text, 7, sizeof text);
     CHECK(bes_open(64, 1, 100, &pass) == BES_OK);
     CHECK(bes_make_index(&pass, "size", BES_INT32_TYPE) == BES_OK);
     CHECK(bes_make_index(&pass, "size", BES_INT32_TYPE) == BES_INDEX_EXISTS);
@@ -195,6 +206,10 @@ static void queries(void)
     CHECK(bes_query_items(&pass, less, 3, (const uint8_t *)"size", 3, nodes, 4, &count) == BES_BAD_PART);
     CHECK(bes_query_items(&pass, &none, 1, (const uint8_t *)"", 0, nodes, 4, &count) == BES_NO_ITEM);
     CHECK(bes_find(&pass, "size<", nodes, 4, &count) == BES_SYNTAX && count == 2);
+    CHECK(bes_explain(&pass, (const uint8_t *)"size<0", 6, text, 2, &length) == BES_OK && length == 18 && text[2] == 7);
+    CHECK(bes_explain(&pass, (const uint8_t *)"size<0", 6, text, 32, &length) == BES_OK && length == 18);
+    CHECK(memcmp(text, "\"size\"<\"0\" score 3\7", 19) == 0);
+    CHECK(bes_explain(&pass, (const uint8_t *)"name==1", 7, text, 32, &length) == BES_NOT_COVERED && length == 18);
     CHECK(bes_find(&pass, "name==1", nodes, 4, &count) == BES_NOT_COVERED);
     CHECK(bes_find(&pass, "\xff", nodes, 4, &count) == BES_NOT_UTF8);
     CHECK(bes_remove_index(&pass, "size") == BES_OK && bes_remove_index(&pass, "size") == BES_NO_INDEX);

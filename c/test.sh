@@ -16,6 +16,9 @@ run() {
     echo "$what: ${said:-ok}"
 }
 
+has_cpp=$(command -v c++ || true)
+[ -n "$has_cpp" ] || echo "C++: skipped, there is no c++"
+
 cat >"$work/plain.cpp" <<'END'
 #include "bestore.h"
 #include <cstdio>
@@ -27,8 +30,10 @@ int main()
     std::puts("ok");
 }
 END
-c++ -std=c++17 "${warn[@]}" -I../include "$work/plain.cpp" libbestore.a -o "$work/plain"
-run C++ "$work/plain"
+if [ -n "$has_cpp" ]; then
+    c++ -std=c++17 "${warn[@]}" -I../include "$work/plain.cpp" libbestore.a -o "$work/plain"
+    run C++ "$work/plain"
+fi
 
 build() { cc -std=c11 "${warn[@]}" -I../include "$@" libbestore.a -lpthread; }
 
@@ -57,16 +62,23 @@ build -O2 ../examples/c/mailbox.c -o "$work/mailbox"
     cmp - ../examples/c/mailbox.stdout
 echo "mailbox: ok"
 
-c++ -std=c++17 -O2 "${warn[@]}" -I../include ../examples/c/catalogue.cpp libbestore.a -o "$work/catalogue"
-mkdir "$work/files"
-printf 12345 >"$work/files/five.txt"
-printf 123456789 >"$work/files/nine.c"
-"$work/catalogue" "$work/files" 'size>5' 'kind==text' >"$work/said"
-printf '2 files\nsize>5: 1\n  nine.c 9\nkind==text: 1\n  five.txt 5\n' | cmp - "$work/said"
-echo "catalogue: ok"
+if [ -n "$has_cpp" ]; then
+    c++ -std=c++17 -O2 "${warn[@]}" -I../include ../examples/c/catalogue.cpp libbestore.a -o "$work/catalogue"
+    mkdir "$work/files"
+    printf 12345 >"$work/files/five.txt"
+    printf 123456789 >"$work/files/nine.c"
+    "$work/catalogue" "$work/files" 'size>5' 'kind==text' >"$work/said"
+    printf '2 files\nsize>5: 1\n  nine.c 9\nkind==text: 1\n  five.txt 5\n' | cmp - "$work/said"
+    echo "catalogue: ok"
+fi
 
 if command -v python3 >/dev/null; then
     run Python env PYTHONDONTWRITEBYTECODE=1 BESTORE_LIBRARY="$PWD/libbestore.so" python3 -W error -m unittest discover -q -s ../python
+    if [ -x ../crates/bestore/out/bestore ]; then
+        run "the library and the program" env PYTHONDONTWRITEBYTECODE=1 BESTORE_LIBRARY="$PWD/libbestore.so" python3 -W error ../python/alike.py ../crates/bestore/out/bestore
+    else
+        echo "the library and the program: skipped, crates/bestore/out/bestore isn't built"
+    fi
 else
     echo "Python: skipped, python3 isn't installed"
 fi

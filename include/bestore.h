@@ -3,8 +3,8 @@
  * Link with libbestore.a or -lbestore (pkg-config bestore), and -lpthread where your own threads need it.
  *
  * HANDLES. A bes_pass is one user's place in a store: it writes, pins a version and reads it. Its memory is yours. Start it
- * with BES_PASS_INIT (zero bytes), never copy it or change its fields, and close it with bes_close. The store goes with
- * its last open pass.
+ * with BES_PASS_INIT (zero bytes), never copy it or change its fields (bes_move moves it), and close it with bes_close. The
+ * store goes with its last open pass.
  *
  * THREADS. Each thread has a pass of its own, and the calls on different passes may run at the same time; none waits for
  * another. A pass takes one call at a time. It may be handed to another thread where that thread's calls come after yours
@@ -166,7 +166,13 @@ uint32_t bes_open(uint64_t pages, uint64_t passes, uint64_t commits, bes_pass *p
  * others answer BES_NO_PASS. BES_CLOSED, BES_OPEN (of other), BES_NO_PASS, BES_NO_MEMORY: no pass is lost. */
 uint32_t bes_another(bes_pass *pass, bes_pass *other);
 
-/* Closes the handle, pinned or not. Its pass isn't used again. BES_CLOSED. */
+/* Moves what the handle holds into other, which has to be closed, and closes it: so a pass that one thread has done with can
+ * wait in memory of yours until another thread takes it, with its pin and with all that it has seen. Takes constant time.
+ * BES_CLOSED, BES_OPEN (of other): both are as they were. */
+uint32_t bes_move(bes_pass *pass, bes_pass *other);
+
+/* Closes the handle, and gives its pin up. Its pass isn't used again: keep it by bes_move where another thread is to go on
+ * with it. BES_CLOSED. */
 uint32_t bes_close(bes_pass *pass);
 
 /* Pins the current version, and puts out its number: how many writes it contains. Takes constant time.
@@ -194,6 +200,11 @@ uint32_t bes_query(bes_pass *pass, const uint8_t *text, size_t text_length, uint
  * BES_HAS_NUL: an item is misspelt. BES_BAD_RPN, BES_BAD_PATTERN, BES_TOO_DEEP, BES_TOO_MANY: the items build no query. */
 uint32_t bes_query_items(bes_pass *pass, const bes_item *items, size_t items_count, const uint8_t *bytes, size_t bytes_count,
                          uint64_t *nodes, size_t nodes_room, uint64_t *count);
+
+/* Says what the query of this text would be answered from in the pinned version: the comparisons that are picked, joined by
+ * " || ", and a score, as in "size"<"0" score 3. Puts out in count how many bytes that text has (it has no zero byte behind it),
+ * and its first bytes, as far as bytes has room. Faults are those of bes_query. */
+uint32_t bes_explain(bes_pass *pass, const uint8_t *text, size_t text_length, uint8_t *bytes, size_t bytes_room, uint64_t *count);
 
 /* Reads a node's attribute in the pinned version: its type code, number and length, and its first bytes, as far as bytes
  * has room (255 are enough for every value). Takes one descent of a tree.

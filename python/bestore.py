@@ -85,17 +85,20 @@ def _load():
     words, text = ctypes.POINTER(ctypes.c_uint64), ctypes.c_char_p
     library.bes_open.argtypes = [word, word, word, handle]
     library.bes_another.argtypes = [handle, handle]
+    library.bes_move.argtypes = [handle, handle]
     library.bes_close.argtypes = [handle]
     library.bes_pin.argtypes = [handle, words]
     library.bes_unpin.argtypes = [handle]
     library.bes_apply.argtypes = [handle, ctypes.POINTER(_Operation), size, text, size, words, size, words]
     library.bes_query.argtypes = [handle, text, size, words, size, words]
+    library.bes_explain.argtypes = [handle, text, size, text, size, words]
     library.bes_get.argtypes = [handle, word, text, size, ctypes.POINTER(_Attribute), text, size]
     library.bes_query_items.argtypes = [handle, ctypes.POINTER(_Item), size, text, size, words, size, words]
     listed = [ctypes.POINTER(_Counts), ctypes.POINTER(_Operation), size, text, size]
     library.bes_attributes.argtypes = [handle, word] + listed
     library.bes_indices.argtypes = [handle] + listed
-    for call in ("open", "another", "close", "pin", "unpin", "apply", "query", "query_items", "get", "attributes", "indices"):
+    for call in ("open", "another", "move", "close", "pin", "unpin", "apply", "query", "query_items", "explain", "get",
+                 "attributes", "indices"):
         getattr(library, "bes_" + call).restype = ctypes.c_uint32
     return library
 
@@ -319,6 +322,16 @@ class Version:
             spelled[place] = _Item(kind, len(texts), len(text), number)
             texts += text
         return self._find(_library.bes_query_items, spelled, len(items), texts, len(texts))
+
+    def explain(self, text):
+        """What the query would be answered from: the comparisons that are picked, and a score."""
+        spelled, count, room = text.encode(), ctypes.c_uint64(), 256
+        while True:
+            said = ctypes.create_string_buffer(room)
+            _check(_library.bes_explain(ctypes.byref(self._user._handle), spelled, len(spelled), said, room, ctypes.byref(count)))
+            if count.value <= room:
+                return said.raw[:count.value].decode()
+            room = count.value
 
     def _list(self, call, *node):
         """The operations that a list is told as, each with its name and the bytes of its value."""

@@ -28,10 +28,14 @@ class Values(unittest.TestCase):
             with store.pin() as version:
                 self.assertEqual(version.attributes(node), {"name": "ann", "size": -1})
                 self.assertEqual(version.indices(), {"size": bestore.INT32})
+                self.assertEqual(version.explain("size<0"), '"size"<"0" score 3')
                 self.assertEqual(version.query_items(bestore.Name("size"), -1, bestore.Operator.EQ), [node])
                 self.assertEqual(version.query_items(bestore.Name("size"), "1", bestore.Operator.CONTAINS), [node])
                 with self.assertRaises(bestore.Error):
                     version.attributes(node + 1)
+                with self.assertRaises(bestore.Error) as fault:
+                    version.query_items(bestore.Name("size"))
+                self.assertEqual(fault.exception.number, 22)
 
     def test_wrong_values(self):
         with bestore.open(64, 1, 100) as store:
