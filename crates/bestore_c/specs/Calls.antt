@@ -28,12 +28,12 @@ use Rattle.bestore_c.specs.Places.{node_of, over}
 use Rattle.bestore_c.specs.declared.handle.Attribute.{Attribute}
 use Rattle.bestore_c.specs.declared.handle.Counts.{Counts}
 
--- A call of a handle that is closed leaves it closed and answers 64. One of a handle that is open leaves it open with a session of the same store, and what it makes of its session is this.
+-- A call of a handle that is closed leaves it closed and answers 64. One of a handle that is open leaves it open with a session of the same store, with which as many passes wait, and what it makes of its session is this.
 abbrev pub Calls : Option Sitting → Option Sitting → ℕ → (Sitting → Sitting → Type 0) → Type 0
 Calls None None code does = code ≡ 64
 Calls None (Some t) code does = ⊥
 Calls (Some s) None code does = ⊥
-Calls (Some s) (Some t) code does = (t.store ≡ s.store) × does s t
+Calls (Some s) (Some t) code does = (t.store ≡ s.store) × (t.spare ≡ s.spare) × does s t
 
 -- 64 of a handle that is closed, and 0 of one that is open
 abbrev pub Answers : Option Sitting → ℕ → Type 0
@@ -54,6 +54,13 @@ Gives s t (Some o) None code = ⊥
 Gives s t None (Some p) code =
     (code ≡ 0) × (p.store ≡ s.store) × (p.spare ≡ 0) × (p.knows ≡ newcomer s.store.limits (t.spare + 1) t.spare) × (t.knows ≡ s.knows) × (s.spare ≡ t.spare + 1)
 Gives s t None None code = (t ≡ s) × ((code ≡ 10) ⊎ ((code ≡ 68) × (s.spare ≡ 0)))
+
+-- A second handle, of one that may be closed: then both are as they were, and the answer is 64.
+abbrev pub GivesAnother : Option Sitting → Option Sitting → Option Sitting → Option Sitting → ℕ → Type 0
+GivesAnother None None o p code = (code ≡ 64) × (p ≡ o)
+GivesAnother None (Some t) o p code = ⊥
+GivesAnother (Some s) None o p code = ⊥
+GivesAnother (Some s) (Some t) o p code = (t.store ≡ s.store) × Gives s t o p code
 
 -- A handle is moved: what it holds goes to one that is closed, and it is closed then; 65 where the other is open, and 64 where it holds nothing.
 abbrev pub Moves : Option Sitting → Option Sitting → Option Sitting → Option Sitting → ℕ → Type 0

@@ -11,7 +11,7 @@ ghost use Rattle.be_store.specs.Passes.{HasRead, volume_pinned};
 ghost use Rattle.be_table.specs.Seats.{pinned_number};
 ghost use Rattle.be_table.specs.Steps.{unpins};
 ghost use Rattle.be_volume.specs.Reading.{attributes_at, index_kinds};
-ghost use Rattle.bestore_c.specs.Calls.{Answers, Calls, Explains, Finds, FindsBuilt, Gives, Listed, Moves, Opens, Reads, Writes};
+ghost use Rattle.bestore_c.specs.Calls.{Answers, Calls, Explains, Finds, FindsBuilt, GivesAnother, Listed, Moves, Opens, Reads, Writes};
 
 mod asking;
 mod handle;
@@ -85,8 +85,7 @@ pub extern "C" fn bes_open(
 /// Opens a second handle, for another pass of the same store.
 #[unsafe(no_mangle)]
 pub extern "C" fn bes_another(alloc: Global, pass: &mut Handle, other: &mut Handle) -> u32
-    ensures pass { Calls pass.old.owned.value pass.new.owned.value result (λ s t. Gives s t other.old.owned.value other.new.owned.value result) }
-    ensures kept { (result ≡ 0) ⊎ (other.new.owned.value ≡ other.old.owned.value) }
+    ensures { GivesAnother pass.old.owned.value pass.new.owned.value other.old.owned.value other.new.owned.value result }
 {
     if !pass.live {
         return CLOSED;

@@ -1,7 +1,10 @@
 //! The exports, called from Rattle. The tests in C show what only C can.
-use crate::handle::{Attribute, Handle};
+use crate::handle::{Attribute, Counts, Handle};
 use crate::owned::Owned;
-use crate::{bes_another, bes_apply, bes_close, bes_get, bes_open, bes_pin, bes_query, bes_unpin};
+use crate::{
+    bes_another, bes_apply, bes_close, bes_explain, bes_get, bes_indices, bes_move, bes_open, bes_pin,
+    bes_query, bes_unpin,
+};
 use be_session::Operation;
 use std::alloc::Global;
 use std::test::Fail;
@@ -82,5 +85,38 @@ fn reads_and_closes(rt: HostRuntime) -> Result<(), Fail> {
     assert_eq!(rt; bes_unpin(alloc, &mut mine), 0);
     assert_eq!(rt; bes_close(alloc, &mut mine), 0);
     assert_eq!(rt; bes_close(alloc, &mut mine), 64);
+    Ok(())
+}
+
+#[test]
+fn moves_and_lists(rt: HostRuntime) -> Result<(), Fail> {
+    let alloc = rt.alloc();
+    let mut mine = closed(alloc);
+    let mut theirs = closed(alloc);
+    let (mut number, mut made, mut bytes) = (0, [0; 1], [9; 3]);
+    let mut listed = [spelled(0, 0)];
+    let mut counts = Counts {
+        operations: 0,
+        bytes: 0,
+    };
+    assert_eq!(rt; bes_open(alloc, 64, 1, 10, &mut mine), 0);
+    assert_eq!(rt; bes_move(alloc, &mut mine, &mut theirs), 0);
+    assert_eq!(rt; bes_pin(alloc, &mut mine, &mut number), 64);
+    let list = [spelled(4, 0)];
+    assert_eq!(rt;
+        bes_apply(alloc, &mut theirs, &list, b"kv", &mut made, &mut number),
+        0
+    );
+    assert_eq!(rt; bes_pin(alloc, &mut theirs, &mut number), 0);
+    assert_eq!(rt;
+        bes_indices(alloc, &mut theirs, &mut counts, &mut listed, &mut bytes),
+        0
+    );
+    assert_eq!(rt;
+        (counts.operations, counts.bytes, listed[0].kind, bytes),
+        (1, 1, 4, [107, 9, 9])
+    );
+    let answer = bes_explain(alloc, &mut theirs, b"k==\"v\"", &mut bytes, &mut number);
+    assert_eq!(rt; (answer, number, bytes), (0, 16, [34, 107, 34]));
     Ok(())
 }
