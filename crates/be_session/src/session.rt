@@ -63,10 +63,10 @@ fn seated(
     ensures ok { IfOk result (λ s. IsOpened limits s) }
     ensures err { IfErr result (λ e. (why : AnyRefusal) × (e ≡ Refused why) × IsUnopened limits why) }
 {
-    let Ok(store) = Arc::new(alloc, store) else {
-        return Err(Fault::Refused(Refusal::OutOfMemory));
-    };
-    Ok(Session { store, pass, spare })
+    match Arc::new(alloc, store) {
+        Ok(store) => Ok(Session { store, pass, spare }),
+        Err(_) => Err(Fault::Refused(Refusal::OutOfMemory)),
+    }
 }
 
 /// Takes a session apart for its pass. Its share of the store is given up, with the passes that wait.

@@ -2,8 +2,7 @@
 ghost use Rattle.std.specs.Prelude.{◌≡◌, map};
 ghost use Rattle.bestore_c.specs.Places.{over, node_of};
 
-use arrayvec::ArrayVec;
-use be_volume::Done;
+use be_store::{ArrayVec, Done};
 
 /// Puts numbers into the first places, as many as there are places.
 pub(crate) fn put<T: Copy>(places: &mut [T], numbers: &[T])
