@@ -3,7 +3,7 @@ use Rattle.be_session.specs.Fault.{fault_code}
 use Rattle.be_session.specs.Operations.{AreSpelled}
 use Rattle.be_session.specs.declared.faults.Fault.TheVariants.{Refused}
 use Rattle.be_value.specs.declared.refusals.Refusal.TheVariants.{OutOfMemory}
-use Rattle.bestore_c.proofs.Listing.{at_err, at_ok, put_out}
+use Rattle.bestore_c.proofs.Lists.{at_err, at_ok, put_out}
 use Rattle.bestore_c.proofs.listing.put_spelled.Goals as goal
 
 pub returns-in-Ok-clause-listed : goal.returns-in-Ok-clause-listed

@@ -1,6 +1,6 @@
 use Rattle.std.proofs.Common.{map}
 use Rattle.be_session.specs.Operations.{sets}
-use Rattle.bestore_c.proofs.Listing.{listed_ok, listed_err}
+use Rattle.bestore_c.proofs.Lists.{listed_ok, listed_err}
 use Rattle.bestore_c.proofs.listing.tell_attributes.Goals as goal
 
 pub returns-in-Ok-clause-listed : goal.returns-in-Ok-clause-listed
