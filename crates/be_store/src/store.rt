@@ -1,7 +1,7 @@
 //! The store, and the calls of its passes.
 ghost use Rattle.std.specs.Prelude.{◌≡◌, ◌≤◌, ◌<◌, ℕ, None, Some, Ok, MatchResult, IfOk, IfErr, length, map};
 ghost use Rattle.be_store.specs.Passes.{IsPassOf, IsPinnedTo, HasRead, volume_pinned};
-ghost use Rattle.be_store.specs.History.{Accepts, Learns, IsReason, Pins};
+ghost use Rattle.be_store.specs.History.{Accepts, Learns, IsReason, IsLastReason, Pins};
 
 use crate::answers::Answer;
 use crate::asking::ask;
@@ -16,6 +16,7 @@ use be_value::{Kind, Name, Refusal, Value};
 use be_volume::{Done, Op};
 use std::alloc::Global;
 use std::marker::Model;
+use std::thread;
 
 /// A shared store. A pass is used with the store that made it.
 #[derive(Drop)]
@@ -46,8 +47,8 @@ impl Store {
 
     /// A store with an empty journal, and its passes in the order of their numbers, which have seen nothing.
     ///
-    /// BadLimits exactly where a limit is out of its range, and OutOfMemory where a growth was refused. The memory of all pages,
-    /// 4 KiB each, is taken here.
+    /// BadLimits exactly where a limit is out of its range, and OutOfMemory where a growth was refused. The memory of
+    /// all pages, 4 KiB each, is taken here.
     pub fn open(alloc: Global, limits: Limits) -> Result<(Store, Vec<Pass>), Refusal>
         ensures { MatchResult result
             (λ r. (r.0.limits ≡ limits) × (length r.1.items ≡ limits.passes) × AreNew r.0 0 r.1.items × IsWithin limits)
@@ -60,10 +61,10 @@ impl Store {
     /// Writes 1 to 64 operations, all or none. Answers the journal's length with this write, and an answer for each
     /// operation. A pin stays.
     ///
-    /// Busy where the call's one try finds another pass holding the lock: it may be made again. Else a refusal of 2 to 8 as the volume gives
-    /// it; else CommitsSpent where the journal is at its limit, OutOfMemory where its entry found no memory, and Full
-    /// where no page is free. What a refused write did is undone. It costs new pages on the way to each change, and
-    /// where none is free, or many wait for it, a look at each announcement and at the pages that this frees.
+    /// Busy where the call's one try finds another pass holding the lock: it may be made again. Else a refusal of 2 to 8
+    /// as the volume gives it; else CommitsSpent where the journal is at its limit, OutOfMemory where its entry found no
+    /// memory, and Full where no page is free. What a refused write did is undone. It costs new pages on the way to each
+    /// change, and where none is free, or many wait for it, a look at each announcement and at the pages that this frees.
     pub fn apply(&self, pass: &mut Pass, ops: &[Op]) -> Result<(u64, ArrayVec<Done, 64>), Refusal>
         requires pass { IsPassOf self.now pass.old }
         requires count { (1 ≤ length ops.now) × (length ops.now ≤ 64) }
@@ -82,6 +83,30 @@ impl Store {
         *pass = writing.unlock();
         pass.is_pass();
         answer
+    }
+
+    /// Writes as `apply` does, and tries again while another pass holds the lock, so many times at most in all. Before
+    /// each further try another thread may run. Busy then names the pass that the last try found.
+    pub fn apply_or_retry(
+        &self,
+        pass: &mut Pass,
+        ops: &[Op],
+        tries: u64,
+    ) -> Result<(u64, ArrayVec<Done, 64>), Refusal>
+        requires pass { IsPassOf self.now pass.old }
+        requires count { (1 ≤ length ops.now) × (length ops.now ≤ 64) }
+        requires tries { 1 ≤ tries }
+        ensures pass { IsPassOf self.now pass.new }
+        ensures accepted { IfOk result (λ r. Accepts pass.old.knows pass.new.knows ops.now r.0 r.1.items) }
+        ensures refused { IfErr result (λ e. Learns pass.old.knows pass.new.knows × IsLastReason tries pass.old.knows pass.new.knows ops.now e) }
+    {
+        for _made in 1..tries {
+            match self.apply(pass, ops) {
+                Err(Refusal::Busy(_)) => thread::yield_now(),
+                answer => return answer,
+            }
+        }
+        self.apply(pass, ops)
     }
 
     /// Pins the version that is current: what the pass then reads is the volume after the journal up to there, until it
