@@ -8,4 +8,4 @@
 mod tests;
 
 pub use be_command_line::{Task, task};
-pub use be_serving::{Gate, Limits, OpenGate, RunFault, laws, race, run};
+pub use be_serving::{Gate, Limits, OpenGate, RunFault, laws, race, read_files, run};

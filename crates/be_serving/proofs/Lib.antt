@@ -1,8 +1,11 @@
 pub mod CoverLemmas
+pub mod EndLemmas
+pub mod FileLemmas
 pub mod JoinLemmas
 pub mod OwnLemmas
 pub mod PartLemmas
 pub mod PassLemmas
 pub mod RaceLemmas
+pub mod ReadLemmas
 pub mod ReplyLemmas
 pub mod RunLemmas

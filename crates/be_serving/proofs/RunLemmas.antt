@@ -208,7 +208,7 @@ left_by TooLong store old new known h = (keeps known, too_long old new h.0 h.1 h
 left_by Write store old new known h = absurd h
 left_by Memory store old new known h = none_answered_if store old known
 
-all_read : (input left : Option (List ℕ)) (bytes : List ℕ) (P : List ℕ → Type 0) → ReadsAll input left bytes → P bytes → IfSome input P
+pub all_read : (input left : Option (List ℕ)) (bytes : List ℕ) (P : List ℕ → Type 0) → ReadsAll input left bytes → P bytes → IfSome input P
 all_read None left bytes P h p = tt
 all_read (Some xs) None bytes P h p = absurd h.0
 all_read (Some xs) (Some ys) bytes P h p = subst P (sym (h.0 ∙ ap (λ z. bytes ++ z) h.1 ∙ append_nothing bytes)) p

@@ -1,5 +1,5 @@
 -- What a run reads, writes and leaves.
-use Rattle.std.specs.Prelude.{◌==◌, ◌≡◌, ℕ, ◌<◌, ◌^◌, Bool, List, ◌++◌, length, IfSome}
+use Rattle.std.specs.Prelude.{◌==◌, ◌≡◌, ℕ, ◌<◌, ◌≤◌, ◌^◌, Bool, List, ◌++◌, length, IfSome}
 use Rattle.std.specs.Io.KnownBytes.{Appends, Keeps, Consumes, IsAtEnd}
 use Rattle.std.specs.declared.option.Option.{Option}
 use Rattle.be_serving.specs.Output.{Session, opening, Answered, Outputs, IsFrontOfOutput}
@@ -29,13 +29,25 @@ is_line_end c = c == 10
 abbrev pub ReadsAll : Option (List ℕ) → Option (List ℕ) → List ℕ → Type 0
 ReadsAll old new bytes = Consumes old new bytes × IsAtEnd new
 
--- a fault before the script was read whole, or too many bytes
+-- at most as many bytes were read as a script may have; and more than these
+abbrev pub ReadsFew : Option (List ℕ) → Option (List ℕ) → Type 0
+ReadsFew old new = (bytes : List ℕ) × Consumes old new bytes × (length bytes ≤ 2 ^ 20)
+
+abbrev pub ReadsMany : Option (List ℕ) → Option (List ℕ) → Type 0
+ReadsMany old new = (bytes : List ℕ) × Consumes old new bytes × (2 ^ 20 < length bytes)
+
+-- What was read where a script was not: too many bytes exactly where it is too long.
 abbrev pub ReadFault : RunFault → Option (List ℕ) → Option (List ℕ) → Type 0
 ReadFault Limits old new = ⊥
-ReadFault Read old new = Unit {0}
-ReadFault TooLong old new = (bytes : List ℕ) × Consumes old new bytes × (2 ^ 20 < length bytes)
+ReadFault Read old new = ReadsFew old new
+ReadFault TooLong old new = ReadsMany old new
 ReadFault Write old new = ⊥
-ReadFault Memory old new = Unit {0}
+ReadFault Memory old new = ReadsFew old new
+
+-- What was read where a run stopped: too many bytes exactly where the script is too long.
+abbrev pub HasRead : RunFault → Option (List ℕ) → Option (List ℕ) → Type 0
+HasRead TooLong old new = ReadsMany old new
+HasRead e old new = ReadsFew old new
 
 -- What a fault leaves. Where the script was not read whole or was too long, nothing was written; else the front of an output.
 abbrev pub Leaves : RunFault → Store → Option (List ℕ) → Option (List ℕ) → Option (List ℕ) → Type 0
@@ -44,6 +56,14 @@ Leaves Read store input old new = Keeps old new
 Leaves TooLong store input old new = Keeps old new × IfSome input (λ script. 2 ^ 20 < length script)
 Leaves Write store input old new = IfSome input (λ script. Wrote old new (IsFrontOfOutput store script))
 Leaves Memory store input old new = IfSome input (λ script. Wrote old new (IsFrontOfOutput store script))
+
+-- a fault of the reading
+abbrev pub IsEarly : RunFault → Type 0
+IsEarly Limits = ⊥
+IsEarly Read = Unit {0}
+IsEarly TooLong = Unit {0}
+IsEarly Write = ⊥
+IsEarly Memory = Unit {0}
 
 -- a fault after the script was read
 abbrev pub IsLate : RunFault → Type 0

@@ -3,8 +3,9 @@
 //! A gate tells a test where each script is, and lets it hold a script back, so that the test can see that the scripts run
 //! at once. A race for its own sake takes the open gate.
 
-/// Is told of each line of a race, on the thread that runs the line, and may keep it waiting. Lines count from 1 over all
-/// lines of a script, blank ones and comments too.
+/// Is told of each line of a race, once before it and once after it, on the thread that runs the line, and may keep it
+/// waiting. Lines count from 1 over all lines of a script, blank ones and comments too; what follows the last LF is one
+/// only where it isn't empty.
 pub trait Gate {
     /// The pass is about to run this line.
     fn before(&self, pass: u64, line: u64);

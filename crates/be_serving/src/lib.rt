@@ -4,12 +4,14 @@
 //! writes the replies. What a script may be answered is one definition (`Output` in specs/), and `run` is proved to write
 //! nothing else. [`race`] runs several scripts at once, each on a thread of its own and from a pass of its own of one
 //! store, and writes their replies and the store's journal, which is proved to be legal and to have nothing that the
-//! scripts don't ask for. From the bottom up: what serves a line, the reply to it, the run, and the race.
+//! scripts don't ask for. [`read_files`] reads the scripts of a race. From the bottom up: what serves a line, the reply to it,
+//! the run, the race, and the files.
 #![tactic(auto)]
 
 mod answers;
 mod client;
 mod faults;
+mod files;
 mod gates;
 pub mod laws;
 mod limits;
@@ -19,6 +21,7 @@ mod stores;
 
 pub use be_store::Limits;
 pub use faults::RunFault;
+pub use files::read_files;
 pub use gates::{Gate, OpenGate};
 pub use limits::are_within;
 pub use races::race;

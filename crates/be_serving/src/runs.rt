@@ -37,6 +37,7 @@ const MAX_READS: u64 = (1 << 20) + 2;
 pub(crate) fn put<W: Write>(writer: &mut W, bytes: &[u8]) -> Result<(), RunFault>
     ensures ok { OnOk result (Appends (W.contents writer.old) (W.contents writer.new) bytes.now) }
     ensures err { OnErr result (spec.Wrote (W.contents writer.old) (W.contents writer.new) (spec.IsFrontOf bytes.now)) }
+    ensures fault { IfErr result (λ e. e ≡ RunFault.Write) }
     ensures late { IfErr result spec.IsLate }
 {
     let mut rest = bytes;
@@ -95,6 +96,7 @@ fn split_line(script: &[u8]) -> Option<(&[u8], &[u8])>
 }
 
 /// Runs the lines of a script in turn, each between two calls of the gate, which are told the pass's number and the line's.
+/// What follows the last LF is a line only where it isn't empty.
 fn run_lines<S: Server, G: Gate, W: Write>(
     alloc: Global,
     server: &mut S,
@@ -119,6 +121,9 @@ fn run_lines<S: Server, G: Gate, W: Write>(
         ran?;
         rest = behind;
         number += 1;
+    }
+    if rest.is_empty() {
+        return Ok(());
     }
     gate.before(pass, number);
     let ran = run_line(alloc, server, &mut client, rest, writer);
@@ -158,10 +163,11 @@ pub fn serve_pass<G: Gate>(
 }
 
 /// Reads a whole script.
-fn read_script<R: Read>(alloc: Global, reader: &mut R) -> Result<Vec<u8>, RunFault>
+pub(crate) fn read_script<R: Read>(alloc: Global, reader: &mut R) -> Result<Vec<u8>, RunFault>
     ensures ok { IfOk result (λ script. spec.ReadsAll (R.remaining reader.old) (R.remaining reader.new) script.items) }
     ensures fits { IfOk result (λ script. vec_len script ≤ 2 ^ 20) }
     ensures err { IfErr result (λ e. spec.ReadFault e (R.remaining reader.old) (R.remaining reader.new)) }
+    ensures early { IfErr result spec.IsEarly }
 {
     let mut script = Vec::new(alloc);
     let mut buffer = [0u8; 4096];
@@ -193,6 +199,8 @@ pub fn serve<S: Server, R: Read, W: Write>(
     ensures output { OnOk result (IfSome (R.remaining reader.old) (λ script.
         spec.Wrote (W.contents writer.old) (W.contents writer.new) (outputs.IsOutputFrom (S.shows server.old) script))) }
     ensures fault { IfErr result (λ e. spec.Leaves e (S.shows server.old) (R.remaining reader.old) (W.contents writer.old) (W.contents writer.new)) }
+    ensures fits { OnOk result (IfSome (R.remaining reader.old) (λ script. length script ≤ 2 ^ 20)) }
+    ensures taken { IfErr result (λ e. spec.HasRead e (R.remaining reader.old) (R.remaining reader.new)) }
     ensures other { IfErr result spec.IsOther }
 {
     match read_script(alloc, reader) {
@@ -205,7 +213,8 @@ pub fn serve<S: Server, R: Read, W: Write>(
 ///
 /// The limits are looked at first, and then the store is opened. The script is read whole, in at most 1,048,578 reads,
 /// before its first line is run; any error of a read is `Read`. Each line is run before its reply is written; any error of
-/// a write, and a write of no bytes, is `Write`. Where the reader's bytes and the writer's are known, as those of a slice
+/// a write, and a write of no bytes, is `Write`. `TooLong` comes where more than 1,048,576 bytes were read, and no other
+/// fault comes then. Where the reader's bytes and the writer's are known, as those of a slice
 /// and a vector are, what is written is an output of the script; after `Write` and `Memory` it is the front of one, and
 /// after any other fault nothing was written.
 pub fn run<R: Read, W: Write>(
@@ -218,7 +227,9 @@ pub fn run<R: Read, W: Write>(
     ensures unread { result ≡ Err RunFault.Limits → reader.new ≡ reader.old }
     ensures output { OnOk result (IfSome (R.remaining reader.old) (λ script.
         spec.Wrote (W.contents writer.old) (W.contents writer.new) (outputs.IsOutput limits.commits script))) }
+    ensures fits { OnOk result (IfSome (R.remaining reader.old) (λ script. length script ≤ 2 ^ 20)) }
     ensures fault { IfErr result (λ e. spec.Leaves e (start limits.commits) (R.remaining reader.old) (W.contents writer.old) (W.contents writer.new)) }
+    ensures taken { IfErr result (λ e. spec.HasRead e (R.remaining reader.old) (R.remaining reader.new)) }
 {
     if !are_within(&limits) {
         return Err(RunFault::Limits);

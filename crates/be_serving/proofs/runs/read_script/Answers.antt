@@ -1,6 +1,26 @@
 use Rattle.std.proofs.Common.{◌≡◌, ◌++◌, length, take, length-append, length-take-le, arith}
+use Rattle.be_serving.proofs.ReadLemmas.{read_none}
 use Rattle.be_serving.proofs.RunLemmas.{read_both}
 use Rattle.be_serving.proofs.runs.read_script.Goals as goal
+
+pub returns-in-Err-clause-err : goal.returns-in-Err-clause-err
+returns-in-Err-clause-err g c =
+    let items = c.loop-reads.script.items in (
+      items,
+      read_none (g.R.Read.remaining c.args.reader.now) (g.R.Read.remaining c.loop-reads.reader) (g.R.Read.remaining c.read.new.self) items c.loop-reads.invariant.taken c.in-Err.ensures.bytes,
+      omega (arith, c.loop-reads.invariant.fits, c.loop-reads.script.ok.0),
+    )
+
+pub returns-then-is_err-clause-err : goal.returns-then-is_err-clause-err
+returns-then-is_err-clause-err g c =
+    let items = c.loop-reads.script.items in
+    let more = take c.in-Ok.n c.read.new.buf in
+    let exact : length more ≡ c.in-Ok.n = length-take-le c.in-Ok.n c.read.new.buf (omega (arith, c.in-Ok.ensures.bound)) in (
+      items ++ more,
+      read_both (g.R.Read.remaining c.args.reader.now) (g.R.Read.remaining c.loop-reads.reader) (g.R.Read.remaining c.read.new.self) items more
+          c.loop-reads.invariant.taken c.in-Ok.ensures.bytes.0,
+      omega (arith, length-append items more, exact, c.loop-reads.script.ok.0),
+    )
 
 pub returns-then-len-n-gt-MAX_SCRIPT-clause-err : goal.returns-then-len-n-gt-MAX_SCRIPT-clause-err
 returns-then-len-n-gt-MAX_SCRIPT-clause-err g c =

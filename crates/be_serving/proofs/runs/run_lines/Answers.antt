@@ -1,6 +1,8 @@
-use Rattle.std.proofs.Common.{[], refl, ◌∙◌, arith}
+use Rattle.std.proofs.Common.{◌≡◌, [], length, refl, ◌∙◌, arith}
+use Rattle.std.proofs.lemmas.Bool.Decides.{nat_tests}
 use Rattle.be_language.specs.Request.{lines_of}
 use Rattle.be_serving.specs.View.{session}
+use Rattle.be_serving.proofs.EndLemmas.{finish_empty}
 use Rattle.be_serving.proofs.RunLemmas.{advance, finish, nothing_yet, stop, on_ok, on_err, always_err}
 use Rattle.be_serving.proofs.runs.run_lines.Goals as goal
 
@@ -30,6 +32,12 @@ loop-line-preserved g c = record {
       (g.W.Write.contents c.args.writer.now) (g.W.Write.contents c.loop-line.writer) (g.W.Write.contents c.run_line-ran.new.writer)
       c.in-Some.ensures.first c.loop-line.invariant.so_far c.in_ok-ran.ensures.ok;
 }
+
+pub returns-then-is_empty-clause-ok : goal.returns-then-is_empty-clause-ok
+returns-then-is_empty-clause-ok g c =
+    let none : length c.loop-line.rest.now ≡ 0 = grind (arith, nat_tests, c.if-is_empty.ensures) in
+    finish_empty (g.S.Server.shows c.args.server.now) c.args.script.now c.loop-line.rest.now (session (g.S.Server.shows c.loop-line.server) c.loop-line.client)
+    (g.W.Write.contents c.args.writer.now) (g.W.Write.contents c.loop-line.writer) none c.loop-line.invariant.so_far
 
 pub returns-clause-ok : goal.returns-clause-ok
 returns-clause-ok g c = on_ok c.run_line-ran-2.result (λ w.

@@ -1,6 +1,7 @@
-use Rattle.std.proofs.Common.{List, ℕ, subst}
+use Rattle.std.proofs.Common.{List, ℕ, subst, arith}
 use Rattle.be_serving.specs.Output.{IsOutputTo}
 use Rattle.be_serving.specs.Run.{Wrote}
+use Rattle.be_serving.proofs.ReadLemmas.{read_by, read_late, whole_fits}
 use Rattle.be_serving.proofs.RunLemmas.{left_by, on_ok, whole_output}
 use Rattle.be_serving.proofs.runs.serve.Goals as goal
 
@@ -13,6 +14,19 @@ returns-in-Ok-clause-output g c =
     on_ok c.run_lines.result (λ w.
     whole_output store after (g.R.Read.remaining c.args.reader.now) (g.R.Read.remaining c.read_script.new.reader) old new c.in-Ok.script.items c.in-Ok.ensures.ok
     (subst (λ (script : List ℕ). Wrote old new (IsOutputTo store script after)) c.deref.ensures.value w)) c.run_lines.ensures.ok
+
+pub returns-in-Ok-clause-fits : goal.returns-in-Ok-clause-fits
+returns-in-Ok-clause-fits g c =
+    whole_fits c.run_lines.result (g.R.Read.remaining c.args.reader.now) (g.R.Read.remaining c.read_script.new.reader) c.in-Ok.script.items c.in-Ok.ensures.ok
+    (omega (arith, c.in-Ok.ensures.fits, c.in-Ok.script.ok.0))
+
+pub returns-in-Ok-clause-taken : goal.returns-in-Ok-clause-taken
+returns-in-Ok-clause-taken g c =
+    read_late c.run_lines.result (g.R.Read.remaining c.args.reader.now) (g.R.Read.remaining c.read_script.new.reader) c.in-Ok.script.items c.run_lines.ensures.late c.in-Ok.ensures.ok
+    (omega (arith, c.in-Ok.ensures.fits, c.in-Ok.script.ok.0))
+
+pub returns-in-Err-clause-taken : goal.returns-in-Err-clause-taken
+returns-in-Err-clause-taken g c = read_by c.in-Err.fault (g.R.Read.remaining c.args.reader.now) (g.R.Read.remaining c.read_script.new.reader) c.in-Err.ensures.err
 
 pub returns-in-Err-clause-fault : goal.returns-in-Err-clause-fault
 returns-in-Err-clause-fault g c = left_by c.in-Err.fault (g.S.Server.shows c.args.server.now) (g.R.Read.remaining c.args.reader.now) (g.R.Read.remaining c.read_script.new.reader) (g.W.Write.contents c.args.writer.now) c.in-Err.ensures.err

@@ -1,0 +1,16 @@
+-- One more script that is not too long.
+use Rattle.std.proofs.Common.{◌≡◌, Bool, true, false, ◌||◌, List, [], ◌∷◌, ◌++◌, refl}
+use Rattle.std.specs.List.{list_any}
+
+-- what is so of no element, and not of one more, is so of none
+pub none_pushed : {X : Type 0} (P : X → Bool) (xs : List X) (x : X) → list_any P xs ≡ false → P x ≡ false → list_any P (xs ++ x ∷ []) ≡ false
+none_pushed P [] x h g = by (P x) g
+  where
+    by : (a : Bool) → a ≡ false → a || false ≡ false
+    by true h = h
+    by false h = refl
+none_pushed P (y ∷ ys) x h g = by (P y) (list_any P ys) (list_any P (ys ++ x ∷ [])) h (λ r. none_pushed P ys x r g)
+  where
+    by : (a b c : Bool) → a || b ≡ false → (b ≡ false → c ≡ false) → a || c ≡ false
+    by true b c h k = h
+    by false b c h k = k h
