@@ -3,6 +3,7 @@ use crate::{Task, task};
 use clap::Error;
 use clap::error::ErrorKind;
 use std::alloc::Global;
+use std::process::Abort;
 use std::test::Fail;
 
 fn wants_memory(task: &Result<Task, Error>) -> bool {
@@ -83,6 +84,61 @@ fn races(rt: HostRuntime) -> Result<(), Fail> {
     assert_eq!(rt; found.files.len(), 3);
     assert_eq!(rt; found.files[2].as_str(), "c");
     Ok(())
+}
+
+/// Fails unless the words ask for this: whether to race, the pages, passes and commits, and the files in their order.
+fn check_task(
+    rt: &impl Abort,
+    alloc: Global,
+    words: &'static [&'static str],
+    race: bool,
+    limits: (u64, u64, u64),
+    files: &[&str],
+) -> Result<(), Fail> {
+    let Ok(found) = task_of(alloc, words) else {
+        return Err(Fail::new("no task"));
+    };
+    assert_eq!(rt; found.race, race);
+    assert_eq!(rt; numbers(&found), limits);
+    assert_eq!(rt; found.files.len(), files.len());
+    for (file, name) in found.files.iter().zip(files) {
+        assert_eq!(rt; file.as_str(), *name);
+    }
+    Ok(())
+}
+
+/// Options in either order, before the files and behind them, and names of commands as names of files: each stands for
+/// itself.
+#[test]
+fn words_exchanged(rt: HostRuntime) -> Result<(), Fail> {
+    let alloc = rt.alloc();
+    let words = &["bestore", "run", "--commits", "9", "--pages", "64", "f"];
+    check_task(&rt, alloc, words, false, (64, 1, 9), &["f"])?;
+    let words = &["bestore", "run", "f", "--pages", "9", "--commits", "64"];
+    check_task(&rt, alloc, words, false, (9, 1, 64), &["f"])?;
+    let words = &["bestore", "run", "race"];
+    check_task(&rt, alloc, words, false, (1024, 1, 1_000_000), &["race"])?;
+    let words = &["bestore", "race", "run", "race"];
+    check_task(
+        &rt,
+        alloc,
+        words,
+        true,
+        (1024, 2, 1_000_000),
+        &["run", "race"],
+    )?;
+    let words = &[
+        "bestore",
+        "race",
+        "b",
+        "--pages",
+        "64",
+        "a",
+        "--commits",
+        "9",
+        "b",
+    ];
+    check_task(&rt, alloc, words, true, (64, 3, 9), &["b", "a", "b"])
 }
 
 /// Command lines that ask for nothing, each with the kind of its fault.

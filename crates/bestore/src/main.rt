@@ -5,24 +5,19 @@
 //! can be done, and 1, with one line on standard error, where a run or a race stopped before its end.
 #![tactic(auto)]
 
-ghost use Rattle.std.specs.Prelude.{◌≡◌, length, vec_len, IfOk};
-
-use be_script::{Limits, OpenGate, RunFault, Task, race, run, task};
+use be_script::{Limits, OpenGate, RunFault, Task, race, read_files, run, task};
 use clap::Error;
 use clap::error::ErrorKind;
-use std::alloc::{AllocGlobal, Global};
-use std::io::{Eprint, Print, Read};
+use std::alloc::AllocGlobal;
+use std::io::{Eprint, Print};
 use std::process::ExitCode;
-use std::rt::{Files, Runtime};
+use std::rt::Runtime;
 use std::sync::Wait;
 use std::thread::Threads;
 use std::{env, fs, io};
 
 /// The status where a command line says nothing that can be done.
 const MISUSED: u8 = 2;
-
-/// A byte more than a script may have, so that one that is too long is told from one that isn't.
-const READ_MOST: u64 = 1_048_577;
 
 /// Ends with status 1 and one line on standard error.
 fn fail(rt: &impl Eprint, why: &str) -> io::Result<ExitCode> {
@@ -57,37 +52,6 @@ fn run_file<R: Runtime + AllocGlobal>(rt: &R, file: &str, limits: Limits) -> io:
     }
 }
 
-/// Reads a file to its end, or as much of it as is looked at.
-fn read_script<R: Files>(rt: &R, alloc: Global, file: &str) -> io::Result<Vec<u8>> {
-    let mut script = Vec::new(alloc);
-    fs::open(rt, file)?
-        .take(READ_MOST)
-        .read_to_end(&mut script)?;
-    Ok(script)
-}
-
-/// Reads the files in order, or gives the first that can't be read, with the reason.
-fn read_scripts<'a, R: Files>(
-    rt: &R,
-    alloc: Global,
-    files: &'a [String],
-) -> Result<Vec<Vec<u8>>, (&'a str, io::Error)>
-    ensures { IfOk result (λ scripts. vec_len scripts ≡ length files.now) }
-{
-    let mut scripts = Vec::new(alloc);
-    for file in files {
-        match read_script(rt, alloc, file.as_str()) {
-            Ok(script) => {
-                if scripts.push(script).is_err() {
-                    return Err((file.as_str(), io::Error::from(io::ErrorKind::OutOfMemory)));
-                }
-            }
-            Err(error) => return Err((file.as_str(), error)),
-        }
-    }
-    Ok(scripts)
-}
-
 /// Races the scripts of these files.
 fn race_files<R: Runtime + AllocGlobal + Threads + Wait + Sync>(
     rt: &R,
@@ -98,12 +62,10 @@ fn race_files<R: Runtime + AllocGlobal + Threads + Wait + Sync>(
         eprintln!(rt; "bestore: race takes two to four scripts")?;
         return Ok(ExitCode::from(MISUSED));
     }
-    let scripts = match read_scripts(rt, rt.alloc(), files) {
+    let scripts = match read_files(rt, rt.alloc(), files) {
         Ok(scripts) => scripts,
-        Err((_, error)) if matches!(error.kind(), io::ErrorKind::OutOfMemory) => {
-            return fail(rt, "out of memory");
-        }
-        Err((file, _)) => return fail_to_read(rt, file),
+        Err((place, RunFault::Read)) => return fail_to_read(rt, files[place].as_str()),
+        Err((_, fault)) => return fail(rt, reason(fault)),
     };
     let limits = Limits {
         passes: scripts.len() as u64,

@@ -64,11 +64,11 @@ pub fn dripped(alloc: Global, bytes: &[u8], fails: bool) -> Outcome {
     }
 }
 
-/// A reader that fails at each place: nothing is written.
+/// A reader that fails at each place, the end too: nothing is written.
 #[test]
 fn failing_reader(rt: HostRuntime) -> Result<(), Fail> {
     let script = SCRIPT.as_bytes();
-    for len in 0..script.len() {
+    for len in 0..script.len() + 1 {
         let (result, written, _) = dripped(rt.alloc(), &script[..len], true);
         assert!(rt; matches!(result, Err(RunFault::Read)), "at {len}");
         assert_eq!(rt; written, 0, "at {len}");

@@ -94,15 +94,86 @@ fn race_of_two(rt: HostRuntime) -> Result<(), Fail> {
     Ok(())
 }
 
+/// What a gate was told of the lines of one pass.
+#[derive(Drop)]
+struct Calls {
+    /// The line that began last, and the one that ended last.
+    begun: AtomicU64,
+    ended: AtomicU64,
+    /// How many calls were out of their turn.
+    strays: AtomicU64,
+}
+
+impl Calls {
+    fn new() -> Calls {
+        Calls {
+            begun: AtomicU64::new(0),
+            ended: AtomicU64::new(0),
+            strays: AtomicU64::new(0),
+        }
+    }
+
+    /// A line begins. It is in its turn behind the end of the one before it.
+    fn begin(&self, line: u64) {
+        let begun = self.begun.swap(line, SeqCst);
+        if begun != self.ended.load(SeqCst) || line != begun.wrapping_add(1) {
+            self.strays.fetch_add(1, SeqCst);
+        }
+    }
+
+    /// A line ends. It is in its turn where it began last, and hasn't ended.
+    fn end(&self, line: u64) {
+        let ended = self.ended.swap(line, SeqCst);
+        if line != self.begun.load(SeqCst) || line != ended.wrapping_add(1) {
+            self.strays.fetch_add(1, SeqCst);
+        }
+    }
+
+    /// Whether the calls were just these: for each of so many lines from 1 on one before it, and then one after it.
+    fn are_of(&self, lines: u64) -> bool {
+        self.strays.load(SeqCst) == 0
+            && self.begun.load(SeqCst) == lines
+            && self.ended.load(SeqCst) == lines
+    }
+}
+
+/// What a gate was told of each of two passes.
+#[derive(Drop)]
+struct Record {
+    first: Calls,
+    second: Calls,
+}
+
+impl Record {
+    fn new() -> Record {
+        Record {
+            first: Calls::new(),
+            second: Calls::new(),
+        }
+    }
+
+    fn calls(&self, pass: u64) -> &Calls {
+        if pass == 0 { &self.first } else { &self.second }
+    }
+}
+
+impl Gate for Record {
+    fn before(&self, pass: u64, line: u64) {
+        self.calls(pass).begin(line);
+    }
+
+    fn after(&self, pass: u64, line: u64) {
+        self.calls(pass).end(line);
+    }
+}
+
 /// A flag for each of two passes. Before its second line a pass raises its own and waits until the other's is up.
 #[derive(Drop)]
 struct Meeting {
     flags: [AtomicU64; 2],
     /// How many waits reached their limit.
     missed: AtomicU64,
-    /// How many lines have begun and ended.
-    begun: AtomicU64,
-    ended: AtomicU64,
+    record: Record,
 }
 
 impl Meeting {
@@ -110,8 +181,7 @@ impl Meeting {
         Meeting {
             flags: [AtomicU64::new(0), AtomicU64::new(0)],
             missed: AtomicU64::new(0),
-            begun: AtomicU64::new(0),
-            ended: AtomicU64::new(0),
+            record: Record::new(),
         }
     }
 
@@ -136,14 +206,14 @@ impl Meeting {
 
 impl Gate for Meeting {
     fn before(&self, pass: u64, line: u64) {
-        self.begun.fetch_add(1, SeqCst);
+        self.record.before(pass, line);
         if line == 2 && !self.meets(pass) {
             self.missed.fetch_add(1, SeqCst);
         }
     }
 
-    fn after(&self, _pass: u64, _line: u64) {
-        self.ended.fetch_add(1, SeqCst);
+    fn after(&self, pass: u64, line: u64) {
+        self.record.after(pass, line);
     }
 }
 
@@ -154,9 +224,45 @@ fn both_threads_run(rt: HostRuntime) -> Result<(), Fail> {
     let written = outcome_of(&rt, rt.alloc(), &["new\nnew\n", "new\nnew\n"], &gate)?;
     let written = str::from_utf8(&written)?;
     assert_eq!(rt; gate.missed.load(SeqCst), 0);
-    assert_eq!(rt; gate.begun.load(SeqCst), gate.ended.load(SeqCst));
+    assert!(rt; gate.record.first.are_of(2) && gate.record.second.are_of(2));
     assert!(rt; written.contains("\njournal 4\n"));
     assert!(rt; written.ends_with("\nreplay ok\n"));
+    Ok(())
+}
+
+/// Fails unless the gate is told of so many lines of a script, and of none of an empty one beside it.
+fn check_lines(
+    rt: &(impl Threads + Wait + Abort),
+    alloc: Global,
+    script: &str,
+    lines: u64,
+) -> Result<(), Fail> {
+    for _ in 0..2 {
+        let record = Record::new();
+        if raced(rt, alloc, &[script, ""], &record)?.is_some() {
+            assert!(rt;
+                record.first.are_of(lines) && record.second.are_of(0),
+                "{script}"
+            );
+            return Ok(());
+        }
+    }
+    Err(Fail::new("out of memory"))
+}
+
+/// Blank lines, comments and bad ones count, and what follows the last LF where it isn't empty.
+#[test]
+fn lines_at_the_gate(rt: HostRuntime) -> Result<(), Fail> {
+    for (script, lines) in [
+        ("new", 1),
+        ("new\n", 1),
+        ("\n", 1),
+        ("\n\n", 2),
+        ("# a\n\nnew\r\nsett\n", 4),
+        ("new\n ", 2),
+    ] {
+        check_lines(&rt, rt.alloc(), script, lines)?;
+    }
     Ok(())
 }
 
