@@ -13,5 +13,6 @@ pub mod Prefixes
 pub mod Reaching
 pub mod Rising
 pub mod Seen
+pub mod Spines
 pub mod Standing
 pub mod Ways

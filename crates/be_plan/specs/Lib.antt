@@ -2,4 +2,5 @@ pub mod Cover
 pub mod Explain
 pub mod Narrow
 pub mod Sources
+pub mod Spine
 pub mod Walk

@@ -19,6 +19,7 @@ mod plans;
 mod ranges;
 mod running;
 mod source;
+mod spine;
 mod walks;
 
 pub use choosing::{choose, choose_from};

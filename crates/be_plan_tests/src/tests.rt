@@ -286,9 +286,12 @@ explain a==1 && b==2 => \"a\"==\"1\" score 1
 query b==2 => nodes 1 2 asks bbb
 0 a==1 && b==2 => nodes 2 asks aa
 1 a==1 && b==2 => nodes 2 asks bbb
-01 a==1 && b==2 => nodes 2 asks aabbb
-01 a==1 || b==2 => nodes 1 2 asks aabbb
-10 a==1 || b==2 => nodes 1 2 asks bbbaa
+01 a==1 && b==2 => nodes 2 asks bbbaa
+01 a==1 || b==2 => nodes 1 2 asks bbbaa
+10 a==1 || b==2 => nodes 1 2 asks aabbb
+02 a==1 || (b==2 || a==1) => not covered
+201 a==1 || (b==2 || a==1) => nodes 1 2 asks bbbaaaa
+120 a==1 || b==2 || a==1 => nodes 1 2 asks aaaabbb
 0 a==1 || b==2 => not covered
 2 a==1 || b==2 => not covered";
     replies(rt.alloc(), &volume_of(rt.alloc(), lines)?, requests)
@@ -366,9 +369,9 @@ fn bounds(rt: HostRuntime) -> Result<(), Fail> {
 0 n>=2 && (m>=3 && n<5) => nodes 2 3 4 asks nnnn
 1 n>=2 && (m>=3 && n<5) => nodes 2 3 4 asks mmmmm
 0 n>=2 && (n<5 || m==1) => nodes 2 3 4 6 asks nnnnnn
-12 n>=2 && (n<5 || m==1) => nodes 2 3 4 6 asks nnnnmm
-12 (n<5 || m==1) && n>=2 => nodes 2 3 4 6 asks mmnnnnnn
-01 (n<5 || m==1) && n>=2 => nodes 2 3 4 6 asks nnnnmm
+12 n>=2 && (n<5 || m==1) => nodes 2 3 4 6 asks mmnnnn
+12 (n<5 || m==1) && n>=2 => nodes 2 3 4 6 asks nnnnnnmm
+01 (n<5 || m==1) && n>=2 => nodes 2 3 4 6 asks mmnnnn
 01 n<2 || n>5 => nodes 1 6 asks nnnn
 01 n<4 || n<3 => nodes 1 2 3 asks nnnnnnn
 0 n>4 && n<2 => nodes asks n";

@@ -22,7 +22,7 @@ use Rattle.be_volume.specs.declared.maps.Index.{Index}
 use Rattle.be_volume.specs.declared.ops.Op.{Op}
 use Rattle.be_volume.specs.declared.ops.Op.TheVariants.{New, Drop, Set, Unset, MkIndex, RmIndex}
 use Rattle.be_volume.specs.Volume.{State, step, steps, advance}
-use Rattle.be_volume.specs.Ahead.{reached, after, next_after, node_after, attribute_after, count_after, index_after, indices_after, IsThere}
+use Rattle.be_volume.specs.Ahead.{reached, after, next_after, node_after, attribute_after, count_after, sets_after, index_after, indices_after, IsThere}
 use Rattle.be_volume.proofs.MapLemmas.{names_total, exact_names}
 use Rattle.be_volume.proofs.StepLemmas.{made, Found, accepted, Turn, turn, refused_stays, not_both}
 
@@ -318,6 +318,32 @@ few_indexed s (RmIndex name) h k = omega arith
 pub few_indices_stay : (s : State) (op : Op) → Found s op → fin.len s.indices ≤ 32 → fin.len (made s op).indices ≤ 32
 few_indices_stay s op h few = subst (λ n. n ≤ 32) (sym (made_indices s op h)) (few_indexed s op h few)
 
+-- a set adds one attribute at most, and nothing else adds any
+most_if : (b : Bool) (n m top : ℕ) → m ≤ top → n ≤ top → (if b then m else n) ≤ top
+most_if true n m top h k = h
+most_if false n m top h k = k
+
+most_set : (b has : Bool) (n old sets : ℕ) → n ≤ old + sets → (if b && not has then n + 1 else n) ≤ old + (if b then sets + 1 else sets)
+most_set true true n old sets h = omega (arith, h)
+most_set true false n old sets h = omega (arith, h)
+most_set false has n old sets h = h
+
+most_counted : (op : Op) (next n q : ℕ) (has : Bool) (old sets : ℕ) → n ≤ old + sets → count_after op next n q has ≤ old + sets_after op sets q
+most_counted New next n q has old sets h = most_if (nat_eq q next) n 0 _ (omega arith) h
+most_counted (Drop node) next n q has old sets h = most_if (nat_eq q node) n 0 _ (omega arith) h
+most_counted (Set node name value) next n q has old sets h = most_set (nat_eq q node) has n old sets h
+most_counted (Unset node name) next n q has old sets h = most_if (nat_eq q node) n (n - 1) _ (omega (arith, h)) h
+most_counted (MkIndex name kind) next n q has old sets h = h
+most_counted (RmIndex name) next n q has old sets h = h
+
+pub sets_grow : (op : Op) (sets q : ℕ) → sets_after op sets q ≤ sets + 1
+sets_grow New sets q = omega arith
+sets_grow (Drop node) sets q = omega arith
+sets_grow (Set node name value) sets q = most_if (nat_eq q node) sets (sets + 1) _ (omega arith) (omega arith)
+sets_grow (Unset node name) sets q = omega arith
+sets_grow (MkIndex name kind) sets q = omega arith
+sets_grow (RmIndex name) sets q = omega arith
+
 -- and in the state that an accepted operation reaches
 pub next_is : (s : State) (op : Op) → IsOk (step s op) → (reached s (step s op)).next ≡ next_after op s.next
 next_is s op h = ap (λ t. t.next) (accepted s op h).is ∙ made_next s op
@@ -406,6 +432,15 @@ module _ (s : State) (ops : List Op) (i : ℕ) (op : Op) (short : i < length ops
       count < 2 ^ 64 → count_after op next count q has < 2 ^ 64
   count_turn_fits q next count has e f t k = subst (λ n. n < 2 ^ 64) (sym (ap (λ n. count_after op n count q has) e ∙ ap (λ n. count_after op (after s (take i ops)).next n q has) f))
       (count_fits (after s (take i ops)) op q has t now.accepted (subst (λ n. n < 2 ^ 64) f k))
+
+  pub sets_turn : (q old sets : ℕ) → fin.len (attributes_of (after s (take i ops)).nodes q) ≤ old + sets →
+      fin.len (attributes_of (after s (take (i + 1) ops)).nodes q) ≤ old + sets_after op sets q
+  sets_turn q old sets h =
+      let before : State = after s (take i ops) in
+      let there = is_there before op in
+      let counted : fin.len (attributes_of (after s (take (i + 1) ops)).nodes q) ≡ count_after op before.next (fin.len (attributes_of before.nodes q)) q there.0 =
+      ap (λ t. fin.len (attributes_of t.nodes q)) now.is ∙ count_is before op q there.0 there.1 now.accepted in
+      subst (λ n. n ≤ old + sets_after op sets q) (sym counted) (most_counted op before.next (fin.len (attributes_of before.nodes q)) q there.0 old sets h)
 
   pub index_turn : (q : List ℕ) (there : Bool) → there ≡ fin.contains_key (after s (take i ops)).indices q → index_after op there q ≡ fin.contains_key (after s (take (i + 1) ops)).indices q
   index_turn q there f = ap (λ b. index_after op b q) f ∙ sym (ap (λ t. fin.contains_key t.indices q) now.is ∙ index_is (after s (take i ops)) op q now.accepted)

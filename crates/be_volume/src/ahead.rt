@@ -1,15 +1,16 @@
 //! The refusal of a list of operations, found ahead from the list and the facts of the old volume.
 //!
 //! Whether an operation is refused may rest on what the operations before it do. Each fact is asked of the old volume and
-//! then carried through those operations, so nothing is copied and no memory is taken. A list of n costs n steps a fact,
-//! and n times n for the count of attributes, which is asked for a new name alone.
-ghost use Rattle.std.specs.Prelude.{◌≡◌, ◌≤◌, ◌<◌, ◌+◌, ◌^◌, IsOk, length};
+//! then carried through those operations, so nothing is copied and no memory is taken. A list of n costs n steps a fact.
+//! The count of attributes would cost n looks for each of them, so it is made only for a new name, and where the old count
+//! and the sets of the node before it reach the limit together.
+ghost use Rattle.std.specs.Prelude.{◌≡◌, ◌≤◌, ◌<◌, ◌+◌, ◌^◌, IsOk, false, length, nat_le};
 ghost use Rattle.std.specs.Result.{result_err};
 ghost use Rattle.std.specs.FinMap as map;
 ghost use Rattle.be_volume.specs.Maps.{attributes_of};
 ghost use Rattle.be_volume.specs.Volume.{State, step, steps};
 ghost use Rattle.be_volume.specs.declared.ops.Op.TheVariants as ops;
-ghost use Rattle.be_volume.specs.Ahead.{after, next_after, node_after, attribute_after, count_after, index_after, indices_after, IsThere};
+ghost use Rattle.be_volume.specs.Ahead.{after, next_after, node_after, attribute_after, count_after, sets_after, index_after, indices_after, IsThere};
 
 use crate::{Facts, Op};
 use be_value::{Kind, Name, Refusal, Value};
@@ -87,12 +88,13 @@ fn set_refusal<F: Facts>(
     ensures stays { F.kept facts.new ≡ F.kept facts.old }
     ensures answers { F.answers_for facts.new volume }
 {
+    if has_attribute(facts, before, node, name) {
+        return None;
+    }
     if !has_node(facts, before, node) {
         return Some(Refusal::NoNode);
     }
-    if !has_attribute(facts, before, node, name)
-        && attribute_count(facts, before, node) >= MAX_ATTRIBUTES
-    {
+    if is_full(facts, before, node) {
         return Some(Refusal::TooManyAttrs);
     }
     None
@@ -107,12 +109,12 @@ fn unset_refusal<F: Facts>(facts: &mut F, before: &[Op], node: u64, name: &Name)
     ensures stays { F.kept facts.new ≡ F.kept facts.old }
     ensures answers { F.answers_for facts.new volume }
 {
-    if !has_node(facts, before, node) {
-        Some(Refusal::NoNode)
-    } else if !has_attribute(facts, before, node, name) {
+    if has_attribute(facts, before, node, name) {
+        None
+    } else if has_node(facts, before, node) {
         Some(Refusal::NoAttr)
     } else {
-        None
+        Some(Refusal::NoNode)
     }
 }
 
@@ -218,6 +220,56 @@ fn attribute_after(op: &Op, next: u64, there: bool, node: u64, name: &Name) -> b
         Op::Set(changed, set, _) => (node == *changed && name == set) || there,
         Op::Unset(changed, unset) => !(node == *changed && name == unset) && there,
         _ => there,
+    }
+}
+
+/// Whether the node has as many attributes after these operations as it may. They are counted only where they may be so
+/// many.
+fn is_full<F: Facts>(facts: &mut F, before: &[Op], node: u64) -> bool
+    ghost volume: { State }
+    requires answers { F.answers_for facts.old volume }
+    requires accepted { IsOk (steps volume before.now) }
+    requires fits { volume.next + length before.now < 2 ^ 64 }
+    ensures answer { result ≡ nat_le 64 (map.len (attributes_of (after volume before.now).nodes node)) }
+    ensures stays { F.kept facts.new ≡ F.kept facts.old }
+    ensures answers { F.answers_for facts.new volume }
+{
+    may_be_full(facts, before, node) && attribute_count(facts, before, node) >= MAX_ATTRIBUTES
+}
+
+/// Whether the old count and the sets of the node among these operations reach the limit together: each set adds one
+/// attribute at most.
+fn may_be_full<F: Facts>(facts: &mut F, before: &[Op], node: u64) -> bool
+    ghost volume: { State }
+    requires answers { F.answers_for facts.old volume }
+    requires accepted { IsOk (steps volume before.now) }
+    requires fits { volume.next + length before.now < 2 ^ 64 }
+    ensures few { result ≡ false → map.len (attributes_of (after volume before.now).nodes node) < 64 }
+    ensures stays { F.kept facts.new ≡ F.kept facts.old }
+    ensures answers { F.answers_for facts.new volume }
+{
+    let old = facts.attribute_count(node);
+    let mut sets = 0;
+    for op in before {
+        sets = sets_after(op, sets, node);
+    }
+    reach_limit(old, sets)
+}
+
+/// Whether the two counts together reach the most attributes that a node may have.
+fn reach_limit(old: usize, sets: usize) -> bool
+    ensures { result ≡ nat_le 64 (old + sets) }
+{
+    old >= MAX_ATTRIBUTES || sets >= MAX_ATTRIBUTES - old
+}
+
+fn sets_after(op: &Op, sets: usize, node: u64) -> usize
+    requires { sets + 1 < 2 ^ 64 }
+    ensures { result ≡ sets_after op.now sets node }
+{
+    match op {
+        Op::Set(changed, _, _) if node == *changed => sets + 1,
+        _ => sets,
     }
 }
 

@@ -56,6 +56,18 @@ fn too_many_attrs(rt: HostRuntime) -> Result<(), Fail> {
         set 1 b LONG 5 => queued
         commit => commit 67 / ok / ok
         get 1 b => LONG 5
+        begin => ok
+        unset 1 a3 => queued
+        set 1 c LONG 5 => queued
+        set 1 d LONG 5 => queued
+        commit => refused 4 TooManyAttrs
+        begin => ok
+        new => queued
+        set 2 a LONG 5 => queued
+        set 2 a2 LONG 5 => queued
+        unset 1 a3 => queued
+        set 1 c LONG 5 => queued
+        commit => commit 68 / node 2 / ok / ok / ok / ok
         set 1 a2 LONG 5 => refused 4 TooManyAttrs";
     check_numbered(
         &rt,

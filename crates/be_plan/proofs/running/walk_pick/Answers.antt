@@ -1,32 +1,43 @@
-use Rattle.std.proofs.Common.{◌<◌, sym, arith}
+use Rattle.std.proofs.Common.{◌<◌, ◌+◌, sym, ◌∙◌, arith}
 use Rattle.be_value.specs.Key.{key}
 use Rattle.be_query.specs.Grammar.{comparisons}
 use Rattle.be_query.specs.View.{formula}
-use Rattle.be_volume.specs.Query.{has_index}
 use Rattle.be_plan.specs.Narrow.{high_of}
 use Rattle.be_plan.specs.Cover.{comparison_of}
-use Rattle.be_plan.proofs.Choice.{pick_below}
 use Rattle.be_plan.proofs.Reaching.{on_ok, has_reached}
+use Rattle.be_plan.proofs.Spines.{there_in}
 use Rattle.be_plan.proofs.running.walk_pick.Goals as goal
 
 pub kind_of-requires : goal.kind_of-requires
-kind_of-requires g c = (g.volume, c.requires.1.1.0)
+kind_of-requires g c = (g.volume, c.requires.1.1.1.0)
 
 pub walk-requires : goal.walk-requires
-walk-requires g c κs within = (within, (c.kind_of.ensures.answers g.volume c.requires.1.1.0, (sym (c.in-Some-kind_of.ensures.answer g.volume c.requires.1.1.0), c.in-Ok.ensures.decides)))
+walk-requires g c κs within = (
+  within,
+  (
+    c.kind_of.ensures.answers g.volume c.requires.1.1.1.0,
+    (
+      sym (c.in-Some-kind_of.ensures.answer g.volume c.requires.1.1.1.0),
+      λ yes s v n p inside seen. c.requires.1.1.1.1.1.under.tells s n (c.in-Ok.ensures.decides yes s v n p inside seen),
+    ),
+  ),
+)
 
 pub returns-clause-has : goal.returns-clause-has
 returns-clause-has g c =
     let f = formula c.args.tree.now in
+    let part = formula c.args.part.now in
     let low = c.narrow_all.new.range.low.items in
     let high = high_of c.narrow_all.new.range in
+    let stands = c.requires.1.1.1.1.1 in
     on_ok c.walk.result (λ within. has_reached g.volume f c.args.pick (comparison_of c.in-Some.comparison.now) c.in-Some-kind_of.kind low high c.walk.new.found.items
-    (g.met.S.Source.sound c.args.source.now g.volume c.requires.1.1.0) (sym c.in-Some.ensures)
-    (sym (c.in-Some-kind_of.ensures.answer g.volume c.requires.1.1.0)) (λ v n p h. c.narrow_all.ensures.keeps v n p h (c.whole-range.ensures (key v n))) within)
+    (g.met.S.Source.sound c.args.source.now g.volume c.requires.1.1.1.0) (there_in f part c.args.pick c.args.from stands ∙ sym c.in-Some.ensures)
+    (sym (c.in-Some-kind_of.ensures.answer g.volume c.requires.1.1.1.0))
+    (λ v n p h. c.narrow_all.ensures.keeps v n p (stands.under.allows c.args.pick c.in-Some.comparison.now.name v stands.first stands.last h) (c.whole-range.ensures (key v n))) within)
     c.walk.ensures.has
 
 pub unreachable-requires-in_default-narrow_all : goal.unreachable-requires-in_default-narrow_all
 unreachable-requires-in_default-narrow_all g c =
-    let below : c.args.pick < comparisons (formula c.args.tree.now) = pick_below (has_index g.volume) (formula c.args.tree.now) c.args.pick c.requires.1.1.1 in
+    let below : c.args.pick < c.args.from + comparisons (formula c.args.part.now) = c.requires.1.1.1.1.1.last in
     let behind = c.in_default-narrow_all.ensures.behind in
     omega (arith, below, behind.0, behind.1)
