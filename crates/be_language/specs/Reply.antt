@@ -3,7 +3,7 @@ use Rattle.std.specs.Prelude.{ℕ, List, [], ◌∷◌, ◌++◌, Some, None, co
 use Rattle.std.specs.List.{flat_map}
 use Rattle.std.specs.Fmt.{decimal}
 use Rattle.std.specs.declared.option.Option.{Option}
-use Rattle.be_value.specs.Refusal.{refusal_number, refusal_name, carried}
+use Rattle.be_value.specs.Refusal.{printed}
 use Rattle.be_value.specs.Value.{kind_of, kind_name}
 use Rattle.be_value.specs.declared.refusals.Refusal.{Refusal}
 use Rattle.be_value.specs.declared.values.Kind.{Kind}
@@ -42,14 +42,6 @@ numbers ns = flat_map (λ n. 32 ∷ decimal n) ns
 -- a word, and then a space and a number for each
 abbrev pub numbers_line : List ℕ → List ℕ → List ℕ
 numbers_line word ns = (word ++ numbers ns) ++ codes "\n"
-
--- the number that a refusal carries, after a space
-abbrev pub number_after : Option ℕ → List ℕ
-number_after None = []
-number_after (Some n) = 32 ∷ decimal n
-
-abbrev pub refusal_text : Refusal → List ℕ
-refusal_text r = codes "refused " ++ (decimal (refusal_number r) ++ (codes " " ++ (refusal_name r ++ (number_after (carried r) ++ codes "\n"))))
 
 -- `KIND VALUE`
 abbrev pub kind_and_value : Value → List ℕ
@@ -96,4 +88,4 @@ text_of empty_batch = codes "empty batch\n"
 text_of already_begun = codes "already begun\n"
 text_of not_begun = codes "not begun\n"
 text_of (committed n dones) = listed (codes "commit ") n done_line dones
-text_of (refused r) = refusal_text r
+text_of (refused r) = printed r ++ codes "\n"

@@ -4,7 +4,6 @@
 //! memory never leaves half a reply behind.
 ghost use Rattle.std.specs.Prelude.{◌≡◌, ◌++◌, ◌∷◌, IfOk, OnOk, codes, decimal, flat_map};
 ghost use Rattle.std.specs.String.{string_bytes};
-ghost use Rattle.be_value.specs.Refusal.{carried};
 ghost use Rattle.be_language.specs.Reply as spec;
 
 use arrayvec::ArrayVec;
@@ -73,7 +72,7 @@ pub fn reply_text(alloc: Global, reply: &Reply) -> Result<String, AllocError>
         Reply::AlreadyBegun => String::from_str(alloc, "already begun\n"),
         Reply::NotBegun => String::from_str(alloc, "not begun\n"),
         Reply::Committed(n, dones) => commit_text(alloc, *n, dones.as_slice()),
-        Reply::Refused(refusal) => refusal_text(alloc, refusal),
+        Reply::Refused(refusal) => format!(in alloc; "{refusal}\n"),
     }
 }
 
@@ -101,25 +100,6 @@ fn after_space(alloc: Global, n: u64) -> Result<String, AllocError>
     ensures { IfOk result (λ text. string_bytes text ≡ 32 ∷ decimal n) }
 {
     format!(in alloc; " {n}")
-}
-
-/// The number that a refusal carries, after a space.
-fn number_after(alloc: Global, refusal: &Refusal) -> Result<String, AllocError>
-    ensures { IfOk result (λ text. string_bytes text ≡ spec.number_after (carried refusal.now)) }
-{
-    match refusal.carried() {
-        Some(n) => after_space(alloc, n),
-        None => Ok(String::new(alloc)),
-    }
-}
-
-fn refusal_text(alloc: Global, refusal: &Refusal) -> Result<String, AllocError>
-    ensures { IfOk result (λ text. string_bytes text ≡ spec.refusal_text refusal.now) }
-{
-    let number = refusal.number();
-    let name = refusal.name();
-    let carried = number_after(alloc, refusal)?;
-    format!(in alloc; "refused {number} {name}{carried}\n")
 }
 
 /// `KIND VALUE`.

@@ -14,6 +14,8 @@ mod random_lists;
 #[cfg(test)]
 mod same;
 #[cfg(test)]
+mod sizes;
+#[cfg(test)]
 mod test_looks;
 #[cfg(test)]
 mod tests;

@@ -144,19 +144,35 @@ const QUERIES: [&str; 8] = [
     "ab>x || ab<x",
 ];
 
-/// Asks both forms for what is random.
-fn random_reads(alloc: Global, random: &mut Random, mix: &Mix, both: Both) -> Result<Both, Fail> {
-    let mut both = both;
+/// Asks both forms for an attribute, and for all of its node.
+fn random_attributes(
+    alloc: Global,
+    random: &mut Random,
+    mix: &Mix,
+    both: &mut Both,
+) -> Result<(), Fail> {
     let node = both.plain.next().wrapping_sub(random.below(mix.nodes));
     let Some(name) = name_of(random.below(mix.names)) else {
         return Err(Fail::new("no name"));
     };
     let _value = both.get(node, &name)?;
     let _attributes = both.attrs(alloc, node)?;
-    let _indices = both.indices(alloc)?;
+    Ok(())
+}
+
+/// Asks both forms a query.
+fn random_query(alloc: Global, random: &mut Random, both: Both) -> Result<Both, Fail> {
     let query = read_query(alloc, QUERIES[random.below(8) as usize % 8])?;
     let (both, _answer) = both.query(alloc, &query, None)?;
     Ok(both)
+}
+
+/// Asks both forms for what is random.
+fn random_reads(alloc: Global, random: &mut Random, mix: &Mix, both: Both) -> Result<Both, Fail> {
+    let mut both = both;
+    random_attributes(alloc, random, mix, &mut both)?;
+    let _indices = both.indices(alloc)?;
+    random_query(alloc, random, both)
 }
 
 /// Writes a random list, and reads where that is asked for.

@@ -4,4 +4,6 @@
 #![tactic(auto)]
 
 #[cfg(test)]
+mod ranges;
+#[cfg(test)]
 mod tests;

@@ -1,8 +1,7 @@
 -- What others have made of a store.
-use Rattle.std.proofs.Common.{◌≡◌, ◌≢◌, ◌+◌, ℕ, Bool, cond, ne_eqb, List, [], ◌∷◌, ◌++◌, All, fold, refl, sym, ap, ◌∙◌, subst, append_assoc, arith}
+use Rattle.std.proofs.Common.{◌≡◌, ◌≢◌, ◌+◌, ℕ, Bool, cond, ne_eqb, List, [], ◌∷◌, ◌++◌, All, fold, refl, sym, ap, ◌∙◌, arith}
 use Rattle.std.proofs.lemmas.List.{append-nil}
-use Rattle.std.proofs.lemmas.List.Elements.{All-nil, All-append, All-head, All-tail}
-use Rattle.std.proofs.lemmas.List.Sums.{fold-append}
+use Rattle.std.proofs.lemmas.List.Elements.{All-nil, All-head, All-tail}
 use Rattle.be_journal.specs.declared.entries.Entry.{Entry}
 use Rattle.be_journal.specs.Journal.{by_pass}
 use Rattle.be_volume.specs.Ahead.{after}
@@ -21,22 +20,6 @@ joins_itself s = record { others = []; theirs = All-nil (λ (e : Entry). IsOther
 
 pub at_once : (s : Store) (P : Store → Type 0) → P s → Meanwhile s P
 at_once s P h = record { now = s; joins = joins_itself s; is = h }
-
--- some wrote, and then some more
-pub joins_on : (a b c : Store) → Joins a b → Joins b c → Joins a c
-joins_on a b c h g = record {
-  others = h.others ++ g.others;
-  theirs = All-append (λ (e : Entry). IsOther a e.by) h.others g.others h.theirs
-      (subst (λ (s : Store). All (λ (e : Entry). IsOther s e.by) g.others → All (λ (e : Entry). IsOther a e.by) g.others) (sym h.store) (λ x. x) g.theirs);
-  store = g.store ∙ (ap (λ s. joined s g.others) h.store
-      ∙ (λ i. record a {
-        journal = append_assoc a.journal h.others g.others i;
-        volume = sym (fold-append (λ v (e : Entry). after v e.ops) a.volume h.others g.others) i;
-      }));
-}
-
-pub later : (a b : Store) (P : Store → Type 0) → Joins a b → Meanwhile b P → Meanwhile a P
-later a b P h m = record { now = m.now; joins = joins_on a b m.now h m.joins; is = m.is }
 
 -- a store of one pass has no others
 pub nobody_joins : (old new : Store) → old.passes ≡ 1 → old.pass ≡ 0 → Joins old new → new ≡ old

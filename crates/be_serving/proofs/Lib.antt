@@ -2,6 +2,7 @@ pub mod CoverLemmas
 pub mod EndLemmas
 pub mod FileLemmas
 pub mod JoinLemmas
+pub mod LimitLemmas
 pub mod OwnLemmas
 pub mod PartLemmas
 pub mod PassLemmas

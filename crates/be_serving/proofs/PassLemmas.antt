@@ -27,12 +27,11 @@ use Rattle.be_volume.specs.Ahead.{after, reached}
 use Rattle.be_volume.specs.Volume.{State, empty, steps}
 use Rattle.be_volume.specs.declared.ops.Done.{Done}
 use Rattle.be_volume.specs.declared.ops.Op.{Op}
-use Rattle.be_store.specs.History.{Accepts, Learns, IsReason, Pins}
+use Rattle.be_store.specs.History.{Accepts, Learns, IsLastReason, Pins}
 use Rattle.be_store.specs.Passes.{IsPinnedTo, volume_seen}
 use Rattle.be_store.proofs.Applied.{entries_append, nothing_more}
 use Rattle.be_serving.specs.Served.{known, pin_at}
 use Rattle.be_serving.specs.Store.{Pin, Store, Joins, Meanwhile, IsBusy, IsWant, MayWrite, pinned, entered, written, written_by}
-use Rattle.be_serving.proofs.JoinLemmas.{later}
 
 -- the pin of a pass, by the entries that it has seen and its phase
 abbrev pin_of : List Entry → Phase → Option Pin
@@ -205,31 +204,29 @@ module _ (a c : Knowledge) (before : IsPass a) (behind : IsPass c) (limits : c.l
         );
       }
 
-  refused_as : (ops : List Op) (e : Refusal) → c.number ≡ a.number → IsReason a c ops e → (written (known c) ops ≡ Err e) ⊎ (IsWant e × IsOk (written (known c) ops)) ⊎ IsBusy (known c) e
-  refused_as ops e number (inl busy) = inr (inr (busy.0.0, busy.0.1, (subst (λ l. busy.0.0 < l.passes) (sym limits) busy.0.2, subst (λ k. busy.0.0 ≢ k) (sym number) busy.0.3)))
-  refused_as ops e number (inr (inl h)) = inl (ap (written_by (known c) ops) h)
-  refused_as ops e number (inr (inr (inl h))) = unroomed h.1
+  refused_as : (tries : ℕ) (ops : List Op) (e : Refusal) → c.number ≡ a.number → IsLastReason tries a c ops e →
+      (written (known c) ops ≡ Err e) ⊎ (IsWant e × IsOk (written (known c) ops)) ⊎ IsBusy (known c) e
+  refused_as tries ops e number (inl late) = inr (inr (late.0, late.2, (subst (λ l. late.0 < l.passes) (sym limits) late.3, subst (λ k. late.0 ≢ k) (sym number) late.4)))
+  refused_as tries ops e number (inr (inl h)) = inl (ap (written_by (known c) ops) h)
+  refused_as tries ops e number (inr (inr (inl h))) = unroomed h.1
     where
       unroomed : HasNoRoom e c → (written (known c) ops ≡ Err e) ⊎ (IsWant e × IsOk (written (known c) ops)) ⊎ IsBusy (known c) e
       unroomed (inl spent) = inl (refused_at_limit (known c) ops (steps (volume_seen c) ops) h.0 (seen_count c.seen ∙ spent.1) ∙ ap Err (sym spent.0))
       unroomed (inr want) = inr (inl (inl want.0, accepted_with_room (known c) ops (steps (volume_seen c) ops) h.0 (omega (arith, seen_count c.seen, want.1))))
-  refused_as ops e number (inr (inr (inr h))) =
+  refused_as tries ops e number (inr (inr (inr h))) =
       inr (inl (inr (h.2.0, h.2.1), accepted_with_room (known c) ops (steps (volume_seen c) ops) h.0 (omega (arith, seen_count c.seen, h.1))))
 
-  pub writes_meanwhile : {X : Type 0} (dones_of : X → List Done) (ops : List Op) (r : Result (ℕ × X) Refusal) → IfOk r (λ x. Accepts a c ops x.0 (dones_of x.1)) →
-      IfErr r (λ e. Learns a c × IsReason a c ops e) → Meanwhile (known a) (λ s. MayWrite dones_of s ops r (known c))
-  writes_meanwhile dones_of ops (Ok x) ok err = accepts_meanwhile dones_of ops x.0 x.1 ok
-  writes_meanwhile dones_of ops (Err e) ok err = record { now = known c; joins = learns_joins err.0; is = (refl, refused_as ops e err.0.pass err.1) }
+  pub writes_meanwhile : {X : Type 0} (tries : ℕ) (dones_of : X → List Done) (ops : List Op) (r : Result (ℕ × X) Refusal) → IfOk r (λ x. Accepts a c ops x.0 (dones_of x.1)) →
+      IfErr r (λ e. Learns a c × IsLastReason tries a c ops e) → Meanwhile (known a) (λ s. MayWrite dones_of s ops r (known c))
+  writes_meanwhile tries dones_of ops (Ok x) ok err = accepts_meanwhile dones_of ops x.0 x.1 ok
+  writes_meanwhile tries dones_of ops (Err e) ok err = record { now = known c; joins = learns_joins err.0; is = (refl, refused_as tries ops e err.0.pass err.1) }
 
--- a write that was refused, and then a write again
-pub writes_again : {X : Type 0} (a b c : Store) (dones_of : X → List Done) (ops : List Op) (refused r : Result (ℕ × X) Refusal) (e : Refusal) → refused ≡ Err e →
-    Meanwhile a (λ s. MayWrite dones_of s ops refused b) → Meanwhile b (λ s. MayWrite dones_of s ops r c) → Meanwhile a (λ s. MayWrite dones_of s ops r c)
-writes_again a b c dones_of ops refused r e is m n =
-    let same : b ≡ m.now = (subst (λ r. MayWrite dones_of m.now ops r b) is m.is).0 in
-    later a b (λ s. MayWrite dones_of s ops r c) (subst (Joins a) (sym same) m.joins) n
+-- a write leaves the pass its number, and its refusal has a reason
+pub same_number : {X : Type 0} (a c : Knowledge) (tries : ℕ) (dones_of : X → List Done) (ops : List Op) (r : Result (ℕ × X) Refusal) → IfOk r (λ x. Accepts a c ops x.0 (dones_of x.1)) →
+    IfErr r (λ e. Learns a c × IsLastReason tries a c ops e) → c.number ≡ a.number
+same_number a c tries dones_of ops (Ok x) ok err = ok.pass
+same_number a c tries dones_of ops (Err e) ok err = err.0.pass
 
--- a write leaves the pass its number
-pub same_number : {X : Type 0} (a c : Knowledge) (dones_of : X → List Done) (ops : List Op) (r : Result (ℕ × X) Refusal) → IfOk r (λ x. Accepts a c ops x.0 (dones_of x.1)) →
-    IfErr r (λ e. Learns a c × IsReason a c ops e) → c.number ≡ a.number
-same_number a c dones_of ops (Ok x) ok err = ok.pass
-same_number a c dones_of ops (Err e) ok err = err.0.pass
+pub last_reason : {X : Type 0} (a c : Knowledge) (tries : ℕ) (ops : List Op) (r : Result X Refusal) → IfErr r (λ e. Learns a c × IsLastReason tries a c ops e) → IfErr r (λ e. IsLastReason tries a c ops e)
+last_reason a c tries ops (Ok x) err = tt
+last_reason a c tries ops (Err e) err = err.1

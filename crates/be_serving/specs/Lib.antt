@@ -1,4 +1,3 @@
-pub mod Limits
 pub mod Output
 pub mod Own
 pub mod Race

@@ -12,15 +12,14 @@ ghost use Rattle.std.specs.Prelude.{◌≡◌, ◌≤◌, ◌<◌, ℕ, ◌^◌,
 ghost use Rattle.std.specs.Io.KnownBytes.{Appends};
 ghost use Rattle.std.specs.List.{list_any};
 ghost use Rattle.be_journal.specs.Journal.{IsLegal};
-ghost use Rattle.be_serving.specs.Limits.{are_within};
 ghost use Rattle.be_serving.specs.Race.{IsOutcome, AreRepliesOf, HaveServed, IsNew, IsRace, Stops, pass_line, replies_text, result_text};
 ghost use Rattle.be_serving.specs.Run.{Wrote, IsLate};
 ghost use Rattle.be_store.specs.Passes.{IsPassOf};
 ghost use Rattle.std.specs.String.{string_bytes};
+ghost use Rattle.be_table.specs.Rule.{AreBad, IsWithin};
 ghost use Rattle.be_table.specs.Works.{AreNew};
 
 use crate::gates::Gate;
-use crate::limits::are_within;
 use crate::runs::{MAX_SCRIPT, put, serve_pass};
 use crate::{Limits, RunFault};
 use be_journal::Journal;
@@ -226,12 +225,34 @@ fn put_result<W: Write>(alloc: Global, writer: &mut W, journal: &Journal) -> Res
     Ok(legal)
 }
 
+/// Races scripts of which none is too long, on a store of its own within its limits.
+fn race_within<R: Threads + Wait, G: Gate + Sync, W: Write>(
+    rt: &R,
+    alloc: Global,
+    scripts: Vec<Vec<u8>>,
+    limits: Limits,
+    gate: &G,
+    writer: &mut W,
+) -> Result<bool, RunFault>
+    requires scripts { (2 ≤ vec_len scripts) × (vec_len scripts ≤ 4) }
+    requires passes { limits.passes ≡ vec_len scripts }
+    ensures ok { IfOk result (λ legal. (legal ≡ true) × Wrote (W.contents writer.old) (W.contents writer.new) (IsRace limits (map (λ s. s.items) scripts.items))) }
+    ensures late { IfErr result IsLate }
+{
+    let Ok((store, passes)) = Store::open(alloc, limits) else {
+        return Err(RunFault::Memory);
+    };
+    let (passes, replies) = serve_at_once(rt, alloc, &store, passes, &scripts, gate)?;
+    put_replies(alloc, writer, &replies)?;
+    put_result(alloc, writer, &store.close(passes))
+}
+
 /// Races two to four scripts against one another on an empty store, which has the pages and commits of the limits and a
 /// pass for each script, and says whether the journal is legal. It is: false is never answered.
 ///
 /// The limits are looked at first, then the lengths of the scripts, of at most 1,048,576 bytes each; a fault of these
 /// leaves nothing written. Script k is run from pass k, on a thread of its own; a write that finds another pass writing is
-/// tried again, at most 10,000,000 times, and its refusal is the reply then. It returns once all threads have ended. The
+/// tried again, 10,000,000 times at most in all, and its refusal is the reply then. It returns once all threads have ended. The
 /// replies are written behind a line `pass K` for each pass; then `journal N`, the journal's text, and `replay ok`. The
 /// journal is of the store that replied: it begins with what each pass has seen, and has its writes just as they were
 /// answered. Memory where memory or a thread is missing; the replies may be written then. Any error of a write, and a write
@@ -246,21 +267,16 @@ pub fn race<R: Threads + Wait, G: Gate + Sync, W: Write>(
 ) -> Result<bool, RunFault>
     requires scripts { (2 ≤ vec_len scripts) × (vec_len scripts ≤ 4) }
     requires passes { limits.passes ≡ vec_len scripts }
-    ensures limits { (result ≡ Err RunFault.Limits) ↔ (are_within limits ≡ false) }
-    ensures long { (result ≡ Err RunFault.TooLong) ↔ ((are_within limits ≡ true) × (list_any (λ s. nat_lt (2 ^ 20) (vec_len s)) scripts.items ≡ true)) }
+    ensures limits { (result ≡ Err RunFault.Limits) ↔ AreBad limits }
+    ensures long { (result ≡ Err RunFault.TooLong) ↔ (IsWithin limits × (list_any (λ s. nat_lt (2 ^ 20) (vec_len s)) scripts.items ≡ true)) }
     ensures ok { IfOk result (λ legal. (legal ≡ true) × Wrote (W.contents writer.old) (W.contents writer.new) (IsRace limits (map (λ s. s.items) scripts.items))) }
     ensures fault { IfErr result (λ e. Stops e (W.contents writer.old) (W.contents writer.new)) }
 {
-    if !are_within(&limits) {
+    if !limits.are_within() {
         return Err(RunFault::Limits);
     }
     if is_some_too_long(&scripts) {
         return Err(RunFault::TooLong);
     }
-    let Ok((store, passes)) = Store::open(alloc, limits) else {
-        return Err(RunFault::Memory);
-    };
-    let (passes, replies) = serve_at_once(rt, alloc, &store, passes, &scripts, gate)?;
-    put_replies(alloc, writer, &replies)?;
-    put_result(alloc, writer, &store.close(passes))
+    race_within(rt, alloc, scripts, limits, gate, writer)
 }

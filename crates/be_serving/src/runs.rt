@@ -5,7 +5,6 @@
 ghost use Rattle.std.specs.Prelude.{◌≡◌, ◌<◌, ◌≤◌, ◌+◌, ◌*◌, ◌^◌, ◌↔◌, false, List, ℕ, ◌++◌, length, IfOk, OnOk, IfErr, IfSome, OnErr, IfNone, ◌∷◌, [], vec_len, position, Err};
 ghost use Rattle.std.specs.Io.KnownBytes.{Appends, Consumes, IsAtEnd, Keeps};
 ghost use Rattle.be_journal.specs.Journal.{by_pass};
-ghost use Rattle.be_serving.specs.Limits.{are_within};
 ghost use Rattle.be_serving.specs.Output as outputs;
 ghost use Rattle.be_serving.specs.Own.{IsPartOf, operations, write_ops};
 ghost use Rattle.be_language.specs.Request.{lines_of};
@@ -14,12 +13,11 @@ ghost use Rattle.be_serving.specs.Served.{known};
 ghost use Rattle.be_serving.specs.Store.{start};
 ghost use Rattle.be_serving.specs.View.{session, queued_ops};
 ghost use Rattle.be_store.specs.Passes.{IsPassOf};
-ghost use Rattle.be_table.specs.Rule.{entries};
+ghost use Rattle.be_table.specs.Rule.{AreBad, entries};
 
 use crate::answers::answer;
 use crate::client::Client;
 use crate::gates::{Gate, OpenGate};
-use crate::limits::are_within;
 use crate::stores::{PassServer, Server, open_for_one};
 use crate::{Limits, RunFault};
 use be_language::{read_line, reply_text};
@@ -223,7 +221,7 @@ pub fn run<R: Read, W: Write>(
     writer: &mut W,
     limits: Limits,
 ) -> Result<(), RunFault>
-    ensures limits { (result ≡ Err RunFault.Limits) ↔ (are_within limits ≡ false) }
+    ensures limits { (result ≡ Err RunFault.Limits) ↔ AreBad limits }
     ensures unread { result ≡ Err RunFault.Limits → reader.new ≡ reader.old }
     ensures output { OnOk result (IfSome (R.remaining reader.old) (λ script.
         spec.Wrote (W.contents writer.old) (W.contents writer.new) (outputs.IsOutput limits.commits script))) }
@@ -231,7 +229,7 @@ pub fn run<R: Read, W: Write>(
     ensures fault { IfErr result (λ e. spec.Leaves e (start limits.commits) (R.remaining reader.old) (W.contents writer.old) (W.contents writer.new)) }
     ensures taken { IfErr result (λ e. spec.HasRead e (R.remaining reader.old) (R.remaining reader.new)) }
 {
-    if !are_within(&limits) {
+    if !limits.are_within() {
         return Err(RunFault::Limits);
     }
     let Ok((store, pass)) = open_for_one(alloc, limits) else {

@@ -5,12 +5,13 @@
 //! between two calls, and a call is answered from the store as they left it. What runs scripts is proved over that trait,
 //! so it holds for whatever serves. [`PassServer`] is a shared store with one of its passes.
 ghost use Rattle.std.specs.Prelude.{◌≡◌, ◌≤◌, ◌<◌, ◌^◌, Ok, None, IsSome, is_some, true, length, IfOk, IfErr, MatchResult, if◌then◌else◌};
+ghost use Rattle.be_store.specs.History.{IsLastReason};
 ghost use Rattle.be_store.specs.Passes.{IsPassOf};
 ghost use Rattle.be_value.specs.Refusal.{Answers};
 ghost use Rattle.be_value.specs.declared.refusals.Refusal.TheVariants.{OutOfMemory};
 ghost use Rattle.be_volume.specs.Query.{scan};
 ghost use Rattle.be_volume.specs.Reading.{attribute, attributes_at, index_kinds};
-ghost use Rattle.be_serving.specs.Limits.{are_within};
+ghost use Rattle.be_table.specs.Rule.{IsWithin};
 ghost use Rattle.be_serving.specs.Served.{known, seat_of};
 ghost use Rattle.be_serving.specs.Store.{Store, Joins, Meanwhile, start, viewed, pinned, unpinned, MayWrite};
 
@@ -22,9 +23,8 @@ use be_value::{Kind, Name, Refusal, Value};
 use be_volume::{Done, Op};
 use std::alloc::Global;
 use std::marker::Model;
-use std::thread;
 
-/// How often a write is tried again while another pass is writing.
+/// How often a write is tried while another pass is writing.
 const MAX_TRIES: u64 = 10_000_000;
 
 /// What serves a script. Reads are of the pinned version, or else of the volume after all writes.
@@ -88,7 +88,7 @@ pub trait Server {
 /// Opens a store of one pass before its first write, with as many pages and commits as the limits say. Refused for want of
 /// memory alone.
 pub fn open_for_one(alloc: Global, limits: Limits) -> Result<(be_store::Store, Pass), Refusal>
-    requires { are_within limits ≡ true }
+    requires { IsWithin limits }
     ensures opened { IfOk result (λ r. IsPassOf r.0 r.1 × (known r.1.knows ≡ start limits.commits)) }
     ensures refused { IfErr result (λ e. e ≡ OutOfMemory) }
 {
@@ -103,26 +103,8 @@ pub fn open_for_one(alloc: Global, limits: Limits) -> Result<(be_store::Store, P
     Ok((store, pass))
 }
 
-/// Writes, or is refused at once where another pass is writing.
-fn apply_once(
-    store: &be_store::Store,
-    pass: &mut Pass,
-    ops: &[Op],
-) -> Result<(u64, ArrayVec<Done, 64>), Refusal>
-    requires pass { IsPassOf store.now pass.old }
-    requires count { (1 ≤ length ops.now) × (length ops.now ≤ 64) }
-    ensures pass { IsPassOf store.now pass.new }
-    ensures number { pass.new.knows.number ≡ pass.old.knows.number }
-    ensures writes { Meanwhile (known pass.old.knows) (λ store. MayWrite (λ dones. dones.items) store ops.now result (known pass.new.knows)) }
-{
-    pass.is_pass();
-    let answer = store.apply(pass, ops);
-    pass.is_pass();
-    answer
-}
-
-/// Writes, and tries again while another pass is writing, 10,000,000 times at most; then the answer is that of the last
-/// try. Before each further try another thread may run.
+/// Writes, and tries again while another pass is writing, 10,000,000 times at most in all. Before each further try another
+/// thread may run.
 fn apply_at_last(
     store: &be_store::Store,
     pass: &mut Pass,
@@ -133,15 +115,11 @@ fn apply_at_last(
     ensures pass { IsPassOf store.now pass.new }
     ensures number { pass.new.knows.number ≡ pass.old.knows.number }
     ensures writes { Meanwhile (known pass.old.knows) (λ store. MayWrite (λ dones. dones.items) store ops.now result (known pass.new.knows)) }
+    ensures tries { IfErr result (λ e. IsLastReason MAX_TRIES pass.old.knows pass.new.knows ops.now e) }
 {
-    let mut answer = apply_once(store, pass, ops);
-    for _ in 0..MAX_TRIES {
-        let Err(Refusal::Busy(_)) = &answer else {
-            return answer;
-        };
-        thread::yield_now();
-        answer = apply_once(store, pass, ops);
-    }
+    pass.is_pass();
+    let answer = store.apply_or_retry(pass, ops, MAX_TRIES);
+    pass.is_pass();
     answer
 }
 

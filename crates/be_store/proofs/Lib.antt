@@ -4,3 +4,4 @@ pub mod Refusals
 pub mod Applied
 pub mod Answering
 pub mod Alone
+pub mod Retries

@@ -13,7 +13,7 @@ use Rattle.be_volume.proofs.StepLemmas.{not_both}
 
 -- one of 2 to 8
 abbrev pub IsOfVolume : Refusal → Type 0
-IsOfVolume e = refusal_number e ≤ 8
+IsOfVolume e = (2 ≤ refusal_number e) × (refusal_number e ≤ 8)
 
 refusal_of : {A : Type 0} → Refusal → Result A Refusal → Refusal
 refusal_of d (Ok x) = d
@@ -33,11 +33,11 @@ accepted x e h = absurd (not_both e x (sym h))
 
 step_refuses : (s : State) (op : Op) (e : Refusal) → step s op ≡ Err e → IsOfVolume e
 step_refuses s New e h = accepted _ e h
-step_refuses s (Drop node) e h = first _ NoNode e _ (omega arith) (accepted _ e) h
-step_refuses s (Set node name value) e h = first _ NoNode e _ (omega arith) (first _ TooManyAttrs e _ (omega arith) (accepted _ e)) h
-step_refuses s (Unset node name) e h = first _ NoNode e _ (omega arith) (first _ NoAttr e _ (omega arith) (accepted _ e)) h
-step_refuses s (MkIndex name kind) e h = first _ IndexExists e _ (omega arith) (first _ TooManyIndices e _ (omega arith) (first _ NotIndexable e _ (omega arith) (accepted _ e))) h
-step_refuses s (RmIndex name) e h = first _ NoSuchIndex e _ (omega arith) (accepted _ e) h
+step_refuses s (Drop node) e h = first _ NoNode e _ (omega arith, omega arith) (accepted _ e) h
+step_refuses s (Set node name value) e h = first _ NoNode e _ (omega arith, omega arith) (first _ TooManyAttrs e _ (omega arith, omega arith) (accepted _ e)) h
+step_refuses s (Unset node name) e h = first _ NoNode e _ (omega arith, omega arith) (first _ NoAttr e _ (omega arith, omega arith) (accepted _ e)) h
+step_refuses s (MkIndex name kind) e h = first _ IndexExists e _ (omega arith, omega arith) (first _ TooManyIndices e _ (omega arith, omega arith) (first _ NotIndexable e _ (omega arith, omega arith) (accepted _ e))) h
+step_refuses s (RmIndex name) e h = first _ NoSuchIndex e _ (omega arith, omega arith) (accepted _ e) h
 
 advances : (r : Result (State × List Done) Refusal) (op : Op) → ((e : Refusal) → r ≡ Err e → IsOfVolume e) → (e : Refusal) → advance r op ≡ Err e → IsOfVolume e
 advances (Err x) op is e h = is e h

@@ -110,7 +110,7 @@ published w v r p ops page n dones shown made kept same is lent stepped number =
 -- a list that is refused for want of a page is one that the volume accepts
 pub full_accepts : {S K : Type 0} (kept_of : S → K) (standing_of : S → ℕ → Standing) (words_of : S → ℕ → ℕ → ℕ) (full_of : S → ℕ → Type 0) (volume : State) (ops : List Op) (least : ℕ) (old new : S)
     → IsRefused kept_of standing_of words_of full_of volume ops (Full least) old new → IsOk (steps volume ops) × KeepsStart kept_of standing_of words_of old new
-full_accepts _ _ _ _ volume ops least old new (inl h) = absurd (let few = steps_refuse volume ops (Full least) h.0 in omega (arith, few))
+full_accepts _ _ _ _ volume ops least old new (inl h) = absurd (let few = (steps_refuse volume ops (Full least) h.0).1 in omega (arith, few))
 full_accepts _ _ _ _ volume ops least old new (inr h) = (h.1, h.2)
 
 -- the journal's want of room goes before that of a page

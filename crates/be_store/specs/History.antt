@@ -1,5 +1,7 @@
 -- What a call makes of the pass that calls: what it has seen of the journal, its own writes, and its pin.
-use Rattle.std.specs.Prelude.{◌≡◌, ◌⊎◌, ℕ, ◌+◌, ◌<◌, List, [], ◌∷◌, ◌++◌, length, IsOk, Err}
+use Rattle.std.specs.Prelude.{◌≡◌, ◌≢◌, ◌⊎◌, ℕ, ◌+◌, ◌<◌, Bool, true, false, List, [], ◌∷◌, ◌++◌, length, IsOk}
+use Rattle.std.specs.declared.result.Result.{Result}
+use Rattle.std.specs.declared.result.Result.TheVariants.{Ok, Err}
 use Rattle.be_journal.specs.Journal.{Agrees, by_pass, replay}
 use Rattle.be_pages.specs.Refusal.{IsFullOf}
 use Rattle.be_table.specs.declared.pass.Commit.{Commit}
@@ -9,6 +11,7 @@ use Rattle.be_table.specs.Rule.{entries}
 use Rattle.be_table.specs.Steps.{entry_of}
 use Rattle.be_table.specs.Works.{IsBusy, HasNoRoom, IsSpent}
 use Rattle.be_value.specs.declared.refusals.Refusal.{Refusal}
+use Rattle.be_value.specs.declared.refusals.Refusal.TheVariants.{Busy}
 use Rattle.be_volume.specs.Volume.{steps}
 use Rattle.be_volume.specs.declared.ops.Done.{Done}
 use Rattle.be_volume.specs.declared.ops.Op.{Op}
@@ -44,6 +47,26 @@ IsRefusedAt c ops e =
 -- Why a write is refused: its one try found that another pass holds the lock, and nothing more was seen; or else.
 abbrev pub IsReason : (a c : Knowledge) (ops : List Op) → Refusal → Type 0
 IsReason a c ops e = (IsBusy e a c × (c.seen ≡ a.seen)) ⊎ IsRefusedAt c ops e
+
+-- the refusal says that another pass holds the lock
+abbrev pub is_busy : Refusal → Bool
+is_busy (Busy b) = true
+is_busy e = false
+
+-- the write found that another pass holds the lock
+abbrev pub was_busy : {X : Type 0} → Result X Refusal → Bool
+was_busy (Ok x) = false
+was_busy (Err e) = is_busy e
+
+-- the pass after tries that found these passes holding the lock, the last one first
+abbrev pub tried : Knowledge → List ℕ → Knowledge
+tried a holders = record a { holders = holders ++ a.holders; steps = a.steps + length holders }
+
+-- Why a write is refused that is tried so many times at most: each try found that another pass holds the lock, and the refusal names the last one; or else.
+abbrev pub IsLastReason : ℕ → (a c : Knowledge) (ops : List Op) → Refusal → Type 0
+IsLastReason tries a c ops e =
+    ((b : ℕ) × (before : List ℕ) × (e ≡ Busy b) × (b < a.limits.passes) × (b ≢ a.number) × (length before + 1 ≡ tries) × (c ≡ tried a (b ∷ before)))
+    ⊎ IsRefusedAt c ops e
 
 -- The pass is pinned to all that it has then seen, by three steps.
 pub record Pins (a c : Knowledge) (n : ℕ) : Type 0 where

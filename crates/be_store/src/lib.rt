@@ -26,6 +26,7 @@ mod asking;
 pub mod laws;
 mod live;
 mod store;
+mod tries;
 mod writing;
 
 pub use answers::{Answer, Updates};

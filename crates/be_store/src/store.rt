@@ -1,10 +1,11 @@
 //! The store, and the calls of its passes.
 ghost use Rattle.std.specs.Prelude.{◌≡◌, ◌≤◌, ◌<◌, ℕ, None, Some, Ok, MatchResult, IfOk, IfErr, length, map};
 ghost use Rattle.be_store.specs.Passes.{IsPassOf, IsPinnedTo, HasRead, volume_pinned};
-ghost use Rattle.be_store.specs.History.{Accepts, Learns, IsReason, Pins};
+ghost use Rattle.be_store.specs.History.{Accepts, Learns, IsReason, IsLastReason, Pins};
 
 use crate::answers::Answer;
 use crate::asking::ask;
+use crate::tries::was_busy;
 use crate::writing::write;
 use crate::{Limits, Pass};
 use arrayvec::ArrayVec;
@@ -16,6 +17,7 @@ use be_value::{Kind, Name, Refusal, Value};
 use be_volume::{Done, Op};
 use std::alloc::Global;
 use std::marker::Model;
+use std::thread;
 
 /// A shared store. A pass is used with the store that made it.
 #[derive(Drop)]
@@ -82,6 +84,31 @@ impl Store {
         *pass = writing.unlock();
         pass.is_pass();
         answer
+    }
+
+    /// Writes as `apply` does, and tries again while another pass holds the lock, so many times at most in all. Before
+    /// each further try another thread may run. Busy then names the pass that the last try found.
+    pub fn apply_or_retry(
+        &self,
+        pass: &mut Pass,
+        ops: &[Op],
+        tries: u64,
+    ) -> Result<(u64, ArrayVec<Done, 64>), Refusal>
+        requires pass { IsPassOf self.now pass.old }
+        requires count { (1 ≤ length ops.now) × (length ops.now ≤ 64) }
+        requires tries { 1 ≤ tries }
+        ensures pass { IsPassOf self.now pass.new }
+        ensures accepted { IfOk result (λ r. Accepts pass.old.knows pass.new.knows ops.now r.0 r.1.items) }
+        ensures refused { IfErr result (λ e. Learns pass.old.knows pass.new.knows × IsLastReason tries pass.old.knows pass.new.knows ops.now e) }
+    {
+        for _made in 1..tries {
+            let answer = self.apply(pass, ops);
+            if !was_busy(&answer) {
+                return answer;
+            }
+            thread::yield_now();
+        }
+        self.apply(pass, ops)
     }
 
     /// Pins the version that is current: what the pass then reads is the volume after the journal up to there, until it

@@ -698,20 +698,17 @@ fn batches_in_store(rt: HostRuntime) -> Result<(), Fail> {
     Ok(())
 }
 
-/// Makes a node, at a later try while another pass has the lock.
+/// Makes a node, at a later try while another pass holds the lock.
 fn make_at_last(store: &Store, pass: &mut Pass) -> Result<(), Refusal>
     requires { IsPassOf store.now pass.old }
     ensures pass { IsPassOf store.now pass.new }
     ensures number { pass.new.knows.number ≡ pass.old.knows.number }
 {
-    for _ in 0..10_000_000 {
-        match write(store, pass, Op::New) {
-            Err(Refusal::Busy(_)) => {}
-            Err(refusal) => return Err(refusal),
-            Ok(_) => return Ok(()),
-        }
-    }
-    Err(Refusal::BadLimits)
+    match store.apply_or_retry(pass, &[Op::New], 10_000_000) {
+        Err(Refusal::OutOfMemory) => store.apply_or_retry(pass, &[Op::New], 10_000_000)?,
+        answer => answer?,
+    };
+    Ok(())
 }
 
 /// Makes a hundred nodes. Whether each was accepted.

@@ -9,6 +9,8 @@ mod counting_look;
 #[cfg(test)]
 mod journal;
 #[cfg(test)]
+mod leaves;
+#[cfg(test)]
 mod machine;
 #[cfg(test)]
 mod pages;
@@ -20,3 +22,5 @@ mod query;
 mod tree;
 #[cfg(test)]
 mod value;
+#[cfg(test)]
+mod words;

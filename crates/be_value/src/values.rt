@@ -1,19 +1,22 @@
 //! Values of attributes.
-ghost use Rattle.std.specs.Prelude.{◌≡◌, ◌<◌, ◌≤◌, ℕ, length, Ok, Err, IfOk, IsOk, IfSome, IfNone, ◌↔◌, IsErrOf, OnOk};
+ghost use Rattle.std.specs.Prelude.{◌≡◌, ◌<◌, ◌≤◌, ℕ, length, nat_eq, Ok, Err, IfOk, IsOk, IfSome, IfNone, ◌↔◌, IsErrOf, OnOk};
 ghost use Rattle.be_value.specs.Name.{text_from, bytes_from};
 ghost use Rattle.be_value.specs.Value.{kind_of, code_of, kind_name, kind_number, is_indexable, value_cmp};
 ghost use Rattle.be_value.specs.Key.{IsValue};
 ghost use Rattle.be_value.specs.declared.values.Kind.{Kind as AnyKind};
+ghost use Rattle.std.specs.Cmp.{partial_equiv_from_equiv};
+ghost use Rattle.std.specs.Cmp.Lexicographic.{pointwise, nat_list_eq_equiv};
 ghost use Rattle.std.specs.Result as results;
 
 use crate::Refusal;
 use arrayvec::{ArrayString, ArrayVec};
 use std::alloc::AllocError;
 use std::cmp::Ordering;
+use std::fmt;
 use std::marker::Model;
 
 /// The kinds of value, with the names of their type codes.
-#[derive(Clone, Copy, Debug, PartialEq, Eq)]
+#[derive(Clone, Copy, Debug, PartialEq, Eq, Hash)]
 pub enum Kind {
     Cstr,
     Long,
@@ -147,6 +150,28 @@ impl Text {
     }
 }
 
+/// Equal bytes.
+impl PartialEq for Text {
+    ghost eq = { pointwise nat_eq };
+
+    ghost laws = { partial_equiv_from_equiv nat_list_eq_equiv };
+
+    fn eq(&self, other: &Self) -> bool {
+        self.text == other.text
+    }
+}
+
+impl Eq for Text {
+    ghost laws = { nat_list_eq_equiv };
+}
+
+/// The text in quotes.
+impl fmt::Debug for Text {
+    fn fmt<W: fmt::Write>(&self, f: &mut fmt::Formatter<W>) -> fmt::Result {
+        write!(f, "{:?}", self.as_str())
+    }
+}
+
 /// The bytes of a raw value, up to 255.
 #[derive(Drop)]
 pub struct Bytes {
@@ -189,8 +214,30 @@ impl Bytes {
     }
 }
 
-/// A value of an attribute.
-#[derive(Drop)]
+/// Equal bytes.
+impl PartialEq for Bytes {
+    ghost eq = { pointwise nat_eq };
+
+    ghost laws = { partial_equiv_from_equiv nat_list_eq_equiv };
+
+    fn eq(&self, other: &Self) -> bool {
+        self.bytes == other.bytes
+    }
+}
+
+impl Eq for Bytes {
+    ghost laws = { nat_list_eq_equiv };
+}
+
+/// The bytes as a list of numbers.
+impl fmt::Debug for Bytes {
+    fn fmt<W: fmt::Write>(&self, f: &mut fmt::Formatter<W>) -> fmt::Result {
+        write!(f, "{:?}", self.as_slice())
+    }
+}
+
+/// A value of an attribute. Values of two kinds are never equal.
+#[derive(Debug, Drop, PartialEq, Eq)]
 pub enum Value {
     Cstr(Text),
     Long(i32),

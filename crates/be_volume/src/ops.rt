@@ -6,9 +6,10 @@ ghost use Rattle.std.specs.Prelude.{◌≡◌};
 ghost use Rattle.be_volume.specs.Sound.{IsOperation};
 
 use be_value::{Kind, Name, Value, valid};
+use std::alloc::AllocError;
 
 /// One operation. Nodes are called by their numbers.
-#[derive(Drop)]
+#[derive(Debug, Drop, PartialEq, Eq)]
 pub enum Op {
     /// Makes a node, with the next number. Numbers begin at 1 and are never used again.
     New,
@@ -65,5 +66,14 @@ impl Op {
                 let _name = name.as_str();
             }
         }
+    }
+}
+
+/// An equal operation. It takes no memory.
+impl Clone for Op {
+    ghost is_clone = { λ a b. b ≡ a };
+
+    fn clone(&self) -> Result<Op, AllocError> {
+        Ok(self.copy())
     }
 }

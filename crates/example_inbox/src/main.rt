@@ -1,44 +1,29 @@
 //! An inbox in a store: two threads file letters, while a third asks a live query at the version that it has pinned.
 #![tactic(auto)]
 
-ghost use Rattle.std.specs.Prelude.{◌≡◌, ◌≤◌, ℕ, None, length};
+ghost use Rattle.std.specs.Prelude.{◌≡◌, ℕ, None};
 ghost use Rattle.be_store.specs.Passes.{IsPassOf, IsPinnedTo};
 ghost use Rattle.be_store.specs.Seats.{pinned_number};
 
-use be_store::{ArrayVec, Done, Kind, Limits, Live, Name, Op, Pass, Refusal, Store, Value, parse};
+use be_store::{Done, Kind, Limits, Live, Name, Op, Pass, Refusal, Store, Value, parse};
 use std::alloc::AllocGlobal;
 use std::process::ExitCode;
 use std::thread::Threads;
 use std::{io, thread};
 
-/// How often a write is tried again while another pass is writing.
-const TRIES: u32 = 10_000_000;
-
-/// Writes the operations, all or none. The journal's length with them, and an answer to each.
-fn write(store: &Store, pass: &mut Pass, ops: &[Op]) -> Result<(u64, ArrayVec<Done, 64>), Refusal>
-    requires pass { IsPassOf store.now pass.old }
-    requires count { (1 ≤ length ops.now) × (length ops.now ≤ 64) }
-    ensures { IsPassOf store.now pass.new }
-{
-    for _ in 1..TRIES {
-        match store.apply(pass, ops) {
-            Err(Refusal::Busy(_)) => thread::yield_now(),
-            answer => return answer,
-        }
-    }
-    store.apply(pass, ops)
-}
+/// How often a write is tried while another pass is writing.
+const TRIES: u64 = 10_000_000;
 
 /// Files a letter: a node with the name of who sent it and the time when it came, in seconds since 1970.
 fn file(store: &Store, pass: &mut Pass, from: &str, when: i64) -> Result<(), Refusal>
     requires { IsPassOf store.now pass.old }
     ensures { IsPassOf store.now pass.new }
 {
-    let (_, dones) = write(store, pass, &[Op::New])?;
+    let (_, dones) = store.apply_or_retry(pass, &[Op::New], TRIES)?;
     if let Some(Done::Node(letter)) = dones.first() {
         let sender = Op::Set(*letter, Name::new("MAIL:from")?, Value::text(from)?);
         let time = Op::Set(*letter, Name::new("MAIL:when")?, Value::int64(when));
-        write(store, pass, &[sender, time])?;
+        store.apply_or_retry(pass, &[sender, time], TRIES)?;
     }
     Ok(())
 }
@@ -131,7 +116,7 @@ fn count_letters<R: AllocGlobal + Threads + Sync>(rt: &R) -> Result<(usize, usiz
         unreachable!()
     };
     let index = Op::MkIndex(Name::new("MAIL:from")?, Kind::Cstr);
-    write(&store, &mut first, &[index])?;
+    store.apply_or_retry(&mut first, &[index], TRIES)?;
     file(&store, &mut first, "Ada", 1_600_000_000)?;
     let live = Live::new(rt.alloc(), parse(rt.alloc(), "MAIL:from==Ada")?);
     store.pin(&mut reader);
@@ -152,7 +137,7 @@ fn main(rt: HostRuntime) -> io::Result<ExitCode> {
             Ok(ExitCode::SUCCESS)
         }
         Err(refusal) => {
-            eprintln!(rt; "refused: {}", refusal.name())?;
+            eprintln!(rt; "{refusal}")?;
             Ok(ExitCode::FAILURE)
         }
     }

@@ -1,51 +1,28 @@
-use Rattle.std.proofs.Common.{◌≡◌, ◌++◌, [], length, map, slice_index_or, refl, ap, subst, arith, zero-add}
-use Rattle.std.proofs.lemmas.List.{length-map}
-use Rattle.std.specs.Io.KnownBytes.{Appends}
-use Rattle.be_journal.specs.Journal.{by_pass}
-use Rattle.be_table.specs.History.{AllBelow}
-use Rattle.be_table.specs.Steps.{Has}
-use Rattle.be_table.specs.Works.{knows_of}
-use Rattle.be_serving.specs.Own.{IsPartOf, operations, write_ops}
-use Rattle.be_serving.specs.Race.{HaveReplied, replies_text, result_text}
-use Rattle.be_serving.proofs.RaceLemmas.{all_at, has_each, own_of, on_both}
-use Rattle.be_serving.proofs.RunLemmas.{written_both}
+use Rattle.std.proofs.Common.{refl, rules}
+use Rattle.std.specs.Prelude.{Err}
+use Rattle.be_serving.specs.Run.{IsLate}
+use Rattle.be_serving.specs.declared.faults.RunFault.TheVariants.{Limits, TooLong}
+use Rattle.be_serving.proofs.LimitLemmas.{late_stops, no_fault, not_by}
 use Rattle.be_serving.proofs.races.race.Goals as goal
 
-pub close-requires-clause-passes : goal.close-requires-clause-passes
-close-requires-clause-passes g c = all_at c.in-Ok.store 0 (map (λ s. s.items) c.args.scripts.items) c.in_ok-passes.passes.items c.in_ok-passes.ensures.served
+pub returns-then-not-are_within-clause-limits : goal.returns-then-not-are_within-clause-limits
+returns-then-not-are_within-clause-limits g c = (λ _. c.are_within.ensures.bad (search rules), λ _. refl)
 
-pub close-requires-clause-all : goal.close-requires-clause-all
-close-requires-clause-all g c k below =
-    let scripts = map (λ s. s.items) c.args.scripts.items in
-    let count : length scripts ≡ length c.args.scripts.items = length-map c.args.scripts.items _ in
-    let limit : c.in-Ok.store.limits.passes ≡ c.args.limits.passes = ap (λ l. l.passes) c.in-Ok.ensures.0 in
-    subst (Has (map knows_of c.in_ok-passes.passes.items)) (zero-add k)
-    (has_each c.in-Ok.store 0 scripts c.in_ok-passes.passes.items c.in_ok-passes.ensures.served k (omega (arith, below, count, limit, c.requires.passes, c.args.scripts.ok.0)))
+pub returns-then-not-are_within-clause-long : goal.returns-then-not-are_within-clause-long
+returns-then-not-are_within-clause-long g c = (λ is. absurd (let e = is in cc), λ both. absurd (c.are_within.ensures.bad (search rules) both.0))
 
-pub returns-clause-ok : goal.returns-clause-ok
-returns-clause-ok g c =
-    let scripts = map (λ s. s.items) c.args.scripts.items in
-    let count : length scripts ≡ length c.args.scripts.items = length-map c.args.scripts.items _ in
-    let limit : c.in-Ok.store.limits.passes ≡ c.args.limits.passes = ap (λ l. l.passes) c.in-Ok.ensures.0 in
-    let passes : c.in-Ok.store.limits.passes ≡ length scripts = omega (arith, count, limit, c.requires.passes, c.args.scripts.ok.0) in
-    let journal = c.close.result.entries in
-    let replies = map (λ s. s.items) c.in_ok-passes.replies.items in
-    let holds = g.W.Write.contents in
-    on_both c.put_result-2.result c.put_result-2.ensures.ok c.put_result-2.ensures.ok (λ legal is _. (
-      is.0,
-      record {
-        out = replies_text 0 replies ++ result_text journal;
-        appended = written_both (holds c.args.writer.now) (holds c.put_replies.new.writer) (holds c.put_result-2.new.writer) (replies_text 0 replies) (result_text journal)
-            (subst (λ ts. Appends (holds c.args.writer.now) (holds c.put_replies.new.writer) (replies_text 0 (map (λ t. t.items) ts))) c.deref-2.ensures.value c.in_ok-put_replies.ensures.ok) is.1;
-        is = record {
-          replies = replies;
-          journal = journal;
-          is = refl;
-          replied = subst (λ l. HaveReplied l journal 0 scripts replies) c.in-Ok.ensures.0 (c.in_ok-passes.ensures.replied journal c.close.ensures.passes);
-          legal = c.close.ensures.legal;
-          by = subst (λ n. AllBelow n journal) passes c.close.ensures.by;
-          own = λ k below. subst (λ n. IsPartOf (operations (by_pass n journal)) (write_ops (slice_index_or scripts k []))) (zero-add k)
-              (own_of c.in-Ok.store 0 scripts c.in_ok-passes.passes.items journal c.in_ok-passes.ensures.served c.close.ensures.passes k below);
-        };
-      },
-    ))
+pub returns-then-is_some_too_long-clause-limits : goal.returns-then-is_some_too_long-clause-limits
+returns-then-is_some_too_long-clause-limits g c = no_fault c.args.limits (Err TooLong) (c.are_within.ensures.within (search rules)) (λ is. let e = is in cc)
+
+pub returns-then-is_some_too_long-clause-long : goal.returns-then-is_some_too_long-clause-long
+returns-then-is_some_too_long-clause-long g c = (λ _. (c.are_within.ensures.within (search rules), cc), λ _. refl)
+
+pub returns-clause-limits : goal.returns-clause-limits
+returns-clause-limits g c =
+    no_fault c.args.limits c.race_within.result (c.are_within.ensures.within (search rules)) (not_by c.race_within.result IsLate Limits (λ never. never) c.race_within.ensures.late)
+
+pub returns-clause-long : goal.returns-clause-long
+returns-clause-long g c = (λ is. absurd (not_by c.race_within.result IsLate TooLong (λ never. never) c.race_within.ensures.late is), λ both. absurd (let some = both.1 in cc))
+
+pub returns-clause-fault : goal.returns-clause-fault
+returns-clause-fault g c = late_stops c.race_within.result (g.W.Write.contents c.args.writer.now) (g.W.Write.contents c.race_within.new.writer) c.race_within.ensures.late

@@ -1,9 +1,11 @@
-use Rattle.std.proofs.Common.{ap, ◌∙◌, subst}
-use Rattle.std.specs.Prelude.{OnOk, IfSome}
+use Rattle.std.proofs.Common.{ap, ◌∙◌, refl, rules, subst}
+use Rattle.std.specs.Prelude.{Err, OnOk, IfSome}
 use Rattle.be_serving.specs.Output.{IsOutputFrom}
-use Rattle.be_serving.specs.Run.{Wrote}
+use Rattle.be_serving.specs.Run.{Wrote, IsOther}
 use Rattle.be_serving.specs.Served.{known}
 use Rattle.be_serving.specs.Store.{Store, start}
+use Rattle.be_serving.specs.declared.faults.RunFault.TheVariants.{Limits, Memory}
+use Rattle.be_serving.proofs.LimitLemmas.{no_fault, not_by}
 use Rattle.be_serving.proofs.ReadLemmas.{none_read}
 use Rattle.be_serving.proofs.RunLemmas.{none_answered_if}
 use Rattle.be_serving.proofs.runs.run.Goals as goal
@@ -22,3 +24,15 @@ returns-clause-output g c =
     subst (λ (s : Store). OnOk c.serve.result (IfSome (g.R.Read.remaining c.args.reader.now) (λ script.
     Wrote (g.W.Write.contents c.args.writer.now) (g.W.Write.contents c.serve.new.writer) (IsOutputFrom s script))))
     (ap known c.new-server.ensures.1 ∙ c.in-Ok.ensures.opened.1) c.serve.ensures.output
+
+pub open_for_one-requires : goal.open_for_one-requires
+open_for_one-requires g c = c.are_within.ensures.within (search rules)
+
+pub returns-then-not-are_within-clause-limits : goal.returns-then-not-are_within-clause-limits
+returns-then-not-are_within-clause-limits g c = (λ _. c.are_within.ensures.bad (search rules), λ _. refl)
+
+pub returns-in_default-clause-limits : goal.returns-in_default-clause-limits
+returns-in_default-clause-limits g c = no_fault c.args.limits (Err Memory) (c.are_within.ensures.within (search rules)) (λ is. let e = is in cc)
+
+pub returns-clause-limits : goal.returns-clause-limits
+returns-clause-limits g c = no_fault c.args.limits c.serve.result (c.are_within.ensures.within (search rules)) (not_by c.serve.result IsOther Limits (λ never. never) c.serve.ensures.other)

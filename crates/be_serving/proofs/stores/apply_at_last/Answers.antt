@@ -1,12 +1,17 @@
-use Rattle.std.proofs.Common.{◌∙◌}
-use Rattle.be_serving.specs.Served.{known}
-use Rattle.be_serving.proofs.PassLemmas.{writes_again}
+use Rattle.std.proofs.Common.{◌∙◌, sym}
+use Rattle.be_serving.proofs.PassLemmas.{last_reason, same_number, writes_meanwhile}
 use Rattle.be_serving.proofs.stores.apply_at_last.Goals as goal
 
-pub loop-preserved : goal.loop-preserved
-loop-preserved c = record {
-  pass = c.apply_once-answer-in-loop.ensures.pass;
-  number = c.apply_once-answer-in-loop.ensures.number ∙ c.loop.invariant.number;
-  writes = writes_again (known c.args.pass.now.knows) (known c.loop.pass.knows) (known c.apply_once-answer-in-loop.new.pass.knows) (λ dones. dones.items)
-      c.args.ops.now c.loop.answer c.apply_once-answer-in-loop.result _ c.in-Err-Busy.is c.loop.invariant.writes c.apply_once-answer-in-loop.ensures.writes;
-}
+pub returns-clause-writes : goal.returns-clause-writes
+returns-clause-writes c =
+    writes_meanwhile c.args.pass.now.knows c.apply_or_retry-answer.new.pass.knows c.is_pass.ensures c.is_pass-2.ensures (c.apply_or_retry-answer.ensures.pass.0.2 ∙ sym c.requires.pass.0.2)
+    10000000 (λ dones. dones.items) c.args.ops.now c.apply_or_retry-answer.result c.apply_or_retry-answer.ensures.accepted c.apply_or_retry-answer.ensures.refused
+
+pub returns-clause-number : goal.returns-clause-number
+returns-clause-number c =
+    same_number c.args.pass.now.knows c.apply_or_retry-answer.new.pass.knows 10000000 (λ dones. dones.items) c.args.ops.now
+    c.apply_or_retry-answer.result c.apply_or_retry-answer.ensures.accepted c.apply_or_retry-answer.ensures.refused
+
+pub returns-clause-tries : goal.returns-clause-tries
+returns-clause-tries c =
+    last_reason c.args.pass.now.knows c.apply_or_retry-answer.new.pass.knows 10000000 c.args.ops.now c.apply_or_retry-answer.result c.apply_or_retry-answer.ensures.refused

@@ -1,0 +1,46 @@
+-- Which faults come of limits out of their ranges.
+use Rattle.std.proofs.Common.{◌≡◌, ℕ, List, inl, inr, subst, arith}
+use Rattle.std.specs.Prelude.{◌↔◌, Result, Ok, Err, IfErr}
+use Rattle.std.specs.declared.option.Option.{Option}
+use Rattle.be_value.specs.declared.refusals.Refusal.{Refusal}
+use Rattle.be_value.specs.declared.refusals.Refusal.TheVariants.{OutOfMemory}
+use Rattle.be_table.specs.declared.limits.Limits.{Limits as StoreLimits}
+use Rattle.be_table.specs.Rule.{AreBad, IsWithin}
+use Rattle.be_table.specs.Works.{IsUnopened}
+use Rattle.be_serving.specs.Race.{Stops}
+use Rattle.be_serving.specs.Run.{IsLate}
+use Rattle.be_serving.specs.declared.faults.RunFault.{RunFault}
+use Rattle.be_serving.specs.declared.faults.RunFault.TheVariants.{Limits, Read, TooLong, Write, Memory}
+
+-- an answer of which P holds is not refused by what P excludes
+pub not_by : {A : Type 0} (r : Result A RunFault) (P : RunFault → Type 0) (e : RunFault) → (P e → ⊥) → IfErr r P → r ≡ Err e → ⊥
+not_by {A} r P e never all is = never (subst (λ (x : Result A RunFault). IfErr x P) is all)
+
+-- within the ranges the fault Limits doesn't come
+pub no_fault : {A : Type 0} (limits : StoreLimits) (r : Result A RunFault) → IsWithin limits → (r ≡ Err Limits → ⊥) → (r ≡ Err Limits) ↔ AreBad limits
+no_fault limits r within never = (λ is. absurd (never is), λ bad. absurd (bad within))
+
+-- limits that are within their ranges are so with one pass
+pub for_one : (limits : StoreLimits) → IsWithin limits → IsWithin (record limits { passes = 1 })
+for_one limits w = record {
+  some_pages = w.some_pages;
+  few_pages = w.few_pages;
+  some_pass = omega arith;
+  few = omega arith;
+  some_commit = w.some_commit;
+  short = w.short;
+}
+
+-- a store of one pass is refused for want of memory alone
+pub only_memory : (limits : StoreLimits) (e : Refusal) → IsWithin limits → IsUnopened (record limits { passes = 1 }) e → e ≡ OutOfMemory
+only_memory limits e within (inl bad) = absurd (bad.1 (for_one limits within))
+only_memory limits e within (inr want) = want.0
+
+-- a fault after the scripts were looked at may leave anything written
+pub late_stops : {A : Type 0} (r : Result A RunFault) (old new : Option (List ℕ)) → IfErr r IsLate → IfErr r (λ e. Stops e old new)
+late_stops (Ok x) old new late = tt
+late_stops (Err Limits) old new late = absurd late
+late_stops (Err Read) old new late = absurd late
+late_stops (Err TooLong) old new late = absurd late
+late_stops (Err Write) old new late = tt
+late_stops (Err Memory) old new late = tt

@@ -1,0 +1,105 @@
+-- A write is tried again while another pass holds the lock.
+use Rattle.std.proofs.Common.{◌≡◌, ◌≢◌, ◌<◌, ◌+◌, ℕ, true, false, inl, inr, List, [], ◌∷◌, ◌++◌, length, refl, sym, ap, ◌∙◌, subst, arith}
+use Rattle.std.specs.Prelude.{Result, Ok, Err, IfOk, IfErr}
+use Rattle.std.proofs.lemmas.Bool.{false≢true}
+use Rattle.be_table.specs.declared.pass.Knowledge.{Knowledge}
+use Rattle.be_table.specs.Steps.{finds_held}
+use Rattle.be_table.specs.Works.{IsBusy, HasNoRoom}
+use Rattle.be_value.specs.declared.refusals.Refusal.{Refusal}
+use Rattle.be_value.specs.declared.refusals.Refusal.TheVariants.{Busy}
+use Rattle.be_volume.specs.declared.ops.Done.{Done}
+use Rattle.be_volume.specs.declared.ops.Op.{Op}
+use Rattle.be_store.specs.History.{Accepts, Learns, IsReason, IsLastReason, is_busy, was_busy, tried}
+use Rattle.be_store.specs.Passes.{volume_seen}
+use Rattle.be_store.proofs.Refusals.{steps_refuse}
+
+-- what is not of the variant Busy
+pub no_busy : (e : Refusal) → ((b : ℕ) → e ≡ Busy b → ⊥) → is_busy e ≡ false
+no_busy (Busy b) other = absurd (other b refl)
+no_busy e other = refl
+
+-- the pass that the refusal names
+busy_with : (e : Refusal) → is_busy e ≡ true → (b : ℕ) × (e ≡ Busy b)
+busy_with (Busy b) h = (b, refl)
+busy_with e h = absurd (false≢true h)
+
+-- Busy comes of the lock alone
+busy_by_lock : (a c : Knowledge) (ops : List Op) (b : ℕ) → IsReason a c ops (Busy b) → IsBusy (Busy b) a c
+busy_by_lock a c ops b (inl h) = h.0
+busy_by_lock a c ops b (inr (inl h)) = absurd (let few = (steps_refuse (volume_seen c) ops (Busy b) h).0 in omega (arith, few))
+busy_by_lock a c ops b (inr (inr (inl h))) = absurd (unroomed h.1)
+  where
+    unroomed : HasNoRoom (Busy b) c → ⊥
+    unroomed (inl none) = absurd (let e = none.0 in cc)
+    unroomed (inr none) = absurd (let e = none.0 in cc)
+busy_by_lock a c ops b (inr (inr (inr h))) = absurd (let e = h.2.1 in cc)
+
+-- before the first try
+pub untried : (a : Knowledge) → a ≡ tried a []
+untried a = let same : a.steps ≡ a.steps + 0 = omega arith in ap (λ (n : ℕ). record a { steps = n }) same
+
+-- what was found by so many tries, the last of which led from m to c
+module _ (a : Knowledge) (holders : List ℕ) (m c : Knowledge) (is : m ≡ tried a holders) where
+  -- one try more
+  tried_again : (b : ℕ) → c ≡ finds_held m b → c ≡ tried a (b ∷ holders)
+  tried_again b next =
+      let steps : a.steps + length holders + 1 ≡ a.steps + length (b ∷ holders) = omega arith in
+      next ∙ (ap (λ (k : Knowledge). finds_held k b) is ∙ ap (λ (n : ℕ). record a { holders = (b ∷ holders) ++ a.holders; steps = n }) steps)
+
+  accepts_at_last : (ops : List Op) (n : ℕ) (dones : List Done) → Accepts m c ops n dones → Accepts a c ops n dones
+  accepts_at_last ops n dones h = by (subst (λ (k : Knowledge). Accepts k c ops n dones) is h)
+    where
+      by : Accepts (tried a holders) c ops n dones → Accepts a c ops n dones
+      by h = record {
+        others = h.others;
+        commit = h.commit;
+        seen = h.seen;
+        entry = h.entry;
+        apart = h.apart;
+        answered = h.answered;
+        number = h.number;
+        mine = h.mine;
+        pass = h.pass;
+        pin = h.pin;
+      }
+
+  learns_at_last : Learns m c → Learns a c
+  learns_at_last h = by (subst (λ (k : Knowledge). Learns k c) is h)
+    where
+      by : Learns (tried a holders) c → Learns a c
+      by h = record { more = h.more; mine = h.mine; pass = h.pass; pin = h.pin }
+
+  -- the reason of the last try
+  reason_at_last : (ops : List Op) (e : Refusal) → IsReason m c ops e → IsLastReason (length holders + 1) a c ops e
+  reason_at_last ops e (inl h) =
+      let late = h.0 in
+      inl (late.0, holders, late.1, subst (λ (k : Knowledge). late.0 < k.limits.passes) is late.2, subst (λ (k : Knowledge). late.0 ≢ k.number) is late.3, refl, tried_again late.0 late.4)
+  reason_at_last ops e (inr h) = inr h
+
+  -- the reason of a try that was not the last
+  reason_else : (tries : ℕ) (ops : List Op) (e : Refusal) → is_busy e ≡ false → IsReason m c ops e → IsLastReason tries a c ops e
+  reason_else tries ops e free (inl h) = absurd (false≢true (sym free ∙ ap is_busy h.0.1))
+  reason_else tries ops e free (inr h) = inr h
+
+  -- the try found a holder
+  pub held_again : {X : Type 0} (ops : List Op) (r : Result X Refusal) → was_busy r ≡ true → IfErr r (λ e. Learns m c × IsReason m c ops e) → (b : ℕ) × (c ≡ tried a (b ∷ holders))
+  held_again ops (Ok x) held h = absurd (false≢true held)
+  held_again ops (Err e) held h =
+      let busy = busy_with e held in
+      let late = busy_by_lock m c ops busy.0 (subst (λ (x : Refusal). IsReason m c ops x) busy.1 h.1) in
+      (late.0, tried_again late.0 late.4)
+
+  pub accepted_at_last : {X : Type 0} (dones_of : X → List Done) (ops : List Op) (r : Result (ℕ × X) Refusal) → IfOk r (λ x. Accepts m c ops x.0 (dones_of x.1)) →
+      IfOk r (λ x. Accepts a c ops x.0 (dones_of x.1))
+  accepted_at_last dones_of ops (Ok x) h = accepts_at_last ops x.0 (dones_of x.1) h
+  accepted_at_last dones_of ops (Err e) h = tt
+
+  pub refused_at_last : {X : Type 0} (tries : ℕ) (ops : List Op) (r : Result X Refusal) → length holders + 1 ≡ tries → IfErr r (λ e. Learns m c × IsReason m c ops e) →
+      IfErr r (λ e. Learns a c × IsLastReason tries a c ops e)
+  refused_at_last tries ops (Ok x) count h = tt
+  refused_at_last tries ops (Err e) count h = (learns_at_last h.0, subst (λ n. IsLastReason n a c ops e) count (reason_at_last ops e h.1))
+
+  pub refused_else : {X : Type 0} (tries : ℕ) (ops : List Op) (r : Result X Refusal) → was_busy r ≡ false → IfErr r (λ e. Learns m c × IsReason m c ops e) →
+      IfErr r (λ e. Learns a c × IsLastReason tries a c ops e)
+  refused_else tries ops (Ok x) free h = tt
+  refused_else tries ops (Err e) free h = (learns_at_last h.0, reason_else tries ops e free h.1)
