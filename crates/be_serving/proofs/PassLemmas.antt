@@ -1,7 +1,7 @@
 -- What a pass knows before and after a call, as the store that it shows.
-use Rattle.std.proofs.Common.{◌≡◌, ◌≢◌, ◌⊎◌, ◌<◌, ◌+◌, ℕ, Bool, true, false, cond, eqb, nat_lt, List, [], ◌∷◌, ◌++◌, All, length, take, Option, Some, None, IsOk, inl, inr, refl, sym, ap, ◌∙◌, subst, append_assoc, arith, length-append}
+use Rattle.std.proofs.Common.{◌≡◌, ◌≢◌, ◌⊎◌, ◌<◌, ◌≤◌, ◌+◌, ℕ, Bool, true, false, cond, eqb, nat_lt, List, [], ◌∷◌, ◌++◌, All, length, take, Option, Some, None, IsOk, inl, inr, refl, sym, ap, ◌∙◌, subst, append_assoc, arith, length-append}
 use Rattle.std.specs.Prelude.{Result, Ok, Err, IfOk, IfErr, IsSome}
-use Rattle.std.specs.Option.{option_map}
+use Rattle.std.specs.Option.{option_map, option_map_or}
 use Rattle.std.proofs.lemmas.Bool.Decides.{nat_tests}
 use Rattle.std.proofs.lemmas.List.{length-map, take-append-le}
 use Rattle.std.proofs.lemmas.List.Elements.{All-nil, All-cons}
@@ -16,9 +16,9 @@ use Rattle.be_journal.proofs.LegalLemmas.{replay_push}
 use Rattle.be_table.specs.declared.pass.Commit.{Commit}
 use Rattle.be_table.specs.declared.pass.Knowledge.{Knowledge}
 use Rattle.be_table.specs.History.{AllBelow}
-use Rattle.be_table.specs.Rule.{entries}
+use Rattle.be_table.specs.Rule.{announce_word, entries}
 use Rattle.be_table.specs.Seats.{pinned_number}
-use Rattle.be_table.specs.Steps.{IsPass, entry_of}
+use Rattle.be_table.specs.Steps.{IsPass, entry_of, least_found}
 use Rattle.be_table.specs.Works.{HasNoRoom}
 use Rattle.be_table.proofs.Histories.{by_pass-append, below-front}
 use Rattle.be_value.specs.declared.refusals.Refusal.{Refusal}
@@ -28,7 +28,7 @@ use Rattle.be_volume.specs.Volume.{State, empty, steps}
 use Rattle.be_volume.specs.declared.ops.Done.{Done}
 use Rattle.be_volume.specs.declared.ops.Op.{Op}
 use Rattle.be_store.specs.History.{Accepts, Learns, IsLastReason, Pins}
-use Rattle.be_store.specs.Passes.{IsPinnedTo, volume_seen}
+use Rattle.be_store.specs.Passes.{IsPinnedTo, IsSettled, volume_seen}
 use Rattle.be_store.proofs.Applied.{entries_append, nothing_more}
 use Rattle.be_serving.specs.Served.{known, pin_at}
 use Rattle.be_serving.specs.Store.{Pin, Store, Joins, Meanwhile, IsBusy, IsWant, MayWrite, pinned, entered, written, written_by}
@@ -106,6 +106,15 @@ refused_at_limit s ops (Err e) ok h = cc
 
 written_with_room : (s : Store) (ops : List Op) (volume : State) (dones : List Done) → length s.journal < s.limit → written_by s ops (Ok (volume, dones)) ≡ Ok (entered s ops volume dones, dones)
 written_with_room s ops volume dones h = let t : nat_lt (length s.journal) s.limit ≡ true = grind (arith, nat_tests) in rw t refl
+
+-- the least that a pass finds at most, and finds where it is the only one, as the version that is read
+least_shown : (passes : ℕ) (seen : List Commit) (phase : Phase) (least : ℕ) → IsSettled passes phase → InTime (length seen) phase
+    → (least ≤ least_found (length seen) (announce_word phase)) × (passes ≡ 1 → least ≡ least_found (length seen) (announce_word phase))
+    → let shown = option_map_or (λ (p : Pin). p.number) (pin_of (entries seen) phase) (length (entries seen)) in (least ≤ shown) × (passes ≡ 1 → least ≡ shown)
+least_shown passes seen Idle least settled time own = (omega (arith, seen_count seen, own.0), λ one. own.1 one ∙ sym (seen_count seen))
+least_shown passes seen (Looked x) least settled time own = absurd settled
+least_shown passes seen (Announced x) least settled time own = absurd settled
+least_shown passes seen (Pinned x n) least settled time own = (omega (arith, time.0, own.0), λ one. let same = settled one in let found = own.1 one in omega (arith, time.1, same, found))
 
 -- a call of a pass
 module _ (a c : Knowledge) (before : IsPass a) (behind : IsPass c) (limits : c.limits ≡ a.limits) where
@@ -204,22 +213,22 @@ module _ (a c : Knowledge) (before : IsPass a) (behind : IsPass c) (limits : c.l
         );
       }
 
-  refused_as : (tries : ℕ) (ops : List Op) (e : Refusal) → c.number ≡ a.number → IsLastReason tries a c ops e →
-      (written (known c) ops ≡ Err e) ⊎ (IsWant e × IsOk (written (known c) ops)) ⊎ IsBusy (known c) e
-  refused_as tries ops e number (inl late) = inr (inr (late.0, late.2, (subst (λ l. late.0 < l.passes) (sym limits) late.3, subst (λ k. late.0 ≢ k) (sym number) late.4)))
-  refused_as tries ops e number (inr (inl h)) = inl (ap (written_by (known c) ops) h)
-  refused_as tries ops e number (inr (inr (inl h))) = unroomed h.1
+  refused_as : (tries : ℕ) (ops : List Op) (e : Refusal) → IsSettled c.limits.passes c.phase → c.number ≡ a.number → IsLastReason tries a c ops e →
+      (written (known c) ops ≡ Err e) ⊎ (IsWant (known c) e × IsOk (written (known c) ops)) ⊎ IsBusy (known c) e
+  refused_as tries ops e settled number (inl late) = inr (inr (late.0, late.2, (subst (λ l. late.0 < l.passes) (sym limits) late.3, subst (λ k. late.0 ≢ k) (sym number) late.4)))
+  refused_as tries ops e settled number (inr (inl h)) = inl (ap (written_by (known c) ops) h)
+  refused_as tries ops e settled number (inr (inr (inl h))) = unroomed h.1
     where
-      unroomed : HasNoRoom e c → (written (known c) ops ≡ Err e) ⊎ (IsWant e × IsOk (written (known c) ops)) ⊎ IsBusy (known c) e
+      unroomed : HasNoRoom e c → (written (known c) ops ≡ Err e) ⊎ (IsWant (known c) e × IsOk (written (known c) ops)) ⊎ IsBusy (known c) e
       unroomed (inl spent) = inl (refused_at_limit (known c) ops (steps (volume_seen c) ops) h.0 (seen_count c.seen ∙ spent.1) ∙ ap Err (sym spent.0))
       unroomed (inr want) = inr (inl (inl want.0, accepted_with_room (known c) ops (steps (volume_seen c) ops) h.0 (omega (arith, seen_count c.seen, want.1))))
-  refused_as tries ops e number (inr (inr (inr h))) =
-      inr (inl (inr (h.2.0, h.2.1), accepted_with_room (known c) ops (steps (volume_seen c) ops) h.0 (omega (arith, seen_count c.seen, h.1))))
+  refused_as tries ops e settled number (inr (inr (inr h))) =
+      inr (inl (inr (h.2.0, h.2.1, least_shown c.limits.passes c.seen c.phase h.2.0 settled behind.pin h.2.2.2), accepted_with_room (known c) ops (steps (volume_seen c) ops) h.0 (omega (arith, seen_count c.seen, h.1))))
 
-  pub writes_meanwhile : {X : Type 0} (tries : ℕ) (dones_of : X → List Done) (ops : List Op) (r : Result (ℕ × X) Refusal) → IfOk r (λ x. Accepts a c ops x.0 (dones_of x.1)) →
+  pub writes_meanwhile : {X : Type 0} (tries : ℕ) (dones_of : X → List Done) (ops : List Op) (r : Result (ℕ × X) Refusal) → IsSettled c.limits.passes c.phase → IfOk r (λ x. Accepts a c ops x.0 (dones_of x.1)) →
       IfErr r (λ e. Learns a c × IsLastReason tries a c ops e) → Meanwhile (known a) (λ s. MayWrite dones_of s ops r (known c))
-  writes_meanwhile tries dones_of ops (Ok x) ok err = accepts_meanwhile dones_of ops x.0 x.1 ok
-  writes_meanwhile tries dones_of ops (Err e) ok err = record { now = known c; joins = learns_joins err.0; is = (refl, refused_as tries ops e err.0.pass err.1) }
+  writes_meanwhile tries dones_of ops (Ok x) settled ok err = accepts_meanwhile dones_of ops x.0 x.1 ok
+  writes_meanwhile tries dones_of ops (Err e) settled ok err = record { now = known c; joins = learns_joins err.0; is = (refl, refused_as tries ops e settled err.0.pass err.1) }
 
 -- a write leaves the pass its number, and its refusal has a reason
 pub same_number : {X : Type 0} (a c : Knowledge) (tries : ℕ) (dones_of : X → List Done) (ops : List Op) (r : Result (ℕ × X) Refusal) → IfOk r (λ x. Accepts a c ops x.0 (dones_of x.1)) →

@@ -53,12 +53,12 @@ commit_empty store [] l h = inl refl
 commit_empty store (op ∷ ops) l h = absurd (omega (arith, h))
 
 -- a refusal that comes in place of an accepted write is no memory, or holds the write up
-held_up : (s : Store) (ops : List Op) (e : Refusal) → (IsWant e × IsOk (written s ops)) ⊎ IsBusy s e → (refused e ≡ refused OutOfMemory) ⊎ IsHeldUp s ops (refused e)
+held_up : (s : Store) (ops : List Op) (e : Refusal) → (IsWant s e × IsOk (written s ops)) ⊎ IsBusy s e → (refused e ≡ refused OutOfMemory) ⊎ IsHeldUp s ops (refused e)
 held_up s ops e (inl h) = by h.0
   where
-    by : IsWant e → (refused e ≡ refused OutOfMemory) ⊎ IsHeldUp s ops (refused e)
+    by : IsWant s e → (refused e ≡ refused OutOfMemory) ⊎ IsHeldUp s ops (refused e)
     by (inl none) = inl (ap refused none)
-    by (inr full) = inr (inl (full.0, ap refused full.1, h.1))
+    by (inr full) = inr (inl (full.0, ap refused full.1, full.2, h.1))
 held_up s ops e (inr h) = inr (inr (h.0, ap refused h.1, h.2))
 
 module _ {X : Type 0} (dones_of : X → List Done) (old new : Store) (live : Option LiveQuery) where
@@ -76,7 +76,7 @@ module _ {X : Type 0} (dones_of : X → List Done) (old new : Store) (live : Opt
       same : unbatched new live ≡ unbatched m.now live
       same = ap (λ (s : Store). unbatched s live) m.is.0
 
-      by : (written m.now (op ∷ []) ≡ Err e) ⊎ (IsWant e × IsOk (written m.now (op ∷ []))) ⊎ IsBusy m.now e →
+      by : (written m.now (op ∷ []) ≡ Err e) ⊎ (IsWant m.now e × IsOk (written m.now (op ∷ []))) ⊎ IsBusy m.now e →
           Replies (unbatched m.now live) (write (Ok op)) (refused e) (unbatched new live)
       by (inl h) = inl (ap (write_reply (unbatched m.now live)) h ∙ (λ i. (refused e, sym same i)))
       by (inr h) = inr (same, held_up m.now (op ∷ []) e h)
@@ -98,7 +98,7 @@ module _ {X : Type 0} (dones_of : X → List Done) (old new : Store) (live : Opt
       same : unbatched new live ≡ unbatched m.now live
       same = ap (λ (s : Store). unbatched s live) m.is.0
 
-      by : (written m.now (op ∷ ops) ≡ Err e) ⊎ (IsWant e × IsOk (written m.now (op ∷ ops))) ⊎ IsBusy m.now e →
+      by : (written m.now (op ∷ ops) ≡ Err e) ⊎ (IsWant m.now e × IsOk (written m.now (op ∷ ops))) ⊎ IsBusy m.now e →
           Replies (batched m.now (op ∷ ops) live) commit (refused e) (unbatched new live)
       by (inl h) = inl (ap (commit_reply (batched m.now (op ∷ ops) live)) h ∙ (λ i. (refused e, sym same i)))
       by (inr h) = inr (same, held_up m.now (op ∷ ops) e h)

@@ -19,7 +19,7 @@ use Rattle.be_volume.specs.declared.ops.Done.TheVariants.{Node, Unit as Nothing}
 use Rattle.be_volume.specs.declared.ops.Op.{Op}
 use Rattle.be_language.specs.Reply.{Reply, none, bad_line, ok, node, nodes, value, attributes, kinds, cover, pinned_at, already_pinned, not_pinned, updates, no_live_query, queued, full_batch, empty_batch, already_begun, not_begun, committed, refused, text_of}
 use Rattle.be_language.specs.Request.{Request, silent, malformed, write, query, explain, get, attrs, indices, pin, unpin, live, refresh, begin, commit, abort, asked, lines_of}
-use Rattle.be_serving.specs.Store.{Pin, Store, Meanwhile, IsOther, start, viewed, pinned, unpinned, written}
+use Rattle.be_serving.specs.Store.{Pin, Store, Meanwhile, IsLeastOf, IsOther, start, viewed, pinned, unpinned, written}
 
 -- a script under way: its store, the operations of its batch where one is open, and its live query where it has one
 pub record Session : Type 0 where
@@ -141,9 +141,9 @@ unwritten s begin = s
 unwritten s commit = with_batch s None
 unwritten s abort = s
 
--- There was no page for these operations, which should be accepted; or another pass was writing.
+-- There was no page for these operations, which should be accepted, and the reply tells the least; or another pass was writing.
 abbrev pub IsHeldUp : Store → List Op → Reply → Type 0
-IsHeldUp store ops reply = ((least : ℕ) × (reply ≡ refused (Full least)) × IsOk (written store ops)) ⊎ ((pass : ℕ) × (reply ≡ refused (Busy pass)) × IsOther store pass)
+IsHeldUp store ops reply = ((least : ℕ) × (reply ≡ refused (Full least)) × IsLeastOf store least × IsOk (written store ops)) ⊎ ((pass : ℕ) × (reply ≡ refused (Busy pass)) × IsOther store pass)
 
 -- the same of the operations that a line writes to the store; no other line is held up
 abbrev pub IsHeldUpAt : Session → Option (List Op) → Request → Reply → Type 0

@@ -1,5 +1,5 @@
 -- What serves a script.
-use Rattle.std.specs.Prelude.{◌≡◌, ◌≢◌, ◌⊎◌, ◌<◌, ℕ, List, [], ◌∷◌, ◌++◌, All, fold, length, nat_lt, if◌then◌else◌, IsOk, Some, None, refl}
+use Rattle.std.specs.Prelude.{◌≡◌, ◌≢◌, ◌⊎◌, ◌<◌, ◌≤◌, ℕ, List, [], ◌∷◌, ◌++◌, All, fold, length, nat_lt, if◌then◌else◌, IsOk, Some, None, refl}
 use Rattle.std.specs.Coded.{Coded, code_by, coded_ℕ, coded_list, coded_option, coded×}
 use Rattle.std.specs.Option.{option_map_or}
 use Rattle.std.specs.declared.option.Option.{Option}
@@ -81,9 +81,17 @@ written_by s ops (Err e) = Err e
 abbrev pub written : Store → List Op → Result (Store × List Done) Refusal
 written s ops = written_by s ops (steps s.volume ops)
 
--- a refusal for want of memory or of pages
-abbrev pub IsWant : Refusal → Type 0
-IsWant e = (e ≡ OutOfMemory) ⊎ ((least : ℕ) × (e ≡ Full least))
+-- which version is read, by how many writes were accepted before it: the pinned one, or else that after all writes
+abbrev pub viewed_number : Store → ℕ
+viewed_number s = option_map_or (λ (p : Pin). p.number) s.pin (length s.journal)
+
+-- The least that a full store tells is no later than the version that is read; and where no other pass reads, it is that version.
+abbrev pub IsLeastOf : Store → ℕ → Type 0
+IsLeastOf s least = (least ≤ viewed_number s) × (s.passes ≡ 1 → least ≡ viewed_number s)
+
+-- a refusal for want of memory, or of pages with the least
+abbrev pub IsWant : Store → Refusal → Type 0
+IsWant s e = (e ≡ OutOfMemory) ⊎ ((least : ℕ) × (e ≡ Full least) × IsLeastOf s least)
 
 -- another pass was writing
 abbrev pub IsBusy : Store → Refusal → Type 0
@@ -93,4 +101,4 @@ IsBusy s e = (pass : ℕ) × (e ≡ Busy pass) × IsOther s pass
 -- a refused write changes nothing.
 abbrev pub MayWrite : {X : Type 0} → (X → List Done) → Store → List Op → Result (ℕ × X) Refusal → Store → Type 0
 MayWrite dones_of old ops (Ok answer) new = (written old ops ≡ Ok (new, dones_of answer.1)) × (answer.0 ≡ length new.journal)
-MayWrite dones_of old ops (Err e) new = (new ≡ old) × ((written old ops ≡ Err e) ⊎ (IsWant e × IsOk (written old ops)) ⊎ IsBusy old e)
+MayWrite dones_of old ops (Err e) new = (new ≡ old) × ((written old ops ≡ Err e) ⊎ (IsWant old e × IsOk (written old ops)) ⊎ IsBusy old e)

@@ -1,6 +1,8 @@
 -- The only pass of a store has written all that it has seen.
 use Rattle.std.proofs.Common.{◌≡◌, ℕ, List, [], ◌∷◌, ◌++◌, length, Ok, refl, sym, ap, ◌∙◌, subst, arith, length-append}
 use Rattle.std.proofs.lemmas.List.{append-nil, length-map}
+use Rattle.be_core.specs.declared.event.Phase.{Phase}
+use Rattle.be_core.specs.declared.event.Phase.TheVariants.{Idle, Looked, Announced, Pinned}
 use Rattle.be_journal.specs.declared.entries.Entry.{Entry}
 use Rattle.be_journal.specs.Journal.{by_pass, replay, Agrees}
 use Rattle.be_journal.proofs.LegalLemmas.{replay_push}
@@ -8,14 +10,15 @@ use Rattle.be_table.specs.declared.pass.Commit.{Commit}
 use Rattle.be_table.specs.declared.pass.Knowledge.{Knowledge}
 use Rattle.be_table.specs.History.{AllBelow, StartsWith}
 use Rattle.be_table.specs.Rule.{entries}
-use Rattle.be_table.specs.Steps.{entry_of}
+use Rattle.be_table.specs.Steps.{IsPass, announces, entry_of}
+use Rattle.be_table.specs.Works.{Pins}
 use Rattle.be_table.proofs.Histories.{by_pass-append, by_pass-own}
 use Rattle.be_volume.specs.Ahead.{after, reached}
 use Rattle.be_volume.specs.declared.ops.Done.{Done}
 use Rattle.be_volume.specs.declared.ops.Op.{Op}
 use Rattle.be_store.specs.Alone.{IsAlone, WritesNext}
 use Rattle.be_store.specs.History.{Accepts}
-use Rattle.be_store.specs.Passes.{volume_seen}
+use Rattle.be_store.specs.Passes.{IsSettled, volume_seen}
 use Rattle.be_store.proofs.Applied.{entries_append, nothing_more}
 
 -- entries by passes below 1 are by the pass 0
@@ -43,6 +46,24 @@ pub same_seen : (a c : Knowledge) → IsAlone a → IsAlone c → StartsWith c.s
 same_seen a c alone after more mine =
     let same : entries a.seen ++ entries more.0 ≡ entries a.seen = sym (entries_append a.seen more.0) ∙ (ap entries (sym more.1) ∙ (written c after ∙ (mine ∙ sym (written a alone)))) in
     more.1 ∙ (ap (λ l. a.seen ++ l) (none_of more.0 (nothing_more (entries a.seen) (entries more.0) same)) ∙ append-nil a.seen)
+
+abbrev announced_in : Phase → ℕ
+announced_in Idle = 0
+announced_in (Looked x) = 0
+announced_in (Announced x) = x
+announced_in (Pinned x n) = 0
+
+-- The pass looks, announces what it found, and looks again. Where it is the only one, it is then pinned to what it announced.
+pub settled_pin : (passes n : ℕ) (b p c : Knowledge) → IsPass b → b.limits.passes ≡ passes → c.limits.passes ≡ passes → n ≡ length b.seen → p ≡ announces b n → Pins p c → IsSettled passes c.phase
+settled_pin passes n b p c pass limits limits_then number announced h =
+    let x : ℕ = h.same.0 in
+    let found : x ≡ n = sym (ap announced_in h.same.1) ∙ ap (λ (k : Knowledge). announced_in k.phase) announced in
+    let seen : p.seen ≡ b.seen = ap (λ (k : Knowledge). k.seen) announced in
+    let mine : c.mine ≡ b.mine = ap (λ (k : Knowledge). k.mine) h.same.2 ∙ ap (λ (k : Knowledge). k.mine) announced in
+    let phase : c.phase ≡ Pinned x (length c.seen) = ap (λ (k : Knowledge). k.phase) h.same.2 in
+    subst (IsSettled passes) (sym phase) (λ one.
+        let same : c.seen ≡ b.seen = same_seen b c (record { pass = pass; one = limits ∙ one }) (record { pass = h.pass; one = limits_then ∙ one }) (subst (StartsWith c.seen) seen h.more) mine in
+        found ∙ (number ∙ ap length (sym same)))
 
 none_between : (xs ys : List Entry) (d e : Entry) → (xs ++ ys) ++ d ∷ [] ≡ xs ++ e ∷ [] → ys ≡ []
 none_between xs [] d e same = refl

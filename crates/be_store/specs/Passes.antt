@@ -11,16 +11,16 @@ use Rattle.be_table.specs.Seats.{pinned_number}
 use Rattle.be_table.specs.Works.{IsSeatOf}
 use Rattle.be_volume.specs.Volume.{State, empty}
 
--- between two calls of a store a pass is pinned, or it isn't; it has not stopped half way to a pin
-abbrev pub IsSettled : Phase → Type 0
-IsSettled Idle = Unit {0}
-IsSettled (Looked a) = ⊥
-IsSettled (Announced a) = ⊥
-IsSettled (Pinned a n) = Unit {0}
+-- Between two calls of a store a pass is pinned, or it isn't; it has not stopped half way to a pin. The only pass of a store is pinned to the version that it has announced.
+abbrev pub IsSettled : ℕ → Phase → Type 0
+IsSettled passes Idle = Unit {0}
+IsSettled passes (Looked x) = ⊥
+IsSettled passes (Announced x) = ⊥
+IsSettled passes (Pinned x n) = passes ≡ 1 → x ≡ n
 
 -- a pass of this store
 abbrev pub IsPassOf : Opened → Place → Type 0
-IsPassOf store pass = IsSeatOf store pass × IsSettled pass.knows.phase
+IsPassOf store pass = IsSeatOf store pass × IsSettled store.limits.passes pass.knows.phase
 
 -- the pass is pinned to the first n entries of the journal
 abbrev pub IsPinnedTo : Knowledge → ℕ → Type 0

@@ -249,6 +249,7 @@ module _ (limits : Limits) (slots i : ℕ) (a : Knowledge) (carried : List (ℕ 
       let passes : a.limits.passes ≡ v.passes = ap (λ (l : Limits). l.passes) fa.limits_are ∙ sym h.sound.passes in
       let least : least_after v (holder_of a) j ≡ least_then a n = least-found (if j == 0 then v.current else a.least) (v.phases j) ∙ least-plain (j == 0) v.current (length a.seen) a.least (announce_word (v.phases j)) n (h.table.version ∙ ap length (sym m.log)) (sym (h.table.words.announced j m.turn)) in
       let is = ((h0.views i (a ∷ []) at).0.whole writes).holder in
+      let mine = λ (own : j ≡ a.number). h.table.words.announced j m.turn ∙ (ap (λ k. announce_word (v.phases k)) own ∙ ap announce_word fa.phase) in
       elim (eqb_tells (suc j) v.passes) [
         | inl y ↦
             let c = scans_out a n in
@@ -284,6 +285,7 @@ module _ (limits : Limits) (slots i : ℕ) (a : Knowledge) (carried : List (ℕ 
                     let x = all_swept v h.sound.machine (holder_of a) a.number j (refl, refl, unpublished) refl y.1 p inside
                     (λ o lo hi. h.sound.reaches o p hi ∙ ap (λ g. has (reach_at g o) p) (sym m.log) ∙ un o (subst (λ q. q ≤ o) least lo) (let q = ap length m.log in let g = h.table.version in omega arith)) in
                     rw (z.free p, z.taken p) at (subst (λ l. IsTrue ((v.free p || is_below l (v.retired p)) || v.taken p)) least x),
+                mine,
               ),
             )
         | inr y ↦
@@ -310,7 +312,7 @@ module _ (limits : Limits) (slots i : ℕ) (a : Knowledge) (carried : List (ℕ 
                     })),
                 unheld_by b0.world (holder_of a) (λ u. IsScan a.number j n u w) is ((m.turn, (holder_of a, (refl, refl, unpublished), refl)), event),
               ),
-              (refl, λ last. absurd (y.1 (last ∙ passes))),
+              (refl, λ last. absurd (y.1 (last ∙ passes)), mine),
             )
       ]
     where

@@ -1,5 +1,5 @@
 -- A scan, announcement by announcement.
-use Rattle.std.proofs.Common.{◌≡◌, ◌≢◌, ℕ, suc, Bool, map, ◌+◌, ◌<◌, eq-eqb, ne_eqb, List, [], ◌∷◌, ◌++◌, length, cond, refl, sym, ap, ◌∙◌, subst, arith}
+use Rattle.std.proofs.Common.{◌≡◌, ◌≢◌, ℕ, suc, Bool, map, ◌+◌, ◌<◌, ◌≤◌, eq-eqb, ne_eqb, List, [], ◌∷◌, ◌++◌, length, cond, refl, sym, ap, ◌∙◌, subst, arith}
 use Rattle.std.proofs.Common.{zero, inl, inr, ⊎_elim}
 use Rattle.std.proofs.Math.Nat.{le_refl, min-eq_left, min-eq_right}
 use Rattle.std.proofs.lemmas.Bool.Decides.{leb_tells}
@@ -10,9 +10,9 @@ use Rattle.be_table.specs.declared.pass.Knowledge.{Knowledge}
 use Rattle.std.proofs.Common.{Option}
 use Rattle.atomic_table.specs.Table.{Me}
 use Rattle.be_table.specs.declared.ledger.Ledger.{Ledger}
-use Rattle.be_table.specs.Rule.{pass_of}
+use Rattle.be_table.specs.Rule.{announce_word, pass_of}
 use Rattle.be_pages.specs.Place.{swept_place, is_in_hand}
-use Rattle.be_table.specs.Steps.{scans, scans_on, scans_out, scans_all, scan_from, least_found, IsLeast, least_then, pages_from, IsPart, LeavesNone}
+use Rattle.be_table.specs.Steps.{scans, scans_on, scans_out, scans_all, scan_from, least_found, IsLeast, least_then, pages_from, IsPart, IsOwnLeast, IsOwnPart, own_least, LeavesNone}
 
 pub scans_all-push : (a : Knowledge) (ns : List ℕ) (n : ℕ) → scans_all a (ns ++ n ∷ []) ≡ scans (scans_all a ns) n
 scans_all-push a [] n = refl
@@ -44,6 +44,39 @@ least_more current words least (suc a) h = elim (leb_tells least a) [
     one = inr (Contains-push words (suc a));
   })
 ]
+
+-- an announcement more makes the least no greater, and keeps the order of two
+least_lower : (l n : ℕ) → least_found l n ≤ l
+least_lower l zero = le_refl l
+least_lower l (suc n) = omega arith
+
+least_mono : (l c n : ℕ) → l ≤ c → least_found l n ≤ least_found c n
+least_mono l c zero h = h
+least_mono l c (suc n) h = omega arith
+
+-- what no announcement says of the pass's own
+pub own_none : (a : Knowledge) (l : ℕ) → l ≡ length a.seen → IsOwnPart a 0 l
+own_none a l is = record { current = omega arith; none = λ _. is; own = λ lt. absurd (omega arith); first = λ e. absurd (omega arith) }
+
+-- one announcement more
+pub own_step : (a : Knowledge) (j l n : ℕ) → IsOwnPart a j l → (j ≡ a.number → n ≡ announce_word a.phase) → IsOwnPart a (j + 1) (least_found l n)
+own_step a j l n h mine = record {
+  current = (let low = least_lower l n in let top = h.current in omega arith);
+  none = λ e. absurd (omega arith);
+  own = λ lt. dite (ℕ_discrete j a.number)
+      (λ same. subst (λ x. least_found l x ≤ own_least a) (sym (mine same)) (least_mono l (length a.seen) (announce_word a.phase) h.current))
+      (λ other. let before : a.number < j = omega arith in let low = least_lower l n in let top = h.own before in omega arith);
+  first = λ one zero. let start : j ≡ 0 = omega arith in let same : j ≡ a.number = omega arith in ap (λ x. least_found x n) (h.none start) ∙ ap (least_found (length a.seen)) (mine same);
+}
+
+-- the announcement of the pass's own turn is its own
+pub found_own : (passes : ℕ) (a s : Knowledge) (j l n : ℕ) → j < passes → IsPart passes a s j l → (s.scanned ≡ s.number → n ≡ announce_word s.phase) → j ≡ a.number → n ≡ announce_word a.phase
+found_own passes a s j l n lt h own mine =
+    own (h.turn lt ∙ (mine ∙ sym (ap (λ (k : Knowledge). k.number) h.same))) ∙ ap (λ (k : Knowledge). announce_word k.phase) h.same
+
+-- what all say of it
+pub own_all : (a : Knowledge) (passes l : ℕ) → a.limits.passes ≡ passes → a.number < passes → IsOwnPart a passes l → IsOwnLeast a l
+own_all a passes l limits below h = (h.own below, λ one. h.first (omega arith) (omega arith))
 
 chosen_out : (s : Knowledge) (n : ℕ) → suc s.scanned ≡ s.limits.passes → scans s n ≡ scans_out s n
 chosen_out s n e = ap (λ (b : Bool). cond b (scans_out s n) (scans_on s n)) (eq-eqb (suc s.scanned) s.limits.passes e)

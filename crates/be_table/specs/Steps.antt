@@ -19,7 +19,7 @@ use Rattle.be_journal.specs.Journal.{HasOperations, Agrees, by_pass, replay}
 use Rattle.be_table.specs.History.{StartsWith, AllBelow, IsHistory}
 use Rattle.be_table.specs.Reading.{standing_in, word_in}
 use Rattle.be_table.specs.Versions.{at_start, SpellsVolume}
-use Rattle.be_table.specs.Rule.{ledger_places, IsWithin, AreInside, OwnPages, pass_of, counted, current_word, page_at, reach_at, entries, word_place}
+use Rattle.be_table.specs.Rule.{announce_word, ledger_places, IsWithin, AreInside, OwnPages, pass_of, counted, current_word, page_at, reach_at, entries, word_place}
 
 -- what is always so of a pass
 pub record IsPass (a : Knowledge) : Type 0 where
@@ -238,9 +238,9 @@ PinnedAt st m n r =
 abbrev pub Unpinned : Step (Option Ledger) → Me (Option Ledger) (List Knowledge) → ℕ → Me (Option Ledger) (List Knowledge) → Type 0
 Unpinned st m n r = let a = pass_of m.0 in r ≡ (unpins a ∷ [], m.1)
 
--- one announcement was found
+-- one announcement was found, and of its own the pass finds what it has announced
 abbrev pub Scanned : Step (Option Ledger) → Me (Option Ledger) (List Knowledge) → ℕ → Me (Option Ledger) (List Knowledge) → Type 0
-Scanned st m n r = let a = pass_of m.0 in (r ≡ (scans a n ∷ [], m.1)) × (suc a.scanned ≡ a.limits.passes → LeavesNone (scans_out a n))
+Scanned st m n r = let a = pass_of m.0 in (r ≡ (scans a n ∷ [], m.1)) × (suc a.scanned ≡ a.limits.passes → LeavesNone (scans_out a n)) × (a.scanned ≡ a.number → n ≡ announce_word a.phase)
 
 -- a word of the pinned version was found
 abbrev pub PinnedRead : Step (Option Ledger) → Me (Option Ledger) (List Knowledge) → ℕ → Me (Option Ledger) (List Knowledge) → Type 0
@@ -272,6 +272,21 @@ pub record IsPart (passes : ℕ) (a s : Knowledge) (j least : ℕ) : Type 0 wher
   pub whole : j ≡ passes → (s.scanned ≡ 0) × (s.places ≡ map (swept_place least) a.places) × (s.held ≡ pages_from is_in_hand 0 a.places) × LeavesNone s
   pub begins : j ≡ 0 → least ≡ length a.seen
   pub so_far : 0 < j → s.least ≡ least
+
+-- of the current number and what the pass itself has announced, the least
+abbrev pub own_least : Knowledge → ℕ
+own_least a = least_found (length a.seen) (announce_word a.phase)
+
+-- no more than that, and just that in a table of one pass
+abbrev pub IsOwnLeast : Knowledge → ℕ → Type 0
+IsOwnLeast a least = (least ≤ own_least a) × (a.limits.passes ≡ 1 → least ≡ own_least a)
+
+-- what the first j announcements say of it
+pub record IsOwnPart (a : Knowledge) (j least : ℕ) : Type 0 where
+  pub current : least ≤ length a.seen
+  pub none : j ≡ 0 → least ≡ length a.seen
+  pub own : a.number < j → least ≤ own_least a
+  pub first : j ≡ 1 → a.number ≡ 0 → least ≡ own_least a
 
 -- no page was retired with a number above that of the current version
 abbrev pub IsNewest : Knowledge → Type 0

@@ -16,7 +16,7 @@ use Rattle.be_table.specs.Reading.{standing_in, word_in}
 use Rattle.be_table.specs.Versions.{at_start, SpellsVolume}
 use Rattle.be_journal.specs.Journal.{replay}
 use Rattle.be_table.specs.Rule.{AreBad, IsWithin, entries, page_at, reach_at, newcomer}
-use Rattle.be_table.specs.Steps.{Has, AllIdle, Keeps, IsPass, looks, finds_held, takes_lock, pins, takes_page, scans_all, IsLeast, pages_from, LeavesNone, Unreached}
+use Rattle.be_table.specs.Steps.{Has, AllIdle, Keeps, IsPass, looks, finds_held, takes_lock, pins, takes_page, scans_all, IsLeast, IsOwnLeast, pages_from, LeavesNone, Unreached}
 
 -- a seat of this table
 abbrev pub IsSeatOf : Opened → Place → Type 0
@@ -72,6 +72,7 @@ HasNoRoom r a = ((r ≡ CommitsSpent) × (length a.seen ≡ a.limits.commits)) �
 pub record MakesScan (old new : Work) (least : ℕ) : Type 0 where
   pub by : (found : List ℕ) × (length found ≡ old.knows.limits.passes) × (new ≡ record old { knows = scans_all old.knows found }) × IsLeast (length old.knows.seen) found least
   pub least_is : new.knows.least ≡ least
+  pub own : IsOwnLeast old.knows least
   pub places : new.knows.places ≡ map (swept_place least) old.knows.places
   pub held : new.knows.held ≡ pages_from is_in_hand 0 old.knows.places
   pub leaves : LeavesNone new.knows
@@ -95,9 +96,9 @@ pub record TakesPage (old new : Work) (page : ℕ) : Type 0 where
 abbrev pub HoldsUnreached : Knowledge → ℕ → Type 0
 HoldsUnreached a least = (p : ℕ) → p < a.limits.pages → Unreached a.seen least p → IsTrue (has a.held p)
 
--- this is the least of the write's last whole scan, and of the pages that no version from there on reaches the write held each
+-- This is the least of the write's last whole scan, and of the pages that no version from there on reaches the write held each. It is no more than the current number and what the pass has announced; and of the only pass it is the least of the two.
 abbrev pub IsSpent : Knowledge → ℕ → Type 0
-IsSpent a least = (least ≡ a.least) × HoldsUnreached a least
+IsSpent a least = (least ≡ a.least) × HoldsUnreached a least × IsOwnLeast a least
 
 -- no page was free, and none after a whole scan
 pub record FindsNone (old new : Work) (least : ℕ) : Type 0 where

@@ -14,17 +14,29 @@ pub struct Limits {
 }
 
 impl Limits {
+    /// The fewest pages.
+    pub const MIN_PAGES: u64 = 8;
+
+    /// The most pages.
+    pub const MAX_PAGES: u64 = 16384;
+
+    /// The most passes.
+    pub const MAX_PASSES: u64 = 64;
+
+    /// The most entries, so that the number of a version fits half a word.
+    pub const MAX_COMMITS: u64 = 4294967295;
+
     /// Whether a table may have these limits.
     pub fn are_within(&self) -> bool
         ensures within { result ≡ true → IsWithin self.now }
         ensures bad { result ≡ false → AreBad self.now }
     {
-        if self.pages < 8 || self.pages > 16384 {
+        if self.pages < Limits::MIN_PAGES || self.pages > Limits::MAX_PAGES {
             return false;
         }
-        if self.passes == 0 || self.passes > 64 {
+        if self.passes == 0 || self.passes > Limits::MAX_PASSES {
             return false;
         }
-        self.commits != 0 && self.commits < 1 << 32
+        self.commits != 0 && self.commits <= Limits::MAX_COMMITS
     }
 }

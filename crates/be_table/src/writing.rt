@@ -8,8 +8,8 @@ ghost use Rattle.be_volume.specs.Sound.{IsOperation};
 ghost use Rattle.be_pages.specs.declared.room.Standing.TheVariants.{Taken, Filled as Full};
 ghost use Rattle.be_table.specs.Reading.{standing_in};
 ghost use Rattle.be_pages.specs.Place.{is_in_hand, is_held_page, is_retired, place_of, given_place};
-ghost use Rattle.be_table.specs.Rule.{pass_of, counted, word_place, current_word};
-ghost use Rattle.be_table.specs.Steps.{IsNewest, IsPass, IsFound, MayPublish, publishes, MayBeFilled, MayScan, IsPart, fills_word, takes_page, gives_up, scans, scans_out, scans_all, least_found, IsLeast, LeavesNone};
+ghost use Rattle.be_table.specs.Rule.{announce_word, pass_of, counted, word_place, current_word};
+ghost use Rattle.be_table.specs.Steps.{IsNewest, IsPass, IsFound, MayPublish, publishes, MayBeFilled, MayScan, IsPart, fills_word, takes_page, gives_up, scans, scans_out, scans_all, least_found, IsLeast, IsOwnLeast, LeavesNone};
 
 use crate::ledger::Ledger;
 use crate::marks::Marks;
@@ -323,6 +323,7 @@ fn read_announcement(table: &VersionTable, base: &mut Base, pass: u64) -> u64
     ensures seat { (base.new.table_id ≡ base.old.table_id) × (base.new.id ≡ base.old.id) }
     ensures me { base.new.me ≡ (scans (pass_of base.old.me.0) result ∷ [], base.old.me.1) }
     ensures leaves { suc (pass_of base.old.me.0).scanned ≡ (pass_of base.old.me.0).limits.passes → LeavesNone (scans_out (pass_of base.old.me.0) result) }
+    ensures own { (pass_of base.old.me.0).scanned ≡ (pass_of base.old.me.0).number → result ≡ announce_word (pass_of base.old.me.0).phase }
 {
     table
         .table
@@ -343,10 +344,12 @@ fn lower(least: u64, found: u64) -> u64
 fn read_all(table: &VersionTable, base: &mut Base, current: u64) -> u64
     requires seat { base.old.table_id ≡ table.now.id }
     requires pass { MayScan table.now.limits base.old.me 0 }
+    requires number { (pass_of base.old.me.0).number < table.now.limits.passes }
     requires current { ((pass_of base.old.me.0).limits ≡ table.now.limits) × (current ≡ length (pass_of base.old.me.0).seen) }
     ensures seat { (base.new.table_id ≡ base.old.table_id) × (base.new.id ≡ base.old.id) }
     ensures me { (found : List ℕ) × (length found ≡ table.now.limits.passes) × (base.new.me ≡ (scans_all (pass_of base.old.me.0) found ∷ [], base.old.me.1)) × IsLeast current found result }
     ensures part { IsPart table.now.limits.passes (pass_of base.old.me.0) (pass_of base.new.me.0) table.now.limits.passes result }
+    ensures own { IsOwnLeast (pass_of base.old.me.0) result }
 {
     let mut least = current;
     for pass in 0..table.passes() {

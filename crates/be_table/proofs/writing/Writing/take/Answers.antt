@@ -1,5 +1,6 @@
 use Rattle.std.proofs.Common.{arith, refl, sym, subst, inl, inr}
 use Rattle.be_table.specs.Place.{Work}
+use Rattle.be_table.specs.Steps.{IsOwnLeast}
 use Rattle.be_table.specs.Works.{MakesScan, FindsNone}
 use Rattle.be_table.proofs.Opened.{all_held}
 use Rattle.be_table.proofs.writing.Writing.take.Goals as goal
@@ -20,5 +21,5 @@ returns-in-None-clause-full c =
     let h = subst (λ (w : Work). MakesScan w c.scan-least.new.self c.scan-least.result) c.in_default.ensures.same c.scan-least.ensures in (
       c.scan-least.result,
       refl,
-      subst (λ (w : Work). FindsNone c.args.self.now w c.scan-least.result) (sym e.same) (record { before = c.in_default.ensures.none; scan = h; none = e.none; spent = (sym h.least_is, λ p lt. all_held c.args.self.now c.scan-least.new.self c.scan-least.result h e.none p (let count = e.count in omega arith)) }),
+      subst (λ (w : Work). FindsNone c.args.self.now w c.scan-least.result) (sym e.same) (record { before = c.in_default.ensures.none; scan = h; none = e.none; spent = (sym h.least_is, λ p lt. all_held c.args.self.now c.scan-least.new.self c.scan-least.result h e.none p (let count = e.count in omega arith), subst (λ (w : Work). IsOwnLeast w.knows c.scan-least.result) (sym h.same) h.own) }),
     )

@@ -1,0 +1,15 @@
+use Rattle.std.proofs.Common.{ap, ◌∙◌, subst}
+use Rattle.be_table.specs.declared.limits.Limits.{Limits}
+use Rattle.be_table.specs.Place.{Opened}
+use Rattle.be_table.specs.Works.{IsSeatOf}
+use Rattle.be_store.proofs.Alone.{settled_pin}
+use Rattle.be_store.proofs.store.Store.pin.Goals as goal
+
+pub returns-clause-pass : goal.returns-clause-pass
+returns-clause-pass c =
+    let passes = λ (l : Limits). l.passes in
+    let same = ap (λ (t : Opened). t.limits.passes) c.self.view_is in (
+      subst (λ (t : Opened). IsSeatOf t c.look_again.new.seat) c.self.view_is c.look_again.ensures.seat,
+      settled_pin c.args.self.now.limits.passes c.look-number.result c.look-number.new.seat.knows c.announce.new.seat.knows c.look_again.new.seat.knows
+      c.look-number.ensures.sees.pass (ap passes c.look-number.ensures.seat.2 ∙ same) (ap passes c.look_again.ensures.seat.2 ∙ same) c.look-number.ensures.result c.announce.ensures.pass c.look_again.ensures.pass,
+    )
