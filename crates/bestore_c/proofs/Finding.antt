@@ -26,13 +26,13 @@ found_nodes view (Some n) x meant places filled count code pinned done counted p
     inr (subst (λ m. Scanned m places filled count code) (sym pinned) (done, counted, put))
 
 -- the fault of an answer that has one
-pub fault_in : {X : Type 0} → Result X Fault → Fault
+abbrev pub fault_in : {X : Type 0} → Result X Fault → Fault
 fault_in (Ok x) = NotPinned
 fault_in (Err e) = e
 
 -- a fault in place of one
 pub found_fault : {X : Type 0} (view : X → List ℕ) (pin : Option ℕ) (e : Fault) (meant : Result (List ℕ) Refusal) (places filled : List ℕ) (count code : ℕ)
-    → AtPin pin (Err e) (Tells view (Err e) meant) → code ≡ fault_code e
+    → AtPin {X = X} pin (Err e) (Tells view (Err e) meant) → code ≡ fault_code e
     → Found pin meant places filled count code
 found_fault {X} view None e meant places filled count code pinned is = is ∙ ap (λ (r : Result X Fault). fault_code (fault_in r)) pinned
 found_fault {X} view (Some n) NotPinned meant places filled count code pinned is = absurd pinned

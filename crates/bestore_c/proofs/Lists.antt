@@ -42,7 +42,7 @@ module _ {A X : Type 0} (makes : A → Op) (view : X → List A) (counts : Count
   told_as None x meant pinned out = cc
   told_as (Some n) x meant pinned out = subst (λ m. Told (Some n) m) (sym pinned) out
 
-  fault_as : (pin : Option ℕ) (e : Fault) (meant : Result (List A) Refusal) → AtPin pin (Err e) (Tells view (Err e) meant) → code ≡ fault_code e → Told pin meant
+  fault_as : (pin : Option ℕ) (e : Fault) (meant : Result (List A) Refusal) → AtPin {X = X} pin (Err e) (Tells view (Err e) meant) → code ≡ fault_code e → Told pin meant
   fault_as None e meant pinned is = is ∙ ap (λ (r : Result X Fault). fault_code (fault_in r)) pinned
   fault_as (Some n) NotPinned meant pinned is = absurd pinned
   fault_as (Some n) AlreadyPinned meant pinned is = absurd pinned
