@@ -1,6 +1,6 @@
 -- Bytes that grow at the end: what lay within them stays.
-use Rattle.std.proofs.Common.{◌≡◌, ◌<◌, ◌≤◌, ◌+◌, ◌-◌, ℕ, List, [], ◌∷◌, ◌++◌, append_assoc, arith, drop, get_or, length, map, length-append, length-drop, refl, sym, ap, subst, take, ◌∙◌}
-use Rattle.std.proofs.lemmas.List.{drop-append-le, drop_at, map_more, take-append-le, take_all, take_at}
+use Rattle.std.proofs.Common.{◌≡◌, ◌<◌, ◌≤◌, ◌+◌, ℕ, List, [], ◌∷◌, ◌++◌, arith, drop, get_or, length, map, length-append, length-drop, refl, sym, ap, subst, take, ◌∙◌}
+use Rattle.std.proofs.lemmas.List.{drop-append-le, drop_at, map_more, take-append-le, take_all}
 use Rattle.be_volume.specs.declared.ops.Op.{Op}
 use Rattle.be_session.specs.Meaning.{IsMeant}
 use Rattle.be_session.specs.Operations.{AreSpelled, IsMeantBy, IsWithin, part}

@@ -1,4 +1,3 @@
-use Rattle.std.proofs.Common.{sym}
 use Rattle.be_session.proofs.Spare.{new_last, new_rest, room_left}
 use Rattle.be_session.proofs.passes.take_last.Goals as goal
 
