@@ -1,5 +1,5 @@
 -- What a call makes of a handle that is open.
-use Rattle.std.proofs.Common.{◌≡◌, ℕ, Option, Some, None, Bool, true, false, refl, sym, subst}
+use Rattle.std.proofs.Common.{◌≡◌, ℕ, Option, Some, None, true, refl, sym, subst}
 use Rattle.std.proofs.lemmas.Bool.{false≢true}
 use Rattle.be_session.specs.Sitting.{Sitting}
 use Rattle.bestore_c.specs.Calls.{Calls}

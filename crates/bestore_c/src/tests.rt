@@ -2,8 +2,8 @@
 use crate::handle::{Attribute, Counts, Handle};
 use crate::owned::Owned;
 use crate::{
-    bes_another, bes_apply, bes_close, bes_explain, bes_get, bes_indices, bes_move, bes_open, bes_pin,
-    bes_query, bes_unpin,
+    bes_another, bes_apply, bes_close, bes_explain, bes_get, bes_indices, bes_move, bes_open,
+    bes_pin, bes_query, bes_unpin,
 };
 use be_session::Operation;
 use std::alloc::Global;
