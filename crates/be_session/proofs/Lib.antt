@@ -1,0 +1,5 @@
+pub mod Spare
+pub mod Meant
+pub mod Built
+pub mod Spelt
+pub mod Covers

@@ -1,0 +1,19 @@
+-- The numbers of faults.
+use Rattle.std.specs.Prelude.{ℕ}
+use Rattle.be_value.specs.Refusal.{refusal_number}
+use Rattle.be_session.specs.declared.faults.Fault.{Fault}
+use Rattle.be_session.specs.declared.faults.Fault.TheVariants.{NotPinned, AlreadyPinned, NoPass, BadCount, NotUtf8, NoOperation, NoKind, NoValue, BadPart, NoItem, Refused}
+
+-- the number by which other languages know a fault: a refusal's own, and 66 on for those of a session
+abbrev pub fault_code : Fault → ℕ
+fault_code NotPinned = 66
+fault_code AlreadyPinned = 67
+fault_code NoPass = 68
+fault_code BadCount = 69
+fault_code NotUtf8 = 70
+fault_code NoOperation = 71
+fault_code NoKind = 72
+fault_code NoValue = 73
+fault_code BadPart = 74
+fault_code NoItem = 75
+fault_code (Refused e) = refusal_number e

@@ -1,0 +1,67 @@
+-- What a predicate in reverse Polish order means, as other languages spell it.
+use Rattle.std.specs.Prelude.{◌≡◌, ◌⊎◌, ◌+◌, ◌<◌, ℕ, true, false, List, [], ◌∷◌, length, Contains, IsUtf8, Ok, Err}
+use Rattle.std.specs.Fmt.{decimal, signed_decimal}
+use Rattle.std.specs.Int.{cast_signed, w64}
+use Rattle.be_query.specs.Grammar.{Formula}
+use Rattle.be_query.specs.Rpn.{Item, Attr, Given, Number, Compare, Around, Both, Either, Complement, rpn}
+use Rattle.be_query.specs.View.{IsMemory}
+use Rattle.be_query.specs.declared.tree.Cmp.TheVariants.{Eq, Ne, Lt, Le, Gt, Ge}
+use Rattle.be_value.specs.declared.refusals.Refusal.{Refusal}
+use Rattle.be_value.specs.declared.refusals.Refusal.TheVariants.{OutOfMemory}
+use Rattle.be_session.specs.Meaning.{IsNoName}
+use Rattle.be_session.specs.Operations.{part}
+use Rattle.be_session.specs.declared.faults.Fault.{Fault}
+use Rattle.be_session.specs.declared.faults.Fault.TheVariants.{NotUtf8, NoItem, BadPart, Refused}
+use Rattle.be_session.specs.declared.items.PredicateItem.{PredicateItem}
+
+-- The item that a number means: an attribute by its name, a text, a number with or without a sign, or what is done to those before.
+abbrev pub IsItemMeant : ℕ → ℕ → List ℕ → Item → Type 0
+IsItemMeant kind number bytes (Attr name) = (kind ≡ 0) × (name ≡ bytes)
+IsItemMeant kind number bytes (Given text) = (kind ≡ 1) × (text ≡ bytes)
+IsItemMeant kind number bytes (Number text) = ((kind ≡ 2) × (text ≡ signed_decimal (cast_signed w64 number))) ⊎ ((kind ≡ 3) × (text ≡ decimal number))
+IsItemMeant kind number bytes (Compare Eq) = kind ≡ 4
+IsItemMeant kind number bytes (Compare Ne) = kind ≡ 5
+IsItemMeant kind number bytes (Compare Lt) = kind ≡ 6
+IsItemMeant kind number bytes (Compare Le) = kind ≡ 7
+IsItemMeant kind number bytes (Compare Gt) = kind ≡ 8
+IsItemMeant kind number bytes (Compare Ge) = kind ≡ 9
+IsItemMeant kind number bytes (Around true true) = kind ≡ 10
+IsItemMeant kind number bytes (Around false true) = kind ≡ 11
+IsItemMeant kind number bytes (Around true false) = kind ≡ 12
+IsItemMeant kind number bytes (Around false false) = ⊥
+IsItemMeant kind number bytes Both = kind ≡ 13
+IsItemMeant kind number bytes Either = kind ≡ 14
+IsItemMeant kind number bytes Complement = kind ≡ 15
+
+-- why these mean no item
+abbrev pub IsNoItem : ℕ → List ℕ → Fault → Type 0
+IsNoItem kind bytes e =
+    ((e ≡ NoItem) × (15 < kind))
+    ⊎ ((kind ≡ 0) × IsNoName bytes e)
+    ⊎ ((kind ≡ 1) × (e ≡ NotUtf8) × (¬ (IsUtf8 bytes)))
+    ⊎ (e ≡ Refused OutOfMemory)
+
+-- the items that are spelled here, in their order
+abbrev pub AreItemsMeant : List PredicateItem → List ℕ → List Item → Type 0
+AreItemsMeant [] bytes [] = Unit {0}
+AreItemsMeant [] bytes (item ∷ items) = ⊥
+AreItemsMeant (s ∷ ss) bytes [] = ⊥
+AreItemsMeant (s ∷ ss) bytes (item ∷ items) = IsItemMeant s.kind s.number (part bytes s.at s.length) item × AreItemsMeant ss bytes items
+
+-- why this one means no item: its part isn't within the bytes, or else
+abbrev pub IsItemMisspelt : PredicateItem → List ℕ → Fault → Type 0
+IsItemMisspelt s bytes e = ((e ≡ BadPart) × (length bytes < s.at + s.length)) ⊎ IsNoItem s.kind (part bytes s.at s.length) e
+
+-- why these mean no items: one of them means none, or a growth was refused
+abbrev pub AreItemsMisspelt : List PredicateItem → List ℕ → Fault → Type 0
+AreItemsMisspelt ss bytes e = ((s : PredicateItem) × Contains ss s × IsItemMisspelt s bytes e) ⊎ (e ≡ Refused OutOfMemory)
+
+-- the query that the items which are spelled here build
+abbrev pub IsBuilt : List PredicateItem → List ℕ → Formula → Type 0
+IsBuilt ss bytes query = (items : List Item) × AreItemsMeant ss bytes items × (rpn items ≡ Ok query)
+
+-- why there is none: an item is misspelt, or the items build none, or a growth was refused
+abbrev pub IsUnbuilt : List PredicateItem → List ℕ → Fault → Type 0
+IsUnbuilt ss bytes e =
+    AreItemsMisspelt ss bytes e
+    ⊎ ((items : List Item) × AreItemsMeant ss bytes items × (why : Refusal) × (e ≡ Refused why) × IsMemory why (rpn items ≡ Err why))

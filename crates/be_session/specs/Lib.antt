@@ -1,0 +1,6 @@
+pub mod Fault
+pub mod Meaning
+pub mod Sitting
+pub mod Operations
+pub mod Items
+pub mod Explained

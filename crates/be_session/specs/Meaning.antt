@@ -1,0 +1,68 @@
+-- What numbers and bytes mean: values and operations as other languages spell them.
+use Rattle.std.specs.Prelude.{◌≡◌, ◌≢◌, ◌⊎◌, ◌<◌, ◌≤◌, ◌^◌, ℕ, List, IsUtf8, Err}
+use Rattle.std.specs.Int.{cast_signed, w32, w64}
+use Rattle.std.specs.Int.RustNames.{FitsSigned}
+use Rattle.be_value.specs.Name.{name_from, text_from, bytes_from}
+use Rattle.be_value.specs.Value.{code_of}
+use Rattle.be_value.specs.declared.refusals.Refusal.{Refusal}
+use Rattle.be_value.specs.declared.values.Kind.{Kind}
+use Rattle.be_value.specs.declared.values.Kind.TheVariants as kinds
+use Rattle.be_value.specs.declared.values.Value.{Value}
+use Rattle.be_value.specs.declared.values.Value.TheVariants.{Cstr, Long, Llng, Mims, Rawt, Ulng, Ullg}
+use Rattle.be_volume.specs.declared.ops.Op.{Op}
+use Rattle.be_volume.specs.declared.ops.Op.TheVariants.{New, Drop, Set, Unset, MkIndex, RmIndex}
+use Rattle.be_session.specs.declared.faults.Fault.{Fault}
+use Rattle.be_session.specs.declared.faults.Fault.TheVariants.{NotUtf8, NoOperation, NoKind, NoValue, Refused}
+
+-- The value that a type code, a number and bytes mean: a text or raw bytes is its bytes, and a number is the number, with a sign as two's complement.
+abbrev pub IsValueMeant : ℕ → ℕ → List ℕ → Value → Type 0
+IsValueMeant code number bytes (Cstr text) = (code ≡ code_of kinds.Cstr) × (text ≡ bytes)
+IsValueMeant code number bytes (Long n) = (code ≡ code_of kinds.Long) × (n ≡ cast_signed w64 number)
+IsValueMeant code number bytes (Llng n) = (code ≡ code_of kinds.Llng) × (n ≡ cast_signed w64 number)
+IsValueMeant code number bytes (Mims text) = (code ≡ code_of kinds.Mims) × (text ≡ bytes)
+IsValueMeant code number bytes (Rawt raw) = (code ≡ code_of kinds.Rawt) × (raw ≡ bytes)
+IsValueMeant code number bytes (Ulng n) = (code ≡ code_of kinds.Ulng) × (n ≡ number)
+IsValueMeant code number bytes (Ullg n) = (code ≡ code_of kinds.Ullg) × (n ≡ number)
+
+-- The operation that these mean, each by the parts that it has a use for.
+abbrev pub IsMeant : ℕ → ℕ → List ℕ → ℕ → ℕ → List ℕ → Op → Type 0
+IsMeant number node name code value_number bytes New = number ≡ 0
+IsMeant number node name code value_number bytes (Drop n) = (number ≡ 1) × (n ≡ node)
+IsMeant number node name code value_number bytes (Set n called value) = (number ≡ 2) × (n ≡ node) × (called ≡ name) × IsValueMeant code value_number bytes value
+IsMeant number node name code value_number bytes (Unset n called) = (number ≡ 3) × (n ≡ node) × (called ≡ name)
+IsMeant number node name code value_number bytes (MkIndex called kind) = (number ≡ 4) × (called ≡ name) × (code_of kind ≡ code)
+IsMeant number node name code value_number bytes (RmIndex called) = (number ≡ 5) × (called ≡ name)
+
+-- no kind has this type code
+abbrev pub IsNoKind : ℕ → Type 0
+IsNoKind code = (kind : Kind) → code_of kind ≢ code
+
+-- why bytes are no name
+abbrev pub IsNoName : List ℕ → Fault → Type 0
+IsNoName name e = ((e ≡ NotUtf8) × (¬ (IsUtf8 name))) ⊎ ((why : Refusal) × (e ≡ Refused why) × (name_from name ≡ Err why))
+
+-- why bytes are no text of a value
+abbrev pub IsNoText : List ℕ → Fault → Type 0
+IsNoText bytes e = ((e ≡ NotUtf8) × (¬ (IsUtf8 bytes))) ⊎ ((why : Refusal) × (e ≡ Refused why) × (text_from bytes ≡ Err why))
+
+-- why a number and bytes mean no value of this kind
+abbrev pub IsNoneOf : Kind → ℕ → List ℕ → Fault → Type 0
+IsNoneOf kinds.Cstr number bytes e = IsNoText bytes e
+IsNoneOf kinds.Long number bytes e = (e ≡ NoValue) × (¬ (FitsSigned w32 (cast_signed w64 number)))
+IsNoneOf kinds.Llng number bytes e = ⊥
+IsNoneOf kinds.Mims number bytes e = IsNoText bytes e
+IsNoneOf kinds.Rawt number bytes e = (why : Refusal) × (e ≡ Refused why) × (bytes_from bytes ≡ Err why)
+IsNoneOf kinds.Ulng number bytes e = (e ≡ NoValue) × (¬ (number < 2 ^ 32))
+IsNoneOf kinds.Ullg number bytes e = ⊥
+
+-- why a type code, a number and bytes mean no value
+abbrev pub IsNoValue : ℕ → ℕ → List ℕ → Fault → Type 0
+IsNoValue code number bytes e = ((e ≡ NoKind) × IsNoKind code) ⊎ ((kind : Kind) × (code_of kind ≡ code) × IsNoneOf kind number bytes e)
+
+-- why these mean no operation
+abbrev pub IsNoOperation : ℕ → List ℕ → ℕ → ℕ → List ℕ → Fault → Type 0
+IsNoOperation number name code value_number bytes e =
+    ((e ≡ NoOperation) × (5 < number))
+    ⊎ ((2 ≤ number) × IsNoName name e)
+    ⊎ ((number ≡ 2) × IsNoValue code value_number bytes e)
+    ⊎ ((number ≡ 4) × (e ≡ NoKind) × IsNoKind code)

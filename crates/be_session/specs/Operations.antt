@@ -1,0 +1,55 @@
+-- What a list of operations means, as other languages spell them.
+use Rattle.std.specs.Prelude.{◌≡◌, ◌⊎◌, ◌+◌, ◌<◌, ◌≤◌, ℕ, List, [], ◌∷◌, length, take, drop, Contains}
+use Rattle.be_value.specs.declared.refusals.Refusal.TheVariants.{OutOfMemory}
+use Rattle.be_value.specs.declared.values.Kind.{Kind}
+use Rattle.be_value.specs.declared.values.Value.{Value}
+use Rattle.be_volume.specs.declared.ops.Op.{Op}
+use Rattle.be_volume.specs.declared.ops.Op.TheVariants.{Set, MkIndex}
+use Rattle.be_session.specs.Meaning.{IsMeant, IsNoOperation}
+use Rattle.be_session.specs.declared.faults.Fault.{Fault}
+use Rattle.be_session.specs.declared.faults.Fault.TheVariants.{BadPart, Refused}
+use Rattle.be_session.specs.declared.lists.Operation.{Operation}
+
+-- so many of the bytes, from this one on
+abbrev pub part : List ℕ → ℕ → ℕ → List ℕ
+part bytes at len = take len (drop at bytes)
+
+-- the operation that is spelled here, its name and value parts of these bytes
+abbrev pub IsMeantBy : Operation → List ℕ → Op → Type 0
+IsMeantBy o bytes op = IsMeant o.kind o.node (part bytes o.name_at o.name_length) o.code o.number (part bytes o.value_at o.value_length) op
+
+-- the operations that are spelled here, in their order
+abbrev pub AreMeant : List Operation → List ℕ → List Op → Type 0
+AreMeant [] bytes [] = Unit {0}
+AreMeant [] bytes (op ∷ ops) = ⊥
+AreMeant (o ∷ os) bytes [] = ⊥
+AreMeant (o ∷ os) bytes (op ∷ ops) = IsMeantBy o bytes op × AreMeant os bytes ops
+
+-- both parts of this one lie within so many bytes
+abbrev pub IsWithin : Operation → ℕ → Type 0
+IsWithin o n = (o.name_at + o.name_length ≤ n) × (o.value_at + o.value_length ≤ n)
+
+-- these are a spelling of the operations: they mean them, and each part lies within the bytes
+abbrev pub AreSpelled : List Operation → List ℕ → List Op → Type 0
+AreSpelled [] bytes [] = Unit {0}
+AreSpelled [] bytes (op ∷ ops) = ⊥
+AreSpelled (o ∷ os) bytes [] = ⊥
+AreSpelled (o ∷ os) bytes (op ∷ ops) = (IsWithin o (length bytes) × IsMeantBy o bytes op) × AreSpelled os bytes ops
+
+-- the operation that sets this attribute of the node
+abbrev pub sets : ℕ → (List ℕ × Value) → Op
+sets node a = Set node a.0 a.1
+
+-- the operation that makes this index
+abbrev pub makes : (List ℕ × Kind) → Op
+makes i = MkIndex i.0 i.1
+
+-- why this one means no operation: a part of it isn't within the bytes, or else
+abbrev pub IsMisspeltAt : Operation → List ℕ → Fault → Type 0
+IsMisspeltAt o bytes e =
+    ((e ≡ BadPart) × ((length bytes < o.name_at + o.name_length) ⊎ (length bytes < o.value_at + o.value_length)))
+    ⊎ IsNoOperation o.kind (part bytes o.name_at o.name_length) o.code o.number (part bytes o.value_at o.value_length) e
+
+-- why these mean no operations: one of them means none, or a growth was refused
+abbrev pub IsMisspelt : List Operation → List ℕ → Fault → Type 0
+IsMisspelt os bytes e = ((o : Operation) × Contains os o × IsMisspeltAt o bytes e) ⊎ (e ≡ Refused OutOfMemory)

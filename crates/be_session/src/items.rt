@@ -1,0 +1,105 @@
+//! Predicates in reverse Polish order as other languages spell them.
+ghost use Rattle.std.specs.Prelude.{◌≡◌, ◌<◌, ℕ, List, IfOk, IfErr, map};
+ghost use Rattle.be_query.specs.Rpn.{item_of};
+ghost use Rattle.be_session.specs.Items.{AreItemsMeant, AreItemsMisspelt, IsBuilt, IsItemMeant, IsItemMisspelt, IsNoItem, IsUnbuilt};
+ghost use Rattle.be_session.specs.Operations.{part};
+ghost use Rattle.be_session.specs.declared.faults.Fault.TheVariants.{NoItem};
+
+use crate::Fault;
+use crate::lists::part;
+use crate::meanings::{name, text};
+use be_store::{Item, Query, from_rpn};
+use std::alloc::Global;
+
+/// An item of a predicate as C spells it. Its bytes are a part of one string of bytes that goes with all items.
+#[repr(C)]
+#[derive(Clone, Copy)]
+pub struct PredicateItem {
+    /// 0 is an attribute and 1 a text, by their bytes; 2 is a signed number and 3 another; 4 to 9 compare by ==, !=, <, <=, >
+    /// and >=; 10 to 12 ask whether the attribute contains the text, begins or ends with it; 13 is and, 14 or, 15 not.
+    pub kind: u32,
+    pub at: u32,
+    pub length: u32,
+    pub number: u64,
+}
+
+fn joining_item(kind: u32) -> Result<Item, Fault>
+    requires { 9 < kind }
+    ensures ok { IfOk result (λ item. (number : ℕ) (bytes : List ℕ) → IsItemMeant kind number bytes (item_of item)) }
+    ensures err { IfErr result (λ e. (e ≡ NoItem) × (15 < kind)) }
+{
+    match kind {
+        10 => Ok(Item::Contains),
+        11 => Ok(Item::BeginsWith),
+        12 => Ok(Item::EndsWith),
+        13 => Ok(Item::And),
+        14 => Ok(Item::Or),
+        15 => Ok(Item::Not),
+        _ => Err(Fault::NoItem),
+    }
+}
+
+fn working_item(kind: u32) -> Result<Item, Fault>
+    requires { 3 < kind }
+    ensures ok { IfOk result (λ item. (number : ℕ) (bytes : List ℕ) → IsItemMeant kind number bytes (item_of item)) }
+    ensures err { IfErr result (λ e. (e ≡ NoItem) × (15 < kind)) }
+{
+    match kind {
+        4 => Ok(Item::Eq),
+        5 => Ok(Item::Ne),
+        6 => Ok(Item::Lt),
+        7 => Ok(Item::Le),
+        8 => Ok(Item::Gt),
+        9 => Ok(Item::Ge),
+        _ => joining_item(kind),
+    }
+}
+
+fn item(alloc: Global, kind: u32, number: u64, bytes: &[u8]) -> Result<Item, Fault>
+    ensures ok { IfOk result (λ item. IsItemMeant kind number bytes.now (item_of item)) }
+    ensures err { IfErr result (λ e. IsNoItem kind bytes.now e) }
+{
+    match kind {
+        0 => Ok(Item::Attr(name(bytes)?)),
+        1 => Ok(Item::Text(String::from_str(alloc, text(bytes)?)?)),
+        2 => Ok(Item::Int(number.cast_signed())),
+        3 => Ok(Item::Uint(number)),
+        _ => working_item(kind),
+    }
+}
+
+fn one_item(alloc: Global, spelled: &PredicateItem, bytes: &[u8]) -> Result<Item, Fault>
+    ensures ok { IfOk result (λ item. IsItemMeant spelled.now.kind spelled.now.number (part bytes.now spelled.now.at spelled.now.length) (item_of item)) }
+    ensures err { IfErr result (λ e. IsItemMisspelt spelled.now bytes.now e) }
+{
+    match part(bytes, spelled.at, spelled.length) {
+        Some(bytes) => item(alloc, spelled.kind, spelled.number, bytes),
+        None => Err(Fault::BadPart),
+    }
+}
+
+fn items(alloc: Global, spelled: &[PredicateItem], bytes: &[u8]) -> Result<Vec<Item>, Fault>
+    ensures ok { IfOk result (λ items. AreItemsMeant spelled.now bytes.now (map item_of items.items)) }
+    ensures err { IfErr result (λ e. AreItemsMisspelt spelled.now bytes.now e) }
+{
+    let mut items = Vec::new(alloc);
+    for next in spelled {
+        let item = one_item(alloc, next, bytes)?;
+        items.push(item)?;
+    }
+    Ok(items)
+}
+
+/// The query that items in reverse Polish order build. A fault of spelling is that of the first item that has one; else it
+/// is as of `be_query::from_rpn`.
+pub fn query_of_items(
+    alloc: Global,
+    spelled: &[PredicateItem],
+    bytes: &[u8],
+) -> Result<Query, Fault>
+    ensures ok { IfOk result (λ query. IsBuilt spelled.now bytes.now query) }
+    ensures err { IfErr result (λ e. IsUnbuilt spelled.now bytes.now e) }
+{
+    let items = items(alloc, spelled, bytes)?;
+    Ok(from_rpn(alloc, items.as_slice())?)
+}

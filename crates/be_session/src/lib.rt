@@ -1,0 +1,21 @@
+//! A pass with its share of the store: what one user outside Rattle holds.
+//!
+//! A session tests for itself what the store's calls ask of their callers, so each of its calls may be made at any
+//! time. It may move to another thread between two calls. The store goes with its last session.
+#![tactic(auto)]
+
+mod explaining;
+mod faults;
+mod items;
+mod lists;
+mod meanings;
+mod passes;
+mod session;
+mod spellings;
+
+pub use faults::Fault;
+pub use items::{PredicateItem, query_of_items};
+pub use lists::{Operation, operations};
+pub use meanings::{kind_of_code, name, operation, spelled, value};
+pub use session::{Session, may_move, query_of};
+pub use spellings::{Spelling, attributes_spelled, indices_spelled};

@@ -1,0 +1,71 @@
+//! Lists of operations as other languages spell them.
+ghost use Rattle.std.specs.Prelude.{◌≡◌, ◌+◌, ◌<◌, ◌≤◌, IfOk, IfErr, IfSome, IfNone, length};
+ghost use Rattle.be_session.specs.Operations.{AreMeant, IsMisspelt, IsMisspeltAt, IsMeantBy, part};
+
+use crate::{Fault, operation};
+use be_store::Op;
+use std::alloc::Global;
+
+/// An operation as C spells it. Its name, and the bytes of its value, are parts of one string of bytes that goes with all
+/// operations of a write.
+#[repr(C)]
+#[derive(Clone, Copy)]
+pub struct Operation {
+    /// 0 makes a node, 1 removes it, 2 sets an attribute and 3 removes it, 4 makes an index and 5 removes it.
+    pub kind: u32,
+    /// The type code of the value or of the index.
+    pub code: u32,
+    pub node: u64,
+    /// The value, where it is a number.
+    pub number: u64,
+    pub name_at: u32,
+    pub name_length: u32,
+    pub value_at: u32,
+    pub value_length: u32,
+}
+
+/// A part of the bytes, if it is within them.
+pub(crate) fn part(bytes: &[u8], at: u32, len: u32) -> Option<&[u8]>
+    ensures some { IfSome result (λ found. (at + len ≤ length bytes.now) × (found.now ≡ part bytes.now at len)) }
+    ensures none { IfNone result (length bytes.now < at + len) }
+{
+    let start = at as usize;
+    let end = start + len as usize;
+    if end > bytes.len() {
+        return None;
+    }
+    Some(&bytes[start..end])
+}
+
+fn one(spelled: &Operation, bytes: &[u8]) -> Result<Op, Fault>
+    ensures ok { IfOk result (λ op. IsMeantBy spelled.now bytes.now op) }
+    ensures err { IfErr result (λ e. IsMisspeltAt spelled.now bytes.now e) }
+{
+    let Some(name) = part(bytes, spelled.name_at, spelled.name_length) else {
+        return Err(Fault::BadPart);
+    };
+    let Some(value) = part(bytes, spelled.value_at, spelled.value_length) else {
+        return Err(Fault::BadPart);
+    };
+    operation(
+        spelled.kind,
+        spelled.node,
+        name,
+        spelled.code,
+        spelled.number,
+        value,
+    )
+}
+
+/// The operations that are spelled here, in their order. A fault is that of the first that is misspelt, or OutOfMemory.
+pub fn operations(alloc: Global, spelled: &[Operation], bytes: &[u8]) -> Result<Vec<Op>, Fault>
+    ensures ok { IfOk result (λ ops. AreMeant spelled.now bytes.now ops.items) }
+    ensures err { IfErr result (λ e. IsMisspelt spelled.now bytes.now e) }
+{
+    let mut ops = Vec::new(alloc);
+    for next in spelled {
+        let op = one(next, bytes)?;
+        ops.push(op)?;
+    }
+    Ok(ops)
+}

@@ -1,0 +1,133 @@
+//! Operations and values as other languages spell them: numbers and bytes.
+ghost use Rattle.std.specs.Prelude.{◌≡◌, ◌≢◌, ◌<◌, ◌^◌, IfOk, IfErr, IfSome, IfNone, IsUtf8};
+ghost use Rattle.std.specs.Int.{cast_signed, w32, w64};
+ghost use Rattle.std.specs.Int.RustNames.{FitsSigned};
+ghost use Rattle.be_session.specs.Meaning.{IsMeant, IsValueMeant, IsNoName, IsNoOperation, IsNoValue};
+ghost use Rattle.be_session.specs.declared.faults.Fault.TheVariants.{NotUtf8, NoKind, NoValue};
+ghost use Rattle.be_value.specs.Value.{code_of};
+ghost use Rattle.be_value.specs.declared.values.Kind.{Kind as AnyKind};
+
+use crate::Fault;
+use be_store::{Kind, Name, Op, Value};
+
+/// The kind of this type code.
+pub fn kind_of_code(code: u32) -> Option<Kind>
+    ensures found { IfSome result (λ kind. code_of kind ≡ code) }
+    ensures none { IfNone result ((kind : AnyKind) → code_of kind ≢ code) }
+{
+    match code {
+        0x4353_5452 => Some(Kind::Cstr),
+        0x4c4f_4e47 => Some(Kind::Long),
+        0x4c4c_4e47 => Some(Kind::Llng),
+        0x4d49_4d53 => Some(Kind::Mims),
+        0x5241_5754 => Some(Kind::Rawt),
+        0x554c_4e47 => Some(Kind::Ulng),
+        0x554c_4c47 => Some(Kind::Ullg),
+        _ => None,
+    }
+}
+
+fn kind(code: u32) -> Result<Kind, Fault>
+    ensures ok { IfOk result (λ kind. code_of kind ≡ code) }
+    ensures err { IfErr result (λ e. (e ≡ NoKind) × ((kind : AnyKind) → code_of kind ≢ code)) }
+{
+    match kind_of_code(code) {
+        Some(kind) => Ok(kind),
+        None => Err(Fault::NoKind),
+    }
+}
+
+pub(crate) fn text(bytes: &[u8]) -> Result<&str, Fault>
+    ensures ok { IfOk result (λ text. (text.now ≡ bytes.now) × IsUtf8 bytes.now) }
+    ensures err { IfErr result (λ e. (e ≡ NotUtf8) × (¬ (IsUtf8 bytes.now))) }
+{
+    match str::from_utf8(bytes) {
+        Ok(text) => Ok(text),
+        Err(_) => Err(Fault::NotUtf8),
+    }
+}
+
+/// The name that bytes spell.
+pub fn name(bytes: &[u8]) -> Result<Name, Fault>
+    ensures ok { IfOk result (λ name. (name ≡ bytes.now) × IsUtf8 bytes.now) }
+    ensures err { IfErr result (λ e. IsNoName bytes.now e) }
+{
+    Ok(Name::new(text(bytes)?)?)
+}
+
+fn int32(number: u64) -> Result<Value, Fault>
+    ensures ok { IfOk result (λ value. value ≡ Value.Long (cast_signed w64 number)) }
+    ensures err { IfErr result (λ e. (e ≡ NoValue) × (¬ (FitsSigned w32 (cast_signed w64 number)))) }
+{
+    match i32::try_from(number.cast_signed()) {
+        Ok(n) => Ok(Value::int32(n)),
+        Err(_) => Err(Fault::NoValue),
+    }
+}
+
+fn uint32(number: u64) -> Result<Value, Fault>
+    ensures ok { IfOk result (λ value. value ≡ Value.Ulng number) }
+    ensures err { IfErr result (λ e. (e ≡ NoValue) × (¬ (number < 2 ^ 32))) }
+{
+    match u32::try_from(number) {
+        Ok(n) => Ok(Value::uint32(n)),
+        Err(_) => Err(Fault::NoValue),
+    }
+}
+
+/// The value that a type code, a number and bytes mean. A number that the kind has no use for is not looked at, nor are
+/// such bytes.
+pub fn value(code: u32, number: u64, bytes: &[u8]) -> Result<Value, Fault>
+    ensures ok { IfOk result (λ value. IsValueMeant code number bytes.now value) }
+    ensures err { IfErr result (λ e. IsNoValue code number bytes.now e) }
+{
+    match kind(code)? {
+        Kind::Cstr => Ok(Value::text(text(bytes)?)?),
+        Kind::Long => int32(number),
+        Kind::Llng => Ok(Value::int64(number.cast_signed())),
+        Kind::Mims => Ok(Value::mime(text(bytes)?)?),
+        Kind::Rawt => Ok(Value::raw(bytes)?),
+        Kind::Ulng => uint32(number),
+        Kind::Ullg => Ok(Value::uint64(number)),
+    }
+}
+
+/// The type code, the number and the bytes that mean this value. The number is 0 for a text or raw bytes, and there are
+/// no bytes for a number.
+pub fn spelled(value: &Value) -> (u32, u64, &[u8])
+    ensures { IsValueMeant result.0 result.1 result.2.now value.now }
+{
+    let code = value.kind().code();
+    match value {
+        Value::Cstr(text) | Value::Mims(text) => (code, 0, text.as_str().as_bytes()),
+        Value::Long(n) => (code, (*n as i64).cast_unsigned(), b""),
+        Value::Llng(n) => (code, n.cast_unsigned(), b""),
+        Value::Rawt(bytes) => (code, 0, bytes.as_slice()),
+        Value::Ulng(n) => (code, *n as u64, b""),
+        Value::Ullg(n) => (code, *n, b""),
+    }
+}
+
+/// The operation that a number means: 0 makes a node, 1 removes it, 2 sets an attribute and 3 removes it, 4 makes an index
+/// and 5 removes it. A part that the operation has no use for is not looked at.
+pub fn operation(
+    number: u32,
+    node: u64,
+    name_bytes: &[u8],
+    code: u32,
+    value_number: u64,
+    bytes: &[u8],
+) -> Result<Op, Fault>
+    ensures ok { IfOk result (λ op. IsMeant number node name_bytes.now code value_number bytes.now op) }
+    ensures err { IfErr result (λ e. IsNoOperation number name_bytes.now code value_number bytes.now e) }
+{
+    match number {
+        0 => Ok(Op::New),
+        1 => Ok(Op::Drop(node)),
+        2 => Ok(Op::Set(node, name(name_bytes)?, value(code, value_number, bytes)?)),
+        3 => Ok(Op::Unset(node, name(name_bytes)?)),
+        4 => Ok(Op::MkIndex(name(name_bytes)?, kind(code)?)),
+        5 => Ok(Op::RmIndex(name(name_bytes)?)),
+        _ => Err(Fault::NoOperation),
+    }
+}

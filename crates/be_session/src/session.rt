@@ -1,0 +1,278 @@
+//! A pass with its share of the store, and its calls.
+ghost use Rattle.std.specs.Prelude.{◌≡◌, ◌⊎◌, ◌≤◌, ◌+◌, ℕ, Ok, IfOk, IfErr, length, string_bytes, vec_len};
+ghost use Rattle.be_session.specs.Explained.{explained_in};
+ghost use Rattle.be_session.specs.Sitting.{AtPin, IsHeldBack, IsNoQuery, IsOpened, IsUnrefreshed, Tells};
+ghost use Rattle.be_session.specs.declared.faults.Fault.TheVariants.{AlreadyPinned, NoPass, NotPinned, Refused};
+ghost use Rattle.be_query.specs.Grammar.{IsTextOf};
+ghost use Rattle.be_store.specs.History.{Accepts, Pins};
+ghost use Rattle.be_store.specs.Live.{Refreshes};
+ghost use Rattle.be_store.specs.Passes.{HasRead, IsPassOf, IsPinnedTo, volume_pinned};
+ghost use Rattle.be_table.specs.Rule.{IsWithin, newcomer};
+ghost use Rattle.be_table.specs.Seats.{pinned_number};
+ghost use Rattle.be_table.specs.Steps.{unpins};
+ghost use Rattle.be_table.specs.Works.{AreNew, IsUnopened};
+ghost use Rattle.be_value.specs.declared.refusals.Refusal.{Refusal as AnyRefusal};
+ghost use Rattle.be_value.specs.declared.refusals.Refusal.TheVariants.{OutOfMemory};
+ghost use Rattle.be_volume.specs.Query.{scan};
+ghost use Rattle.be_volume.specs.Reading.{attribute, attributes_at, index_kinds};
+
+use crate::Fault;
+use crate::explaining::cover_text;
+use crate::passes::{put_last, take_last};
+use be_store::{
+    ArrayVec, Done, Kind, Limits, Live, Name, Op, Pass, Query, Refusal, Store, Updates, Value,
+    parse,
+};
+use std::alloc::{AllocFailed, Global};
+use std::marker::Model;
+use std::sync::Arc;
+
+/// A pass, with the store that it is a pass of, and those passes that wait for a session of their own.
+#[derive(Drop)]
+pub struct Session {
+    store: Arc<Store, Global>,
+    pass: Pass,
+    spare: Vec<Pass>,
+}
+
+impl Model for Session {
+    ghost use Rattle.be_session.specs.Sitting.{Sitting};
+
+    ghost Value = { Sitting };
+
+    ghost use Rattle.std.specs.Prelude.{vec_len};
+    ghost use Rattle.be_store.specs.Passes.{IsPassOf};
+    ghost use Rattle.be_table.specs.Works.{AreNew};
+
+    ghost view = { λ s. record { store = s.store.value; knows = s.pass.knows; spare = vec_len s.spare } };
+
+    ghost invariant = { λ s. IsPassOf s.store.value s.pass × AreNew s.store.value 0 s.spare.items };
+}
+
+/// A session of a store that nobody shares yet, with the passes that are left over.
+fn seated(
+    alloc: Global,
+    limits: Limits,
+    store: Store,
+    pass: Pass,
+    spare: Vec<Pass>,
+) -> Result<Session, Fault>
+    requires limits { (store.limits ≡ limits) × IsWithin limits }
+    requires pass { IsPassOf store pass × (pass.knows ≡ newcomer limits (vec_len spare + 1) (vec_len spare)) }
+    requires spare { AreNew store 0 spare.items × (vec_len spare + 1 ≡ limits.passes) }
+    ensures ok { IfOk result (λ s. IsOpened limits s) }
+    ensures err { IfErr result (λ e. (why : AnyRefusal) × (e ≡ Refused why) × IsUnopened limits why) }
+{
+    match Arc::new(alloc, store) {
+        Ok(store) => Ok(Session { store, pass, spare }),
+        Err(_) => Err(Fault::Refused(Refusal::OutOfMemory)),
+    }
+}
+
+/// Takes a session apart for its pass. Its share of the store is given up, with the passes that wait.
+fn pass_of(session: Session) -> Pass
+    ensures pass { IsPassOf session.store result }
+    ensures knows { result.knows ≡ session.knows }
+{
+    let Session {
+        store: _store,
+        pass,
+        spare: _spare,
+    } = session;
+    pass
+}
+
+impl Session {
+    /// A new store, and the session of the last of its passes, which has seen nothing. The others wait.
+    ///
+    /// BadLimits exactly where a limit is out of its range, and OutOfMemory. The memory of all pages, 4 KiB each, is taken
+    /// here.
+    pub fn open(alloc: Global, limits: Limits) -> Result<Session, Fault>
+        ensures ok { IfOk result (λ s. IsOpened limits s) }
+        ensures err { IfErr result (λ e. (why : AnyRefusal) × (e ≡ Refused why) × IsUnopened limits why) }
+    {
+        let (store, mut passes) = match Store::open(alloc, limits) {
+            Ok(opened) => opened,
+            Err(refusal) => return Err(Fault::Refused(refusal)),
+        };
+        let Some(pass) = take_last(&store, &mut passes) else {
+            unreachable!()
+        };
+        seated(alloc, limits, store, pass, passes)
+    }
+
+    /// A session of the same store, with the last pass that waits, in a box. NoPass where none waits, and OutOfMemory: it
+    /// goes on waiting then.
+    ///
+    /// It is asked of the session that opened the store: with the others no pass waits.
+    pub fn another(&mut self, alloc: Global) -> Result<Box<Session, Global>, Fault>
+        ensures same { (self.new.store ≡ self.old.store) × (self.new.knows ≡ self.old.knows) }
+        ensures session { IfOk result (λ s. (s.value.store ≡ self.old.store) × (s.value.spare ≡ 0)) }
+        ensures unused { IfOk result (λ s. s.value.knows ≡ newcomer self.old.store.limits (self.new.spare + 1) self.new.spare) }
+        ensures spare { IfOk result (λ s. self.old.spare ≡ self.new.spare + 1) }
+        ensures err { IfErr result (λ e. (self.new ≡ self.old) × ((e ≡ Refused OutOfMemory) ⊎ ((e ≡ NoPass) × (self.old.spare ≡ 0)))) }
+    {
+        let Ok(store) = Arc::try_clone(&self.store) else {
+            return Err(Fault::Refused(Refusal::OutOfMemory));
+        };
+        let Some(pass) = take_last(&self.store, &mut self.spare) else {
+            return Err(Fault::NoPass);
+        };
+        let session = Session {
+            store,
+            pass,
+            spare: Vec::new(alloc),
+        };
+        match Box::new(alloc, session) {
+            Ok(session) => Ok(session),
+            Err(AllocFailed { value }) => {
+                put_last(&self.store, &mut self.spare, pass_of(value));
+                Err(Fault::Refused(Refusal::OutOfMemory))
+            }
+        }
+    }
+
+    /// Pins the version that is current, and answers its number: how many writes it has.
+    pub fn pin(&mut self) -> Result<u64, Fault>
+        ensures store { (self.new.store ≡ self.old.store) × (self.new.spare ≡ self.old.spare) }
+        ensures ok { IfOk result (λ n. Pins self.old.knows self.new.knows n) }
+        ensures err { IfErr result (λ e. (self.new ≡ self.old) × (e ≡ AlreadyPinned)) }
+    {
+        if self.pass.pinned().is_some() {
+            return Err(Fault::AlreadyPinned);
+        }
+        Ok(self.store.pin(&mut self.pass))
+    }
+
+    /// Gives the pin up.
+    pub fn unpin(&mut self) -> Result<(), Fault>
+        ensures store { (self.new.store ≡ self.old.store) × (self.new.spare ≡ self.old.spare) }
+        ensures ok { IfOk result (λ n. self.new.knows ≡ unpins self.old.knows) }
+        ensures err { IfErr result (λ e. (self.new ≡ self.old) × (e ≡ NotPinned)) }
+    {
+        let Some(_) = self.pass.pinned() else {
+            return Err(Fault::NotPinned);
+        };
+        self.store.unpin(&mut self.pass);
+        Ok(())
+    }
+
+    /// Writes 1 to 64 operations, all or none, and answers the journal's length with them and an answer for each. BadCount
+    /// where they are another number, and then nothing has happened; else as the store's own `apply`.
+    pub fn apply(&mut self, ops: &[Op]) -> Result<(u64, ArrayVec<Done, 64>), Fault>
+        ensures store { (self.new.store ≡ self.old.store) × (self.new.spare ≡ self.old.spare) }
+        ensures ok { IfOk result (λ r. Accepts self.old.knows self.new.knows ops.now r.0 r.1.items) }
+        ensures count { IfOk result (λ r. (1 ≤ length ops.now) × (length ops.now ≤ 64)) }
+        ensures err { IfErr result (λ e. IsHeldBack self.old.knows self.new.knows ops.now e) }
+    {
+        if ops.is_empty() || ops.len() > 64 {
+            return Err(Fault::BadCount);
+        }
+        Ok(self.store.apply(&mut self.pass, ops)?)
+    }
+
+    /// The nodes of which the query is true in the pinned version, ascending.
+    pub fn query(&mut self, alloc: Global, query: &Query) -> Result<Vec<u64>, Fault>
+        ensures store { (self.new.store ≡ self.old.store) × (self.new.spare ≡ self.old.spare) }
+        ensures read { HasRead self.old.knows self.new.knows }
+        ensures nodes { AtPin (pinned_number self.old.knows.phase) result (Tells (λ nodes. nodes.items) result (scan (volume_pinned self.old.knows) query.now)) }
+    {
+        let Some(_) = self.pass.pinned() else {
+            return Err(Fault::NotPinned);
+        };
+        Ok(self.store.query(alloc, &mut self.pass, query)?.nodes)
+    }
+
+    /// Asks a live query in the pinned version, and tells which nodes came and which went since its last refresh. A fault
+    /// leaves it as it was.
+    pub fn refresh(&mut self, live: &mut Live) -> Result<Updates, Fault>
+        ensures store { (self.new.store ≡ self.old.store) × (self.new.spare ≡ self.old.spare) }
+        ensures read { HasRead self.old.knows self.new.knows }
+        ensures ok { IfOk result (λ u. Refreshes (volume_pinned self.old.knows) live.old live.new u.created.items u.removed.items) }
+        ensures pin { IfOk result (λ u. (n : ℕ) × IsPinnedTo self.old.knows n) }
+        ensures err { IfErr result (λ e. (live.new ≡ live.old) × IsUnrefreshed (pinned_number self.old.knows.phase) (scan (volume_pinned self.old.knows) live.old.query) e) }
+    {
+        let Some(_) = self.pass.pinned() else {
+            return Err(Fault::NotPinned);
+        };
+        Ok(live.refresh(&self.store, &mut self.pass)?)
+    }
+
+    /// What a query would be answered from in the pinned version: the comparisons that are picked, in canonical form and joined
+    /// by ` || `, and the score. NotCovered where the query rests on no index of that version, and OutOfMemory.
+    pub fn explain(&mut self, alloc: Global, query: &Query) -> Result<String, Fault>
+        ensures store { (self.new.store ≡ self.old.store) × (self.new.spare ≡ self.old.spare) }
+        ensures read { HasRead self.old.knows self.new.knows }
+        ensures text { AtPin (pinned_number self.old.knows.phase) result (Tells string_bytes result (explained_in (volume_pinned self.old.knows) query.now)) }
+    {
+        let Some(_) = self.pass.pinned() else {
+            return Err(Fault::NotPinned);
+        };
+        let indices = match self.store.indices(alloc, &mut self.pass) {
+            Ok(indices) => indices,
+            Err(_) => return Err(Fault::Refused(Refusal::OutOfMemory)),
+        };
+        Ok(cover_text(alloc, query, indices.as_slice())?)
+    }
+
+    /// A node's attribute in the pinned version, if it has one.
+    pub fn get(&mut self, node: u64, name: &Name) -> Result<Option<Value>, Fault>
+        ensures store { (self.new.store ≡ self.old.store) × (self.new.spare ≡ self.old.spare) }
+        ensures read { HasRead self.old.knows self.new.knows }
+        ensures value { AtPin (pinned_number self.old.knows.phase) result (result ≡ Ok (attribute (volume_pinned self.old.knows) node name.now)) }
+    {
+        let Some(_) = self.pass.pinned() else {
+            return Err(Fault::NotPinned);
+        };
+        Ok(self.store.get(&mut self.pass, node, name))
+    }
+
+    /// A node's attributes in the pinned version, by ascending bytes of their names.
+    pub fn attrs(&mut self, alloc: Global, node: u64) -> Result<Vec<(Name, Value)>, Fault>
+        ensures store { (self.new.store ≡ self.old.store) × (self.new.spare ≡ self.old.spare) }
+        ensures read { HasRead self.old.knows self.new.knows }
+        ensures list { AtPin (pinned_number self.old.knows.phase) result (Tells (λ list. list.items) result (attributes_at (volume_pinned self.old.knows) node)) }
+    {
+        let Some(_) = self.pass.pinned() else {
+            return Err(Fault::NotPinned);
+        };
+        Ok(self.store.attrs(alloc, &mut self.pass, node)?)
+    }
+
+    /// The names and kinds of the pinned version's indices, by ascending bytes of the names.
+    pub fn indices(&mut self, alloc: Global) -> Result<Vec<(Name, Kind)>, Fault>
+        ensures store { (self.new.store ≡ self.old.store) × (self.new.spare ≡ self.old.spare) }
+        ensures read { HasRead self.old.knows self.new.knows }
+        ensures list { AtPin (pinned_number self.old.knows.phase) result (Tells (λ list. list.items) result (Ok (index_kinds (volume_pinned self.old.knows)))) }
+    {
+        let Some(_) = self.pass.pinned() else {
+            return Err(Fault::NotPinned);
+        };
+        Ok(self.store.indices(alloc, &mut self.pass)?)
+    }
+}
+
+/// The query of a text in bytes. NotUtf8 where the bytes are none; else as `be_query::parse`.
+pub fn query_of(alloc: Global, text: &[u8]) -> Result<Query, Fault>
+    ensures ok { IfOk result (λ query. IsTextOf text.now query) }
+    ensures err { IfErr result (λ e. IsNoQuery text.now e) }
+{
+    match str::from_utf8(text) {
+        Ok(text) => Ok(parse(alloc, text)?),
+        Err(_) => Err(Fault::NotUtf8),
+    }
+}
+
+/// The same value. It compiles only where values of the type may go to another thread.
+fn sent<T: Send>(value: T) -> T
+    ensures { result ≡ value }
+{
+    value
+}
+
+/// A law of the type: a session may go to another thread. It does nothing.
+pub fn may_move(session: Session) -> Session
+    ensures { result ≡ session }
+{
+    sent(session)
+}

@@ -1,0 +1,106 @@
+//! Attributes and indices as other languages are told of them: as the operations that would make them.
+ghost use Rattle.std.specs.Prelude.{◌≡◌, ◌++◌, ℕ, List, IfOk, IfErr, length, map};
+ghost use Rattle.be_session.specs.Operations.{AreSpelled, IsMeantBy, IsWithin, makes, sets};
+ghost use Rattle.be_session.specs.declared.faults.Fault.TheVariants.{Refused};
+ghost use Rattle.be_value.specs.declared.refusals.Refusal.TheVariants.{OutOfMemory};
+
+use crate::{Fault, Operation, spelled};
+use be_store::{Kind, Name, Refusal, Value};
+use std::alloc::Global;
+
+/// Operations as they are spelled, with the bytes that their parts are in.
+#[derive(Drop)]
+pub struct Spelling {
+    pub operations: Vec<Operation>,
+    pub bytes: Vec<u8>,
+}
+
+/// Appends bytes, and answers where they begin and how many they are. OutOfMemory also at 4 GiB.
+fn append(bytes: &mut Vec<u8>, more: &[u8]) -> Result<(u32, u32), Fault>
+    ensures ok { IfOk result (λ r. (r.0 ≡ length bytes.old.items) × (r.1 ≡ length more.now) × (bytes.new.items ≡ bytes.old.items ++ more.now)) }
+    ensures err { IfErr result (λ e. e ≡ Refused OutOfMemory) }
+{
+    let Ok(at) = u32::try_from(bytes.len()) else {
+        return Err(Fault::Refused(Refusal::OutOfMemory));
+    };
+    let Ok(length) = u32::try_from(more.len()) else {
+        return Err(Fault::Refused(Refusal::OutOfMemory));
+    };
+    bytes.extend_from_slice(more)?;
+    Ok((at, length))
+}
+
+fn spell_attribute(
+    bytes: &mut Vec<u8>,
+    node: u64,
+    name: &Name,
+    value: &Value,
+) -> Result<Operation, Fault>
+    ensures more { IfOk result (λ o. (more : List ℕ) × (bytes.new.items ≡ bytes.old.items ++ more)) }
+    ensures meant { IfOk result (λ o. IsWithin o (length bytes.new.items) × IsMeantBy o bytes.new.items (sets node (name.now, value.now))) }
+    ensures err { IfErr result (λ e. e ≡ Refused OutOfMemory) }
+{
+    let (code, number, data) = spelled(value);
+    let (name_at, name_length) = append(bytes, name.as_str().as_bytes())?;
+    let (value_at, value_length) = append(bytes, data)?;
+    Ok(Operation {
+        kind: 2,
+        code,
+        node,
+        number,
+        name_at,
+        name_length,
+        value_at,
+        value_length,
+    })
+}
+
+fn spell_index(bytes: &mut Vec<u8>, name: &Name, kind: Kind) -> Result<Operation, Fault>
+    ensures more { IfOk result (λ o. (more : List ℕ) × (bytes.new.items ≡ bytes.old.items ++ more)) }
+    ensures meant { IfOk result (λ o. IsWithin o (length bytes.new.items) × IsMeantBy o bytes.new.items (makes (name.now, kind))) }
+    ensures err { IfErr result (λ e. e ≡ Refused OutOfMemory) }
+{
+    let (name_at, name_length) = append(bytes, name.as_str().as_bytes())?;
+    Ok(Operation {
+        kind: 4,
+        code: kind.code(),
+        node: 0,
+        number: 0,
+        name_at,
+        name_length,
+        value_at: 0,
+        value_length: 0,
+    })
+}
+
+/// A node's attributes, as the operations that set them, in the list's order. OutOfMemory.
+pub fn attributes_spelled(
+    alloc: Global,
+    node: u64,
+    list: &[(Name, Value)],
+) -> Result<Spelling, Fault>
+    ensures ok { IfOk result (λ s. AreSpelled s.operations.items s.bytes.items (map (sets node) list.now)) }
+    ensures err { IfErr result (λ e. e ≡ Refused OutOfMemory) }
+{
+    let mut operations = Vec::new(alloc);
+    let mut bytes = Vec::new(alloc);
+    for (name, value) in list {
+        let operation = spell_attribute(&mut bytes, node, name, value)?;
+        operations.push(operation)?;
+    }
+    Ok(Spelling { operations, bytes })
+}
+
+/// Indices, as the operations that make them, in the list's order. OutOfMemory.
+pub fn indices_spelled(alloc: Global, list: &[(Name, Kind)]) -> Result<Spelling, Fault>
+    ensures ok { IfOk result (λ s. AreSpelled s.operations.items s.bytes.items (map makes list.now)) }
+    ensures err { IfErr result (λ e. e ≡ Refused OutOfMemory) }
+{
+    let mut operations = Vec::new(alloc);
+    let mut bytes = Vec::new(alloc);
+    for (name, kind) in list {
+        let operation = spell_index(&mut bytes, name, *kind)?;
+        operations.push(operation)?;
+    }
+    Ok(Spelling { operations, bytes })
+}

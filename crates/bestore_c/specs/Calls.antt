@@ -1,0 +1,134 @@
+-- What calls make of handles.
+use Rattle.std.specs.Prelude.{◌≡◌, ◌⊎◌, ℕ, ◌+◌, List, length, map, Option, None, Some, Ok, Err}
+use Rattle.std.specs.declared.result.Result.{Result}
+use Rattle.be_query.specs.Grammar.{Formula, IsTextOf}
+use Rattle.be_session.specs.Fault.{fault_code}
+use Rattle.be_session.specs.Items.{IsBuilt, IsUnbuilt}
+use Rattle.be_session.specs.Meaning.{IsNoName, IsValueMeant}
+use Rattle.be_session.specs.Operations.{AreMeant, AreSpelled, IsMisspelt}
+use Rattle.be_session.specs.Explained.{explained_in}
+use Rattle.be_session.specs.Sitting.{IsHeldBack, IsNoQuery, IsOpened, Sitting}
+use Rattle.be_session.specs.declared.faults.Fault.{Fault}
+use Rattle.be_session.specs.declared.items.PredicateItem.{PredicateItem}
+use Rattle.be_session.specs.declared.lists.Operation.{Operation}
+use Rattle.be_store.specs.History.{Accepts}
+use Rattle.be_store.specs.Passes.{HasRead, volume_pinned}
+use Rattle.be_table.specs.Rule.{IsWithin, newcomer}
+use Rattle.be_table.specs.Seats.{pinned_number}
+use Rattle.be_table.specs.Works.{IsUnopened}
+use Rattle.be_table.specs.declared.limits.Limits.{Limits}
+use Rattle.be_value.specs.Refusal.{refusal_number}
+use Rattle.be_value.specs.declared.refusals.Refusal.{Refusal}
+use Rattle.be_value.specs.declared.values.Value.{Value}
+use Rattle.be_volume.specs.Query.{scan}
+use Rattle.be_volume.specs.Reading.{attribute}
+use Rattle.be_volume.specs.declared.ops.Done.{Done}
+use Rattle.be_volume.specs.declared.ops.Op.{Op}
+use Rattle.bestore_c.specs.Places.{node_of, over}
+use Rattle.bestore_c.specs.declared.handle.Attribute.{Attribute}
+use Rattle.bestore_c.specs.declared.handle.Counts.{Counts}
+
+-- A call of a handle that is closed leaves it closed and answers 64. One of a handle that is open leaves it open with a session of the same store, with which as many passes wait, and what it makes of its session is this.
+abbrev pub Calls : Option Sitting → Option Sitting → ℕ → (Sitting → Sitting → Type 0) → Type 0
+Calls None None code does = code ≡ 64
+Calls None (Some t) code does = ⊥
+Calls (Some s) None code does = ⊥
+Calls (Some s) (Some t) code does = (t.store ≡ s.store) × (t.spare ≡ s.spare) × does s t
+
+-- 64 of a handle that is closed, and 0 of one that is open
+abbrev pub Answers : Option Sitting → ℕ → Type 0
+Answers None code = code ≡ 64
+Answers (Some s) code = code ≡ 0
+
+-- Opening: an open handle stays as it was and answers 65; a closed one holds a session that has just opened a store with these limits, or stays closed where the store says why, or where memory was refused.
+abbrev pub Opens : Limits → Option Sitting → Option Sitting → ℕ → Type 0
+Opens limits (Some s) (Some t) code = (code ≡ 65) × (t ≡ s)
+Opens limits (Some s) None code = ⊥
+Opens limits None (Some t) code = (code ≡ 0) × IsOpened limits t
+Opens limits None None code = ((code ≡ 10) × IsWithin limits) ⊎ ((why : Refusal) × (code ≡ refusal_number why) × IsUnopened limits why)
+
+-- A second handle: one that is open stays as it was, and the answer is 65; a closed one gets a session of the same store with the last pass that waits, which has seen and written nothing; 68 where none waits, and 10 where memory was refused.
+abbrev pub Gives : Sitting → Sitting → Option Sitting → Option Sitting → ℕ → Type 0
+Gives s t (Some o) (Some p) code = (code ≡ 65) × (p ≡ o) × (t ≡ s)
+Gives s t (Some o) None code = ⊥
+Gives s t None (Some p) code =
+    (code ≡ 0) × (p.store ≡ s.store) × (p.spare ≡ 0) × (p.knows ≡ newcomer s.store.limits (t.spare + 1) t.spare) × (t.knows ≡ s.knows) × (s.spare ≡ t.spare + 1)
+Gives s t None None code = (t ≡ s) × ((code ≡ 10) ⊎ ((code ≡ 68) × (s.spare ≡ 0)))
+
+-- A second handle, of one that may be closed: then both are as they were, and the answer is 64.
+abbrev pub GivesAnother : Option Sitting → Option Sitting → Option Sitting → Option Sitting → ℕ → Type 0
+GivesAnother None None o p code = (code ≡ 64) × (p ≡ o)
+GivesAnother None (Some t) o p code = ⊥
+GivesAnother (Some s) None o p code = ⊥
+GivesAnother (Some s) (Some t) o p code = (t.store ≡ s.store) × Gives s t o p code
+
+-- A handle is moved: what it holds goes to one that is closed, and it is closed then; 65 where the other is open, and 64 where it holds nothing.
+abbrev pub Moves : Option Sitting → Option Sitting → Option Sitting → Option Sitting → ℕ → Type 0
+Moves None o from to code = (code ≡ 64) × (from ≡ None) × (to ≡ o)
+Moves (Some s) (Some o) from to code = (code ≡ 65) × (from ≡ Some s) × (to ≡ Some o)
+Moves (Some s) None from to code = (code ≡ 0) × (from ≡ None) × (to ≡ Some s)
+
+-- A write: what is spelled is misspelt, and then nothing has happened; or it means operations, which the session accepted, and the numbers of the new nodes and the length of the journal are put out, or which it held back.
+abbrev pub Writes : Sitting → Sitting → List Operation → List ℕ → List ℕ → List ℕ → ℕ → ℕ → Type 0
+Writes s t spelled bytes places filled entries code =
+    ((e : Fault) × (code ≡ fault_code e) × IsMisspelt spelled bytes e × (t ≡ s))
+    ⊎ ((ops : List Op) × AreMeant spelled bytes ops ×
+    (((code ≡ 0) × (dones : List Done) × Accepts s.knows t.knows ops entries dones × (filled ≡ over (map node_of dones) places))
+    ⊎ ((e : Fault) × (code ≡ fault_code e) × IsHeldBack s.knows t.knows ops e)))
+
+-- What a version answers, a list of nodes or of a text's bytes: how many they are, and as many of them as there are places; or why there is no answer.
+abbrev pub Scanned : Result (List ℕ) Refusal → List ℕ → List ℕ → ℕ → ℕ → Type 0
+Scanned (Ok nodes) places filled count code = (code ≡ 0) × (count ≡ length nodes) × (filled ≡ over nodes places)
+Scanned (Err why) places filled count code = code ≡ refusal_number why
+
+-- what it answers in the pinned version, if there is a pin; 10 where a growth was refused
+abbrev pub Found : Option ℕ → Result (List ℕ) Refusal → List ℕ → List ℕ → ℕ → ℕ → Type 0
+Found None answer places filled count code = code ≡ 66
+Found (Some n) answer places filled count code = (code ≡ 10) ⊎ Scanned answer places filled count code
+
+-- A query by its text: the bytes are no query, and then nothing has happened; or they are one, and its answer is put out.
+abbrev pub Finds : Sitting → Sitting → List ℕ → List ℕ → List ℕ → ℕ → ℕ → Type 0
+Finds s t text places filled count code =
+    ((e : Fault) × (code ≡ fault_code e) × IsNoQuery text e × (t ≡ s))
+    ⊎ ((query : Formula) × IsTextOf text query × HasRead s.knows t.knows
+    × Found (pinned_number s.knows.phase) (scan (volume_pinned s.knows) query) places filled count code)
+
+-- What a query would be answered from, by its text: the bytes are no query, and then nothing has happened; or they are one, and what is said of it is put out.
+abbrev pub Explains : Sitting → Sitting → List ℕ → List ℕ → List ℕ → ℕ → ℕ → Type 0
+Explains s t text places filled count code =
+    ((e : Fault) × (code ≡ fault_code e) × IsNoQuery text e × (t ≡ s))
+    ⊎ ((query : Formula) × IsTextOf text query × HasRead s.knows t.knows
+    × Found (pinned_number s.knows.phase) (explained_in (volume_pinned s.knows) query) places filled count code)
+
+-- A query by its items: they are none, and then nothing has happened; or they build one, and its answer is put out.
+abbrev pub FindsBuilt : Sitting → Sitting → List PredicateItem → List ℕ → List ℕ → List ℕ → ℕ → ℕ → Type 0
+FindsBuilt s t spelled bytes places filled count code =
+    ((e : Fault) × (code ≡ fault_code e) × IsUnbuilt spelled bytes e × (t ≡ s))
+    ⊎ ((query : Formula) × IsBuilt spelled bytes query × HasRead s.knows t.knows
+    × Found (pinned_number s.knows.phase) (scan (volume_pinned s.knows) query) places filled count code)
+
+-- what is there in the pinned version, if there is a pin: its type code, number and length are told, and as many of its bytes as there are places
+abbrev pub Shown : Option ℕ → Option Value → Attribute → List ℕ → List ℕ → ℕ → Type 0
+Shown None found told places filled code = code ≡ 66
+Shown (Some n) None told places filled code = code ≡ 3
+Shown (Some n) (Some value) told places filled code =
+    (code ≡ 0) × (bytes : List ℕ) × IsValueMeant told.code told.number bytes value × (told.length ≡ length bytes) × (filled ≡ over bytes places)
+
+-- A read of an attribute: the bytes are no name, and then nothing has happened; or what is there is shown.
+abbrev pub Reads : Sitting → Sitting → ℕ → List ℕ → Attribute → List ℕ → List ℕ → ℕ → Type 0
+Reads s t node name told places filled code =
+    ((e : Fault) × (code ≡ fault_code e) × IsNoName name e × (t ≡ s))
+    ⊎ (HasRead s.knows t.knows × Shown (pinned_number s.knows.phase) (attribute (volume_pinned s.knows) node name) told places filled code)
+
+-- A list is put out as these operations: how many there are in a spelling of them, with how many bytes, and of both as many as there are places; or memory was refused.
+abbrev pub IsPutOut : List Op → Counts → List Operation → List Operation → List ℕ → List ℕ → ℕ → Type 0
+IsPutOut ops counts places filled byte_places bytes code =
+    (code ≡ 10)
+    ⊎ ((code ≡ 0) × (os : List Operation) × (bs : List ℕ) × AreSpelled os bs ops
+    × (counts.operations ≡ length os) × (filled ≡ over os places) × (counts.bytes ≡ length bs) × (bytes ≡ over bs byte_places))
+
+-- A list in the pinned version, if there is a pin: it is put out as the operations that would make it; or why there is no list.
+abbrev pub Listed : {A : Type 0} → (A → Op) → Option ℕ → Result (List A) Refusal → Counts → List Operation → List Operation → List ℕ → List ℕ → ℕ → Type 0
+Listed makes None meant counts places filled byte_places bytes code = code ≡ 66
+Listed makes (Some n) (Err why) counts places filled byte_places bytes code = (code ≡ 10) ⊎ (code ≡ refusal_number why)
+Listed makes (Some n) (Ok list) counts places filled byte_places bytes code = IsPutOut (map makes list) counts places filled byte_places bytes code

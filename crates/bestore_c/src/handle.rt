@@ -1,0 +1,32 @@
+//! What C holds.
+ghost use Rattle.std.specs.Prelude.{◌≡◌};
+ghost use Rattle.bestore_c.specs.Owned.{holds};
+
+use crate::owned::Owned;
+
+/// What C holds for one pass: closed, or open with a session. Zero bytes are a closed one.
+#[repr(C)]
+#[derive(Drop)]
+pub struct Handle {
+    pub live: bool,
+    pub owned: Owned,
+    ghost full: { live ≡ holds owned.value },
+}
+
+/// What C is told of a value: its type code, its length in bytes, and the number that it is, or 0. A signed number is in two's
+/// complement.
+#[repr(C)]
+#[derive(Clone, Copy)]
+pub struct Attribute {
+    pub code: u32,
+    pub length: u64,
+    pub number: u64,
+}
+
+/// How many operations a list is told as, and how many bytes their parts are in.
+#[repr(C)]
+#[derive(Clone, Copy)]
+pub struct Counts {
+    pub operations: u64,
+    pub bytes: u64,
+}

@@ -1,0 +1,379 @@
+//! The store for programs in C: `include/bestore.h` declares what is exported here.
+//!
+//! Each export takes a handle that its caller owns, asks the session in it, and answers a number: 0, that of a refusal or
+//! of a fault, or 64 and 65, which are the handle's own. None has a `requires`.
+#![tactic(auto)]
+
+ghost use Rattle.std.specs.Prelude.{◌≡◌, ◌⊎◌, None, Ok};
+ghost use Rattle.be_session.specs.Operations.{makes, sets};
+ghost use Rattle.be_store.specs.History.{Pins};
+ghost use Rattle.be_store.specs.Passes.{HasRead, volume_pinned};
+ghost use Rattle.be_table.specs.Seats.{pinned_number};
+ghost use Rattle.be_table.specs.Steps.{unpins};
+ghost use Rattle.be_volume.specs.Reading.{attributes_at, index_kinds};
+ghost use Rattle.bestore_c.specs.Calls.{Answers, Calls, Explains, Finds, FindsBuilt, GivesAnother, Listed, Moves, Opens, Reads, Writes};
+
+mod asking;
+mod handle;
+mod listing;
+mod loose;
+mod owned;
+mod places;
+#[cfg(test)]
+mod tests;
+
+use asking::{tell, tell_text};
+use be_session::{
+    Operation, PredicateItem, Session, name, operations, query_of, query_of_items, spelled,
+};
+use be_store::Limits;
+use handle::{Attribute, Counts, Handle};
+use listing::{tell_attributes, tell_indices};
+use owned::Owned;
+use places::{nodes_of, put};
+use std::alloc::Global;
+use std::mem;
+
+/// The number that says that a call did what it should.
+const DONE: u32 = 0;
+
+/// No attribute of this name: the refusal's number.
+const NO_ATTRIBUTE: u32 = 3;
+
+const NO_MEMORY: u32 = 10;
+
+/// The handle holds nothing.
+const CLOSED: u32 = 64;
+
+/// The handle that is to be opened is open.
+const OPEN: u32 = 65;
+
+/// Opens a store, and the handle as its first pass.
+#[unsafe(no_mangle)]
+pub extern "C" fn bes_open(
+    alloc: Global,
+    pages: u64,
+    passes: u64,
+    commits: u64,
+    pass: &mut Handle,
+) -> u32
+    ensures { Opens (record { pages = pages; passes = passes; commits = commits }) pass.old.owned.value pass.new.owned.value result }
+{
+    if pass.live {
+        return OPEN;
+    }
+    let limits = Limits {
+        pages,
+        passes,
+        commits,
+    };
+    match Session::open(alloc, limits) {
+        Ok(session) => match Box::new(alloc, session) {
+            Ok(session) => {
+                *pass = Handle {
+                    live: true,
+                    owned: Owned::of(session),
+                };
+                DONE
+            }
+            Err(_) => NO_MEMORY,
+        },
+        Err(fault) => fault.code(),
+    }
+}
+
+/// Opens a second handle, for another pass of the same store.
+#[unsafe(no_mangle)]
+pub extern "C" fn bes_another(alloc: Global, pass: &mut Handle, other: &mut Handle) -> u32
+    ensures { GivesAnother pass.old.owned.value pass.new.owned.value other.old.owned.value other.new.owned.value result }
+{
+    if !pass.live {
+        return CLOSED;
+    }
+    if other.live {
+        return OPEN;
+    }
+    let mut session = mem::replace(&mut pass.owned, Owned::none(alloc)).into_box();
+    let made = session.another(alloc);
+    pass.owned = Owned::of(session);
+    match made {
+        Ok(session) => {
+            *other = Handle {
+                live: true,
+                owned: Owned::of(session),
+            };
+            DONE
+        }
+        Err(fault) => fault.code(),
+    }
+}
+
+/// Moves what the handle holds into a handle that is closed, and closes it.
+#[unsafe(no_mangle)]
+pub extern "C" fn bes_move(alloc: Global, pass: &mut Handle, other: &mut Handle) -> u32
+    ensures { Moves pass.old.owned.value other.old.owned.value pass.new.owned.value other.new.owned.value result }
+{
+    if !pass.live {
+        return CLOSED;
+    }
+    if other.live {
+        return OPEN;
+    }
+    let closed = Handle {
+        live: false,
+        owned: Owned::none(alloc),
+    };
+    *other = mem::replace(pass, closed);
+    DONE
+}
+
+/// Closes the handle. A pin is given up, and the store goes with its last handle.
+#[unsafe(no_mangle)]
+pub extern "C" fn bes_close(alloc: Global, pass: &mut Handle) -> u32
+    ensures closed { pass.new.owned.value ≡ None }
+    ensures answer { Answers pass.old.owned.value result }
+{
+    if !pass.live {
+        return CLOSED;
+    }
+    let mut session = mem::replace(&mut pass.owned, Owned::none(alloc)).into_box();
+    pass.live = false;
+    // The pin of a pass that is gone would keep its pages for good.
+    let _ = session.unpin();
+    drop(session);
+    DONE
+}
+
+/// Pins the current version, and puts out its number.
+#[unsafe(no_mangle)]
+pub extern "C" fn bes_pin(alloc: Global, pass: &mut Handle, number: &mut u64) -> u32
+    ensures pass { Calls pass.old.owned.value pass.new.owned.value result (λ s t. ((result ≡ 0) × Pins s.knows t.knows number.new) ⊎ ((result ≡ 67) × (t ≡ s))) }
+    ensures kept { (result ≡ 0) ⊎ (number.new ≡ number.old) }
+{
+    if !pass.live {
+        return CLOSED;
+    }
+    let mut session = mem::replace(&mut pass.owned, Owned::none(alloc)).into_box();
+    let answer = session.pin();
+    pass.owned = Owned::of(session);
+    match answer {
+        Ok(n) => {
+            *number = n;
+            DONE
+        }
+        Err(fault) => fault.code(),
+    }
+}
+
+/// Gives the pin up.
+#[unsafe(no_mangle)]
+pub extern "C" fn bes_unpin(alloc: Global, pass: &mut Handle) -> u32
+    ensures pass { Calls pass.old.owned.value pass.new.owned.value result (λ s t. ((result ≡ 0) × (t.knows ≡ unpins s.knows)) ⊎ ((result ≡ 66) × (t ≡ s))) }
+{
+    if !pass.live {
+        return CLOSED;
+    }
+    let mut session = mem::replace(&mut pass.owned, Owned::none(alloc)).into_box();
+    let answer = session.unpin();
+    pass.owned = Owned::of(session);
+    match answer {
+        Ok(()) => DONE,
+        Err(fault) => fault.code(),
+    }
+}
+
+/// Writes 1 to 64 operations, all or none. Puts out the journal's length with them, and for each operation the number of
+/// the node that it made, or 0, as far as there is room.
+#[unsafe(no_mangle)]
+pub extern "C" fn bes_apply(
+    alloc: Global,
+    pass: &mut Handle,
+    spelled: &[Operation],
+    bytes: &[u8],
+    made: &mut [u64],
+    entries: &mut u64,
+) -> u32
+    ensures pass { Calls pass.old.owned.value pass.new.owned.value result (λ s t. Writes s t spelled.now bytes.now made.old made.new entries.new result) }
+    ensures kept { (result ≡ 0) ⊎ ((entries.new ≡ entries.old) × (made.new ≡ made.old)) }
+{
+    if !pass.live {
+        return CLOSED;
+    }
+    let ops = match operations(alloc, spelled, bytes) {
+        Ok(ops) => ops,
+        Err(fault) => return fault.code(),
+    };
+    let mut session = mem::replace(&mut pass.owned, Owned::none(alloc)).into_box();
+    let answer = session.apply(ops.as_slice());
+    pass.owned = Owned::of(session);
+    match answer {
+        Ok((length, dones)) => {
+            *entries = length;
+            put(made, nodes_of(&dones).as_slice());
+            DONE
+        }
+        Err(fault) => fault.code(),
+    }
+}
+
+/// Asks the query of this text in the pinned version. Puts out how many nodes meet it, and as many of them as there is
+/// room for.
+#[unsafe(no_mangle)]
+pub extern "C" fn bes_query(
+    alloc: Global,
+    pass: &mut Handle,
+    text: &[u8],
+    nodes: &mut [u64],
+    count: &mut u64,
+) -> u32
+    ensures pass { Calls pass.old.owned.value pass.new.owned.value result (λ s t. Finds s t text.now nodes.old nodes.new count.new result) }
+    ensures kept { (result ≡ 0) ⊎ ((count.new ≡ count.old) × (nodes.new ≡ nodes.old)) }
+{
+    if !pass.live {
+        return CLOSED;
+    }
+    let query = match query_of(alloc, text) {
+        Ok(query) => query,
+        Err(fault) => return fault.code(),
+    };
+    let mut session = mem::replace(&mut pass.owned, Owned::none(alloc)).into_box();
+    let answer = session.query(alloc, &query);
+    pass.owned = Owned::of(session);
+    tell(answer, nodes, count)
+}
+
+/// Asks the query that items in reverse Polish order build, as `bes_query` does.
+#[unsafe(no_mangle)]
+pub extern "C" fn bes_query_items(
+    alloc: Global,
+    pass: &mut Handle,
+    spelled: &[PredicateItem],
+    bytes: &[u8],
+    nodes: &mut [u64],
+    count: &mut u64,
+) -> u32
+    ensures pass { Calls pass.old.owned.value pass.new.owned.value result (λ s t. FindsBuilt s t spelled.now bytes.now nodes.old nodes.new count.new result) }
+    ensures kept { (result ≡ 0) ⊎ ((count.new ≡ count.old) × (nodes.new ≡ nodes.old)) }
+{
+    if !pass.live {
+        return CLOSED;
+    }
+    let query = match query_of_items(alloc, spelled, bytes) {
+        Ok(query) => query,
+        Err(fault) => return fault.code(),
+    };
+    let mut session = mem::replace(&mut pass.owned, Owned::none(alloc)).into_box();
+    let answer = session.query(alloc, &query);
+    pass.owned = Owned::of(session);
+    tell(answer, nodes, count)
+}
+
+/// Says what the query of this text would be answered from in the pinned version. Puts out how many bytes that text has, and
+/// as many of them as there is room for.
+#[unsafe(no_mangle)]
+pub extern "C" fn bes_explain(
+    alloc: Global,
+    pass: &mut Handle,
+    text: &[u8],
+    bytes: &mut [u8],
+    count: &mut u64,
+) -> u32
+    ensures pass { Calls pass.old.owned.value pass.new.owned.value result (λ s t. Explains s t text.now bytes.old bytes.new count.new result) }
+    ensures kept { (result ≡ 0) ⊎ ((count.new ≡ count.old) × (bytes.new ≡ bytes.old)) }
+{
+    if !pass.live {
+        return CLOSED;
+    }
+    let query = match query_of(alloc, text) {
+        Ok(query) => query,
+        Err(fault) => return fault.code(),
+    };
+    let mut session = mem::replace(&mut pass.owned, Owned::none(alloc)).into_box();
+    let answer = session.explain(alloc, &query);
+    pass.owned = Owned::of(session);
+    tell_text(answer, bytes, count)
+}
+
+/// Reads a node's attribute in the pinned version. Puts out its type code, its number and its length in bytes, and as many
+/// of its bytes as there is room for.
+#[unsafe(no_mangle)]
+pub extern "C" fn bes_get(
+    alloc: Global,
+    pass: &mut Handle,
+    node: u64,
+    name_bytes: &[u8],
+    attribute: &mut Attribute,
+    bytes: &mut [u8],
+) -> u32
+    ensures pass { Calls pass.old.owned.value pass.new.owned.value result (λ s t. Reads s t node name_bytes.now attribute.new bytes.old bytes.new result) }
+    ensures kept { (result ≡ 0) ⊎ ((attribute.new ≡ attribute.old) × (bytes.new ≡ bytes.old)) }
+{
+    if !pass.live {
+        return CLOSED;
+    }
+    let name = match name(name_bytes) {
+        Ok(name) => name,
+        Err(fault) => return fault.code(),
+    };
+    let mut session = mem::replace(&mut pass.owned, Owned::none(alloc)).into_box();
+    let answer = session.get(node, &name);
+    pass.owned = Owned::of(session);
+    match answer {
+        Ok(Some(value)) => {
+            let (code, number, spelled) = spelled(&value);
+            *attribute = Attribute {
+                code,
+                length: spelled.len() as u64,
+                number,
+            };
+            put(bytes, spelled);
+            DONE
+        }
+        Ok(None) => NO_ATTRIBUTE,
+        Err(fault) => fault.code(),
+    }
+}
+
+/// Lists a node's attributes in the pinned version, as the operations that set them. Puts out how many they are, and how many
+/// bytes their parts are in, and of both as much as there is room for.
+#[unsafe(no_mangle)]
+pub extern "C" fn bes_attributes(
+    alloc: Global,
+    pass: &mut Handle,
+    node: u64,
+    counts: &mut Counts,
+    listed: &mut [Operation],
+    bytes: &mut [u8],
+) -> u32
+    ensures pass { Calls pass.old.owned.value pass.new.owned.value result (λ s t. HasRead s.knows t.knows × Listed (sets node) (pinned_number s.knows.phase) (attributes_at (volume_pinned s.knows) node) counts.new listed.old listed.new bytes.old bytes.new result) }
+    ensures kept { (result ≡ 0) ⊎ ((counts.new ≡ counts.old) × (listed.new ≡ listed.old) × (bytes.new ≡ bytes.old)) }
+{
+    if !pass.live {
+        return CLOSED;
+    }
+    let mut session = mem::replace(&mut pass.owned, Owned::none(alloc)).into_box();
+    let answer = session.attrs(alloc, node);
+    pass.owned = Owned::of(session);
+    tell_attributes(alloc, node, answer, counts, listed, bytes)
+}
+
+/// Lists the indices of the pinned version, as the operations that make them; else as `bes_attributes`.
+#[unsafe(no_mangle)]
+pub extern "C" fn bes_indices(
+    alloc: Global,
+    pass: &mut Handle,
+    counts: &mut Counts,
+    listed: &mut [Operation],
+    bytes: &mut [u8],
+) -> u32
+    ensures pass { Calls pass.old.owned.value pass.new.owned.value result (λ s t. HasRead s.knows t.knows × Listed makes (pinned_number s.knows.phase) (Ok (index_kinds (volume_pinned s.knows))) counts.new listed.old listed.new bytes.old bytes.new result) }
+    ensures kept { (result ≡ 0) ⊎ ((counts.new ≡ counts.old) × (listed.new ≡ listed.old) × (bytes.new ≡ bytes.old)) }
+{
+    if !pass.live {
+        return CLOSED;
+    }
+    let mut session = mem::replace(&mut pass.owned, Owned::none(alloc)).into_box();
+    let answer = session.indices(alloc);
+    pass.owned = Owned::of(session);
+    tell_indices(alloc, answer, counts, listed, bytes)
+}

@@ -1,0 +1,97 @@
+//! Lists, put out as the operations that would make them.
+ghost use Rattle.std.specs.Prelude.{◌≡◌, ◌⊎◌, ℕ, List, IfOk, IfErr, length};
+ghost use Rattle.std.specs.declared.option.Option.{Option as AnyOption};
+ghost use Rattle.std.specs.declared.result.Result.{Result as AnyResult};
+ghost use Rattle.be_session.specs.Operations.{AreSpelled, makes, sets};
+ghost use Rattle.be_session.specs.Sitting.{AtPin, Tells};
+ghost use Rattle.be_session.specs.declared.faults.Fault.TheVariants.{Refused};
+ghost use Rattle.be_value.specs.declared.refusals.Refusal.{Refusal as AnyRefusal};
+ghost use Rattle.be_value.specs.declared.refusals.Refusal.TheVariants.{OutOfMemory};
+ghost use Rattle.be_value.specs.declared.values.Kind.{Kind as AnyKind};
+ghost use Rattle.be_value.specs.declared.values.Value.{Value as AnyValue};
+ghost use Rattle.be_volume.specs.declared.ops.Op.{Op as AnyOp};
+ghost use Rattle.bestore_c.specs.Calls.{IsPutOut, Listed};
+ghost use Rattle.bestore_c.specs.Places.{over};
+
+use crate::handle::Counts;
+use crate::places::put;
+use be_session::{Fault, Operation, Spelling, attributes_spelled, indices_spelled};
+use be_store::{Kind, Name, Value};
+use std::alloc::Global;
+
+fn put_spelling(
+    spelling: &Spelling,
+    counts: &mut Counts,
+    operations: &mut [Operation],
+    bytes: &mut [u8],
+)
+    ensures operations { (counts.new.operations ≡ length spelling.now.operations.items) × (operations.new ≡ over spelling.now.operations.items operations.old) }
+    ensures bytes { (counts.new.bytes ≡ length spelling.now.bytes.items) × (bytes.new ≡ over spelling.now.bytes.items bytes.old) }
+{
+    *counts = Counts {
+        operations: spelling.operations.len() as u64,
+        bytes: spelling.bytes.len() as u64,
+    };
+    put(operations, spelling.operations.as_slice());
+    put(bytes, spelling.bytes.as_slice());
+}
+
+/// Puts out operations that are spelled, as far as there is room.
+fn put_spelled(
+    spelled: Result<Spelling, Fault>,
+    counts: &mut Counts,
+    operations: &mut [Operation],
+    bytes: &mut [u8],
+) -> u32
+    ensures listed { (ops : List AnyOp) → IfOk spelled (λ s. AreSpelled s.operations.items s.bytes.items ops) → IfErr spelled (λ e. e ≡ Refused OutOfMemory) → IsPutOut ops counts.new operations.old operations.new bytes.old bytes.new result }
+    ensures kept { (result ≡ 0) ⊎ ((counts.new ≡ counts.old) × (operations.new ≡ operations.old) × (bytes.new ≡ bytes.old)) }
+{
+    match spelled {
+        Ok(spelling) => {
+            put_spelling(&spelling, counts, operations, bytes);
+            0
+        }
+        Err(fault) => fault.code(),
+    }
+}
+
+/// Puts out a node's attributes, as far as there is room. What that says of the version is known of what the session told.
+pub(crate) fn tell_attributes(
+    alloc: Global,
+    node: u64,
+    answer: Result<Vec<(Name, Value)>, Fault>,
+    counts: &mut Counts,
+    operations: &mut [Operation],
+    bytes: &mut [u8],
+) -> u32
+    ensures listed { (pin : AnyOption ℕ) (meant : AnyResult (List (List ℕ × AnyValue)) AnyRefusal) → AtPin pin answer (Tells (λ list. list.items) answer meant) → Listed (sets node) pin meant counts.new operations.old operations.new bytes.old bytes.new result }
+    ensures kept { (result ≡ 0) ⊎ ((counts.new ≡ counts.old) × (operations.new ≡ operations.old) × (bytes.new ≡ bytes.old)) }
+{
+    match answer {
+        Ok(list) => {
+            let spelled = attributes_spelled(alloc, node, list.as_slice());
+            put_spelled(spelled, counts, operations, bytes)
+        }
+        Err(fault) => fault.code(),
+    }
+}
+
+/// Puts out the indices, as far as there is room.
+pub(crate) fn tell_indices(
+    alloc: Global,
+    answer: Result<Vec<(Name, Kind)>, Fault>,
+    counts: &mut Counts,
+    operations: &mut [Operation],
+    bytes: &mut [u8],
+) -> u32
+    ensures listed { (pin : AnyOption ℕ) (meant : AnyResult (List (List ℕ × AnyKind)) AnyRefusal) → AtPin pin answer (Tells (λ list. list.items) answer meant) → Listed makes pin meant counts.new operations.old operations.new bytes.old bytes.new result }
+    ensures kept { (result ≡ 0) ⊎ ((counts.new ≡ counts.old) × (operations.new ≡ operations.old) × (bytes.new ≡ bytes.old)) }
+{
+    match answer {
+        Ok(list) => {
+            let spelled = indices_spelled(alloc, list.as_slice());
+            put_spelled(spelled, counts, operations, bytes)
+        }
+        Err(fault) => fault.code(),
+    }
+}

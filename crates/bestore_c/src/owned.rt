@@ -1,0 +1,70 @@
+//! What a handle owns: a box that C holds as a pointer, or nothing.
+//!
+//! Its type names no other type, so that it can lie in memory that C passes.
+ghost use Rattle.std.specs.Prelude.{◌≡◌, Option, None, Some, true};
+ghost use Rattle.std.specs.contracts.impls.GlobalAllocator.TheImpl.{ghosts};
+ghost use Rattle.be_session.specs.declared.session.Session.{Session};
+ghost use Rattle.be_session.specs.contracts.session.Session.{the_row};
+ghost use Rattle.bestore_c.specs.Owned.{may_own, holds};
+
+use crate::loose::Loose;
+use be_session::Session;
+use std::alloc::Global;
+use std::marker::Model;
+
+#[repr(C)]
+#[derive(Drop)]
+pub struct Owned {
+    at: *mut u8,
+    alloc: Global,
+    pub ghost value: { Option (the_row).Denot },
+}
+
+impl Model for Owned {
+    ghost also_owns = { λ p. may_own (ghosts.dealloc_token p.alloc) the_row p.at p.value };
+}
+
+impl Owned {
+    pub fn none(alloc: Global) -> Owned
+        ensures { result.value ≡ None }
+    {
+        Owned {
+            at: std::ptr::null_mut(),
+            alloc,
+        }
+    }
+
+    fn of_loose(loose: Loose<Session, Global>) -> Owned
+        ensures { result.value ≡ Some loose.value }
+    {
+        let Loose { at, alloc } = loose;
+        Owned {
+            at: at as *mut u8,
+            alloc,
+        }
+    }
+
+    fn into_loose(self) -> Loose<Session, Global>
+        requires { holds self.value ≡ true }
+        ensures { self.value ≡ Some result.value }
+    {
+        let Owned { at, alloc } = self;
+        Loose {
+            at: at as *mut Session,
+            alloc,
+        }
+    }
+
+    pub fn of(session: Box<Session, Global>) -> Owned
+        ensures { result.value ≡ Some session.value }
+    {
+        Owned::of_loose(Loose::of(session))
+    }
+
+    pub fn into_box(self) -> Box<Session, Global>
+        requires { holds self.value ≡ true }
+        ensures { self.value ≡ Some result.value }
+    {
+        self.into_loose().into_box()
+    }
+}

@@ -1,0 +1,122 @@
+//! The exports, called from Rattle. The tests in C show what only C can.
+use crate::handle::{Attribute, Counts, Handle};
+use crate::owned::Owned;
+use crate::{
+    bes_another, bes_apply, bes_close, bes_explain, bes_get, bes_indices, bes_move, bes_open,
+    bes_pin, bes_query, bes_unpin,
+};
+use be_session::Operation;
+use std::alloc::Global;
+use std::test::Fail;
+
+fn closed(alloc: Global) -> Handle {
+    Handle {
+        live: false,
+        owned: Owned::none(alloc),
+    }
+}
+
+/// An operation whose name is the first byte of two, and whose value the second.
+fn spelled(kind: u32, node: u64) -> Operation {
+    Operation {
+        kind,
+        code: 0x4353_5452,
+        node,
+        number: 0,
+        name_at: 0,
+        name_length: 1,
+        value_at: 1,
+        value_length: 1,
+    }
+}
+
+#[test]
+fn writes_and_asks(rt: HostRuntime) -> Result<(), Fail> {
+    let alloc = rt.alloc();
+    let mut mine = closed(alloc);
+    let mut theirs = closed(alloc);
+    let (mut number, mut count) = (0, 0);
+    let mut nodes = [0; 4];
+    assert_eq!(rt; bes_pin(alloc, &mut mine, &mut number), 64);
+    assert_eq!(rt; bes_open(alloc, 64, 2, 10, &mut mine), 0);
+    assert_eq!(rt; bes_another(alloc, &mut mine, &mut theirs), 0);
+    let list = [spelled(4, 0), spelled(0, 0), spelled(2, 1)];
+    let answer = bes_apply(alloc, &mut mine, &list, b"kv", &mut nodes, &mut number);
+    assert_eq!(rt; (answer, number, nodes), (0, 1, [0, 1, 0, 0]));
+    assert_eq!(rt;
+        bes_query(alloc, &mut theirs, b"k==\"v\"", &mut nodes, &mut count),
+        66
+    );
+    assert_eq!(rt; bes_pin(alloc, &mut theirs, &mut number), 0);
+    let answer = bes_query(alloc, &mut theirs, b"k==\"v\"", &mut nodes, &mut count);
+    assert_eq!(rt; (answer, count, nodes), (0, 1, [1, 1, 0, 0]));
+    Ok(())
+}
+
+#[test]
+fn reads_and_closes(rt: HostRuntime) -> Result<(), Fail> {
+    let alloc = rt.alloc();
+    let mut mine = closed(alloc);
+    let (mut number, mut made, mut bytes) = (0, [0; 1], [9; 3]);
+    let mut told = Attribute {
+        code: 0,
+        length: 0,
+        number: 7,
+    };
+    assert_eq!(rt; bes_open(alloc, 64, 1, 10, &mut mine), 0);
+    let list = [spelled(0, 0), spelled(2, 1)];
+    assert_eq!(rt;
+        bes_apply(alloc, &mut mine, &list, b"kv", &mut made, &mut number),
+        0
+    );
+    assert_eq!(rt; bes_pin(alloc, &mut mine, &mut number), 0);
+    assert_eq!(rt;
+        bes_get(alloc, &mut mine, 1, b"k", &mut told, &mut bytes),
+        0
+    );
+    assert_eq!(rt;
+        (told.code, told.length, told.number, bytes),
+        (0x4353_5452, 1, 0, [118, 9, 9])
+    );
+    assert_eq!(rt;
+        bes_get(alloc, &mut mine, 1, b"j", &mut told, &mut bytes),
+        3
+    );
+    assert_eq!(rt; bes_unpin(alloc, &mut mine), 0);
+    assert_eq!(rt; bes_close(alloc, &mut mine), 0);
+    assert_eq!(rt; bes_close(alloc, &mut mine), 64);
+    Ok(())
+}
+
+#[test]
+fn moves_and_lists(rt: HostRuntime) -> Result<(), Fail> {
+    let alloc = rt.alloc();
+    let mut mine = closed(alloc);
+    let mut theirs = closed(alloc);
+    let (mut number, mut made, mut bytes) = (0, [0; 1], [9; 3]);
+    let mut listed = [spelled(0, 0)];
+    let mut counts = Counts {
+        operations: 0,
+        bytes: 0,
+    };
+    assert_eq!(rt; bes_open(alloc, 64, 1, 10, &mut mine), 0);
+    assert_eq!(rt; bes_move(alloc, &mut mine, &mut theirs), 0);
+    assert_eq!(rt; bes_pin(alloc, &mut mine, &mut number), 64);
+    let list = [spelled(4, 0)];
+    assert_eq!(rt;
+        bes_apply(alloc, &mut theirs, &list, b"kv", &mut made, &mut number),
+        0
+    );
+    assert_eq!(rt; bes_pin(alloc, &mut theirs, &mut number), 0);
+    assert_eq!(rt;
+        bes_indices(alloc, &mut theirs, &mut counts, &mut listed, &mut bytes),
+        0
+    );
+    assert_eq!(rt;
+        (counts.operations, counts.bytes, listed[0].kind, bytes),
+        (1, 1, 4, [107, 9, 9])
+    );
+    let answer = bes_explain(alloc, &mut theirs, b"k==\"v\"", &mut bytes, &mut number);
+    assert_eq!(rt; (answer, number, bytes), (0, 16, [34, 107, 34]));
+    Ok(())
+}

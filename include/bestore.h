@@ -1,0 +1,490 @@
+/* bestore: a shared, multi-version store of nodes with attributes, indices and queries, in memory.
+ *
+ * Link with libbestore.a or -lbestore (pkg-config bestore), and -lpthread where your own threads need it.
+ *
+ * HANDLES. A bes_pass is one user's place in a store: it writes, pins a version and reads it. Its memory is yours. Start it
+ * with BES_PASS_INIT (zero bytes), never copy it or change its fields (bes_move moves it), and close it with bes_close. The
+ * store goes with its last open pass.
+ *
+ * THREADS. Each thread has a pass of its own, and the calls on different passes may run at the same time; none waits for
+ * another. A pass takes one call at a time. It may be handed to another thread where that thread's calls come after yours
+ * (a join, a lock, a started thread). Call nothing here from a signal handler, nor in a forked child of a process with
+ * threads.
+ *
+ * ANSWERS. Each call answers BES_OK, or the number of what kept it from its work. What a call puts out is written only
+ * where it answers BES_OK. Pointers must be valid and lie apart; a length of 0 needs a pointer that isn't null.
+ *
+ * VERSIONS. A read needs a pin, and reads the version that was current when the pass was pinned, however much is written
+ * meanwhile. A pin keeps the pages of its version from being used again: give it up soon. What is pinned by a thread that
+ * never comes back stays pinned.
+ */
+#ifndef BESTORE_H
+#define BESTORE_H
+
+#include <stdbool.h>
+#include <stddef.h>
+#include <stdint.h>
+#include <string.h>
+
+#ifdef __cplusplus
+extern "C" {
+#endif
+
+#define BES_VERSION_MAJOR 0
+#define BES_VERSION_MINOR 1
+#define BES_VERSION "0.1.0"
+
+/* Both fields are the library's. */
+typedef struct bes_pass {
+    bool live;
+    void *at;
+} bes_pass;
+
+#define BES_PASS_INIT { false, NULL }
+
+/* What calls answer. */
+enum {
+    BES_OK = 0,
+    BES_BUSY = 1,             /* another pass is writing: call again */
+    BES_NO_NODE = 2,          /* the node isn't there */
+    BES_NO_ATTRIBUTE = 3,     /* the node has no attribute of this name */
+    BES_TOO_MANY_ATTRS = 4,   /* the node has no room for another attribute */
+    BES_INDEX_EXISTS = 5,     /* there is an index of this name */
+    BES_NO_INDEX = 6,         /* there is no index of this name */
+    BES_TOO_MANY_INDICES = 7, /* there is no room for another index */
+    BES_NOT_INDEXABLE = 8,    /* no index may have this kind */
+    BES_COMMITS_SPENT = 9,    /* the journal is at the limit that bes_open set */
+    BES_NO_MEMORY = 10,       /* malloc refused */
+    BES_FULL = 11,            /* no page is free; one may be once pins are given up */
+    BES_SYNTAX = 12,          /* the query leaves the grammar */
+    BES_BAD_PATTERN = 13,     /* a pattern of the query is malformed */
+    BES_TOO_LONG = 14,        /* the query has more than 4,096 bytes */
+    BES_TOO_DEEP = 15,        /* the query is nested too deep */
+    BES_TOO_MANY = 16,        /* the query has more than 256 comparisons */
+    BES_NOT_COVERED = 17,     /* the query rests on no index of the version */
+    BES_NAME_LENGTH = 18,     /* a name has not 1 to 63 bytes */
+    BES_DATA_LENGTH = 19,     /* a value has more than 255 bytes */
+    BES_HAS_NUL = 20,         /* a name or a text has a zero byte */
+    BES_BAD_LIMITS = 21,      /* a limit of bes_open is out of its range */
+    BES_BAD_RPN = 22,         /* items of a predicate that build no query */
+    BES_CLOSED = 64,          /* the handle is closed */
+    BES_OPEN = 65,            /* the handle that was to be opened is open */
+    BES_NOT_PINNED = 66,      /* the call reads, and the pass isn't pinned */
+    BES_PINNED = 67,          /* the pass is pinned already */
+    BES_NO_PASS = 68,         /* each pass of the store is in use */
+    BES_BAD_COUNT = 69,       /* a write of no operation, or of more than 64 */
+    BES_NOT_UTF8 = 70,        /* bytes that should be a text are no UTF-8 */
+    BES_NO_OPERATION = 71,    /* the number of an operation is none */
+    BES_NO_KIND = 72,         /* the type code is none */
+    BES_NO_VALUE = 73,        /* the number doesn't fit the kind */
+    BES_BAD_PART = 74,        /* a name or value isn't within the bytes */
+    BES_NO_ITEM = 75          /* the number of an item of a predicate is none */
+};
+
+/* The kinds of values, by the type codes of BeOS. */
+enum {
+    BES_STRING_TYPE = 0x43535452,      /* 'CSTR': up to 255 bytes of UTF-8 */
+    BES_INT32_TYPE = 0x4c4f4e47,       /* 'LONG' */
+    BES_INT64_TYPE = 0x4c4c4e47,       /* 'LLNG' */
+    BES_MIME_STRING_TYPE = 0x4d494d53, /* 'MIMS': a text that no index holds */
+    BES_RAW_TYPE = 0x52415754,         /* 'RAWT': up to 255 bytes that no index holds */
+    BES_UINT32_TYPE = 0x554c4e47,      /* 'ULNG' */
+    BES_UINT64_TYPE = 0x554c4c47       /* 'ULLG' */
+};
+
+/* What an operation does. */
+enum {
+    BES_NEW_NODE = 0,     /* makes a node, with the next number; the first is 1, and none is used again */
+    BES_REMOVE_NODE = 1,  /* removes the node and all its attributes */
+    BES_SET = 2,          /* sets the node's attribute of this name */
+    BES_UNSET = 3,        /* removes the node's attribute of this name */
+    BES_MAKE_INDEX = 4,   /* makes an index of this name, for values of the kind of the type code */
+    BES_REMOVE_INDEX = 5  /* removes the index of this name */
+};
+
+/* An operation. Its name, and the bytes of its value, are parts of the bytes that go with all operations of a write. What
+ * the operation has no use for may be anything, except that both parts must lie within the bytes: leave them 0. */
+typedef struct bes_operation {
+    uint32_t kind;         /* BES_NEW_NODE .. BES_REMOVE_INDEX */
+    uint32_t code;         /* the value's or the index's type code */
+    uint64_t node;
+    uint64_t number;       /* the value where it is a number; (uint64_t)(int64_t)n of a signed one */
+    uint32_t name_at;      /* where the name begins in the bytes */
+    uint32_t name_length;
+    uint32_t value_at;     /* where the bytes of a text or a raw value begin */
+    uint32_t value_length;
+} bes_operation;
+
+/* What an item of a predicate does: a predicate is items in reverse Polish order. */
+enum {
+    BES_ITEM_ATTRIBUTE = 0, /* an attribute, by the bytes of its name */
+    BES_ITEM_TEXT = 1,      /* a text */
+    BES_ITEM_INT64 = 2,     /* a number; (uint64_t)n */
+    BES_ITEM_UINT64 = 3,
+    BES_ITEM_EQ = 4,        /* 4 to 12 take an attribute and a value behind it: a comparison */
+    BES_ITEM_NE = 5,
+    BES_ITEM_LT = 6,
+    BES_ITEM_LE = 7,
+    BES_ITEM_GT = 8,
+    BES_ITEM_GE = 9,
+    BES_ITEM_CONTAINS = 10,
+    BES_ITEM_BEGINS_WITH = 11,
+    BES_ITEM_ENDS_WITH = 12,
+    BES_ITEM_AND = 13,      /* 13 and 14 take two queries, and 15 takes one */
+    BES_ITEM_OR = 14,
+    BES_ITEM_NOT = 15
+};
+
+/* An item of a predicate. Its bytes are a part of those that go with all items; what it has no use for is as in an
+ * operation. */
+typedef struct bes_item {
+    uint32_t kind;
+    uint32_t at;
+    uint32_t length;
+    uint64_t number;
+} bes_item;
+
+/* What bes_get puts out of a value. */
+typedef struct bes_attribute {
+    uint32_t code;    /* the type code */
+    uint64_t length;  /* of a text or a raw value: how many bytes it has */
+    uint64_t number;  /* of a number: the value; (int64_t)number of a signed one */
+} bes_attribute;
+
+/* How much a list has. */
+typedef struct bes_counts {
+    uint64_t operations;
+    uint64_t bytes;
+} bes_counts;
+
+/* Opens a store in memory, and the handle as its first pass. The store has so many pages of 4 KiB (8 to 16,384), which are
+ * taken at once, so many passes (1 to 64), and takes so many writes (1 to 2^32 - 1).
+ * BES_OPEN, BES_BAD_LIMITS, BES_NO_MEMORY. */
+uint32_t bes_open(uint64_t pages, uint64_t passes, uint64_t commits, bes_pass *pass);
+
+/* Opens another handle, for a pass of the same store that has none yet. Ask it of the handle that bes_open opened: the
+ * others answer BES_NO_PASS. BES_CLOSED, BES_OPEN (of other), BES_NO_PASS, BES_NO_MEMORY: no pass is lost. */
+uint32_t bes_another(bes_pass *pass, bes_pass *other);
+
+/* Moves what the handle holds into other, which has to be closed, and closes it: so a pass that one thread has done with can
+ * wait in memory of yours until another thread takes it, with its pin and with all that it has seen. Takes constant time.
+ * BES_CLOSED, BES_OPEN (of other): both are as they were. */
+uint32_t bes_move(bes_pass *pass, bes_pass *other);
+
+/* Closes the handle, and gives its pin up. Its pass isn't used again: keep it by bes_move where another thread is to go on
+ * with it. BES_CLOSED. */
+uint32_t bes_close(bes_pass *pass);
+
+/* Pins the current version, and puts out its number: how many writes it contains. Takes constant time.
+ * BES_CLOSED, BES_PINNED. */
+uint32_t bes_pin(bes_pass *pass, uint64_t *number);
+
+/* Gives the pin up. Takes constant time. BES_CLOSED, BES_NOT_PINNED. */
+uint32_t bes_unpin(bes_pass *pass);
+
+/* Writes 1 to 64 operations, all or none. Puts out the number of this write, and in made[i] the number of the node that
+ * operation i made, or 0, as far as made has room. A pin stays where it is.
+ * BES_BUSY: another pass is writing, call again. BES_CLOSED, BES_BAD_COUNT, BES_NO_OPERATION, BES_BAD_PART, BES_NOT_UTF8,
+ * BES_NAME_LENGTH, BES_DATA_LENGTH, BES_HAS_NUL, BES_NO_KIND, BES_NO_VALUE, BES_NO_MEMORY: nothing has happened. BES_NO_NODE
+ * to BES_NOT_INDEXABLE: an operation is refused, and none is done. BES_COMMITS_SPENT, BES_FULL: there is no room. */
+uint32_t bes_apply(bes_pass *pass, const bes_operation *operations, size_t operations_count, const uint8_t *bytes,
+                   size_t bytes_count, uint64_t *made, size_t made_room, uint64_t *number);
+
+/* Asks a query in the pinned version. Puts out in count how many nodes meet it, and the first of them, ascending, as far as
+ * nodes has room: where count is more than the room, the same query with more room answers the same.
+ * BES_CLOSED, BES_NOT_PINNED, BES_NOT_UTF8, BES_SYNTAX to BES_NOT_COVERED, BES_NO_MEMORY. */
+uint32_t bes_query(bes_pass *pass, const uint8_t *text, size_t text_length, uint64_t *nodes, size_t nodes_room,
+                   uint64_t *count);
+
+/* Asks the query that items in reverse Polish order build, as bes_query does. BES_NO_ITEM, BES_BAD_PART, BES_NAME_LENGTH,
+ * BES_HAS_NUL: an item is misspelt. BES_BAD_RPN, BES_BAD_PATTERN, BES_TOO_DEEP, BES_TOO_MANY: the items build no query. */
+uint32_t bes_query_items(bes_pass *pass, const bes_item *items, size_t items_count, const uint8_t *bytes, size_t bytes_count,
+                         uint64_t *nodes, size_t nodes_room, uint64_t *count);
+
+/* Says what the query of this text would be answered from in the pinned version: the comparisons that are picked, joined by
+ * " || ", and a score, as in "size"<"0" score 3. Puts out in count how many bytes that text has (it has no zero byte behind it),
+ * and its first bytes, as far as bytes has room. Faults are those of bes_query. */
+uint32_t bes_explain(bes_pass *pass, const uint8_t *text, size_t text_length, uint8_t *bytes, size_t bytes_room, uint64_t *count);
+
+/* Reads a node's attribute in the pinned version: its type code, number and length, and its first bytes, as far as bytes
+ * has room (255 are enough for every value). Takes one descent of a tree.
+ * BES_CLOSED, BES_NOT_PINNED, BES_NO_ATTRIBUTE (also where there is no such node), BES_NOT_UTF8, BES_NAME_LENGTH,
+ * BES_HAS_NUL. */
+uint32_t bes_get(bes_pass *pass, uint64_t node, const uint8_t *name, size_t name_length, bes_attribute *attribute,
+                 uint8_t *bytes, size_t bytes_room);
+
+/* Lists a node's attributes in the pinned version, by ascending names: as the operations that set them, with the bytes that
+ * their names and values are parts of, as for bes_apply. Puts out how many operations and bytes there are, and of both as many
+ * as there is room for: where there are more, the same call with more room answers the same.
+ * BES_CLOSED, BES_NOT_PINNED, BES_NO_NODE, BES_NO_MEMORY. */
+uint32_t bes_attributes(bes_pass *pass, uint64_t node, bes_counts *counts, bes_operation *operations, size_t operations_room,
+                        uint8_t *bytes, size_t bytes_room);
+
+/* Lists the indices of the pinned version, by ascending names, as the operations that make them; else as bes_attributes.
+ * BES_CLOSED, BES_NOT_PINNED, BES_NO_MEMORY. */
+uint32_t bes_indices(bes_pass *pass, bes_counts *counts, bes_operation *operations, size_t operations_room, uint8_t *bytes,
+                     size_t bytes_room);
+
+/* What an answer means, in English. */
+static inline const char *bes_strerror(uint32_t answer)
+{
+    static const char *const refusals[] = {
+        "done", "another pass is writing", "no such node", "no such attribute", "too many attributes", "the index exists",
+        "no such index", "too many indices", "no index may have this kind", "the journal is at its limit", "out of memory",
+        "no page is free", "the query leaves the grammar", "a pattern is malformed", "the query is too long",
+        "the query is too deep", "too many comparisons", "no index serves the query", "a name has not 1 to 63 bytes",
+        "a value has more than 255 bytes", "a text has a zero byte", "a limit is out of its range",
+        "the items build no query"
+    };
+    static const char *const faults[] = {
+        "the handle is closed", "the handle is open", "the pass isn't pinned", "the pass is pinned", "each pass is in use",
+        "a write has not 1 to 64 operations", "the bytes are no UTF-8", "no such operation", "no such kind",
+        "the number doesn't fit the kind", "a part isn't within the bytes",
+        "no such item"
+    };
+    if (answer < sizeof refusals / sizeof *refusals)
+        return refusals[answer];
+    if (answer >= BES_CLOSED && answer - BES_CLOSED < sizeof faults / sizeof *faults)
+        return faults[answer - BES_CLOSED];
+    return "unknown answer";
+}
+
+/* A list of operations with room for 64 of any kind. Fill it by the calls below, apply it, and clear it for the next one.
+ * A call answers BES_BAD_COUNT where the batch has 64 operations, and BES_NAME_LENGTH or BES_DATA_LENGTH for a name of more
+ * than 63 bytes or a value of more than 255; every other fault shows at bes_batch_apply. */
+typedef struct bes_batch {
+    size_t count;
+    size_t used;
+    bes_operation operations[64];
+    uint8_t bytes[64 * (63 + 255)];
+} bes_batch;
+
+static inline void bes_batch_clear(bes_batch *batch)
+{
+    batch->count = 0;
+    batch->used = 0;
+}
+
+static inline uint32_t bes_batch_add(bes_batch *batch, uint32_t kind, uint64_t node, const char *name, uint32_t code,
+                                     uint64_t number, const void *value, size_t value_length)
+{
+    size_t name_length = strlen(name);
+    bes_operation *operation;
+    if (batch->count >= 64)
+        return BES_BAD_COUNT;
+    if (name_length > 63)
+        return BES_NAME_LENGTH;
+    if (value_length > 255)
+        return BES_DATA_LENGTH;
+    operation = &batch->operations[batch->count++];
+    operation->kind = kind;
+    operation->code = code;
+    operation->node = node;
+    operation->number = number;
+    operation->name_at = (uint32_t)batch->used;
+    operation->name_length = (uint32_t)name_length;
+    memcpy(batch->bytes + batch->used, name, name_length);
+    batch->used += name_length;
+    operation->value_at = (uint32_t)batch->used;
+    operation->value_length = (uint32_t)value_length;
+    if (value_length > 0)
+        memcpy(batch->bytes + batch->used, value, value_length);
+    batch->used += value_length;
+    return BES_OK;
+}
+
+static inline uint32_t bes_batch_new_node(bes_batch *batch)
+{
+    return bes_batch_add(batch, BES_NEW_NODE, 0, "", 0, 0, NULL, 0);
+}
+
+static inline uint32_t bes_batch_remove_node(bes_batch *batch, uint64_t node)
+{
+    return bes_batch_add(batch, BES_REMOVE_NODE, node, "", 0, 0, NULL, 0);
+}
+
+static inline uint32_t bes_batch_set_text(bes_batch *batch, uint64_t node, const char *name, const char *text)
+{
+    return bes_batch_add(batch, BES_SET, node, name, BES_STRING_TYPE, 0, text, strlen(text));
+}
+
+static inline uint32_t bes_batch_set_mime(bes_batch *batch, uint64_t node, const char *name, const char *text)
+{
+    return bes_batch_add(batch, BES_SET, node, name, BES_MIME_STRING_TYPE, 0, text, strlen(text));
+}
+
+static inline uint32_t bes_batch_set_raw(bes_batch *batch, uint64_t node, const char *name, const void *value, size_t length)
+{
+    return bes_batch_add(batch, BES_SET, node, name, BES_RAW_TYPE, 0, value, length);
+}
+
+static inline uint32_t bes_batch_set_int32(bes_batch *batch, uint64_t node, const char *name, int32_t value)
+{
+    return bes_batch_add(batch, BES_SET, node, name, BES_INT32_TYPE, (uint64_t)(int64_t)value, NULL, 0);
+}
+
+static inline uint32_t bes_batch_set_int64(bes_batch *batch, uint64_t node, const char *name, int64_t value)
+{
+    return bes_batch_add(batch, BES_SET, node, name, BES_INT64_TYPE, (uint64_t)value, NULL, 0);
+}
+
+static inline uint32_t bes_batch_set_uint32(bes_batch *batch, uint64_t node, const char *name, uint32_t value)
+{
+    return bes_batch_add(batch, BES_SET, node, name, BES_UINT32_TYPE, value, NULL, 0);
+}
+
+static inline uint32_t bes_batch_set_uint64(bes_batch *batch, uint64_t node, const char *name, uint64_t value)
+{
+    return bes_batch_add(batch, BES_SET, node, name, BES_UINT64_TYPE, value, NULL, 0);
+}
+
+static inline uint32_t bes_batch_unset(bes_batch *batch, uint64_t node, const char *name)
+{
+    return bes_batch_add(batch, BES_UNSET, node, name, 0, 0, NULL, 0);
+}
+
+static inline uint32_t bes_batch_make_index(bes_batch *batch, const char *name, uint32_t code)
+{
+    return bes_batch_add(batch, BES_MAKE_INDEX, 0, name, code, 0, NULL, 0);
+}
+
+static inline uint32_t bes_batch_remove_index(bes_batch *batch, const char *name)
+{
+    return bes_batch_add(batch, BES_REMOVE_INDEX, 0, name, 0, 0, NULL, 0);
+}
+
+/* Applies the batch, at most so many times while another pass is writing (at least once). */
+static inline uint32_t bes_batch_apply(bes_pass *pass, const bes_batch *batch, unsigned tries, uint64_t *made,
+                                       size_t made_room, uint64_t *number)
+{
+    uint32_t answer;
+    do
+        answer = bes_apply(pass, batch->operations, batch->count, batch->bytes, batch->used, made, made_room, number);
+    while (answer == BES_BUSY && tries-- > 1);
+    return answer;
+}
+
+/* Single operations, each a write of its own, as bes_batch_apply with so many tries as BES_TRIES. */
+#ifndef BES_TRIES
+#define BES_TRIES 1000000u
+#endif
+
+static inline uint32_t bes_apply_one(bes_pass *pass, uint32_t kind, uint64_t node, const char *name, uint32_t code,
+                                     uint64_t number, const void *value, size_t value_length, uint64_t *made)
+{
+    bes_operation operation;
+    uint8_t bytes[63 + 255];
+    uint64_t write = 0;
+    size_t name_length = strlen(name);
+    unsigned tries = BES_TRIES;
+    uint32_t answer;
+    if (name_length > 63)
+        return BES_NAME_LENGTH;
+    if (value_length > 255)
+        return BES_DATA_LENGTH;
+    memcpy(bytes, name, name_length);
+    if (value_length > 0)
+        memcpy(bytes + name_length, value, value_length);
+    operation.kind = kind;
+    operation.code = code;
+    operation.node = node;
+    operation.number = number;
+    operation.name_at = 0;
+    operation.name_length = (uint32_t)name_length;
+    operation.value_at = (uint32_t)name_length;
+    operation.value_length = (uint32_t)value_length;
+    do
+        answer = bes_apply(pass, &operation, 1, bytes, name_length + value_length, made, 1, &write);
+    while (answer == BES_BUSY && tries-- > 1);
+    return answer;
+}
+
+/* Makes a node, and puts out its number. */
+static inline uint32_t bes_new_node(bes_pass *pass, uint64_t *node)
+{
+    return bes_apply_one(pass, BES_NEW_NODE, 0, "", 0, 0, NULL, 0, node);
+}
+
+static inline uint32_t bes_remove_node(bes_pass *pass, uint64_t node)
+{
+    uint64_t made = 0;
+    return bes_apply_one(pass, BES_REMOVE_NODE, node, "", 0, 0, NULL, 0, &made);
+}
+
+static inline uint32_t bes_set_text(bes_pass *pass, uint64_t node, const char *name, const char *text)
+{
+    uint64_t made = 0;
+    return bes_apply_one(pass, BES_SET, node, name, BES_STRING_TYPE, 0, text, strlen(text), &made);
+}
+
+static inline uint32_t bes_set_mime(bes_pass *pass, uint64_t node, const char *name, const char *text)
+{
+    uint64_t made = 0;
+    return bes_apply_one(pass, BES_SET, node, name, BES_MIME_STRING_TYPE, 0, text, strlen(text), &made);
+}
+
+static inline uint32_t bes_set_raw(bes_pass *pass, uint64_t node, const char *name, const void *value, size_t length)
+{
+    uint64_t made = 0;
+    return bes_apply_one(pass, BES_SET, node, name, BES_RAW_TYPE, 0, value, length, &made);
+}
+
+static inline uint32_t bes_set_int32(bes_pass *pass, uint64_t node, const char *name, int32_t value)
+{
+    uint64_t made = 0;
+    return bes_apply_one(pass, BES_SET, node, name, BES_INT32_TYPE, (uint64_t)(int64_t)value, NULL, 0, &made);
+}
+
+static inline uint32_t bes_set_int64(bes_pass *pass, uint64_t node, const char *name, int64_t value)
+{
+    uint64_t made = 0;
+    return bes_apply_one(pass, BES_SET, node, name, BES_INT64_TYPE, (uint64_t)value, NULL, 0, &made);
+}
+
+static inline uint32_t bes_set_uint32(bes_pass *pass, uint64_t node, const char *name, uint32_t value)
+{
+    uint64_t made = 0;
+    return bes_apply_one(pass, BES_SET, node, name, BES_UINT32_TYPE, value, NULL, 0, &made);
+}
+
+static inline uint32_t bes_set_uint64(bes_pass *pass, uint64_t node, const char *name, uint64_t value)
+{
+    uint64_t made = 0;
+    return bes_apply_one(pass, BES_SET, node, name, BES_UINT64_TYPE, value, NULL, 0, &made);
+}
+
+static inline uint32_t bes_unset(bes_pass *pass, uint64_t node, const char *name)
+{
+    uint64_t made = 0;
+    return bes_apply_one(pass, BES_UNSET, node, name, 0, 0, NULL, 0, &made);
+}
+
+static inline uint32_t bes_make_index(bes_pass *pass, const char *name, uint32_t code)
+{
+    uint64_t made = 0;
+    return bes_apply_one(pass, BES_MAKE_INDEX, 0, name, code, 0, NULL, 0, &made);
+}
+
+static inline uint32_t bes_remove_index(bes_pass *pass, const char *name)
+{
+    uint64_t made = 0;
+    return bes_apply_one(pass, BES_REMOVE_INDEX, 0, name, 0, 0, NULL, 0, &made);
+}
+
+/* bes_query for a text that ends with a zero byte. */
+static inline uint32_t bes_find(bes_pass *pass, const char *text, uint64_t *nodes, size_t nodes_room, uint64_t *count)
+{
+    return bes_query(pass, (const uint8_t *)text, strlen(text), nodes, nodes_room, count);
+}
+
+/* bes_get for a name that ends with a zero byte. */
+static inline uint32_t bes_read(bes_pass *pass, uint64_t node, const char *name, bes_attribute *attribute, uint8_t *bytes,
+                                size_t bytes_room)
+{
+    return bes_get(pass, node, (const uint8_t *)name, strlen(name), attribute, bytes, bytes_room);
+}
+
+#ifdef __cplusplus
+}
+#endif
+#endif

@@ -1,0 +1,142 @@
+"""Lists of operations made by chance, over the library and over `bestore run`, have to be answered alike.
+
+    python3 alike.py PROGRAM [LISTS [SEED]]
+
+PROGRAM is crates/bestore/out/bestore. Each list is a batch of 1 to 6 operations; behind it stand a query and what the store
+then has. What is wrong is printed with its script's line, and the status is 1.
+"""
+
+import os
+import random
+import subprocess
+import sys
+import tempfile
+
+import bestore
+
+KINDS = {bestore.STRING: "CSTR", bestore.INT32: "LONG", bestore.INT64: "LLNG", bestore.MIME: "MIMS", bestore.RAW: "RAWT",
+         bestore.UINT32: "ULNG", bestore.UINT64: "ULLG"}
+NAMES = ["a", "b", "size", "MAIL:from", "hé"]
+LISTS_A_SCRIPT = 500
+
+
+def value_of(chance, kind):
+    """A value of this kind, and how a script spells it."""
+    if kind in (bestore.STRING, bestore.MIME):
+        text = chance.choice(["", "ann", "Ann B", "x" * 255, "é"])
+        return text, f'"{text}"'
+    if kind == bestore.RAW:
+        raw = bytes(chance.randrange(256) for _ in range(chance.randrange(4)))
+        return raw, raw.hex() or '""'
+    bits = 32 if kind in (bestore.INT32, bestore.UINT32) else 64
+    low = -(2 ** (bits - 1)) if kind in (bestore.INT32, bestore.INT64) else 0
+    number = chance.choice([low, low + 2**bits - 1, chance.randrange(10)])
+    return number, str(number)
+
+
+def add(chance, batch, nodes):
+    """Adds an operation to the batch, and answers its line in a script."""
+    node, name, kind = chance.randrange(1, nodes + 3), chance.choice(NAMES), chance.choice(list(KINDS))
+    what = chance.randrange(12)
+    if what < 3:
+        batch.new_node()
+        return "new"
+    if what == 3:
+        batch.remove_node(node)
+        return f"drop {node}"
+    if what < 9:
+        value, spelled = value_of(chance, kind)
+        batch.set(node, name, value, kind)
+        return f"set {node} {name} {KINDS[kind]} {spelled}"
+    if what == 9:
+        batch.unset(node, name)
+        return f"unset {node} {name}"
+    if what == 10:
+        batch.make_index(name, kind)
+        return f"mkindex {name} {KINDS[kind]}"
+    batch.remove_index(name)
+    return f"rmindex {name}"
+
+
+def refused(error):
+    """How a script is answered, as far as the library tells it too."""
+    return f"refused {error.number}"
+
+
+def one_list(chance, store, nodes):
+    """The lines of a list, and the replies that the library gives."""
+    batch, lines, replies = bestore.Batch(), ["begin"], ["ok"]
+    for _ in range(chance.randrange(1, 7)):
+        lines.append(add(chance, batch, nodes))
+        replies.append("queued")
+    lines.append("commit")
+    try:
+        number, made = store.apply(batch)
+        replies.append(f"commit {number}")
+        replies += [f"node {node}" if node else "ok" for node in made]
+        nodes = max([nodes] + made)
+    except bestore.Error as error:
+        replies.append(refused(error))
+    query = f"{chance.choice(NAMES)}{chance.choice(['==', '<', '>=', '!='])}{chance.choice(['5', 'ann', '-1'])}"
+    lines.append(f"query {query}")
+    with store.pin() as version:
+        try:
+            replies.append(" ".join(["nodes"] + [str(node) for node in version.query(query)]))
+        except bestore.Error as error:
+            replies.append(refused(error))
+        lines.append("indices")
+        indices = version.indices()
+        replies.append(f"indices {len(indices)}")
+        replies += [f'"{name}" {KINDS[kind]}' for name, kind in indices.items()]
+        node = chance.randrange(1, nodes + 2)
+        lines.append(f"attrs {node}")
+        try:
+            attributes = version.attributes(node)
+            replies.append(f"attrs {len(attributes)}")
+            replies += [f'"{name}" ' for name in attributes]
+        except bestore.Error as error:
+            replies.append(refused(error))
+    return lines, replies, nodes
+
+
+def script(chance, count):
+    """So many lists, on a store of their own."""
+    lines, replies, nodes = [], [], 0
+    with bestore.open(1024, 1, 1000000) as store:
+        for _ in range(count):
+            more, answers, nodes = one_list(chance, store, nodes)
+            lines += more
+            replies += answers
+    return lines, replies
+
+
+def agrees(reply, said):
+    """Of a refusal the library tells the number alone, and of an attribute's line the name is compared here."""
+    if reply.startswith("refused ") or reply.endswith('" '):
+        return (said + " ").startswith(reply if reply.endswith(" ") else reply + " ")
+    return reply == said
+
+
+def main(program, count=10000, seed=1):
+    chance, done = random.Random(seed), 0
+    while done < count:
+        size = min(LISTS_A_SCRIPT, count - done)
+        lines, replies = script(chance, size)
+        with tempfile.NamedTemporaryFile("w", suffix=".be", encoding="utf-8", delete=False) as file:
+            file.write("\n".join(lines) + "\n")
+        said = subprocess.run([program, "run", file.name], check=True, capture_output=True).stdout.decode().splitlines()
+        for place, (reply, answer) in enumerate(zip(replies, said)):
+            if not agrees(reply, answer):
+                print(f"{file.name}: reply {place + 1} is {answer!r}, and over the library {reply!r}")
+                return 1
+        if len(replies) != len(said):
+            print(f"{file.name}: {len(said)} replies, and over the library {len(replies)}")
+            return 1
+        os.unlink(file.name)
+        done += size
+    print(f"{done} lists alike")
+    return 0
+
+
+if __name__ == "__main__":
+    sys.exit(main(sys.argv[1], *[int(word) for word in sys.argv[2:4]]))

@@ -1,0 +1,108 @@
+"""Tests of bestore.py: python3 -m unittest, in this folder, once the library is built in ../c."""
+
+import threading
+import unittest
+
+import bestore
+
+
+class Values(unittest.TestCase):
+    def test_each_kind(self):
+        values = [
+            (bestore.STRING, "hé"), (bestore.MIME, "text/plain"), (bestore.RAW, b"\0\xff"), (bestore.INT32, -(2**31)),
+            (bestore.INT64, -(2**63)), (bestore.UINT32, 2**32 - 1), (bestore.UINT64, 2**64 - 1),
+        ]
+        with bestore.open(64, 1, 100) as store:
+            node = store.new_node()
+            for kind, value in values:
+                store.set(node, "k", value, kind)
+                with store.pin() as version:
+                    self.assertEqual(version.get(node, "k"), value)
+                    self.assertIsNone(version.get(node + 1, "k"))
+
+    def test_lists(self):
+        with bestore.open(64, 1, 100) as store:
+            store.make_index("size", bestore.INT32)
+            node = store.new_node()
+            store.apply(bestore.Batch().set(node, "size", -1, bestore.INT32).set(node, "name", "ann"))
+            with store.pin() as version:
+                self.assertEqual(version.attributes(node), {"name": "ann", "size": -1})
+                self.assertEqual(version.indices(), {"size": bestore.INT32})
+                self.assertEqual(version.explain("size<0"), '"size"<"0" score 3')
+                self.assertEqual(version.query_items(bestore.Name("size"), -1, bestore.Operator.EQ), [node])
+                self.assertEqual(version.query_items(bestore.Name("size"), "1", bestore.Operator.CONTAINS), [node])
+                with self.assertRaises(bestore.Error):
+                    version.attributes(node + 1)
+                with self.assertRaises(bestore.Error) as fault:
+                    version.query_items(bestore.Name("size"))
+                self.assertEqual(fault.exception.number, 22)
+
+    def test_wrong_values(self):
+        with bestore.open(64, 1, 100) as store:
+            for kind, value, number in [(bestore.INT32, 2**31, 73), (bestore.STRING, "a\0b", 20), (1, "a", 72)]:
+                with self.assertRaises(bestore.Error) as fault:
+                    store.set(1, "k", value, kind)
+                self.assertEqual(fault.exception.number, number)
+
+
+class Versions(unittest.TestCase):
+    def test_pin_stays(self):
+        with bestore.open(64, 2, 100) as store, store.another() as other:
+            store.make_index("k", bestore.STRING)
+            number, made = store.apply(bestore.Batch().new_node().set(1, "k", "v"))
+            self.assertEqual((number, made), (2, [1, 0]))
+            with other.pin() as version:
+                store.set(1, "k", "w")
+                self.assertEqual((version.number, version.query('k == "v"'), version.query('k == "w"')), (2, [1], []))
+            with other.pin() as version:
+                self.assertEqual((version.number, version.query('k == "v"'), version.query('k == "w"')), (3, [], [1]))
+
+    def test_more_than_the_first_room(self):
+        with bestore.open(1024, 1, 1000) as store:
+            store.make_index("k", bestore.INT64)
+            for first in range(1, 301, 30):
+                batch = bestore.Batch()
+                for node in range(first, first + 30):
+                    batch.new_node().set(node, "k", node)
+                store.apply(batch)
+            with store.pin() as version:
+                self.assertEqual(version.query("k > 0"), list(range(1, 301)))
+
+
+class WrongUse(unittest.TestCase):
+    def test_numbers(self):
+        store = bestore.open(64, 1, 100)
+        version = store.pin()
+        for number, call in [
+            (67, store.pin), (68, store.another), (69, lambda: store.apply(bestore.Batch())),
+            (12, lambda: version.query("k <")), (17, lambda: version.query("k == 1")), (18, lambda: version.get(1, "")),
+        ]:
+            with self.assertRaises(bestore.Error) as fault:
+                call()
+            self.assertEqual(fault.exception.number, number)
+        version.unpin()
+        with self.assertRaises(bestore.Error) as fault:
+            version.query("k == 1")
+        self.assertEqual(fault.exception.number, 66)
+        store.close()
+        with self.assertRaises(bestore.Error) as fault:
+            store.new_node()
+        self.assertEqual(fault.exception.number, 64)
+
+
+class Threads(unittest.TestCase):
+    def test_two_writers(self):
+        with bestore.open(1024, 2, 1000) as store, store.another() as other:
+            def write(user):
+                for _ in range(100):
+                    user.new_node()
+            running = threading.Thread(target=write, args=(other,))
+            running.start()
+            write(store)
+            running.join()
+            with store.pin() as version:
+                self.assertEqual(version.number, 200)
+
+
+if __name__ == "__main__":
+    unittest.main()
