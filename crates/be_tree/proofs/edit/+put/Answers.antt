@@ -9,14 +9,14 @@ use Rattle.be_tree.specs.Key.{IsRank, IsRising, put}
 use Rattle.be_tree.specs.Page.{items_of, item_at, place_of}
 use Rattle.be_tree.specs.Slot.{pairs_of}
 use Rattle.be_tree.specs.Tree.{AreNeighbours, child, pairs_at, pairs_below, pages_below, Becomes, IsBelow}
-use Rattle.be_tree.proofs.Puts.{becomes_beside, tree_weaker, becomes_below, becomes_since, becomes_until, child_read, held_after, becomes_trans, rising_put}
-use Rattle.be_tree.proofs.PutAt.{at_item, key_in, slot_readable, slot_in_page, slot_item, slot_below, slots_count, slots_length, slots_put, slots_ready}
-use Rattle.be_tree.proofs.Children.{page_count, page_is, page_readable, second_changed, second_rising, two_changed}
-use Rattle.be_tree.proofs.Joins.{right_changed, right_in_hand, right_length}
-use Rattle.be_tree.proofs.Neighbours.{apart, left_count, left_page, left_readable}
+use Rattle.be_tree.proofs.Putting.Puts.{becomes_beside, tree_weaker, becomes_below, becomes_since, becomes_until, child_read, held_after, becomes_trans, rising_put}
+use Rattle.be_tree.proofs.Putting.PutAt.{at_item, key_in, slot_readable, slot_in_page, slot_item, slot_below, slots_count, slots_length, slots_put, slots_ready}
+use Rattle.be_tree.proofs.Nodes.Children.{page_count, page_is, page_readable, second_changed, second_rising, two_changed}
+use Rattle.be_tree.proofs.Nodes.Joins.{right_changed, right_in_hand, right_length}
+use Rattle.be_tree.proofs.Nodes.Neighbours.{apart, left_count, left_page, left_readable}
 use Rattle.be_tree.proofs.Frame.{swaps_start, start_trans, unchanged_trans, unchanged_start}
-use Rattle.be_tree.proofs.Parts.{on_err}
-use Rattle.be_tree.proofs.Slots.{items_count, branches_ready}
+use Rattle.be_tree.proofs.Shape.Parts.{on_err}
+use Rattle.be_tree.proofs.Nodes.Slots.{items_count, branches_ready}
 use Rattle.be_tree.proofs.edit.+put.Goals as goal
 
 pub put_at-overflow_mul-at : goal.put_at-overflow_mul-at

@@ -6,9 +6,9 @@ use Rattle.be_tree.specs.declared.slot.Slot.TheVariants.{Branch}
 use Rattle.be_tree.specs.Slot.{branch_to, pair_of, pairs_of, IsBranchSlot}
 use Rattle.be_tree.specs.Tree.{child, pairs_below, pages_below, IsWritten, BecomesTree}
 use Rattle.be_tree.proofs.Frame.{swaps_start, start_trans}
-use Rattle.be_tree.proofs.Parts.{on_err}
-use Rattle.be_tree.proofs.Roots.{root_written, becomes_tree}
-use Rattle.be_tree.proofs.Slots.{child_branch, branches_ready}
+use Rattle.be_tree.proofs.Shape.Parts.{on_err}
+use Rattle.be_tree.proofs.Shape.Roots.{root_written, becomes_tree}
+use Rattle.be_tree.proofs.Nodes.Slots.{child_branch, branches_ready}
 use Rattle.be_tree.proofs.edit.write_root.Goals as goal
 
 pub returns-then-slots-le12-clause-ok : goal.returns-then-slots-le12-clause-ok

@@ -15,10 +15,10 @@ use Rattle.be_tree.specs.Page.{item_at, items_of, IsItem, IsPage, place_of}
 use Rattle.be_tree.specs.Slot.{pair_of, pairs_of, IsReady}
 use Rattle.be_tree.specs.Tree.{child, pairs_at, pairs_below, pages_below, IsBelow, IsTreeAt, Becomes}
 use Rattle.be_tree.proofs.Frame.{swaps_same, swaps_stands, readable_kept}
-use Rattle.be_tree.proofs.Below.{all_left, all_right}
-use Rattle.be_tree.proofs.SlotLists.{as_taken}
-use Rattle.be_tree.proofs.Puts.{put_at_item, item_below, item_apart, becomes_put}
-use Rattle.be_tree.proofs.Slots.{item_get, items_count, loaded_pairs, loaded_ready}
+use Rattle.be_tree.proofs.Shape.Below.{all_left, all_right}
+use Rattle.be_tree.proofs.Nodes.SlotLists.{as_taken}
+use Rattle.be_tree.proofs.Putting.Puts.{put_at_item, item_below, item_apart, becomes_put}
+use Rattle.be_tree.proofs.Nodes.Slots.{item_get, items_count, loaded_pairs, loaded_ready}
 
 out_length : {A : Type 0} (slots more out : List A) (at : ℕ) → at < length slots → out ≡ take at (remove slots at) ++ (more ++ drop at (remove slots at)) → length out + 1 ≡ length slots + length more
 out_length slots more out at lt e =
