@@ -10,7 +10,7 @@ use Rattle.std.proofs.Math.Nat.{div-one}
 use Rattle.std.proofs.lemmas.Bool.{cases_lt}
 use Rattle.std.proofs.lemmas.List.{drop-drop}
 use Rattle.be_tree.proofs.Codec.{map_range_append}
-use Rattle.be_tree.proofs.Words.{first_bytes, part_cmp, less_cmp, more_cmp, same_cmp, cmp_suc, then_other, then_same}
+use Rattle.be_tree.proofs.Bytes.Words.{first_bytes, part_cmp, less_cmp, more_cmp, same_cmp, cmp_suc, then_other, then_same}
 use Rattle.be_tree.specs.Key.{key_cmp}
 use Rattle.be_tree.specs.Page.{item_at, key_len}
 

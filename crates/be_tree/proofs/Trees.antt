@@ -11,9 +11,9 @@ use Rattle.be_tree.specs.Pair.{Pair}
 use Rattle.be_tree.specs.Key.{IsRising}
 use Rattle.be_tree.specs.Page.{items_of, level_of}
 use Rattle.be_tree.specs.Tree.{pairs, pages, pairs_below, pages_below, IsNode, IsBelow, IsTreeAt, IsTree, least_of_root}
-use Rattle.be_tree.proofs.Below.{pairs_same, pages_same, shaped_same, all_left, all_right}
+use Rattle.be_tree.proofs.Shape.Below.{pairs_same, pages_same, shaped_same, all_left, all_right}
 use Rattle.be_tree.proofs.Frame.{times_append, times-cons, times_tail, times_other, same_page, swaps_frame, swaps_same, swaps_stands, swaps_fresh, readable_kept}
-use Rattle.be_tree.proofs.Levels.{tree_in_use}
+use Rattle.be_tree.proofs.Shape.Levels.{tree_in_use}
 use Rattle.be_tree.specs.Forest.{pages_of, AreTrees, KeepsTree, Replaces, IsWriteStart, IsUndone}
 
 -- the pages of a tree are in use, once each

@@ -4,7 +4,7 @@ ghost use Rattle.be_pages.specs.Pages.{Swaps};
 ghost use Rattle.be_tree.specs.Page.{items_of};
 ghost use Rattle.be_tree.specs.Tree.{IsTree, IsTreeAt, pages, pages_at, pages_below};
 
-use crate::page::child_at;
+use crate::page::{HEADER_WORDS, ITEM_WORDS, child_at};
 use be_pages::Room;
 
 /// Gives up each page of a tree. A page that was there when the write began keeps its words until the write is kept, so
@@ -48,7 +48,7 @@ fn clear_below<R: Room>(room: &mut R, level: u64, page: u64)
     }
     let count = room.word(page, 1) as usize;
     for j in 0..count {
-        let child = child_at(room, page, 2 + 42 * j);
+        let child = child_at(room, page, HEADER_WORDS + ITEM_WORDS * j);
         clear_page(room, level - 1, child);
     }
 }

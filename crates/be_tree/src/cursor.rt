@@ -17,7 +17,7 @@ ghost use Rattle.be_tree.specs.Range.{pair_in, pairs_from};
 ghost use Rattle.be_tree.specs.Tree.{IsTree, IsTreeAt, pairs, pairs_at};
 
 use crate::lookup::rank;
-use crate::page::{child_at, cmp_at};
+use crate::page::{HEADER_WORDS, ITEM_WORDS, child_at, cmp_at};
 use crate::walk::{TreeItem, fill_key, fill_payload, key_at};
 use arrayvec::ArrayVec;
 use be_pages::Look;
@@ -75,7 +75,7 @@ impl Cursor {
         let mut level = look.word(page, 0);
         while level > 0 {
             let at = rank(look, page, from).saturating_sub(1);
-            let child = child_at(look, page, 2 + 42 * at);
+            let child = child_at(look, page, HEADER_WORDS + ITEM_WORDS * at);
             self.path.push(Place {
                 page: page as u32,
                 next: (at + 1) as u8,
@@ -131,7 +131,8 @@ impl Cursor {
         ensures place { IfSome result (IsPlace (L.standing look.old) (L.words look.old)) }
         ensures left { IfSome result (λ place. place.next < L.words look.old place.page 1) }
         ensures short { IfSome result (λ place. place.level + length self.new.path.items ≤ 13) }
-        ensures parts { IfSome result (λ place. remaining (L.words look.old) self.old ≡ pairs_past (L.words look.old) place ++ remaining (L.words look.old) self.new) }
+        ensures parts { IfSome result (λ place. remaining (L.words look.old) self.old
+            ≡ pairs_past (L.words look.old) place ++ remaining (L.words look.old) self.new) }
         ensures cursor { IsCursor (L.standing look.old) (L.words look.old) self.new }
         ensures unchanged { IsUnchanged L.kept L.standing L.words look.old look.new }
     {
@@ -161,7 +162,11 @@ impl Cursor {
                 next: place.next + 1,
                 ..place
             });
-            let child = child_at(look, place.page as u64, 2 + 42 * place.next as usize);
+            let child = child_at(
+                look,
+                place.page as u64,
+                HEADER_WORDS + ITEM_WORDS * place.next as usize,
+            );
             place = Place {
                 page: child as u32,
                 next: 0,
@@ -172,7 +177,10 @@ impl Cursor {
             next: place.next + 1,
             ..place
         });
-        Some((place.page as u64, 2 + 42 * place.next as usize))
+        Some((
+            place.page as u64,
+            HEADER_WORDS + ITEM_WORDS * place.next as usize,
+        ))
     }
 }
 
@@ -184,7 +192,7 @@ fn leaf_from<L: Look>(look: &mut L, page: u64, from: &[u8], after: bool) -> usiz
     ensures unchanged { IsUnchanged L.kept L.standing L.words look.old look.new }
 {
     let at = rank(look, page, from).saturating_sub(1);
-    match cmp_at(look, page, 2 + 42 * at, from) {
+    match cmp_at(look, page, HEADER_WORDS + ITEM_WORDS * at, from) {
         Ordering::Less => at + 1,
         Ordering::Equal => if after { at + 1 } else { at },
         Ordering::Greater => at,

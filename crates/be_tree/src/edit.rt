@@ -12,11 +12,14 @@ ghost use Rattle.be_pages.specs.Refusal.{IsFullOf};
 ghost use Rattle.be_tree.specs.Key.{IsRising, put};
 ghost use Rattle.be_tree.specs.Page.{IsItem, item_at, items_of};
 ghost use Rattle.be_tree.specs.Slot.{IsBranchSlot, IsReady, branch_to, pairs_of};
-ghost use Rattle.be_tree.specs.Tree.{AreNeighbours, IsBelow, IsTreeAt, IsWritten, Becomes, BecomesTree, IsTree, least_of_root, pairs, pages, pairs_at, pairs_below, pages_below};
+ghost use Rattle.be_tree.specs.Tree.{AreNeighbours, IsBelow, IsTreeAt, IsWritten, Becomes, BecomesTree, IsTree, least_of_root, pairs, pages};
+ghost use Rattle.be_tree.specs.Tree.{pairs_at, pairs_below, pages_below};
 
 use crate::item::Item;
 use crate::lookup::rank;
-use crate::page::{child_at, cmp_at, fill_slots, store_node};
+use crate::page::{
+    HEADER_WORDS, ITEM_WORDS, LEAST_ITEMS, MOST_ITEMS, child_at, cmp_at, fill_slots, store_node,
+};
 use crate::siblings::{append, sharing_children, slots_with};
 use crate::slot::Slot;
 use arrayvec::ArrayVec;
@@ -114,7 +117,10 @@ pub(crate) fn write_branch<R: Room>(
     requires few { length slots.now ≤ 12 }
     requires key_fits { length pair.now.key ≤ 264 }
     requires open { IsTrue (R.is_open (R.kept room.old)) }
-    ensures ok { IfOk result (λ page. Becomes R.kept R.standing R.words (pages_below level (R.words room.old) (pairs_of (R.words room.old) pair.now slots.now)) (pairs_below level (R.words room.old) (pairs_of (R.words room.old) pair.now slots.now)) (suc level) (branch_to (R.words room.new) page ∷ []) room.old room.new) }
+    ensures ok { IfOk result (λ page. Becomes R.kept R.standing R.words
+        (pages_below level (R.words room.old) (pairs_of (R.words room.old) pair.now slots.now))
+        (pairs_below level (R.words room.old) (pairs_of (R.words room.old) pair.now slots.now)) (suc level)
+        (branch_to (R.words room.new) page ∷ []) room.old room.new) }
     ensures fresh { IfOk result (λ page. Swaps R.kept R.standing R.words [] (page ∷ []) room.old room.new) }
     ensures small { IfOk result (λ page. page < 2 ^ 32) }
     ensures err { OnErr result (KeepsStart R.kept R.standing R.words room.old room.new) }
@@ -138,7 +144,10 @@ fn write_parts<R: Room>(
     requires second { (cut + 6 ≤ length slots.now) × (length slots.now ≤ cut + 12) }
     requires key_fits { length pair.now.key ≤ 264 }
     requires open { IsTrue (R.is_open (R.kept room.old)) }
-    ensures ok { IfOk result (λ both. Becomes R.kept R.standing R.words (pages_below level (R.words room.old) (pairs_of (R.words room.old) pair.now slots.now)) (pairs_below level (R.words room.old) (pairs_of (R.words room.old) pair.now slots.now)) (suc level) (branch_to (R.words room.new) both.0 ∷ branch_to (R.words room.new) both.1 ∷ []) room.old room.new) }
+    ensures ok { IfOk result (λ both. Becomes R.kept R.standing R.words
+        (pages_below level (R.words room.old) (pairs_of (R.words room.old) pair.now slots.now))
+        (pairs_below level (R.words room.old) (pairs_of (R.words room.old) pair.now slots.now)) (suc level)
+        (branch_to (R.words room.new) both.0 ∷ branch_to (R.words room.new) both.1 ∷ []) room.old room.new) }
     ensures small { IfOk result (λ both. (both.0 < 2 ^ 32) × (both.1 < 2 ^ 32)) }
     ensures err { OnErr result (KeepsStart R.kept R.standing R.words room.old room.new) }
     ensures full { IfErr result (IsFullOf (R.full room.new)) }
@@ -155,7 +164,11 @@ fn first_of_two(len: usize) -> usize
     ensures first { (6 ≤ result) × (result ≤ 12) }
     ensures second { (result + 6 ≤ len) × (len ≤ result + 12) }
 {
-    if len < 18 { len - 6 } else { 12 }
+    if len < MOST_ITEMS + LEAST_ITEMS {
+        len - LEAST_ITEMS
+    } else {
+        MOST_ITEMS
+    }
 }
 
 /// Writes a node in hand, in one page or in two, and gives the branches to them.
@@ -171,7 +184,10 @@ fn pack<R: Room>(
     requires few { length slots.now ≤ 24 }
     requires key_fits { length pair.now.key ≤ 264 }
     requires open { IsTrue (R.is_open (R.kept room.old)) }
-    ensures ok { IfOk result (λ branches. Becomes R.kept R.standing R.words (pages_below level (R.words room.old) (pairs_of (R.words room.old) pair.now slots.now)) (pairs_below level (R.words room.old) (pairs_of (R.words room.old) pair.now slots.now)) (suc level) (pairs_of (R.words room.new) pair.now branches.items) room.old room.new) }
+    ensures ok { IfOk result (λ branches. Becomes R.kept R.standing R.words
+        (pages_below level (R.words room.old) (pairs_of (R.words room.old) pair.now slots.now))
+        (pairs_below level (R.words room.old) (pairs_of (R.words room.old) pair.now slots.now)) (suc level)
+        (pairs_of (R.words room.new) pair.now branches.items) room.old room.new) }
     ensures branches { IfOk result (λ branches. All IsBranchSlot branches.items) }
     ensures some { IfOk result (λ branches. (0 < length branches.items) × (length branches.items ≤ 2)) }
     ensures two { IfOk result (λ branches. 12 < length slots.now → length branches.items ≡ 2) }
@@ -179,7 +195,7 @@ fn pack<R: Room>(
     ensures full { IfErr result (IsFullOf (R.full room.new)) }
 {
     let mut branches = ArrayVec::new();
-    if slots.len() <= 12 {
+    if slots.len() <= MOST_ITEMS {
         let page = write_branch(room, level, slots, pair)?;
         branches.push(Slot::Branch(page as u32));
         return Ok(branches);
@@ -210,7 +226,10 @@ pub(crate) fn pack_two<R: Room>(
     requires right_apart { times right (pages_below level (R.words room.old) (pairs_of (R.words room.old) pair.now slots.now)) ≡ 0 }
     requires different { left ≢ right }
     requires open { IsTrue (R.is_open (R.kept room.old)) }
-    ensures ok { IfOk result (λ branches. Becomes R.kept R.standing R.words (left ∷ right ∷ pages_below level (R.words room.old) (pairs_of (R.words room.old) pair.now slots.now)) (pairs_below level (R.words room.old) (pairs_of (R.words room.old) pair.now slots.now)) (suc level) (pairs_of (R.words room.new) pair.now branches.items) room.old room.new) }
+    ensures ok { IfOk result (λ branches. Becomes R.kept R.standing R.words
+        (left ∷ right ∷ pages_below level (R.words room.old) (pairs_of (R.words room.old) pair.now slots.now))
+        (pairs_below level (R.words room.old) (pairs_of (R.words room.old) pair.now slots.now)) (suc level)
+        (pairs_of (R.words room.new) pair.now branches.items) room.old room.new) }
     ensures ready { IfOk result (λ branches. All (IsReady (R.standing room.new) (R.words room.new)) branches.items) }
     ensures some { IfOk result (λ branches. (0 < length branches.items) × (length branches.items ≤ 2)) }
     ensures two { IfOk result (λ branches. 12 < length slots.now → length branches.items ≡ 2) }
@@ -238,7 +257,10 @@ fn put_below<R: Room>(
     requires below { IsBelow level (R.standing room.old) (R.words room.old) (item_at (R.words room.old page) place ∷ []) }
     requires key_fits { length pair.now.key ≤ 264 }
     requires open { IsTrue (R.is_open (R.kept room.old)) }
-    ensures ok { IfOk result (λ slots. Becomes R.kept R.standing R.words (pages_below level (R.words room.old) (item_at (R.words room.old page) place ∷ [])) (put pair.now (pairs_below level (R.words room.old) (item_at (R.words room.old page) place ∷ []))) level (pairs_of (R.words room.new) pair.now slots.items) room.old room.new) }
+    ensures ok { IfOk result (λ slots. Becomes R.kept R.standing R.words
+        (pages_below level (R.words room.old) (item_at (R.words room.old page) place ∷ []))
+        (put pair.now (pairs_below level (R.words room.old) (item_at (R.words room.old page) place ∷ []))) level
+        (pairs_of (R.words room.new) pair.now slots.items) room.old room.new) }
     ensures ready { IfOk result (λ slots. All (IsReady (R.standing room.new) (R.words room.new)) slots.items) }
     ensures some { IfOk result (λ slots. (0 < length slots.items) × (length slots.items ≤ 2)) }
     ensures err { OnErr result (KeepsStart R.kept R.standing R.words room.old room.new) }
@@ -270,7 +292,9 @@ fn put_at<R: Room>(
     requires key_fits { length pair.now.key ≤ 264 }
     requires empty { slots.old.items ≡ [] }
     requires open { IsTrue (R.is_open (R.kept room.old)) }
-    ensures ok { OnOk result (Becomes R.kept R.standing R.words (pages_below level (R.words room.old) (items_of (R.words room.old page))) (put pair.now (pairs_at level (R.words room.old) page)) level (pairs_of (R.words room.new) pair.now slots.new.items) room.old room.new) }
+    ensures ok { OnOk result (Becomes R.kept R.standing R.words (pages_below level (R.words room.old) (items_of (R.words room.old page)))
+        (put pair.now (pairs_at level (R.words room.old) page)) level
+        (pairs_of (R.words room.new) pair.now slots.new.items) room.old room.new) }
     ensures ready { OnOk result (All (IsReady (R.standing room.new) (R.words room.new)) slots.new.items) }
     ensures some { OnOk result ((length (items_of (R.words room.old page)) ≤ length slots.new.items) × (length slots.new.items ≤ 13)) }
     ensures err { OnErr result (KeepsStart R.kept R.standing R.words room.old room.new) }
@@ -283,7 +307,7 @@ fn put_at<R: Room>(
         return Ok(());
     }
     fill_slots(room, page, slots);
-    let beside = put_below(room, level, page, 2 + 42 * at, pair)?;
+    let beside = put_below(room, level, page, HEADER_WORDS + ITEM_WORDS * at, pair)?;
     replace_at(slots, at, beside);
     Ok(())
 }
@@ -304,8 +328,10 @@ fn put_shared<R: Room>(
     requires rising { IsRising (pairs_at level (R.words room.old) left ++ put pair.now (pairs_at level (R.words room.old) right)) }
     requires key_fits { length pair.now.key ≤ 264 }
     requires open { IsTrue (R.is_open (R.kept room.old)) }
-    ensures ok { IfOk result (λ slots. Becomes R.kept R.standing R.words (left ∷ right ∷ pages_below level (R.words room.old) (items_of (R.words room.old left) ++ items_of (R.words room.old right)))
-        (pairs_at level (R.words room.old) left ++ put pair.now (pairs_at level (R.words room.old) right)) (suc level) (pairs_of (R.words room.new) pair.now slots.items) room.old room.new) }
+    ensures ok { IfOk result (λ slots. Becomes R.kept R.standing R.words
+        (left ∷ right ∷ pages_below level (R.words room.old) (items_of (R.words room.old left) ++ items_of (R.words room.old right)))
+        (pairs_at level (R.words room.old) left ++ put pair.now (pairs_at level (R.words room.old) right)) (suc level)
+        (pairs_of (R.words room.new) pair.now slots.items) room.old room.new) }
     ensures ready { IfOk result (λ slots. All (IsReady (R.standing room.new) (R.words room.new)) slots.items) }
     ensures two { IfOk result (λ slots. length slots.items ≡ 2) }
     ensures err { OnErr result (KeepsStart R.kept R.standing R.words room.old room.new) }
@@ -334,11 +360,13 @@ pub(crate) fn write_root<R: Room>(
     requires low { level < 2 ^ 32 }
     requires key_fits { length pair.now.key ≤ 264 }
     requires open { IsTrue (R.is_open (R.kept room.old)) }
-    ensures ok { IfOk result (λ root. BecomesTree R.kept R.standing R.words (pages_below level (R.words room.old) (pairs_of (R.words room.old) pair.now slots.now)) (pairs_below level (R.words room.old) (pairs_of (R.words room.old) pair.now slots.now)) root room.old room.new) }
+    ensures ok { IfOk result (λ root. BecomesTree R.kept R.standing R.words
+        (pages_below level (R.words room.old) (pairs_of (R.words room.old) pair.now slots.now))
+        (pairs_below level (R.words room.old) (pairs_of (R.words room.old) pair.now slots.now)) root room.old room.new) }
     ensures err { OnErr result (KeepsStart R.kept R.standing R.words room.old room.new) }
     ensures full { IfErr result (IsFullOf (R.full room.new)) }
 {
-    if slots.len() <= 12 {
+    if slots.len() <= MOST_ITEMS {
         let top = write_node(room, level, slots, pair)?;
         return Ok(top + 1);
     }

@@ -39,12 +39,14 @@ impl Item {
         }
     }
 
+    /// The key.
     pub(crate) fn key(&self) -> &[u8]
         ensures { result.now ≡ self.now.key }
     {
         &self.bytes[..self.key_len]
     }
 
+    /// The payload.
     pub(crate) fn payload(&self) -> &[u8]
         ensures value { result.now ≡ self.now.payload }
         ensures fits { length result.now ≤ 328 }
@@ -52,6 +54,7 @@ impl Item {
         &self.bytes[self.key_len..]
     }
 
+    /// The key, and the payload behind it.
     pub(crate) fn bytes(&self) -> &[u8]
         ensures value { result.now ≡ self.now.key ++ self.now.payload }
         ensures fits { length result.now ≤ 328 }
@@ -59,6 +62,7 @@ impl Item {
         &self.bytes
     }
 
+    /// How long the key is.
     pub(crate) fn key_len(&self) -> usize
         ensures { result ≡ length self.now.key }
     {

@@ -13,7 +13,7 @@ ghost use Rattle.be_tree.specs.Page.{IsItem, IsPage, item_at, items_of};
 ghost use Rattle.be_tree.specs.Key.{IsRank, key_cmp, payload_at};
 ghost use Rattle.be_tree.specs.Tree.{IsTree, pairs};
 
-use crate::page::{child_at, cmp_at, word_from};
+use crate::page::{HEADER_WORDS, ITEM_WORDS, child_at, cmp_at, word_from};
 use crate::walk::load_payload;
 use arrayvec::ArrayVec;
 use be_pages::Look;
@@ -55,12 +55,12 @@ fn key_place<L: Look>(look: &mut L, root: u64, key: &[u8]) -> Option<(u64, usize
     let mut level = look.word(page, 0);
     while level > 0 {
         let at = rank(look, page, key).saturating_sub(1);
-        page = child_at(look, page, 2 + 42 * at);
+        page = child_at(look, page, HEADER_WORDS + ITEM_WORDS * at);
         level -= 1;
     }
     let at = rank(look, page, key).saturating_sub(1);
-    match cmp_at(look, page, 2 + 42 * at, key) {
-        Ordering::Equal => Some((page, 2 + 42 * at)),
+    match cmp_at(look, page, HEADER_WORDS + ITEM_WORDS * at, key) {
+        Ordering::Equal => Some((page, HEADER_WORDS + ITEM_WORDS * at)),
         Ordering::Less | Ordering::Greater => None,
     }
 }
@@ -86,7 +86,7 @@ pub(crate) fn rank<L: Look>(look: &mut L, page: u64, key: &[u8]) -> usize
     let first = word_from(key, 0);
     let count = look.word(page, 1) as usize;
     for at in 0..count {
-        if is_above(look, page, 2 + 42 * at, key, first) {
+        if is_above(look, page, HEADER_WORDS + ITEM_WORDS * at, key, first) {
             return at;
         }
     }

@@ -25,8 +25,10 @@ pub fn numbers_within<L: Look>(
 ) -> Result<(), AllocError>
     requires tree { IsTree (L.standing look.old) (L.words look.old) root }
     requires long { AreLong (pairs (L.words look.old) root) }
-    ensures first { HasFirst found.old.items (numbers_to (pairs_from (pairs (L.words look.old) root) low.now false) (option_copied high.entry)) found.new.items }
-    ensures found { OnOk result (found.new.items ≡ found.old.items ++ numbers_to (pairs_from (pairs (L.words look.old) root) low.now false) (option_copied high.entry)) }
+    ensures first { HasFirst found.old.items
+        (numbers_to (pairs_from (pairs (L.words look.old) root) low.now false) (option_copied high.entry)) found.new.items }
+    ensures found { OnOk result (found.new.items
+        ≡ found.old.items ++ numbers_to (pairs_from (pairs (L.words look.old) root) low.now false) (option_copied high.entry)) }
     ensures unchanged { IsUnchanged L.kept L.standing L.words look.old look.new }
 {
     let mut cursor = Cursor::new();

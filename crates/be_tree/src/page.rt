@@ -18,6 +18,18 @@ use arrayvec::ArrayVec;
 use be_pages::{Look, Room};
 use std::cmp::Ordering;
 
+/// How many words stand before a page's items: its level, and how many items it has.
+pub(crate) const HEADER_WORDS: usize = 2;
+
+/// How many words an item has: one for its lengths, and 41 for at most 328 bytes.
+pub(crate) const ITEM_WORDS: usize = 42;
+
+/// How many items a page has at most.
+pub(crate) const MOST_ITEMS: usize = 12;
+
+/// How many items each page but a root has at least.
+pub(crate) const LEAST_ITEMS: usize = 6;
+
 /// The page that the branch at a place names.
 pub(crate) fn child_at<L: Look>(look: &mut L, page: u64, at: usize) -> u64
     requires readable { IsTrue (is_readable (L.standing look.old page)) }
@@ -293,7 +305,7 @@ pub(crate) fn fill_slots<L: Look>(look: &mut L, page: u64, slots: &mut ArrayVec<
 {
     let count = look.word(page, 1) as usize;
     for j in 0..count {
-        slots.push(Slot::At(page as u32, (2 + 42 * j) as u16));
+        slots.push(Slot::At(page as u32, (HEADER_WORDS + ITEM_WORDS * j) as u16));
     }
 }
 
@@ -315,6 +327,6 @@ pub(crate) fn store_node<R: Room>(room: &mut R, page: u64, level: u64, slots: &[
     room.fill(page, 0, level);
     room.fill(page, 1, slots.len() as u64);
     for j in 0..slots.len() {
-        store_slot(room, page, 2 + 42 * j, slots[j], pair);
+        store_slot(room, page, HEADER_WORDS + ITEM_WORDS * j, slots[j], pair);
     }
 }

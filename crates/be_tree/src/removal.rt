@@ -7,7 +7,8 @@
 //!
 //! # Absent keys
 //! Nothing is written on the way down. A leaf without the key stops the removal, and nothing has changed.
-ghost use Rattle.std.specs.Prelude.{◌≡◌, ◌≢◌, ℕ, true, false, suc, ◌+◌, ◌-◌, ◌^◌, ◌<◌, ◌≤◌, [], ◌∷◌, ◌++◌, length, take, drop, All, IfOk, OnOk, OnErr, IfErr, IsTrue, None, Ok};
+ghost use Rattle.std.specs.Prelude.{◌≡◌, ◌≢◌, ℕ, true, false, suc, ◌+◌, ◌-◌, ◌^◌, ◌<◌, ◌≤◌, [], ◌∷◌, ◌++◌, length, take, drop, All, IfOk, OnOk};
+ghost use Rattle.std.specs.Prelude.{OnErr, IfErr, IsTrue, None, Ok};
 ghost use Rattle.be_pages.specs.Pages.{IsUnchanged, is_readable, Swaps, KeepsStart};
 ghost use Rattle.be_pages.specs.Refusal.{IsFullOf};
 ghost use Rattle.be_tree.specs.Key.{key_cmp, payload_at, without};
@@ -17,12 +18,13 @@ ghost use Rattle.be_tree.specs.Pair.{Pair};
 ghost use Rattle.be_tree.specs.Slot.{IsReady, pair_of, pairs_of};
 ghost use Rattle.be_tree.specs.Stop.{IfAbsent, IfRefused};
 ghost use Rattle.be_tree.specs.declared.stop.Stop.TheVariants.{Absent};
-ghost use Rattle.be_tree.specs.Tree.{AreNeighbours, Becomes, BecomesTree, IsBelow, IsTree, IsTreeAt, child, least_of_root, pages, pages_below, pairs, pairs_at, pairs_below};
+ghost use Rattle.be_tree.specs.Tree.{AreNeighbours, Becomes, BecomesTree, IsBelow, IsTree, IsTreeAt, child, least_of_root, pages, pages_below, pairs};
+ghost use Rattle.be_tree.specs.Tree.{pairs_at, pairs_below};
 
 use crate::edit::{pack_two, write_branch, write_root};
 use crate::item::Item;
 use crate::lookup::rank;
-use crate::page::{child_at, cmp_at, fill_slots};
+use crate::page::{HEADER_WORDS, ITEM_WORDS, child_at, cmp_at, fill_slots};
 use crate::siblings::{append, count_of, slots_with, slots_with_one, spare_child, two_children};
 use crate::slot::Slot;
 use crate::stop::Stop;
@@ -73,7 +75,9 @@ fn write_rest<R: Room>(
     requires low { level < 2 ^ 32 }
     requires key_fits { length pair.now.key ≤ 264 }
     requires open { IsTrue (R.is_open (R.kept room.old)) }
-    ensures ok { IfOk result (λ root. BecomesTree R.kept R.standing R.words (pages_below level (R.words room.old) (pairs_of (R.words room.old) pair.now slots.now)) (pairs_below level (R.words room.old) (pairs_of (R.words room.old) pair.now slots.now)) root room.old room.new) }
+    ensures ok { IfOk result (λ root. BecomesTree R.kept R.standing R.words
+        (pages_below level (R.words room.old) (pairs_of (R.words room.old) pair.now slots.now))
+        (pairs_below level (R.words room.old) (pairs_of (R.words room.old) pair.now slots.now)) root room.old room.new) }
     ensures err { OnErr result (KeepsStart R.kept R.standing R.words room.old room.new) }
     ensures full { IfErr result (IsFullOf (R.full room.new)) }
 {
@@ -114,7 +118,8 @@ fn slots_without<L: Look>(
     requires in_page { at < L.words look.old page 1 }
     requires empty { slots.old.items ≡ [] }
     ensures items { OnOk result ((given : Pair) → pairs_of (L.words look.old) given slots.new.items
-        ≡ take at (items_of (L.words look.old page)) ++ (without key.now (item_at (L.words look.old page) (place_of at) ∷ []) ++ drop (suc at) (items_of (L.words look.old page)))) }
+        ≡ take at (items_of (L.words look.old page))
+        ++ (without key.now (item_at (L.words look.old page) (place_of at) ∷ []) ++ drop (suc at) (items_of (L.words look.old page)))) }
     ensures ready { OnOk result (All (IsReady (L.standing look.old) (L.words look.old)) slots.new.items) }
     ensures some { OnOk result ((L.words look.old page 1 ≤ length slots.new.items + 1) × (length slots.new.items ≤ 12)) }
     ensures found { OnOk result (is_eq (key_cmp (item_at (L.words look.old page) (place_of at)).key key.now) ≡ true) }
@@ -122,7 +127,7 @@ fn slots_without<L: Look>(
     ensures unchanged { IsUnchanged L.kept L.standing L.words look.old look.new }
 {
     fill_slots(look, page, slots);
-    if !cmp_at(look, page, 2 + 42 * at, key).is_eq() {
+    if !cmp_at(look, page, HEADER_WORDS + ITEM_WORDS * at, key).is_eq() {
         return Err(Stop::Absent);
     }
     slots.remove(at);
@@ -144,13 +149,17 @@ fn remove_at<R: Room>(
     requires key_fits { length pair.now.key ≤ 264 }
     requires empty { slots.old.items ≡ [] }
     requires open { IsTrue (R.is_open (R.kept room.old)) }
-    ensures ok { OnOk result (Becomes R.kept R.standing R.words (pages_below level (R.words room.old) (items_of (R.words room.old page))) (without key.now (pairs_at level (R.words room.old) page)) level (pairs_of (R.words room.new) pair.now slots.new.items) room.old room.new) }
+    ensures ok { OnOk result (Becomes R.kept R.standing R.words (pages_below level (R.words room.old) (items_of (R.words room.old page)))
+        (without key.now (pairs_at level (R.words room.old) page)) level
+        (pairs_of (R.words room.new) pair.now slots.new.items) room.old room.new) }
     ensures ready { OnOk result (All (IsReady (R.standing room.new) (R.words room.new)) slots.new.items) }
     ensures some { OnOk result ((length (items_of (R.words room.old page)) ≤ length slots.new.items + 1) × (length slots.new.items ≤ 12)) }
     ensures err { OnErr result (KeepsStart R.kept R.standing R.words room.old room.new) }
     ensures full { IfErr result (λ stop. IfRefused stop (IsFullOf (R.full room.new))) }
     ensures found { OnOk result (payload_at (pairs_at level (R.words room.old) page) key.now ≢ None) }
-    ensures stopped { IfErr result (λ stop. IfAbsent stop ((payload_at (pairs_at level (R.words room.old) page) key.now ≡ None) × IsUnchanged R.kept R.standing R.words room.old room.new) (payload_at (pairs_at level (R.words room.old) page) key.now ≢ None)) }
+    ensures stopped { IfErr result (λ stop. IfAbsent stop
+        ((payload_at (pairs_at level (R.words room.old) page) key.now ≡ None) × IsUnchanged R.kept R.standing R.words room.old room.new)
+        (payload_at (pairs_at level (R.words room.old) page) key.now ≢ None)) }
 {
     let at = rank(room, page, key).saturating_sub(1);
     if level == 0 {
@@ -187,12 +196,17 @@ fn remove_alone<R: Room>(
     requires spare { 6 < R.words room.old below 1 }
     requires key_fits { length pair.now.key ≤ 264 }
     requires open { IsTrue (R.is_open (R.kept room.old)) }
-    ensures ok { IfOk result (λ slot. Becomes R.kept R.standing R.words (below ∷ pages_below level (R.words room.old) (items_of (R.words room.old below))) (without key.now (pairs_at level (R.words room.old) below)) (suc level) (pair_of (R.words room.new) pair.now slot ∷ []) room.old room.new) }
+    ensures ok { IfOk result (λ slot. Becomes R.kept R.standing R.words
+        (below ∷ pages_below level (R.words room.old) (items_of (R.words room.old below)))
+        (without key.now (pairs_at level (R.words room.old) below)) (suc level)
+        (pair_of (R.words room.new) pair.now slot ∷ []) room.old room.new) }
     ensures ready { IfOk result (λ slot. IsReady (R.standing room.new) (R.words room.new) slot) }
     ensures err { OnErr result (KeepsStart R.kept R.standing R.words room.old room.new) }
     ensures full { IfErr result (λ stop. IfRefused stop (IsFullOf (R.full room.new))) }
     ensures found { IfOk result (λ slots. payload_at (pairs_at level (R.words room.old) below) key.now ≢ None) }
-    ensures stopped { IfErr result (λ stop. IfAbsent stop ((payload_at (pairs_at level (R.words room.old) below) key.now ≡ None) × IsUnchanged R.kept R.standing R.words room.old room.new) (payload_at (pairs_at level (R.words room.old) below) key.now ≢ None)) }
+    ensures stopped { IfErr result (λ stop. IfAbsent stop
+        ((payload_at (pairs_at level (R.words room.old) below) key.now ≡ None) × IsUnchanged R.kept R.standing R.words room.old room.new)
+        (payload_at (pairs_at level (R.words room.old) below) key.now ≢ None)) }
 {
     let mut slots = ArrayVec::new();
     remove_at(room, level, below, key, pair, &mut slots)?;
@@ -214,14 +228,18 @@ fn remove_left<R: Room>(
     requires neighbours { AreNeighbours level (R.standing room.old) (R.words room.old) left right }
     requires key_fits { length pair.now.key ≤ 264 }
     requires open { IsTrue (R.is_open (R.kept room.old)) }
-    ensures ok { IfOk result (λ slots. Becomes R.kept R.standing R.words (left ∷ right ∷ pages_below level (R.words room.old) (items_of (R.words room.old left) ++ items_of (R.words room.old right)))
-        (without key.now (pairs_at level (R.words room.old) left) ++ pairs_at level (R.words room.old) right) (suc level) (pairs_of (R.words room.new) pair.now slots.items) room.old room.new) }
+    ensures ok { IfOk result (λ slots. Becomes R.kept R.standing R.words
+        (left ∷ right ∷ pages_below level (R.words room.old) (items_of (R.words room.old left) ++ items_of (R.words room.old right)))
+        (without key.now (pairs_at level (R.words room.old) left) ++ pairs_at level (R.words room.old) right) (suc level)
+        (pairs_of (R.words room.new) pair.now slots.items) room.old room.new) }
     ensures ready { IfOk result (λ slots. All (IsReady (R.standing room.new) (R.words room.new)) slots.items) }
     ensures some { IfOk result (λ slots. (0 < length slots.items) × (length slots.items ≤ 2)) }
     ensures err { OnErr result (KeepsStart R.kept R.standing R.words room.old room.new) }
     ensures full { IfErr result (λ stop. IfRefused stop (IsFullOf (R.full room.new))) }
     ensures found { IfOk result (λ slots. payload_at (pairs_at level (R.words room.old) left) key.now ≢ None) }
-    ensures stopped { IfErr result (λ stop. IfAbsent stop ((payload_at (pairs_at level (R.words room.old) left) key.now ≡ None) × IsUnchanged R.kept R.standing R.words room.old room.new) (payload_at (pairs_at level (R.words room.old) left) key.now ≢ None)) }
+    ensures stopped { IfErr result (λ stop. IfAbsent stop
+        ((payload_at (pairs_at level (R.words room.old) left) key.now ≡ None) × IsUnchanged R.kept R.standing R.words room.old room.new)
+        (payload_at (pairs_at level (R.words room.old) left) key.now ≢ None)) }
 {
     let mut slots = ArrayVec::new();
     remove_at(room, level, left, key, pair, &mut slots)?;
@@ -245,14 +263,18 @@ fn remove_right<R: Room>(
     requires neighbours { AreNeighbours level (R.standing room.old) (R.words room.old) left right }
     requires key_fits { length pair.now.key ≤ 264 }
     requires open { IsTrue (R.is_open (R.kept room.old)) }
-    ensures ok { IfOk result (λ slots. Becomes R.kept R.standing R.words (left ∷ right ∷ pages_below level (R.words room.old) (items_of (R.words room.old left) ++ items_of (R.words room.old right)))
-        (pairs_at level (R.words room.old) left ++ without key.now (pairs_at level (R.words room.old) right)) (suc level) (pairs_of (R.words room.new) pair.now slots.items) room.old room.new) }
+    ensures ok { IfOk result (λ slots. Becomes R.kept R.standing R.words
+        (left ∷ right ∷ pages_below level (R.words room.old) (items_of (R.words room.old left) ++ items_of (R.words room.old right)))
+        (pairs_at level (R.words room.old) left ++ without key.now (pairs_at level (R.words room.old) right)) (suc level)
+        (pairs_of (R.words room.new) pair.now slots.items) room.old room.new) }
     ensures ready { IfOk result (λ slots. All (IsReady (R.standing room.new) (R.words room.new)) slots.items) }
     ensures some { IfOk result (λ slots. (0 < length slots.items) × (length slots.items ≤ 2)) }
     ensures err { OnErr result (KeepsStart R.kept R.standing R.words room.old room.new) }
     ensures full { IfErr result (λ stop. IfRefused stop (IsFullOf (R.full room.new))) }
     ensures found { IfOk result (λ slots. payload_at (pairs_at level (R.words room.old) right) key.now ≢ None) }
-    ensures stopped { IfErr result (λ stop. IfAbsent stop ((payload_at (pairs_at level (R.words room.old) right) key.now ≡ None) × IsUnchanged R.kept R.standing R.words room.old room.new) (payload_at (pairs_at level (R.words room.old) right) key.now ≢ None)) }
+    ensures stopped { IfErr result (λ stop. IfAbsent stop
+        ((payload_at (pairs_at level (R.words room.old) right) key.now ≡ None) × IsUnchanged R.kept R.standing R.words room.old room.new)
+        (payload_at (pairs_at level (R.words room.old) right) key.now ≢ None)) }
 {
     let mut less = ArrayVec::new();
     remove_at(room, level, right, key, pair, &mut less)?;

@@ -7,7 +7,7 @@ ghost use Rattle.be_tree.specs.Slot.{IsReady, pair_of, pairs_of};
 ghost use Rattle.be_tree.specs.Tree.{AreNeighbours, IsTreeAt, child};
 
 use crate::edit::replace_at;
-use crate::page::{child_at, fill_slots};
+use crate::page::{HEADER_WORDS, ITEM_WORDS, LEAST_ITEMS, MOST_ITEMS, child_at, fill_slots};
 use crate::slot::Slot;
 use arrayvec::ArrayVec;
 use be_pages::Look;
@@ -22,8 +22,8 @@ pub(crate) fn two_children<L: Look>(look: &mut L, level: u64, page: u64, at: usi
     ensures neighbours { AreNeighbours (level - 1) (L.standing look.old) (L.words look.old) result.0 result.1 }
     ensures unchanged { IsUnchanged L.kept L.standing L.words look.old look.new }
 {
-    let left = child_at(look, page, 2 + 42 * at);
-    let right = child_at(look, page, 2 + 42 * (at + 1));
+    let left = child_at(look, page, HEADER_WORDS + ITEM_WORDS * at);
+    let right = child_at(look, page, HEADER_WORDS + ITEM_WORDS * (at + 1));
     (left, right)
 }
 
@@ -37,8 +37,8 @@ pub(crate) fn spare_child<L: Look>(look: &mut L, level: u64, page: u64, at: usiz
     ensures spare { IfSome result (λ below. 6 < L.words look.old below 1) }
     ensures unchanged { IsUnchanged L.kept L.standing L.words look.old look.new }
 {
-    let below = child_at(look, page, 2 + 42 * at);
-    if count_of(look, below) < 7 {
+    let below = child_at(look, page, HEADER_WORDS + ITEM_WORDS * at);
+    if count_of(look, below) <= LEAST_ITEMS {
         return None;
     }
     Some(below)
@@ -65,7 +65,7 @@ pub(crate) fn sharing_children<L: Look>(
         return None;
     }
     let (left, right) = two_children(look, level, page, at - 1);
-    if count_of(look, right) < 12 || count_of(look, left) == 12 {
+    if count_of(look, right) < MOST_ITEMS || count_of(look, left) == MOST_ITEMS {
         return None;
     }
     Some((left, right))

@@ -2,7 +2,7 @@ use Rattle.std.proofs.Common.{◌≡◌, ℕ, suc, [], ◌+◌, ◌-◌, ◌*◌
 use Rattle.be_pages.specs.Pages.{Swaps}
 use Rattle.be_tree.specs.Page.{items_of, item_at}
 use Rattle.be_tree.specs.Tree.{IsTreeAt, child, pages_at, pages_below}
-use Rattle.be_tree.proofs.Clears.{swaps_none, swaps_until, gives_both, one_more, next_apart, next_in_use, next_names_page, none_below, take_count, node_readable, child_still, swaps_gives}
+use Rattle.be_tree.proofs.Removing.Clears.{swaps_none, swaps_until, gives_both, one_more, next_apart, next_in_use, next_names_page, none_below, take_count, node_readable, child_still, swaps_gives}
 use Rattle.be_tree.proofs.clearing.+clear.Goals as goal
 
 pub clear_below-returns-then-level-eq0-clause-pages : goal.clear_below-returns-then-level-eq0-clause-pages

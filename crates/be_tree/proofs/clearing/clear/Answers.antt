@@ -1,7 +1,7 @@
 use Rattle.std.proofs.Common.{[], sym, subst, refl}
 use Rattle.be_pages.specs.Pages.{Swaps}
 use Rattle.be_tree.specs.Tree.{pages}
-use Rattle.be_tree.proofs.Clears.{swaps_none}
+use Rattle.be_tree.proofs.Removing.Clears.{swaps_none}
 use Rattle.be_tree.proofs.clearing.clear.Goals as goal
 
 pub returns-then-root-eq0-clause-pages : goal.returns-then-root-eq0-clause-pages

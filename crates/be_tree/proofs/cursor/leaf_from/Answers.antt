@@ -2,7 +2,7 @@ use Rattle.std.proofs.Common.{◌≡◌, ℕ, ◌+◌, ◌*◌, ◌<◌, ◌∙�
 use Rattle.be_tree.specs.Key.{key_cmp}
 use Rattle.be_tree.specs.Page.{items_of, item_at, IsItem}
 use Rattle.be_tree.specs.Range.{is_from, pairs_from}
-use Rattle.be_tree.proofs.Slots.{item_get, items_count}
+use Rattle.be_tree.proofs.Nodes.Slots.{item_get, items_count}
 use Rattle.be_tree.proofs.Ranges.{from_less, from_equal, from_greater, leaf_takes, leaf_skips}
 use Rattle.be_tree.proofs.cursor.leaf_from.Given.{Over}
 use Rattle.be_tree.proofs.cursor.leaf_from.Goals as goal

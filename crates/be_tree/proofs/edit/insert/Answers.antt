@@ -6,10 +6,10 @@ use Rattle.be_tree.specs.Page.{items_of}
 use Rattle.be_tree.specs.Slot.{pairs_of}
 use Rattle.be_tree.specs.Tree.{pages, pairs_at, pairs_below, pages_below, IsTreeAt, BecomesTree, least_of_root}
 use Rattle.be_tree.proofs.Frame.{swaps_start, start_trans, unchanged_start}
-use Rattle.be_tree.proofs.Puts.{tree_weaker, held_after}
-use Rattle.be_tree.proofs.Parts.{on_err}
-use Rattle.be_tree.proofs.Levels.{level_bound, tree_in_use, kept_not_free}
-use Rattle.be_tree.proofs.Roots.{root_tree, root_some, becomes_tree, tree_put, same_pair}
+use Rattle.be_tree.proofs.Putting.Puts.{tree_weaker, held_after}
+use Rattle.be_tree.proofs.Shape.Parts.{on_err}
+use Rattle.be_tree.proofs.Shape.Levels.{level_bound, tree_in_use, kept_not_free}
+use Rattle.be_tree.proofs.Shape.Roots.{root_tree, root_some, becomes_tree, tree_put, same_pair}
 use Rattle.be_tree.proofs.edit.insert.Given.{Over}
 use Rattle.be_tree.proofs.edit.insert.Goals as goal
 use Rattle.be_tree.proofs.edit.insert.Goals.{After-word-level}

@@ -3,8 +3,8 @@ use Rattle.std.proofs.lemmas.Bool.Decides.{nat_tests}
 use Rattle.be_tree.specs.Slot.{pairs_of}
 use Rattle.be_tree.specs.Tree.{pairs_below, pages_below, Becomes, IsBelow}
 use Rattle.be_tree.proofs.Frame.{times_other, times_append}
-use Rattle.be_tree.proofs.Puts.{becomes_given_up, held_after}
-use Rattle.be_tree.proofs.Slots.{branches_ready}
+use Rattle.be_tree.proofs.Putting.Puts.{becomes_given_up, held_after}
+use Rattle.be_tree.proofs.Nodes.Slots.{branches_ready}
 use Rattle.be_tree.proofs.edit.pack_two.Goals as goal
 
 pub give_up-requires-clause-held : goal.give_up-requires-clause-held

@@ -3,7 +3,7 @@ use Rattle.std.proofs.lemmas.Bool.Decides.{nat_tests}
 use Rattle.std.proofs.lemmas.List.{length-map}
 use Rattle.be_tree.specs.Slot.{pair_of, pairs_of}
 use Rattle.be_tree.proofs.Frame.{written_swaps}
-use Rattle.be_tree.proofs.Slots.{ready_same, beside_free, written_at}
+use Rattle.be_tree.proofs.Nodes.Slots.{ready_same, beside_free, written_at}
 use Rattle.be_tree.proofs.edit.write_node.Goals as goal
 
 pub store_node-requires-clause-ready : goal.store_node-requires-clause-ready

@@ -4,9 +4,9 @@ use Rattle.be_tree.specs.Pair.{Pair}
 use Rattle.be_tree.specs.Slot.{branch_to, pair_of, pairs_of, IsReady}
 use Rattle.be_tree.specs.Tree.{pairs_below, pages_below, IsBelow, Becomes}
 use Rattle.be_tree.proofs.Frame.{swaps_start, start_trans, swaps_same, swaps_after, readable_kept, times_itself}
-use Rattle.be_tree.proofs.Below.{all_left, all_right}
-use Rattle.be_tree.proofs.Parts.{front_below, back_below, becomes_halves, on_err}
-use Rattle.be_tree.proofs.Slots.{all_ready_swaps, pairs_swaps, all_apart_nil, branch_same}
+use Rattle.be_tree.proofs.Shape.Below.{all_left, all_right}
+use Rattle.be_tree.proofs.Shape.Parts.{front_below, back_below, becomes_halves, on_err}
+use Rattle.be_tree.proofs.Nodes.Slots.{all_ready_swaps, pairs_swaps, all_apart_nil, branch_same}
 use Rattle.be_tree.proofs.edit.write_parts.Given.{Over}
 use Rattle.be_tree.proofs.edit.write_parts.Goals as goal
 use Rattle.be_tree.proofs.edit.write_parts.Goals.{After-split_at}

@@ -6,13 +6,13 @@ use Rattle.be_tree.specs.declared.slot.Slot.TheVariants.{Branch}
 use Rattle.be_tree.specs.Slot.{branch_to, pair_of, pairs_of, IsBranchSlot}
 use Rattle.be_tree.specs.Tree.{child, pairs_below, pages_below, IsWritten, BecomesTree}
 use Rattle.be_tree.proofs.Frame.{swaps_start, start_trans}
-use Rattle.be_tree.proofs.Parts.{on_err}
-use Rattle.be_tree.proofs.Roots.{root_written, becomes_tree}
-use Rattle.be_tree.proofs.Slots.{child_branch, branches_ready}
+use Rattle.be_tree.proofs.Shape.Parts.{on_err}
+use Rattle.be_tree.proofs.Shape.Roots.{root_written, becomes_tree}
+use Rattle.be_tree.proofs.Nodes.Slots.{child_branch, branches_ready}
 use Rattle.be_tree.proofs.edit.write_root.Goals as goal
 
-pub returns-then-slots-le12-clause-ok : goal.returns-then-slots-le12-clause-ok
-returns-then-slots-le12-clause-ok g c =
+pub returns-then-slots-le-MOST_ITEMS-clause-ok : goal.returns-then-slots-le-MOST_ITEMS-clause-ok
+returns-then-slots-le-MOST_ITEMS-clause-ok g c =
     let words = g.R.Look.words c.args.room.now in
     let new = g.R.Look.words c.write_node.new.room in
     let items = pairs_of words c.args.pair.now c.args.slots.now in

@@ -4,7 +4,7 @@ use Rattle.std.specs.declared.cmp.Ordering.{Ordering}
 use Rattle.std.specs.declared.cmp.Ordering.TheVariants.{Less, Greater}
 use Rattle.be_tree.specs.Key.{IsRank, key_cmp, payload_at}
 use Rattle.be_tree.specs.Page.{items_of, item_at, IsItem}
-use Rattle.be_tree.proofs.Slots.{item_get, items_count}
+use Rattle.be_tree.proofs.Nodes.Slots.{item_get, items_count}
 use Rattle.be_tree.proofs.Frame.{unchanged_trans}
 use Rattle.be_tree.specs.Tree.{IsTreeAt, child, pairs, pairs_at}
 use Rattle.be_tree.proofs.TreeFacts.{StepsDown, steps_down, found_in_leaf}

@@ -2,8 +2,8 @@ use Rattle.std.proofs.Common.{◌≡◌, ◌≤◌, ℕ, ◌+◌, ◌/◌, ◌%�
 use Rattle.std.specs.Int.{from_be_bytes, w64}
 use Rattle.be_tree.specs.Page.{bytes_at, key_len}
 use Rattle.be_tree.specs.Range.{number_of}
-use Rattle.be_tree.proofs.LastBytes.{last_bytes}
-use Rattle.be_tree.proofs.Words.{item_key_length}
+use Rattle.be_tree.proofs.Reading.LastBytes.{last_bytes}
+use Rattle.be_tree.proofs.Bytes.Words.{item_key_length}
 use Rattle.be_tree.proofs.numbers.number_at.Goals as goal
 
 pub returns-clause-number : goal.returns-clause-number

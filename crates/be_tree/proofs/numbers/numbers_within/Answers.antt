@@ -10,7 +10,7 @@ use Rattle.be_tree.specs.Page.{item_at}
 use Rattle.be_tree.specs.Range.{AreLong, is_from, is_past, number_of, numbers_to, pairs_from}
 use Rattle.be_tree.specs.Tree.{pairs}
 use Rattle.be_tree.proofs.Frame.{unchanged_trans}
-use Rattle.be_tree.proofs.LastBytes.{got_one, got_all, past_bound, first_long, others_long, fewer}
+use Rattle.be_tree.proofs.Reading.LastBytes.{got_one, got_all, past_bound, first_long, others_long, fewer}
 use Rattle.be_tree.proofs.numbers.numbers_within.Goals as goal
 
 pub pairs-init : goal.pairs-init

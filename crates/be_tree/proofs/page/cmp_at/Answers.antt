@@ -2,7 +2,7 @@ use Rattle.std.proofs.Common.{◌≡◌, ℕ, ◌+◌, ◌-◌, ◌*◌, ◌/◌
 use Rattle.std.specs.Ordering.{nat_cmp, ordering_then}
 use Rattle.be_tree.specs.Key.{key_cmp}
 use Rattle.be_tree.specs.Page.{item_at, key_len}
-use Rattle.be_tree.proofs.Words.{next_word, last_word, at_end, then_same, then_other}
+use Rattle.be_tree.proofs.Bytes.Words.{next_word, last_word, at_end, then_same, then_other}
 use Rattle.be_tree.proofs.page.cmp_at.Given.{Over}
 use Rattle.be_tree.proofs.page.cmp_at.Goals as goal
 use Rattle.be_tree.proofs.page.cmp_at.Goals.{After-whole_word-other, After-word_from-other}

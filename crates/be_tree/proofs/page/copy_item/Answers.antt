@@ -1,6 +1,6 @@
 use Rattle.std.proofs.Common.{arith}
 use Rattle.be_tree.proofs.Codec.{item_at_copied}
-use Rattle.be_tree.proofs.Zeros.{IsItem_copied}
+use Rattle.be_tree.proofs.Bytes.Zeros.{IsItem_copied}
 use Rattle.be_tree.proofs.page.copy_item.Goals as goal
 
 pub returns-clause-item : goal.returns-clause-item

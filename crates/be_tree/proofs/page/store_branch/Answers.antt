@@ -1,7 +1,7 @@
 use Rattle.std.proofs.Common.{◌≡◌, ℕ, List, ◌+◌, ◌*◌, ◌/◌, ◌%◌, ◌^◌, ◌<◌, ◌++◌, ◌∙◌, ap, sym, subst, length, arith, zero-add}
 use Rattle.std.specs.Int.{to_be_bytes, w64}
 use Rattle.be_tree.specs.Page.{bytes_at, key_len, IsPadded}
-use Rattle.be_tree.proofs.Branches.{branch_fits, branch_stored}
+use Rattle.be_tree.proofs.Bytes.Branches.{branch_fits, branch_stored}
 use Rattle.be_tree.proofs.page.store_branch.Goals as goal
 
 pub returns-clause-item : goal.returns-clause-item

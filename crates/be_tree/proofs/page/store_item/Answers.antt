@@ -3,7 +3,7 @@ use Rattle.std.proofs.lemmas.List.{length-append}
 use Rattle.std.proofs.lemmas.Bool.Decides.{nat_tests}
 use Rattle.be_tree.specs.Page.{IsPadded}
 use Rattle.be_tree.proofs.Codec.{item_at_stored}
-use Rattle.be_tree.proofs.Zeros.{IsItem_stored}
+use Rattle.be_tree.proofs.Bytes.Zeros.{IsItem_stored}
 use Rattle.be_tree.proofs.page.store_item.Goals as goal
 
 pub returns-clause-item : goal.returns-clause-item

@@ -5,8 +5,8 @@ use Rattle.be_tree.specs.declared.slot.Slot.{Slot}
 use Rattle.be_tree.specs.Page.{IsItem, item_at, place_of}
 use Rattle.be_tree.specs.Slot.{pair_of}
 use Rattle.be_tree.proofs.Codec.{item_at_same}
-use Rattle.be_tree.proofs.Zeros.{IsItem_same}
-use Rattle.be_tree.proofs.Slots.{pair_same, stored_map}
+use Rattle.be_tree.proofs.Bytes.Zeros.{IsItem_same}
+use Rattle.be_tree.proofs.Nodes.Slots.{pair_same, stored_map}
 use Rattle.be_tree.proofs.page.store_node.Goals as goal
 
 pub loop-j-preserved : goal.loop-j-preserved

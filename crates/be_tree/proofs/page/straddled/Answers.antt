@@ -1,5 +1,5 @@
 use Rattle.std.proofs.Common.{arith}
-use Rattle.be_tree.proofs.Straddling.{straddled_fits}
+use Rattle.be_tree.proofs.Bytes.Straddling.{straddled_fits}
 use Rattle.be_tree.proofs.page.straddled.Goals as goal
 
 pub overflow_add-result : goal.overflow_add-result

@@ -7,19 +7,19 @@ use Rattle.be_tree.specs.Pair.{Pair}
 use Rattle.be_tree.specs.Key.{key_cmp, payload_at, without}
 use Rattle.std.specs.Prelude.{true, false}
 use Rattle.std.specs.Ordering.{is_eq}
-use Rattle.be_tree.proofs.Stops.{absent_is, down_read, found_is, passed_absent, passed_stop}
+use Rattle.be_tree.proofs.Removing.Stops.{absent_is, down_read, found_is, passed_absent, passed_stop}
 use Rattle.be_tree.specs.Page.{items_of, item_at, place_of}
 use Rattle.be_tree.specs.Slot.{branch_to, IsBranchSlot, IsReady, pair_of, pairs_of}
 use Rattle.be_tree.specs.Tree.{Becomes, child, least_of_root, pairs_at, pairs_below, pages_below}
-use Rattle.be_tree.proofs.Alone.{AroundOne, around_one}
-use Rattle.be_tree.proofs.Children.{AroundTwo, around_two, first_changed, second_changed}
+use Rattle.be_tree.proofs.Nodes.Alone.{AroundOne, around_one}
+use Rattle.be_tree.proofs.Nodes.Children.{AroundTwo, around_two, first_changed, second_changed}
 use Rattle.be_tree.proofs.Frame.{start_trans, swaps_start, unchanged_trans}
-use Rattle.be_tree.proofs.Joins.{Joined, left_changed, left_in_hand, left_length, right_changed, right_in_hand, right_length}
-use Rattle.be_tree.proofs.Neighbours.{apart, left_count, left_page, left_readable, right_count, right_page, right_readable, slots_until}
-use Rattle.be_tree.proofs.Parts.{all_one, on_err}
-use Rattle.be_tree.proofs.Puts.{becomes_given_up, becomes_trans, held_after}
-use Rattle.be_tree.proofs.Removes.{at_in, key_out, leaf_removed, least_two, payload_leaf, rising_without, rising_without_left, rising_without_right}
-use Rattle.be_tree.proofs.Slots.{branches_ready, items_count}
+use Rattle.be_tree.proofs.Nodes.Joins.{Joined, left_changed, left_in_hand, left_length, right_changed, right_in_hand, right_length}
+use Rattle.be_tree.proofs.Nodes.Neighbours.{apart, left_count, left_page, left_readable, right_count, right_page, right_readable, slots_until}
+use Rattle.be_tree.proofs.Shape.Parts.{all_one, on_err}
+use Rattle.be_tree.proofs.Putting.Puts.{becomes_given_up, becomes_trans, held_after}
+use Rattle.be_tree.proofs.Removing.Removes.{at_in, key_out, leaf_removed, least_two, payload_leaf, rising_without, rising_without_left, rising_without_right}
+use Rattle.be_tree.proofs.Nodes.Slots.{branches_ready, items_count}
 use Rattle.be_tree.proofs.removal.+removal.Goals as goal
 use Rattle.be_tree.proofs.removal.+removal.Given.{Over}
 use Rattle.be_tree.proofs.removal.+removal.Goals.{remove_at-After-slots_with-arg-1, remove_at-After-slots_with-arg-2-1, remove_at-After-slots_with_one-arg-1, remove_left-After-deref-2, remove_right-After-deref-2}

@@ -2,7 +2,7 @@ use Rattle.std.proofs.Common.{◌∙◌, ap, sym, subst}
 use Rattle.be_tree.specs.declared.slot.Slot.{Slot}
 use Rattle.be_tree.specs.Slot.{IsReady, pair_of}
 use Rattle.be_tree.specs.Tree.{child}
-use Rattle.be_tree.proofs.Slots.{child_branch}
+use Rattle.be_tree.proofs.Nodes.Slots.{child_branch}
 use Rattle.be_tree.proofs.removal.child_of.Goals as goal
 
 pub returns-in-Branch-clause-child : goal.returns-in-Branch-clause-child

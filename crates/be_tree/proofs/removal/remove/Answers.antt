@@ -7,15 +7,15 @@ use Rattle.be_tree.specs.Page.{items_of}
 use Rattle.be_tree.specs.Slot.{pairs_of}
 use Rattle.be_tree.specs.Tree.{pages, pairs, pairs_at, pairs_below, pages_below, IsTreeAt, BecomesTree, least_of_root}
 use Rattle.be_tree.proofs.Frame.{swaps_start, start_trans, unchanged_start, unchanged_trans}
-use Rattle.be_tree.proofs.Puts.{tree_weaker, held_after}
-use Rattle.be_tree.proofs.Parts.{on_err}
-use Rattle.be_tree.proofs.Levels.{level_bound, tree_in_use, kept_not_free}
-use Rattle.be_tree.proofs.Rests.{tree_changed, tree_same, tree_until, without_absent}
-use Rattle.be_tree.proofs.Roots.{root_tree, root_some, becomes_tree}
+use Rattle.be_tree.proofs.Putting.Puts.{tree_weaker, held_after}
+use Rattle.be_tree.proofs.Shape.Parts.{on_err}
+use Rattle.be_tree.proofs.Shape.Levels.{level_bound, tree_in_use, kept_not_free}
+use Rattle.be_tree.proofs.Removing.Rests.{tree_changed, tree_same, tree_until, without_absent}
+use Rattle.be_tree.proofs.Shape.Roots.{root_tree, root_some, becomes_tree}
 use Rattle.be_tree.proofs.removal.remove.Given.{Over}
 use Rattle.be_tree.proofs.removal.remove.Goals as goal
 use Rattle.be_tree.proofs.removal.remove.Goals.{After-word-level, In-Err-Absent}
-use Rattle.be_tree.proofs.Stops.{absent_told, other_told}
+use Rattle.be_tree.proofs.Removing.Stops.{absent_told, other_told}
 
 pub returns-then-root-eq0-clause-ok : goal.returns-then-root-eq0-clause-ok
 returns-then-root-eq0-clause-ok g c =

@@ -6,8 +6,8 @@ use Rattle.be_tree.specs.Pair.{Pair}
 use Rattle.be_tree.specs.Key.{key_cmp}
 use Rattle.be_tree.specs.Page.{item_at, items_of, place_of}
 use Rattle.be_tree.specs.Slot.{pair_of, pairs_of, IsReady}
-use Rattle.be_tree.proofs.Slots.{loaded_pairs, loaded_ready}
-use Rattle.be_tree.proofs.SlotLists.{all_removed, removed_mapped}
+use Rattle.be_tree.proofs.Nodes.Slots.{loaded_pairs, loaded_ready}
+use Rattle.be_tree.proofs.Nodes.SlotLists.{all_removed, removed_mapped}
 use Rattle.be_tree.proofs.removal.slots_without.Given.{Over}
 use Rattle.be_tree.proofs.removal.slots_without.Goals as goal
 use Rattle.be_tree.proofs.removal.slots_without.Goals.{After-is_eq}

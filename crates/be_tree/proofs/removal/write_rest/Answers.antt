@@ -4,8 +4,8 @@ use Rattle.be_tree.specs.declared.slot.Slot.{Slot}
 use Rattle.be_tree.specs.declared.slot.Slot.TheVariants.{New}
 use Rattle.be_tree.specs.Slot.{pair_of, pairs_of}
 use Rattle.be_tree.specs.Tree.{child, pages_below, pairs_below, BecomesTree}
-use Rattle.be_tree.proofs.Levels.{kept_not_free}
-use Rattle.be_tree.proofs.Rests.{one_mapped, one_used, tree_none, tree_one, tree_until}
+use Rattle.be_tree.proofs.Shape.Levels.{kept_not_free}
+use Rattle.be_tree.proofs.Removing.Rests.{one_mapped, one_used, tree_none, tree_one, tree_until}
 use Rattle.be_tree.proofs.removal.write_rest.Goals as goal
 
 pub returns-then-slots-eq0-clause-ok : goal.returns-then-slots-eq0-clause-ok

@@ -5,8 +5,8 @@ use Rattle.be_tree.specs.declared.slot.Slot.TheVariants.{At}
 use Rattle.be_tree.specs.Pair.{Pair}
 use Rattle.be_tree.specs.Page.{place_of}
 use Rattle.be_tree.specs.Slot.{pair_of, pairs_of, IsReady}
-use Rattle.be_tree.proofs.Slots.{loaded_pairs, loaded_ready}
-use Rattle.be_tree.proofs.SlotLists.{two_mapped, two_all, two_length}
+use Rattle.be_tree.proofs.Nodes.Slots.{loaded_pairs, loaded_ready}
+use Rattle.be_tree.proofs.Nodes.SlotLists.{two_mapped, two_all, two_length}
 use Rattle.be_tree.proofs.siblings.slots_with.Goals as goal
 
 pub remove-requires : goal.remove-requires

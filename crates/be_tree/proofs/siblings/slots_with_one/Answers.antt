@@ -6,8 +6,8 @@ use Rattle.be_tree.specs.declared.slot.Slot.TheVariants.{At}
 use Rattle.be_tree.specs.Pair.{Pair}
 use Rattle.be_tree.specs.Page.{place_of}
 use Rattle.be_tree.specs.Slot.{pair_of, pairs_of, IsReady}
-use Rattle.be_tree.proofs.Slots.{loaded_pairs, loaded_ready}
-use Rattle.be_tree.proofs.SlotLists.{one_all, one_mapped_in, one_set, refilled}
+use Rattle.be_tree.proofs.Nodes.Slots.{loaded_pairs, loaded_ready}
+use Rattle.be_tree.proofs.Nodes.SlotLists.{one_all, one_mapped_in, one_set, refilled}
 use Rattle.be_tree.proofs.siblings.slots_with_one.Given.{Over}
 use Rattle.be_tree.proofs.siblings.slots_with_one.Goals as goal
 use Rattle.be_tree.proofs.siblings.slots_with_one.Goals.{After-deref_mut}

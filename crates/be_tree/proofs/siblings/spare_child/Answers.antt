@@ -3,8 +3,8 @@ use Rattle.std.specs.Prelude.{IsTrue}
 use Rattle.be_pages.specs.Pages.{is_readable}
 use Rattle.be_tree.specs.Page.{IsPage}
 use Rattle.be_tree.specs.Tree.{IsTreeAt}
-use Rattle.be_tree.proofs.Alone.{one_child}
-use Rattle.be_tree.proofs.Children.{names_page}
+use Rattle.be_tree.proofs.Nodes.Alone.{one_child}
+use Rattle.be_tree.proofs.Nodes.Children.{names_page}
 use Rattle.be_tree.proofs.Frame.{readable_kept}
 use Rattle.be_tree.proofs.siblings.spare_child.Given.{Over}
 use Rattle.be_tree.proofs.siblings.spare_child.Goals as goal

@@ -1,7 +1,7 @@
 use Rattle.std.proofs.Common.{◌≡◌, ℕ, ◌+◌, ◌-◌, ◌∙◌, ap, sym, subst, length, arith}
 use Rattle.be_tree.specs.Page.{item_at, place_of}
 use Rattle.be_tree.specs.Tree.{child}
-use Rattle.be_tree.proofs.Children.{names_page, two_neighbours}
+use Rattle.be_tree.proofs.Nodes.Children.{names_page, two_neighbours}
 use Rattle.be_tree.proofs.siblings.two_children.Goals as goal
 
 pub child_at-left-requires-clause-names_page : goal.child_at-left-requires-clause-names_page

@@ -1,9 +1,9 @@
 use Rattle.std.proofs.Common.{ℕ, ◌++◌, ◌≤◌, length, ap, sym, subst, ◌∙◌, arith}
 use Rattle.be_tree.specs.Cursor.{IsPath, pairs_along}
 use Rattle.be_tree.specs.Page.{items_of}
-use Rattle.be_tree.proofs.Cursors.{along_push, path_front, past_end}
+use Rattle.be_tree.proofs.Reading.Cursors.{along_push, path_front, past_end}
 use Rattle.be_tree.proofs.Frame.{unchanged_trans}
-use Rattle.be_tree.proofs.Slots.{items_count}
+use Rattle.be_tree.proofs.Nodes.Slots.{items_count}
 use Rattle.be_tree.proofs.cursor.Cursor.pop_spent.Goals as goal
 
 pub returns-then-place-word-clause-parts : goal.returns-then-place-word-clause-parts

@@ -7,13 +7,13 @@ use Rattle.be_tree.specs.Key.{IsRank}
 use Rattle.be_tree.specs.Page.{items_of, item_at, IsItem}
 use Rattle.be_tree.specs.Range.{pairs_from}
 use Rattle.be_tree.specs.Tree.{IsTreeAt, child, pairs, pairs_at, least_of_root}
-use Rattle.be_tree.proofs.Cursors.{along_push, path_push, from_branch, leads_down, LeadsDown, root_pairs}
+use Rattle.be_tree.proofs.Reading.Cursors.{along_push, path_push, from_branch, leads_down, LeadsDown, root_pairs}
 use Rattle.be_tree.proofs.Frame.{unchanged_trans}
-use Rattle.be_tree.proofs.Heights.{height}
-use Rattle.be_tree.proofs.Levels.{kept_not_free}
-use Rattle.be_tree.proofs.Puts.{tree_weaker}
-use Rattle.be_tree.proofs.Roots.{root_tree, root_some}
-use Rattle.be_tree.proofs.Slots.{items_count}
+use Rattle.be_tree.proofs.Shape.Heights.{height}
+use Rattle.be_tree.proofs.Shape.Levels.{kept_not_free}
+use Rattle.be_tree.proofs.Putting.Puts.{tree_weaker}
+use Rattle.be_tree.proofs.Shape.Roots.{root_tree, root_some}
+use Rattle.be_tree.proofs.Nodes.Slots.{items_count}
 use Rattle.be_tree.proofs.cursor.Cursor.seek.Given.{Over}
 use Rattle.be_tree.proofs.cursor.Cursor.seek.Goals as goal
 use Rattle.be_tree.proofs.cursor.Cursor.seek.Goals.{After-saturating_sub-at}

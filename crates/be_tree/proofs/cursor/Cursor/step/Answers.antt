@@ -5,10 +5,10 @@ use Rattle.be_tree.specs.declared.cursor.Place.{Place}
 use Rattle.be_tree.specs.Cursor.{IsPath, pairs_along, pairs_past}
 use Rattle.be_tree.specs.Page.{items_of, item_at}
 use Rattle.be_tree.specs.Tree.{IsTreeAt, child, pairs_at, pairs_below}
-use Rattle.be_tree.proofs.Cursors.{along_push, path_push, leads_down, leaf_step}
+use Rattle.be_tree.proofs.Reading.Cursors.{along_push, path_push, leads_down, leaf_step}
 use Rattle.be_tree.proofs.Frame.{unchanged_trans}
-use Rattle.be_tree.proofs.Levels.{kept_not_free}
-use Rattle.be_tree.proofs.Slots.{items_count}
+use Rattle.be_tree.proofs.Shape.Levels.{kept_not_free}
+use Rattle.be_tree.proofs.Nodes.Slots.{items_count}
 use Rattle.be_tree.proofs.cursor.Cursor.step.Given.{Over}
 use Rattle.be_tree.proofs.cursor.Cursor.step.Goals as goal
 use Rattle.be_tree.proofs.cursor.Cursor.step.Goals.{After-loop-place}

@@ -11,7 +11,7 @@ use Rattle.be_tree.specs.Page.{items_of}
 use Rattle.be_tree.specs.Tree.{child, pairs_at, pairs_below, pages_below, IsNode, IsBranch, AreShaped, IsBelow, IsWritten, Becomes}
 use Rattle.be_tree.proofs.Order.{IsRising_right}
 use Rattle.be_tree.proofs.Frame.{times_append, times-cons, swaps_trans, swaps_frame, swaps_after}
-use Rattle.be_tree.proofs.Below.{pairs_append, times_pages, below_left, below_right, below_append, beside_pairs, beside_pages, beside_below, beside_apart}
+use Rattle.be_tree.proofs.Shape.Below.{pairs_append, times_pages, below_left, below_right, below_append, beside_pairs, beside_pages, beside_below, beside_apart}
 
 starts_append : (k : List ℕ) (xs ys : List Pair) → StartsAt k xs → StartsAt k (xs ++ ys)
 starts_append k [] ys h = absurd h

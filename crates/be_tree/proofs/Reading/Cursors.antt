@@ -10,10 +10,10 @@ use Rattle.be_tree.specs.Page.{items_of, item_at, level_of, place_of}
 use Rattle.be_tree.specs.Tree.{child, pairs, pairs_at, pairs_below, IsTreeAt}
 use Rattle.be_tree.specs.Cursor.{pairs_past, pairs_along, IsPlace, IsPath}
 use Rattle.be_tree.specs.Range.{pairs_from}
-use Rattle.be_tree.proofs.Slots.{item_get, items_count}
+use Rattle.be_tree.proofs.Nodes.Slots.{item_get, items_count}
 use Rattle.be_tree.proofs.TreeFacts.{branch_tree, inner_split}
-use Rattle.be_tree.proofs.Puts.{tree_weaker}
-use Rattle.be_tree.proofs.Below.{all_left}
+use Rattle.be_tree.proofs.Putting.Puts.{tree_weaker}
+use Rattle.be_tree.proofs.Shape.Below.{all_left}
 use Rattle.be_tree.proofs.Ranges.{from_split}
 
 -- a path with one more place gives what stands past it first

@@ -16,7 +16,7 @@ use Rattle.be_tree.specs.Pair.{Pair}
 use Rattle.be_tree.specs.Page.{item_at, items_of, level_of, IsItem, IsPage, place_of}
 use Rattle.be_tree.specs.Tree.{child, IsBelow, IsNode, IsWritten}
 use Rattle.be_tree.proofs.Frame.{swaps_stands, swaps_same, readable_kept}
-use Rattle.be_tree.proofs.Below.{child_page}
+use Rattle.be_tree.proofs.Shape.Below.{child_page}
 use Rattle.be_tree.specs.Slot.{branch_to, pair_of, pairs_of, IsReady, IsBeside, IsBranchSlot}
 
 -- pages whose words and standings are the same serve alike

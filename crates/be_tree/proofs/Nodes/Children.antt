@@ -13,10 +13,10 @@ use Rattle.be_tree.specs.Slot.{pairs_of}
 use Rattle.be_tree.specs.Tree.{AreNeighbours, child, pairs_at, pairs_below, pages_below, IsBelow, IsTreeAt, Becomes}
 use Rattle.be_tree.proofs.Order.{IsRising_left, IsRising_right}
 use Rattle.be_tree.proofs.Frame.{readable_kept, swaps_same, swaps_stands, unchanged_trans}
-use Rattle.be_tree.proofs.Below.{below_left, below_right, times_pages}
-use Rattle.be_tree.proofs.Slots.{item_get, items_count}
-use Rattle.be_tree.proofs.Parts.{becomes_part}
-use Rattle.be_tree.proofs.Neighbours.{are_neighbours, becomes_children, slots_until}
+use Rattle.be_tree.proofs.Shape.Below.{below_left, below_right, times_pages}
+use Rattle.be_tree.proofs.Nodes.Slots.{item_get, items_count}
+use Rattle.be_tree.proofs.Shape.Parts.{becomes_part}
+use Rattle.be_tree.proofs.Nodes.Neighbours.{are_neighbours, becomes_children, slots_until}
 
 module _ (level below least page : ℕ) (standing : ℕ → Standing) (words : ℕ → ℕ → ℕ) (e : level ≡ suc below) (tree : IsTreeAt level least standing words page) where
   inner : IsBelow (suc below) standing words (items_of (words page))

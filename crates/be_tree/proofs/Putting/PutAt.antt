@@ -10,15 +10,16 @@ use Rattle.be_pages.specs.Pages.{is_readable, times, IsUnchanged}
 use Rattle.be_tree.specs.declared.slot.Slot.{Slot}
 use Rattle.be_tree.specs.declared.slot.Slot.TheVariants.{At}
 use Rattle.be_tree.specs.Pair.{Pair}
-use Rattle.be_tree.specs.Key.{IsRank, put}
+use Rattle.be_tree.specs.Key.{IsRank, IsRising, put}
 use Rattle.be_tree.specs.Page.{item_at, items_of, IsItem, IsPage, place_of}
 use Rattle.be_tree.specs.Slot.{pair_of, pairs_of, IsReady}
 use Rattle.be_tree.specs.Tree.{child, pairs_at, pairs_below, pages_below, IsBelow, IsTreeAt, Becomes}
 use Rattle.be_tree.proofs.Frame.{swaps_same, swaps_stands, readable_kept}
-use Rattle.be_tree.proofs.Below.{all_left, all_right}
-use Rattle.be_tree.proofs.SlotLists.{as_taken}
-use Rattle.be_tree.proofs.Puts.{put_at_item, item_below, item_apart, becomes_put}
-use Rattle.be_tree.proofs.Slots.{item_get, items_count, loaded_pairs, loaded_ready}
+use Rattle.be_tree.proofs.Shape.Below.{all_left, all_right}
+use Rattle.be_tree.proofs.Nodes.SlotLists.{as_taken}
+use Rattle.be_tree.proofs.Putting.Puts.{put_at_item, item_below, item_apart, becomes_put, rising_put}
+use Rattle.be_tree.proofs.Nodes.Children.{second_changed, second_rising}
+use Rattle.be_tree.proofs.Nodes.Slots.{item_get, items_count, loaded_pairs, loaded_ready}
 
 out_length : {A : Type 0} (slots more out : List A) (at : ℕ) → at < length slots → out ≡ take at (remove slots at) ++ (more ++ drop at (remove slots at)) → length out + 1 ≡ length slots + length more
 out_length slots more out at lt e =
@@ -127,3 +128,75 @@ module _ {S K : Type 0} (kept_of : S → K) (standing_of : S → ℕ → Standin
           (subst (All (IsReady (standing_of mid) (words_of mid))) (sym loaded)
           (loaded_ready (standing_of mid) (words_of mid) page n (count ∙ ap (λ (w : ℕ → ℕ). w 1) (sym same_words)) (subst (λ s. IsTrue (is_readable s)) (sym same_standing) slot_readable) (subst IsPage (sym same_words) here.node.is_page)))
           ready)
+
+-- where the pair goes, in a page that was read: the item there can be taken, with what stands below it
+pub record PutPlace (level page at : ℕ) (standing : ℕ → Standing) (words : ℕ → ℕ → ℕ) : Type 0 where
+  pub readable : IsTrue (is_readable (standing page))
+  pub in_page : 2 + 42 * at + 42 ≤ 512
+  pub fits : IsItem (words page) (2 + 42 * at)
+  pub below : IsBelow level standing words (item_at (words page) (2 + 42 * at) ∷ [])
+
+-- the page's slots once `more` stand in the place of one
+pub record PutSlots {S K : Type 0} (kept_of : S → K) (standing_of : S → ℕ → Standing) (words_of : S → ℕ → ℕ → ℕ) (level page : ℕ) (pair : Pair) (slots more out : List Slot) (old mid : S) : Type 0 where
+  pub count : length slots ≡ words_of old page 1
+  pub total : length out + 1 ≡ length slots + length more
+  pub changed : Becomes kept_of standing_of words_of (pages_below level (words_of old) (items_of (words_of old page))) (put pair (pairs_at level (words_of old) page)) level (pairs_of (words_of mid) pair out) old mid
+  pub ready : All (IsReady (standing_of mid) (words_of mid)) more → All (IsReady (standing_of mid) (words_of mid)) out
+
+-- a full child and its left neighbour, where the pair goes below the child
+pub record Shares (level page at : ℕ) (pair : Pair) (words : ℕ → ℕ → ℕ) : Type 0 where
+  pub level_is : level ≡ suc (level - 1)
+  pub next : at - 1 + 2 ≤ words page 1
+  pub put_is : put pair (pairs_at level words page) ≡ pairs_below level words (take (at - 1) (items_of (words page)))
+      ++ ((pairs_at (level - 1) words (child (item_at (words page) (place_of (at - 1)))) ++ put pair (pairs_at (level - 1) words (child (item_at (words page) (place_of (at - 1 + 1))))))
+      ++ pairs_below level words (drop (at - 1 + 2) (items_of (words page))))
+  pub rising : IsRising (pairs_at (level - 1) words (child (item_at (words page) (place_of (at - 1)))) ++ put pair (pairs_at (level - 1) words (child (item_at (words page) (place_of (at - 1 + 1))))))
+
+-- the key's rank was told of the page as it was
+module _ {S K : Type 0} (kept_of : S → K) (standing_of : S → ℕ → Standing) (words_of : S → ℕ → ℕ → ℕ) (level page : ℕ) (pair : Pair) (k : List ℕ) (r at : ℕ) (old : S)
+    (tree : IsTreeAt level 1 (standing_of old) (words_of old) page) (same_key : k ≡ pair.key) (rank : IsRank k (items_of (words_of old page)) r) (place : at ≡ r - 1) where
+  ranked : IsRank pair.key (items_of (words_of old page)) r
+  ranked = subst (λ (key : List ℕ). IsRank key (items_of (words_of old page)) r) same_key rank
+
+  unread : IsUnchanged kept_of standing_of words_of old old
+  unread = record { kept = refl; standing = refl; words = refl }
+
+  pub place_inside : at < words_of old page 1
+  place_inside = at_item kept_of standing_of words_of level page pair r at old old tree unread ranked place
+
+  pub shares : 0 < level → 0 < at → Shares level page at pair (words_of old)
+  shares inner behind =
+      let e : level ≡ suc (level - 1) = omega (arith, inner) in
+      let is : at ≡ at - 1 + 1 = omega (arith, behind) in
+      let lt : at - 1 + 2 ≤ words_of old page 1 = omega (arith, is, place_inside) in
+      let all = put pair (pairs_at level (words_of old) page) in
+      let one = key_in kept_of standing_of words_of level page pair r at old old tree unread ranked place (level - 1) e in
+      record {
+        level_is = e;
+        next = lt;
+        put_is = second_changed level (level - 1) 1 page (standing_of old) (words_of old) e tree (at - 1) lt at is all (put pair) one;
+        rising = second_rising level (level - 1) 1 page (standing_of old) (words_of old) e tree (at - 1) lt at is all (put pair) one (rising_put pair (pairs_at level (words_of old) page) tree.below.rising);
+      }
+
+  module _ (read : S) (same : IsUnchanged kept_of standing_of words_of old read) where
+    still_ranked : IsRank pair.key (items_of (words_of read page)) r
+    still_ranked = subst (λ (w : ℕ → ℕ → ℕ). IsRank pair.key (items_of (w page)) r) (sym same.words) ranked
+
+    pub put_place : PutPlace level page at (standing_of read) (words_of read)
+    put_place = record {
+      readable = slot_readable kept_of standing_of words_of level page pair r at old read tree same still_ranked place;
+      in_page = slot_in_page kept_of standing_of words_of level page pair r at old read tree same still_ranked place;
+      fits = slot_item kept_of standing_of words_of level page pair r at old read tree same still_ranked place;
+      below = slot_below kept_of standing_of words_of level page pair r at old read tree same still_ranked place;
+    }
+
+    pub put_slots : (slots more out : List Slot) (n : ℕ) (mid : S) → n ≡ words_of read page 1 → slots ≡ map (λ j. At page (place_of j)) (range_with_len 0 n)
+        → out ≡ take at slots ++ (more ++ drop (suc at) slots)
+        → Becomes kept_of standing_of words_of (pages_below level (words_of read) (item_at (words_of read page) (2 + 42 * at) ∷ [])) (put pair (pairs_below level (words_of read) (item_at (words_of read page) (2 + 42 * at) ∷ []))) level (pairs_of (words_of mid) pair more) read mid
+        → PutSlots kept_of standing_of words_of level page pair slots more out old mid
+    put_slots slots more out n mid count loaded replaced becomes = record {
+      count = slots_count kept_of standing_of words_of level page pair r at old read tree same still_ranked place slots more out n mid count loaded replaced ∙ ap (λ (w : ℕ → ℕ → ℕ). w page 1) same.words;
+      total = slots_length kept_of standing_of words_of level page pair r at old read tree same still_ranked place slots more out n mid count loaded replaced;
+      changed = slots_put kept_of standing_of words_of level page pair r at old read tree same still_ranked place slots more out n mid count loaded replaced becomes;
+      ready = slots_ready kept_of standing_of words_of level page pair r at old read tree same still_ranked place slots more out n mid count loaded replaced becomes;
+    }

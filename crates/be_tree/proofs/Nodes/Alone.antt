@@ -10,12 +10,12 @@ use Rattle.be_tree.specs.Page.{item_at, items_of, place_of, IsPage}
 use Rattle.be_tree.specs.Slot.{pairs_of}
 use Rattle.be_tree.specs.Tree.{child, pairs_at, pairs_below, pages_at, pages_below, IsBelow, IsTreeAt, Becomes}
 use Rattle.be_tree.proofs.Frame.{readable_kept, swaps_same, swaps_stands}
-use Rattle.be_tree.proofs.Below.{below_left, below_right, times_pages}
-use Rattle.be_tree.proofs.Slots.{item_get, items_count}
+use Rattle.be_tree.proofs.Shape.Below.{below_left, below_right, times_pages}
+use Rattle.be_tree.proofs.Nodes.Slots.{item_get, items_count}
 use Rattle.be_tree.proofs.TreeFacts.{in_three}
-use Rattle.be_tree.proofs.Parts.{becomes_part}
-use Rattle.be_tree.proofs.Puts.{becomes_since, branch_child}
-use Rattle.be_tree.proofs.Neighbours.{slots_until}
+use Rattle.be_tree.proofs.Shape.Parts.{becomes_part}
+use Rattle.be_tree.proofs.Putting.Puts.{becomes_since, branch_child}
+use Rattle.be_tree.proofs.Nodes.Neighbours.{slots_until}
 
 module _ (level below least page : ℕ) (standing : ℕ → Standing) (words : ℕ → ℕ → ℕ) (e : level ≡ suc below) (tree : IsTreeAt level least standing words page) (i : ℕ) (lt : i < words page 1) where
   pub one_in_three : items_of (words page) ≡ take i (items_of (words page)) ++ (item_at (words page) (place_of i) ∷ drop (suc i) (items_of (words page)))

@@ -8,7 +8,7 @@ use Rattle.be_pages.specs.Pages.{IsUnchanged}
 use Rattle.be_tree.specs.Key.{IsRank, payload_at}
 use Rattle.be_tree.specs.Page.{item_at, items_of, place_of}
 use Rattle.be_tree.specs.Tree.{child, pairs_at, least_of_root, IsTreeAt}
-use Rattle.be_tree.proofs.Removes.{payload_down}
+use Rattle.be_tree.proofs.Removing.Removes.{payload_down}
 use Rattle.be_tree.specs.declared.stop.Stop.{Stop}
 use Rattle.be_tree.specs.declared.stop.Stop.TheVariants.{Absent, Refused}
 use Rattle.be_tree.specs.Stop.{IfAbsent}

@@ -8,7 +8,7 @@ use Rattle.be_tree.specs.Pair.{Pair}
 use Rattle.be_tree.specs.Page.{bytes_at, item_at, key_len}
 use Rattle.be_tree.specs.Range.{AreLong, HasGot, is_past, number_of, numbers_to, pairs_to}
 use Rattle.be_tree.proofs.Codec.{bytes_at_later, key_at}
-use Rattle.be_tree.proofs.Words.{item_key_length}
+use Rattle.be_tree.proofs.Bytes.Words.{item_key_length}
 
 -- where the last eight bytes of a key stand
 pub last_bytes : (w : ℕ → ℕ) (at : ℕ) → 8 ≤ key_len w at

@@ -6,8 +6,8 @@ use Rattle.std.proofs.lemmas.List.{length-append, length-take-le}
 use Rattle.be_tree.specs.Pair.{Pair}
 use Rattle.be_tree.specs.Page.{bytes_at, item_at, key_len, words_for, IsItem, IsPadded}
 use Rattle.be_tree.proofs.Codec.{bytes_at_copied, bytes_at_split, flat_map_length, item_at_stored, key_at}
-use Rattle.be_tree.proofs.Words.{item_key_length}
-use Rattle.be_tree.proofs.Zeros.{IsItem_stored, behind_later}
+use Rattle.be_tree.proofs.Bytes.Words.{item_key_length}
+use Rattle.be_tree.proofs.Bytes.Zeros.{IsItem_stored, behind_later}
 
 bytes_at_length : (words : ℕ → ℕ) (at n : ℕ) → length (bytes_at words at n) ≡ n
 bytes_at_length words at n =

@@ -9,7 +9,7 @@ use Rattle.be_tree.specs.Pair.{Pair}
 use Rattle.be_tree.specs.Page.{items_of}
 use Rattle.be_tree.specs.Tree.{child, pages_at, pages_below, AreShaped, IsTreeAt}
 use Rattle.be_tree.proofs.Frame.{times-cons, times_other, same_page}
-use Rattle.be_tree.proofs.Levels.{pigeonhole, tree_in_use, kept_not_free}
+use Rattle.be_tree.proofs.Shape.Levels.{pigeonhole, tree_in_use, kept_not_free}
 
 -- a node of six items has at least so many pages at and below it
 abbrev pages_least : ℕ → ℕ

@@ -3,7 +3,7 @@ use Rattle.std.proofs.Common.{◌≡◌, ℕ, suc, ◌+◌, ◌<◌, ◌≤◌, 
 use Rattle.std.specs.List.{remove, refill, take-map, drop-map}
 use Rattle.std.proofs.lemmas.List.{map-append, length-append, length-take-le, take_at, drop_at, drop-drop, take-append-drop, take-set, drop-set, append_assoc}
 use Rattle.std.proofs.lemmas.List.Elements.{All-append, All-cons}
-use Rattle.be_tree.proofs.Below.{all_left, all_right}
+use Rattle.be_tree.proofs.Shape.Below.{all_left, all_right}
 
 both_same : {A : Type 0} {a b c d : List A} → a ≡ b → c ≡ d → a ++ c ≡ b ++ d
 both_same p q = cc

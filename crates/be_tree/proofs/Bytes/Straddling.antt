@@ -7,7 +7,7 @@ use Rattle.std.proofs.Math.Seq.{take-append-add}
 use Rattle.std.proofs.lemmas.List.{append-nil, drop-append-le, drop-take, length-drop}
 use Rattle.std.proofs.lemmas.Nat.{div-mul-add, from_be_bytes-to_be_bytes_8, mod-mul-add, mul-add-lt, pow_pos}
 use Rattle.be_tree.specs.Page.{bytes_at, words_for}
-use Rattle.be_tree.proofs.Words.{byte_is, pow256}
+use Rattle.be_tree.proofs.Bytes.Words.{byte_is, pow256}
 
 rejoined : (n m : ℕ) → n / m * m + n % m ≡ n
 rejoined n m = ap (λ (k : ℕ). k + n % m) (mul_comm (n / m) m) ∙ div-add-mod n m

@@ -18,8 +18,8 @@ use Rattle.be_tree.specs.Tree.{child, pairs_at, pairs_below, pages_at, pages_bel
 use Rattle.be_tree.proofs.Order.{key_exact, key_cmp_flip_less, AllAbove_trans}
 use Rattle.be_tree.proofs.Frame.{times_append, times-cons, times_other, same_page, swaps_fresh, swaps_trans, swaps_stands, readable_kept}
 use Rattle.be_tree.proofs.TreeFacts.{in_three, IsSplit, put_split, inner_split, leaf_split, as_branches, branch_tree}
-use Rattle.be_tree.proofs.Below.{times_pages, below_left, below_right}
-use Rattle.be_tree.proofs.Parts.{becomes_part, all_one}
+use Rattle.be_tree.proofs.Shape.Below.{times_pages, below_left, below_right}
+use Rattle.be_tree.proofs.Shape.Parts.{becomes_part, all_one}
 
 -- a put keeps the order
 above_put : (k : List ℕ) (pair : Pair) (xs : List Pair) → key_cmp pair.key k ≡ Greater → AllAbove k xs → AllAbove k (put pair xs)

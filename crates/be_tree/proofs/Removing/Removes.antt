@@ -13,8 +13,8 @@ use Rattle.be_tree.specs.Tree.{child, pairs_at, pairs_below, pages_below, least_
 use Rattle.be_tree.proofs.Order.{AllAbove_left, AllAbove_right}
 use Rattle.be_tree.proofs.TreeFacts.{flat_map_in_three, found_in_leaf, IsSplit, inner_split, leaf_split, as_branches, steps_down}
 use Rattle.be_tree.proofs.Frame.{readable_kept}
-use Rattle.be_tree.proofs.Roots.{root_some}
-use Rattle.be_tree.proofs.Slots.{item_get, items_count}
+use Rattle.be_tree.proofs.Shape.Roots.{root_some}
+use Rattle.be_tree.proofs.Nodes.Slots.{item_get, items_count}
 
 -- a key out of a list in three parts
 without_above : (k : List ℕ) (xs : List Pair) → AllAbove k xs → without k xs ≡ xs

@@ -13,7 +13,7 @@ use Rattle.be_tree.specs.Page.{items_of, place_of}
 use Rattle.be_tree.specs.Slot.{pairs_of, IsReady}
 use Rattle.be_tree.specs.Tree.{AreNeighbours, pairs_at, pairs_below, pages_below, IsBelow, Becomes}
 use Rattle.be_tree.proofs.Frame.{swaps_start}
-use Rattle.be_tree.proofs.Neighbours.{becomes_joined, left_apart, left_count, left_joined, left_kept, left_ready, ready_until, right_apart, right_count, right_joined, right_kept, right_ready, slots_until}
+use Rattle.be_tree.proofs.Nodes.Neighbours.{becomes_joined, left_apart, left_count, left_joined, left_kept, left_ready, ready_until, right_apart, right_count, right_joined, right_kept, right_ready, slots_until}
 
 pub record Joined {S K : Type 0} (kept_of : S → K) (standing_of : S → ℕ → Standing) (words_of : S → ℕ → ℕ → ℕ) (level l r : ℕ) (all : List Pair) (given : Pair) (slots : List Slot) (old read : S) : Type 0 where
   pub below : IsBelow level (standing_of read) (words_of read) (pairs_of (words_of read) given slots)

@@ -15,10 +15,10 @@ use Rattle.be_tree.specs.Slot.{pair_of, pairs_of, IsReady}
 use Rattle.be_tree.specs.Tree.{AreNeighbours, child, pairs_at, pairs_below, pages_below, IsBelow, Becomes}
 use Rattle.be_tree.proofs.Frame.{times_append, times-cons, times_itself, times_other, same_page, swaps_trans, swaps_frame, swaps_same, swaps_stands, readable_kept}
 use Rattle.be_tree.proofs.TreeFacts.{branch_tree}
-use Rattle.be_tree.proofs.Below.{below_append, times_pages}
-use Rattle.be_tree.proofs.Parts.{becomes_same, becomes_append, back_below, back_pairs}
-use Rattle.be_tree.proofs.Puts.{becomes_since, becomes_until, given_up_page}
-use Rattle.be_tree.proofs.Slots.{loaded_pairs, loaded_ready}
+use Rattle.be_tree.proofs.Shape.Below.{below_append, times_pages}
+use Rattle.be_tree.proofs.Shape.Parts.{becomes_same, becomes_append, back_below, back_pairs}
+use Rattle.be_tree.proofs.Putting.Puts.{becomes_since, becomes_until, given_up_page}
+use Rattle.be_tree.proofs.Nodes.Slots.{loaded_pairs, loaded_ready}
 
 -- how often a page is among those of two branches
 pub times_both : (level : ℕ) (words : ℕ → ℕ → ℕ) (left right : Pair) (q : ℕ) → times q (pages_below (suc level) words (left ∷ right ∷ []))

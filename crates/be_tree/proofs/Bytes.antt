@@ -1,0 +1,5 @@
+-- How bytes stand in words, and compare as words.
+pub mod Words
+pub mod Zeros
+pub mod Branches
+pub mod Straddling

@@ -1,0 +1,3 @@
+-- What a cursor reads, and the numbers that keys end with.
+pub mod Cursors
+pub mod LastBytes
