@@ -1,7 +1,8 @@
-//! How many keys a walk asks for.
+//! How many keys a walk asks for, and what else is asked of the nodes that it finds.
 //!
 //! A range that held a key too many would lose no answer, so no contract refuses it. Here each range is counted: of an index of known keys, the
-//! keys that the range of one comparison holds, and one more for its end.
+//! keys that the range of one comparison holds, and one more for its end. Nor would it lose one to ask for a value that the key has told, or to
+//! search an index for a value of which the comparison is false: these are counted too.
 
 ghost use Rattle.be_volume.specs.Volume.{State};
 ghost use Rattle.be_plan.specs.Sources.{IsVolume};
@@ -14,12 +15,15 @@ use be_volume::{Op, Volume};
 use std::alloc::Global;
 use std::test::Fail;
 
-/// A volume's source that counts the keys that it is asked for; of a range that is asked for whole, its keys and one more for its end.
+/// A volume's source that counts the keys that it is asked for; of a range that is asked for whole, its keys and one more for its end. It counts
+/// the values, and the searches for a key too.
 #[derive(Drop)]
 struct Counting<'a> {
     source: VolumeSource<'a>,
     volume: &'a Volume,
     asked: usize,
+    values: usize,
+    searches: usize,
 }
 
 /// A source that has counted nothing yet.
@@ -30,6 +34,8 @@ fn start_counting(volume: &Volume) -> Counting<'_>
         source: volume_source(volume),
         volume,
         asked: 0,
+        values: 0,
+        searches: 0,
     }
 }
 
@@ -90,10 +96,12 @@ impl Source for Counting<'_> {
     }
 
     fn has_key(&mut self, name: &Name, key: &[u8]) -> bool {
+        self.searches = self.searches.wrapping_add(1);
         self.source.has_key(name, key)
     }
 
     fn value(&mut self, node: u64, name: &Name) -> Option<Value> {
+        self.values = self.values.wrapping_add(1);
         self.source.value(node, name)
     }
 }
@@ -297,4 +305,61 @@ fn front_ranges_are_exact(rt: HostRuntime) -> Result<(), Fail> {
         volume => volume?,
     };
     fronts_exact(rt.alloc(), &volume)
+}
+
+/// A volume with five nodes, which have their number at k, p and q. Of these k and q have an index.
+fn volume_of_three(alloc: Global) -> Result<Volume, Refusal> {
+    let mut volume = Volume::new(alloc);
+    write(&mut volume, Op::MkIndex(Name::new("k")?, Kind::Ullg))?;
+    write(&mut volume, Op::MkIndex(Name::new("q")?, Kind::Ullg))?;
+    for node in 1..=5u64 {
+        write(&mut volume, Op::New)?;
+        for name in ["k", "p", "q"] {
+            let value = Value::uint64(node);
+            write(&mut volume, Op::Set(node, Name::new(name)?, value))?;
+        }
+    }
+    Ok(volume)
+}
+
+/// How many values are asked for to answer a query, and for how many keys an index is searched.
+fn looked_for(alloc: Global, volume: &Volume, text: &str) -> Result<(usize, usize), Refusal> {
+    let query = parse(alloc, text)?;
+    let mut source = start_counting(volume);
+    let cover = choose_from(alloc, &query, &mut source)?;
+    let _nodes = run(alloc, &cover, &query, &mut source)?;
+    Ok((source.values, source.searches))
+}
+
+/// Of a node that a walk finds, the key tells the value at the picked name. At other names it is asked for, and where the comparison is true of
+/// it, and the name has an index, that is searched.
+const LOOKS: [(&str, usize, usize); 5] = [
+    ("k!=3", 0, 0),
+    ("k!=3&&(k!=2||k!=4)", 0, 0),
+    ("k>=2&&p<4", 4, 0),
+    ("k!=3&&q!=2", 4, 3),
+    ("k!=3&&q!=2&&p==1", 7, 3),
+];
+
+/// Fails unless each query looks so often. A call that is refused memory is made again.
+fn looks_exact(alloc: Global, volume: &Volume) -> Result<(), Fail> {
+    for (text, values, searches) in LOOKS {
+        let looked = match looked_for(alloc, volume, text) {
+            Err(Refusal::OutOfMemory) => looked_for(alloc, volume, text)?,
+            looked => looked?,
+        };
+        if looked != (values, searches) {
+            return Err(Fail::new(text));
+        }
+    }
+    Ok(())
+}
+
+#[test]
+fn looks_are_exact(rt: HostRuntime) -> Result<(), Fail> {
+    let volume = match volume_of_three(rt.alloc()) {
+        Err(Refusal::OutOfMemory) => volume_of_three(rt.alloc())?,
+        volume => volume?,
+    };
+    looks_exact(rt.alloc(), &volume)
 }

@@ -15,6 +15,7 @@ use be_store::{
     Updates, Value, parse,
 };
 use std::alloc::{AllocError, Global};
+use std::str;
 use std::test::Fail;
 use std::thread;
 use std::thread::Threads;
@@ -299,13 +300,15 @@ fn open_limits(rt: HostRuntime) -> Result<(), Fail> {
     for (pages, passes, commits) in outside {
         assert!(rt; has_bad_limits(rt.alloc(), pages, passes, commits));
     }
-    let least = Limits {
-        pages: 8,
-        passes: 1,
-        commits: 1,
-    };
-    let (_, passes) = opened(rt.alloc(), least)?;
-    assert_eq!(rt; passes.len(), 1);
+    for (pages, passes, commits) in [(8, 1, 1), (16384, 64, 4_294_967_295)] {
+        let limits = Limits {
+            pages,
+            passes,
+            commits,
+        };
+        let (_, dealt) = opened(rt.alloc(), limits)?;
+        assert_eq!(rt; dealt.len() as u64, passes);
+    }
     Ok(())
 }
 
@@ -622,6 +625,38 @@ fn dropped_pass(rt: HostRuntime) -> Result<(), Fail> {
     let first = fill_alone(&store, &mut a, &name).unwrap_or(500);
     assert!(rt; first < 64);
     assert!(rt; reads_number(&store, rt.alloc(), &mut a, &name, first.saturating_sub(1)));
+    Ok(())
+}
+
+/// One of 256 names of two letters.
+fn numbered(number: u8) -> Result<Name, Refusal> {
+    let letters = [b'a' + number / 16, b'a' + number % 16];
+    Name::new(str::from_utf8(&letters).unwrap_or(""))
+}
+
+/// Makes node 1, 64 attributes of it, and then 32 indices.
+fn make_most(store: &Store, pass: &mut Pass) -> Result<(), Refusal>
+    requires { IsPassOf store.now pass.old }
+    ensures { IsPassOf store.now pass.new }
+{
+    write(store, pass, Op::New)?;
+    for number in 0..64u8 {
+        set(store, pass, &numbered(number)?, 1)?;
+    }
+    for number in 0..32u8 {
+        write(store, pass, Op::MkIndex(numbered(number)?, Kind::Long))?;
+    }
+    Ok(())
+}
+
+/// The most attributes of a node and the most indices are listed.
+#[test]
+fn longest_lists(rt: HostRuntime) -> Result<(), Fail> {
+    let (store, mut a) = for_one(rt.alloc(), 256, 100)?;
+    make_most(&store, &mut a)?;
+    assert_eq!(rt; pin(&store, &mut a), 97);
+    assert_eq!(rt; count_attrs(&store, rt.alloc(), &mut a)?, 64);
+    assert_eq!(rt; count_indices(&store, rt.alloc(), &mut a)?, 32);
     Ok(())
 }
 

@@ -355,6 +355,46 @@ fn limits_of_a_race(rt: HostRuntime) -> Result<(), Fail> {
     Ok(())
 }
 
+/// Whether a race of the script and an empty one, on so many pages, refuses a line by Full; None where memory was wanted.
+fn fills_pages<R: Threads + Wait>(
+    rt: &R,
+    alloc: Global,
+    script: &str,
+    pages: u64,
+) -> Result<Option<bool>, RunFault> {
+    let Ok(scripts) = scripts_of(alloc, &[script, ""]) else {
+        return Ok(None);
+    };
+    let mut written: Vec<u8> = Vec::new(alloc);
+    match race_on(rt, scripts, pages, &OpenGate, &mut written) {
+        Ok(_) if wants_memory(&written) => Ok(None),
+        Ok(_) => match str::from_utf8(&written) {
+            Ok(text) => Ok(Some(text.contains("\nrefused 11 Full "))),
+            Err(_) => Ok(None),
+        },
+        Err(RunFault::Memory | RunFault::Write) => Ok(None),
+        Err(fault) => Err(fault),
+    }
+}
+
+/// A race has as many pages as its limits say: 8 refuse some of 60 nodes, and 64 take them all.
+#[test]
+fn pages_of_a_race(rt: HostRuntime) -> Result<(), Fail> {
+    let alloc = rt.alloc();
+    let script = match "new\n".repeat(alloc, 60) {
+        Ok(script) => script,
+        Err(_) => "new\n".repeat(alloc, 60)?,
+    };
+    for (pages, fills) in [(8, true), (64, false)] {
+        let found = match fills_pages(&rt, alloc, script.as_str(), pages)? {
+            None => fills_pages(&rt, alloc, script.as_str(), pages)?,
+            found => found,
+        };
+        assert!(rt; found == Some(fills), "on {pages} pages");
+    }
+    Ok(())
+}
+
 /// Whether a race writes as many bytes as there is room for, and then ends with `Write`; or with success, where there is
 /// room for all.
 fn fills<R: Threads + Wait>(rt: &R, alloc: Global, room: usize) -> Result<bool, RunFault> {
