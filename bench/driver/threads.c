@@ -25,7 +25,7 @@ static bool set_at_last(struct job *job) {
     do {
         switch (set_random_size(job->pass, job->data->nodes, &job->random)) {
         case DONE: return true;
-        case BUSY: break;
+        case BUSY:
         case FULL: sched_yield(); break;
         }
     } while (now() < job->end);

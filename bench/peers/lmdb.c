@@ -8,6 +8,7 @@
 #include <unistd.h>
 
 #include "../driver/peer.h"
+#include "keys.h"
 
 #define INDICES 32
 #define PASSES 64
@@ -42,17 +43,6 @@ static void must_do(int status) {
 }
 
 /* Keys */
-
-static void put_number(uint8_t *to, uint64_t number) {
-    number = __builtin_bswap64(number);
-    memcpy(to, &number, 8);
-}
-
-static uint64_t take_number(const uint8_t *from) {
-    uint64_t number;
-    memcpy(&number, from, 8);
-    return __builtin_bswap64(number);
-}
 
 static MDB_val catalog_key(uint8_t *to, uint64_t node, struct text name) {
     put_number(to, node);
@@ -248,23 +238,6 @@ static MDB_cursor *cursor_of(struct pass *pass, const struct index *index) {
     return *cursor;
 }
 
-/* The first key of a walk, and the bytes that no key of it goes beyond. */
-static size_t bounds(const struct query *query, enum kind kind, uint8_t *from, uint8_t *to) {
-    const struct comparison *pick = &query->comparisons[query->pick];
-    size_t length = pick->text.length;
-    if (kind == IS_NUMBER) {
-        int64_t low, high;
-        number_bounds(query, &low, &high);
-        put_number(from, (uint64_t)low ^ 1ull << 63);
-        put_number(to, (uint64_t)high ^ 1ull << 63);
-        return 8;
-    }
-    memcpy(from, pick->text.bytes, length);
-    if (pick->how == EQUAL) from[length++] = 0;
-    memcpy(to, from, length);
-    return length;
-}
-
 static bool holds(struct pass *pass, const struct comparison *it, uint64_t node) {
     uint8_t bytes[80];
     MDB_val key = catalog_key(bytes, node, it->name), value;
@@ -276,7 +249,7 @@ static bool holds(struct pass *pass, const struct comparison *it, uint64_t node)
 
 static bool all_hold(struct pass *pass, const struct query *query, uint64_t node) {
     for (int i = 0; i < query->count; i++)
-        if (i != query->pick && i != query->low && i != query->high && !holds(pass, &query->comparisons[i], node)) return false;
+        if (is_asked(query, i) && !holds(pass, &query->comparisons[i], node)) return false;
     return true;
 }
 
@@ -284,7 +257,7 @@ size_t ask(struct pass *pass, struct query *query, uint64_t *nodes, size_t most)
     struct index *index = index_of(pass->store, query->comparisons[query->pick].name);
     MDB_cursor *cursor = cursor_of(pass, index);
     uint8_t from[KEY_MOST], to[KEY_MOST];
-    size_t length = bounds(query, index->kind, from, to), count = 0;
+    size_t length = walk_bounds(query, index->kind, from, to), count = 0;
     MDB_val key = {length, from}, value;
     int status = mdb_cursor_get(cursor, &key, &value, MDB_SET_RANGE);
     for (; !status && memcmp(key.mv_data, to, length) <= 0; status = mdb_cursor_get(cursor, &key, &value, MDB_NEXT)) {

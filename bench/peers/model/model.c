@@ -186,25 +186,8 @@ static bool holds(const struct pass *pass, const struct comparison *it, uint64_t
 
 static bool all_hold(const struct pass *pass, const struct query *query, uint64_t node) {
     for (int i = 0; i < query->count; i++)
-        if (i != query->pick && i != query->low && i != query->high && !holds(pass, &query->comparisons[i], node)) return false;
+        if (is_asked(query, i) && !holds(pass, &query->comparisons[i], node)) return false;
     return true;
-}
-
-/* The first key of a walk, and the bytes that no key of it goes beyond. */
-static uint32_t bounds(const struct query *query, enum kind kind, uint8_t *from, uint8_t *to) {
-    const struct comparison *pick = &query->comparisons[query->pick];
-    uint32_t length = pick->text.length;
-    if (kind == IS_NUMBER) {
-        int64_t low, high;
-        number_bounds(query, &low, &high);
-        put_number(from, (uint64_t)low ^ 1ull << 63);
-        put_number(to, (uint64_t)high ^ 1ull << 63);
-        return 8;
-    }
-    memcpy(from, pick->text.bytes, length);
-    if (pick->how == EQUAL) from[length++] = 0;
-    memcpy(to, from, length);
-    return length;
 }
 
 size_t ask(struct pass *pass, struct query *query, uint64_t *nodes, size_t most) {
@@ -213,7 +196,7 @@ size_t ask(struct pass *pass, struct query *query, uint64_t *nodes, size_t most)
     size_t count = 0;
     load_version(&pass->version, &pass->store->pool, pass->pinned);
     const struct index *index = index_of(&pass->version, query->comparisons[query->pick].name);
-    uint32_t length = bounds(query, index->kind, from, to);
+    uint32_t length = walk_bounds(query, index->kind, from, to);
     struct key key = key_of(from, length);
     for (bool more = seek(&cursor, &pass->store->pool, index->root, &key); more; more = step(&cursor)) {
         uint32_t found = key_at(&cursor, bytes);

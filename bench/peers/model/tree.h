@@ -4,6 +4,7 @@
  * payload, and then the bytes of both. An inner item has the least key of a page below, and that page's number. */
 #ifndef TREE_H
 #define TREE_H
+#include "../keys.h"
 #include "pool.h"
 
 #define ITEM_WORDS 42
@@ -18,17 +19,6 @@ struct key {
 };
 
 struct key key_of(const uint8_t *bytes, uint32_t length);
-
-static inline void put_number(uint8_t *to, uint64_t number) {
-    number = __builtin_bswap64(number);
-    __builtin_memcpy(to, &number, 8);
-}
-
-static inline uint64_t take_number(const uint8_t *from) {
-    uint64_t number;
-    __builtin_memcpy(&number, from, 8);
-    return __builtin_bswap64(number);
-}
 
 /* A place in each level of a tree: its leaf is the first. */
 struct cursor {
