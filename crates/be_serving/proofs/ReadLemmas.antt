@@ -4,7 +4,7 @@ use Rattle.std.specs.declared.option.Option.{Option}
 use Rattle.std.specs.declared.result.Result.{Result}
 use Rattle.std.specs.declared.result.Result.TheVariants.{Ok, Err}
 use Rattle.std.specs.Io.KnownBytes.{Consumes, Keeps}
-use Rattle.be_serving.specs.Run.{HasRead, ReadFault, ReadsAll, ReadsFew, IsLate}
+use Rattle.be_serving.specs.Run.{HasReadScript, ReadFault, ReadsAll, ReadsFew, IsLate}
 use Rattle.be_serving.specs.declared.faults.RunFault.{RunFault}
 use Rattle.be_serving.specs.declared.faults.RunFault.TheVariants.{Limits, Read, TooLong, Write, Memory}
 use Rattle.be_serving.proofs.RunLemmas.{all_read}
@@ -22,7 +22,7 @@ none_read None = ([], tt, omega arith)
 none_read (Some xs) = ([], refl, omega arith)
 
 -- a fault of the reading tells what was read
-pub read_by : (e : RunFault) (old new : Option (List ℕ)) → ReadFault e old new → HasRead e old new
+pub read_by : (e : RunFault) (old new : Option (List ℕ)) → ReadFault e old new → HasReadScript e old new
 read_by Limits old new h = absurd h
 read_by Read old new h = h
 read_by TooLong old new h = h
@@ -30,7 +30,7 @@ read_by Write old new h = absurd h
 read_by Memory old new h = h
 
 -- where the script was read whole, a later fault tells so too
-pub read_late : {T : Type 0} (r : Result T RunFault) (old new : Option (List ℕ)) (bytes : List ℕ) → IfErr r IsLate → ReadsAll old new bytes → length bytes ≤ 2 ^ 20 → IfErr r (λ e. HasRead e old new)
+pub read_late : {T : Type 0} (r : Result T RunFault) (old new : Option (List ℕ)) (bytes : List ℕ) → IfErr r IsLate → ReadsAll old new bytes → length bytes ≤ 2 ^ 20 → IfErr r (λ e. HasReadScript e old new)
 read_late (Ok x) old new bytes l h few = tt
 read_late (Err Limits) old new bytes l h few = absurd l
 read_late (Err Read) old new bytes l h few = absurd l

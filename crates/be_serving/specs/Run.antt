@@ -45,9 +45,9 @@ ReadFault Write old new = ⊥
 ReadFault Memory old new = ReadsFew old new
 
 -- What was read where a run stopped: too many bytes exactly where the script is too long.
-abbrev pub HasRead : RunFault → Option (List ℕ) → Option (List ℕ) → Type 0
-HasRead TooLong old new = ReadsMany old new
-HasRead e old new = ReadsFew old new
+abbrev pub HasReadScript : RunFault → Option (List ℕ) → Option (List ℕ) → Type 0
+HasReadScript TooLong old new = ReadsMany old new
+HasReadScript e old new = ReadsFew old new
 
 -- What a fault leaves. Where the script was not read whole or was too long, nothing was written; else the front of an output.
 abbrev pub Leaves : RunFault → Store → Option (List ℕ) → Option (List ℕ) → Option (List ℕ) → Type 0

@@ -198,7 +198,7 @@ pub fn serve<S: Server, R: Read, W: Write>(
         spec.Wrote (W.contents writer.old) (W.contents writer.new) (outputs.IsOutputFrom (S.shows server.old) script))) }
     ensures fault { IfErr result (λ e. spec.Leaves e (S.shows server.old) (R.remaining reader.old) (W.contents writer.old) (W.contents writer.new)) }
     ensures fits { OnOk result (IfSome (R.remaining reader.old) (λ script. length script ≤ 2 ^ 20)) }
-    ensures taken { IfErr result (λ e. spec.HasRead e (R.remaining reader.old) (R.remaining reader.new)) }
+    ensures taken { IfErr result (λ e. spec.HasReadScript e (R.remaining reader.old) (R.remaining reader.new)) }
     ensures other { IfErr result spec.IsOther }
 {
     match read_script(alloc, reader) {
@@ -227,7 +227,7 @@ pub fn run<R: Read, W: Write>(
         spec.Wrote (W.contents writer.old) (W.contents writer.new) (outputs.IsOutput limits.commits script))) }
     ensures fits { OnOk result (IfSome (R.remaining reader.old) (λ script. length script ≤ 2 ^ 20)) }
     ensures fault { IfErr result (λ e. spec.Leaves e (start limits.commits) (R.remaining reader.old) (W.contents writer.old) (W.contents writer.new)) }
-    ensures taken { IfErr result (λ e. spec.HasRead e (R.remaining reader.old) (R.remaining reader.new)) }
+    ensures taken { IfErr result (λ e. spec.HasReadScript e (R.remaining reader.old) (R.remaining reader.new)) }
 {
     if !limits.are_within() {
         return Err(RunFault::Limits);
