@@ -1,5 +1,5 @@
 -- How a line is taken byte by byte.
-use Rattle.std.proofs.Common.{◌≡◌, ◌≤◌, ◌<◌, ℕ, Bool, true, false, nat_lt, All, List, [], ◌∷◌, ◌++◌, length, length-append, IfOk, Some, None, inl, inr, refl, sym, ap, ◌∙◌, subst, arith}
+use Rattle.std.proofs.Common.{◌≡◌, ◌≤◌, ◌<◌, ℕ, Bool, true, false, nat_lt, List, [], ◌∷◌, ◌++◌, length, length-append, IfOk, Some, None, inl, inr, refl, sym, ap, ◌∙◌, subst, arith}
 use Rattle.std.proofs.lemmas.Bool.Decides.{nat_tests}
 use Rattle.std.proofs.lemmas.List.{append-nil}
 use Rattle.std.proofs.lemmas.List.Elements.{All-nil, All-push}
@@ -9,8 +9,8 @@ use Rattle.std.specs.declared.result.Result.{Result}
 use Rattle.std.specs.declared.result.Result.TheVariants.{Ok, Err}
 use Rattle.be_serving.specs.Run.{is_line_end}
 use Rattle.be_serving.proofs.RunLemmas.{read_both}
-use Rattle.be_shell.specs.Bytes.{HasTaken, Hears, Moves, TakesLine}
-use Rattle.be_shell.specs.Conversation.{Event, Heard, short_line, long_line, hears, ends, says, flushes, fails}
+use Rattle.be_shell.specs.Bytes.{HasTaken, Hears, Moves}
+use Rattle.be_shell.specs.Conversation.{Event, short_line, long_line, hears, ends, says, flushes, fails}
 
 -- nothing was taken
 none_consumed : (known : Option (List ℕ)) → Consumes known known []

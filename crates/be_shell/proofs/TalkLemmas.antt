@@ -1,16 +1,22 @@
 -- How events and exchanges join into a conversation.
-use Rattle.std.proofs.Common.{◌≡◌, ℕ, Bool, true, false, List, [], ◌∷◌, ◌++◌, inl, inr, refl, sym, ap, ◌∙◌, subst, append_assoc}
-use Rattle.std.proofs.lemmas.List.{append-nil}
-use Rattle.be_language.specs.Reply.{Reply, none, text_of}
-use Rattle.be_language.specs.Request.{Request, silent, asked, lines_of}
-use Rattle.be_serving.specs.Output.{Session, Answered, Outputs, IsOutputTo, Serves, opening}
-use Rattle.be_serving.specs.Run.{IsFrontOf, IsOther}
-use Rattle.be_serving.specs.Store.{Store}
+use Rattle.std.proofs.Common.{◌≡◌, ℕ, ◌+◌, ◌^◌, Bool, true, false, List, [], ◌∷◌, ◌++◌, length-append, arith, inl, inr, refl, sym, ap, ◌∙◌, subst}
+use Rattle.std.specs.Result.{IfErr, IsErrAnd}
+use Rattle.std.specs.declared.result.Result.{Result}
+use Rattle.std.specs.declared.result.Result.TheVariants.{Ok, Err}
+use Rattle.be_language.specs.Reply.{none}
+use Rattle.be_language.specs.Request.{Request, silent}
+use Rattle.be_serving.specs.Output.{Session, Outputs, Serves}
+use Rattle.be_serving.specs.Run.{IsOther}
 use Rattle.be_serving.specs.declared.faults.RunFault.{RunFault}
 use Rattle.be_serving.specs.declared.faults.RunFault.TheVariants.{Limits, Read, TooLong, Write, Memory}
 use Rattle.be_serving.proofs.EndLemmas.{nothing_asked}
 use Rattle.be_serving.proofs.ReplyLemmas.{serves_at_once}
-use Rattle.be_shell.specs.Conversation.{Heard, short_line, Event, hears, ends, says, flushes, fails, RepliedTo, exchange, IsTalk, Happens, SoFar, TalkedTo, Went, IsCut, IsDeaf, IsBroken, Broke, BrokeBehind, BrokeOff, all_short, said}
+use Rattle.be_shell.specs.Conversation.{Heard, Event, hears, ends, says, flushes, fails, RepliedTo, exchange, IsTalk, Happens, SoFar, TalkedTo, Went, IsCut, IsDeaf, IsBroken, Broke, BrokeBehind, BrokeOff, all_short, said}
+
+-- a fault that is passed on
+pub passed_up : {T E : Type 0} (r : Result T E) (e : E) (P : E → Type 0) → IsErrAnd r (λ y. y ≡ e) → P e → IfErr r P
+passed_up (Ok x) e P is p = tt
+passed_up (Err y) e P is p = subst P (sym is) p
 
 -- what happens after what happened
 pub happens_both : {P : Type 0} (does : P → Event → P → Type 0) (xs ys : List Event) (p q r : P) → Happens does p xs q → Happens does q ys r → Happens does p (xs ++ ys) r
@@ -27,33 +33,41 @@ talk_more (first ∷ lines) s mid last talk line reply h r =
 
 module _ {P : Type 0} (does : P → Event → P → Type 0) where
   -- before the first line
-  pub none_yet : (s : Session) (p : P) → SoFar does s p s p
-  none_yet s p = ([], [], (refl, refl), refl)
+  pub none_yet : (s : Session) (p : P) → SoFar does s p 0 s p
+  none_yet s p = ([], [], (refl, refl), refl, refl)
 
   -- one line more was heard and replied to
-  pub one_more : (s mid last : Session) (p q r : P) (more : Bool) → SoFar does s p mid q → Went does mid q more last r → more ≡ true → SoFar does s p last r
-  one_more s mid last p q r more w g e =
+  pub one_more : (count : ℕ) (s mid last : Session) (p q r : P) (more : Bool) → SoFar does s p count mid q → Went does mid q more last r → more ≡ true →
+      SoFar does s p (count + 1) last r
+  one_more count s mid last p q r more w g e =
       let x : Went does mid q true last r = subst (λ (b : Bool). Went does mid q b last r) e g in
-      (w.0 ++ x.0 ∷ [], w.1 ++ exchange x.0 x.1, talk_more w.0 s mid last w.1 x.0 x.1 w.2 x.2, happens_both does w.1 (exchange x.0 x.1) p q r w.3 x.3)
+      (
+        w.0 ++ x.0 ∷ [],
+        w.1 ++ exchange x.0 x.1,
+        talk_more w.0 s mid last w.1 x.0 x.1 w.2 x.2,
+        happens_both does w.1 (exchange x.0 x.1) p q r w.3 x.3,
+        omega (arith, length-append w.0 (x.0 ∷ []), w.4),
+      )
 
   -- no more lines came
-  pub at_end : (s mid last : Session) (p q r : P) (more : Bool) → SoFar does s p mid q → Went does mid q more last r → more ≡ false → TalkedTo does s p last r
-  at_end s mid last p q r more w g e =
+  pub at_end : (count : ℕ) (s mid last : Session) (p q r : P) (more : Bool) → SoFar does s p count mid q → Went does mid q more last r → more ≡ false → TalkedTo does s p last r
+  at_end count s mid last p q r more w g e =
       let x : Went does mid q false last r = subst (λ (b : Bool). Went does mid q b last r) e g in
       (w.0, w.1, subst (λ (z : Session). IsTalk s w.0 w.1 z) (sym x.0) w.2, happens_both does w.1 (ends ∷ []) p q r w.3 x.1)
 
   -- an exchange was broken off
-  pub broken_off : (e : RunFault) (s mid : Session) (p q r : P) → SoFar does s p mid q → Broke does e mid q r → BrokeOff does e s p r
-  broken_off e s mid p q r w b = (w.0, w.1, mid, b.0, w.2, b.1, happens_both does w.1 b.0 p q r w.3 b.2)
+  pub broken_off : (e : RunFault) (count : ℕ) (s mid : Session) (p q r : P) → SoFar does s p count mid q → Broke does e mid q r → BrokeOff does e s p r
+  broken_off e count s mid p q r w b = (w.0, w.1, mid, b.0, w.2, inl b.1, happens_both does w.1 b.0 p q r w.3 b.2)
 
-  -- as many lines as can be counted
-  pub uncounted : (s mid : Session) (p q : P) → SoFar does s p mid q → BrokeOff does Read s p q
-  uncounted s mid p q w = broken_off Read s mid p q q w ([], inl refl, refl)
+  -- as many lines as are counted
+  pub uncounted : (count : ℕ) (s mid : Session) (p q : P) → SoFar does s p count mid q → count + 1 ≡ 2 ^ 64 → BrokeOff does Read s p q
+  uncounted count s mid p q w full =
+      (w.0, w.1, mid, [], w.2, inr (refl, ap (λ n. n + 1) w.4 ∙ full, refl), happens_both does w.1 [] p q q w.3 refl)
 
   -- hearing failed
   pub deaf : (e : RunFault) (s : Session) (p q : P) → IsDeaf e → does p fails q → Broke does e s p q
   deaf Limits s p q d h = absurd d
-  deaf Read s p q d h = (fails ∷ [], inr refl, (q, h, refl))
+  deaf Read s p q d h = (fails ∷ [], refl, (q, h, refl))
   deaf TooLong s p q d h = absurd d
   deaf Write s p q d h = absurd d
   deaf Memory s p q d h = (fails ∷ [], inl refl, (q, h, refl))

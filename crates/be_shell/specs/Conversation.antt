@@ -1,5 +1,5 @@
 -- What a conversation is: what is heard and said, and in which order.
-use Rattle.std.specs.Prelude.{◌≡◌, ◌⊎◌, ℕ, Bool, true, false, List, [], ◌∷◌, ◌++◌, map, Some, None}
+use Rattle.std.specs.Prelude.{◌≡◌, ◌⊎◌, ℕ, ◌+◌, ◌^◌, Bool, true, false, List, [], ◌∷◌, ◌++◌, length, map, Some, None}
 use Rattle.std.specs.declared.option.Option.{Option}
 use Rattle.be_language.specs.Reply.{Reply, text_of}
 use Rattle.be_language.specs.Request.{Request, malformed, asked}
@@ -58,9 +58,9 @@ abbrev pub Happens : {P : Type 0} → (P → Event → P → Type 0) → P → L
 Happens does p [] q = q ≡ p
 Happens {P} does p (event ∷ events) q = (mid : P) × does p event mid × Happens does mid events q
 
--- a peer that was talked to, from one session and state of the peer to others
-abbrev pub SoFar : {P : Type 0} → (P → Event → P → Type 0) → Session → P → Session → P → Type 0
-SoFar does s p mid q = (lines : List Heard) × (talk : List Event) × IsTalk s lines talk mid × Happens does p talk q
+-- a peer of which so many lines were heard and replied to, from one session and state of the peer to others
+abbrev pub SoFar : {P : Type 0} → (P → Event → P → Type 0) → Session → P → ℕ → Session → P → Type 0
+SoFar does s p count mid q = (lines : List Heard) × (talk : List Event) × IsTalk s lines talk mid × Happens does p talk q × (length lines ≡ count)
 
 -- a peer that was talked to until it had no more lines
 abbrev pub TalkedTo : {P : Type 0} → (P → Event → P → Type 0) → Session → P → Session → P → Type 0
@@ -84,10 +84,10 @@ IsDeaf Write = ⊥
 IsDeaf Memory = Unit {0}
 
 -- What a fault leaves of an exchange: no line was heard; or one was, and for want of memory nothing was said; or its reply
--- was cut off. Read comes with no event where as many lines were heard as can be counted.
+-- was cut off.
 abbrev pub IsBroken : RunFault → Session → List Event → Type 0
 IsBroken Limits s events = ⊥
-IsBroken Read s events = (events ≡ []) ⊎ (events ≡ fails ∷ [])
+IsBroken Read s events = events ≡ fails ∷ []
 IsBroken TooLong s events = ⊥
 IsBroken Write s events =
     (line : Heard) × (after : Session) × (reply : List ℕ) × (cut : List Event) × RepliedTo s line after reply × IsCut reply cut × (events ≡ hears line ∷ cut)
@@ -100,10 +100,15 @@ Broke does e s p q = (broken : List Event) × IsBroken e s broken × Happens doe
 abbrev pub BrokeBehind : {P : Type 0} → (P → Event → P → Type 0) → RunFault → Session → Heard → P → P → Type 0
 BrokeBehind does e s line p q = (broken : List Event) × IsBroken e s (hears line ∷ broken) × Happens does p broken q
 
--- A peer that was talked to until a fault broke off an exchange. Nothing is said behind that.
+-- What ends a conversation behind these lines: an exchange that a fault broke off; or that 2^64 - 1 lines were heard, as many as
+-- are counted, which is told as Read.
+abbrev pub IsCutShort : RunFault → Session → List Heard → List Event → Type 0
+IsCutShort e s lines events = IsBroken e s events ⊎ ((e ≡ Read) × (length lines + 1 ≡ 2 ^ 64) × (events ≡ []))
+
+-- A peer that was talked to until a fault. Nothing is said behind that.
 abbrev pub BrokeOff : {P : Type 0} → (P → Event → P → Type 0) → RunFault → Session → P → P → Type 0
 BrokeOff does e s p q =
-    (lines : List Heard) × (talk : List Event) × (mid : Session) × (broken : List Event) × IsTalk s lines talk mid × IsBroken e mid broken × Happens does p (talk ++ broken) q
+    (lines : List Heard) × (talk : List Event) × (mid : Session) × (broken : List Event) × IsTalk s lines talk mid × IsCutShort e mid lines broken × Happens does p (talk ++ broken) q
 
 -- a fault before a store was there
 abbrev pub IsUnopened : RunFault → Type 0

@@ -52,13 +52,9 @@ fn tell<P: Peer>(peer: &mut P, reply: &[u8]) -> Result<(), RunFault>
     ensures cut { IfErr result (λ e. (e ≡ RunFault.Write)
         × (cut : List spec.Event) × spec.IsCut reply.now cut × spec.Happens P.does peer.old cut peer.new) }
 {
-    match peer.say(reply) {
-        Ok(()) => match peer.flush() {
-            Ok(()) => Ok(()),
-            Err(fault) => Err(fault),
-        },
-        Err(fault) => Err(fault),
-    }
+    peer.say(reply)?;
+    peer.flush()?;
+    Ok(())
 }
 
 /// Runs a line that was heard, says its reply and sends it off.
@@ -78,13 +74,9 @@ fn serve_line<S: Server, P: Peer>(
     ensures stays { S.kept server.new ≡ S.kept server.old }
     ensures few { length (queued_ops client.new) ≤ 64 }
 {
-    match reply_to(alloc, server, client, line) {
-        Ok(reply) => match tell(peer, reply.as_bytes()) {
-            Ok(()) => Ok(()),
-            Err(fault) => Err(fault),
-        },
-        Err(fault) => Err(fault),
-    }
+    let reply = reply_to(alloc, server, client, line)?;
+    tell(peer, reply.as_bytes())?;
+    Ok(())
 }
 
 /// Hears a line, runs it, says its reply and sends it off. False where no more lines come.
@@ -101,17 +93,11 @@ fn exchange<S: Server, P: Peer>(
     ensures stays { S.kept server.new ≡ S.kept server.old }
     ensures few { length (queued_ops client.new) ≤ 64 }
 {
-    let next = match peer.hear(alloc, client.batch.is_some()) {
-        Ok(next) => next,
-        Err(fault) => return Err(fault),
+    let Some(line) = peer.hear(alloc, client.batch.is_some())? else {
+        return Ok(false);
     };
-    match next {
-        Some(line) => match serve_line(alloc, server, client, peer, &line) {
-            Ok(()) => Ok(true),
-            Err(fault) => Err(fault),
-        },
-        None => Ok(false),
-    }
+    serve_line(alloc, server, client, peer, &line)?;
+    Ok(true)
 }
 
 /// Talks with a peer until no more lines come, or until a fault.
@@ -135,13 +121,9 @@ pub fn converse<S: Server, P: Peer>(
     ensures few { length (queued_ops client.new) ≤ 64 }
 {
     for _lines in 0..u64::MAX {
-        match exchange(alloc, server, client, peer) {
-            Ok(more) => {
-                if !more {
-                    return Ok(());
-                }
-            }
-            Err(fault) => return Err(fault),
+        let more = exchange(alloc, server, client, peer)?;
+        if !more {
+            return Ok(());
         }
     }
     Err(RunFault::Read)

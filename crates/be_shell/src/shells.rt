@@ -34,11 +34,7 @@ pub fn shell<F: Peer, P: Peer>(
     };
     let mut server = PassServer::new(alloc, &store, pass);
     let mut client = Client::new();
-    match converse(alloc, &mut server, &mut client, first) {
-        Ok(()) => match converse(alloc, &mut server, &mut client, peer) {
-            Ok(()) => Ok(()),
-            Err(fault) => Err(fault),
-        },
-        Err(fault) => Err(fault),
-    }
+    converse(alloc, &mut server, &mut client, first)?;
+    converse(alloc, &mut server, &mut client, peer)?;
+    Ok(())
 }

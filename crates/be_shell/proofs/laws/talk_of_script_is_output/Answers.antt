@@ -1,4 +1,4 @@
-use Rattle.std.proofs.Common.{List, ℕ, [], ◌∷◌, ◌++◌, refl, sym, subst}
+use Rattle.std.proofs.Common.{List, ℕ, refl, sym, subst}
 use Rattle.be_language.specs.Request.{lines_of}
 use Rattle.be_serving.specs.Output.{Outputs, opening}
 use Rattle.be_shell.specs.Conversation.{said}
