@@ -1,5 +1,5 @@
 -- What others have made of a store.
-use Rattle.std.proofs.Common.{◌≡◌, ◌≢◌, ◌+◌, ℕ, Bool, cond, ne_eqb, List, [], ◌∷◌, ◌++◌, All, fold, refl, sym, ap, ◌∙◌, arith}
+use Rattle.std.proofs.Common.{◌≡◌, ◌≢◌, ℕ, Bool, cond, ne_eqb, List, [], ◌∷◌, ◌++◌, All, fold, refl, sym, ap, ◌∙◌, arith}
 use Rattle.std.proofs.lemmas.List.{append-nil}
 use Rattle.std.proofs.lemmas.List.Elements.{All-nil, All-head, All-tail}
 use Rattle.be_journal.specs.declared.entries.Entry.{Entry}

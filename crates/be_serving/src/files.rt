@@ -43,8 +43,9 @@ fn stop_at<R: Files + Input>(
     (place, RunFault::TooLong)
 }
 
-/// Reads the scripts of these files, in their order; `-` is standard input, of which a second `-` finds nothing left. The first that can't be read ends it: which one that is, from 0, and
-/// Read or Memory. Where all can be read and some are too long, it is the first of these, and TooLong.
+/// Reads the scripts of these files, in their order; `-` is standard input, of which a second `-` finds nothing left. The
+/// first that can't be read ends it: which one that is, from 0, and Read or Memory. Where all can be read and some are too
+/// long, it is the first of these, and TooLong.
 pub fn read_files<R: Files + Input>(
     rt: &R,
     alloc: Global,
