@@ -103,13 +103,7 @@ pub fn task<'a>(alloc: Global, words: &'a [&'a str]) -> Result<Task, Error>
         .subcommand(race_command(alloc)?)?
         .subcommand(shell_command(alloc)?)?;
     let matches = command.try_get_matches_from_mut(words)?;
-    let found = match matches.subcommand() {
-        Some(("run", found)) => run_task(alloc, found)?,
-        Some(("race", found)) => race_task(alloc, found)?,
-        Some(("shell", found)) => shell_task(alloc, found)?,
-        _ => return Err(command.error(ErrorKind::InvalidSubcommand, "no such command")?),
-    };
-    match found {
+    match task_of(alloc, &matches)? {
         Some(task) => Ok(task),
         None => Err(command.error(ErrorKind::InvalidValue, "a value is out of its range")?),
     }
@@ -189,4 +183,16 @@ fn shell_task(alloc: Global, matches: &ArgMatches) -> Result<Option<Task>, Alloc
         return Ok(None);
     };
     Ok(Some(Task::Shell(file_of(alloc, matches)?, limits)))
+}
+
+/// The task of the command, where there is one and its values are within their ranges, as `clap` has seen to.
+fn task_of(alloc: Global, matches: &ArgMatches) -> Result<Option<Task>, AllocError>
+    ensures { IfOk result (λ task. IfSome task IsTask) }
+{
+    match matches.subcommand() {
+        Some(("run", found)) => run_task(alloc, found),
+        Some(("race", found)) => race_task(alloc, found),
+        Some(("shell", found)) => shell_task(alloc, found),
+        _ => Ok(None),
+    }
 }
