@@ -1,16 +1,21 @@
 -- What a command line may ask for.
-use Rattle.std.specs.Prelude.{◌≡◌, ◌≤◌, false, vec_len}
+use Rattle.std.specs.Prelude.{◌≡◌, ◌≤◌, vec_len}
 use Rattle.be_table.specs.declared.limits.Limits.{Limits}
 use Rattle.be_table.specs.Rule.{IsWithin}
 use Rattle.be_command_line.specs.declared.tasks.Task.{Task}
+use Rattle.be_command_line.specs.declared.tasks.Task.TheVariants.{Run, Race, Shell}
 
 -- the limits with one pass, whatever their own number of passes
 abbrev pub for_one : Limits → Limits
 for_one limits = record limits { passes = 1 }
 
--- The pages and commits are within their ranges, there is a script, each script has a pass, and `run` has one.
-pub record IsTask (task : Task) : Type 0 where
-  pub limits : IsWithin (for_one task.limits)
-  pub some : 1 ≤ vec_len task.files
-  pub passes : task.limits.passes ≡ vec_len task.files
-  pub one : task.race ≡ false → vec_len task.files ≡ 1
+-- limits in range, of a store of one pass
+abbrev pub AreForOne : Limits → Type 0
+AreForOne limits = IsWithin limits × (limits.passes ≡ 1)
+
+-- The pages and commits are within their ranges. A run and a shell have one pass; a race has a script, and each of its
+-- scripts a pass.
+abbrev pub IsTask : Task → Type 0
+IsTask (Run file limits) = AreForOne limits
+IsTask (Race files limits) = IsWithin (for_one limits) × (1 ≤ vec_len files) × (limits.passes ≡ vec_len files)
+IsTask (Shell file limits) = AreForOne limits

@@ -1,9 +1,10 @@
 //! The command line.
 //!
-//! `bestore run [--pages N] [--commits N] FILE` and `bestore race [--pages N] [--commits N] SCRIPT...`. `clap` reads the
-//! words, writes the help and tells what is wrong. How many scripts a race takes is for the program to look at.
+//! `bestore run [--pages N] [--commits N] FILE`, `bestore race [--pages N] [--commits N] SCRIPT...`, and
+//! `bestore shell [--pages N] [--commits N] [FILE]`. `clap` reads the words, writes the help and the version, and tells what
+//! is wrong. How many scripts a race takes is for the program to look at.
 ghost use Rattle.std.specs.Prelude.{IfOk, IfSome};
-ghost use Rattle.be_command_line.specs.Task.{IsTask};
+ghost use Rattle.be_command_line.specs.Task.{AreForOne, IsTask};
 
 use crate::Task;
 use be_serving::Limits;
@@ -11,7 +12,10 @@ use clap::error::ErrorKind;
 use clap::{Arg, ArgAction, ArgMatches, Command, Error, value_parser};
 use std::alloc::{AllocError, Global};
 
-/// The argument of `run`, as help shows it.
+/// The program's version. It stands nowhere else.
+const VERSION: &str = "0.1.0";
+
+/// The argument of `run` and `shell`, as help shows it.
 const FILE: &str = "FILE";
 
 /// The arguments of `race`.
@@ -63,7 +67,7 @@ fn command<'a>(
 
 fn run_command<'a>(alloc: Global, help: &'a Help) -> Result<Command<'a>, AllocError> {
     let file = Arg::new(alloc, FILE)
-        .help("The script, a command a line")
+        .help("The script, a command a line; - is standard input")
         .required(true)
         .action(ArgAction::Set);
     command(
@@ -77,7 +81,7 @@ fn run_command<'a>(alloc: Global, help: &'a Help) -> Result<Command<'a>, AllocEr
 
 fn race_command<'a>(alloc: Global, help: &'a Help) -> Result<Command<'a>, AllocError> {
     let scripts = Arg::new(alloc, SCRIPT)
-        .help("The scripts, two to four")
+        .help("The scripts, two to four; - is standard input, once")
         .required(true)
         .num_args(1..)
         .action(ArgAction::Append);
@@ -90,8 +94,21 @@ fn race_command<'a>(alloc: Global, help: &'a Help) -> Result<Command<'a>, AllocE
     )
 }
 
-/// Reads the words of a command line, which begin with the program's name. An error is `clap`'s: a request for help, a
-/// fault of the command line, or, told by its kind, a want of memory.
+fn shell_command<'a>(alloc: Global, help: &'a Help) -> Result<Command<'a>, AllocError> {
+    let file = Arg::new(alloc, FILE)
+        .help("Lines that are run first")
+        .action(ArgAction::Set);
+    command(
+        alloc,
+        "shell",
+        "Answer each line of standard input when it comes",
+        help,
+        file,
+    )
+}
+
+/// Reads the words of a command line, which begin with the program's name. An error is `clap`'s: a request for help or for
+/// the version, a fault of the command line, or, told by its kind, a want of memory.
 pub fn task<'a>(alloc: Global, words: &'a [&'a str]) -> Result<Task, Error>
     ensures { IfOk result IsTask }
 {
@@ -100,64 +117,102 @@ pub fn task<'a>(alloc: Global, words: &'a [&'a str]) -> Result<Task, Error>
         .about(
             "A shared attribute store in memory, with the attributes, indices and queries of BeOS",
         )
+        .version(VERSION)
         .subcommand_required(true)
         .subcommand(run_command(alloc, &help)?)?
-        .subcommand(race_command(alloc, &help)?)?;
+        .subcommand(race_command(alloc, &help)?)?
+        .subcommand(shell_command(alloc, &help)?)?;
     let matches = command.try_get_matches_from_mut(words)?;
-    let (found, files, race) = match matches.subcommand() {
-        Some(("run", found)) => (found, FILE, false),
-        Some(("race", found)) => (found, SCRIPT, true),
-        _ => return Err(command.error(ErrorKind::InvalidSubcommand, "no such command")?),
-    };
-    match task_of(alloc, found, files, race)? {
+    match task_of(alloc, &matches)? {
         Some(task) => Ok(task),
         None => Err(command.error(ErrorKind::InvalidValue, "a value is out of its range")?),
     }
 }
 
-/// The names of the files.
-fn files_of(alloc: Global, matches: &ArgMatches, id: &str) -> Result<Vec<String>, AllocError> {
+/// The limits of a store of one pass, where they are within their ranges, as `clap` has seen to.
+fn limits_of(matches: &ArgMatches) -> Option<Limits>
+    ensures { IfSome result AreForOne }
+{
+    let (Some(pages), Some(commits)) = (
+        matches.get_one::<u64>("pages"),
+        matches.get_one::<u64>("commits"),
+    ) else {
+        return None;
+    };
+    let limits = Limits {
+        pages,
+        passes: 1,
+        commits,
+    };
+    if !limits.are_within() {
+        return None;
+    }
+    Some(limits)
+}
+
+/// The name of the one file, if there is one.
+fn file_of(alloc: Global, matches: &ArgMatches) -> Result<Option<String>, AllocError> {
+    match matches.get_strs(FILE).unwrap_or(&[]).first() {
+        Some(file) => Ok(Some(String::from_str(alloc, file)?)),
+        None => Ok(None),
+    }
+}
+
+/// The names of the files of a race.
+fn files_of(alloc: Global, matches: &ArgMatches) -> Result<Vec<String>, AllocError> {
     let mut files = Vec::new(alloc);
-    for file in matches.get_strs(id).unwrap_or(&[]) {
+    for file in matches.get_strs(SCRIPT).unwrap_or(&[]) {
         files.push(String::from_str(alloc, file)?)?;
     }
     Ok(files)
 }
 
-/// The task of a command, where its values are within their ranges, as `clap` has seen to.
-fn task_of(
-    alloc: Global,
-    matches: &ArgMatches,
-    id: &str,
-    race: bool,
-) -> Result<Option<Task>, AllocError>
+fn run_task(alloc: Global, matches: &ArgMatches) -> Result<Option<Task>, AllocError>
     ensures { IfOk result (λ task. IfSome task IsTask) }
 {
-    let files = files_of(alloc, matches, id)?;
-    let (Some(pages), Some(commits)) = (
-        matches.get_one::<u64>("pages"),
-        matches.get_one::<u64>("commits"),
-    ) else {
+    let Some(limits) = limits_of(matches) else {
         return Ok(None);
     };
-    let limits = Limits {
-        pages,
-        passes: files.len() as u64,
-        commits,
+    match file_of(alloc, matches)? {
+        Some(file) => Ok(Some(Task::Run(file, limits))),
+        None => Ok(None),
+    }
+}
+
+fn race_task(alloc: Global, matches: &ArgMatches) -> Result<Option<Task>, AllocError>
+    ensures { IfOk result (λ task. IfSome task IsTask) }
+{
+    let files = files_of(alloc, matches)?;
+    let Some(limits) = limits_of(matches) else {
+        return Ok(None);
     };
-    let one = Limits {
-        passes: 1,
+    if files.is_empty() {
+        return Ok(None);
+    }
+    let limits = Limits {
+        passes: files.len() as u64,
         ..limits
     };
-    if !one.are_within() {
+    Ok(Some(Task::Race(files, limits)))
+}
+
+fn shell_task(alloc: Global, matches: &ArgMatches) -> Result<Option<Task>, AllocError>
+    ensures { IfOk result (λ task. IfSome task IsTask) }
+{
+    let Some(limits) = limits_of(matches) else {
         return Ok(None);
+    };
+    Ok(Some(Task::Shell(file_of(alloc, matches)?, limits)))
+}
+
+/// The task of the command, where there is one and its values are within their ranges, as `clap` has seen to.
+fn task_of(alloc: Global, matches: &ArgMatches) -> Result<Option<Task>, AllocError>
+    ensures { IfOk result (λ task. IfSome task IsTask) }
+{
+    match matches.subcommand() {
+        Some(("run", found)) => run_task(alloc, found),
+        Some(("race", found)) => race_task(alloc, found),
+        Some(("shell", found)) => shell_task(alloc, found),
+        _ => Ok(None),
     }
-    if files.is_empty() || !race && files.len() != 1 {
-        return Ok(None);
-    }
-    Ok(Some(Task {
-        race,
-        limits,
-        files,
-    }))
 }

@@ -1,13 +1,13 @@
 //! What a command line asks for.
 use be_serving::Limits;
 
-/// What a command line asks for.
+/// What a command line asks for. The limits are as given, or 1024 pages and 1000000 commits. The file `-` is standard input.
 #[derive(Drop)]
-pub struct Task {
-    /// Whether scripts are raced against one another.
-    pub race: bool,
-    /// As given, or 1024 pages and 1000000 commits; as many passes as scripts.
-    pub limits: Limits,
-    /// The scripts' files.
-    pub files: Vec<String>,
+pub enum Task {
+    /// To run the script of a file, on a store of one pass.
+    Run(String, Limits),
+    /// To race the scripts of these files against one another, on a store with a pass for each.
+    Race(Vec<String>, Limits),
+    /// To talk with standard input about a store of one pass, behind the lines of a file where one is named.
+    Shell(Option<String>, Limits),
 }

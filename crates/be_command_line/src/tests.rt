@@ -24,87 +24,101 @@ fn task_of(alloc: Global, words: &'static [&'static str]) -> Result<Task, Error>
 
 /// The pages, passes and commits of a task.
 fn numbers(task: &Task) -> (u64, u64, u64) {
-    let limits = task.limits;
+    let limits = match task {
+        Task::Run(_, limits) | Task::Race(_, limits) | Task::Shell(_, limits) => limits,
+    };
     (limits.pages, limits.passes, limits.commits)
 }
 
-/// The words of a run, with the defaults and without.
-#[test]
-fn plan_source(rt: HostRuntime) -> Result<(), Fail> {
-    let Ok(found) = task_of(rt.alloc(), &["bestore", "run", "f"]) else {
-        return Err(Fail::new("no task"));
-    };
-    assert!(rt; !found.race);
-    assert_eq!(rt; numbers(&found), (1024, 1, 1_000_000));
-    assert_eq!(rt; found.files.len(), 1);
-    assert_eq!(rt; found.files[0].as_str(), "f");
-    let Ok(found) = task_of(
-        rt.alloc(),
-        &["bestore", "run", "--pages", "8", "--commits", "1", "f"],
-    ) else {
-        return Err(Fail::new("no task"));
-    };
-    assert_eq!(rt; numbers(&found), (8, 1, 1));
-    Ok(())
-}
-
-/// The words of a race: each script has a pass. How many there may be isn't looked at here.
-#[test]
-fn races(rt: HostRuntime) -> Result<(), Fail> {
-    for (words, count) in [
-        (["bestore", "race", "a"].as_slice(), 1),
-        (&["bestore", "race", "a", "b"], 2),
-        (&["bestore", "race", "a", "b", "c", "d", "e"], 5),
-    ] {
-        let Ok(found) = task_of(rt.alloc(), words) else {
-            return Err(Fail::new("no task"));
-        };
-        assert!(rt; found.race);
-        assert_eq!(rt; numbers(&found), (1024, count, 1_000_000));
-        assert_eq!(rt; found.files.len() as u64, count);
-        assert_eq!(rt; found.files[0].as_str(), "a");
+/// The command of a task.
+fn name_of(task: &Task) -> &'static str {
+    match task {
+        Task::Run(..) => "run",
+        Task::Race(..) => "race",
+        Task::Shell(..) => "shell",
     }
-    let Ok(found) = task_of(
-        rt.alloc(),
-        &[
-            "bestore",
-            "race",
-            "--commits",
-            "9",
-            "a",
-            "b",
-            "--pages",
-            "64",
-            "c",
-        ],
-    ) else {
-        return Err(Fail::new("no task"));
-    };
-    assert_eq!(rt; numbers(&found), (64, 3, 9));
-    assert_eq!(rt; found.files.len(), 3);
-    assert_eq!(rt; found.files[2].as_str(), "c");
-    Ok(())
 }
 
-/// Fails unless the words ask for this: whether to race, the pages, passes and commits, and the files in their order.
+/// The file at a place of a task, if it has so many.
+fn file_at(task: &Task, place: usize) -> Option<&str> {
+    match task {
+        Task::Run(file, _) | Task::Shell(Some(file), _) if place == 0 => Some(file.as_str()),
+        Task::Race(files, _) => files.get(place).map(|file| file.as_str()),
+        _ => None,
+    }
+}
+
+/// Whether these are the files of a task, in their order.
+fn has_files(task: &Task, files: &[&str]) -> bool {
+    for (place, name) in files.iter().enumerate() {
+        if file_at(task, place) != Some(*name) {
+            return false;
+        }
+    }
+    file_at(task, files.len()).is_none()
+}
+
+/// Fails unless the words ask for this: the command, the pages, passes and commits, and the files in their order.
 fn check_task(
     rt: &impl Abort,
     alloc: Global,
     words: &'static [&'static str],
-    race: bool,
+    name: &str,
     limits: (u64, u64, u64),
     files: &[&str],
 ) -> Result<(), Fail> {
     let Ok(found) = task_of(alloc, words) else {
         return Err(Fail::new("no task"));
     };
-    assert_eq!(rt; found.race, race);
+    assert_eq!(rt; name_of(&found), name);
     assert_eq!(rt; numbers(&found), limits);
-    assert_eq!(rt; found.files.len(), files.len());
-    for (file, name) in found.files.iter().zip(files) {
-        assert_eq!(rt; file.as_str(), *name);
-    }
+    assert!(rt; has_files(&found, files));
     Ok(())
+}
+
+/// The words of a run, with the defaults and without. `-` is a file's name here.
+#[test]
+fn runs(rt: HostRuntime) -> Result<(), Fail> {
+    let alloc = rt.alloc();
+    let words = &["bestore", "run", "f"];
+    check_task(&rt, alloc, words, "run", (1024, 1, 1_000_000), &["f"])?;
+    let words = &["bestore", "run", "-"];
+    check_task(&rt, alloc, words, "run", (1024, 1, 1_000_000), &["-"])?;
+    let words = &["bestore", "run", "--pages", "8", "--commits", "1", "f"];
+    check_task(&rt, alloc, words, "run", (8, 1, 1), &["f"])
+}
+
+/// The words of a shell, with a file and without.
+#[test]
+fn shells(rt: HostRuntime) -> Result<(), Fail> {
+    let alloc = rt.alloc();
+    let words = &["bestore", "shell"];
+    check_task(&rt, alloc, words, "shell", (1024, 1, 1_000_000), &[])?;
+    let words = &["bestore", "shell", "--pages", "8", "--commits", "1", "f"];
+    check_task(&rt, alloc, words, "shell", (8, 1, 1), &["f"])
+}
+
+/// The words of a race: each script has a pass. How many there may be isn't looked at here.
+#[test]
+fn races(rt: HostRuntime) -> Result<(), Fail> {
+    let alloc = rt.alloc();
+    let words = &["bestore", "race", "a"];
+    check_task(&rt, alloc, words, "race", (1024, 1, 1_000_000), &["a"])?;
+    let words = &["bestore", "race", "a", "b", "c", "d", "e"];
+    let files = &["a", "b", "c", "d", "e"];
+    check_task(&rt, alloc, words, "race", (1024, 5, 1_000_000), files)?;
+    let words = &[
+        "bestore",
+        "race",
+        "--commits",
+        "9",
+        "a",
+        "b",
+        "--pages",
+        "64",
+        "c",
+    ];
+    check_task(&rt, alloc, words, "race", (64, 3, 9), &["a", "b", "c"])
 }
 
 /// Options in either order, before the files and behind them, and names of commands as names of files: each stands for
@@ -113,17 +127,17 @@ fn check_task(
 fn words_exchanged(rt: HostRuntime) -> Result<(), Fail> {
     let alloc = rt.alloc();
     let words = &["bestore", "run", "--commits", "9", "--pages", "64", "f"];
-    check_task(&rt, alloc, words, false, (64, 1, 9), &["f"])?;
+    check_task(&rt, alloc, words, "run", (64, 1, 9), &["f"])?;
     let words = &["bestore", "run", "f", "--pages", "9", "--commits", "64"];
-    check_task(&rt, alloc, words, false, (9, 1, 64), &["f"])?;
+    check_task(&rt, alloc, words, "run", (9, 1, 64), &["f"])?;
     let words = &["bestore", "run", "race"];
-    check_task(&rt, alloc, words, false, (1024, 1, 1_000_000), &["race"])?;
+    check_task(&rt, alloc, words, "run", (1024, 1, 1_000_000), &["race"])?;
     let words = &["bestore", "race", "run", "race"];
     check_task(
         &rt,
         alloc,
         words,
-        true,
+        "race",
         (1024, 2, 1_000_000),
         &["run", "race"],
     )?;
@@ -138,7 +152,7 @@ fn words_exchanged(rt: HostRuntime) -> Result<(), Fail> {
         "9",
         "b",
     ];
-    check_task(&rt, alloc, words, true, (64, 3, 9), &["b", "a", "b"])
+    check_task(&rt, alloc, words, "race", (64, 3, 9), &["b", "a", "b"])
 }
 
 /// Command lines that ask for nothing, each with the kind of its fault.
@@ -177,6 +191,13 @@ fn faults(rt: HostRuntime) -> Result<(), Fail> {
         (&["bestore", "--help"], ErrorKind::DisplayHelp),
         (&["bestore", "run", "--help"], ErrorKind::DisplayHelp),
         (&["bestore", "race", "--help"], ErrorKind::DisplayHelp),
+        (&["bestore", "shell", "--help"], ErrorKind::DisplayHelp),
+        (&["bestore", "--version"], ErrorKind::DisplayVersion),
+        (&["bestore", "shell", "f", "g"], ErrorKind::UnknownArgument),
+        (
+            &["bestore", "shell", "--pages", "7"],
+            ErrorKind::ValueValidation,
+        ),
     ] {
         match task_of(rt.alloc(), words) {
             Ok(_) => return Err(Fail::new("a task")),

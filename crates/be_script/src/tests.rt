@@ -13,6 +13,7 @@ mod plain;
 mod pools;
 mod races;
 mod readings;
+mod talks;
 
 use crate::{Limits, RunFault, run};
 use be_serving::serve;

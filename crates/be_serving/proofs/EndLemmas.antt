@@ -11,7 +11,7 @@ use Rattle.be_serving.proofs.ReplyLemmas.{serves_at_once}
 use Rattle.be_serving.proofs.RunLemmas.{finish, none_written}
 
 -- an empty line asks for nothing
-nothing_asked : asked [] ≡ silent
+pub nothing_asked : asked [] ≡ silent
 unfolding is_utf8 chars
 nothing_asked = refl
 

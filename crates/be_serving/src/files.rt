@@ -9,11 +9,14 @@ use std::alloc::Global;
 use std::fs;
 use std::rt::Files;
 
-/// Reads a file whole, as a script. A file that can't be opened is one that can't be read.
-fn read_file<R: Files>(rt: &R, alloc: Global, file: &str) -> Result<Vec<u8>, RunFault>
+/// Reads a file whole, as a script; `-` is standard input. A file that can't be opened is one that can't be read.
+fn read_file<R: Files + Input>(rt: &R, alloc: Global, file: &str) -> Result<Vec<u8>, RunFault>
     ensures fits { IfOk result (λ script. vec_len script ≤ 2 ^ 20) }
     ensures early { IfErr result IsEarly }
 {
+    if file == "-" {
+        return read_script(alloc, &mut rt.reader());
+    }
     match fs::open(rt, file) {
         Ok(mut script) => read_script(alloc, &mut script),
         Err(_) => Err(RunFault::Read),
@@ -22,7 +25,12 @@ fn read_file<R: Files>(rt: &R, alloc: Global, file: &str) -> Result<Vec<u8>, Run
 
 /// What ends the reading where the file at this place is too long: the first file behind it that can't be read, or else
 /// this one.
-fn stop_at<R: Files>(rt: &R, alloc: Global, files: &[String], place: usize) -> (usize, RunFault)
+fn stop_at<R: Files + Input>(
+    rt: &R,
+    alloc: Global,
+    files: &[String],
+    place: usize,
+) -> (usize, RunFault)
     requires { place < length files.now }
     ensures { (result.0 < length files.now) × IsEarly result.1 }
 {
@@ -35,9 +43,10 @@ fn stop_at<R: Files>(rt: &R, alloc: Global, files: &[String], place: usize) -> (
     (place, RunFault::TooLong)
 }
 
-/// Reads the scripts of these files, in their order. The first that can't be read ends it: which one that is, from 0, and
-/// Read or Memory. Where all can be read and some are too long, it is the first of these, and TooLong.
-pub fn read_files<R: Files>(
+/// Reads the scripts of these files, in their order; `-` is standard input, of which a second `-` finds nothing left. The
+/// first that can't be read ends it: which one that is, from 0, and Read or Memory. Where all can be read and some are too
+/// long, it is the first of these, and TooLong.
+pub fn read_files<R: Files + Input>(
     rt: &R,
     alloc: Global,
     files: &[String],

@@ -32,7 +32,7 @@ pub(crate) const MAX_SCRIPT: usize = 1 << 20;
 const MAX_READS: u64 = (1 << 20) + 2;
 
 /// Writes all the bytes. After a fault their front was written.
-pub(crate) fn put<W: Write>(writer: &mut W, bytes: &[u8]) -> Result<(), RunFault>
+pub fn put<W: Write>(writer: &mut W, bytes: &[u8]) -> Result<(), RunFault>
     ensures ok { OnOk result (Appends (W.contents writer.old) (W.contents writer.new) bytes.now) }
     ensures err { OnErr result (spec.Wrote (W.contents writer.old) (W.contents writer.new) (spec.IsFrontOf bytes.now)) }
     ensures fault { IfErr result (λ e. e ≡ RunFault.Write) }

@@ -1,15 +1,18 @@
-//! `bestore`: runs a script and writes the reply to each of its lines to standard output, or races scripts against one
-//! another and writes the replies of each and their journal.
+//! `bestore`: runs a script and writes the reply to each of its lines to standard output, races scripts against one
+//! another and writes the replies of each and their journal, or answers the lines of standard input as they come.
 //!
-//! The status is 0 for a run or a race to its end and for a request for help, 2 for a command line that says nothing that
-//! can be done, and 1, with one line on standard error, where a run or a race stopped before its end.
+//! The status is 0 for a run, a race or a shell to its end and for a request for help or for the version, 2 for a command
+//! line that says nothing that can be done, and 1, with one line on standard error, where it stopped before its end.
+//! Replies go through a buffer, which is written before the program ends; a shell writes each reply when it has it.
 #![tactic(auto)]
 
-use be_script::{Limits, OpenGate, RunFault, Task, race, read_files, run, task};
+use be_script::{
+    Ends, Limits, OpenGate, Peer, RunFault, Task, Terminal, race, read_files, run, shell, task,
+};
 use clap::Error;
 use clap::error::ErrorKind;
 use std::alloc::AllocGlobal;
-use std::io::{Eprint, Print};
+use std::io::{BufReader, BufWriter, Eprint, IsTerminal, Print, Read, Write};
 use std::process::ExitCode;
 use std::rt::Runtime;
 use std::sync::Wait;
@@ -41,14 +44,45 @@ fn reason(fault: RunFault) -> &'static str {
     }
 }
 
-fn run_file<R: Runtime + AllocGlobal>(rt: &R, file: &str, limits: Limits) -> io::Result<ExitCode> {
-    let Ok(mut script) = fs::open(rt, file) else {
-        return fail_to_read(rt, file);
+/// The name that stands for standard input.
+const STANDARD_INPUT: &str = "-";
+
+/// Writes what the buffer still has, however the work ended. A failure is one only of work that went well.
+fn finish<W: Write + Drop>(
+    mut writer: BufWriter<W>,
+    worked: Result<(), RunFault>,
+) -> Result<(), RunFault> {
+    match (writer.flush(), worked) {
+        (Err(_), Ok(())) => Err(RunFault::Write),
+        (_, worked) => worked,
+    }
+}
+
+/// Runs a script that comes from a reader.
+fn run_from<R: Runtime + AllocGlobal, I: Read>(
+    rt: &R,
+    file: &str,
+    script: &mut I,
+    limits: Limits,
+) -> io::Result<ExitCode> {
+    let Ok(mut writer) = BufWriter::new(rt.alloc(), io::writer(rt)) else {
+        return fail(rt, reason(RunFault::Memory));
     };
-    match run(rt.alloc(), &mut script, &mut io::writer(rt), limits) {
+    let ran = run(rt.alloc(), script, &mut writer, limits);
+    match finish(writer, ran) {
         Ok(()) => Ok(ExitCode::SUCCESS),
         Err(RunFault::Read) => fail_to_read(rt, file),
         Err(fault) => fail(rt, reason(fault)),
+    }
+}
+
+fn run_file<R: Runtime + AllocGlobal>(rt: &R, file: &str, limits: Limits) -> io::Result<ExitCode> {
+    if file == STANDARD_INPUT {
+        return run_from(rt, file, &mut rt.reader(), limits);
+    }
+    match fs::open(rt, file) {
+        Ok(mut script) => run_from(rt, file, &mut script, limits),
+        Err(_) => fail_to_read(rt, file),
     }
 }
 
@@ -62,6 +96,15 @@ fn race_files<R: Runtime + AllocGlobal + Threads + Wait + Sync>(
         eprintln!(rt; "bestore: race takes two to four scripts")?;
         return Ok(ExitCode::from(MISUSED));
     }
+    if files
+        .iter()
+        .filter(|file| file.as_str() == STANDARD_INPUT)
+        .count()
+        > 1
+    {
+        eprintln!(rt; "bestore: - may stand for one script")?;
+        return Ok(ExitCode::from(MISUSED));
+    }
     let scripts = match read_files(rt, rt.alloc(), files) {
         Ok(scripts) => scripts,
         Err((place, RunFault::Read)) => return fail_to_read(rt, files[place].as_str()),
@@ -71,34 +114,78 @@ fn race_files<R: Runtime + AllocGlobal + Threads + Wait + Sync>(
         passes: scripts.len() as u64,
         ..limits
     };
-    match race(
-        rt,
-        rt.alloc(),
-        scripts,
-        limits,
-        &OpenGate,
-        &mut io::writer(rt),
-    ) {
-        Ok(true) => Ok(ExitCode::SUCCESS),
-        Ok(false) => Ok(ExitCode::FAILURE),
+    let Ok(mut writer) = BufWriter::new(rt.alloc(), io::writer(rt)) else {
+        return fail(rt, reason(RunFault::Memory));
+    };
+    let (legal, raced) = match race(rt, rt.alloc(), scripts, limits, &OpenGate, &mut writer) {
+        Ok(legal) => (legal, Ok(())),
+        Err(fault) => (false, Err(fault)),
+    };
+    match finish(writer, raced) {
+        Ok(()) if legal => Ok(ExitCode::SUCCESS),
+        Ok(()) => Ok(ExitCode::FAILURE),
         Err(fault) => fail(rt, reason(fault)),
     }
+}
+
+/// Talks with standard input, behind a first peer. At a terminal it greets and prompts.
+fn talk<R: Runtime + AllocGlobal, F: Peer>(
+    rt: &R,
+    first: &mut F,
+    limits: Limits,
+    is_terminal: bool,
+) -> io::Result<ExitCode> {
+    let Ok(reader) = BufReader::new(rt.alloc(), rt.reader()) else {
+        return fail(rt, reason(RunFault::Memory));
+    };
+    let mut ends = Ends::new(reader, io::writer(rt));
+    let talked = if is_terminal {
+        eprintln!(rt; "bestore: a line is answered when it comes; the end of input ends it")?;
+        shell(rt.alloc(), first, &mut Terminal::new(rt, ends), limits)
+    } else {
+        shell(rt.alloc(), first, &mut ends, limits)
+    };
+    match talked {
+        Ok(()) => Ok(ExitCode::SUCCESS),
+        Err(RunFault::Read) => fail(rt, "cannot read a line"),
+        Err(fault) => fail(rt, reason(fault)),
+    }
+}
+
+/// Talks with standard input, behind the lines of a file where one is named.
+fn open_shell<R: Runtime + AllocGlobal>(
+    rt: &R,
+    file: &Option<String>,
+    limits: Limits,
+    is_terminal: bool,
+) -> io::Result<ExitCode> {
+    let Some(file) = file else {
+        let mut nothing = Ends::new(b"".as_slice(), io::writer(rt));
+        return talk(rt, &mut nothing, limits, is_terminal);
+    };
+    let Ok(opened) = fs::open(rt, file.as_str()) else {
+        return fail_to_read(rt, file.as_str());
+    };
+    let Ok(reader) = BufReader::new(rt.alloc(), opened) else {
+        return fail(rt, reason(RunFault::Memory));
+    };
+    let mut lines = Ends::new(reader, io::writer(rt));
+    talk(rt, &mut lines, limits, is_terminal)
 }
 
 fn run_task<R: Runtime + AllocGlobal + Threads + Wait + Sync>(
     rt: &R,
     task: &Task,
+    is_terminal: bool,
 ) -> io::Result<ExitCode> {
-    if task.race {
-        return race_files(rt, task.files.as_slice(), task.limits);
-    }
-    match task.files.first() {
-        Some(file) => run_file(rt, file.as_str(), task.limits),
-        None => Ok(ExitCode::SUCCESS),
+    match task {
+        Task::Run(file, limits) => run_file(rt, file.as_str(), *limits),
+        Task::Race(files, limits) => race_files(rt, files.as_slice(), *limits),
+        Task::Shell(file, limits) => open_shell(rt, file, *limits, is_terminal),
     }
 }
 
-/// Help goes to standard output, what is wrong with a command line to standard error.
+/// Help and the version go to standard output, what is wrong with a command line to standard error.
 fn tell<R: Print + Eprint>(rt: &R, error: &Error) -> io::Result<ExitCode> {
     match error.print(rt) {
         Err(_) if error.exit_code() == 0 => fail(rt, "write failed"),
@@ -109,6 +196,7 @@ fn tell<R: Print + Eprint>(rt: &R, error: &Error) -> io::Result<ExitCode> {
 fn obey<R: Runtime + AllocGlobal + Threads + Wait + Sync>(
     rt: &R,
     given: &[String],
+    is_terminal: bool,
 ) -> io::Result<ExitCode> {
     let alloc = rt.alloc();
     let mut words = Vec::new(alloc);
@@ -118,7 +206,7 @@ fn obey<R: Runtime + AllocGlobal + Threads + Wait + Sync>(
         }
     }
     match task(alloc, words.as_slice()) {
-        Ok(task) => run_task(rt, &task),
+        Ok(task) => run_task(rt, &task, is_terminal),
         Err(error) if matches!(error.kind(), ErrorKind::OutOfMemory) => fail(rt, "out of memory"),
         Err(error) => tell(rt, &error),
     }
@@ -130,7 +218,7 @@ fn read_words(rt: &HostRuntime) -> io::Result<Vec<String>> {
 
 fn main(rt: HostRuntime) -> io::Result<ExitCode> {
     match read_words(&rt) {
-        Ok(given) => obey(&rt, &given),
+        Ok(given) => obey(&rt, &given, rt.stdin().is_terminal()),
         Err(error) if matches!(error.kind(), io::ErrorKind::InvalidData) => {
             eprintln!(rt; "bestore: a word of the command line isn't UTF-8")?;
             Ok(ExitCode::from(MISUSED))

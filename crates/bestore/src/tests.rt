@@ -24,6 +24,12 @@ fn exit_statuses(rt: HostRuntime) -> Result<(), Fail> {
         ("bestore run --pages 7 script", 2),
         ("bestore run --commits 4294967296 script", 2),
         ("bestore run no-such-folder/script", 1),
+        ("bestore --version", 0),
+        ("bestore shell --help", 0),
+        ("bestore shell --pages 7", 2),
+        ("bestore shell a b", 2),
+        ("bestore shell no-such-folder/a", 1),
+        ("bestore race - -", 2),
         ("bestore race --help", 0),
         ("bestore race", 2),
         ("bestore race a", 2),
@@ -34,7 +40,7 @@ fn exit_statuses(rt: HostRuntime) -> Result<(), Fail> {
     ];
     for (line, status) in statuses {
         let words = words_of(rt.alloc(), line)?;
-        assert!(rt; matches!(obey(&rt, &words), Ok(code) if code == ExitCode::from(status)));
+        assert!(rt; matches!(obey(&rt, &words, false), Ok(code) if code == ExitCode::from(status)));
     }
     Ok(())
 }

@@ -1,0 +1,79 @@
+-- What a conversation does to the bytes that a reader has left and to those that a writer holds, where they are known.
+use Rattle.std.specs.Prelude.{◌≡◌, ◌⊎◌, ◌≤◌, ◌<◌, ℕ, false, All, List, [], ◌∷◌, ◌++◌, length, Some, None}
+use Rattle.std.specs.Io.KnownBytes.{Appends, Consumes, IsAtEnd, Keeps}
+use Rattle.std.specs.declared.option.Option.{Option}
+use Rattle.be_serving.specs.Output.{Session, IsOutputTo}
+use Rattle.be_serving.specs.Run.{is_line_end}
+use Rattle.be_serving.specs.Store.{Store}
+use Rattle.be_shell.specs.Conversation.{Heard, short_line, long_line, Event, hears, ends, says, flushes, fails}
+use Rattle.be_shell.specs.declared.ends.Ends.{Ends}
+
+-- none of the bytes ends a line
+abbrev pub IsWithinLine : List ℕ → Type 0
+IsWithinLine bytes = All (λ c. is_line_end c ≡ false) bytes
+
+-- What is heard of a line of these bytes: all of them, or that they are more than 65,536.
+abbrev pub IsHeardOf : List ℕ → Heard → Type 0
+IsHeardOf bytes (short_line line) = (bytes ≡ line) × (length bytes ≤ 65536)
+IsHeardOf bytes long_line = 65536 < length bytes
+
+-- A line was taken off the front: its bytes and the LF behind them, or all that was left, where no LF is in it.
+pub record TakesLine (old new : Option (List ℕ)) (line : Heard) : Type 0 where
+  pub bytes : List ℕ
+  pub within : IsWithinLine bytes
+  pub heard : IsHeardOf bytes line
+  pub taken : Consumes old new (bytes ++ 10 ∷ []) ⊎ ((1 ≤ length bytes) × Consumes old new bytes × IsAtEnd new)
+
+-- what one byte that was read, or the end, makes of what is left
+abbrev pub TakesByte : Option (List ℕ) → Option (List ℕ) → Option ℕ → Type 0
+TakesByte old new (Some byte) = Consumes old new (byte ∷ [])
+TakesByte old new None = Consumes old new [] × IsAtEnd new
+
+-- What was taken so far of a line, where these bytes of it are kept: all of them, or else one more than 65,536.
+pub record HasTaken (old new : Option (List ℕ)) (kept : List ℕ) : Type 0 where
+  pub bytes : List ℕ
+  pub within : IsWithinLine bytes
+  pub taken : Consumes old new bytes
+  pub whole : length kept ≤ 65536 → bytes ≡ kept
+  pub long : 65536 < length kept → 65536 < length bytes
+
+-- a line was heard, or that none is left
+abbrev pub Hears : Option (List ℕ) → Option (List ℕ) → Event → Type 0
+Hears old new (hears line) = TakesLine old new line
+Hears old new ends = Consumes old new [] × IsAtEnd new
+Hears old new (says bytes) = ⊥
+Hears old new flushes = ⊥
+Hears old new fails = ⊥
+
+-- what an event makes of what is left to hear and of what was said
+abbrev pub Moves : Option (List ℕ) → Option (List ℕ) → Option (List ℕ) → Option (List ℕ) → Event → Type 0
+Moves left left' told told' (hears line) = TakesLine left left' line × (told' ≡ told)
+Moves left left' told told' ends = (Consumes left left' [] × IsAtEnd left') × (told' ≡ told)
+Moves left left' told told' (says bytes) = (left' ≡ left) × Appends told told' bytes
+Moves left left' told told' flushes = (left' ≡ left) × Keeps told told'
+Moves left left' told told' fails = Keeps told told'
+
+-- the same of a reader and a writer
+abbrev pub ends_do : {R W : Type 0} → (R → Option (List ℕ)) → (W → Option (List ℕ)) → Ends R W → Event → Ends R W → Type 0
+ends_do remaining contents old event new = Moves (remaining old.reader) (remaining new.reader) (contents old.writer) (contents new.writer) event
+
+-- the bytes that are left to be heard and those that were said, as a peer of their own
+pub record Known : Type 0 where
+  pub left : Option (List ℕ)
+  pub told : Option (List ℕ)
+
+abbrev pub knows : List ℕ → List ℕ → Known
+knows left told = record { left = Some left; told = Some told }
+
+abbrev pub known_do : Known → Event → Known → Type 0
+known_do old event new = Moves old.left new.left old.told new.told event
+
+-- no line is long
+abbrev pub AreShort : List (List ℕ) → Type 0
+AreShort lines = All (λ line. length line ≤ 65536) lines
+
+-- All of the script was heard, and what was said is an output of it.
+pub record IsWhole (store : Store) (script told : List ℕ) (last : Session) (end : Known) : Type 0 where
+  pub out : List ℕ
+  pub said : end.told ≡ Some (told ++ out)
+  pub output : IsOutputTo store script last.store out

@@ -1,0 +1,130 @@
+//! Conversations: a line is heard, then its reply is said and sent off, and then the next line is heard.
+ghost use Rattle.std.specs.Prelude.{◌≡◌, ◌≤◌, ℕ, List, [], ◌∷◌, length, IfOk, IfErr, OnOk};
+ghost use Rattle.std.specs.String.{string_bytes};
+ghost use Rattle.be_language.specs.View.{request_of};
+ghost use Rattle.be_serving.specs.Run.{IsOther};
+ghost use Rattle.be_serving.specs.View.{session, queued_ops};
+ghost use Rattle.be_shell.specs.Conversation as spec;
+
+use crate::Line;
+use crate::peers::Peer;
+use be_language::{Request, read_line, reply_text};
+use be_serving::{Client, RunFault, Server, answer};
+use std::alloc::{AllocError, Global};
+
+/// What a line asks for.
+fn request_in(alloc: Global, line: &Line) -> Result<Request, AllocError>
+    ensures { IfOk result (λ request. request_of request ≡ spec.asked_by (spec.line_heard line.now)) }
+{
+    match line {
+        Line::Short(bytes) => read_line(alloc, bytes.as_slice()),
+        Line::Long => Ok(Request::Malformed),
+    }
+}
+
+/// Runs a line, and gives its reply as a text.
+fn reply_to<S: Server>(
+    alloc: Global,
+    server: &mut S,
+    client: &mut Client,
+    line: &Line,
+) -> Result<String, RunFault>
+    requires few { length (queued_ops client.old) ≤ 64 }
+    ensures reply { IfOk result (λ reply. spec.RepliedTo (session (S.shows server.old) client.old) (spec.line_heard line.now)
+        (session (S.shows server.new) client.new) (string_bytes reply)) }
+    ensures fault { IfErr result (λ e. e ≡ RunFault.Memory) }
+    ensures stays { S.kept server.new ≡ S.kept server.old }
+    ensures few { length (queued_ops client.new) ≤ 64 }
+{
+    let Ok(request) = request_in(alloc, line) else {
+        return Err(RunFault::Memory);
+    };
+    let reply = answer(alloc, server, client, request);
+    match reply_text(alloc, &reply) {
+        Ok(text) => Ok(text),
+        Err(_) => Err(RunFault::Memory),
+    }
+}
+
+/// Says a reply and sends it off.
+fn tell<P: Peer>(peer: &mut P, reply: &[u8]) -> Result<(), RunFault>
+    ensures told { OnOk result (spec.Happens P.does peer.old (spec.says reply.now ∷ spec.flushes ∷ []) peer.new) }
+    ensures cut { IfErr result (λ e. (e ≡ RunFault.Write)
+        × (cut : List spec.Event) × spec.IsCut reply.now cut × spec.Happens P.does peer.old cut peer.new) }
+{
+    peer.say(reply)?;
+    peer.flush()?;
+    Ok(())
+}
+
+/// Runs a line that was heard, says its reply and sends it off.
+fn serve_line<S: Server, P: Peer>(
+    alloc: Global,
+    server: &mut S,
+    client: &mut Client,
+    peer: &mut P,
+    line: &Line,
+) -> Result<(), RunFault>
+    requires few { length (queued_ops client.old) ≤ 64 }
+    ensures served { OnOk result ((reply : List ℕ)
+        × spec.RepliedTo (session (S.shows server.old) client.old) (spec.line_heard line.now) (session (S.shows server.new) client.new) reply
+        × spec.Happens P.does peer.old (spec.says reply ∷ spec.flushes ∷ []) peer.new) }
+    ensures broke { IfErr result (λ e.
+        spec.BrokeBehind P.does e (session (S.shows server.old) client.old) (spec.line_heard line.now) peer.old peer.new) }
+    ensures stays { S.kept server.new ≡ S.kept server.old }
+    ensures few { length (queued_ops client.new) ≤ 64 }
+{
+    let reply = reply_to(alloc, server, client, line)?;
+    tell(peer, reply.as_bytes())?;
+    Ok(())
+}
+
+/// Hears a line, runs it, says its reply and sends it off. False where no more lines come.
+fn exchange<S: Server, P: Peer>(
+    alloc: Global,
+    server: &mut S,
+    client: &mut Client,
+    peer: &mut P,
+) -> Result<bool, RunFault>
+    requires few { length (queued_ops client.old) ≤ 64 }
+    ensures went { IfOk result (λ more. spec.Went P.does (session (S.shows server.old) client.old) peer.old more
+        (session (S.shows server.new) client.new) peer.new) }
+    ensures broke { IfErr result (λ e. spec.Broke P.does e (session (S.shows server.old) client.old) peer.old peer.new) }
+    ensures stays { S.kept server.new ≡ S.kept server.old }
+    ensures few { length (queued_ops client.new) ≤ 64 }
+{
+    let Some(line) = peer.hear(alloc, client.batch.is_some())? else {
+        return Ok(false);
+    };
+    serve_line(alloc, server, client, peer, &line)?;
+    Ok(true)
+}
+
+/// Talks with a peer until no more lines come, or until a fault.
+///
+/// Each line is run before its reply is said, and the reply is sent off before the next line is heard. What the session has
+/// beside its store, an open batch and a live query, goes on from the client as it is, and stands in it afterwards, so
+/// that a conversation can be carried on with another peer. A fault leaves what was said before it, and of the reply that it
+/// broke off a front; `Memory` leaves the line run or not. `Read` comes too after 2^64 - 1 lines.
+pub fn converse<S: Server, P: Peer>(
+    alloc: Global,
+    server: &mut S,
+    client: &mut Client,
+    peer: &mut P,
+) -> Result<(), RunFault>
+    requires few { length (queued_ops client.old) ≤ 64 }
+    ensures talked { OnOk result (spec.TalkedTo P.does (session (S.shows server.old) client.old) peer.old
+        (session (S.shows server.new) client.new) peer.new) }
+    ensures broke { IfErr result (λ e. spec.BrokeOff P.does e (session (S.shows server.old) client.old) peer.old peer.new) }
+    ensures other { IfErr result IsOther }
+    ensures stays { S.kept server.new ≡ S.kept server.old }
+    ensures few { length (queued_ops client.new) ≤ 64 }
+{
+    for _lines in 0..u64::MAX {
+        let more = exchange(alloc, server, client, peer)?;
+        if !more {
+            return Ok(());
+        }
+    }
+    Err(RunFault::Read)
+}

@@ -1,0 +1,10 @@
+//! A line as it is heard.
+
+/// A line as it is heard.
+#[derive(Drop)]
+pub enum Line {
+    /// Its bytes without the LF, at most 65,536 of them. A CR at the end is one of them.
+    Short(Vec<u8>),
+    /// It has more bytes than that. None of them are kept.
+    Long,
+}
