@@ -62,8 +62,8 @@ settled_pin passes n b p c pass limits limits_then number announced h =
     let mine : c.mine ≡ b.mine = ap (λ (k : Knowledge). k.mine) h.same.2 ∙ ap (λ (k : Knowledge). k.mine) announced in
     let phase : c.phase ≡ Pinned x (length c.seen) = ap (λ (k : Knowledge). k.phase) h.same.2 in
     subst (IsSettled passes) (sym phase) (λ one.
-        let same : c.seen ≡ b.seen = same_seen b c (record { pass = pass; one = limits ∙ one }) (record { pass = h.pass; one = limits_then ∙ one }) (subst (StartsWith c.seen) seen h.more) mine in
-        found ∙ (number ∙ ap length (sym same)))
+    let same : c.seen ≡ b.seen = same_seen b c (record { pass = pass; one = limits ∙ one }) (record { pass = h.pass; one = limits_then ∙ one }) (subst (StartsWith c.seen) seen h.more) mine in
+    found ∙ (number ∙ ap length (sym same)))
 
 none_between : (xs ys : List Entry) (d e : Entry) → (xs ++ ys) ++ d ∷ [] ≡ xs ++ e ∷ [] → ys ≡ []
 none_between xs [] d e same = refl

@@ -11,5 +11,5 @@ returns-clause-pass c =
     let same = ap (λ (t : Opened). t.limits.passes) c.self.view_is in (
       subst (λ (t : Opened). IsSeatOf t c.look_again.new.seat) c.self.view_is c.look_again.ensures.seat,
       settled_pin c.args.self.now.limits.passes c.look-number.result c.look-number.new.seat.knows c.announce.new.seat.knows c.look_again.new.seat.knows
-      c.look-number.ensures.sees.pass (ap passes c.look-number.ensures.seat.2 ∙ same) (ap passes c.look_again.ensures.seat.2 ∙ same) c.look-number.ensures.result c.announce.ensures.pass c.look_again.ensures.pass,
+          c.look-number.ensures.sees.pass (ap passes c.look-number.ensures.seat.2 ∙ same) (ap passes c.look_again.ensures.seat.2 ∙ same) c.look-number.ensures.result c.announce.ensures.pass c.look_again.ensures.pass,
     )
