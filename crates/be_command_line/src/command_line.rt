@@ -21,42 +21,26 @@ const FILE: &str = "FILE";
 /// The arguments of `race`.
 const SCRIPT: &str = "SCRIPT";
 
-/// What help says of the limits.
-#[derive(Drop)]
-struct Help {
-    pages: String,
-    commits: String,
-}
-
-fn help_of_limits(alloc: Global) -> Result<Help, AllocError> {
-    let (fewest, most) = (Limits::MIN_PAGES, Limits::MAX_PAGES);
-    let pages = format!(in alloc; "Pages of 4096 bytes, {fewest} to {most}")?;
-    let most = Limits::MAX_COMMITS;
-    let commits = format!(in alloc; "The most accepted writes, 1 to {most}")?;
-    Ok(Help { pages, commits })
-}
-
 /// A command that takes the limits of a store, and its files.
 fn command<'a>(
     alloc: Global,
     name: &'a str,
     about: &'a str,
-    help: &'a Help,
     files: Arg<'a>,
 ) -> Result<Command<'a>, AllocError> {
     let pages = Arg::new(alloc, "pages")
         .long("pages")
         .value_name("N")
-        .help(help.pages.as_str())
+        .help("Pages of 4096 bytes, 8 to 16384")
         .action(ArgAction::Set)
-        .value_parser(value_parser!(u64).range(Limits::MIN_PAGES..=Limits::MAX_PAGES))
+        .value_parser(value_parser!(u64).range(8..=16384))
         .default_value("1024");
     let commits = Arg::new(alloc, "commits")
         .long("commits")
         .value_name("N")
-        .help(help.commits.as_str())
+        .help("The most accepted writes, 1 to 4294967295")
         .action(ArgAction::Set)
-        .value_parser(value_parser!(u64).range(1..=Limits::MAX_COMMITS))
+        .value_parser(value_parser!(u64).range(1..=4294967295))
         .default_value("1000000");
     Command::new(alloc, name)
         .about(about)
@@ -65,7 +49,7 @@ fn command<'a>(
         .arg(files)
 }
 
-fn run_command<'a>(alloc: Global, help: &'a Help) -> Result<Command<'a>, AllocError> {
+fn run_command<'a>(alloc: Global) -> Result<Command<'a>, AllocError> {
     let file = Arg::new(alloc, FILE)
         .help("The script, a command a line; - is standard input")
         .required(true)
@@ -74,12 +58,11 @@ fn run_command<'a>(alloc: Global, help: &'a Help) -> Result<Command<'a>, AllocEr
         alloc,
         "run",
         "Run a script and print the reply to each line",
-        help,
         file,
     )
 }
 
-fn race_command<'a>(alloc: Global, help: &'a Help) -> Result<Command<'a>, AllocError> {
+fn race_command<'a>(alloc: Global) -> Result<Command<'a>, AllocError> {
     let scripts = Arg::new(alloc, SCRIPT)
         .help("The scripts, two to four; - is standard input, once")
         .required(true)
@@ -89,12 +72,11 @@ fn race_command<'a>(alloc: Global, help: &'a Help) -> Result<Command<'a>, AllocE
         alloc,
         "race",
         "Run scripts at once, each on a thread of its own, and print the replies and the journal",
-        help,
         scripts,
     )
 }
 
-fn shell_command<'a>(alloc: Global, help: &'a Help) -> Result<Command<'a>, AllocError> {
+fn shell_command<'a>(alloc: Global) -> Result<Command<'a>, AllocError> {
     let file = Arg::new(alloc, FILE)
         .help("Lines that are run first")
         .action(ArgAction::Set);
@@ -102,7 +84,6 @@ fn shell_command<'a>(alloc: Global, help: &'a Help) -> Result<Command<'a>, Alloc
         alloc,
         "shell",
         "Answer each line of standard input when it comes",
-        help,
         file,
     )
 }
@@ -112,16 +93,15 @@ fn shell_command<'a>(alloc: Global, help: &'a Help) -> Result<Command<'a>, Alloc
 pub fn task<'a>(alloc: Global, words: &'a [&'a str]) -> Result<Task, Error>
     ensures { IfOk result IsTask }
 {
-    let help = help_of_limits(alloc)?;
     let mut command = Command::new(alloc, "bestore")
         .about(
             "A shared attribute store in memory, with the attributes, indices and queries of BeOS",
         )
         .version(VERSION)
         .subcommand_required(true)
-        .subcommand(run_command(alloc, &help)?)?
-        .subcommand(race_command(alloc, &help)?)?
-        .subcommand(shell_command(alloc, &help)?)?;
+        .subcommand(run_command(alloc)?)?
+        .subcommand(race_command(alloc)?)?
+        .subcommand(shell_command(alloc)?)?;
     let matches = command.try_get_matches_from_mut(words)?;
     match task_of(alloc, &matches)? {
         Some(task) => Ok(task),
