@@ -42,15 +42,23 @@ run C "$work/test"
 cc -std=c11 "${warn[@]}" -I../include test.c -L. -lbestore -lpthread -o "$work/shared"
 run "C, shared object" env LD_LIBRARY_PATH=. "$work/shared"
 
-echo 'int main(void) { return 0; }' >"$work/empty.c"
-for sanitizer in address,undefined thread; do
-    if cc "-fsanitize=$sanitizer" "$work/empty.c" -o "$work/empty" 2>/dev/null && "$work/empty" 2>/dev/null; then
-        build -g -O1 "-fsanitize=$sanitizer" test.c -o "$work/sanitized"
-        run "C, $sanitizer" "$work/sanitized"
-    else
-        echo "C, $sanitizer: skipped, cc has no such sanitizer"
-    fi
-done
+# Whether cc has this sanitizer, and a program with it runs.
+has() {
+    echo 'int main(void) { return 0; }' >"$work/empty.c"
+    cc "-fsanitize=$1" "$work/empty.c" -o "$work/empty" 2>/dev/null && "$work/empty" 2>/dev/null && return
+    echo "C, $1: skipped, cc has no such sanitizer"
+    return 1
+}
+if has address,undefined; then
+    build -g -O1 -fsanitize=address,undefined test.c -o "$work/sanitized"
+    run "C, address,undefined" "$work/sanitized"
+fi
+# The library's own steps, those of its lock among them, carry no marks for this sanitizer. So it is told to pass over what the
+# shared object does, and looks at the test's own memory alone.
+if has thread; then
+    cc -std=c11 "${warn[@]}" -g -O1 -fsanitize=thread -I../include test.c -L. -lbestore -lpthread -o "$work/threads"
+    run "C, thread" env LD_LIBRARY_PATH=. TSAN_OPTIONS=ignore_noninstrumented_modules=1 "$work/threads"
+fi
 if command -v valgrind >/dev/null; then
     run "C, valgrind" valgrind -q --leak-check=full --error-exitcode=9 "$work/test" short
 else

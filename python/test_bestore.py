@@ -23,14 +23,15 @@ class Values(unittest.TestCase):
     def test_lists(self):
         with bestore.open(64, 1, 100) as store:
             store.make_index("size", bestore.INT32)
+            store.make_index("name", bestore.STRING)
             node = store.new_node()
             store.apply(bestore.Batch().set(node, "size", -1, bestore.INT32).set(node, "name", "ann"))
             with store.pin() as version:
                 self.assertEqual(version.attributes(node), {"name": "ann", "size": -1})
-                self.assertEqual(version.indices(), {"size": bestore.INT32})
+                self.assertEqual(version.indices(), {"name": bestore.STRING, "size": bestore.INT32})
                 self.assertEqual(version.explain("size<0"), '"size"<"0" score 3')
                 self.assertEqual(version.query_items(bestore.Name("size"), -1, bestore.Operator.EQ), [node])
-                self.assertEqual(version.query_items(bestore.Name("size"), "1", bestore.Operator.CONTAINS), [node])
+                self.assertEqual(version.query_items(bestore.Name("name"), "n", bestore.Operator.CONTAINS), [node])
                 with self.assertRaises(bestore.Error):
                     version.attributes(node + 1)
                 with self.assertRaises(bestore.Error) as fault:
