@@ -355,29 +355,37 @@ fn limits_of_a_race(rt: HostRuntime) -> Result<(), Fail> {
     Ok(())
 }
 
-/// Whether a race of the script and an empty one, on so many pages, refuses a line by Full; None where memory was wanted.
-fn fills_pages<R: Threads + Wait>(
+/// How many lines of the second script of a race were refused by Full, each with the number of entries, and how many entries
+/// there are.
+fn count_fulls(alloc: Global, written: &str) -> Result<(usize, usize), AllocError> {
+    let entries = written.matches(" by 1 new -> node ").count();
+    let full = format!(in alloc; "refused 11 Full {entries}")?;
+    let full = full.as_str();
+    let fulls = written.lines().filter(|line| *line == full).count();
+    Ok((fulls, entries))
+}
+
+/// The same of a race of an empty script and this one, on so many pages; None where memory was wanted.
+fn fulls_on<R: Threads + Wait>(
     rt: &R,
     alloc: Global,
     script: &str,
     pages: u64,
-) -> Result<Option<bool>, RunFault> {
-    let Ok(scripts) = scripts_of(alloc, &[script, ""]) else {
+) -> Result<Option<(usize, usize)>, RunFault> {
+    let Ok(scripts) = scripts_of(alloc, &["", script]) else {
         return Ok(None);
     };
     let mut written: Vec<u8> = Vec::new(alloc);
     match race_on(rt, scripts, pages, &OpenGate, &mut written) {
         Ok(_) if wants_memory(&written) => Ok(None),
-        Ok(_) => match str::from_utf8(&written) {
-            Ok(text) => Ok(Some(text.contains("\nrefused 11 Full "))),
-            Err(_) => Ok(None),
-        },
+        Ok(_) => Ok(count_fulls(alloc, str::from_utf8(&written).unwrap_or("")).ok()),
         Err(RunFault::Memory | RunFault::Write) => Ok(None),
         Err(fault) => Err(fault),
     }
 }
 
-/// A race has as many pages as its limits say: 8 refuse some of 60 nodes, and 64 take them all.
+/// A race has as many pages as its limits say: 8 refuse some of 60 nodes, and tell the current version where nothing is
+/// pinned; 64 take them all.
 #[test]
 fn pages_of_a_race(rt: HostRuntime) -> Result<(), Fail> {
     let alloc = rt.alloc();
@@ -386,11 +394,15 @@ fn pages_of_a_race(rt: HostRuntime) -> Result<(), Fail> {
         Err(_) => "new\n".repeat(alloc, 60)?,
     };
     for (pages, fills) in [(8, true), (64, false)] {
-        let found = match fills_pages(&rt, alloc, script.as_str(), pages)? {
-            None => fills_pages(&rt, alloc, script.as_str(), pages)?,
-            found => found,
+        let counted = match fulls_on(&rt, alloc, script.as_str(), pages)? {
+            None => fulls_on(&rt, alloc, script.as_str(), pages)?,
+            counted => counted,
         };
-        assert!(rt; found == Some(fills), "on {pages} pages");
+        let (fulls, entries) = counted.unwrap_or((0, 0));
+        assert!(rt;
+            fulls == 60_usize.saturating_sub(entries) && (fulls > 0) == fills,
+            "on {pages} pages"
+        );
     }
     Ok(())
 }
