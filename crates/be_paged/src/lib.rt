@@ -34,4 +34,4 @@ pub use first::first_page;
 pub use paged_source::{PagedSource, source};
 pub use reading::{attrs, get, indices};
 pub use spelling::one_spelling;
-pub use writes::apply;
+pub use writes::{apply, apply_into};

@@ -64,11 +64,43 @@ fn replace_version<R: Room>(room: &mut R, old_page: u64, version: &Version) -> R
     Ok(page)
 }
 
-/// Applies 1 to 64 operations to the version of a page, all or none, and gives the new version page with an answer for each operation. The new
-/// page is one that this write has taken, also where nothing changed.
+/// Applies 1 to 64 operations to the version of a page, all or none, and gives the new version page; an answer for each operation enters an empty
+/// list. The new page is one that this write has taken, also where nothing changed. The list is filled where it stands, since one that is given by
+/// value costs its whole capacity.
 ///
 /// The list is refused with 2 to 8 as the plain volume refuses it, before a page is taken, and the room is as it was; or with 11 where no page is
 /// left, and what stood when the write began stands once it is undone. It takes no memory.
+pub fn apply_into<R: Room>(
+    room: &mut R,
+    version_page: u64,
+    ops: &[Op],
+    dones: &mut ArrayVec<Done, 64>,
+) -> Result<u64, Refusal>
+    ghost volume: { State }
+    requires version { IsVersion (R.standing room.old) (R.words room.old) version_page volume }
+    requires some { 1 ≤ length ops.now }
+    requires few { length ops.now ≤ 64 }
+    requires fits { volume.next + 64 < 2 ^ 64 }
+    requires open { IsTrue (R.is_open (R.kept room.old)) }
+    requires empty { dones.old.items ≡ [] }
+    ensures ok { IfOk result (λ page. Applies R.kept R.standing R.words version_page page volume ops.now dones.new.items room.old room.new) }
+    ensures err { IfErr result (λ e. IsRefused R.kept R.standing R.words R.full volume ops.now e room.old room.new) }
+{
+    let mut version = Version {
+        next: 0,
+        catalog: 0,
+        entries: ArrayVec::new(),
+    };
+    fill_version(room, version_page, &mut version);
+    if let Some(reason) = refusal(room, &version, ops) {
+        return Err(reason);
+    }
+    edit_all(room, &mut version, ops, dones)?;
+    let page = replace_version(room, version_page, &version)?;
+    Ok(page)
+}
+
+/// The same, with the answers in a list of their own.
 pub fn apply<R: Room>(
     room: &mut R,
     version_page: u64,
@@ -83,17 +115,9 @@ pub fn apply<R: Room>(
     ensures ok { IfOk result (λ r. Applies R.kept R.standing R.words version_page r.0 volume ops.now r.1.items room.old room.new) }
     ensures err { IfErr result (λ e. IsRefused R.kept R.standing R.words R.full volume ops.now e room.old room.new) }
 {
-    let mut version = Version {
-        next: 0,
-        catalog: 0,
-        entries: ArrayVec::new(),
-    };
-    fill_version(room, version_page, &mut version);
-    if let Some(reason) = refusal(room, &version, ops) {
-        return Err(reason);
-    }
     let mut dones = ArrayVec::new();
-    edit_all(room, &mut version, ops, &mut dones)?;
-    let page = replace_version(room, version_page, &version)?;
-    Ok((page, dones))
+    match apply_into(room, version_page, ops, &mut dones) {
+        Ok(page) => Ok((page, dones)),
+        Err(refusal) => Err(refusal),
+    }
 }

@@ -80,10 +80,14 @@ impl Store {
                 return Err(refusal);
             }
         };
-        let answer = write(&mut writing, ops);
+        let mut dones = ArrayVec::new();
+        let answer = write(&mut writing, ops, &mut dones);
         *pass = writing.unlock();
         pass.is_pass();
-        answer
+        match answer {
+            Ok(number) => Ok((number, dones)),
+            Err(refusal) => Err(refusal),
+        }
     }
 
     /// Writes as `apply` does, and tries again while another pass holds the lock, so many times at most in all. Before

@@ -1,5 +1,5 @@
 //! One write, while the lock is held.
-ghost use Rattle.std.specs.Prelude.{◌≡◌, ◌+◌, ◌^◌, ◌<◌, ◌≤◌, IfOk, IfErr, MatchResult, false, length};
+ghost use Rattle.std.specs.Prelude.{◌≡◌, [], ◌+◌, ◌^◌, ◌<◌, ◌≤◌, IfOk, IfErr, MatchResult, false, length};
 ghost use Rattle.be_paged.specs.Changes.{Applies, IsRefused};
 ghost use Rattle.be_paged.specs.Version.{IsVersion};
 ghost use Rattle.be_store.specs.Writing.{Begins, Publishes, IsHeldBack};
@@ -9,7 +9,7 @@ ghost use Rattle.be_table.specs.Works.{IsSpent, TakesLock};
 ghost use Rattle.be_volume.specs.Volume.{State};
 
 use arrayvec::ArrayVec;
-use be_paged::apply;
+use be_paged::apply_into;
 use be_table::Writing;
 use be_value::Refusal;
 use be_volume::{Done, Op};
@@ -19,16 +19,18 @@ fn apply_to(
     writing: &mut Writing<'_>,
     version_page: u64,
     ops: &[Op],
-) -> Result<(u64, ArrayVec<Done, 64>), Refusal>
+    dones: &mut ArrayVec<Done, 64>,
+) -> Result<u64, Refusal>
     ghost volume: { State }
     requires version { IsVersion (standing_in writing.old.knows.places) (word_in writing.old.knows.words) version_page volume }
     requires count { (1 ≤ length ops.now) × (length ops.now ≤ 64) }
     requires fits { volume.next + 64 < 2 ^ 64 }
     requires open { writing.old.knows.published ≡ false }
-    ensures ok { IfOk result (λ r. Applies open_of standing_of words_of version_page r.0 volume ops.now r.1.items writing.old writing.new) }
+    requires empty { dones.old.items ≡ [] }
+    ensures ok { IfOk result (λ page. Applies open_of standing_of words_of version_page page volume ops.now dones.new.items writing.old writing.new) }
     ensures err { IfErr result (λ e. IsRefused open_of standing_of words_of (λ w least. IsSpent w.knows least) volume ops.now e writing.old writing.new) }
 {
-    apply(writing, version_page, ops)
+    apply_into(writing, version_page, ops, dones)
 }
 
 /// Scans where a scan is due, so that the write takes pages that were given up lately.
@@ -43,24 +45,27 @@ fn scan_early(writing: &mut Writing<'_>)
     }
 }
 
-/// Applies the operations to the current version, and publishes what they make. A refusal of 2 to 8 comes at once; the
-/// journal's want of room goes before that of a page.
+/// Applies the operations to the current version, and publishes what they make. Their answers enter an empty list, which
+/// is filled where it stands. A refusal of 2 to 8 comes at once; the journal's want of room goes before that of a page.
 fn write_current(
     writing: &mut Writing<'_>,
     ops: &[Op],
-) -> Result<(u64, ArrayVec<Done, 64>), Refusal>
+    dones: &mut ArrayVec<Done, 64>,
+) -> Result<u64, Refusal>
     requires begins { Begins writing.old.knows }
     requires count { (1 ≤ length ops.now) × (length ops.now ≤ 64) }
+    requires empty { dones.old.items ≡ [] }
     ensures table { writing.new.table ≡ writing.old.table }
-    ensures answer { MatchResult result (λ r. Publishes writing.old.knows writing.new.knows ops.now r.0 r.1.items)
+    ensures answer { MatchResult result
+        (λ n. Publishes writing.old.knows writing.new.knows ops.now n dones.new.items)
         (λ e. IsHeldBack writing.old.knows writing.new.knows ops.now e) }
 {
     let (_, version_page) = writing.current();
-    match apply_to(writing, version_page, ops) {
-        Ok((page, dones)) => {
+    match apply_to(writing, version_page, ops, dones) {
+        Ok(page) => {
             writing.reserve(ops.len())?;
             let number = writing.publish(page, ops, dones.as_slice());
-            Ok((number, dones))
+            Ok(number)
         }
         Err(Refusal::Full(least)) => {
             writing.reserve(ops.len())?;
@@ -74,13 +79,16 @@ fn write_current(
 pub(crate) fn write(
     writing: &mut Writing<'_>,
     ops: &[Op],
-) -> Result<(u64, ArrayVec<Done, 64>), Refusal>
+    dones: &mut ArrayVec<Done, 64>,
+) -> Result<u64, Refusal>
     requires begun { (a : Knowledge) × TakesLock a writing.old.knows }
     requires count { (1 ≤ length ops.now) × (length ops.now ≤ 64) }
+    requires empty { dones.old.items ≡ [] }
     ensures table { writing.new.table ≡ writing.old.table }
-    ensures answer { MatchResult result (λ r. Publishes writing.old.knows writing.new.knows ops.now r.0 r.1.items)
+    ensures answer { MatchResult result
+        (λ n. Publishes writing.old.knows writing.new.knows ops.now n dones.new.items)
         (λ e. IsHeldBack writing.old.knows writing.new.knows ops.now e) }
 {
     scan_early(writing);
-    write_current(writing, ops)
+    write_current(writing, ops, dones)
 }

@@ -7,6 +7,6 @@ scan_early-requires c = record { begins = begins_locked c.requires.begun.0 c.arg
 pub returns-clause-answer : goal.returns-clause-answer
 returns-clause-answer c =
     both_from c.write_current.result _ _ _ _
-    (λ r p. published_from c.args.writing.now c.scan_early.new.writing c.write_current.new.writing.knows c.args.ops.now r.0 r.1.items c.scan_early.ensures.kept p)
+    (λ r p. published_from c.args.writing.now c.scan_early.new.writing c.write_current.new.writing.knows c.args.ops.now r c.write_current.new.dones.items c.scan_early.ensures.kept p)
     (λ e p. held_back_from c.args.writing.now c.scan_early.new.writing c.write_current.new.writing.knows c.args.ops.now e c.scan_early.ensures.kept p)
     c.write_current.ensures.answer

@@ -19,7 +19,7 @@ pub apply_to-requires : goal.apply_to-requires
 apply_to-requires c =
     let t = c.requires.begins in let k = c.args.writing.now.knows in (
       begun_version k t.begun c.current-version_page.result.1 (replay (entries k.seen)) (current_spelt k c.current-version_page.result.1 t c.current-version_page.ensures.version.1),
-      (c.requires.count, (c.current-version_page.ensures.next, t.unpublished)),
+      (c.requires.count, (c.current-version_page.ensures.next, (t.unpublished, c.requires.empty))),
     )
 
 pub publish-number-requires-clause-entry : goal.publish-number-requires-clause-entry
@@ -53,7 +53,7 @@ publish-number-requires-clause-exact c =
 pub returns-in_ok-reserve-in-Ok-clause-answer : goal.returns-in_ok-reserve-in-Ok-clause-answer
 returns-in_ok-reserve-in-Ok-clause-answer c =
     let ok = c.in-Ok.ensures.ok in
-    published c.args.writing.now c.apply_to.new.writing c.reserve.new.self c.publish-number.new.self c.args.ops.now c.in-Ok.page c.publish-number.result c.in-Ok.dones.items c.as_slice.result.now ok.made
+    published c.args.writing.now c.apply_to.new.writing c.reserve.new.self c.publish-number.new.self c.args.ops.now c.in-Ok.page c.publish-number.result c.apply_to.new.dones.items c.as_slice.result.now ok.made
     ok.swaps.kept (ap (λ (w : Work). w.knows) c.in_ok-reserve-in-Ok.ensures.0) (ap (λ (w : Work). w.knows) c.publish-number.ensures.write) c.as_slice.ensures.value ok.stepped c.publish-number.ensures.result
 
 pub returns-in_err-reserve-in-Err-Full-clause-answer : goal.returns-in_err-reserve-in-Err-Full-clause-answer

@@ -7,7 +7,7 @@ use Rattle.be_paged.specs.Page.{Contents, contents}
 use Rattle.be_paged.specs.Version.{Spells}
 use Rattle.be_paged.proofs.Applied.{page_stays, applied}
 use Rattle.be_paged.proofs.Composing.{changes_since, start_after}
-use Rattle.be_paged.proofs.writes.apply.Goals as goal
+use Rattle.be_paged.proofs.writes.apply_into.Goals as goal
 
 pub replace_version-requires-clause-in_use : goal.replace_version-requires-clause-in_use
 replace_version-requires-clause-in_use g c =
