@@ -27,11 +27,8 @@ pub(crate) fn value_in<L: Look>(look: &mut L, catalog: u64, node: u64, name: &Na
     ensures unchanged { IsUnchanged L.kept L.standing L.words look.old look.new }
 {
     let key = catalog_key(node, name);
-    // The payload is read where it was found: one that is bound by value is moved, at the cost of its capacity.
-    match &find(look, catalog, &key) {
-        Some(payload) => read_payload(payload),
-        None => None,
-    }
+    let payload = find(look, catalog, &key)?;
+    read_payload(&payload)
 }
 
 /// The value of an attribute, if the node is there and has it. It costs one descent of the catalog's tree, and takes no memory.
