@@ -88,7 +88,8 @@ fn enqueue(ops: &mut Vec<Op>, op: Op) -> Reply
 /// Writes an operation, or queues it where a batch is open.
 fn take<S: Server>(server: &mut S, client: &mut Client, op: Op) -> Reply
     requires few { length (queued_ops client.old) ≤ 64 }
-    ensures replies { spec.Serves (session (S.shows server.old) client.old) (requests.write (Ok op)) (reply_of result) (session (S.shows server.new) client.new) }
+    ensures replies { spec.Serves (session (S.shows server.old) client.old) (requests.write (Ok op)) (reply_of result)
+        (session (S.shows server.new) client.new) }
     ensures stays { S.kept server.new ≡ S.kept server.old }
     ensures few { length (queued_ops client.new) ≤ 64 }
 {

@@ -236,7 +236,8 @@ fn race_within<R: Threads + Wait, G: Gate + Sync, W: Write>(
 ) -> Result<bool, RunFault>
     requires scripts { (2 ≤ vec_len scripts) × (vec_len scripts ≤ 4) }
     requires passes { limits.passes ≡ vec_len scripts }
-    ensures ok { IfOk result (λ legal. (legal ≡ true) × Wrote (W.contents writer.old) (W.contents writer.new) (IsRace limits (map (λ s. s.items) scripts.items))) }
+    ensures ok { IfOk result (λ legal. (legal ≡ true)
+        × Wrote (W.contents writer.old) (W.contents writer.new) (IsRace limits (map (λ s. s.items) scripts.items))) }
     ensures late { IfErr result IsLate }
 {
     let Ok((store, passes)) = Store::open(alloc, limits) else {
@@ -269,7 +270,8 @@ pub fn race<R: Threads + Wait, G: Gate + Sync, W: Write>(
     requires passes { limits.passes ≡ vec_len scripts }
     ensures limits { (result ≡ Err RunFault.Limits) ↔ AreBad limits }
     ensures long { (result ≡ Err RunFault.TooLong) ↔ (IsWithin limits × (list_any (λ s. nat_lt (2 ^ 20) (vec_len s)) scripts.items ≡ true)) }
-    ensures ok { IfOk result (λ legal. (legal ≡ true) × Wrote (W.contents writer.old) (W.contents writer.new) (IsRace limits (map (λ s. s.items) scripts.items))) }
+    ensures ok { IfOk result (λ legal. (legal ≡ true)
+        × Wrote (W.contents writer.old) (W.contents writer.new) (IsRace limits (map (λ s. s.items) scripts.items))) }
     ensures fault { IfErr result (λ e. Stops e (W.contents writer.old) (W.contents writer.new)) }
 {
     if !limits.are_within() {

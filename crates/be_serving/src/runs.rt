@@ -2,7 +2,8 @@
 //!
 //! A script is read whole before its first line is run, so a script that can't be read or is too long writes nothing.
 //! Then each line is run, its reply is made as a text, and the text is written: a fault leaves the front of an output.
-ghost use Rattle.std.specs.Prelude.{◌≡◌, ◌<◌, ◌≤◌, ◌+◌, ◌*◌, ◌^◌, ◌↔◌, false, List, ℕ, ◌++◌, length, IfOk, OnOk, IfErr, IfSome, OnErr, IfNone, ◌∷◌, [], vec_len, position, Err};
+ghost use Rattle.std.specs.Prelude.{◌≡◌, ◌<◌, ◌≤◌, ◌+◌, ◌*◌, ◌^◌, ◌↔◌, ◌++◌, ◌∷◌, [], List, ℕ, length, vec_len, position};
+ghost use Rattle.std.specs.Prelude.{false, IfOk, OnOk, IfErr, IfSome, OnErr, IfNone, Err};
 ghost use Rattle.std.specs.Io.KnownBytes.{Appends, Consumes, IsAtEnd, Keeps};
 ghost use Rattle.be_journal.specs.Journal.{by_pass};
 ghost use Rattle.be_serving.specs.Output as outputs;

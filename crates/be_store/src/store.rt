@@ -214,8 +214,10 @@ impl Store {
     pub fn meet(&self, left: &mut Pass, right: &mut Pass) -> u64
         requires passes { IsPassOf self.now left.old × IsPassOf self.now right.old }
         ensures passes { IsPassOf self.now left.new × IsPassOf self.now right.new }
-        ensures left { StartsWith (longer left.old.knows.seen right.old.knows.seen) left.old.knows.seen × (left.new.knows ≡ met left.old.knows (longer left.old.knows.seen right.old.knows.seen)) }
-        ensures right { StartsWith (longer left.old.knows.seen right.old.knows.seen) right.old.knows.seen × (right.new.knows ≡ met right.old.knows (longer left.old.knows.seen right.old.knows.seen)) }
+        ensures left { StartsWith (longer left.old.knows.seen right.old.knows.seen) left.old.knows.seen
+            × (left.new.knows ≡ met left.old.knows (longer left.old.knows.seen right.old.knows.seen)) }
+        ensures right { StartsWith (longer left.old.knows.seen right.old.knows.seen) right.old.knows.seen
+            × (right.new.knows ≡ met right.old.knows (longer left.old.knows.seen right.old.knows.seen)) }
         ensures length { result ≡ length (longer left.old.knows.seen right.old.knows.seen) }
     {
         let (first, second, length) = self.table.meet(left.move_out(), right.move_out());

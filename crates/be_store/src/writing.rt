@@ -52,7 +52,8 @@ fn write_current(
     requires begins { Begins writing.old.knows }
     requires count { (1 ≤ length ops.now) × (length ops.now ≤ 64) }
     ensures table { writing.new.table ≡ writing.old.table }
-    ensures answer { MatchResult result (λ r. Publishes writing.old.knows writing.new.knows ops.now r.0 r.1.items) (λ e. IsHeldBack writing.old.knows writing.new.knows ops.now e) }
+    ensures answer { MatchResult result (λ r. Publishes writing.old.knows writing.new.knows ops.now r.0 r.1.items)
+        (λ e. IsHeldBack writing.old.knows writing.new.knows ops.now e) }
 {
     let (_, version_page) = writing.current();
     match apply_to(writing, version_page, ops) {
@@ -77,7 +78,8 @@ pub(crate) fn write(
     requires begun { (a : Knowledge) × TakesLock a writing.old.knows }
     requires count { (1 ≤ length ops.now) × (length ops.now ≤ 64) }
     ensures table { writing.new.table ≡ writing.old.table }
-    ensures answer { MatchResult result (λ r. Publishes writing.old.knows writing.new.knows ops.now r.0 r.1.items) (λ e. IsHeldBack writing.old.knows writing.new.knows ops.now e) }
+    ensures answer { MatchResult result (λ r. Publishes writing.old.knows writing.new.knows ops.now r.0 r.1.items)
+        (λ e. IsHeldBack writing.old.knows writing.new.knows ops.now e) }
 {
     scan_early(writing);
     write_current(writing, ops)
