@@ -40,8 +40,7 @@ module _ {P : Type 0} (does : P → Event → P → Type 0) where
   pub one_more : (count : ℕ) (s mid last : Session) (p q r : P) (more : Bool) → SoFar does s p count mid q → Went does mid q more last r → more ≡ true →
       SoFar does s p (count + 1) last r
   one_more count s mid last p q r more w g e =
-      let x : Went does mid q true last r = subst (λ (b : Bool). Went does mid q b last r) e g in
-      (
+      let x : Went does mid q true last r = subst (λ (b : Bool). Went does mid q b last r) e g in (
         w.0 ++ x.0 ∷ [],
         w.1 ++ exchange x.0 x.1,
         talk_more w.0 s mid last w.1 x.0 x.1 w.2 x.2,

@@ -15,10 +15,9 @@ use be_store::{
     Updates, Value, parse,
 };
 use std::alloc::{AllocError, Global};
-use std::str;
 use std::test::Fail;
-use std::thread;
 use std::thread::Threads;
+use std::{str, thread};
 
 /// A store with these limits and its passes, at the second call where memory is refused at the first.
 fn opened(alloc: Global, limits: Limits) -> Result<(Store, Vec<Pass>), Refusal>
@@ -634,15 +633,22 @@ fn numbered(number: u8) -> Result<Name, Refusal> {
     Name::new(str::from_utf8(&letters).unwrap_or(""))
 }
 
-/// Makes node 1, 64 attributes of it, and then 32 indices.
-fn make_most(store: &Store, pass: &mut Pass) -> Result<(), Refusal>
+/// Sets 64 attributes of node 1.
+fn set_most(store: &Store, pass: &mut Pass) -> Result<(), Refusal>
     requires { IsPassOf store.now pass.old }
     ensures { IsPassOf store.now pass.new }
 {
-    write(store, pass, Op::New)?;
     for number in 0..64u8 {
         set(store, pass, &numbered(number)?, 1)?;
     }
+    Ok(())
+}
+
+/// Makes 32 indices.
+fn index_most(store: &Store, pass: &mut Pass) -> Result<(), Refusal>
+    requires { IsPassOf store.now pass.old }
+    ensures { IsPassOf store.now pass.new }
+{
     for number in 0..32u8 {
         write(store, pass, Op::MkIndex(numbered(number)?, Kind::Long))?;
     }
@@ -653,7 +659,9 @@ fn make_most(store: &Store, pass: &mut Pass) -> Result<(), Refusal>
 #[test]
 fn longest_lists(rt: HostRuntime) -> Result<(), Fail> {
     let (store, mut a) = for_one(rt.alloc(), 256, 100)?;
-    make_most(&store, &mut a)?;
+    write(&store, &mut a, Op::New)?;
+    set_most(&store, &mut a)?;
+    index_most(&store, &mut a)?;
     assert_eq!(rt; pin(&store, &mut a), 97);
     assert_eq!(rt; count_attrs(&store, rt.alloc(), &mut a)?, 64);
     assert_eq!(rt; count_indices(&store, rt.alloc(), &mut a)?, 32);

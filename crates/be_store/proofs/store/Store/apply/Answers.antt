@@ -12,8 +12,7 @@ returns-in-Ok-answer-clause-accepted c =
 
 pub returns-in-Err-answer-clause-refused : goal.returns-in-Err-answer-clause-refused
 returns-in-Err-answer-clause-refused c =
-    let t : TakesLock c.args.pass.now.knows c.in-Ok.writing.knows = subst (λ (k : Knowledge). TakesLock k c.in-Ok.writing.knows) (ap (λ (s : Place). s.knows) c.move_out.ensures.0) c.in-Ok.ensures.2 in
-    (
+    let t : TakesLock c.args.pass.now.knows c.in-Ok.writing.knows = subst (λ (k : Knowledge). TakesLock k c.in-Ok.writing.knows) (ap (λ (s : Place). s.knows) c.move_out.ensures.0) c.in-Ok.ensures.2 in (
       learns c.args.pass.now.knows c.in-Ok.writing.knows t c.write-answer.new.writing.knows c.unlock.result.knows c.args.ops.now c.in-Err-answer.refusal c.in-Err-answer.ensures.answer c.unlock.ensures.pass c.is_pass.ensures,
       reasons c.args.pass.now.knows c.in-Ok.writing.knows c.write-answer.new.writing.knows c.unlock.result.knows c.args.ops.now c.in-Err-answer.refusal c.in-Err-answer.ensures.answer c.unlock.ensures.pass,
     )
