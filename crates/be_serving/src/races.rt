@@ -206,7 +206,11 @@ fn put_replies<W: Write>(alloc: Global, writer: &mut W, replies: &[Vec<u8>]) -> 
 }
 
 /// Writes how many entries the journal has, their text, and the result of its check, which it answers.
-fn put_result<W: Write>(alloc: Global, writer: &mut W, journal: &Journal) -> Result<bool, RunFault>
+pub(crate) fn put_result<W: Write>(
+    alloc: Global,
+    writer: &mut W,
+    journal: &Journal,
+) -> Result<bool, RunFault>
     requires { IsLegal journal.now.entries }
     ensures ok { IfOk result (λ legal. (legal ≡ true) × Appends (W.contents writer.old) (W.contents writer.new) (result_text journal.now.entries)) }
     ensures late { IfErr result IsLate }
