@@ -35,7 +35,7 @@ fn is_help(heard: &Option<Line>) -> bool
     ensures { result ≡ true → hearing heard.now ≡ hears help_line }
 {
     match heard {
-        Some(Line::Short(bytes)) => bytes.as_slice() == b"help",
+        Some(Line::Short(bytes)) => bytes.as_slice() == b"help".as_slice(),
         Some(Line::Long) | None => false,
     }
 }
