@@ -1,5 +1,5 @@
 //! Runs that tell their journal.
-ghost use Rattle.std.specs.Prelude.{◌≡◌, ◌≤◌, ◌^◌, ◌↔◌, true, length, IfOk, IfErr, OnOk, IfSome, Err};
+ghost use Rattle.std.specs.Prelude.{◌≡◌, ◌≤◌, ◌^◌, ◌↔◌, ◌∷◌, [], true, length, IfOk, IfErr, OnOk, IfSome, Err};
 ghost use Rattle.be_journal.specs.Journal.{IsLegal};
 ghost use Rattle.be_serving.specs.Run as spec;
 ghost use Rattle.be_serving.specs.Telling.{IsToldRun, StopsTelling};
@@ -17,6 +17,18 @@ use be_store::laws::alone;
 use std::alloc::Global;
 use std::io::{Read, Write};
 
+/// A list of this pass alone.
+fn only(alloc: Global, pass: Pass) -> Result<Vec<Pass>, RunFault>
+    ensures passes { IfOk result (λ passes. passes.items ≡ pass ∷ []) }
+    ensures fault { IfErr result (λ e. e ≡ RunFault.Memory) }
+{
+    let mut passes = Vec::new(alloc);
+    match passes.push(pass) {
+        Ok(()) => Ok(passes),
+        Err(_) => Err(RunFault::Memory),
+    }
+}
+
 /// The journal of a store whose only pass is back: all that the pass has seen.
 fn close_alone(alloc: Global, store: be_store::Store, pass: Pass) -> Result<Journal, RunFault>
     requires pass { IsPassOf store pass }
@@ -26,10 +38,7 @@ fn close_alone(alloc: Global, store: be_store::Store, pass: Pass) -> Result<Jour
     ensures fault { IfErr result (λ e. e ≡ RunFault.Memory) }
 {
     alone(&store, &pass);
-    let mut passes = Vec::new(alloc);
-    if passes.push(pass).is_err() {
-        return Err(RunFault::Memory);
-    }
+    let passes = only(alloc, pass)?;
     Ok(store.close(passes))
 }
 
@@ -78,6 +87,8 @@ pub fn run_and_tell<R: Read, W: Write>(
     if !limits.are_within() {
         return Err(RunFault::Limits);
     }
-    let script = read_script(alloc, reader)?;
-    run_on_new(alloc, &script, writer, limits)
+    match read_script(alloc, reader) {
+        Ok(script) => run_on_new(alloc, &script, writer, limits),
+        Err(fault) => Err(fault),
+    }
 }
