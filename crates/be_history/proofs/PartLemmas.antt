@@ -132,7 +132,7 @@ ascii_byte c d k small l other = by (nat_eq (get_or (encode_utf8 c) k 0) d) refl
     by true e =
         let is : get_or (encode_utf8 c) k 0 ≡ d = same_byte _ d e in
         let same = inside_one c [] (encode_utf8 c) k (sym (append-nil (encode_utf8 c))) l (omega (arith, is, small)) in
-        absurd (true≢false (sym e ∙ (ap (λ b. nat_eq b d) same ∙ other)))
+        absurd (true≢false (sym e ∙ (ap (λ b. nat_eq b d) (sym same) ∙ other)))
 
 -- a character inside quotes, as it is printed
 inside_char : (end c : ℕ) → IsInside end (escaped c)

@@ -3,17 +3,29 @@ use Rattle.std.specs.Prelude.{◌≡◌, ℕ, ◌<◌, ◌^◌, ⊤, All, List, 
 use Rattle.std.specs.declared.option.Option.{Option}
 use Rattle.be_journal.specs.Journal.{IsEntry}
 use Rattle.be_journal.specs.declared.entries.Entry.{Entry}
+use Rattle.be_value.specs.declared.values.Value.{Value}
+use Rattle.be_value.specs.declared.values.Value.TheVariants.{Cstr, Long, Llng, Mims, Rawt, Ulng, Ullg}
 use Rattle.be_volume.specs.Sound.{IsOperation}
 use Rattle.be_volume.specs.declared.ops.Done.{Done}
 use Rattle.be_volume.specs.declared.ops.Done.TheVariants.{Node, Unit as Nothing}
 use Rattle.be_volume.specs.declared.ops.Op.{Op}
 use Rattle.be_volume.specs.declared.ops.Op.TheVariants.{New, Drop, Set, Unset, MkIndex, RmIndex}
 
--- the node that an operation calls is a number of 64 bits
+-- raw bytes are bytes
+abbrev pub HasBytes : Value → Type 0
+HasBytes (Cstr text) = ⊤
+HasBytes (Long n) = ⊤
+HasBytes (Llng n) = ⊤
+HasBytes (Mims text) = ⊤
+HasBytes (Rawt bytes) = All (λ b. b < 2 ^ 8) bytes
+HasBytes (Ulng n) = ⊤
+HasBytes (Ullg n) = ⊤
+
+-- the node that an operation calls is a number of 64 bits, and what it sets has bytes
 abbrev pub HasNumber : Op → Type 0
 HasNumber New = ⊤
 HasNumber (Drop node) = node < 2 ^ 64
-HasNumber (Set node name value) = node < 2 ^ 64
+HasNumber (Set node name value) = (node < 2 ^ 64) × HasBytes value
 HasNumber (Unset node name) = node < 2 ^ 64
 HasNumber (MkIndex name kind) = ⊤
 HasNumber (RmIndex name) = ⊤

@@ -9,6 +9,7 @@ ghost use Rattle.be_history.specs.History as history;
 ghost use Rattle.be_history.specs.Parts as spec;
 
 use crate::lists::{read_dones, read_ops};
+use crate::ranges::{dones_can_be, ops_can_be};
 use crate::parts::{skip, split_at_end};
 use be_journal::{Dones, Entry, Ops, entry_line};
 use be_value::word_of;
@@ -59,43 +60,6 @@ fn guess_entry(alloc: Global, number: u64, line: &[u8]) -> Result<Option<Entry>,
         return Ok(None);
     };
     Ok(entry_of(by, ops, dones))
-}
-
-/// A law of one operation: it is one of the program, as a contract can't tell of an operation that it is lent. It does
-/// nothing.
-fn op_can_be(op: &Op)
-    ensures { history.CanBeOp op.now }
-{
-    op.valid();
-    match op {
-        Op::Drop(node) | Op::Set(node, _, _) | Op::Unset(node, _) => {
-            let _node = *node;
-        }
-        Op::New | Op::MkIndex(_, _) | Op::RmIndex(_) => {}
-    }
-}
-
-/// The same of operations.
-fn ops_can_be(ops: &[Op])
-    ensures { All history.CanBeOp ops.now }
-{
-    for op in ops {
-        op_can_be(op);
-    }
-}
-
-/// The same of answers.
-fn dones_can_be(dones: &[Done])
-    ensures { All history.CanBeDone dones.now }
-{
-    for done in dones {
-        match done {
-            Done::Node(node) => {
-                let _node = *node;
-            }
-            Done::Unit => {}
-        }
-    }
 }
 
 /// The entry of which this is the line, its LF included. None where it is none's.

@@ -11,6 +11,7 @@ mod dumps;
 mod journals;
 mod lists;
 mod parts;
+mod ranges;
 mod told;
 
 pub use checks::{Finding, check};
