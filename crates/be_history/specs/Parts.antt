@@ -1,5 +1,5 @@
 -- The parts of an entry's line.
-use Rattle.std.specs.Prelude.{ℕ, ◌+◌, Bool, false, List, [], ◌∷◌, ◌++◌, length, nat_eq, if◌then◌else◌, take, drop, Some, None, codes}
+use Rattle.std.specs.Prelude.{ℕ, ◌+◌, ◌-◌, Bool, false, List, [], ◌∷◌, ◌++◌, length, nat_eq, if◌then◌else◌, take, drop, Some, None, codes}
 use Rattle.std.specs.Fmt.{decimal}
 use Rattle.std.specs.declared.option.Option.{Option}
 use Rattle.std.specs.declared.result.Result.TheVariants.{Ok, Err}
@@ -48,9 +48,32 @@ done_in text = done_of (word_in (drop 5 text))
 abbrev pub behind_number : ℕ → List ℕ → List ℕ
 behind_number number line = drop (length (decimal number ++ codes " by ")) line
 
+-- what stands before the first end, and what follows the end
+abbrev pub before : ℕ → List ℕ → List ℕ
+before end text = take (length_to end Outside text) text
+
+abbrev pub after : ℕ → List ℕ → List ℕ
+after end text = drop (length_to end Outside text + 1) text
+
+abbrev pub without_last_two : List ℕ → List ℕ
+without_last_two text = take (length text - 2) text
+
+-- in the line of the entry N: the pass, behind `N by `; what follows it; the operations, before ` ->`; and the answers
+abbrev pub by_part : ℕ → List ℕ → List ℕ
+by_part number line = before 32 (behind_number number line)
+
+abbrev pub behind_by : ℕ → List ℕ → List ℕ
+behind_by number line = after 32 (behind_number number line)
+
+abbrev pub ops_part : ℕ → List ℕ → List ℕ
+ops_part number line = without_last_two (before 62 (behind_by number line))
+
+abbrev pub dones_part : ℕ → List ℕ → List ℕ
+dones_part number line = before 10 (drop 1 (after 62 (behind_by number line)))
+
 -- the first line with its LF, and what follows it
 abbrev pub first_line : List ℕ → List ℕ
 first_line text = take (length_to 10 Outside text + 1) text
 
 abbrev pub behind_line : List ℕ → List ℕ
-behind_line text = drop (length_to 10 Outside text + 1) text
+behind_line text = after 10 text

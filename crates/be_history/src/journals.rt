@@ -10,7 +10,7 @@ ghost use Rattle.be_history.specs.Parts as spec;
 
 use crate::lists::{read_dones, read_ops};
 use crate::ranges::{dones_can_be, ops_can_be};
-use crate::parts::{skip, split_at_end};
+use crate::parts::{skip, split_around, without_last_two};
 use be_journal::{Dones, Entry, Ops, entry_line};
 use be_value::word_of;
 use be_volume::{Done, Op};
@@ -42,21 +42,36 @@ fn behind_number(alloc: Global, number: u64, line: &[u8]) -> Result<&[u8], Alloc
     Ok(skip(head.len(), line))
 }
 
-/// The entry that a line with its LF tells, if it is one that was printed; else any or none.
-fn guess_entry(alloc: Global, number: u64, line: &[u8]) -> Result<Option<Entry>, AllocError>
-    ensures { IfOk result (λ read. (entry : AnyEntry) → history.IsWritten entry → line.now ≡ entry_line number entry → read ≡ Some entry) }
-    ensures is { IfOk result (λ read. IfSome read (λ entry. IsEntry entry)) }
+/// The texts of the pass, the operations and the answers in the line of the entry with this number.
+fn parts_of(
+    alloc: Global,
+    number: u64,
+    line: &[u8],
+) -> Result<(&[u8], &[u8], &[u8]), AllocError>
+    ensures by { IfOk result (λ parts. parts.0.now ≡ spec.by_part number line.now) }
+    ensures ops { IfOk result (λ parts. parts.1.now ≡ spec.ops_part number line.now) }
+    ensures dones { IfOk result (λ parts. parts.2.now ≡ spec.dones_part number line.now) }
 {
     let rest = behind_number(alloc, number, line)?;
-    let (by, rest) = split_at_end(b' ', rest);
+    let (by, rest) = split_around(b' ', rest);
+    let (ops, dones) = split_around(b'>', rest);
+    let (dones, _) = split_around(b'\n', skip(1, dones));
+    Ok((by, without_last_two(ops), dones))
+}
+
+/// The entry that a line with its LF tells, if it is one that was printed; else any or none.
+fn guess_entry(alloc: Global, number: u64, line: &[u8]) -> Result<Option<Entry>, AllocError>
+    ensures whole { IfOk result (λ read. (entry : AnyEntry) → history.IsWritten entry → line.now ≡ entry_line number entry → read ≡ Some entry) }
+    ensures is { IfOk result (λ read. IfSome read IsEntry) }
+{
+    let (by, ops, dones) = parts_of(alloc, number, line)?;
     let Some(by) = word_of(by) else {
         return Ok(None);
     };
-    let (ops, dones) = split_at_end(b'>', skip(1, rest));
-    // Behind the operations stands ` -`, before the `>`.
-    let (ops, _) = ops.split_at(ops.len().saturating_sub(2));
-    let (dones, _) = split_at_end(b'\n', skip(2, dones));
-    let (Some(ops), Some(dones)) = (read_ops(alloc, ops)?, read_dones(alloc, dones)?) else {
+    let Some(ops) = read_ops(alloc, ops)? else {
+        return Ok(None);
+    };
+    let Some(dones) = read_dones(alloc, dones)? else {
         return Ok(None);
     };
     Ok(entry_of(by, ops, dones))
@@ -85,7 +100,7 @@ pub(crate) fn first_line(text: &[u8]) -> (&[u8], &[u8])
     ensures rest { result.1.now ≡ spec.behind_line text.now }
     ensures shorter { 1 ≤ length text.now → length result.1.now < length text.now }
 {
-    let end = split_at_end(b'\n', text).0.len();
+    let end = split_around(b'\n', text).0.len();
     if end < text.len() {
         text.split_at(end + 1)
     } else {

@@ -11,7 +11,7 @@ ghost use Rattle.be_volume.specs.declared.ops.Op.{Op as AnyOp};
 ghost use Rattle.be_history.specs.History as history;
 ghost use Rattle.be_history.specs.Parts as spec;
 
-use crate::parts::{skip, split_at_end};
+use crate::parts::{skip, split_around};
 use be_language::{Request, read_line};
 use be_value::word_of;
 use be_volume::{Done, Op};
@@ -45,7 +45,7 @@ pub fn read_ops(alloc: Global, text: &[u8]) -> Result<Option<Vec<Op>>, AllocErro
     let mut ops = Vec::new(alloc);
     let mut rest = text;
     while !rest.is_empty() {
-        let (part, behind) = split_at_end(b';', rest);
+        let (part, behind) = split_around(b';', rest);
         if part.is_empty() {
             return Ok(None);
         }
@@ -53,7 +53,7 @@ pub fn read_ops(alloc: Global, text: &[u8]) -> Result<Option<Vec<Op>>, AllocErro
             return Ok(None);
         };
         ops.push(op)?;
-        rest = skip(2, behind);
+        rest = skip(1, behind);
     }
     Ok(Some(ops))
 }
@@ -66,12 +66,12 @@ pub fn read_dones(alloc: Global, text: &[u8]) -> Result<Option<Vec<Done>>, Alloc
     let mut dones = Vec::new(alloc);
     let mut rest = text;
     while !rest.is_empty() {
-        let (part, behind) = split_at_end(b';', rest);
+        let (part, behind) = split_around(b';', rest);
         if part.is_empty() {
             return Ok(None);
         }
         dones.push(read_done(part))?;
-        rest = skip(2, behind);
+        rest = skip(1, behind);
     }
     Ok(Some(dones))
 }

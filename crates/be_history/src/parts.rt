@@ -68,15 +68,6 @@ fn length_to(end: u8, text: &[u8]) -> usize
     count
 }
 
-/// What stands before the first `end` outside quotes, and the rest, which begins with it; all and nothing where there is
-/// none.
-pub fn split_at_end(end: u8, text: &[u8]) -> (&[u8], &[u8])
-    ensures part { result.0.now ≡ take (spec.length_to end Quoting.Outside text.now) text.now }
-    ensures rest { result.1.now ≡ drop (spec.length_to end Quoting.Outside text.now) text.now }
-{
-    text.split_at(length_to(end, text))
-}
-
 /// The text without so many bytes at its front.
 pub fn skip(count: usize, text: &[u8]) -> &[u8]
     ensures { result.now ≡ drop count text.now }
@@ -86,4 +77,24 @@ pub fn skip(count: usize, text: &[u8]) -> &[u8]
     } else {
         &[]
     }
+}
+
+/// What stands before the first `end` outside quotes, and what follows that `end`; all and nothing where there is none.
+pub fn split_around(end: u8, text: &[u8]) -> (&[u8], &[u8])
+    ensures part { result.0.now ≡ spec.before end text.now }
+    ensures within { length result.0.now ≤ length text.now }
+    ensures rest { result.1.now ≡ spec.after end text.now }
+{
+    let count = length_to(end, text);
+    (text.split_at(count).0, skip(count + 1, text))
+}
+
+/// The text without its last two bytes.
+pub fn without_last_two(text: &[u8]) -> &[u8]
+    ensures { result.now ≡ take (length text.now - 2) text.now }
+{
+    if text.len() < 2 {
+        return &[];
+    }
+    text.split_at(text.len() - 2).0
 }
