@@ -9,6 +9,7 @@
 mod checks;
 mod dumps;
 mod journals;
+pub mod laws;
 mod lists;
 mod parts;
 mod ranges;
