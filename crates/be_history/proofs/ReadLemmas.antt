@@ -8,7 +8,11 @@ use Rattle.std.specs.declared.option.Option.{Option}
 use Rattle.be_journal.specs.Text.{done_text, entry_line, lines_from, op_text}
 use Rattle.be_journal.specs.declared.entries.Entry.{Entry}
 use Rattle.be_journal.proofs.TextLemmas.{lines_push}
-use Rattle.be_history.specs.History.{AreWritten, IsWritten}
+use Rattle.be_volume.specs.declared.ops.Done.{Done}
+use Rattle.be_volume.specs.declared.ops.Done.TheVariants.{Node, Unit as Nothing}
+use Rattle.be_volume.specs.declared.ops.Op.{Op}
+use Rattle.be_volume.specs.declared.ops.Op.TheVariants.{New, Drop, Set, Unset, MkIndex, RmIndex}
+use Rattle.be_history.specs.History.{AreWritten, CanBeDone, CanBeOp, IsWritten}
 use Rattle.be_history.specs.Parts.{after, before, behind_line, first_line}
 use Rattle.be_history.proofs.LineLemmas.{first_joined, line_behind, line_first, rest_joined}
 use Rattle.be_history.proofs.PartLemmas.{IsPart}
@@ -36,11 +40,11 @@ all_left P text_of text xs are is = (xs, refl, is)
 -- an element more
 pub less_left : {X : Type 0} (P : X → Type 0) (text_of : X → List ℕ) (text rest rest' : List ℕ) (read read' : List X) (x : X) → ((y : X) → P y → IsPart 59 (text_of y)) → 1 ≤ length rest →
     IsLeft P text_of text read rest → ((y : X) → P y → before 59 rest ≡ text_of y → x ≡ y) → read' ≡ read ++ x ∷ [] → rest' ≡ drop 1 (after 59 rest) → IsLeft P text_of text read' rest'
-less_left {X} P text_of text rest rest' read read' x each some left exact read_is rest_is xs are is = by (left xs are is)
+less_left {X} P text_of text rest rest' read read' x each some left exact read_is rest_is xs are is = let h = left xs are is in by h.0 h.1 h.2
   where
-    by : (more : List X) × (xs ≡ read ++ more) × (rest ≡ join_by text_of (codes "; ") more) → (more : List X) × (xs ≡ read' ++ more) × (rest' ≡ join_by text_of (codes "; ") more)
-    by ([], same, last) = absurd (omega (arith, some, ap length last))
-    by (y ∷ more, same, now) =
+    by : (more : List X) → xs ≡ read ++ more → rest ≡ join_by text_of (codes "; ") more → (more : List X) × (xs ≡ read' ++ more) × (rest' ≡ join_by text_of (codes "; ") more)
+    by [] same last = absurd (omega (arith, some, ap length last))
+    by (y ∷ more) same now =
         let can : P y = All-head P y more (all_right P read (y ∷ more) (subst (All P) same are)) in
         let here : x ≡ y = exact y can (ap (before 59) now ∙ first_joined text_of y more (each y can)) in (
           more,
@@ -51,11 +55,11 @@ less_left {X} P text_of text rest rest' read read' x each some left exact read_i
 -- nothing is left
 pub none_left : {X : Type 0} (P : X → Type 0) (text_of : X → List ℕ) (text rest : List ℕ) (read : List X) → ((y : X) → P y → 1 ≤ length (text_of y)) → length rest ≡ 0 → IsLeft P text_of text read rest →
     (xs : List X) → All P xs → text ≡ join_by text_of (codes "; ") xs → read ≡ xs
-none_left {X} P text_of text rest read long none left xs are is = by (left xs are is)
+none_left {X} P text_of text rest read long none left xs are is = let h = left xs are is in by h.0 h.1 h.2
   where
-    by : (more : List X) × (xs ≡ read ++ more) × (rest ≡ join_by text_of (codes "; ") more) → read ≡ xs
-    by ([], same, last) = sym (same ∙ append-nil read)
-    by (y ∷ more, same, now) =
+    by : (more : List X) → xs ≡ read ++ more → rest ≡ join_by text_of (codes "; ") more → read ≡ xs
+    by [] same last = sym (same ∙ append-nil read)
+    by (y ∷ more) same now =
         let can : P y = All-head P y more (all_right P read (y ∷ more) (subst (All P) same are)) in
         absurd (omega (arith, long y can, none, ap length now, length-append (text_of y) _))
 
@@ -70,7 +74,7 @@ all_lines_left text entries are is = (entries, refl, is)
 -- an entry more
 pub less_lines_left : (text rest rest' : List ℕ) (read read' : List Entry) (entry : Entry) → 1 + length read < 2 ^ 64 → 1 ≤ length rest → AreLeft text read rest →
     ((e : Entry) → IsWritten e → first_line rest ≡ entry_line (1 + length read) e → entry ≡ e) → read' ≡ read ++ entry ∷ [] → rest' ≡ behind_line rest → AreLeft text read' rest'
-less_lines_left text rest rest' read read' entry small some left exact read_is rest_is entries are is = by (left entries are is)
+less_lines_left text rest rest' read read' entry small some left exact read_is rest_is entries are is = let h = left entries are is in by h.0 h.1 h.2
   where
     n : ℕ
     n = 1 + length read
@@ -78,9 +82,9 @@ less_lines_left text rest rest' read read' entry small some left exact read_is r
     counted : 1 + length read' ≡ n + 1
     counted = ap (λ l. 1 + length l) read_is ∙ (let long = length-append read (entry ∷ []) in omega arith)
 
-    by : (more : List Entry) × (entries ≡ read ++ more) × (rest ≡ lines_from n more) → (more : List Entry) × (entries ≡ read' ++ more) × (rest' ≡ lines_from (1 + length read') more)
-    by ([], same, last) = absurd (omega (arith, some, ap length last))
-    by (e ∷ more, same, now) =
+    by : (more : List Entry) → entries ≡ read ++ more → rest ≡ lines_from n more → (more : List Entry) × (entries ≡ read' ++ more) × (rest' ≡ lines_from (1 + length read') more)
+    by [] same last = absurd (omega (arith, some, ap length last))
+    by (e ∷ more) same now =
         let can : IsWritten e = All-head IsWritten e more (all_right IsWritten read (e ∷ more) (subst (All IsWritten) same are.0)) in
         let here : entry ≡ e = exact e can (ap first_line now ∙ line_first n e can small (lines_from (n + 1) more)) in (
           more,
@@ -97,11 +101,11 @@ entry_line_long n e = let long = length-append (decimal n) (codes " by " ++ behi
 
 -- no line is left
 pub no_lines_left : (text rest : List ℕ) (read : List Entry) → length rest ≡ 0 → AreLeft text read rest → (entries : List Entry) → AreWritten entries → text ≡ lines_from 1 entries → read ≡ entries
-no_lines_left text rest read none left entries are is = by (left entries are is)
+no_lines_left text rest read none left entries are is = let h = left entries are is in by h.0 h.1 h.2
   where
-    by : (more : List Entry) × (entries ≡ read ++ more) × (rest ≡ lines_from (1 + length read) more) → read ≡ entries
-    by ([], same, last) = sym (same ∙ append-nil read)
-    by (e ∷ more, same, now) =
+    by : (more : List Entry) → entries ≡ read ++ more → rest ≡ lines_from (1 + length read) more → read ≡ entries
+    by [] same last = sym (same ∙ append-nil read)
+    by (e ∷ more) same now =
         let long = length-append (entry_line (1 + length read) e) (lines_from (1 + length read + 1) more) in
         absurd (omega (arith, long, none, ap length now, entry_line_long (1 + length read) e))
 
@@ -114,3 +118,16 @@ lines_read text rest read read' entry was line read_is =
     ∙ (append_assoc (lines_from 1 read) (entry_line (1 + length read) entry) (behind_line rest)
     ∙ (ap (λ l. lines_from 1 read ++ (l ++ behind_line rest)) (sym line)
     ∙ (ap (λ l. lines_from 1 read ++ l) (take-append-drop _ rest) ∙ was))))
+
+-- texts of operations and of answers aren't empty
+pub op_long : (op : Op) → CanBeOp op → 1 ≤ length (op_text op)
+op_long New h = omega arith
+op_long (Drop node) h = omega arith
+op_long (Set node name value) h = omega arith
+op_long (Unset node name) h = omega arith
+op_long (MkIndex name kind) h = omega arith
+op_long (RmIndex name) h = omega arith
+
+pub done_long : (done : Done) → CanBeDone done → 1 ≤ length (done_text done)
+done_long (Node node) h = omega arith
+done_long Nothing h = omega arith

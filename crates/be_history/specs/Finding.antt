@@ -42,10 +42,10 @@ pub data Found : Type 0 where
   right : Found
   wrong : List ℕ → Found
 
-abbrev pub found : Finding → Found
-found findings.NoJournal = no_journal
-found findings.Right = right
-found (findings.Wrong line) = wrong (string_bytes line)
+abbrev pub found_of : Finding → Found
+found_of findings.NoJournal = no_journal
+found_of findings.Right = right
+found_of (findings.Wrong line) = wrong (string_bytes line)
 
 -- what the check of entries finds
 abbrev pub IsFound : List Entry → Found → Type 0

@@ -20,7 +20,7 @@ pub enum Finding {
 /// The line of the first wrong entry, or that there is none.
 fn finding_of(alloc: Global, entries: &[Entry]) -> Result<Finding, AllocError>
     requires { spec.AreChecked entries.now }
-    ensures { IfOk result (λ found. spec.IsFound entries.now (spec.found found)) }
+    ensures { IfOk result (λ found. spec.IsFound entries.now (spec.found_of found)) }
 {
     match first_wrong(alloc, entries)? {
         Some(place) => Ok(Finding::Wrong(entry_line(
@@ -35,7 +35,7 @@ fn finding_of(alloc: Global, entries: &[Entry]) -> Result<Finding, AllocError>
 /// Runs the journal that a text tells again, on an empty volume: whether each entry was answered the same, or the first that
 /// was not. It trusts nothing but the text. Only want of memory is an error.
 pub fn check(alloc: Global, text: &[u8]) -> Result<Finding, AllocError>
-    ensures { IfOk result (λ found. spec.IsFinding text.now (spec.found found)) }
+    ensures { IfOk result (λ found. spec.IsFinding text.now (spec.found_of found)) }
 {
     match journal_told(alloc, text)? {
         Some(entries) => finding_of(alloc, &entries),

@@ -11,6 +11,7 @@ ghost use Rattle.be_volume.specs.declared.ops.Op.{Op as AnyOp};
 ghost use Rattle.be_history.specs.History as history;
 ghost use Rattle.be_history.specs.Parts as spec;
 
+use crate::laws::printed_op_asks_for_it;
 use crate::parts::{skip, split_around};
 use be_language::{Request, read_line};
 use be_value::word_of;
@@ -42,6 +43,7 @@ pub fn read_ops(alloc: Global, text: &[u8]) -> Result<Option<Vec<Op>>, AllocErro
     ensures { IfOk result (λ read. (ops : List AnyOp) → All history.CanBeOp ops → text.now ≡ join_by op_text (codes "; ") ops →
         option_map (λ v. v.items) read ≡ Some ops) }
 {
+    printed_op_asks_for_it();
     let mut ops = Vec::new(alloc);
     let mut rest = text;
     while !rest.is_empty() {
