@@ -1,5 +1,6 @@
 -- Printed lists and journals, read on by one element.
-use Rattle.std.proofs.Common.{◌≡◌, ℕ, ◌+◌, ◌^◌, ◌<◌, ◌≤◌, List, [], ◌∷◌, ◌++◌, length, length-append, take, drop, All, Some, None, codes, refl, sym, ap, ◌∙◌, subst, append_assoc, arith}
+use Rattle.std.proofs.Common.{◌≡◌, ℕ, ◌+◌, ◌^◌, ◌<◌, ◌≤◌, true, nat_eq, nat_le, List, [], ◌∷◌, ◌++◌, length, length-append, take, drop, All, Some, None, codes, refl, sym, ap, ◌∙◌, subst, append_assoc, arith}
+use Rattle.std.proofs.lemmas.Bool.Decides.{nat_tests}
 use Rattle.std.proofs.lemmas.List.{append-nil, take-append-drop}
 use Rattle.std.proofs.lemmas.List.Elements.{All-head, All-tail}
 use Rattle.std.specs.Fmt.{decimal}
@@ -12,7 +13,7 @@ use Rattle.be_volume.specs.declared.ops.Done.{Done}
 use Rattle.be_volume.specs.declared.ops.Done.TheVariants.{Node, Unit as Nothing}
 use Rattle.be_volume.specs.declared.ops.Op.{Op}
 use Rattle.be_volume.specs.declared.ops.Op.TheVariants.{New, Drop, Set, Unset, MkIndex, RmIndex}
-use Rattle.be_history.specs.History.{AreWritten, CanBeDone, CanBeOp, IsWritten}
+use Rattle.be_history.specs.History.{AreWritten, CanBeDone, CanBeOp, IsWritten, entry_of}
 use Rattle.be_history.specs.Parts.{after, before, behind_line, first_line}
 use Rattle.be_history.proofs.LineLemmas.{first_joined, line_behind, line_first, rest_joined}
 use Rattle.be_history.proofs.PartLemmas.{IsPart}
@@ -131,3 +132,11 @@ op_long (RmIndex name) h = omega arith
 pub done_long : (done : Done) → CanBeDone done → 1 ≤ length (done_text done)
 done_long (Node node) h = omega arith
 done_long Nothing h = omega arith
+
+-- the lists of an entry are those of one
+pub entry_made : (entry : Entry) → IsWritten entry → entry_of entry.by entry.ops entry.dones ≡ Some entry
+entry_made entry w =
+    let some : nat_le 1 (length entry.ops) ≡ true = grind (arith, nat_tests, w.is.0) in
+    let few : nat_le (length entry.ops) 64 ≡ true = grind (arith, nat_tests, w.is.1) in
+    let same : nat_eq (length entry.dones) (length entry.ops) ≡ true = grind (arith, nat_tests, w.is.2) in
+    rw some (rw few (rw same refl))

@@ -1,7 +1,6 @@
 //! A journal that is read back from its text.
-ghost use Rattle.std.specs.Prelude.{◌≡◌, ◌≤◌, ◌<◌, ◌^◌, List, All, Some, IfOk, IfSome, length};
+ghost use Rattle.std.specs.Prelude.{◌≡◌, ◌≤◌, ◌<◌, List, Some, IfOk, IfSome, length};
 ghost use Rattle.std.specs.Option.{option_map};
-ghost use Rattle.std.specs.String.{string_bytes};
 ghost use Rattle.be_journal.specs.Journal.{IsEntry};
 ghost use Rattle.be_journal.specs.Text.{entry_line, lines_from};
 ghost use Rattle.be_journal.specs.declared.entries.Entry.{Entry as AnyEntry};
@@ -9,8 +8,8 @@ ghost use Rattle.be_history.specs.History as history;
 ghost use Rattle.be_history.specs.Parts as spec;
 
 use crate::lists::{read_dones, read_ops};
-use crate::ranges::{dones_can_be, ops_can_be};
 use crate::parts::{skip, split_around, without_last_two};
+use crate::ranges::{dones_can_be, ops_can_be};
 use be_journal::{Dones, Entry, Ops, entry_line};
 use be_value::word_of;
 use be_volume::{Done, Op};

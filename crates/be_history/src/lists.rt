@@ -2,7 +2,7 @@
 //!
 //! What is read here is right where the text is one that was printed, and else anything: an entry is printed again once it
 //! is read, and is taken only where that gives the line.
-ghost use Rattle.std.specs.Prelude.{◌≡◌, ◌≤◌, List, All, Some, IfOk, codes, length};
+ghost use Rattle.std.specs.Prelude.{◌≡◌, List, All, Some, IfOk, codes};
 ghost use Rattle.std.specs.List.{join_by};
 ghost use Rattle.std.specs.Option.{option_map};
 ghost use Rattle.be_journal.specs.Text.{op_text, done_text};

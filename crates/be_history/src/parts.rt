@@ -2,7 +2,7 @@
 //!
 //! The parts of a line are parted by single bytes: a blank, `>`, `;` and the LF. A name or a text in quotes may have each of
 //! them too, so a part ends at the first such byte outside quotes.
-ghost use Rattle.std.specs.Prelude.{◌≡◌, ◌≤◌, drop, take, length};
+ghost use Rattle.std.specs.Prelude.{◌≡◌, ◌≤◌, ◌-◌, drop, take, length};
 ghost use Rattle.be_history.specs.Parts as spec;
 
 /// Whether a byte stands in quotes.

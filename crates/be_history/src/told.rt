@@ -4,7 +4,6 @@
 //! begins with a `j`, so the last line that does is where it begins.
 ghost use Rattle.std.specs.Prelude.{◌≡◌, ◌↔◌, true, List, Some, IfOk, IfSome};
 ghost use Rattle.std.specs.Option.{option_map};
-ghost use Rattle.std.specs.String.{string_bytes};
 ghost use Rattle.be_journal.specs.Text.{result_text};
 ghost use Rattle.be_journal.specs.declared.entries.Entry.{Entry as AnyEntry};
 ghost use Rattle.be_history.specs.Finding as spec;
@@ -36,7 +35,7 @@ fn from_last_j(text: &[u8]) -> Option<&[u8]>
 
 /// Whether the text is that of the line `journal N`, for this N, and its LF.
 fn is_head(alloc: Global, text: &[u8], count: usize) -> Result<bool, AllocError>
-    ensures { IfOk result (λ is. is ≡ true ↔ text.now ≡ spec.head count) }
+    ensures { IfOk result (λ is. (is ≡ true) ↔ (text.now ≡ spec.head count)) }
 {
     let head = format!(in alloc; "journal {count}\n")?;
     Ok(head.as_bytes() == text)
