@@ -1,8 +1,8 @@
 //! The command line.
 //!
-//! `bestore run [--journal] [--pages N] [--commits N] FILE`, `bestore race [--pages N] [--commits N] SCRIPT...`,
-//! `bestore shell [--pages N] [--commits N] [FILE]`, `bestore check FILE` and `bestore dump FILE`. `clap` reads the words, writes the help and the version, and tells what
-//! is wrong. How many scripts a race takes is for the program to look at.
+//! `bestore run [--journal] [--pages N] [--commits N] FILE`, `bestore race [--pages N] [--commits N] SCRIPT...`, `bestore
+//! shell [--pages N] [--commits N] [FILE]`, `bestore check FILE` and `bestore dump FILE`. `clap` reads the words, writes
+//! the help and the version, and tells what is wrong. How many scripts a race takes is for the program to look at.
 ghost use Rattle.std.specs.Prelude.{IfOk, IfSome};
 ghost use Rattle.be_command_line.specs.Task.{AreForOne, IsTask};
 
