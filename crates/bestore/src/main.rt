@@ -194,9 +194,11 @@ fn open_shell<R: Runtime + AllocGlobal>(
 fn read_whole<R: Runtime + AllocGlobal>(rt: &R, file: &str) -> io::Result<Vec<u8>> {
     let mut text = Vec::new(rt.alloc());
     if file == STANDARD_INPUT {
-        rt.reader().read_to_end(&mut text)?;
+        let mut reader = rt.reader();
+        reader.read_to_end(&mut text)?;
     } else {
-        fs::open(rt, file)?.read_to_end(&mut text)?;
+        let mut reader = fs::open(rt, file)?;
+        reader.read_to_end(&mut text)?;
     }
     Ok(text)
 }
