@@ -1,7 +1,7 @@
 //! A pass with its share of the store, and its calls.
 ghost use Rattle.std.specs.Prelude.{◌≡◌, ◌⊎◌, ◌≤◌, ◌+◌, ℕ, Ok, IfOk, IfErr, length, string_bytes, vec_len};
 ghost use Rattle.be_session.specs.Explained.{explained_in};
-ghost use Rattle.be_session.specs.Sitting.{AtPin, IsHeldBack, IsNoQuery, IsOpened, IsUnrefreshed, Tells};
+ghost use Rattle.be_session.specs.Sitting.{AtPin, IsHeldBack, IsHeldBackAtLast, IsNoQuery, IsOpened, IsUnrefreshed, Tells};
 ghost use Rattle.be_session.specs.declared.faults.Fault.TheVariants.{AlreadyPinned, NoPass, NotPinned, Refused};
 ghost use Rattle.be_query.specs.Grammar.{IsTextOf};
 ghost use Rattle.be_store.specs.History.{Accepts, Pins};
@@ -169,6 +169,25 @@ impl Session {
             return Err(Fault::BadCount);
         }
         Ok(self.store.apply(&mut self.pass, ops)?)
+    }
+
+    /// Writes as `apply` does, and tries again while another pass is writing, so many times at most after the first. Before
+    /// each further try another thread may run.
+    pub fn apply_or_retry(
+        &mut self,
+        ops: &[Op],
+        retries: u32,
+    ) -> Result<(u64, ArrayVec<Done, 64>), Fault>
+        ensures store { (self.new.store ≡ self.old.store) × (self.new.spare ≡ self.old.spare) }
+        ensures ok { IfOk result (λ r. Accepts self.old.knows self.new.knows ops.now r.0 r.1.items) }
+        ensures count { IfOk result (λ r. (1 ≤ length ops.now) × (length ops.now ≤ 64)) }
+        ensures err { IfErr result (λ e. IsHeldBackAtLast (retries + 1) self.old.knows self.new.knows ops.now e) }
+    {
+        if ops.is_empty() || ops.len() > 64 {
+            return Err(Fault::BadCount);
+        }
+        let tries = retries as u64 + 1;
+        Ok(self.store.apply_or_retry(&mut self.pass, ops, tries)?)
     }
 
     /// The nodes of which the query is true in the pinned version, ascending.
