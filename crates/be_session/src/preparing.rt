@@ -40,7 +40,8 @@ impl Prepared {
         ensures read { HasRead session.old.knows session.new.knows }
         ensures nodes { AtPin (pinned_number session.old.knows.phase) result (Tells (λ nodes. nodes.items) result (scan (volume_pinned session.old.knows) self.now.live.query)) }
     {
-        session.query(alloc, self.live.query())
+        let asked = self.live.query();
+        session.query(alloc, asked)
     }
 
     /// Asks the query in the session's pinned version, and keeps which nodes came and which went since the last refresh. A fault
