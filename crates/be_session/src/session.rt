@@ -183,7 +183,7 @@ impl Session {
         ensures count { IfOk result (λ r. (1 ≤ length ops.now) × (length ops.now ≤ 64)) }
         ensures err { IfErr result (λ e. IsHeldBackAtLast (retries + 1) self.old.knows self.new.knows ops.now e) }
     {
-        if ops.is_empty() || ops.len() > 64 {
+        if ops.is_empty() || 64 < ops.len() {
             return Err(Fault::BadCount);
         }
         let tries = retries as u64 + 1;
