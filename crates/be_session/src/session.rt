@@ -4,7 +4,7 @@ ghost use Rattle.be_session.specs.Explained.{explained_in};
 ghost use Rattle.be_session.specs.Sitting.{AtPin, IsHeldBack, IsHeldBackAtLast, IsNoQuery, IsOpened, IsUnrefreshed, Tells};
 ghost use Rattle.be_session.specs.declared.faults.Fault.TheVariants.{AlreadyPinned, NoPass, NotPinned, Refused};
 ghost use Rattle.be_query.specs.Grammar.{IsTextOf};
-ghost use Rattle.be_store.specs.History.{Accepts, Pins};
+ghost use Rattle.be_store.specs.History.{Accepts, IsUntold, Learns, Pins, text_seen};
 ghost use Rattle.be_store.specs.Live.{Refreshes};
 ghost use Rattle.be_store.specs.Passes.{HasRead, IsPassOf, IsPinnedTo, volume_pinned};
 ghost use Rattle.be_table.specs.Rule.{IsWithin, newcomer};
@@ -188,6 +188,16 @@ impl Session {
         }
         let tries = retries as u64 + 1;
         Ok(self.store.apply_or_retry(&mut self.pass, ops, tries)?)
+    }
+
+    /// The journal's text up to now: as the store's own `journal_text`. It needs no pin.
+    pub fn journal_text(&mut self) -> Result<String, Fault>
+        ensures store { (self.new.store ≡ self.old.store) × (self.new.spare ≡ self.old.spare) }
+        ensures learns { Learns self.old.knows self.new.knows }
+        ensures text { IfOk result (λ text. string_bytes text ≡ text_seen self.new.knows) }
+        ensures err { IfErr result (λ e. (why : AnyRefusal) × (e ≡ Refused why) × IsUntold self.old.knows self.new.knows why) }
+    {
+        Ok(self.store.journal_text(&mut self.pass)?)
     }
 
     /// The nodes of which the query is true in the pinned version, ascending.

@@ -16,6 +16,7 @@ use crate::marks::Marks;
 use crate::rule::{Announced, Fill, FoundFill, GiveUp, OwnWord, Publish, Scan, TakePage, Unlock};
 use crate::seat::{Base, Seat};
 use crate::table::{ANNOUNCE, CURRENT, LOCK, PAGES, VersionTable};
+use be_journal::Journal;
 use be_pages::Place;
 use be_value::Refusal;
 use be_volume::{Done, Op};
@@ -91,6 +92,13 @@ impl<'a> Writing<'a> {
         ensures next { (replay (entries self.now.knows.seen)).next + 64 < 2 ^ 64 }
     {
         (self.ledger.journal.len(), self.ledger.page)
+    }
+
+    /// The journal. No step.
+    pub fn journal(&self) -> &Journal
+        ensures { result.now.entries ≡ entries self.now.knows.seen }
+    {
+        &self.ledger.journal
     }
 
     /// Word i of a page, as the current version has it or as this write filled it. One load.

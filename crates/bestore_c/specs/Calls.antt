@@ -12,7 +12,7 @@ use Rattle.be_session.specs.Sitting.{IsNoQuery, IsOpened, IsUnrefreshed, Sitting
 use Rattle.be_session.specs.declared.faults.Fault.{Fault}
 use Rattle.be_session.specs.declared.items.PredicateItem.{PredicateItem}
 use Rattle.be_session.specs.declared.lists.Operation.{Operation}
-use Rattle.be_store.specs.History.{Accepts}
+use Rattle.be_store.specs.History.{Accepts, IsUntold, Learns, text_seen}
 use Rattle.be_store.specs.Live.{Refreshes}
 use Rattle.be_store.specs.Passes.{HasRead, IsPinnedTo, volume_pinned}
 use Rattle.be_table.specs.Rule.{IsWithin, newcomer}
@@ -169,3 +169,10 @@ abbrev pub ShowsChanges : Option PreparedQuery → List ℕ → List ℕ → Lis
 ShowsChanges None created_places created removed_places removed code = code ≡ 64
 ShowsChanges (Some p) created_places created removed_places removed code =
     (code ≡ 0) × (created ≡ over p.came created_places) × (removed ≡ over p.went removed_places)
+
+-- The journal's text, as far as the pass has then seen it: how many bytes it has, and as many of them as there are places; or why it isn't told.
+abbrev pub TellsJournal : Sitting → Sitting → List ℕ → List ℕ → ℕ → ℕ → Type 0
+TellsJournal s t places filled count code =
+    Learns s.knows t.knows
+    × (((code ≡ 0) × (count ≡ length (text_seen t.knows)) × (filled ≡ over (text_seen t.knows) places))
+    ⊎ ((why : Refusal) × (code ≡ refusal_number why) × IsUntold s.knows t.knows why))

@@ -31,7 +31,8 @@ pub(crate) fn tell(answer: Result<Vec<u64>, Fault>, nodes: &mut [u64], count: &m
     }
 }
 
-fn put_text(text: &str, bytes: &mut [u8], count: &mut u64)
+/// Puts out how many bytes a text has, and as many of them as there is room for.
+pub(crate) fn put_text(text: &str, bytes: &mut [u8], count: &mut u64)
     ensures count { count.new ≡ length text.now }
     ensures bytes { bytes.new ≡ over text.now bytes.old }
 {

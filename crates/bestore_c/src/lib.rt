@@ -14,7 +14,7 @@ ghost use Rattle.be_store.specs.Passes.{HasRead, volume_pinned};
 ghost use Rattle.be_table.specs.Seats.{pinned_number};
 ghost use Rattle.be_table.specs.Steps.{unpins};
 ghost use Rattle.be_volume.specs.Reading.{attributes_at, index_kinds};
-ghost use Rattle.bestore_c.specs.Calls.{Answers, Calls, Explains, Finds, FindsBuilt, FindsPrepared, GivesAnother, Listed, Moves, Opens, Prepares, Reads, RefreshesPrepared, ShowsChanges, Writes};
+ghost use Rattle.bestore_c.specs.Calls.{Answers, Calls, Explains, Finds, FindsBuilt, FindsPrepared, GivesAnother, Listed, Moves, Opens, Prepares, Reads, RefreshesPrepared, ShowsChanges, TellsJournal, Writes};
 
 mod asking;
 mod handle;
@@ -26,7 +26,7 @@ mod places;
 #[cfg(test)]
 mod tests;
 
-use asking::{find_prepared, refresh_prepared, tell, tell_text};
+use asking::{find_prepared, put_text, refresh_prepared, tell, tell_text};
 use be_session::{
     Operation, PredicateItem, Session, name, operations, prepare, prepare_items, query_of,
     query_of_items, spelled,
@@ -552,4 +552,30 @@ pub extern "C" fn bes_changes(
     put(removed, query.removed());
     prepared.owned = OwnedQuery::of(query);
     DONE
+}
+
+/// Tells the journal's text up to now. Puts out how many bytes it has, and as many of them as there is room for.
+#[unsafe(no_mangle)]
+pub extern "C" fn bes_journal(
+    alloc: Global,
+    pass: &mut Handle,
+    bytes: &mut [u8],
+    count: &mut u64,
+) -> u32
+    ensures pass { Calls pass.old.owned.value pass.new.owned.value result (λ s t. TellsJournal s t bytes.old bytes.new count.new result) }
+    ensures kept { (result ≡ 0) ⊎ ((count.new ≡ count.old) × (bytes.new ≡ bytes.old)) }
+{
+    if !pass.live {
+        return CLOSED;
+    }
+    let mut session = mem::replace(&mut pass.owned, Owned::none(alloc)).into_box();
+    let answer = session.journal_text();
+    pass.owned = Owned::of(session);
+    match answer {
+        Ok(text) => {
+            put_text(text.as_str(), bytes, count);
+            DONE
+        }
+        Err(fault) => fault.code(),
+    }
 }
