@@ -280,6 +280,24 @@ static void prepared_queries(void)
     CHECK(bes_release(&small) == BES_OK && bes_release(&other) == BES_OK);
 }
 
+static void journal(void)
+{
+    static const char all[] = "1 by 0 new -> node 1\n2 by 0 set 1 \"k\" CSTR \"v\" -> ok\n";
+    bes_pass pass = BES_PASS_INIT;
+    uint64_t node = 0, count = 7;
+    uint8_t text[128];
+    memset(text, 7, sizeof text);
+    CHECK(bes_journal(&pass, text, 128, &count) == BES_CLOSED && count == 7 && text[0] == 7);
+    CHECK(bes_open(64, 1, 10, &pass) == BES_OK);
+    CHECK(bes_journal(&pass, text, 128, &count) == BES_OK && count == 0 && text[0] == 7);
+    CHECK(bes_new_node(&pass, &node) == BES_OK && bes_set_text(&pass, node, "k", "v") == BES_OK);
+    CHECK(bes_unset(&pass, node, "none") == BES_NO_ATTRIBUTE);
+    CHECK(bes_journal(&pass, text, 3, &count) == BES_OK && count == sizeof all - 1);
+    CHECK(memcmp(text, all, 3) == 0 && text[3] == 7);
+    CHECK(bes_journal(&pass, text, 128, &count) == BES_OK && count == sizeof all - 1 && memcmp(text, all, sizeof all - 1) == 0);
+    CHECK(bes_close(&pass) == BES_OK);
+}
+
 static void spent(void)
 {
     bes_pass pass = BES_PASS_INIT;
@@ -362,6 +380,7 @@ int main(int argc, char **argv)
     lists();
     queries();
     prepared_queries();
+    journal();
     spent();
     threads();
     puts("ok");

@@ -273,6 +273,13 @@ uint32_t bes_attributes(bes_pass *pass, uint64_t node, bes_counts *counts, bes_o
 uint32_t bes_indices(bes_pass *pass, bes_counts *counts, bes_operation *operations, size_t operations_room, uint8_t *bytes,
                      size_t bytes_room);
 
+/* Tells the journal up to now, pinned or not: a line for each write, numbered from 1, with the pass that wrote it, its operations
+ * and their answers, as in 2 by 0 set 1 "size" LONG 5 -> ok. Puts out in count how many bytes that text has (it has no zero byte
+ * behind it), and its first bytes, as far as bytes has room. The journal only grows: what was told once stands at its beginning
+ * for good. Writes of other passes are answered BES_BUSY while the text is made, which takes as long as the journal is.
+ * BES_BUSY: another pass is writing, call again. BES_CLOSED, BES_NO_MEMORY. */
+uint32_t bes_journal(bes_pass *pass, uint8_t *bytes, size_t bytes_room, uint64_t *count);
+
 /* What an answer means, in English. */
 static inline const char *bes_strerror(uint32_t answer)
 {

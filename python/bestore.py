@@ -26,7 +26,7 @@ UINT32 = 0x554C4E47
 UINT64 = 0x554C4C47
 
 _NEW, _REMOVE, _SET, _UNSET, _MAKE_INDEX, _REMOVE_INDEX = range(6)
-_NO_ATTRIBUTE = 3
+_BUSY, _NO_ATTRIBUTE = 1, 3
 
 _MEANINGS = {
     1: "another pass is writing", 2: "no such node", 3: "no such attribute", 4: "too many attributes",
@@ -109,8 +109,10 @@ def _load():
     library.bes_query_prepared.argtypes = [handle, handle, words, size, words]
     library.bes_refresh.argtypes = [handle, handle, ctypes.POINTER(_Updates)]
     library.bes_changes.argtypes = [handle, words, size, words, size]
+    library.bes_journal.argtypes = [handle, text, size, words]
     for call in ("open", "another", "move", "close", "pin", "unpin", "apply", "apply_or_retry", "query", "query_items", "explain",
-                 "get", "attributes", "indices", "prepare", "prepare_items", "release", "query_prepared", "refresh", "changes"):
+                 "get", "attributes", "indices", "prepare", "prepare_items", "release", "query_prepared", "refresh", "changes",
+                 "journal"):
         getattr(library, "bes_" + call).restype = ctypes.c_uint32
     return library
 
@@ -328,6 +330,22 @@ class Pass:
     def remove_index(self, name):
         """Removes the index of this name."""
         self.apply(Batch().remove_index(name))
+
+    def journal(self, tries=1_000_000):
+        """The journal up to now, with so many tries at most while another pass is writing: a line for each write, with the pass
+        that wrote it, its operations and their answers."""
+        count, room, answer = ctypes.c_uint64(), 65536, _BUSY
+        while tries > 0:
+            said = ctypes.create_string_buffer(room)
+            answer = _library.bes_journal(ctypes.byref(self._handle), said, room, ctypes.byref(count))
+            if answer == _BUSY:
+                tries -= 1
+            elif answer == 0 and count.value > room:
+                room = 2 * count.value
+            else:
+                break
+        _check(answer)
+        return said.raw[:count.value].decode()
 
     def pin(self):
         """Pins the current version: `with store.pin() as version:` reads it, and gives the pin up at the end."""

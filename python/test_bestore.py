@@ -70,6 +70,22 @@ class Versions(unittest.TestCase):
                 self.assertEqual(version.query("k > 0"), list(range(1, 301)))
 
 
+class Journals(unittest.TestCase):
+    def test_lines(self):
+        with bestore.open(1024, 2, 2000) as store, store.another() as other:
+            self.assertEqual(store.journal(), "")
+            store.apply(bestore.Batch().new_node().set(1, "k", "v"))
+            other.remove_node(1)
+            self.assertEqual(store.journal(), '1 by 1 new; set 1 "k" CSTR "v" -> node 1; ok\n2 by 0 drop 1 -> ok\n')
+            for _ in range(998):
+                other.new_node()
+            raw = bestore.Batch().set(2, "r", bytes(255))
+            for _ in range(200):
+                store.apply(raw)
+            lines = store.journal().splitlines()
+            self.assertEqual((len(lines), lines[1]), (1200, "2 by 0 drop 1 -> ok"))
+
+
 class PreparedQueries(unittest.TestCase):
     def test_asked_again(self):
         with bestore.open(64, 1, 100) as store, bestore.prepare("size < 5") as small:

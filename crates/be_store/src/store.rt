@@ -236,7 +236,7 @@ impl Store {
         pass.is_pass();
         match answer {
             Ok(text) => Ok(text),
-            Err(refusal) => Err(refusal),
+            Err(_) => Err(Refusal::OutOfMemory),
         }
     }
 

@@ -4,7 +4,7 @@ use crate::owned::Owned;
 use crate::owned_query::OwnedQuery;
 use crate::{
     bes_another, bes_apply, bes_apply_or_retry, bes_changes, bes_close, bes_explain, bes_get,
-    bes_indices, bes_move, bes_open, bes_pin, bes_prepare, bes_prepare_items, bes_query,
+    bes_indices, bes_journal, bes_move, bes_open, bes_pin, bes_prepare, bes_prepare_items, bes_query,
     bes_query_prepared, bes_refresh, bes_release, bes_unpin,
 };
 use be_session::{Operation, PredicateItem};
@@ -207,5 +207,23 @@ fn tells_what_came_and_went(rt: HostRuntime) -> Result<(), Fail> {
     assert_eq!(rt; (counts.created, counts.removed), (0, 1));
     assert_eq!(rt; bes_changes(alloc, &mut kept, &mut created, &mut removed), 0);
     assert_eq!(rt; (created, removed), ([1, 9], [1, 9]));
+    Ok(())
+}
+
+#[test]
+fn tells_its_journal(rt: HostRuntime) -> Result<(), Fail> {
+    let alloc = rt.alloc();
+    let mut mine = closed(alloc);
+    let (mut number, mut count) = (0, 0);
+    let (mut made, mut bytes) = ([0; 1], [9; 22]);
+    assert_eq!(rt; bes_journal(alloc, &mut mine, &mut bytes, &mut count), 64);
+    assert_eq!(rt; bes_open(alloc, 64, 1, 10, &mut mine), 0);
+    let list = [spelled(0, 0)];
+    assert_eq!(rt;
+        bes_apply(alloc, &mut mine, &list, b"kv", &mut made, &mut number),
+        0
+    );
+    let answer = bes_journal(alloc, &mut mine, &mut bytes, &mut count);
+    assert_eq!(rt; (answer, count, bytes), (0, 21, *b"1 by 0 new -> node 1\n\t"));
     Ok(())
 }
