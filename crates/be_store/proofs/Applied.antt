@@ -4,7 +4,6 @@ use Rattle.std.specs.Prelude.{Result, Ok, Err, MatchResult, IfOk, IfErr}
 use Rattle.std.proofs.lemmas.List.{map-append}
 use Rattle.be_journal.specs.declared.entries.Entry.{Entry}
 use Rattle.be_journal.specs.Journal.{by_pass, replay}
-use Rattle.be_journal.specs.Text.{lines_from}
 use Rattle.be_table.specs.declared.pass.Commit.{Commit}
 use Rattle.be_table.specs.declared.pass.Knowledge.{Knowledge}
 use Rattle.be_table.specs.Rule.{entries}
@@ -107,7 +106,5 @@ ok_or d (Ok x) = x
 ok_or d (Err e) = d
 
 -- the text that was made while the lock was held is that of what the pass has seen behind it
-pub told : (w c : Knowledge) (es : List Entry) (text : List ℕ) (made : Result (List ℕ) Refusal) → es ≡ entries w.seen → c ≡ leaves w → made ≡ Ok (lines_from 1 es) → made ≡ Ok text
-    → text ≡ text_seen c
-told w c es text made are is all one =
-    ap (ok_or text) (sym one ∙ all) ∙ (ap (lines_from 1) are ∙ ap (λ (k : Knowledge). lines_from 1 (entries k.seen)) (sym is))
+pub told : (w c : Knowledge) (text : List ℕ) (made : Result (List ℕ) Refusal) → c ≡ leaves w → made ≡ Ok (text_seen w) → made ≡ Ok text → text ≡ text_seen c
+told w c text made is all one = ap (ok_or text) (sym one ∙ all) ∙ ap text_seen (sym is)

@@ -231,7 +231,7 @@ impl Store {
                 return Err(refusal);
             }
         };
-        let answer = writing.journal().text();
+        let answer = writing.journal_text();
         *pass = writing.unlock();
         pass.is_pass();
         match answer {

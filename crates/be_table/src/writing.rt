@@ -3,7 +3,7 @@
 //! A write takes pages, fills them, gives pages up, and publishes. Until it publishes, nothing of it can be seen by
 //! others, and `unlock` undoes it. It is never let go of but by `unlock`, since it has no `Drop`: so the ledger always
 //! comes back.
-ghost use Rattle.std.specs.Prelude.{◌≡◌, ◌≤◌, All, suc, ◌+◌, ◌*◌, ◌^◌, ◌<◌, true, false, [], ◌∷◌, length, count_by, None, MatchResult, ℕ, map, slice_index, IsTrue, List, IfOk, IfErr, IfSome, IfNone, ◌≢◌};
+ghost use Rattle.std.specs.Prelude.{◌≡◌, ◌≤◌, All, suc, ◌+◌, ◌*◌, ◌^◌, ◌<◌, true, false, [], ◌∷◌, length, count_by, None, MatchResult, ℕ, map, slice_index, IsTrue, List, IfOk, IfErr, IfSome, IfNone, ◌≢◌, Ok, string_bytes};
 ghost use Rattle.be_volume.specs.Sound.{IsOperation};
 ghost use Rattle.be_pages.specs.declared.room.Standing.TheVariants.{Taken, Filled as Full};
 ghost use Rattle.be_table.specs.Reading.{standing_in};
@@ -16,7 +16,6 @@ use crate::marks::Marks;
 use crate::rule::{Announced, Fill, FoundFill, GiveUp, OwnWord, Publish, Scan, TakePage, Unlock};
 use crate::seat::{Base, Seat};
 use crate::table::{ANNOUNCE, CURRENT, LOCK, PAGES, VersionTable};
-use be_journal::Journal;
 use be_pages::Place;
 use be_value::Refusal;
 use be_volume::{Done, Op};
@@ -54,6 +53,8 @@ impl<'a> Writing<'a> {
     ghost use Rattle.be_table.specs.Rule.{page_at, entries};
     ghost use Rattle.be_table.specs.Steps.{entry_of};
     ghost use Rattle.be_journal.specs.Journal.{Agrees, replay};
+    ghost use Rattle.be_journal.specs.Text.{lines_from};
+    ghost use Rattle.be_value.specs.Refusal.{Answers};
     ghost use Rattle.be_table.specs.Steps.{leaves};
     ghost use Rattle.be_table.specs.Seats.{pin_of};
     ghost use Rattle.be_table.specs.Reading.{word_in};
@@ -94,11 +95,11 @@ impl<'a> Writing<'a> {
         (self.ledger.journal.len(), self.ledger.page)
     }
 
-    /// The journal. No step.
-    pub fn journal(&self) -> &Journal
-        ensures { result.now.entries ≡ entries self.now.knows.seen }
+    /// The journal's text. OutOfMemory. No step.
+    pub fn journal_text(&self) -> Result<String, Refusal>
+        ensures { Answers string_bytes result (Ok (lines_from 1 (entries self.now.knows.seen))) }
     {
-        &self.ledger.journal
+        self.ledger.journal.text()
     }
 
     /// Word i of a page, as the current version has it or as this write filled it. One load.

@@ -1,8 +1,8 @@
 use Rattle.std.proofs.Common.{Ok, ap, refl, subst}
-use Rattle.be_journal.specs.Text.{lines_from}
 use Rattle.be_table.specs.declared.pass.Knowledge.{Knowledge}
 use Rattle.be_table.specs.Place.{Place}
 use Rattle.be_table.specs.Works.{TakesLock}
+use Rattle.be_store.specs.History.{text_seen}
 use Rattle.be_store.proofs.Applied.{learns_only, told}
 use Rattle.be_store.proofs.store.Store.journal_text.Goals as goal
 
@@ -18,4 +18,4 @@ returns-in-Err-answer-clause-learns c =
 
 pub returns-in-Ok-answer-clause-text : goal.returns-in-Ok-answer-clause-text
 returns-in-Ok-answer-clause-text c =
-    told c.in-Ok.writing.knows c.unlock.result.knows c.journal.result.now.entries _ (Ok (lines_from 1 c.journal.result.now.entries)) c.journal.ensures c.unlock.ensures.pass refl c.in-Ok-answer.ensures
+    told c.in-Ok.writing.knows c.unlock.result.knows _ (Ok (text_seen c.in-Ok.writing.knows)) c.unlock.ensures.pass refl c.in-Ok-answer.ensures
