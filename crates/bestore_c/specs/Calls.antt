@@ -1,6 +1,7 @@
 -- What calls make of handles.
 use Rattle.std.specs.Prelude.{◌≡◌, ◌⊎◌, ℕ, ◌+◌, List, length, map, Option, None, Some, Ok, Err}
 use Rattle.std.specs.declared.result.Result.{Result}
+use Rattle.be_journal.specs.Journal.{IsLegal}
 use Rattle.be_query.specs.Grammar.{Formula, IsTextOf}
 use Rattle.be_session.specs.Fault.{fault_code}
 use Rattle.be_session.specs.Items.{IsBuilt, IsUnbuilt}
@@ -15,7 +16,7 @@ use Rattle.be_session.specs.declared.lists.Operation.{Operation}
 use Rattle.be_store.specs.History.{Accepts, IsUntold, Learns, text_seen}
 use Rattle.be_store.specs.Live.{Refreshes}
 use Rattle.be_store.specs.Passes.{HasRead, IsPinnedTo, volume_pinned}
-use Rattle.be_table.specs.Rule.{IsWithin, newcomer}
+use Rattle.be_table.specs.Rule.{IsWithin, entries, newcomer}
 use Rattle.be_table.specs.Seats.{pinned_number}
 use Rattle.be_table.specs.Works.{IsUnopened}
 use Rattle.be_table.specs.declared.limits.Limits.{Limits}
@@ -170,9 +171,9 @@ ShowsChanges None created_places created removed_places removed code = code ≡ 
 ShowsChanges (Some p) created_places created removed_places removed code =
     (code ≡ 0) × (created ≡ over p.came created_places) × (removed ≡ over p.went removed_places)
 
--- The journal's text, as far as the pass has then seen it: how many bytes it has, and as many of them as there are places; or why it isn't told.
+-- The journal, as far as the pass has then seen it, is legal, and its text is told: how many bytes it has, and as many of them as there are places; or why it isn't told.
 abbrev pub TellsJournal : Sitting → Sitting → List ℕ → List ℕ → ℕ → ℕ → Type 0
 TellsJournal s t places filled count code =
-    Learns s.knows t.knows
+    Learns s.knows t.knows × IsLegal (entries t.knows.seen)
     × (((code ≡ 0) × (count ≡ length (text_seen t.knows)) × (filled ≡ over (text_seen t.knows) places))
     ⊎ ((why : Refusal) × (code ≡ refusal_number why) × IsUntold s.knows t.knows why))
