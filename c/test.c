@@ -336,16 +336,21 @@ static void *writer(void *arg)
 static void *reader(void *arg)
 {
     bes_pass *pass = arg;
+    bes_prepared ann = BES_PREPARED_INIT;
+    bes_updates updates = {0, 0};
     uint64_t seen = 0, last = 0, number = 0, count = 0, again = 0, nodes[WRITES], same[WRITES];
+    CHECK(bes_prepare_text("MAIL:from==\"ann\"", &ann) == BES_OK);
     for (int round = 0; round < rounds; round++) {
         CHECK(bes_pin(pass, &number) == BES_OK && number >= seen);
         seen = number;
         CHECK(bes_find(pass, "MAIL:from==\"ann\"", nodes, WRITES, &count) == BES_OK);
         CHECK(bes_find(pass, "MAIL:from==\"ann\"", same, WRITES, &again) == BES_OK);
         CHECK(count == again && count >= last && count <= WRITES && memcmp(nodes, same, count * sizeof *nodes) == 0);
+        CHECK(bes_refresh(pass, &ann, &updates) == BES_OK && updates.created == count - last && updates.removed == 0);
         last = count;
         CHECK(bes_unpin(pass) == BES_OK);
     }
+    CHECK(bes_release(&ann) == BES_OK);
     return NULL;
 }
 

@@ -27,7 +27,7 @@ struct watch {
     size_t found;
 };
 
-/* Asks the query again and again until the last version was seen, and counts what it finds. */
+/* Refreshes the query again and again until the last version was seen, and counts the mails that came. */
 static void *watcher(void *arg)
 {
     struct watch *watch = arg;
