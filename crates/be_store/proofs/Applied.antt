@@ -100,11 +100,11 @@ pub refused_if : {T E : Type 0} (r : Result T E) (P : T → Type 0) (Q R : E →
 refused_if (Ok x) P Q R m f = tt
 refused_if (Err e) P Q R m f = f e m
 
--- the result of an Ok
-abbrev ok_or : List ℕ → Result (List ℕ) Refusal → List ℕ
-ok_or d (Ok x) = x
-ok_or d (Err e) = d
+-- the text of an Ok
+abbrev text_or : List ℕ → Result (List ℕ) Refusal → List ℕ
+text_or d (Ok x) = x
+text_or d (Err e) = d
 
 -- the text that was made while the lock was held is that of what the pass has seen behind it
 pub told : (w c : Knowledge) (text : List ℕ) (made : Result (List ℕ) Refusal) → c ≡ leaves w → made ≡ Ok (text_seen w) → made ≡ Ok text → text ≡ text_seen c
-told w c text made is all one = ap (ok_or text) (sym one ∙ all) ∙ ap text_seen (sym is)
+told w c text made is all one = ap (text_or text) (sym one ∙ all) ∙ ap text_seen (sym is)
