@@ -224,15 +224,15 @@ impl Store {
         ensures text { IfOk result (λ text. string_bytes text ≡ text_seen pass.new.knows) }
         ensures err { IfErr result (λ e. IsUntold pass.old.knows pass.new.knows e) }
     {
-        let writing = match self.table.lock(pass.move_out()) {
+        let held = match self.table.lock(pass.move_out()) {
             Ok(writing) => writing,
             Err((seat, refusal)) => {
                 *pass = seat;
                 return Err(refusal);
             }
         };
-        let answer = writing.journal_text();
-        *pass = writing.unlock();
+        let answer = held.journal_text();
+        *pass = held.unlock();
         pass.is_pass();
         match answer {
             Ok(text) => Ok(text),
