@@ -4,8 +4,8 @@ use crate::owned::Owned;
 use crate::owned_query::OwnedQuery;
 use crate::{
     bes_another, bes_apply, bes_apply_or_retry, bes_changes, bes_close, bes_explain, bes_get,
-    bes_indices, bes_journal, bes_move, bes_open, bes_pin, bes_prepare, bes_prepare_items, bes_query,
-    bes_query_prepared, bes_refresh, bes_release, bes_unpin,
+    bes_indices, bes_journal, bes_move, bes_open, bes_pin, bes_prepare, bes_prepare_items,
+    bes_query, bes_query_prepared, bes_refresh, bes_release, bes_unpin,
 };
 use be_session::{Operation, PredicateItem};
 use std::alloc::Global;
