@@ -2,8 +2,8 @@ use Rattle.std.proofs.Common.{◌≡◌, ◌≤◌, ◌<◌, ℕ, List, length, 
 use Rattle.std.specs.declared.cmp.Ordering.TheVariants.{Less, Equal, Greater}
 use Rattle.be_volume.specs.Maps.{name_cmp}
 use Rattle.be_paged.specs.Page.{contents_of, entry_at, place_of, IsEntry, IsGapAt, IsNamedAt, IsVersionPage}
-use Rattle.be_paged.proofs.Codec.{name_short}
-use Rattle.be_paged.proofs.PageIndices.{named_here, gap_here, gap_behind, next_below}
+use Rattle.be_paged.proofs.Stored.Codec.{name_short}
+use Rattle.be_paged.proofs.Stored.PageIndices.{named_here, gap_here, gap_behind, next_below}
 use Rattle.be_paged.proofs.on_page.find_index.Given.{Over}
 use Rattle.be_paged.proofs.on_page.find_index.Goals as goal
 use Rattle.be_paged.proofs.on_page.find_index.Goals.{After-compare_at}

@@ -1,7 +1,7 @@
 use Rattle.std.proofs.Common.{◌≡◌, ℕ, [], ◌+◌, ◌*◌, ◌≤◌, ap, subst, sym, ◌∙◌, arith}
 use Rattle.be_paged.specs.Entry.{Entry}
 use Rattle.be_paged.specs.Page.{entry_at, kind_numbered, place_of}
-use Rattle.be_paged.proofs.PageIndices.{at_place}
+use Rattle.be_paged.proofs.Stored.PageIndices.{at_place}
 use Rattle.be_paged.proofs.on_page.index_at.Goals as goal
 
 pub kind_numbered-kind-requires : goal.kind_numbered-kind-requires

@@ -5,7 +5,7 @@ use Rattle.std.proofs.lemmas.Bool.{cases_lt}
 use Rattle.be_value.specs.declared.values.Kind.TheVariants as kinds
 use Rattle.be_paged.specs.Entry.{Entry}
 use Rattle.be_paged.specs.Page.{entry_at, place_of, IsEntry}
-use Rattle.be_paged.proofs.Codec.{entry_at_same, is_entry_same, same_contents}
+use Rattle.be_paged.proofs.Stored.Codec.{entry_at_same, is_entry_same, same_contents}
 use Rattle.be_paged.proofs.version.store_version.Goals as goal
 
 pub loop-i-preserved : goal.loop-i-preserved

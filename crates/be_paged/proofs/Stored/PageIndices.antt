@@ -10,7 +10,7 @@ use Rattle.be_volume.specs.Volume.{State}
 use Rattle.be_paged.specs.Entry.{Entry}
 use Rattle.be_paged.specs.Page.{contents_of, entry_at, place_of, IsGapAt, IsNamedAt}
 use Rattle.be_paged.specs.Source.{SourceOf}
-use Rattle.be_paged.proofs.Indexing.{names_exact, below_next}
+use Rattle.be_paged.proofs.IndexEntries.Indexing.{names_exact, below_next}
 
 -- the names of the first indices of a page are less than this one
 abbrev pub AreBelow : (words : ℕ → ℕ) → List ℕ → ℕ → Type 0
