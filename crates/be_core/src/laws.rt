@@ -4,7 +4,10 @@
 //! state of the machine, so a table of words that shows one, without having it, can use them too.
 ghost use Rattle.std.specs.Prelude.{◌≡◌, ℕ, suc, ◌<◌, ◌≤◌, ◌||◌, List, Some, IsTrue};
 ghost use Rattle.be_core.specs.declared.event.Phase.TheVariants.{Pinned};
-ghost use Rattle.be_core.specs.Machine.{World, Sound, first_state, Protected, Partition, MayLook, after_look, MayAnnounce, after_announce, MayLookAgain, after_look_again, MayRead, MayUnpin, after_unpin, MayLock, after_lock, MayScan, after_scan, Holder, Writes, scanned_on, scanned_out, least_after, Unreached, MayFill, after_fill, MayPublish, after_publish, MayUnlock, after_unlock, after_return};
+ghost use Rattle.be_core.specs.Machine.{World, Sound, first_state, Protected, Partition, MayLook, after_look, MayAnnounce, after_announce};
+ghost use Rattle.be_core.specs.Machine.{MayLookAgain, after_look_again, MayRead, MayUnpin, after_unpin, MayLock, after_lock, MayScan};
+ghost use Rattle.be_core.specs.Machine.{after_scan, Holder, Writes, scanned_on, scanned_out, least_after, Unreached, MayFill, after_fill};
+ghost use Rattle.be_core.specs.Machine.{MayPublish, after_publish, MayUnlock, after_unlock, after_return};
 ghost use Rattle.be_core.specs.Laws.{FillsNoPinned, ScanLeavesNone};
 ghost use Rattle.be_core.specs.Least.{FindsLeast};
 

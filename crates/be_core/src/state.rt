@@ -2,7 +2,8 @@
 //!
 //! A `State` shows a state of the machine (`shown`). It doesn't keep what the words were at each publishing, so those
 //! are given to `shown`; each clause holds for all of them.
-ghost use Rattle.std.specs.Prelude.{◌≡◌, ◌≢◌, ℕ, suc, ◌+◌, ◌<◌, ◌≤◌, ◌^◌, vec_len, length, slice_index_or, false, ◌||◌, if◌then◌else◌, ◌&&◌, not, All, AllPairs, IsTrue, IfOk, Vec, Bool, ◌∷◌, [], ◌==◌, slice_index, nat_lt, ◌↔◌};
+ghost use Rattle.std.specs.Prelude.{◌≡◌, ◌≢◌, ℕ, suc, ◌+◌, ◌<◌, ◌≤◌, ◌^◌, vec_len, length, slice_index_or, false, ◌||◌, if◌then◌else◌};
+ghost use Rattle.std.specs.Prelude.{◌&&◌, not, All, AllPairs, IsTrue, IfOk, Vec, Bool, ◌∷◌, [], ◌==◌, slice_index, nat_lt, ◌↔◌};
 ghost use Rattle.std.specs.declared.alloc.Global.{Global};
 ghost use Rattle.be_core.specs.Machine.{is_below, has};
 
@@ -172,7 +173,10 @@ fn is_distinct(given: &[u64]) -> bool
 
 impl State {
     ghost use Rattle.std.specs.Prelude.{IfOk, OnErr, IsOk, IsOkUnless, IsTrue, IsFalse, IfSome, IsNone, ◌↔◌, All, ◌&&◌, ◌||◌, not, slice_index, slice_index_or};
-    ghost use Rattle.be_core.specs.Machine.{World, Allowed, after, MayLook, after_look, MayAnnounce, after_announce, MayLookAgain, after_look_again, MayUnpin, after_unpin, MayLock, after_lock, MayUnlock, after_unlock, MayFill, after_fill, MayRead, Writes, MayScan, after_scan, MayPublish, after_publish, has, first_state, zeros, InLimits};
+    ghost use Rattle.be_core.specs.Machine.{World, Allowed, after, MayLook, after_look, MayAnnounce, after_announce, MayLookAgain};
+    ghost use Rattle.be_core.specs.Machine.{after_look_again, MayUnpin, after_unpin, MayLock, after_lock, MayUnlock, after_unlock, MayFill};
+    ghost use Rattle.be_core.specs.Machine.{after_fill, MayRead, Writes, MayScan, after_scan, MayPublish, after_publish, has, first_state};
+    ghost use Rattle.be_core.specs.Machine.{zeros, InLimits};
     ghost use Rattle.be_core.specs.Machine as machine;
     ghost use Rattle.be_core.specs.Laws.{LeavesNone};
     ghost use Rattle.be_core.specs.Shown.{shown, MakesStep, IsSound, Images, blank, as_holder, IsUnchanged, page_count};
