@@ -209,7 +209,8 @@ fn narrow_integers(range: &mut Range, comparison: &Comparison, kind: Kind) -> bo
     false
 }
 
-/// What is above each byte that may stand behind the pattern's literal characters in a key: a zero byte where it has no wildcard, else also the first byte of a character.
+/// What is above each byte that may stand behind the pattern's literal characters in a key: a zero byte where it has no
+/// wildcard, else also the first byte of a character.
 fn limit_of(pattern: &Pattern) -> u8
     ensures { result ≡ limit (is_plain pattern.now) }
 {

@@ -2,10 +2,12 @@
 //! wait for their right one, and the `!` that wait for their operand. A `!` is carried down while its operand is read:
 //! inside an odd number of them each comparison and each joint is made as its complement. So nothing here recurses,
 //! and no tree that stands is gone over again.
-ghost use Rattle.std.specs.Prelude.{false, true, ℕ, ◌≡◌, MatchOption, IfNone, IfSome, [], ◌++◌, encode_utf8, string_bytes, Some, None, IfOk, IfErr, ◌<◌, ◌≤◌, ◌+◌, ◌^◌, length};
+ghost use Rattle.std.specs.Prelude.{false, true, ℕ, ◌≡◌, MatchOption, IfNone, IfSome, [], ◌++◌, encode_utf8, string_bytes, Some, None};
+ghost use Rattle.std.specs.Prelude.{IfOk, IfErr, ◌<◌, ◌≤◌, ◌+◌, ◌^◌, length};
 ghost use Rattle.std.specs.Str.{chars};
 ghost use Rattle.be_pattern.specs.Parse.{pattern};
-ghost use Rattle.be_query.specs.Building.{Operands, Operators, Values, Joints, fresh, turned, conjunction, disjunction, joined, ended_level, with_side, with_operand, State};
+ghost use Rattle.be_query.specs.Building.{Operands, Operators, Values, Joints, fresh, turned, conjunction, disjunction, joined};
+ghost use Rattle.be_query.specs.Building.{ended_level, with_side, with_operand, State};
 ghost use Rattle.be_query.specs.Grammar.{Leaf, literal_of};
 ghost use Rattle.be_query.specs.Faults.{bad_pattern};
 ghost use Rattle.be_query.specs.Tokens.{is_name, plain};
@@ -158,7 +160,8 @@ impl Parser {
         requires { IsCounted (stage_of self.stage) self.context }
         ensures ok { IfOk result (λ t. tree_at (stage_of self.stage) (level_of self.context.level) (outer_of self.context) ≡ Some (formula t)) }
         ensures ends { IfOk result (λ t. ends (place_of (stage_of self.stage)) (marks_of (level_of self.context.level) (outer_of self.context)) len ≡ None) }
-        ensures err { IfErr result (λ e. IsMemory e (ends (place_of (stage_of self.stage)) (marks_of (level_of self.context.level) (outer_of self.context)) len ≡ Some e)) }
+        ensures err { IfErr result (λ e. IsMemory e
+            (ends (place_of (stage_of self.stage)) (marks_of (level_of self.context.level) (outer_of self.context)) len ≡ Some e)) }
     {
         let Parser { stage, context } = self;
         let Context {
@@ -425,7 +428,8 @@ fn end_operand(
     level: &mut Level,
     operand: Box<Tree>,
 ) -> Result<Box<Tree>, AllocError>
-    ensures tree { IfOk result (λ t. formula t.value ≡ joined (conjunction (level_of level.old).negated) (level_of level.old).and_left (formula operand.value)) }
+    ensures tree { IfOk result (λ t. formula t.value
+        ≡ joined (conjunction (level_of level.old).negated) (level_of level.old).and_left (formula operand.value)) }
     ensures level { level_of level.new ≡ ended_level (level_of level.old) }
 {
     level.negations = 0;
