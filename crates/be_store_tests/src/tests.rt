@@ -451,8 +451,8 @@ fn pinned_small_pool(rt: HostRuntime) -> Result<(), Fail> {
     Ok(())
 }
 
-// In a pool that is larger than what makes a scan due, writes scan before it is empty, under a pin all the while: what
-// the pin reads stays, each page of the pool is used, and the write that finds none has scanned.
+/// In a pool that is larger than what makes a scan due, writes scan before it is empty, under a pin all the while: what
+/// the pin reads stays, each page of the pool is used, and the write that finds none has scanned.
 #[test]
 fn early_scan(rt: HostRuntime) -> Result<(), Fail> {
     let first = first_full(rt.alloc(), 1024)?;
@@ -723,7 +723,7 @@ fn writes_64(store: &Store, alloc: Global, pass: &mut Pass, name: &Name) -> bool
     }
 }
 
-// The list that is accepted is by pass 1, and the one that is refused by pass 0, which stays pinned.
+/// The list that is accepted is by pass 1, and the one that is refused by pass 0, which stays pinned.
 #[test]
 fn batches_in_store(rt: HostRuntime) -> Result<(), Fail> {
     let (store, mut b, mut a) = for_two(rt.alloc(), 32, 100)?;

@@ -35,7 +35,7 @@ fn keeps_and_undoes(rt: HostRuntime) -> Result<(), Fail> {
     Ok(())
 }
 
-// Each page is taken once; then the room is full.
+/// Each page is taken once; then the room is full.
 #[test]
 fn full_room(rt: HostRuntime) -> Result<(), Fail> {
     let mut room = room_of(rt.alloc(), 8)?;
@@ -47,7 +47,7 @@ fn full_room(rt: HostRuntime) -> Result<(), Fail> {
     Ok(())
 }
 
-// A page that was taken and given up within one write is free at once, and is the next one taken.
+/// A page that was taken and given up within one write is free at once, and is the next one taken.
 #[test]
 fn page_given_up(rt: HostRuntime) -> Result<(), Fail> {
     let mut room = room_of(rt.alloc(), 8)?;
