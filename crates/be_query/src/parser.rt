@@ -87,7 +87,7 @@ impl Level {
 impl Parser {
     ghost use Rattle.be_query.specs.Building.{start, tree_at};
     ghost use Rattle.be_query.specs.Faults.{broken_at, ends};
-    ghost use Rattle.be_query.specs.Building.{place_of, marks_of};
+    ghost use Rattle.be_query.specs.Building.{awaited_at, marks_of};
     ghost use Rattle.be_query.specs.View.{outer_of, parser_state};
 
     /// At the start of a text.
@@ -145,7 +145,7 @@ impl Parser {
     /// The fault of a name or value at a place that breaks off so many bytes behind its first.
     pub(crate) fn broken(&self, at: usize, len: usize) -> Refusal
         requires { at + len < 2 ^ 64 }
-        ensures { result ≡ Refusal.Syntax (broken_at (place_of (stage_of self.now.stage)) at len) }
+        ensures { result ≡ Refusal.Syntax (broken_at (awaited_at (stage_of self.now.stage)) at len) }
     {
         match &self.stage {
             Stage::Operand => Refusal::Syntax(at + len),
@@ -159,9 +159,9 @@ impl Parser {
     pub(crate) fn finish(self, alloc: Global, len: usize) -> Result<Tree, Refusal>
         requires { IsCounted (stage_of self.stage) self.context }
         ensures ok { IfOk result (λ t. tree_at (stage_of self.stage) (level_of self.context.level) (outer_of self.context) ≡ Some (formula t)) }
-        ensures ends { IfOk result (λ t. ends (place_of (stage_of self.stage)) (marks_of (level_of self.context.level) (outer_of self.context)) len ≡ None) }
+        ensures ends { IfOk result (λ t. ends (awaited_at (stage_of self.stage)) (marks_of (level_of self.context.level) (outer_of self.context)) len ≡ None) }
         ensures err { IfErr result (λ e. IsMemory e
-            (ends (place_of (stage_of self.stage)) (marks_of (level_of self.context.level) (outer_of self.context)) len ≡ Some e)) }
+            (ends (awaited_at (stage_of self.stage)) (marks_of (level_of self.context.level) (outer_of self.context)) len ≡ Some e)) }
     {
         let Parser { stage, context } = self;
         let Context {
