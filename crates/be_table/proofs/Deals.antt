@@ -18,7 +18,7 @@ use Rattle.be_table.specs.declared.limits.Limits.{Limits}
 use Rattle.be_table.specs.declared.pass.Knowledge.{Knowledge}
 use Rattle.be_pages.specs.Place.{undone_place, place_of}
 use Rattle.be_table.specs.Laws.{SplitIsNoEvent, JoinIsNoEvent}
-use Rattle.be_table.specs.Ledger.{ShowsPlaces, is_free, is_taken, retired_with}
+use Rattle.be_table.specs.Ledger.{ShowsPlaces, shows_free, shows_taken, retired_with}
 use Rattle.be_journal.specs.Journal.{replay}
 use Rattle.be_volume.specs.Volume.{empty}
 use Rattle.be_table.specs.Versions.{in_pages, SpellsVolume}
@@ -262,7 +262,7 @@ pub first_places : (limits : Limits) (words : List ℕ) (places : List PagePlace
     → ShowsPlaces places (first_board limits words).world × (map undone_place places ≡ places)
 first_places limits words places within count used unused = (record { free = λ p. (at p).0; taken = λ p. (at p).1; retired = λ p. (at p).2 }, sym (mapped undone_place refl places places refl (λ q lt. (at q).3)))
   where
-    at : (p : ℕ) → ((nat_lt p limits.pages && not (p == 0)) ≡ is_free (place_of places p)) × (false ≡ is_taken (place_of places p)) × (None ≡ retired_with (place_of places p)) × (place_of places p ≡ undone_place (place_of places p))
+    at : (p : ℕ) → ((nat_lt p limits.pages && not (p == 0)) ≡ shows_free (place_of places p)) × (false ≡ shows_taken (place_of places p)) × (None ≡ retired_with (place_of places p)) × (place_of places p ≡ undone_place (place_of places p))
     at zero = rw (used 0 (omega arith), lt-ltb 0 limits.pages (some_page limits within)) (refl, refl, refl, refl)
     at (suc p) = elim (cases_lt (suc p) limits.pages) [
       | inl lt ↦ rw (unused (suc p) (omega arith) lt, ne_eqb (suc p) 0 (λ z. absurd (omega arith)), lt-ltb (suc p) limits.pages lt) (refl, refl, refl, refl)
