@@ -14,7 +14,7 @@ use Rattle.be_table.specs.Place.{Opened, Place}
 use Rattle.be_table.specs.Rule.{entries, newcomer}
 use Rattle.be_table.specs.declared.limits.Limits.{Limits}
 use Rattle.be_table.specs.declared.pass.Knowledge.{Knowledge}
-use Rattle.be_table.specs.Steps.{Has, Keeps}
+use Rattle.be_table.specs.Steps.{Has, KeepsSeen}
 use Rattle.be_table.specs.Works.{AllAt, knows_of}
 use Rattle.be_serving.specs.Own.{IsPartOf, operations, write_ops}
 use Rattle.std.specs.declared.option.Option.{Option}
@@ -154,7 +154,7 @@ has_each store k (s ∷ ss) (p ∷ ps) h (suc n) below =
     let e : (k + 1) + n ≡ k + suc n = omega arith in inr (subst (Has (map knows_of ps)) e (has_each store (k + 1) ss ps h.1 n (omega (arith, below))))
 
 -- what a journal that keeps the passes' writes has of each number is of that number's script
-pub own_of : (store : Opened) (k : ℕ) (scripts : List (List ℕ)) (passes : List Place) (log : List Entry) → HaveServed store k scripts passes → Keeps log (map knows_of passes) →
+pub own_of : (store : Opened) (k : ℕ) (scripts : List (List ℕ)) (passes : List Place) (log : List Entry) → HaveServed store k scripts passes → KeepsSeen log (map knows_of passes) →
     (n : ℕ) → n < length scripts → IsPartOf (operations (by_pass (k + n) log)) (write_ops (slice_index_or scripts n []))
 own_of store k [] passes log h keeps n below = absurd (omega (arith, below))
 own_of store k (s ∷ ss) [] log h keeps n below = absurd h

@@ -10,7 +10,7 @@ use Rattle.be_journal.specs.declared.entries.Entry.{Entry}
 use Rattle.be_table.specs.History.{AllBelow, StartsWith}
 use Rattle.be_table.specs.Place.{Opened, Place}
 use Rattle.be_table.specs.Rule.{entries, newcomer}
-use Rattle.be_table.specs.Steps.{Keeps as KeepsSeen}
+use Rattle.be_table.specs.Steps.{KeepsSeen}
 use Rattle.be_table.specs.Works.{knows_of}
 use Rattle.be_table.specs.declared.limits.Limits.{Limits as StoreLimits}
 use Rattle.be_table.specs.declared.pass.Knowledge.{Knowledge}

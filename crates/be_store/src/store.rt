@@ -40,7 +40,7 @@ impl Store {
     ghost use Rattle.be_table.specs.Reading.{pinned_standing, word_in};
     ghost use Rattle.be_table.specs.Rule.{IsWithin};
     ghost use Rattle.be_table.specs.Seats.{pinned_number};
-    ghost use Rattle.be_table.specs.Steps.{Has, Keeps, longer, met, unpins};
+    ghost use Rattle.be_table.specs.Steps.{Has, KeepsSeen, longer, met, unpins};
     ghost use Rattle.be_table.specs.Works.{AllAt, AreNew, IsUnopened, knows_of};
     ghost use Rattle.be_value.specs.Refusal.{Answers};
     ghost use Rattle.be_volume.specs.Query.{scan};
@@ -236,7 +236,7 @@ impl Store {
         requires all { (k : ℕ) → k < self.limits.passes → Has (map knows_of passes.items) k }
         ensures legal { IsLegal result.entries }
         ensures by { AllBelow self.limits.passes result.entries }
-        ensures passes { Keeps result.entries (map knows_of passes.items) }
+        ensures passes { KeepsSeen result.entries (map knows_of passes.items) }
     {
         let Store { table } = self;
         table.close(passes)

@@ -14,7 +14,7 @@ use Rattle.be_table.specs.History.{AllBelow}
 use Rattle.be_table.specs.Laws.{ArrivalIsNoEvent}
 use Rattle.be_table.specs.Place.{Place}
 use Rattle.be_table.specs.Rule.{Board, entries, is_holder, IsHome, AllFit, Shows, everyone, counted, joined}
-use Rattle.be_table.specs.Steps.{Arrived, Has, AllIdle, Keeps}
+use Rattle.be_table.specs.Steps.{Arrived, Has, AllIdle, KeepsSeen}
 use Rattle.be_table.specs.Works.{AllAt, Gathered}
 use Rattle.be_table.proofs.Deals.{at_snoc_place}
 use Rattle.be_table.proofs.Histories.{is_legal}
@@ -29,13 +29,13 @@ nobody_holds : (o : Option Holder) (passes : ℕ) → ((h : Holder) → o ≡ So
 nobody_holds None passes b f = refl
 nobody_holds (Some h) passes b f = absurd (true≢false (sym (eq-eqb h.pass h.pass refl) ∙ f h.pass (b h refl)))
 
-all_kept : (limits : Limits) (b : Board) (i : ℕ) (v : List Knowledge) → AllFit limits b i v → Keeps (entries b.log) v
+all_kept : (limits : Limits) (b : Board) (i : ℕ) (v : List Knowledge) → AllFit limits b i v → KeepsSeen (entries b.log) v
 all_kept limits b i [] f = tt
 all_kept limits b i (a ∷ v) f = (entries-start b.log a.seen f.0.seen, f.0.mine, all_kept limits b i v f.2)
 
 -- once all passes are in one seat, the slot has the journal
 pub ends : (limits : Limits) (i : ℕ) (v : List Knowledge) (words : List ℕ) (slots : List (Option Ledger)) → AllIdle v → ((k : ℕ) → k < limits.passes → Has v k) → Final (Seen (Shows limits) i v) words slots
-    → (ledger : Ledger) × (get_elem? slots 0 ≡ some (Some ledger)) × IsLegal ledger.journal.entries × AllBelow limits.passes ledger.journal.entries × Keeps ledger.journal.entries v
+    → (ledger : Ledger) × (get_elem? slots 0 ≡ some (Some ledger)) × IsLegal ledger.journal.entries × AllBelow limits.passes ledger.journal.entries × KeepsSeen ledger.journal.entries v
 ends limits i v words slots idle all f =
     let s = f.0 in let b = f.1.0.0 in let h = f.1.0.1 in
     let fit = h.views i v f.1.1 in
@@ -46,7 +46,7 @@ ends limits i v words slots idle all f =
       f.4 0 (Some home.0) (ap (λ hs. get_elem? hs 0) home.1),
       subst IsLegal is (is_legal (entries b.log) h.sound.legal),
       subst (AllBelow limits.passes) is h.sound.by_passes,
-      subst (λ l. Keeps l v) is (all_kept limits b i v fit),
+      subst (λ l. KeepsSeen l v) is (all_kept limits b i v fit),
     )
 
 -- what a joined seat has of each
@@ -70,11 +70,11 @@ idle_append : (v w : List Knowledge) → AllIdle v → AllIdle w → AllIdle (v 
 idle_append [] w h g = g
 idle_append (a ∷ v) w h g = (h.0, idle_append v w h.1 g)
 
-keeps_counted : (log : List Entry) (v : List Knowledge) → Keeps log (map counted v) → Keeps log v
+keeps_counted : (log : List Entry) (v : List Knowledge) → KeepsSeen log (map counted v) → KeepsSeen log v
 keeps_counted log [] h = tt
 keeps_counted log (a ∷ v) h = (h.0, h.1, keeps_counted log v h.2)
 
-keeps_parts : (log : List Entry) (v w : List Knowledge) → Keeps log (v ++ w) → Keeps log v × Keeps log w
+keeps_parts : (log : List Entry) (v w : List Knowledge) → KeepsSeen log (v ++ w) → KeepsSeen log v × KeepsSeen log w
 keeps_parts log [] w h = (tt, h)
 keeps_parts log (a ∷ v) w h = let r = keeps_parts log v w h.2 in ((h.0, h.1, r.0), r.1)
 
@@ -95,7 +95,7 @@ AllAt-parts id (x ∷ ss) s h = let r = AllAt-parts id ss s h.1 in ((h.0, r.0), 
 pub record Closes (limits : Limits) (known : List Knowledge) (items : List Entry) : Type 0 where
   pub legal : IsLegal items
   pub by_passes : AllBelow limits.passes items
-  pub keeps : Keeps items known
+  pub keeps : KeepsSeen items known
 
 -- the ledger that was found in the slot has the journal
 pub closes : (limits : Limits) (known : List Knowledge) (i : ℕ) (v : List Knowledge) (words : List ℕ) (slots : List (Option Ledger)) (ledger : Ledger) (items : List Entry) → Gathered known v → ((k : ℕ) → k < limits.passes → Has known k)

@@ -23,7 +23,7 @@ use Rattle.be_journal.specs.Journal.{replay}
 use Rattle.be_volume.specs.Volume.{empty}
 use Rattle.be_table.specs.Versions.{in_pages, SpellsVolume}
 use Rattle.be_table.specs.Place.{Place}
-use Rattle.be_table.specs.Rule.{ledger_places, Board, IsWithin, IsSound, AreInside, reach_at, page_at, word_place, Fits, IsAbsent, AllFit, Shows, newcomer, newcomers, everyone, counted, first_seat, other_seats, joined}
+use Rattle.be_table.specs.Rule.{ledger_places, Board, IsWithin, IsSoundBoard, AreInside, reach_at, page_at, word_place, Fits, IsAbsent, AllFit, Shows, newcomer, newcomers, everyone, counted, first_seat, other_seats, joined}
 use Rattle.be_table.specs.Seats.{IsTold}
 use Rattle.be_table.specs.Works.{AreNewAt}
 use Rattle.be_table.proofs.Histories.{by_pass-nil, legal-nil, below-nil}
@@ -56,7 +56,7 @@ choose_else m k n o e = ap (λ b. if b then n else o) (ne_eqb m k e)
 reseat : (limits : Limits) (b : Board) (f : ℕ → ℕ) (i j : ℕ) (a : Knowledge) → f a.number ≡ j → Fits limits b i a → Fits limits (record b { seat_of = f }) j a
 reseat limits b f i j a e h = record { number = h.number; limits_are = h.limits_are; seat_is = e; seen = h.seen; mine = h.mine; own = h.own; writes = h.writes; whole = λ t. let x = h.whole t in record { log = x.log; holder = x.holder; turn = x.turn; count = x.count; shown = x.shown; size = x.size; words = x.words }; phase = h.phase; pin = h.pin; image = h.image }
 
-sound_seats : (limits : Limits) (b : Board) (f : ℕ → ℕ) → IsSound limits b → IsSound limits (record b { seat_of = f })
+sound_seats : (limits : Limits) (b : Board) (f : ℕ → ℕ) → IsSoundBoard limits b → IsSoundBoard limits (record b { seat_of = f })
 sound_seats limits b f s = record { within = s.within; legal = s.legal; by_passes = s.by_passes; room = s.room; page = s.page; inside = s.inside; own_pages = s.own_pages; pages = s.pages; passes = s.passes; commits = s.commits; holder = s.holder; reaches = s.reaches; machine = s.machine; spelt = s.spelt }
 
 absent_counted : (k : ℕ) (v : List Knowledge) → IsAbsent k v → IsAbsent k (map counted v)

@@ -20,7 +20,7 @@ use Rattle.be_table.specs.History.{AllBelow, StartsWith, IsHistory}
 use Rattle.be_table.specs.Laws.{AllowsBy, IsPublish}
 use Rattle.be_pages.specs.Place.{number_in, place_of, published_place}
 use Rattle.be_table.specs.Ledger.{ShowsPlaces, shows_free, shows_taken, is_current, is_of_next, is_given, retired_with}
-use Rattle.be_table.specs.Rule.{Board, entries, nothing, reach_at, page_at, word_place, current_word, holder_of, WordsAgree, IsSound, ImageIs, Fits, Shows}
+use Rattle.be_table.specs.Rule.{Board, entries, nothing, reach_at, page_at, word_place, current_word, holder_of, WordsAgree, IsSoundBoard, ImageIs, Fits, Shows}
 use Rattle.be_table.specs.Steps.{pages_from, commit_of, publishes, MayPublish, Published, IsNewest}
 use Rattle.be_table.specs.Reading.{word_in}
 use Rattle.be_table.specs.Versions.{in_pages, SpellsVolume}
@@ -219,7 +219,7 @@ module _ (limits : Limits) (slots i : ℕ) (a : Knowledge) (carried : List (ℕ 
         image = image_kept g given a.phase a.image (length a.seen) (omega arith) fa.pin fa.image;
       } in
       let below : e.by < limits.passes = subst (λ n. n < limits.passes) (sym may.by) fa.number in
-      let sd : IsSound limits d = record {
+      let sd : IsSoundBoard limits d = record {
         within = h.sound.within;
         legal = subst IsHistory (sym journal) (legal-push (entries a.seen) e (subst (λ l. IsHistory (entries l)) (sym m.log) h.sound.legal) may.agrees may.operations);
         by_passes = subst (AllBelow limits.passes) (sym journal) (below-push limits.passes (entries a.seen) e (subst (λ l. AllBelow limits.passes (entries l)) (sym m.log) h.sound.by_passes) below);

@@ -63,7 +63,7 @@ abbrev pub least_then : Knowledge → ℕ → ℕ
 least_then a n = least_found (scan_from a) n
 
 -- of the current number and the announced numbers, of which a word has one more, the least
-pub record IsLeast (current : ℕ) (words : List ℕ) (least : ℕ) : Type 0 where
+pub record IsLeastAnnounced (current : ℕ) (words : List ℕ) (least : ℕ) : Type 0 where
   pub at_most : least ≤ current
   pub below : (a : ℕ) → Contains words (suc a) → least ≤ a
   pub one : (least ≡ current) ⊎ Contains words (suc least)
@@ -217,9 +217,9 @@ AllIdle [] = Unit {0}
 AllIdle (a ∷ v) = (a.writes ≡ false) × AllIdle v
 
 -- the journal contains what each has seen, and has of each the entries that it knows
-abbrev pub Keeps : List Entry → List Knowledge → Type 0
-Keeps log [] = Unit {0}
-Keeps log (a ∷ v) = StartsWith log (entries a.seen) × (by_pass a.number log ≡ a.mine) × Keeps log v
+abbrev pub KeepsSeen : List Entry → List Knowledge → Type 0
+KeepsSeen log [] = Unit {0}
+KeepsSeen log (a ∷ v) = StartsWith log (entries a.seen) × (by_pass a.number log ≡ a.mine) × KeepsSeen log v
 
 -- the ledger is at home
 abbrev pub Unlocked : Step (Option Ledger) → Me (Option Ledger) (List Knowledge) → ℕ → Me (Option Ledger) (List Knowledge) → Type 0

@@ -59,8 +59,8 @@ impl Model for VersionTable {
 }
 
 impl VersionTable {
-    ghost use Rattle.be_table.specs.Works.{IsSeatOf, SeesMore, TakesLock, IsBusy, Pins, AreNew, IsUnopened, AllAt, knows_of};
-    ghost use Rattle.be_table.specs.Steps.{announces, unpins, met, longer, Has, Keeps};
+    ghost use Rattle.be_table.specs.Works.{IsSeatOf, SeesMore, TakesLock, IsBusy, PinsCurrent, AreNew, IsUnopened, AllAt, knows_of};
+    ghost use Rattle.be_table.specs.Steps.{announces, unpins, met, longer, Has, KeepsSeen};
     ghost use Rattle.be_core.specs.declared.event.Phase.TheVariants.{Pinned};
     ghost use Rattle.be_journal.specs.Journal.{IsLegal, replay};
     ghost use Rattle.be_table.specs.Reading.{pinned_standing, word_in};
@@ -157,7 +157,7 @@ impl VersionTable {
         requires seat { IsSeatOf self.now seat.old }
         requires announced { (x : ℕ) × (seat.old.knows.phase ≡ Phase.Announced x) }
         ensures seat { IsSeatOf self.now seat.new }
-        ensures pass { Pins seat.old.knows seat.new.knows }
+        ensures pass { PinsCurrent seat.old.knows seat.new.knows }
         ensures number { result.0 ≡ length seat.new.knows.seen }
         ensures page { result.1 ≡ page_at seat.new.knows.seen (length seat.new.knows.seen) }
     {
@@ -268,7 +268,7 @@ impl VersionTable {
         requires all { (k : ℕ) → k < self.limits.passes → Has (map knows_of seats.items) k }
         ensures legal { IsLegal result.entries }
         ensures by { AllBelow self.limits.passes result.entries }
-        ensures seats { Keeps result.entries (map knows_of seats.items) }
+        ensures seats { KeepsSeen result.entries (map knows_of seats.items) }
     {
         let VersionTable { table, limits: _ } = self;
         // A seat with no pass takes in the others.

@@ -11,7 +11,7 @@ ghost use Rattle.be_table.specs.Reading.{standing_in};
 ghost use Rattle.be_pages.specs.Place.{is_in_hand, is_held_page, is_retired, place_of, given_place};
 ghost use Rattle.be_table.specs.Rule.{announce_word, pass_of, counted, word_place, current_word};
 ghost use Rattle.be_table.specs.Steps.{IsNewest, IsPass, IsFound, MayPublish, publishes, MayBeFilled, MayScan, IsPart, fills_word};
-ghost use Rattle.be_table.specs.Steps.{takes_page, gives_up, scans, scans_out, scans_all, least_found, IsLeast, IsOwnLeast, LeavesNone};
+ghost use Rattle.be_table.specs.Steps.{takes_page, gives_up, scans, scans_out, scans_all, least_found, IsLeastAnnounced, IsOwnLeast, LeavesNone};
 
 use crate::ledger::Ledger;
 use crate::marks::Marks;
@@ -353,7 +353,7 @@ fn read_all(table: &VersionTable, base: &mut Base, current: u64) -> u64
     requires current { ((pass_of base.old.me.0).limits ≡ table.now.limits) × (current ≡ length (pass_of base.old.me.0).seen) }
     ensures seat { (base.new.table_id ≡ base.old.table_id) × (base.new.id ≡ base.old.id) }
     ensures me { (found : List ℕ) × (length found ≡ table.now.limits.passes)
-        × (base.new.me ≡ (scans_all (pass_of base.old.me.0) found ∷ [], base.old.me.1)) × IsLeast current found result }
+        × (base.new.me ≡ (scans_all (pass_of base.old.me.0) found ∷ [], base.old.me.1)) × IsLeastAnnounced current found result }
     ensures part { IsPart table.now.limits.passes (pass_of base.old.me.0) (pass_of base.new.me.0) table.now.limits.passes result }
     ensures own { IsOwnLeast (pass_of base.old.me.0) result }
 {
