@@ -12,7 +12,7 @@ use Rattle.be_table.specs.declared.pass.Knowledge.{Knowledge}
 use Rattle.be_journal.specs.Journal.{IsLegal}
 use Rattle.be_table.specs.History.{AllBelow}
 use Rattle.be_table.specs.Laws.{ArrivalIsNoEvent}
-use Rattle.be_table.specs.Place.{Place}
+use Rattle.be_table.specs.Place.{SeatFacts}
 use Rattle.be_table.specs.Rule.{Board, entries, is_holder, IsHome, AllFit, Shows, everyone, counted, joined}
 use Rattle.be_table.specs.Steps.{Arrived, Has, AllIdle, KeepsSeen}
 use Rattle.be_table.specs.Works.{AllAt, Gathered}
@@ -88,7 +88,7 @@ gathered_more known v a idle g = record {
   keeps = λ log h. let p = keeps_parts log (map counted v) (counted a ∷ []) h in (p.1.0, p.1.1, g.keeps log (keeps_counted log v p.0));
 }
 
-pub AllAt-parts : (id : TableId) (ss : List Place) (s : Place) → AllAt id (ss ++ s ∷ []) → AllAt id ss × (s.blank ≡ false) × (s.table ≡ id)
+pub AllAt-parts : (id : TableId) (ss : List SeatFacts) (s : SeatFacts) → AllAt id (ss ++ s ∷ []) → AllAt id ss × (s.blank ≡ false) × (s.table ≡ id)
 AllAt-parts id [] s h = (tt, h.0.0, h.0.1)
 AllAt-parts id (x ∷ ss) s h = let r = AllAt-parts id ss s h.1 in ((h.0, r.0), r.1, r.2)
 

@@ -22,7 +22,7 @@ use Rattle.be_table.specs.Ledger.{ShowsPlaces, shows_free, shows_taken, retired_
 use Rattle.be_journal.specs.Journal.{replay}
 use Rattle.be_volume.specs.Volume.{empty}
 use Rattle.be_table.specs.Versions.{in_pages, SpellsVolume}
-use Rattle.be_table.specs.Place.{Place}
+use Rattle.be_table.specs.Place.{SeatFacts}
 use Rattle.be_table.specs.Rule.{ledger_places, Board, IsWithin, IsSoundBoard, AreInside, reach_at, page_at, word_place, Fits, IsAbsent, AllFit, Shows, newcomer, newcomers, everyone, counted, first_seat, other_seats, joined}
 use Rattle.be_table.specs.Seats.{IsTold}
 use Rattle.be_table.specs.Works.{AreNewAt}
@@ -243,8 +243,8 @@ Me2 = Me (Option Ledger) (List Knowledge)
 pub newcomer_told : (limits : Limits) (t k : ℕ) → IsWithin limits → k < limits.passes → IsTold (newcomer limits t k) k 0
 newcomer_told limits t k within lt = record { number_is = refl; seen_is = refl; writes = refl; pass = record { within = within; legal = legal-nil; number_below = lt; by_passes = below-nil limits.passes; room = omega arith; inside = first_inside limits.pages (some_page limits within); own_pages = first_own; pin = tt; mine = by_pass-nil k; spelt = λ x n e. absurd (cc) } }
 
-pub AreNewAt-push : (id : TableId) (limits : Limits) (k : ℕ) (ss : List Place) (s : Place) → AreNewAt id limits k ss → (s.blank ≡ false) × (s.table ≡ id) × (s.knows ≡ newcomer limits (k + length ss + 1) (k + length ss)) → AreNewAt id limits k (ss ++ s ∷ [])
-AreNewAt-push id limits k [] s h new = (subst (λ n. (s.blank ≡ false) × (s.table ≡ id) × (s.knows ≡ newcomer limits (n + 1) n)) (let e : k + length {A = Place} [] ≡ k = omega arith in e) new, tt)
+pub AreNewAt-push : (id : TableId) (limits : Limits) (k : ℕ) (ss : List SeatFacts) (s : SeatFacts) → AreNewAt id limits k ss → (s.blank ≡ false) × (s.table ≡ id) × (s.knows ≡ newcomer limits (k + length ss + 1) (k + length ss)) → AreNewAt id limits k (ss ++ s ∷ [])
+AreNewAt-push id limits k [] s h new = (subst (λ n. (s.blank ≡ false) × (s.table ≡ id) × (s.knows ≡ newcomer limits (n + 1) n)) (let e : k + length {A = SeatFacts} [] ≡ k = omega arith in e) new, tt)
 AreNewAt-push id limits k (x ∷ ss) s h new = (h.0, AreNewAt-push id limits (k + 1) ss s h.1 (subst (λ n. (s.blank ≡ false) × (s.table ≡ id) × (s.knows ≡ newcomer limits (n + 1) n)) (let e : k + length (x ∷ ss) ≡ k + 1 + length ss = omega arith in e) new))
 
 pub dealt : (limits : Limits) (k n : ℕ) (me r : Me2) → me ≡ (newcomers limits k k (suc n), []) → r ≡ (first_seat me.0, []) → r ≡ (newcomer limits (k + 1) k ∷ [], [])

@@ -25,13 +25,13 @@ pub struct Seat {
 }
 
 impl Model for Seat {
-    ghost use Rattle.be_table.specs.Place.{Place};
+    ghost use Rattle.be_table.specs.Place.{SeatFacts};
 
-    ghost Value = { Place };
+    ghost Value = { SeatFacts };
 
-    ghost use Rattle.be_table.specs.Seats.{place_of, IsPlaced};
+    ghost use Rattle.be_table.specs.Seats.{facts_of, IsPlaced};
 
-    ghost view = { place_of };
+    ghost view = { facts_of };
 
     ghost invariant = { IsPlaced };
 }
