@@ -194,7 +194,7 @@ fn answer(alloc: Global, volume: &Volume, command: &str, query: &Query) -> Resul
     found(alloc, volume, query, &cover)
 }
 
-/// The reply to a request; refused with 10 alone.
+/// The reply to a request; refused with OutOfMemory alone.
 fn reply_to(alloc: Global, volume: &Volume, request: &str) -> Result<String, Refusal> {
     let Some((command, text)) = request.split_once(' ') else {
         return Ok(String::new(alloc));

@@ -62,10 +62,11 @@ impl Store {
     /// Writes 1 to 64 operations, all or none. Answers the journal's length with this write, and an answer for each
     /// operation. A pin stays.
     ///
-    /// Busy where the call's one try finds another pass holding the lock: it may be made again. Else a refusal of 2 to 8
-    /// as the volume gives it; else CommitsSpent where the journal is at its limit, OutOfMemory where its entry found no
-    /// memory, and Full where no page is free. What a refused write did is undone. It costs new pages on the way to each
-    /// change, and where none is free, or many wait for it, a look at each announcement and at the pages that this frees.
+    /// Busy where the call's one try finds another pass holding the lock: it may be made again. Else a refusal from NoNode
+    /// to NotIndexable as the volume gives it; else CommitsSpent where the journal is at its limit, OutOfMemory where its
+    /// entry found no memory, and Full where no page is free. What a refused write did is undone. It costs new pages on the
+    /// way to each change, and where none is free, or many wait for it, a look at each announcement and at the pages that
+    /// this frees.
     pub fn apply(&self, pass: &mut Pass, ops: &[Op]) -> Result<(u64, ArrayVec<Done, 64>), Refusal>
         requires pass { IsPassOf self.now pass.old }
         requires count { (1 ≤ length ops.now) × (length ops.now ≤ 64) }

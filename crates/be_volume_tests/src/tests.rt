@@ -59,7 +59,7 @@ fn are_nodes(nodes: &[u64], expected: &str) -> bool {
     words.next().is_none()
 }
 
-/// Whether the request has this reply. It is refused with 10 alone, and the volume is then as it was.
+/// Whether the request has this reply. It is refused with OutOfMemory alone, and the volume is then as it was.
 fn replies(
     alloc: Global,
     volume: &mut Volume,
