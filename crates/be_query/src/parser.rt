@@ -25,7 +25,7 @@ use std::mem;
 const MAX_OPEN: usize = 64;
 
 /// How many comparisons a query may have.
-const MAX_COMPARISONS: usize = 256;
+pub(crate) const MAX_COMPARISONS: usize = 256;
 
 /// What waits for its right end inside one pair of parentheses.
 #[derive(Drop)]

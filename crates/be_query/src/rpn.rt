@@ -9,15 +9,12 @@ ghost use Rattle.be_value.specs.Name.{has_nul};
 ghost use Rattle.std.specs.Fmt.{decimal, signed_decimal};
 ghost use Rattle.be_query.specs.View.{IsMemory, formula, literal};
 
-use crate::parser::read_literal;
+use crate::parser::{MAX_COMPARISONS, read_literal};
 use crate::query::Query;
 use crate::tree::{Cmp, Comparison, Literal, Tree};
 use be_pattern::Pattern;
 use be_value::{Name, Refusal};
 use std::alloc::{AllocError, Global};
-
-/// How many comparisons a query may have.
-const MAX_COMPARISONS: usize = 256;
 
 /// How many things the stack may hold after an item.
 const MAX_THINGS: usize = 64;
