@@ -26,7 +26,7 @@ mod numbers;
 mod refusals;
 mod values;
 
-pub use keys::{key_of, key_order, keys_differ, node_of, read_key};
+pub use keys::{counted32, counted64, key_of, key_order, keys_differ, node_of, read_key};
 pub use names::Name;
 pub use numbers::{number_of, word_of};
 pub use refusals::Refusal;
