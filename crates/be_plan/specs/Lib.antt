@@ -1,5 +1,6 @@
 pub mod Cover
 pub mod Explain
+pub mod Marks
 pub mod Narrow
 pub mod Sources
 pub mod Spine
