@@ -41,6 +41,7 @@ impl Store {
     ghost use Rattle.be_table.specs.Rule.{IsWithin};
     ghost use Rattle.be_table.specs.Seats.{pinned_number};
     ghost use Rattle.be_table.specs.Steps.{Has, Keeps, longer, met, unpins};
+    ghost use Rattle.be_table.specs.Versions.{CanSpellEach};
     ghost use Rattle.be_table.specs.Works.{AllAt, AreNew, IsUnopened, knows_of};
     ghost use Rattle.be_value.specs.Refusal.{Answers};
     ghost use Rattle.be_value.specs.declared.refusals.Refusal.TheVariants.{OutOfMemory};
@@ -239,6 +240,7 @@ impl Store {
         ensures legal { IsLegal result.entries }
         ensures by { AllBelow self.limits.passes result.entries }
         ensures passes { Keeps result.entries (map knows_of passes.items) }
+        ensures volumes { CanSpellEach self.limits.pages result.entries }
     {
         let Store { table } = self;
         table.close(passes)
