@@ -90,6 +90,7 @@ pub trait Server {
 pub fn open_for_one(alloc: Global, limits: Limits) -> Result<(be_store::Store, Pass), Refusal>
     requires { IsWithin limits }
     ensures opened { IfOk result (λ r. IsPassOf r.0 r.1 × (known r.1.knows ≡ start limits.commits)) }
+    ensures pages { IfOk result (λ r. r.0.limits.pages ≡ limits.pages) }
     ensures refused { IfErr result (λ e. e ≡ OutOfMemory) }
 {
     let limits = Limits {
