@@ -1,11 +1,12 @@
 -- What a pass of a store shows a script, by what it knows.
-use Rattle.std.specs.Prelude.{ℕ, take}
+use Rattle.std.specs.Prelude.{◌≡◌, ◌+◌, ℕ, List, ◌∷◌, length, take}
 use Rattle.std.specs.Option.{option_map}
 use Rattle.be_journal.specs.Journal.{replay}
 use Rattle.be_table.specs.declared.pass.Knowledge.{Knowledge}
 use Rattle.be_table.specs.Place.{Opened}
 use Rattle.be_table.specs.Rule.{entries}
 use Rattle.be_table.specs.Seats.{pinned_number}
+use Rattle.be_store.specs.History.{tried}
 use Rattle.be_store.specs.Passes.{volume_seen}
 use Rattle.be_serving.specs.Store.{Pin, Store}
 
@@ -32,3 +33,7 @@ known a = record {
   pass = a.number;
   pin = option_map (pin_at a) (pinned_number a.phase);
 }
+
+-- The pass gave its write up: each of 10,000,000 tries found another pass holding the lock, and the last one found b.
+abbrev pub GaveUp : Knowledge → ℕ → Knowledge → Type 0
+GaveUp a b c = (before : List ℕ) × (length before + 1 ≡ 10000000) × (c ≡ tried a (b ∷ before))
