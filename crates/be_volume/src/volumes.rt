@@ -109,8 +109,8 @@ impl Volume {
     /// list leaves the volume as it was.
     ///
     /// The operations are done on the twin of the contents, which takes their place, and then the old contents follow. So
-    /// a call costs what it changes, twice. Only where there is no twin is the whole volume copied: at the first call
-    /// after a refusal with 10, after a `replay`, and on a new copy.
+    /// a call costs what it changes, twice, which no clause says. Only where there is no twin is the whole volume copied:
+    /// at the first call after a refusal with 10, after a `replay`, and on a new copy.
     pub fn apply(&mut self, ops: &[Op]) -> Result<ArrayVec<Done, 64>, Refusal>
         requires some { 1 ≤ length ops.now }
         requires few { length ops.now ≤ 64 }
