@@ -1,12 +1,10 @@
 use Rattle.std.proofs.Common.{ap, ◌∙◌, refl, rules, subst}
 use Rattle.std.specs.Prelude.{Err, IfErr}
-use Rattle.be_store.specs.Passes.{IsPassOf}
-use Rattle.be_table.specs.Place.{Opened}
 use Rattle.be_serving.specs.Run.{IsOther, Leaves}
 use Rattle.be_serving.specs.Served.{known}
 use Rattle.be_serving.specs.Store.{Store, start}
 use Rattle.be_serving.specs.declared.faults.RunFault.TheVariants.{Limits, Memory}
-use Rattle.be_serving.proofs.LimitLemmas.{no_fault, not_by, seen_spelt}
+use Rattle.be_serving.proofs.LimitLemmas.{no_fault, not_by, served_spelt}
 use Rattle.be_serving.proofs.ReadLemmas.{none_read}
 use Rattle.be_serving.proofs.RunLemmas.{none_answered_if, on_ok, run_output}
 use Rattle.be_serving.proofs.runs.run.Goals as goal
@@ -22,12 +20,11 @@ returns-in_default-clause-taken g c = none_read (g.R.Read.remaining c.args.reade
 
 pub returns-clause-output : goal.returns-clause-output
 returns-clause-output g c =
-    let of_store : IsPassOf c.in-Ok.store c.into_pass-pass.result =
-    subst (λ (store : Opened). IsPassOf store c.into_pass-pass.result) (ap (λ s. s.0) c.serve-ran.ensures.stays ∙ c.new-server.ensures.0) c.into_pass-pass.ensures.0 in
     on_ok c.serve-ran.result
     (run_output c.args.limits (g.R.Read.remaining c.args.reader.now) (g.W.Write.contents c.args.writer.now) (g.W.Write.contents c.serve-ran.new.writer)
     (known c.new-server.result.knows) (known c.serve-ran.new.server.knows) (ap known c.new-server.ensures.1 ∙ c.in-Ok.ensures.opened.1)
-    (seen_spelt c.args.limits.pages c.in-Ok.store c.into_pass-pass.result c.serve-ran.new.server.knows of_store c.in-Ok.ensures.pages c.into_pass-pass.ensures.1 c.is_pass.ensures))
+    (served_spelt c.args.limits.pages c.in-Ok.store c.serve-ran.new.server.store c.into_pass-pass.result c.serve-ran.new.server.knows
+    (ap (λ s. s.0) c.serve-ran.ensures.stays ∙ c.new-server.ensures.0) c.into_pass-pass.ensures.0 c.in-Ok.ensures.pages c.into_pass-pass.ensures.1 c.is_pass.ensures))
     c.serve-ran.ensures.output
 
 pub returns-clause-fault : goal.returns-clause-fault
