@@ -22,16 +22,15 @@ use Rattle.be_table.specs.Steps.{IsPass, entry_of, least_found}
 use Rattle.be_table.specs.Works.{HasNoRoom}
 use Rattle.be_table.proofs.Histories.{by_pass-append, below-front}
 use Rattle.be_value.specs.declared.refusals.Refusal.{Refusal}
-use Rattle.be_value.specs.declared.refusals.Refusal.TheVariants.{Busy, CommitsSpent}
+use Rattle.be_value.specs.declared.refusals.Refusal.TheVariants.{CommitsSpent}
 use Rattle.be_volume.specs.Ahead.{after, reached}
 use Rattle.be_volume.specs.Volume.{State, empty, steps}
 use Rattle.be_volume.specs.declared.ops.Done.{Done}
 use Rattle.be_volume.specs.declared.ops.Op.{Op}
-use Rattle.be_store.specs.History.{Accepts, Learns, IsLastReason, IsRefusedAt, Pins, tried}
+use Rattle.be_store.specs.History.{Accepts, Learns, IsLastReason, Pins}
 use Rattle.be_store.specs.Passes.{IsPinnedTo, IsSettled, volume_seen}
 use Rattle.be_store.proofs.Applied.{entries_append, nothing_more}
-use Rattle.be_store.proofs.Retries.{never_busy}
-use Rattle.be_serving.specs.Served.{GaveUp, known, pin_at}
+use Rattle.be_serving.specs.Served.{known, pin_at}
 use Rattle.be_serving.specs.Store.{Pin, Store, Joins, Meanwhile, IsBusy, IsWant, MayWrite, pinned, entered, written, written_by}
 
 -- the pin of a pass, by the entries that it has seen and its phase
@@ -240,13 +239,3 @@ same_number a c tries dones_of ops (Err e) ok err = err.0.pass
 pub last_reason : {X : Type 0} (a c : Knowledge) (tries : ℕ) (ops : List Op) (r : Result X Refusal) → IfErr r (λ e. Learns a c × IsLastReason tries a c ops e) → IfErr r (λ e. IsLastReason tries a c ops e)
 last_reason a c tries ops (Ok x) err = tt
 last_reason a c tries ops (Err e) err = err.1
-
--- a refusal that names a pass comes after so many tries, and names the pass that the last one found
-gave_up_by : (a c : Knowledge) (ops : List Op) (e : Refusal) (b : ℕ) → e ≡ Busy b → IsLastReason 10000000 a c ops e → GaveUp a b c
-gave_up_by a c ops e b is (inl h) =
-    let same : h.0 ≡ b = (let named = h.2 in cc) in (h.1, h.5, subst (λ (n : ℕ). c ≡ tried a (n ∷ h.1)) same h.6)
-gave_up_by a c ops e b is (inr h) = absurd (never_busy c ops b (subst (λ (x : Refusal). IsRefusedAt c ops x) is h))
-
-pub gave_up : {X : Type 0} (a c : Knowledge) (ops : List Op) (r : Result X Refusal) → IfErr r (λ e. IsLastReason 10000000 a c ops e) → IfErr r (λ e. (b : ℕ) → e ≡ Busy b → GaveUp a b c)
-gave_up a c ops (Ok x) h = tt
-gave_up a c ops (Err e) h = λ b is. gave_up_by a c ops e b is h

@@ -9,7 +9,7 @@ use Rattle.be_value.specs.declared.refusals.Refusal.{Refusal}
 use Rattle.be_value.specs.declared.refusals.Refusal.TheVariants.{Busy}
 use Rattle.be_volume.specs.declared.ops.Done.{Done}
 use Rattle.be_volume.specs.declared.ops.Op.{Op}
-use Rattle.be_store.specs.History.{Accepts, Learns, IsReason, IsLastReason, IsRefusedAt, is_busy, was_busy, tried}
+use Rattle.be_store.specs.History.{Accepts, Learns, IsReason, IsLastReason, is_busy, was_busy, tried}
 use Rattle.be_store.specs.Passes.{volume_seen}
 use Rattle.be_store.proofs.Refusals.{steps_refuse}
 
@@ -23,20 +23,16 @@ busy_with : (e : Refusal) → is_busy e ≡ true → (b : ℕ) × (e ≡ Busy b)
 busy_with (Busy b) h = (b, refl)
 busy_with e h = absurd (false≢true h)
 
--- with the lock no write is refused by Busy
-pub never_busy : (c : Knowledge) (ops : List Op) (b : ℕ) → IsRefusedAt c ops (Busy b) → ⊥
-never_busy c ops b (inl h) = absurd (let few = (steps_refuse (volume_seen c) ops (Busy b) h).0 in omega (arith, few))
-never_busy c ops b (inr (inl h)) = unroomed h.1
+-- Busy comes of the lock alone
+busy_by_lock : (a c : Knowledge) (ops : List Op) (b : ℕ) → IsReason a c ops (Busy b) → IsBusy (Busy b) a c
+busy_by_lock a c ops b (inl h) = h.0
+busy_by_lock a c ops b (inr (inl h)) = absurd (let few = (steps_refuse (volume_seen c) ops (Busy b) h).0 in omega (arith, few))
+busy_by_lock a c ops b (inr (inr (inl h))) = absurd (unroomed h.1)
   where
     unroomed : HasNoRoom (Busy b) c → ⊥
     unroomed (inl none) = absurd (let e = none.0 in cc)
     unroomed (inr none) = absurd (let e = none.0 in cc)
-never_busy c ops b (inr (inr h)) = absurd (let e = h.2.1 in cc)
-
--- Busy comes of the lock alone
-busy_by_lock : (a c : Knowledge) (ops : List Op) (b : ℕ) → IsReason a c ops (Busy b) → IsBusy (Busy b) a c
-busy_by_lock a c ops b (inl h) = h.0
-busy_by_lock a c ops b (inr h) = absurd (never_busy c ops b h)
+busy_by_lock a c ops b (inr (inr (inr h))) = absurd (let e = h.2.1 in cc)
 
 -- before the first try
 pub untried : (a : Knowledge) → a ≡ tried a []

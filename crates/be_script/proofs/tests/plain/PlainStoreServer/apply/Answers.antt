@@ -1,7 +1,5 @@
-use Rattle.std.proofs.Common.{◌≡◌, ℕ}
 use Rattle.std.specs.Prelude.{Result, Ok, Err, IfErr}
 use Rattle.be_value.specs.declared.refusals.Refusal.{Refusal}
-use Rattle.be_value.specs.declared.refusals.Refusal.TheVariants.{Busy}
 use Rattle.be_serving.specs.Store.{MayWrite}
 use Rattle.be_serving.proofs.JoinLemmas.{at_once}
 use Rattle.be_script.proofs.tests.plain.PlainStoreServer.apply.Goals as goal
@@ -9,9 +7,9 @@ use Rattle.be_script.proofs.tests.plain.PlainStoreServer.apply.Goals as goal
 pub returns-clause-writes : goal.returns-clause-writes
 returns-clause-writes c = at_once c.args.self.now (λ store. MayWrite (λ dones. dones.items) store c.args.ops.now c.write.result c.write.new.self) c.write.ensures
 
-any_refusal : {X : Type 0} (r : Result X Refusal) → IfErr r (λ e. (b : ℕ) → e ≡ Busy b → Unit {0})
+any_refusal : {X : Type 0} (r : Result X Refusal) → IfErr r (λ e. Unit {0})
 any_refusal (Ok x) = tt
-any_refusal (Err e) = λ b is. tt
+any_refusal (Err e) = tt
 
-pub returns-clause-tries : goal.returns-clause-tries
-returns-clause-tries c = any_refusal c.write.result
+pub returns-clause-reason : goal.returns-clause-reason
+returns-clause-reason c = any_refusal c.write.result
