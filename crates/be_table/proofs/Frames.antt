@@ -119,7 +119,7 @@ unfolding CanSpellEach
 log_spelt limits b s = λ n lt.
     let low : suc n ≤ length b.log = (let l = length-map b.log (λ (c : Commit). c.entry) in omega (arith, l, lt)) in record {
       used = reach_at b.log (suc n);
-      words = in_pages (b.world.image (suc n));
+      words = b.world.image (suc n);
       page = page_at b.log (suc n);
       spelt = s.spelt (suc n) low;
       inside = λ p r. s.inside (suc n) p low r;

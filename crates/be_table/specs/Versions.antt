@@ -24,12 +24,12 @@ pub record SpellsVolume (pages : List ℕ) (words : ℕ → ℕ → ℕ) (page :
   pub version : IsVersion (λ q. at_start (has pages q)) words page volume
   pub exact : (q : ℕ) → times q (reach words page) ≡ bit (has pages q)
 
--- So many pages can spell the volume: some of them do, with some words.
+-- So many pages can spell the volume: some of them do, with some words, 512 each.
 pub record CanSpell (pages : ℕ) (volume : State) : Type 0 where
   pub used : List ℕ
   pub words : ℕ → ℕ → ℕ
   pub page : ℕ
-  pub spelt : SpellsVolume used words page volume
+  pub spelt : SpellsVolume used (in_pages words) page volume
   pub inside : (p : ℕ) → IsTrue (has used p) → p < pages
 
 -- so many pages can spell the volume after each entry of the journal
