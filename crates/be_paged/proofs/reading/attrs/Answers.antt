@@ -1,4 +1,4 @@
-use Rattle.std.proofs.Common.{◌≡◌, ℕ, List, ◌∙◌, inr, ap, sym, subst, Ok}
+use Rattle.std.proofs.Common.{◌≡◌, ℕ, List, ◌∙◌, inr, ap, sym, subst, refl, Ok}
 use Rattle.std.specs.Prelude.{Err, IsOk, IfErr}
 use Rattle.std.specs.declared.result.Result.{Result}
 use Rattle.be_value.specs.declared.refusals.Refusal.{Refusal}
@@ -40,4 +40,4 @@ returns-in_err-list_attributes-clause-wanted g c = λ volume version.
     let catalog = subst (λ (w : ℕ → ℕ → ℕ). IsCatalog (pairs w c.word-catalog.result) volume.nodes) (sym c.word-catalog.ensures.words) root in
     let there = node_there (pairs (g.L.Look.words c.word-catalog.new.self) c.word-catalog.result) volume.nodes c.args.node c.to_be_bytes.result catalog c.ranges.node.fits c.to_be_bytes.ensures in
     where_wanted c.from_residual.result
-    (subst (λ (r : Result (List (List ℕ × Value)) Refusal). IsOk r) (sym (attributes_some volume c.args.node (sym there ∙ sym c.has_key.ensures.found ∙ c.if-not-has_key.false))) tt)
+    (subst (λ (r : Result (List (List ℕ × Value)) Refusal). IsOk r) (sym (attributes_some volume c.args.node (sym there ∙ sym c.has_key.ensures.found ∙ c.if-not-has_key.false))) refl)
