@@ -16,7 +16,7 @@ use crate::entries::kinds;
 use crate::version::{Version, fill_version};
 use arrayvec::ArrayVec;
 use be_pages::Look;
-use be_tree::{find, has_key};
+use be_tree::{find_into, has_key};
 use be_value::{Kind, Name, Refusal, Value};
 use std::alloc::Global;
 
@@ -27,7 +27,10 @@ pub(crate) fn value_in<L: Look>(look: &mut L, catalog: u64, node: u64, name: &Na
     ensures unchanged { IsUnchanged L.kept L.standing L.words look.old look.new }
 {
     let key = catalog_key(node, name);
-    let payload = find(look, catalog, &key)?;
+    let mut payload = ArrayVec::new();
+    if !find_into(look, catalog, &key, &mut payload) {
+        return None;
+    }
     read_payload(&payload)
 }
 
