@@ -1,5 +1,5 @@
 //! The store, and the calls of its passes.
-ghost use Rattle.std.specs.Prelude.{◌≡◌, ◌≤◌, ◌<◌, ℕ, [], None, Some, Ok, MatchResult, IfOk, IfErr, OnErr, length, map};
+ghost use Rattle.std.specs.Prelude.{◌≡◌, ◌≤◌, ◌<◌, ℕ, [], None, Some, Ok, MatchResult, IsOk, IfOk, IfErr, OnErr, length, map};
 ghost use Rattle.be_store.specs.Passes.{IsPassOf, IsPinnedTo, HasRead, volume_pinned};
 ghost use Rattle.be_store.specs.History.{Accepts, Learns, IsReason, IsLastReason, Pins};
 
@@ -41,8 +41,10 @@ impl Store {
     ghost use Rattle.be_table.specs.Rule.{IsWithin};
     ghost use Rattle.be_table.specs.Seats.{pinned_number};
     ghost use Rattle.be_table.specs.Steps.{Has, Keeps, longer, met, unpins};
+    ghost use Rattle.be_table.specs.Versions.{CanSpellEach};
     ghost use Rattle.be_table.specs.Works.{AllAt, AreNew, IsUnopened, knows_of};
     ghost use Rattle.be_value.specs.Refusal.{Answers};
+    ghost use Rattle.be_value.specs.declared.refusals.Refusal.TheVariants.{OutOfMemory};
     ghost use Rattle.be_volume.specs.Query.{scan};
     ghost use Rattle.be_volume.specs.Reading.{attribute, attributes_at, index_kinds};
 
@@ -208,7 +210,7 @@ impl Store {
     }
 
     /// A node's attributes in the pinned version, by ascending bytes of their names. NoNode where the node isn't there,
-    /// and OutOfMemory.
+    /// and OutOfMemory only where it is.
     pub fn attrs(
         &self,
         alloc: Global,
@@ -219,6 +221,7 @@ impl Store {
         requires pinned { (n : ℕ) × IsPinnedTo pass.old.knows n }
         ensures pass { IsPassOf self.now pass.new × HasRead pass.old.knows pass.new.knows }
         ensures list { Answers (λ list. list.items) result (attributes_at (volume_pinned pass.old.knows) node) }
+        ensures wanted { IfErr result (λ e. e ≡ OutOfMemory → IsOk (attributes_at (volume_pinned pass.old.knows) node)) }
     {
         let (mut look, page) = self.reader(pass);
         let list = attrs(alloc, &mut look, page, node);
@@ -264,6 +267,7 @@ impl Store {
         ensures legal { IsLegal result.entries }
         ensures by { AllBelow self.limits.passes result.entries }
         ensures passes { Keeps result.entries (map knows_of passes.items) }
+        ensures volumes { CanSpellEach self.limits.pages result.entries }
     {
         let Store { table } = self;
         table.close(passes)
