@@ -78,8 +78,8 @@ impl Journal {
         &self.entries[i as usize]
     }
 
-    /// Appends an entry; what was reserved is given up. It is refused with 9 exactly where the journal is at its limit, and
-    /// with 10 below it; the journal is then as it was, and the entry is dropped.
+    /// Appends an entry; what was reserved is given up. It is refused with CommitsSpent exactly where the journal is at its
+    /// limit, and with OutOfMemory below it; the journal is then as it was, and the entry is dropped.
     pub fn push(&mut self, entry: Entry) -> Result<(), Refusal>
         requires { model.IsEntry entry }
         ensures { model.Grows self.old (model.extended self.old entry) result self.new }
@@ -92,8 +92,8 @@ impl Journal {
         Ok(())
     }
 
-    /// Makes room for one entry of so many operations, 1 to 64, in place of any room made before. It is refused with 9 exactly
-    /// where the journal is at its limit, and with 10 below it; the journal is then as it was.
+    /// Makes room for one entry of so many operations, 1 to 64, in place of any room made before. It is refused with
+    /// CommitsSpent exactly where the journal is at its limit, and with OutOfMemory below it; the journal is then as it was.
     pub fn reserve(&mut self, count: usize) -> Result<(), Refusal>
         requires some { 1 ≤ count }
         requires few { count ≤ 64 }
@@ -132,7 +132,7 @@ impl Journal {
     }
 
     /// The volume after the entries, one after the other; an entry that the volume refuses changes nothing as a whole. It is
-    /// refused with 10 alone, and costs what the entries change.
+    /// refused with OutOfMemory alone, and costs what the entries change.
     pub fn replay(&self) -> Result<Volume, Refusal>
         ensures { Answers (λ volume. volume) result (Ok (model.replay self.now.entries)) }
     {
@@ -144,7 +144,8 @@ impl Journal {
     }
 
     /// The journal's text, a line for each entry, numbered from 1: the pass, the operations as script lines with names quoted,
-    /// and their answers, as in `2 by 0 set 1 "size" LONG 5 -> ok`. It is refused with 10 alone.
+    /// and their answers, as in `2 by 0 set 1 "size" LONG 5 -> ok`. It is refused with OutOfMemory
+    /// alone.
     pub fn text(&self) -> Result<String, Refusal>
         ensures { Answers string_bytes result (Ok (lines_from 1 self.now.entries)) }
     {
@@ -157,7 +158,7 @@ impl Journal {
     }
 
     /// Whether the journal is legal: each entry tells what the volume answers after the entries before it, and none is
-    /// refused. It is refused with 10 alone, and costs what the entries change.
+    /// refused. It is refused with OutOfMemory alone, and costs what the entries change.
     pub fn check(&self) -> Result<bool, Refusal>
         ensures ok { IfOk result (λ legal. (legal ≡ true) ↔ model.IsLegal self.now.entries) }
         ensures err { IfErr result (λ e. e ≡ OutOfMemory) }

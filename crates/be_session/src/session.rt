@@ -175,7 +175,8 @@ impl Session {
     pub fn query(&mut self, alloc: Global, query: &Query) -> Result<Vec<u64>, Fault>
         ensures store { (self.new.store ≡ self.old.store) × (self.new.spare ≡ self.old.spare) }
         ensures read { HasRead self.old.knows self.new.knows }
-        ensures nodes { AtPin (pinned_number self.old.knows.phase) result (Tells (λ nodes. nodes.items) result (scan (volume_pinned self.old.knows) query.now)) }
+        ensures nodes { AtPin (pinned_number self.old.knows.phase) result
+            (Tells (λ nodes. nodes.items) result (scan (volume_pinned self.old.knows) query.now)) }
     {
         let Some(_) = self.pass.pinned() else {
             return Err(Fault::NotPinned);
@@ -190,7 +191,8 @@ impl Session {
         ensures read { HasRead self.old.knows self.new.knows }
         ensures ok { IfOk result (λ u. Refreshes (volume_pinned self.old.knows) live.old live.new u.created.items u.removed.items) }
         ensures pin { IfOk result (λ u. (n : ℕ) × IsPinnedTo self.old.knows n) }
-        ensures err { IfErr result (λ e. (live.new ≡ live.old) × IsUnrefreshed (pinned_number self.old.knows.phase) (scan (volume_pinned self.old.knows) live.old.query) e) }
+        ensures err { IfErr result (λ e. (live.new ≡ live.old)
+            × IsUnrefreshed (pinned_number self.old.knows.phase) (scan (volume_pinned self.old.knows) live.old.query) e) }
     {
         let Some(_) = self.pass.pinned() else {
             return Err(Fault::NotPinned);
@@ -231,7 +233,8 @@ impl Session {
     pub fn attrs(&mut self, alloc: Global, node: u64) -> Result<Vec<(Name, Value)>, Fault>
         ensures store { (self.new.store ≡ self.old.store) × (self.new.spare ≡ self.old.spare) }
         ensures read { HasRead self.old.knows self.new.knows }
-        ensures list { AtPin (pinned_number self.old.knows.phase) result (Tells (λ list. list.items) result (attributes_at (volume_pinned self.old.knows) node)) }
+        ensures list { AtPin (pinned_number self.old.knows.phase) result
+            (Tells (λ list. list.items) result (attributes_at (volume_pinned self.old.knows) node)) }
     {
         let Some(_) = self.pass.pinned() else {
             return Err(Fault::NotPinned);

@@ -1,5 +1,7 @@
 //! Worked examples of the store, by calls.
 //!
+//! A test is a store, and then a call a line with its answer. What they call stands below them.
+//!
 //! A call that takes memory is made once more after `OutOfMemory`, and is to give the example's answer then: so the
 //! tests also pass where any one request for memory is refused (`rt try --test --fail-alloc N`).
 //!
@@ -18,6 +20,206 @@ use std::alloc::{AllocError, Global};
 use std::test::Fail;
 use std::thread::Threads;
 use std::{str, thread};
+
+/// Limits that are out of range, and the least and the greatest ones.
+#[test]
+fn open_limits(rt: HostRuntime) -> Result<(), Fail> {
+    let outside = [
+        (7, 1, 1),
+        (16385, 1, 1),
+        (8, 0, 1),
+        (8, 65, 1),
+        (8, 1, 0),
+        (8, 1, 4_294_967_296),
+    ];
+    for (pages, passes, commits) in outside {
+        assert!(rt; has_bad_limits(rt.alloc(), pages, passes, commits));
+    }
+    for (pages, passes, commits) in [(8, 1, 1), (16384, 64, 4_294_967_295)] {
+        let limits = Limits {
+            pages,
+            passes,
+            commits,
+        };
+        let (_, dealt) = opened(rt.alloc(), limits)?;
+        assert_eq!(rt; dealt.len() as u64, passes);
+    }
+    Ok(())
+}
+
+/// A pinned pass reads the version of its pin, whatever is written after. The next pin has it.
+#[test]
+fn two_passes(rt: HostRuntime) -> Result<(), Fail> {
+    let (store, mut a, mut b) = for_two(rt.alloc(), 64, 100)?;
+    let name = Name::new("k")?;
+    let op = Op::Set(1, name.copy(), Value::text("v")?);
+    assert!(rt; writes(&store, &mut a, &[Op::New], 1, &[Done::Node(1)]));
+    assert_eq!(rt; pin(&store, &mut b), 1);
+    assert!(rt; writes(&store, &mut a, &[op], 2, &[Done::Unit]));
+    assert!(rt; value_of(&store, &mut b, &name).is_none());
+    assert_eq!(rt; count_attrs(&store, rt.alloc(), &mut b)?, 0);
+    assert_eq!(rt; count_indices(&store, rt.alloc(), &mut b)?, 0);
+    assert_eq!(rt; pin(&store, &mut b), 2);
+    assert!(rt;
+        matches!(value_of(&store, &mut b, &name), Some(Value::Cstr(text)) if text.as_str() == "v")
+    );
+    Ok(())
+}
+
+/// An index has the pairs that were set since it was made, and finds a node once its attribute is set again.
+#[test]
+fn index_made_later(rt: HostRuntime) -> Result<(), Fail> {
+    let (store, mut a) = for_one(rt.alloc(), 64, 100)?;
+    let name = Name::new("size")?;
+    assert!(rt; writes(&store, &mut a, &[Op::New], 1, &[Done::Node(1)]));
+    assert_eq!(rt; set(&store, &mut a, &name, 5), Ok(2));
+    assert_eq!(rt; write(&store, &mut a, Op::MkIndex(name.copy(), Kind::Long)), Ok(3));
+    assert!(rt; finds_now(&store, rt.alloc(), &mut a, "size==5", &[]));
+    assert_eq!(rt; set(&store, &mut a, &name, 5), Ok(4));
+    assert!(rt; finds_now(&store, rt.alloc(), &mut a, "size==5", &[1]));
+    Ok(())
+}
+
+/// A store of two commits: what the volume refuses is told before CommitsSpent, and reads go on.
+#[test]
+fn commits_spent(rt: HostRuntime) -> Result<(), Fail> {
+    let (store, mut a) = for_one(rt.alloc(), 64, 2)?;
+    let name = Name::new("k")?;
+    assert_eq!(rt; write(&store, &mut a, Op::New), Ok(1));
+    assert_eq!(rt; write(&store, &mut a, Op::Drop(9)), Err(Refusal::NoNode));
+    assert_eq!(rt; write(&store, &mut a, Op::MkIndex(name, Kind::Long)), Ok(2));
+    assert_eq!(rt; write(&store, &mut a, Op::New), Err(Refusal::CommitsSpent));
+    assert_eq!(rt; write(&store, &mut a, Op::Drop(9)), Err(Refusal::NoNode));
+    assert!(rt; finds_now(&store, rt.alloc(), &mut a, "k==1", &[]));
+    Ok(())
+}
+
+/// Two passes that meet have both seen what one of them has.
+#[test]
+fn meeting(rt: HostRuntime) -> Result<(), Fail> {
+    let (store, mut a, mut b) = for_two(rt.alloc(), 64, 100)?;
+    assert_eq!(rt; write(&store, &mut a, Op::New), Ok(1));
+    assert_eq!(rt; (a.seen(), b.seen()), (1, 0));
+    assert_eq!(rt; store.meet(&mut b, &mut a), 1);
+    assert_eq!(rt; (a.seen(), b.seen()), (1, 1));
+    Ok(())
+}
+
+/// A live query tells which nodes came into its range, and which went, since it was last refreshed.
+#[test]
+fn live_query(rt: HostRuntime) -> Result<(), Fail> {
+    let (store, mut a) = for_one(rt.alloc(), 64, 100)?;
+    let name = Name::new("k")?;
+    let mut live = Live::new(rt.alloc(), parsed(rt.alloc(), "k>4")?);
+    let nine = Op::Set(2, name.copy(), Value::int32(9));
+    assert_eq!(rt; write(&store, &mut a, Op::MkIndex(name.copy(), Kind::Long)), Ok(1));
+    assert_eq!(rt; write(&store, &mut a, Op::New), Ok(2));
+    assert_eq!(rt; set(&store, &mut a, &name, 5), Ok(3));
+    assert!(rt; refreshes(&store, &mut a, &mut live, &[1], &[]));
+    assert_eq!(rt; write(&store, &mut a, Op::New), Ok(4));
+    assert_eq!(rt; set(&store, &mut a, &name, 1), Ok(5));
+    assert_eq!(rt; write(&store, &mut a, nine), Ok(6));
+    assert!(rt; refreshes(&store, &mut a, &mut live, &[2], &[1]));
+    assert!(rt; refreshes(&store, &mut a, &mut live, &[], &[]));
+    Ok(())
+}
+
+/// The list that is accepted is by pass 1, and the one that is refused by pass 0, which stays pinned.
+#[test]
+fn batches_in_store(rt: HostRuntime) -> Result<(), Fail> {
+    let (store, mut b, mut a) = for_two(rt.alloc(), 32, 100)?;
+    let name = Name::new("k")?;
+    assert_eq!(rt; index_zero(&store, &mut a, &name)?, 3);
+    assert_eq!(rt; pin(&store, &mut b), 3);
+    assert!(rt; writes_64(&store, rt.alloc(), &mut a, &name));
+    assert!(rt; finds(&store, rt.alloc(), &mut b, "k==0", 3, &[1]));
+    assert_eq!(rt; pin(&store, &mut b), 4);
+    assert!(rt; finds(&store, rt.alloc(), &mut b, "k==64", 4, &[1]));
+    let refused = write_64(&store, rt.alloc(), &mut b, &name, true);
+    assert!(rt; matches!(refused, Err(Refusal::NoNode)));
+    assert_eq!(rt; pin(&store, &mut a), 4);
+    assert!(rt; finds(&store, rt.alloc(), &mut a, "k==64", 4, &[1]));
+    Ok(())
+}
+
+/// The most attributes of a node and the most indices are listed.
+#[test]
+fn longest_lists(rt: HostRuntime) -> Result<(), Fail> {
+    let (store, mut a) = for_one(rt.alloc(), 256, 100)?;
+    write(&store, &mut a, Op::New)?;
+    set_most(&store, &mut a)?;
+    index_most(&store, &mut a)?;
+    assert_eq!(rt; pin(&store, &mut a), 97);
+    assert_eq!(rt; count_attrs(&store, rt.alloc(), &mut a)?, 64);
+    assert_eq!(rt; count_indices(&store, rt.alloc(), &mut a)?, 32);
+    Ok(())
+}
+
+/// In a small pool the writes under a pin end with Full, and the pin reads what it read.
+#[test]
+fn pinned_small_pool(rt: HostRuntime) -> Result<(), Fail> {
+    assert!(rt; first_full(rt.alloc(), 64)? < 64);
+    Ok(())
+}
+
+/// In a pool that is larger than what makes a scan due, writes scan before it is empty, under a pin all the while: what
+/// the pin reads stays, each page of the pool is used, and the write that finds none has scanned.
+#[test]
+fn early_scan(rt: HostRuntime) -> Result<(), Fail> {
+    let first = first_full(rt.alloc(), 1024)?;
+    assert!(rt; first > 128 && first < 500);
+    Ok(())
+}
+
+/// In the smallest pool writes end with Full, of the number of nodes that were made. The volume's refusals, reads and the
+/// journal go on.
+#[test]
+fn smallest_pool(rt: HostRuntime) -> Result<(), Fail> {
+    let (store, mut a) = for_one(rt.alloc(), 8, 100)?;
+    let made = make_nodes(&store, &mut a).unwrap_or(0);
+    assert!(rt; made >= 13 && made < 37);
+    assert!(rt; drops_no_node(&store, &mut a));
+    assert!(rt; reads_bare(&store, rt.alloc(), &mut a, &Name::new("k")?, made)?);
+    assert_eq!(rt; closed(rt.alloc(), store, a)?, (made, true));
+    Ok(())
+}
+
+/// Ten thousand writes go through a pool of 64 pages, where nobody is pinned.
+#[test]
+fn pages_reused(rt: HostRuntime) -> Result<(), Fail> {
+    let (store, mut a) = for_one(rt.alloc(), 64, 20_000)?;
+    let name = Name::new("k")?;
+    assert_eq!(rt; index_zero(&store, &mut a, &name)?, 3);
+    assert_eq!(rt; set_many(&store, &mut a, &name, 10_000)?, 10_003);
+    Ok(())
+}
+
+/// A pass that is dropped while it is pinned keeps its pages for good, and the other one reads on.
+#[test]
+fn dropped_pass(rt: HostRuntime) -> Result<(), Fail> {
+    let (store, mut a, mut b) = for_two(rt.alloc(), 64, 1000)?;
+    let name = Name::new("k")?;
+    assert_eq!(rt; index_zero(&store, &mut a, &name)?, 3);
+    assert_eq!(rt; pin(&store, &mut b), 3);
+    drop(b);
+    let first = fill_alone(&store, &mut a, &name).unwrap_or(500);
+    assert!(rt; first < 64);
+    assert!(rt; reads_number(&store, rt.alloc(), &mut a, &name, first.saturating_sub(1)));
+    Ok(())
+}
+
+/// Two threads write, and the journal has each write of both once, in an order that is legal.
+#[test]
+fn two_writers(rt: HostRuntime) -> Result<(), Fail> {
+    let (store, first, second) = for_two(rt.alloc(), 64, 1000)?;
+    let (first, second) = make_both(&rt, &store, first, second);
+    assert!(rt; first.1 && second.1);
+    let journal = journal_of(rt.alloc(), store, first.0, second.0)?;
+    assert_eq!(rt; journal.len(), 200);
+    assert_eq!(rt; (count_by(&journal, 0), count_by(&journal, 1)), (100, 100));
+    assert!(rt; is_legal(&journal)?);
+    Ok(())
+}
 
 /// A store with these limits and its passes, at the second call where memory is refused at the first.
 fn opened(alloc: Global, limits: Limits) -> Result<(Store, Vec<Pass>), Refusal>
@@ -286,74 +488,6 @@ fn has_bad_limits(alloc: Global, pages: u64, passes: u64, commits: u64) -> bool 
     matches!(opened(alloc, limits), Err(Refusal::BadLimits))
 }
 
-#[test]
-fn open_limits(rt: HostRuntime) -> Result<(), Fail> {
-    let outside = [
-        (7, 1, 1),
-        (16385, 1, 1),
-        (8, 0, 1),
-        (8, 65, 1),
-        (8, 1, 0),
-        (8, 1, 4_294_967_296),
-    ];
-    for (pages, passes, commits) in outside {
-        assert!(rt; has_bad_limits(rt.alloc(), pages, passes, commits));
-    }
-    for (pages, passes, commits) in [(8, 1, 1), (16384, 64, 4_294_967_295)] {
-        let limits = Limits {
-            pages,
-            passes,
-            commits,
-        };
-        let (_, dealt) = opened(rt.alloc(), limits)?;
-        assert_eq!(rt; dealt.len() as u64, passes);
-    }
-    Ok(())
-}
-
-/// Node 1 is made, and the reader pins. Then it gets an attribute, which the reader doesn't see.
-fn keeps_pin(
-    store: &Store,
-    alloc: Global,
-    a: &mut Pass,
-    b: &mut Pass,
-    name: &Name,
-) -> Result<bool, Refusal>
-    requires { IsPassOf store.now a.old × IsPassOf store.now b.old }
-    ensures { IsPassOf store.now a.new × IsPassOf store.now b.new }
-{
-    let made = writes(store, a, &[Op::New], 1, &[Done::Node(1)]);
-    let pinned = pin(store, b);
-    let op = Op::Set(1, name.copy(), Value::text("v")?);
-    let put = writes(store, a, &[op], 2, &[Done::Unit]);
-    let none = value_of(store, b, name).is_none();
-    let attrs = count_attrs(store, alloc, b)?;
-    let indices = count_indices(store, alloc, b)?;
-    Ok(made && pinned == 1 && put && none && attrs == 0 && indices == 0)
-}
-
-#[test]
-fn two_passes(rt: HostRuntime) -> Result<(), Fail> {
-    let (store, mut a, mut b) = for_two(rt.alloc(), 64, 100)?;
-    let name = Name::new("k")?;
-    assert!(rt; keeps_pin(&store, rt.alloc(), &mut a, &mut b, &name)?);
-    assert_eq!(rt; pin(&store, &mut b), 2);
-    assert!(rt;
-        matches!(value_of(&store, &mut b, &name), Some(Value::Cstr(text)) if text.as_str() == "v")
-    );
-    Ok(())
-}
-
-#[test]
-fn meeting(rt: HostRuntime) -> Result<(), Fail> {
-    let (store, mut a, mut b) = for_two(rt.alloc(), 64, 100)?;
-    write(&store, &mut a, Op::New)?;
-    assert_eq!(rt; (a.seen(), b.seen()), (1, 0));
-    assert_eq!(rt; store.meet(&mut b, &mut a), 1);
-    assert_eq!(rt; (a.seen(), b.seen()), (1, 1));
-    Ok(())
-}
-
 /// What changed since the last refresh, at the current version.
 fn refreshed(store: &Store, pass: &mut Pass, live: &mut Live) -> Result<Updates, Refusal>
     requires { IsPassOf store.now pass.old }
@@ -376,31 +510,6 @@ fn refreshes(store: &Store, pass: &mut Pass, live: &mut Live, came: &[u64], went
         Ok(updates) => updates.created.as_slice() == came && updates.removed.as_slice() == went,
         Err(_) => false,
     }
-}
-
-/// Node 1 goes out of the range of `k>4`, and node 2 is made in it.
-fn moves_range(store: &Store, pass: &mut Pass, name: &Name) -> Result<u64, Refusal>
-    requires { IsPassOf store.now pass.old }
-    ensures { IsPassOf store.now pass.new }
-{
-    write(store, pass, Op::New)?;
-    set(store, pass, name, 1)?;
-    write(store, pass, Op::Set(2, name.copy(), Value::int32(9)))
-}
-
-#[test]
-fn live_query(rt: HostRuntime) -> Result<(), Fail> {
-    let (store, mut a) = for_one(rt.alloc(), 64, 100)?;
-    let name = Name::new("k")?;
-    let mut live = Live::new(rt.alloc(), parsed(rt.alloc(), "k>4")?);
-    write(&store, &mut a, Op::MkIndex(name.copy(), Kind::Long))?;
-    write(&store, &mut a, Op::New)?;
-    set(&store, &mut a, &name, 5)?;
-    assert!(rt; refreshes(&store, &mut a, &mut live, &[1], &[]));
-    moves_range(&store, &mut a, &name)?;
-    assert!(rt; refreshes(&store, &mut a, &mut live, &[2], &[1]));
-    assert!(rt; refreshes(&store, &mut a, &mut live, &[], &[]));
-    Ok(())
 }
 
 /// Sets the attribute of node 1 to 1 to 500, while the other pass is pinned at 3 and finds node 1 where it is 0. The
@@ -445,47 +554,6 @@ fn first_full(alloc: Global, pages: u64) -> Result<i32, Refusal> {
     }
 }
 
-#[test]
-fn pinned_small_pool(rt: HostRuntime) -> Result<(), Fail> {
-    assert!(rt; first_full(rt.alloc(), 64)? < 64);
-    Ok(())
-}
-
-// In a pool that is larger than what makes a scan due, writes scan before it is empty, under a pin all the while: what
-// the pin reads stays, each page of the pool is used, and the write that finds none has scanned.
-#[test]
-fn early_scan(rt: HostRuntime) -> Result<(), Fail> {
-    let first = first_full(rt.alloc(), 1024)?;
-    assert!(rt; first > 128 && first < 500);
-    Ok(())
-}
-
-#[test]
-fn index_made_later(rt: HostRuntime) -> Result<(), Fail> {
-    let (store, mut a) = for_one(rt.alloc(), 64, 100)?;
-    let name = Name::new("size")?;
-    assert!(rt; writes(&store, &mut a, &[Op::New], 1, &[Done::Node(1)]));
-    set(&store, &mut a, &name, 5)?;
-    write(&store, &mut a, Op::MkIndex(name.copy(), Kind::Long))?;
-    assert!(rt; finds_now(&store, rt.alloc(), &mut a, "size==5", &[]));
-    set(&store, &mut a, &name, 5)?;
-    assert!(rt; finds_now(&store, rt.alloc(), &mut a, "size==5", &[1]));
-    Ok(())
-}
-
-#[test]
-fn commits_spent(rt: HostRuntime) -> Result<(), Fail> {
-    let (store, mut a) = for_one(rt.alloc(), 64, 2)?;
-    let name = Name::new("k")?;
-    assert_eq!(rt; write(&store, &mut a, Op::New), Ok(1));
-    assert_eq!(rt; write(&store, &mut a, Op::Drop(9)), Err(Refusal::NoNode));
-    assert_eq!(rt; write(&store, &mut a, Op::MkIndex(name, Kind::Long)), Ok(2));
-    assert_eq!(rt; write(&store, &mut a, Op::New), Err(Refusal::CommitsSpent));
-    assert_eq!(rt; write(&store, &mut a, Op::Drop(9)), Err(Refusal::NoNode));
-    assert!(rt; finds_now(&store, rt.alloc(), &mut a, "k==1", &[]));
-    Ok(())
-}
-
 /// Sets the attribute of node 1 to 1 to this. The last write's number.
 fn set_many(store: &Store, pass: &mut Pass, name: &Name, count: i32) -> Result<u64, Refusal>
     requires { IsPassOf store.now pass.old }
@@ -496,15 +564,6 @@ fn set_many(store: &Store, pass: &mut Pass, name: &Name, count: i32) -> Result<u
         last = set(store, pass, name, i)?;
     }
     Ok(last)
-}
-
-#[test]
-fn pages_reused(rt: HostRuntime) -> Result<(), Fail> {
-    let (store, mut a) = for_one(rt.alloc(), 64, 20_000)?;
-    let name = Name::new("k")?;
-    assert_eq!(rt; index_zero(&store, &mut a, &name)?, 3);
-    assert_eq!(rt; set_many(&store, &mut a, &name, 10_000)?, 10_003);
-    Ok(())
 }
 
 /// Makes up to 60 nodes. How many there are, if from then on each was refused, with Full of just this number.
@@ -577,17 +636,6 @@ fn is_legal(journal: &Journal) -> Result<bool, Refusal> {
     }
 }
 
-#[test]
-fn smallest_pool(rt: HostRuntime) -> Result<(), Fail> {
-    let (store, mut a) = for_one(rt.alloc(), 8, 100)?;
-    let made = make_nodes(&store, &mut a).unwrap_or(0);
-    assert!(rt; made >= 13 && made < 37);
-    assert!(rt; drops_no_node(&store, &mut a));
-    assert!(rt; reads_bare(&store, rt.alloc(), &mut a, &Name::new("k")?, made)?);
-    assert_eq!(rt; closed(rt.alloc(), store, a)?, (made, true));
-    Ok(())
-}
-
 /// Sets the attribute of node 1 to 1 to 500. The first value that found no page, if each after it found none either.
 fn fill_alone(store: &Store, writer: &mut Pass, name: &Name) -> Option<i32>
     requires { IsPassOf store.now writer.old }
@@ -612,19 +660,6 @@ fn reads_number(store: &Store, alloc: Global, pass: &mut Pass, name: &Name, numb
     let nodes: &[u64] = if number == 0 { &[1] } else { &[] };
     finds_now(store, alloc, pass, "k==0", nodes)
         && matches!(value_of(store, pass, name), Some(Value::Long(n)) if n == number)
-}
-
-#[test]
-fn dropped_pass(rt: HostRuntime) -> Result<(), Fail> {
-    let (store, mut a, mut b) = for_two(rt.alloc(), 64, 1000)?;
-    let name = Name::new("k")?;
-    assert_eq!(rt; index_zero(&store, &mut a, &name)?, 3);
-    assert_eq!(rt; pin(&store, &mut b), 3);
-    drop(b);
-    let first = fill_alone(&store, &mut a, &name).unwrap_or(500);
-    assert!(rt; first < 64);
-    assert!(rt; reads_number(&store, rt.alloc(), &mut a, &name, first.saturating_sub(1)));
-    Ok(())
 }
 
 /// One of 256 names of two letters.
@@ -652,19 +687,6 @@ fn index_most(store: &Store, pass: &mut Pass) -> Result<(), Refusal>
     for number in 0..32u8 {
         write(store, pass, Op::MkIndex(numbered(number)?, Kind::Long))?;
     }
-    Ok(())
-}
-
-/// The most attributes of a node and the most indices are listed.
-#[test]
-fn longest_lists(rt: HostRuntime) -> Result<(), Fail> {
-    let (store, mut a) = for_one(rt.alloc(), 256, 100)?;
-    write(&store, &mut a, Op::New)?;
-    set_most(&store, &mut a)?;
-    index_most(&store, &mut a)?;
-    assert_eq!(rt; pin(&store, &mut a), 97);
-    assert_eq!(rt; count_attrs(&store, rt.alloc(), &mut a)?, 64);
-    assert_eq!(rt; count_indices(&store, rt.alloc(), &mut a)?, 32);
     Ok(())
 }
 
@@ -721,24 +743,6 @@ fn writes_64(store: &Store, alloc: Global, pass: &mut Pass, name: &Name) -> bool
         Ok((number, dones)) => number == 4 && are_units(dones.as_slice()),
         Err(_) => false,
     }
-}
-
-// The list that is accepted is by pass 1, and the one that is refused by pass 0, which stays pinned.
-#[test]
-fn batches_in_store(rt: HostRuntime) -> Result<(), Fail> {
-    let (store, mut b, mut a) = for_two(rt.alloc(), 32, 100)?;
-    let name = Name::new("k")?;
-    assert_eq!(rt; index_zero(&store, &mut a, &name)?, 3);
-    assert_eq!(rt; pin(&store, &mut b), 3);
-    assert!(rt; writes_64(&store, rt.alloc(), &mut a, &name));
-    assert!(rt; finds(&store, rt.alloc(), &mut b, "k==0", 3, &[1]));
-    assert_eq!(rt; pin(&store, &mut b), 4);
-    assert!(rt; finds(&store, rt.alloc(), &mut b, "k==64", 4, &[1]));
-    let refused = write_64(&store, rt.alloc(), &mut b, &name, true);
-    assert!(rt; matches!(refused, Err(Refusal::NoNode)));
-    assert_eq!(rt; pin(&store, &mut a), 4);
-    assert!(rt; finds(&store, rt.alloc(), &mut a, "k==64", 4, &[1]));
-    Ok(())
 }
 
 /// Makes a node, at a later try while another pass holds the lock.
@@ -814,16 +818,4 @@ fn count_by(journal: &Journal, pass: u64) -> u64 {
         }
     }
     count
-}
-
-#[test]
-fn two_writers(rt: HostRuntime) -> Result<(), Fail> {
-    let (store, first, second) = for_two(rt.alloc(), 64, 1000)?;
-    let (first, second) = make_both(&rt, &store, first, second);
-    assert!(rt; first.1 && second.1);
-    let journal = journal_of(rt.alloc(), store, first.0, second.0)?;
-    assert_eq!(rt; journal.len(), 200);
-    assert_eq!(rt; (count_by(&journal, 0), count_by(&journal, 1)), (100, 100));
-    assert!(rt; is_legal(&journal)?);
-    Ok(())
 }

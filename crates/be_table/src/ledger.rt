@@ -43,7 +43,8 @@ impl Ledger {
 
     /// The pages that were retired with a number below the least are free.
     pub fn sweep(&mut self, least: u64)
-        ensures { (self.new.journal ≡ self.old.journal) × (self.new.page ≡ self.old.page) × (places self.new.pool ≡ map (swept_place least) (places self.old.pool)) }
+        ensures { (self.new.journal ≡ self.old.journal) × (self.new.page ≡ self.old.page)
+            × (places self.new.pool ≡ map (swept_place least) (places self.old.pool)) }
     {
         self.pool.sweep(least);
         self.left = self.pool.retired();

@@ -161,7 +161,8 @@ fn values_have_a_text(rt: HostRuntime) -> Result<(), Fail> {
     push(rt.alloc(), &mut journal, most, Done::Unit)?;
     assert_eq!(rt;
         text(&journal)?.as_str(),
-        "1 by 0 set 1 \"a\\\"b\" CSTR \"x\\\\y\\n\\r\" -> ok\n2 by 0 set 1 \"r\" RAWT \"00abff\" -> ok\n3 by 0 set 1 \"l\" LLNG -9223372036854775808 -> ok\n4 by 0 set 1 \"u\" ULLG 18446744073709551615 -> ok\n"
+        "1 by 0 set 1 \"a\\\"b\" CSTR \"x\\\\y\\n\\r\" -> ok\n2 by 0 set 1 \"r\" RAWT \"00abff\" -> ok\n\
+        3 by 0 set 1 \"l\" LLNG -9223372036854775808 -> ok\n4 by 0 set 1 \"u\" ULLG 18446744073709551615 -> ok\n"
     );
     Ok(())
 }

@@ -13,7 +13,9 @@ use be_session::Fault;
 /// Puts out how many nodes a session found, and as many of them as there is room for. What that says of the version is known of
 /// what the session told.
 pub(crate) fn tell(answer: Result<Vec<u64>, Fault>, nodes: &mut [u64], count: &mut u64) -> u32
-    ensures found { (pin : AnyOption ℕ) (meant : AnyResult (List ℕ) AnyRefusal) → AtPin pin answer (Tells (λ found. found.items) answer meant) → Found pin meant nodes.old nodes.new count.new result }
+    ensures found { (pin : AnyOption ℕ) (meant : AnyResult (List ℕ) AnyRefusal)
+        → AtPin pin answer (Tells (λ found. found.items) answer meant)
+        → Found pin meant nodes.old nodes.new count.new result }
     ensures kept { (result ≡ 0) ⊎ ((count.new ≡ count.old) × (nodes.new ≡ nodes.old)) }
 {
     match answer {
@@ -36,7 +38,9 @@ fn put_text(text: &str, bytes: &mut [u8], count: &mut u64)
 
 /// Puts out how many bytes a text of a session's has, and as many of them as there is room for; else as `tell`.
 pub(crate) fn tell_text(answer: Result<String, Fault>, bytes: &mut [u8], count: &mut u64) -> u32
-    ensures found { (pin : AnyOption ℕ) (meant : AnyResult (List ℕ) AnyRefusal) → AtPin pin answer (Tells string_bytes answer meant) → Found pin meant bytes.old bytes.new count.new result }
+    ensures found { (pin : AnyOption ℕ) (meant : AnyResult (List ℕ) AnyRefusal)
+        → AtPin pin answer (Tells string_bytes answer meant)
+        → Found pin meant bytes.old bytes.new count.new result }
     ensures kept { (result ≡ 0) ⊎ ((count.new ≡ count.old) × (bytes.new ≡ bytes.old)) }
 {
     match answer {

@@ -147,7 +147,8 @@ pub extern "C" fn bes_close(alloc: Global, pass: &mut Handle) -> u32
 /// Pins the current version, and puts out its number.
 #[unsafe(no_mangle)]
 pub extern "C" fn bes_pin(alloc: Global, pass: &mut Handle, number: &mut u64) -> u32
-    ensures pass { Calls pass.old.owned.value pass.new.owned.value result (λ s t. ((result ≡ 0) × Pins s.knows t.knows number.new) ⊎ ((result ≡ 67) × (t ≡ s))) }
+    ensures pass { Calls pass.old.owned.value pass.new.owned.value result
+        (λ s t. ((result ≡ 0) × Pins s.knows t.knows number.new) ⊎ ((result ≡ 67) × (t ≡ s))) }
     ensures kept { (result ≡ 0) ⊎ (number.new ≡ number.old) }
 {
     if !pass.live {
@@ -345,7 +346,9 @@ pub extern "C" fn bes_attributes(
     listed: &mut [Operation],
     bytes: &mut [u8],
 ) -> u32
-    ensures pass { Calls pass.old.owned.value pass.new.owned.value result (λ s t. HasRead s.knows t.knows × Listed (sets node) (pinned_number s.knows.phase) (attributes_at (volume_pinned s.knows) node) counts.new listed.old listed.new bytes.old bytes.new result) }
+    ensures pass { Calls pass.old.owned.value pass.new.owned.value result
+        (λ s t. HasRead s.knows t.knows × Listed (sets node) (pinned_number s.knows.phase)
+        (attributes_at (volume_pinned s.knows) node) counts.new listed.old listed.new bytes.old bytes.new result) }
     ensures kept { (result ≡ 0) ⊎ ((counts.new ≡ counts.old) × (listed.new ≡ listed.old) × (bytes.new ≡ bytes.old)) }
 {
     if !pass.live {
@@ -366,7 +369,9 @@ pub extern "C" fn bes_indices(
     listed: &mut [Operation],
     bytes: &mut [u8],
 ) -> u32
-    ensures pass { Calls pass.old.owned.value pass.new.owned.value result (λ s t. HasRead s.knows t.knows × Listed makes (pinned_number s.knows.phase) (Ok (index_kinds (volume_pinned s.knows))) counts.new listed.old listed.new bytes.old bytes.new result) }
+    ensures pass { Calls pass.old.owned.value pass.new.owned.value result
+        (λ s t. HasRead s.knows t.knows × Listed makes (pinned_number s.knows.phase)
+        (Ok (index_kinds (volume_pinned s.knows))) counts.new listed.old listed.new bytes.old bytes.new result) }
     ensures kept { (result ≡ 0) ⊎ ((counts.new ≡ counts.old) × (listed.new ≡ listed.old) × (bytes.new ≡ bytes.old)) }
 {
     if !pass.live {

@@ -27,9 +27,9 @@ use Rattle.be_paged.specs.Catalog.{IsPairOf}
 use Rattle.be_paged.specs.Entry.{Entry}
 use Rattle.be_paged.specs.Page.{Contents, IsNamedAt}
 use Rattle.be_paged.specs.Version.{Spells}
-use Rattle.be_paged.proofs.Indexing.{named_found}
-use Rattle.be_paged.proofs.Segments.{all_from, payload_from, rising_from}
-use Rattle.be_paged.proofs.SourceKeys.{key_finds, same_from}
+use Rattle.be_paged.proofs.IndexEntries.Indexing.{named_found}
+use Rattle.be_paged.proofs.CatalogPairs.Segments.{all_from, payload_from, rising_from}
+use Rattle.be_paged.proofs.Asking.SourceKeys.{key_finds, same_from}
 
 -- the number that a key ends with is its node
 node_of_key : (v : Value) (n : ℕ) → n < 2 ^ 64 → number_of (key v n) ≡ n

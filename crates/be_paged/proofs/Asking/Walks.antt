@@ -27,7 +27,7 @@ use Rattle.be_volume.specs.Sound.{IsName}
 use Rattle.be_volume.proofs.MapLemmas.{names_total}
 use Rattle.be_paged.specs.Catalog.{IsCatalog}
 use Rattle.be_paged.specs.Reading.{AreValid, front, attribute_pair, attribute_pairs}
-use Rattle.be_paged.proofs.Segments.{segment, value_there}
+use Rattle.be_paged.proofs.CatalogPairs.Segments.{segment, value_there}
 
 -- nothing is left, or something is
 pub at_end : {A : Type 0} (xs : List A) (i : ℕ) → i ≤ length xs → slice_get (drop i xs) 0 ≡ None → i ≡ length xs

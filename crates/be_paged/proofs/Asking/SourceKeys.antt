@@ -24,9 +24,9 @@ use Rattle.be_paged.specs.Entry.{Entry}
 use Rattle.be_paged.specs.Page.{Contents, IsNamedAt, IsGapAt}
 use Rattle.be_paged.specs.Catalog.{IsPairOf}
 use Rattle.be_paged.specs.Version.{IsInHand, Spells}
-use Rattle.be_paged.proofs.Indexing.{named_found, gap_none}
-use Rattle.be_paged.proofs.Finding.{found_pair}
-use Rattle.be_paged.proofs.Segments.{payload_from, rising_from}
+use Rattle.be_paged.proofs.IndexEntries.Indexing.{named_found, gap_none}
+use Rattle.be_paged.proofs.CatalogPairs.Finding.{found_pair}
+use Rattle.be_paged.proofs.CatalogPairs.Segments.{payload_from, rising_from}
 
 mapped_or : (es : List Entry) (i : ℕ) (d : Entry) → i < length es → get_or (map (λ (e : Entry). e.root) es) i d.root ≡ (get_or es i d).root
 mapped_or [] i d lt = absurd (omega (arith, lt))

@@ -13,7 +13,7 @@ use Rattle.be_tree.specs.Key.{payload_at, put, without}
 use Rattle.be_volume.specs.Indices.{unpaired}
 use Rattle.be_volume.specs.declared.maps.Index.{Index}
 use Rattle.be_paged.specs.Catalog.{IsPairOf, IsIndexOf}
-use Rattle.be_paged.proofs.Items.{put_here, put_other, all_put, without_other, all_without, get_here, get_other, gone_here, gone_other}
+use Rattle.be_paged.proofs.CatalogPairs.Items.{put_here, put_other, all_put, without_other, all_without, get_here, get_other, gone_here, gone_other}
 
 -- a key tells its node
 pub key_last : (v w : Value) (m n : ℕ) → m < 2 ^ 64 → n < 2 ^ 64 → key v m ≡ key w n → m ≡ n

@@ -22,9 +22,9 @@ use Rattle.be_paged.specs.Page.{IsNamedAt, IsGapAt}
 use Rattle.be_paged.specs.Catalog.{catalog_key, payload_of, value_at, stored, IsCatalog}
 use Rattle.be_paged.specs.Reading.{AreValid}
 use Rattle.be_paged.specs.Version.{AreEntriesOf}
-use Rattle.be_paged.proofs.Segments.{value_there}
-use Rattle.be_paged.proofs.Validity.{named}
-use Rattle.be_paged.proofs.Indexing.{entries_len, named_found, gap_none}
+use Rattle.be_paged.proofs.CatalogPairs.Segments.{value_there}
+use Rattle.be_paged.proofs.CatalogPairs.Validity.{named}
+use Rattle.be_paged.proofs.IndexEntries.Indexing.{entries_len, named_found, gap_none}
 
 mapped : {A B : Type 0} (f : A → B) (a : Option A) → is_some (option_map f a) ≡ is_some a
 mapped f None = refl

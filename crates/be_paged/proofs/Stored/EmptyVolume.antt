@@ -13,10 +13,10 @@ use Rattle.be_volume.specs.Volume.{empty}
 use Rattle.be_volume.specs.Maps.{name_cmp, Attributes}
 use Rattle.be_volume.specs.declared.maps.Index.{Index}
 use Rattle.be_volume.proofs.Soundness.{empty_sound}
-use Rattle.be_paged.specs.Page.{Contents, contents_of, entry_at, place_of, roots}
+use Rattle.be_paged.specs.Page.{Contents, contents_of, entry_at, entry_place, roots}
 use Rattle.be_paged.specs.Catalog.{payload_of, value_at, stored}
 use Rattle.be_paged.specs.Version.{IsInHand, IsVersion, AreEntriesOf, Spells}
-use Rattle.be_paged.proofs.Codec.{same_contents}
+use Rattle.be_paged.proofs.Stored.Codec.{same_contents}
 
 no_items : {A : Type 0} (xs : List A) → length xs ≡ 0 → xs ≡ []
 no_items [] h = refl
@@ -53,7 +53,7 @@ spells words = record {
 
 pub first_version : (standing : ℕ → Standing) (words : ℕ → ℕ → ℕ) (page : ℕ) → IsTrue (is_kept (standing page)) → words page 0 ≡ 255 → words page 1 ≡ 0 → words page 2 ≡ 1 → words page 3 ≡ 0 → IsVersion standing words page empty
 first_version standing words page used tag count next catalog =
-    let is : contents_of (words page) ≡ nothing = same_contents next catalog (ap (λ (n : ℕ). map (λ i. entry_at (words page) (place_of i)) (range_with_len 0 n)) count) in
+    let is : contents_of (words page) ≡ nothing = same_contents next catalog (ap (λ (n : ℕ). map (λ i. entry_at (words page) (entry_place i)) (range_with_len 0 n)) count) in
     record {
       in_use = used;
       is_page = record { tag = tag; few = omega (arith, count); fits = omega (arith, next); each = λ i lt. absurd (omega (arith, lt, count)) };

@@ -16,7 +16,7 @@ use Rattle.be_paged.specs.Catalog.{IsCatalog}
 use Rattle.be_paged.specs.Changes.{Changes, Applies, SetsWhatStands}
 use Rattle.be_paged.specs.Page.{Contents, contents_of, IsVersionPage, roots, reach}
 use Rattle.be_paged.specs.Version.{IsInHand, IsVersion, Spells}
-use Rattle.be_paged.proofs.Hand.{entries_same}
+use Rattle.be_paged.proofs.Applying.Hand.{entries_same}
 
 free_unused : (s : Standing) → s ≡ Free → IsTrue (is_kept s) → ⊥
 free_unused s e h = false≢true (sym (ap is_kept e) ∙ h)

@@ -15,8 +15,8 @@ use Rattle.be_paged.specs.Page.{Contents, IsNamedAt, IsGapAt}
 use Rattle.be_paged.specs.Catalog.{IsIndexOf}
 use Rattle.be_paged.specs.Changes.{IsReady, repaired, with_change, with_indices}
 use Rattle.be_paged.specs.Version.{Spells}
-use Rattle.be_paged.proofs.Indexing.{Found, named_found, gap_none}
-use Rattle.be_paged.proofs.Repairs.{ready_index}
+use Rattle.be_paged.proofs.IndexEntries.Indexing.{Found, named_found, gap_none}
+use Rattle.be_paged.proofs.IndexEntries.Repairs.{ready_index}
 
 change_none : (indices : Indices) (name : List ℕ) (node : ℕ) (value : Option Value) → fin.get indices name ≡ None → with_change indices name node value ≡ indices
 change_none indices name node None e = ap (λ i. unpaired_at indices name i node) e

@@ -30,9 +30,9 @@ use Rattle.be_paged.specs.Page.{Contents, IsNamedAt, IsGapAt, roots}
 use Rattle.be_paged.specs.Catalog.{IsPairOf}
 use Rattle.be_paged.specs.Version.{IsEntryOf, AreEntriesOf, IsInHand, Spells}
 use Rattle.be_paged.specs.Changes.{Changes, Steps}
-use Rattle.be_paged.proofs.Composing.{swaps_none}
-use Rattle.be_paged.proofs.Stepping.{stepped_is}
-use Rattle.be_paged.proofs.Indexing.{entries_len, named_found, gap_none, gap_entries, inserted_pages, inserted_all, inserted_roots}
+use Rattle.be_paged.proofs.Applying.Composing.{swaps_none}
+use Rattle.be_paged.proofs.Applying.Stepping.{stepped_is}
+use Rattle.be_paged.proofs.IndexEntries.Indexing.{entries_len, named_found, gap_none, gap_entries, inserted_pages, inserted_all, inserted_roots}
 use Rattle.be_tree.proofs.Trees.{trees_in_use}
 
 abbrev pub new_index : Kind → Index

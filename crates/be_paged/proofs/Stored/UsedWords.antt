@@ -12,7 +12,7 @@ use Rattle.be_value.specs.declared.values.Kind.TheVariants as kinds
 use Rattle.be_tree.specs.Page.{bytes_at, words_for}
 use Rattle.be_tree.proofs.Codec.{flat_map_length}
 use Rattle.be_paged.specs.Entry.{Entry, HaveText}
-use Rattle.be_paged.specs.Page.{Contents, contents_of, entry_at, kind_numbered, place_of, IsEntry, IsVersionPage}
+use Rattle.be_paged.specs.Page.{Contents, contents_of, entry_at, kind_numbered, entry_place, IsEntry, IsVersionPage}
 
 length_told : (words : ℕ → ℕ) (at n : ℕ) → length (bytes_at words at n) ≡ n
 length_told words at n = length-take-le n (flat_map (to_be_bytes w64) (map (λ i. words (at + i)) (range_with_len 0 (words_for n)))) (omega (arith, flat_map_length (λ i. words (at + i)) (words_for n)))
@@ -72,27 +72,27 @@ one_spelling v w p q e i lt = elim (cases_lt i 4) [
   | inr high ↦
       let k : ℕ = (i - 4) / 11 in
       let r : ℕ = (i - 4) % 11 in
-      let z : i ≡ place_of k + r = omega (arith, high) in
+      let z : i ≡ entry_place k + r = omega (arith, high) in
       let in_range : k < v 1 = omega (arith, high, lt) in
       let other : k < w 1 = omega (arith, in_range, count) in
       let rest : r < 11 = omega arith in
-      ap v z ∙ entry_words v w (place_of k) (p.each k in_range) (q.each k other) (same k in_range other) r rest ∙ ap w (sym z)
+      ap v z ∙ entry_words v w (entry_place k) (p.each k in_range) (q.each k other) (same k in_range other) r rest ∙ ap w (sym z)
 ]
   where
-    entries : map (λ i. entry_at v (place_of i)) (range_with_len 0 (v 1)) ≡ map (λ i. entry_at w (place_of i)) (range_with_len 0 (w 1))
+    entries : map (λ i. entry_at v (entry_place i)) (range_with_len 0 (v 1)) ≡ map (λ i. entry_at w (entry_place i)) (range_with_len 0 (w 1))
     entries = ap (λ (c : Contents). c.entries) e
 
     count : v 1 ≡ w 1
-    count = sym (length-map-range_with_len (λ i. entry_at v (place_of i)) 0 (v 1)) ∙ ap length entries ∙ length-map-range_with_len (λ i. entry_at w (place_of i)) 0 (w 1)
+    count = sym (length-map-range_with_len (λ i. entry_at v (entry_place i)) 0 (v 1)) ∙ ap length entries ∙ length-map-range_with_len (λ i. entry_at w (entry_place i)) 0 (w 1)
 
     nowhere : Entry
     nowhere = record { name = []; kind = kinds.Cstr; root = 0 }
 
-    same : (k : ℕ) → k < v 1 → k < w 1 → entry_at v (place_of k) ≡ entry_at w (place_of k)
+    same : (k : ℕ) → k < v 1 → k < w 1 → entry_at v (entry_place k) ≡ entry_at w (entry_place k)
     same k lt other =
         let z : 0 + k ≡ k = omega arith in
-        sym (get_or-map-range_with_len (λ i. entry_at v (place_of i)) 0 (v 1) k k nowhere lt z) ∙ ap (λ (es : List Entry). get_or es k nowhere) entries
-        ∙ get_or-map-range_with_len (λ i. entry_at w (place_of i)) 0 (w 1) k k nowhere other z
+        sym (get_or-map-range_with_len (λ i. entry_at v (entry_place i)) 0 (v 1) k k nowhere lt z) ∙ ap (λ (es : List Entry). get_or es k nowhere) entries
+        ∙ get_or-map-range_with_len (λ i. entry_at w (entry_place i)) 0 (w 1) k k nowhere other z
 
     head : (j : ℕ) → j < 4 → v j ≡ w j
     head zero lt = p.tag ∙ sym q.tag

@@ -33,9 +33,9 @@ use Rattle.be_paged.specs.Catalog.{IsIndexOf}
 use Rattle.be_paged.specs.Changes.{SetsWhatStands}
 use Rattle.be_paged.specs.Entries.{with_root}
 use Rattle.be_paged.specs.Entry.{Entry}
-use Rattle.be_paged.proofs.Items.{get_here}
-use Rattle.be_paged.proofs.Repairs.{Leaves, kinds_agree, kinds_same, same_value}
-use Rattle.be_paged.proofs.Stepping.{stepped_is}
+use Rattle.be_paged.proofs.CatalogPairs.Items.{get_here}
+use Rattle.be_paged.proofs.IndexEntries.Repairs.{Leaves, kinds_agree, kinds_same, same_value}
+use Rattle.be_paged.proofs.Applying.Stepping.{stepped_is}
 
 same_made : (s t : State) (d e : Done) → ◌≡◌ {A = Result (State × Done) Refusal} (Ok (s, d)) (Ok (t, e)) → s ≡ t
 same_made s t d e h = ap (reached s) h

@@ -20,8 +20,8 @@ use Rattle.be_tree.proofs.Trees.{all_cons}
 use Rattle.be_volume.specs.Maps.{name_cmp, Nodes, Attributes, attributes_of, with_attribute}
 use Rattle.be_volume.proofs.MapLemmas.{names_total, exact_names}
 use Rattle.be_paged.specs.Catalog.{catalog_key, payload_of, value_at, stored, IsCatalogKey, IsCatalog}
-use Rattle.be_paged.proofs.Segments.{value_there}
-use Rattle.be_paged.proofs.Validity.{named}
+use Rattle.be_paged.proofs.CatalogPairs.Segments.{value_there}
+use Rattle.be_paged.proofs.CatalogPairs.Validity.{named}
 
 pub put_here : (pair : Pair) (xs : List Pair) → payload_at (put pair xs) pair.key ≡ Some pair.payload
 put_here pair [] = rw (tied_itself key_total pair.key) refl

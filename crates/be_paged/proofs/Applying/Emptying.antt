@@ -21,9 +21,9 @@ use Rattle.be_paged.specs.Changes.{Leaves, Steps, IsThinned}
 use Rattle.be_paged.specs.Page.{Contents}
 use Rattle.be_paged.specs.Reading.{AreValid}
 use Rattle.be_paged.specs.Version.{Spells}
-use Rattle.be_paged.proofs.Dropping.{leaves_more, less_to_count}
-use Rattle.be_paged.proofs.Segments.{value_there}
-use Rattle.be_paged.proofs.Stepping.{stepped_found}
+use Rattle.be_paged.proofs.Applying.Dropping.{leaves_more, less_to_count}
+use Rattle.be_paged.proofs.CatalogPairs.Segments.{value_there}
+use Rattle.be_paged.proofs.Applying.Stepping.{stepped_found}
 
 abbrev name_of : List ℕ × Value → List ℕ
 name_of e = e.0

@@ -20,9 +20,9 @@ use Rattle.be_volume.proofs.StepLemmas.{made}
 use Rattle.be_volume.proofs.Soundness.{step_sound}
 use Rattle.be_paged.specs.Catalog.{value_at}
 use Rattle.be_paged.specs.Changes.{Leaves}
-use Rattle.be_paged.proofs.Items.{get_here, get_other, gone_here, gone_other, keys_tell}
-use Rattle.be_paged.proofs.Segments.{value_there}
-use Rattle.be_paged.proofs.Stepping.{stepped_found}
+use Rattle.be_paged.proofs.CatalogPairs.Items.{get_here, get_other, gone_here, gone_other, keys_tell}
+use Rattle.be_paged.proofs.CatalogPairs.Segments.{value_there}
+use Rattle.be_paged.proofs.Applying.Stepping.{stepped_found}
 
 pub leaves_first : (volume : State) (node : ℕ) → IsSound volume → fin.contains_key volume.nodes node ≡ true → Leaves volume volume node
 leaves_first volume node sound there = record { sound = sound; there = there; next = refl; nodes = refl; indices = refl }
