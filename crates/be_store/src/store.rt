@@ -1,7 +1,7 @@
 //! The store, and the calls of its passes.
-ghost use Rattle.std.specs.Prelude.{◌≡◌, ◌≤◌, ◌<◌, ℕ, [], None, Some, Ok, MatchResult, IsOk, IfOk, IfErr, OnErr, length, map};
+ghost use Rattle.std.specs.Prelude.{◌≡◌, ◌≤◌, ◌<◌, ℕ, [], None, Some, Ok, MatchResult, IsOk, IfOk, IfErr, OnErr, length, map, string_bytes};
 ghost use Rattle.be_store.specs.Passes.{IsPassOf, IsPinnedTo, HasRead, volume_pinned};
-ghost use Rattle.be_store.specs.History.{Accepts, Learns, IsReason, IsLastReason, Pins};
+ghost use Rattle.be_store.specs.History.{Accepts, Learns, IsReason, IsLastReason, IsUntold, Pins, text_seen};
 
 use crate::answers::Answer;
 use crate::asking::ask;
@@ -241,6 +241,33 @@ impl Store {
         let list = indices(alloc, &mut look, page);
         *pass = look.into_seat();
         list
+    }
+
+    /// The journal's text up to now, as `Journal::text` has it, while passes are in use. A pin stays.
+    ///
+    /// Busy where the call's one try finds another pass holding the lock, and OutOfMemory. The lock is held while the text is
+    /// made, so other passes' writes are answered Busy meanwhile.
+    pub fn journal_text(&self, pass: &mut Pass) -> Result<String, Refusal>
+        requires pass { IsPassOf self.now pass.old }
+        ensures pass { IsPassOf self.now pass.new }
+        ensures learns { Learns pass.old.knows pass.new.knows }
+        ensures text { IfOk result (λ text. string_bytes text ≡ text_seen pass.new.knows) }
+        ensures err { IfErr result (λ e. IsUntold pass.old.knows pass.new.knows e) }
+    {
+        let held = match self.table.lock(pass.move_out()) {
+            Ok(writing) => writing,
+            Err((seat, refusal)) => {
+                *pass = seat;
+                return Err(refusal);
+            }
+        };
+        let answer = held.journal_text();
+        *pass = held.unlock();
+        pass.is_pass();
+        match answer {
+            Ok(text) => Ok(text),
+            Err(_) => Err(Refusal::OutOfMemory),
+        }
     }
 
     /// Two passes tell each other what they have seen: both have then seen what either had, of two beginnings of one

@@ -4,7 +4,7 @@
 //! others, and `unlock` undoes it. It is never let go of but by `unlock`, since it has no `Drop`: so the ledger always
 //! comes back.
 ghost use Rattle.std.specs.Prelude.{◌≡◌, ◌≤◌, All, suc, ◌+◌, ◌*◌, ◌^◌, ◌<◌, true, false, [], ◌∷◌, length, count_by, None, MatchResult, ℕ};
-ghost use Rattle.std.specs.Prelude.{map, slice_index, IsTrue, List, IfOk, IfErr, IfSome, IfNone, ◌≢◌};
+ghost use Rattle.std.specs.Prelude.{map, slice_index, IsTrue, List, IfOk, IfErr, IfSome, IfNone, ◌≢◌, Ok, string_bytes};
 ghost use Rattle.be_volume.specs.Sound.{IsOperation};
 ghost use Rattle.be_pages.specs.declared.room.Standing.TheVariants.{Taken, Filled as Full};
 ghost use Rattle.be_table.specs.Reading.{standing_in};
@@ -55,6 +55,8 @@ impl<'a> Writing<'a> {
     ghost use Rattle.be_table.specs.Rule.{page_at, entries};
     ghost use Rattle.be_table.specs.Steps.{entry_of};
     ghost use Rattle.be_journal.specs.Journal.{Agrees, replay};
+    ghost use Rattle.be_journal.specs.Text.{lines_from};
+    ghost use Rattle.be_value.specs.Refusal.{Answers};
     ghost use Rattle.be_table.specs.Steps.{leaves};
     ghost use Rattle.be_table.specs.Seats.{pin_of};
     ghost use Rattle.be_table.specs.Reading.{word_in};
@@ -94,6 +96,13 @@ impl<'a> Writing<'a> {
         ensures next { (replay (entries self.now.knows.seen)).next + 64 < 2 ^ 64 }
     {
         (self.ledger.journal.len(), self.ledger.page)
+    }
+
+    /// The journal's text. OutOfMemory. No step.
+    pub fn journal_text(&self) -> Result<String, Refusal>
+        ensures { Answers string_bytes result (Ok (lines_from 1 (entries self.now.knows.seen))) }
+    {
+        self.ledger.journal.text()
     }
 
     /// Word i of a page, as the current version has it or as this write filled it. One load.
