@@ -2,7 +2,7 @@
 //!
 //! An entry is appended in one of two ways. `push` takes the memory that it needs. A writer that must not fail once it has
 //! published takes the memory first, by `reserve`, and then appends by `push_reserved`, which takes none.
-ghost use Rattle.std.specs.Prelude.{◌≡◌, ◌≤◌, ◌<◌, ◌^◌, ◌↔◌, ℕ, length, get_or, true, IfOk, IfErr, OnOk, Ok, [], ◌++◌, ◌+◌, vec_len, vec_capacity};
+ghost use Rattle.std.specs.Prelude.{◌≡◌, ◌≤◌, ◌<◌, ◌^◌, ◌↔◌, ℕ, length, get_or, true, IfOk, IfErr, OnOk, Ok, [], ◌++◌, ◌+◌, vec_len, vec_capacity, All};
 ghost use Rattle.be_volume.specs.Ahead.{after};
 ghost use Rattle.be_volume.specs.Volume.{steps};
 ghost use Rattle.be_value.specs.Refusal.{Answers};
@@ -222,4 +222,24 @@ fn enter_if_agreed(volume: Volume, entry: &Entry) -> Result<(Volume, bool), Allo
         }
         Err(_) => Ok((volume, false)),
     }
+}
+
+/// The place of the first entry, from 0, that doesn't tell what the volume answers after the entries before it; None where
+/// there is no such entry, and so the journal is legal. It costs what the entries change.
+pub fn first_wrong(alloc: Global, entries: &[Entry]) -> Result<Option<u64>, AllocError>
+    requires are { All model.IsEntry entries.now }
+    requires few { length entries.now < 2 ^ 32 }
+    ensures { IfOk result (λ place. model.IsFirstWrong entries.now place) }
+{
+    let mut reached = Volume::new(alloc);
+    let mut place = 0;
+    for entry in entries {
+        let (next, agrees) = enter_if_agreed(reached, entry)?;
+        if !agrees {
+            return Ok(Some(place));
+        }
+        reached = next;
+        place += 1;
+    }
+    Ok(None)
 }

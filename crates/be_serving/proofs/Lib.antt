@@ -10,3 +10,4 @@ pub mod RaceLemmas
 pub mod ReadLemmas
 pub mod ReplyLemmas
 pub mod RunLemmas
+pub mod TellLemmas

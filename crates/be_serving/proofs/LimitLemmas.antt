@@ -6,7 +6,7 @@ use Rattle.be_value.specs.declared.refusals.Refusal.{Refusal}
 use Rattle.be_value.specs.declared.refusals.Refusal.TheVariants.{OutOfMemory}
 use Rattle.be_table.specs.declared.limits.Limits.{Limits as StoreLimits}
 use Rattle.be_store.specs.Passes.{IsPassOf}
-use Rattle.be_table.specs.Place.{Opened, Place}
+use Rattle.be_table.specs.Place.{Opened, SeatFacts}
 use Rattle.be_table.specs.Rule.{AreBad, IsWithin, entries}
 use Rattle.be_table.specs.Steps.{IsPass}
 use Rattle.be_table.specs.Versions.{CanSpellEach}

@@ -7,7 +7,7 @@ use Rattle.std.specs.declared.result.Result.{Result}
 use Rattle.std.specs.declared.result.Result.TheVariants.{Ok, Err}
 use Rattle.be_store.specs.Passes.{IsPassOf}
 use Rattle.be_journal.specs.Journal.{by_pass}
-use Rattle.be_journal.specs.Text.{lines_from}
+use Rattle.be_journal.specs.Text.{lines_from, result_text}
 use Rattle.be_journal.specs.declared.entries.Entry.{Entry}
 use Rattle.be_table.specs.History.{StartsWith}
 use Rattle.be_table.specs.Place.{Opened, SeatFacts}
@@ -23,7 +23,7 @@ use Rattle.be_serving.specs.Output.{IsOutputTo}
 use Rattle.be_serving.specs.Run.{Wrote}
 use Rattle.be_serving.specs.Served.{known}
 use Rattle.be_serving.proofs.RunLemmas.{written_both}
-use Rattle.be_serving.specs.Race.{HaveServed, AreRepliesOf, IsOutcome, IsReplied, pass_line, replies_text, result_text}
+use Rattle.be_serving.specs.Race.{HaveServed, AreRepliesOf, IsOutcome, IsReplied, pass_line, replies_text}
 
 -- what is so of each element, and of one more at its place, is so of all
 pub each_pushed : {X : Type 0} (P : ℕ → X → Type 0) (xs : List X) (x : X) → ((k : ℕ) (d : X) → k < length xs → P k (get_or xs k d)) → P (length xs) x →

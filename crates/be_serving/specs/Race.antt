@@ -5,7 +5,7 @@ use Rattle.std.specs.Io.KnownBytes.{Keeps}
 use Rattle.std.specs.declared.option.Option.{Option}
 use Rattle.be_volume.specs.Volume.{empty}
 use Rattle.be_journal.specs.Journal.{IsLegal, by_pass}
-use Rattle.be_journal.specs.Text.{lines_from}
+use Rattle.be_journal.specs.Text.{result_text}
 use Rattle.be_journal.specs.declared.entries.Entry.{Entry}
 use Rattle.be_table.specs.History.{AllBelow, StartsWith}
 use Rattle.be_table.specs.Place.{Opened, SeatFacts}
@@ -77,10 +77,6 @@ pass_line k = codes "pass " ++ (decimal k ++ codes "\n")
 abbrev pub replies_text : ℕ → List (List ℕ) → List ℕ
 replies_text k [] = []
 replies_text k (text ∷ texts) = (pass_line k ++ text) ++ replies_text (k + 1) texts
-
--- the last lines of a race: the journal with its length, and that its replay is right
-abbrev pub result_text : List Entry → List ℕ
-result_text journal = (codes "journal " ++ (decimal (length journal) ++ codes "\n")) ++ (lines_from 1 journal ++ codes "replay ok\n")
 
 -- What a race writes is the replies to its scripts, and a legal journal of the store that replied. Each entry is by one of
 -- the scripts, and the operations that are by a script are some of those that its lines ask for, in their order. After each

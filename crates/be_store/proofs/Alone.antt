@@ -22,7 +22,7 @@ use Rattle.be_store.specs.Passes.{IsSettled, volume_seen}
 use Rattle.be_store.proofs.Applied.{entries_append, nothing_more}
 
 -- entries by passes below 1 are by the pass 0
-by_one : (log : List Entry) → AllBelow 1 log → by_pass 0 log ≡ log
+pub by_one : (log : List Entry) → AllBelow 1 log → by_pass 0 log ≡ log
 unfolding AllBelow
 by_one [] b = refl
 by_one (e ∷ log) b =

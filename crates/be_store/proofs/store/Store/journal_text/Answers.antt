@@ -1,6 +1,6 @@
 use Rattle.std.proofs.Common.{Ok, ap, refl, subst}
 use Rattle.be_table.specs.declared.pass.Knowledge.{Knowledge}
-use Rattle.be_table.specs.Place.{Place}
+use Rattle.be_table.specs.Place.{SeatFacts}
 use Rattle.be_table.specs.Works.{TakesLock}
 use Rattle.be_store.specs.History.{text_seen}
 use Rattle.be_store.proofs.Applied.{learns_only, told}

@@ -1,0 +1,23 @@
+use Rattle.std.proofs.Common.{◌≡◌, Some, None, sym, ap, ◌∙◌}
+use Rattle.std.specs.Option.{option_map}
+use Rattle.be_value.specs.Number.{word_in}
+use Rattle.be_history.specs.History.{entry_of}
+use Rattle.be_history.specs.Parts.{by_part, dones_part, ops_part}
+use Rattle.be_history.proofs.LineLemmas.{by_read, dones_read, ops_read}
+use Rattle.be_history.proofs.NumberLemmas.{word_of_decimal}
+use Rattle.be_history.proofs.ReadLemmas.{entry_made, inside, never_some}
+use Rattle.be_history.proofs.journals.guess_entry.Goals as goal
+
+-- In each, `of` is what the part of a line is that was printed of this entry.
+
+pub returns-clause-whole : goal.returns-clause-whole
+returns-clause-whole c = λ entry w is.
+    let n = c.args.number in
+    let by : c.in-Some.by ≡ entry.by =
+    inside c.in-Some.by entry.by (sym c.in-Some.is ∙ (c.word_of.ensures ∙ (ap word_in (c.in_ok-parts_of.ensures.by ∙ (ap (by_part n) is ∙ by_read n entry w)) ∙ word_of_decimal entry.by w.by))) in
+    let ops = inside c.in-Some-read_ops.ops.items entry.ops
+    (ap (option_map (λ v. v.items)) (sym c.in-Some-read_ops.is) ∙ c.in_ok-read_ops.ensures entry.ops w.ops (c.in_ok-parts_of.ensures.ops ∙ (ap (ops_part n) is ∙ ops_read n entry w))) in
+    let dones = inside c.in-Some-read_dones.dones.items entry.dones
+    (ap (option_map (λ v. v.items)) (sym c.in-Some-read_dones.is) ∙ c.in_ok-read_dones.ensures entry.dones w.dones (c.in_ok-parts_of.ensures.dones ∙ (ap (dones_part n) is ∙ dones_read n entry w))) in
+    c.entry_of.ensures ∙ (ap (λ b. entry_of b c.in-Some-read_ops.ops.items c.in-Some-read_dones.dones.items) by
+    ∙ (ap (λ o. entry_of entry.by o c.in-Some-read_dones.dones.items) ops ∙ (ap (λ d. entry_of entry.by entry.ops d) dones ∙ entry_made entry w)))
