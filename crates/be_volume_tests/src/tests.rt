@@ -11,10 +11,10 @@ use std::test::Fail;
 
 /// The operation of a line of a script; none where the line asks for something else.
 fn read_op(alloc: Global, line: &str) -> Result<Option<Op>, AllocError> {
-    match read_line(alloc, line.as_bytes())? {
-        Request::Write(Ok(op)) => Ok(Some(op)),
-        _ => Ok(None),
-    }
+    let Request::Write(op) = read_line(alloc, line.as_bytes())? else {
+        return Ok(None);
+    };
+    Ok(op.ok())
 }
 
 /// Applies a list, looking first whether it may be.
