@@ -3,3 +3,5 @@ pub mod NumberLemmas
 pub mod OpLemmas
 pub mod PartLemmas
 pub mod ReadLemmas
+pub mod SameLemmas
+pub mod ValueLemmas

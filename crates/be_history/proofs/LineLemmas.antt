@@ -5,9 +5,10 @@ use Rattle.std.proofs.lemmas.Bool.{and_parts, true≢false}
 use Rattle.std.proofs.lemmas.List.{append-nil, take-append-le, take_all}
 use Rattle.std.proofs.lemmas.List.Concat.{flat_map-cons}
 use Rattle.std.proofs.lemmas.List.Elements.{All-head, All-tail}
+use Rattle.std.specs.Char.{is_ascii_digit}
 use Rattle.std.specs.Fmt.{decimal, signed_decimal}
 use Rattle.std.specs.List.{list_all, flat_map, join_by}
-use Rattle.std.specs.Str.{all_ascii_digits, is_ascii_digit}
+use Rattle.std.specs.Str.{all_ascii_digits}
 use Rattle.be_value.specs.Key.{IsValue}
 use Rattle.be_value.specs.Value.{kind_of, kind_name}
 use Rattle.be_value.specs.declared.values.Kind.{Kind}
@@ -24,7 +25,7 @@ use Rattle.be_history.specs.History.{CanBeDone, CanBeOp, HasBytes, IsWritten}
 use Rattle.be_history.specs.Parts.{after, before, behind_by, behind_line, behind_number, by_part, done_in, dones_part, first_line, length_to, ops_part, without_last_two}
 use Rattle.be_history.specs.declared.parts.Quoting.TheVariants.{Outside}
 use Rattle.be_history.proofs.NumberLemmas.{decimal_digits, word_of_decimal}
-use Rattle.be_history.proofs.PartLemmas.{IsPart, both_parts, hex_part, is_word_byte, no_part, part_before, part_whole, quoted_part, words_part}
+use Rattle.be_history.proofs.PartLemmas.{IsPart, both_parts, hex_part, is_word_byte, no_part, part_before, part_whole, quoted_part, unlike, words_part}
 
 digit_word : (c : ℕ) → is_ascii_digit c ≡ true → is_word_byte c ≡ true
 digit_word c h = grind (arith, nat_tests, h)
@@ -38,7 +39,7 @@ digits_words (d ∷ ds) h =
 hex_digit_word : (n : ℕ) → n < 16 → is_word_byte (hex_digit n) ≡ true
 hex_digit_word n h = grind (arith, nat_tests, h)
 
-hex_words : (bytes : List ℕ) → All (λ b. b < 2 ^ 8) bytes → list_all is_word_byte (hex bytes) ≡ true
+pub hex_words : (bytes : List ℕ) → All (λ b. b < 2 ^ 8) bytes → list_all is_word_byte (hex bytes) ≡ true
 hex_words [] h = refl
 hex_words (b ∷ bytes) h =
     let small : b < 256 = All-head (λ b. b < 2 ^ 8) b bytes h in
@@ -49,12 +50,8 @@ hex_words (b ∷ bytes) h =
     ∙ rw (hex_digit_word (b / 16) high) (rw (hex_digit_word (b % 16) low) more)
 
 -- a digit is no other byte
-differs : (d end : ℕ) → is_ascii_digit d ≡ true → is_ascii_digit end ≡ false → nat_eq d end ≡ false
-differs d end h g = by (nat_eq d end) refl
-  where
-    by : (b : Bool) → nat_eq d end ≡ b → b ≡ false
-    by false e = refl
-    by true e = let same : d ≡ end = grind (arith, nat_tests, e) in absurd (true≢false (sym h ∙ (ap is_ascii_digit same ∙ g)))
+pub differs : (d end : ℕ) → is_ascii_digit d ≡ true → is_ascii_digit end ≡ false → nat_eq d end ≡ false
+differs d end h g = unlike is_ascii_digit d end h g
 
 -- Parts of a line, for an end that is no byte of words and no quote.
 module _ (end : ℕ) (g : is_word_byte end ≡ false) (other : nat_eq 34 end ≡ false) where
@@ -121,10 +118,10 @@ drop_length : (xs : List ℕ) → drop (length xs) xs ≡ []
 drop_length [] = refl
 drop_length (x ∷ xs) = drop_length xs
 
-take_front : (xs ys : List ℕ) → take (length xs) (xs ++ ys) ≡ xs
+pub take_front : (xs ys : List ℕ) → take (length xs) (xs ++ ys) ≡ xs
 take_front xs ys = take-append-le (length xs) xs ys (omega arith) ∙ take_length xs
 
-drop_front : (xs ys : List ℕ) → drop (length xs) (xs ++ ys) ≡ ys
+pub drop_front : (xs ys : List ℕ) → drop (length xs) (xs ++ ys) ≡ ys
 drop_front [] ys = refl
 drop_front (x ∷ xs) ys = drop_front xs ys
 

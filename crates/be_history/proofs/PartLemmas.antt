@@ -68,18 +68,29 @@ part_whole end xs h =
 
 -- a blank, a '-', a letter or a digit
 abbrev pub is_word_byte : ℕ → Bool
-is_word_byte c = if nat_le c 33 then nat_eq c 32 else if nat_le c 47 then nat_eq c 45 else if nat_le c 57 then true else if nat_le c 64 then false else nat_le c 122
+is_word_byte c =
+    if nat_le c 33 then nat_eq c 32
+    else if nat_le c 47 then nat_eq c 45
+    else if nat_le c 57 then true
+    else if nat_le c 64 then false
+    else if nat_le c 90 then true
+    else if nat_le c 96 then false
+    else nat_le c 122
 
-same_byte : (c d : ℕ) → nat_eq c d ≡ true → c ≡ d
+pub same_byte : (c d : ℕ) → nat_eq c d ≡ true → c ≡ d
 same_byte c d h = grind (arith, nat_tests)
 
--- such a byte is no other
-is_other : (c d : ℕ) → is_word_byte c ≡ true → is_word_byte d ≡ false → nat_eq c d ≡ false
-is_other c d h g = by (nat_eq c d) refl
+-- bytes that a test tells apart
+pub unlike : (test : ℕ → Bool) (c d : ℕ) → test c ≡ true → test d ≡ false → nat_eq c d ≡ false
+unlike test c d h g = by (nat_eq c d) refl
   where
     by : (b : Bool) → nat_eq c d ≡ b → b ≡ false
     by false e = refl
-    by true e = absurd (true≢false (sym h ∙ (ap is_word_byte (same_byte c d e) ∙ g)))
+    by true e = absurd (true≢false (sym h ∙ (ap test (same_byte c d e) ∙ g)))
+
+-- such a byte is no other
+pub is_other : (c d : ℕ) → is_word_byte c ≡ true → is_word_byte d ≡ false → nat_eq c d ≡ false
+is_other c d h g = unlike is_word_byte c d h g
 
 -- words without quotes
 pub words_part : (end : ℕ) (xs : List ℕ) → is_word_byte end ≡ false → list_all is_word_byte xs ≡ true → IsPart end xs

@@ -94,7 +94,7 @@ less_lines_left text rest rest' read read' entry small some left exact read_is r
         )
 
 -- a line has its LF at least
-entry_line_long : (n : ℕ) (e : Entry) → 1 ≤ length (entry_line n e)
+pub entry_line_long : (n : ℕ) (e : Entry) → 1 ≤ length (entry_line n e)
 entry_line_long n e = let long = length-append (decimal n) (codes " by " ++ behind_by) in omega (arith, long)
   where
     behind_by : List ℕ
