@@ -127,15 +127,21 @@ drop_front (x ∷ xs) ys = drop_front xs ys
 
 drop_one_more : (xs ys : List ℕ) (c : ℕ) → drop (length xs + 1) (xs ++ c ∷ ys) ≡ ys
 drop_one_more [] ys c = refl
-drop_one_more (x ∷ xs) ys c = drop_one_more xs ys c
+drop_one_more (x ∷ xs) ys c =
+    let one : length (x ∷ xs) + 1 ≡ suc (length xs + 1) = omega arith in
+    ap (λ n. drop n (x ∷ (xs ++ c ∷ ys))) one ∙ drop_one_more xs ys c
 
 take_one_more : (xs ys : List ℕ) (c : ℕ) → take (length xs + 1) (xs ++ c ∷ ys) ≡ xs ++ c ∷ []
 take_one_more [] ys c = refl
-take_one_more (x ∷ xs) ys c = ap (λ l. x ∷ l) (take_one_more xs ys c)
+take_one_more (x ∷ xs) ys c =
+    let one : length (x ∷ xs) + 1 ≡ suc (length xs + 1) = omega arith in
+    ap (λ n. take n (x ∷ (xs ++ c ∷ ys))) one ∙ ap (λ l. x ∷ l) (take_one_more xs ys c)
 
 drop_past : (xs : List ℕ) → drop (length xs + 1) xs ≡ []
 drop_past [] = refl
-drop_past (x ∷ xs) = drop_past xs
+drop_past (x ∷ xs) =
+    let one : length (x ∷ xs) + 1 ≡ suc (length xs + 1) = omega arith in
+    ap (λ n. drop n (x ∷ xs)) one ∙ drop_past xs
 
 -- what stands before an end that follows a part, and behind it
 pub before_end : (end : ℕ) (xs ys : List ℕ) → IsPart end xs → before end (xs ++ end ∷ ys) ≡ xs
@@ -185,16 +191,16 @@ digits_part end (d ∷ ds) g h =
 
 -- The parts of an entry's line.
 module _ (number : ℕ) (entry : Entry) (w : IsWritten entry) where
-  ops_of : List ℕ
+  abbrev ops_of : List ℕ
   ops_of = join_by op_text (codes "; ") entry.ops
 
-  dones_of : List ℕ
+  abbrev dones_of : List ℕ
   dones_of = join_by done_text (codes "; ") entry.dones
 
-  behind_arrow : List ℕ
+  abbrev behind_arrow : List ℕ
   behind_arrow = dones_of ++ codes "\n"
 
-  behind_pass : List ℕ
+  abbrev behind_pass : List ℕ
   behind_pass = ops_of ++ (codes " -> " ++ behind_arrow)
 
   number_taken : behind_number number (entry_line number entry) ≡ decimal entry.by ++ 32 ∷ behind_pass
@@ -236,7 +242,7 @@ module _ (number : ℕ) (entry : Entry) (w : IsWritten entry) where
       ∙ (ap (λ l. before 10 (drop 1 l)) (after_end 62 (ops_of ++ codes " -") (32 ∷ behind_arrow) before_arrow) ∙ before_end 10 dones_of [] answers_part)
 
   -- the line is a part, and the LF behind it ends it
-  body : List ℕ
+  abbrev body : List ℕ
   body = decimal number ++ (codes " by " ++ (decimal entry.by ++ (codes " " ++ (ops_of ++ (codes " -> " ++ dones_of)))))
 
   body_line : entry_line number entry ≡ body ++ 10 ∷ []

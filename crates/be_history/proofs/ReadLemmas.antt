@@ -4,7 +4,7 @@ use Rattle.std.proofs.lemmas.Bool.Decides.{nat_tests}
 use Rattle.std.proofs.lemmas.List.{append-nil, take-append-drop}
 use Rattle.std.proofs.lemmas.List.Elements.{All-head, All-tail}
 use Rattle.std.specs.Fmt.{decimal}
-use Rattle.std.specs.List.{join_by}
+use Rattle.std.specs.List.{flat_map, join_by}
 use Rattle.std.specs.declared.option.Option.{Option}
 use Rattle.be_journal.specs.Text.{done_text, entry_line, lines_from, op_text}
 use Rattle.be_journal.specs.declared.entries.Entry.{Entry}
@@ -62,7 +62,7 @@ none_left {X} P text_of text rest read long none left xs are is = let h = left x
     by [] same last = sym (same ∙ append-nil read)
     by (y ∷ more) same now =
         let can : P y = All-head P y more (all_right P read (y ∷ more) (subst (All P) same are)) in
-        absurd (omega (arith, long y can, none, ap length now, length-append (text_of y) _))
+        absurd (omega (arith, long y can, none, ap length now, length-append (text_of y) (flat_map (λ z. codes "; " ++ text_of z) more)))
 
 -- The same of a journal: the entries that were read, and the text of the others.
 abbrev pub AreLeft : List ℕ → List Entry → List ℕ → Type 0

@@ -2,7 +2,7 @@
 use Rattle.std.proofs.Common.{◌≡◌, ℕ, ◌+◌, ◌^◌, ◌<◌, ◌≤◌, List, [], ◌∷◌, ◌++◌, length, length-append, drop, All, Ok, codes, refl, sym, ap, ◌∙◌, arith}
 use Rattle.std.proofs.lemmas.Fmt.{decimal_injective}
 use Rattle.std.proofs.lemmas.List.Elements.{All-head, All-tail}
-use Rattle.std.specs.List.{join_by}
+use Rattle.std.specs.List.{flat_map, join_by}
 use Rattle.be_journal.specs.Text.{done_text, entry_line, lines_from, op_text}
 use Rattle.be_journal.specs.declared.entries.Entry.{Entry}
 use Rattle.be_language.specs.Request.{asked, write}
@@ -28,8 +28,8 @@ same_done x y h g e = sym (done_read x h) ∙ (ap done_in e ∙ done_read y g)
 same_lists : {X : Type 0} (P : X → Type 0) (text_of : X → List ℕ) → ((x : X) → P x → IsPart 59 (text_of x)) → ((x : X) → P x → 1 ≤ length (text_of x)) →
     ((x y : X) → P x → P y → text_of x ≡ text_of y → x ≡ y) → (xs ys : List X) → All P xs → All P ys → join_by text_of (codes "; ") xs ≡ join_by text_of (codes "; ") ys → xs ≡ ys
 same_lists P text_of each long same [] [] h g e = refl
-same_lists P text_of each long same [] (y ∷ ys) h g e = absurd (omega (arith, long y (All-head P y ys g), ap length e, length-append (text_of y) _))
-same_lists P text_of each long same (x ∷ xs) [] h g e = absurd (omega (arith, long x (All-head P x xs h), ap length e, length-append (text_of x) _))
+same_lists P text_of each long same [] (y ∷ ys) h g e = absurd (omega (arith, long y (All-head P y ys g), ap length e, length-append (text_of y) (flat_map (λ z. codes "; " ++ text_of z) ys)))
+same_lists P text_of each long same (x ∷ xs) [] h g e = absurd (omega (arith, long x (All-head P x xs h), ap length e, length-append (text_of x) (flat_map (λ z. codes "; " ++ text_of z) xs)))
 same_lists P text_of each long same (x ∷ xs) (y ∷ ys) h g e =
     let can = All-head P x xs h in
     let may = All-head P y ys g in
