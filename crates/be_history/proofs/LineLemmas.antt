@@ -186,8 +186,12 @@ digits_part end [] g h = no_part end
 digits_part end (d ∷ ds) g h =
     let p = and_parts (is_ascii_digit d) (all_ascii_digits ds) h in
     both_parts end (d ∷ []) ds
-    (record { quiet = (differs d end p.0 g, tt); back = rw (differs d 34 p.0 refl) refl })
+    (record { quiet = (differs d end p.0 g, tt); back = rw (differs d 34 p.0 refl) refl; line = rw (differs d 10 p.0 refl) refl })
     (digits_part end ds g p.1)
+
+-- the first line of a text
+pub first_taken : (xs ys : List ℕ) → IsPart 10 xs → first_line (xs ++ 10 ∷ ys) ≡ xs ++ 10 ∷ []
+first_taken xs ys h = ap (λ n. take (n + 1) (xs ++ 10 ∷ ys)) (part_before 10 xs ys h) ∙ take_one_more xs ys 10
 
 -- The parts of an entry's line.
 module _ (number : ℕ) (entry : Entry) (w : IsWritten entry) where
@@ -219,7 +223,7 @@ module _ (number : ℕ) (entry : Entry) (w : IsWritten entry) where
 
   before_arrow : IsPart 62 (ops_of ++ codes " -")
   before_arrow = both_parts 62 ops_of (codes " -")
-      (list_part 62 CanBeOp op_text refl refl (λ op h. op_part 62 refl refl op h) (record { quiet = (refl, (refl, tt)); back = refl }) entry.ops w.ops)
+      (list_part 62 CanBeOp op_text refl refl (λ op h. op_part 62 refl refl op h) (record { quiet = (refl, (refl, tt)); back = refl; line = refl }) entry.ops w.ops)
       (words_part 62 (codes " -") refl refl)
 
   arrow_split : behind_pass ≡ (ops_of ++ codes " -") ++ 62 ∷ 32 ∷ behind_arrow
@@ -235,36 +239,36 @@ module _ (number : ℕ) (entry : Entry) (w : IsWritten entry) where
       ∙ (ap without_last_two (before_end 62 (ops_of ++ codes " -") (32 ∷ behind_arrow) before_arrow) ∙ less_two ops_of)
 
   answers_part : IsPart 10 dones_of
-  answers_part = list_part 10 CanBeDone done_text refl refl (λ done h. done_part 10 refl refl done h) (record { quiet = (refl, (refl, tt)); back = refl }) entry.dones w.dones
+  answers_part = list_part 10 CanBeDone done_text refl refl (λ done h. done_part 10 refl refl done h) (record { quiet = (refl, (refl, tt)); back = refl; line = refl }) entry.dones w.dones
 
   pub dones_read : dones_part number (entry_line number entry) ≡ join_by done_text (codes "; ") entry.dones
   dones_read = ap (λ l. before 10 (drop 1 (after 62 l))) (by_taken ∙ arrow_split)
       ∙ (ap (λ l. before 10 (drop 1 l)) (after_end 62 (ops_of ++ codes " -") (32 ∷ behind_arrow) before_arrow) ∙ before_end 10 dones_of [] answers_part)
 
   -- the line is a part, and the LF behind it ends it
-  abbrev body : List ℕ
+  abbrev pub body : List ℕ
   body = decimal number ++ (codes " by " ++ (decimal entry.by ++ (codes " " ++ (ops_of ++ (codes " -> " ++ dones_of)))))
 
-  body_line : entry_line number entry ≡ body ++ 10 ∷ []
+  pub body_line : entry_line number entry ≡ body ++ 10 ∷ []
   body_line =
       let a = append_assoc (codes " -> ") dones_of (10 ∷ []) in
       sym (append_assoc (decimal number) _ (10 ∷ []) ∙ ap (λ l. decimal number ++ (codes " by " ++ l)) (append_assoc (decimal entry.by) _ (10 ∷ [])
       ∙ ap (λ l. decimal entry.by ++ (codes " " ++ l)) (append_assoc ops_of _ (10 ∷ []) ∙ ap (λ l. ops_of ++ l) a)))
 
-  body_part : number < 2 ^ 64 → IsPart 10 body
+  pub body_part : number < 2 ^ 64 → IsPart 10 body
   body_part h =
       both_parts 10 (decimal number) _ (digits_part 10 (decimal number) refl (decimal_digits number h))
       (both_parts 10 (codes " by ") _ (words_part 10 (codes " by ") refl refl)
       (both_parts 10 (decimal entry.by) _ (digits_part 10 (decimal entry.by) refl (decimal_digits entry.by w.by))
       (both_parts 10 (codes " ") _ (words_part 10 (codes " ") refl refl)
-      (both_parts 10 ops_of _ (list_part 10 CanBeOp op_text refl refl (λ op k. op_part 10 refl refl op k) (record { quiet = (refl, (refl, tt)); back = refl }) entry.ops w.ops)
-      (both_parts 10 (codes " -> ") dones_of (record { quiet = (refl, (refl, (refl, (refl, tt)))); back = refl }) answers_part)))))
+      (both_parts 10 ops_of _ (list_part 10 CanBeOp op_text refl refl (λ op k. op_part 10 refl refl op k) (record { quiet = (refl, (refl, tt)); back = refl; line = refl }) entry.ops w.ops)
+      (both_parts 10 (codes " -> ") dones_of (record { quiet = (refl, (refl, (refl, (refl, tt)))); back = refl; line = refl }) answers_part)))))
 
   -- the first line of a text that begins with this one, and what follows it
   pub line_first : number < 2 ^ 64 → (more : List ℕ) → first_line (entry_line number entry ++ more) ≡ entry_line number entry
   line_first h more =
       let whole : entry_line number entry ++ more ≡ body ++ 10 ∷ more = ap (λ l. l ++ more) body_line ∙ append_assoc body (10 ∷ []) more in
-      ap first_line whole ∙ (ap (λ n. take (n + 1) (body ++ 10 ∷ more)) (part_before 10 body more (body_part h)) ∙ (take_one_more body more 10 ∙ sym body_line))
+      ap first_line whole ∙ (first_taken body more (body_part h) ∙ sym body_line)
 
   pub line_behind : number < 2 ^ 64 → (more : List ℕ) → behind_line (entry_line number entry ++ more) ≡ more
   line_behind h more =

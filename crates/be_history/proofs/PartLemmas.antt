@@ -4,6 +4,7 @@ use Rattle.std.proofs.lemmas.Bool.Decides.{nat_tests}
 use Rattle.std.proofs.lemmas.Bool.{true≢false, and_parts}
 use Rattle.std.proofs.lemmas.List.{append-nil, take_all, drop_all}
 use Rattle.std.proofs.lemmas.List.Concat.{flat_map-cons}
+use Rattle.std.proofs.lemmas.List.Folds.{list_all-append}
 use Rattle.std.proofs.lemmas.Str.{inside_one}
 use Rattle.std.specs.Char.{encode_utf8}
 use Rattle.std.specs.List.{list_all, flat_map}
@@ -23,10 +24,18 @@ abbrev pub IsQuiet : ℕ → Quoting → List ℕ → Type 0
 IsQuiet end q [] = Unit {0}
 IsQuiet end q (c ∷ text) = (is_end end q c ≡ false) × IsQuiet end (behind q c) text
 
--- bytes with no end among them, with whole quotes
+-- no LF
+abbrev pub in_line : ℕ → Bool
+in_line c = not (nat_eq c 10)
+
+-- bytes with no end among them, with whole quotes, and within a line
 pub record IsPart (end : ℕ) (text : List ℕ) : Type 0 where
   pub quiet : IsQuiet end Outside text
   pub back : walk Outside text ≡ Outside
+  pub line : list_all in_line text ≡ true
+
+both_in_line : (xs ys : List ℕ) → list_all in_line xs ≡ true → list_all in_line ys ≡ true → list_all in_line (xs ++ ys) ≡ true
+both_in_line xs ys h g = list_all-append in_line xs ys ∙ rw h g
 
 pub walk-append : (q : Quoting) (xs ys : List ℕ) → walk q (xs ++ ys) ≡ walk (walk q xs) ys
 walk-append q [] ys = refl
@@ -44,12 +53,13 @@ length_through end q (x ∷ xs) ys h =
     rw h.0 (ap (λ n. 1 + n) more ∙ sum)
 
 pub no_part : (end : ℕ) → IsPart end []
-no_part end = record { quiet = tt; back = refl }
+no_part end = record { quiet = tt; back = refl; line = refl }
 
 pub both_parts : (end : ℕ) (xs ys : List ℕ) → IsPart end xs → IsPart end ys → IsPart end (xs ++ ys)
 both_parts end xs ys h g = record {
   quiet = quiet_append end Outside xs ys h.quiet (subst (λ (q : Quoting). IsQuiet end q ys) (sym h.back) g.quiet);
   back = walk-append Outside xs ys ∙ (ap (λ (q : Quoting). walk q ys) h.back ∙ g.back);
+  line = both_in_line xs ys h.line g.line;
 }
 
 -- a part ends before the end that follows it
@@ -102,6 +112,7 @@ words_part end (x ∷ xs) g h =
     record {
       quiet = (is_other x end p.0 g, subst (λ (q : Quoting). IsQuiet end q xs) (sym outside) more.quiet);
       back = ap (λ (q : Quoting). walk q xs) outside ∙ more.back;
+      line = rw (is_other x 10 p.0 refl) more.line;
     }
 
 -- Inside quotes no part ends, and one stays there but behind a `"` and a `\`.
@@ -110,18 +121,21 @@ words_part end (x ∷ xs) g h =
 pub record IsInside (end : ℕ) (text : List ℕ) : Type 0 where
   pub quiet : IsQuiet end Inside text
   pub back : walk Inside text ≡ Inside
+  pub line : list_all in_line text ≡ true
 
 no_inside : (end : ℕ) → IsInside end []
-no_inside end = record { quiet = tt; back = refl }
+no_inside end = record { quiet = tt; back = refl; line = refl }
 
 both_inside : (end : ℕ) (xs ys : List ℕ) → IsInside end xs → IsInside end ys → IsInside end (xs ++ ys)
 both_inside end xs ys h g = record {
   quiet = quiet_append end Inside xs ys h.quiet (subst (λ (q : Quoting). IsQuiet end q ys) (sym h.back) g.quiet);
   back = walk-append Inside xs ys ∙ (ap (λ (q : Quoting). walk q ys) h.back ∙ g.back);
+  line = both_in_line xs ys h.line g.line;
 }
 
 abbrev IsInner : List ℕ → Type 0
-IsInner text = (k : ℕ) → k < length text → (nat_eq (get_or text k 0) 34 ≡ false) × (nat_eq (get_or text k 0) 92 ≡ false)
+IsInner text =
+    (k : ℕ) → k < length text → (nat_eq (get_or text k 0) 34 ≡ false) × (nat_eq (get_or text k 0) 92 ≡ false) × (nat_eq (get_or text k 0) 10 ≡ false)
 
 inner_inside : (end : ℕ) (text : List ℕ) → IsInner text → IsInside end text
 inner_inside end [] h = no_inside end
@@ -132,6 +146,7 @@ inner_inside end (c ∷ text) h =
     record {
       quiet = (refl, subst (λ (q : Quoting). IsQuiet end q text) (sym inside) more.quiet);
       back = ap (λ (q : Quoting). walk q text) inside ∙ more.back;
+      line = rw first.2 more.line;
     }
 
 -- a byte below 128 of a character is that character
@@ -150,19 +165,19 @@ inside_char : (end c : ℕ) → IsInside end (escaped c)
 inside_char end c = by34 (nat_eq c 34) refl
   where
     by13 : (b : Bool) → nat_eq c 13 ≡ b → nat_eq c 34 ≡ false → nat_eq c 92 ≡ false → nat_eq c 10 ≡ false → IsInside end (escaped c)
-    by13 true e q s n = rw q (rw s (rw n (rw e (record { quiet = (refl, (refl, tt)); back = refl }))))
-    by13 false e q s n = rw q (rw s (rw n (rw e (inner_inside end (encode_utf8 c) (λ k l. (ascii_byte c 34 k (omega arith) l q, ascii_byte c 92 k (omega arith) l s))))))
+    by13 true e q s n = rw q (rw s (rw n (rw e (record { quiet = (refl, (refl, tt)); back = refl; line = refl }))))
+    by13 false e q s n = rw q (rw s (rw n (rw e (inner_inside end (encode_utf8 c) (λ k l. (ascii_byte c 34 k (omega arith) l q, ascii_byte c 92 k (omega arith) l s, ascii_byte c 10 k (omega arith) l n))))))
 
     by10 : (b : Bool) → nat_eq c 10 ≡ b → nat_eq c 34 ≡ false → nat_eq c 92 ≡ false → IsInside end (escaped c)
-    by10 true e q s = rw q (rw s (rw e (record { quiet = (refl, (refl, tt)); back = refl })))
+    by10 true e q s = rw q (rw s (rw e (record { quiet = (refl, (refl, tt)); back = refl; line = refl })))
     by10 false e q s = by13 (nat_eq c 13) refl q s e
 
     by92 : (b : Bool) → nat_eq c 92 ≡ b → nat_eq c 34 ≡ false → IsInside end (escaped c)
-    by92 true e q = rw q (rw e (record { quiet = (refl, (refl, tt)); back = refl }))
+    by92 true e q = rw q (rw e (record { quiet = (refl, (refl, tt)); back = refl; line = refl }))
     by92 false e q = by10 (nat_eq c 10) refl q e
 
     by34 : (b : Bool) → nat_eq c 34 ≡ b → IsInside end (escaped c)
-    by34 true e = rw e (record { quiet = (refl, (refl, tt)); back = refl })
+    by34 true e = rw e (record { quiet = (refl, (refl, tt)); back = refl; line = refl })
     by34 false e = by92 (nat_eq c 92) refl e
 
 inside_chars : (end : ℕ) (cs : List ℕ) → IsInside end (flat_map escaped cs)
@@ -180,6 +195,7 @@ words_inside end (x ∷ xs) h =
     record {
       quiet = (refl, subst (λ (q : Quoting). IsQuiet end q xs) (sym inside) more.quiet);
       back = ap (λ (q : Quoting). walk q xs) inside ∙ more.back;
+      line = rw (is_other x 10 p.0 refl) more.line;
     }
 
 -- a quote, what is inside, and a quote
@@ -187,6 +203,7 @@ pub quotes_part : (end : ℕ) (text : List ℕ) → nat_eq 34 end ≡ false → 
 quotes_part end text other h = record {
   quiet = (other, quiet_append end Inside text (34 ∷ []) h.quiet (subst (λ (q : Quoting). IsQuiet end q (34 ∷ [])) (sym h.back) (refl, tt)));
   back = walk-append Inside text (34 ∷ []) ∙ ap (λ (q : Quoting). walk q (34 ∷ [])) h.back;
+  line = both_in_line text (34 ∷ []) h.line refl;
 }
 
 -- a name or a text in quotes

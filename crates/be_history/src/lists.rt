@@ -22,9 +22,12 @@ use std::alloc::{AllocError, Global};
 fn read_op(alloc: Global, text: &[u8]) -> Result<Option<Op>, AllocError>
     ensures { IfOk result (λ op. op ≡ spec.op_in text.now) }
 {
-    match read_line(alloc, text)? {
-        Request::Write(Ok(op)) => Ok(Some(op)),
-        _ => Ok(None),
+    let Request::Write(op) = read_line(alloc, text)? else {
+        return Ok(None);
+    };
+    match op {
+        Ok(op) => Ok(Some(op)),
+        Err(_) => Ok(None),
     }
 }
 

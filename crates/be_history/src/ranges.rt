@@ -52,16 +52,22 @@ pub fn ops_can_be(ops: &[Op])
     }
 }
 
+fn done_can_be(done: &Done)
+    ensures { history.CanBeDone done.now }
+{
+    match done {
+        Done::Node(node) => {
+            let _node = *node;
+        }
+        Done::Unit => {}
+    }
+}
+
 /// The same of answers.
 pub fn dones_can_be(dones: &[Done])
     ensures { All history.CanBeDone dones.now }
 {
     for done in dones {
-        match done {
-            Done::Node(node) => {
-                let _node = *node;
-            }
-            Done::Unit => {}
-        }
+        done_can_be(done);
     }
 }

@@ -14,10 +14,10 @@ loop-rest-init c = subst (λ (read : List Done). IsLeft CanBeDone done_text c.ar
 pub loop-rest-preserved : goal.loop-rest-preserved
 loop-rest-preserved c =
     let some : 1 ≤ length c.loop-rest.rest.now = grind (arith, nat_tests, c.loop-rest-test.true, c.is_empty.ensures) in
-    less_left CanBeDone done_text c.args.text.now c.loop-rest.rest.now c.skip.result.now c.loop-rest.dones.items c.push.new.self.items c.read_done.result
+    less_left CanBeDone done_text c.args.text.now c.loop-rest.rest.now c.skip-rest.result.now c.loop-rest.dones.items c.push.new.self.items c.read_done.result
     (λ y h. done_part 59 refl refl y h) some c.loop-rest.invariant
     (λ y h e. c.read_done.ensures ∙ (ap done_in (c.split_around.ensures.part ∙ e) ∙ done_read y h))
-    c.in_ok-push.ensures.items (c.skip.ensures ∙ ap (λ l. drop 1 l) c.split_around.ensures.rest)
+    c.in_ok-push.ensures.items (c.skip-rest.ensures ∙ ap (λ l. drop 1 l) c.split_around.ensures.rest)
 
 pub returns : goal.returns
 returns c = λ xs are is. ap Some (none_left CanBeDone done_text c.args.text.now c.loop-rest.rest.now c.loop-rest.dones.items done_long

@@ -14,10 +14,10 @@ loop-rest-init c = subst (λ (read : List Op). IsLeft CanBeOp op_text c.args.tex
 pub loop-rest-preserved : goal.loop-rest-preserved
 loop-rest-preserved c =
     let some : 1 ≤ length c.loop-rest.rest.now = grind (arith, nat_tests, c.loop-rest-test.true, c.is_empty.ensures) in
-    less_left CanBeOp op_text c.args.text.now c.loop-rest.rest.now c.skip.result.now c.loop-rest.ops.items c.push.new.self.items c.in-Some.op
+    less_left CanBeOp op_text c.args.text.now c.loop-rest.rest.now c.skip-rest.result.now c.loop-rest.ops.items c.push.new.self.items c.in-Some.op
     (λ y h. op_part 59 refl refl y h) some c.loop-rest.invariant
     (λ y h e. inside c.in-Some.op y (sym c.in-Some.is ∙ (c.in_ok-read_op.ensures ∙ (ap op_in (c.split_around.ensures.part ∙ e) ∙ ap op_of (c.printed_op_asks_for_it.ensures y h)))))
-    c.in_ok-push.ensures.items (c.skip.ensures ∙ ap (λ l. drop 1 l) c.split_around.ensures.rest)
+    c.in_ok-push.ensures.items (c.skip-rest.ensures ∙ ap (λ l. drop 1 l) c.split_around.ensures.rest)
 
 pub returns : goal.returns
 returns c = λ xs are is. ap Some (none_left CanBeOp op_text c.args.text.now c.loop-rest.rest.now c.loop-rest.ops.items op_long

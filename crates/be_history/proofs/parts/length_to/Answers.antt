@@ -16,8 +16,8 @@ pub loop-byte-preserved : goal.loop-byte-preserved
 loop-byte-preserved c =
     let i = c.loop-byte.invariant in
     let first = c.in-Some.ensures.cases.0 in
-    let more : length_to c.args.end c.loop-byte.quoting c.loop-byte.rest.now ≡ 1 + length_to c.args.end c.behind.result c.in-Some.more.now =
-    rw first (rw (sym c.is_end.ensures ∙ c.if-is_end.false) (ap (λ q. 1 + length_to c.args.end q c.in-Some.more.now) (sym c.behind.ensures))) in
+    let more : length_to c.args.end c.loop-byte.quoting c.loop-byte.rest.now ≡ 1 + length_to c.args.end c.behind-quoting.result c.in-Some.more.now =
+    rw first (rw (sym c.is_end.ensures ∙ c.if-is_end.false) (ap (λ q. 1 + length_to c.args.end q c.in-Some.more.now) (sym c.behind-quoting.ensures))) in
     record {
       is = i.is ∙ (ap (λ n. c.loop-byte.count + n) more ∙ omega arith);
       within = omega (arith, i.within, ap length first);
