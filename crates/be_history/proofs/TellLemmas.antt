@@ -1,21 +1,27 @@
 -- Where the journal stands in what was printed.
-use Rattle.std.proofs.Common.{◌≡◌, ◌⊎◌, inl, inr, ℕ, ◌+◌, ◌^◌, ◌<◌, ◌≤◌, Bool, true, false, not, ◌&&◌, List, [], ◌∷◌, ◌++◌, length, nat_eq, All, Some, None, if◌then◌else◌, codes, refl, sym, ap, ◌∙◌, append_assoc, arith}
+use Rattle.std.proofs.Common.{◌≡◌, ◌⊎◌, inl, inr, ⊎_elim, ℕ, ◌+◌, ◌-◌, ◌^◌, ◌<◌, ◌≤◌, Bool, true, false, not, ◌&&◌, List, [], ◌∷◌, ◌++◌, length, length-append, take, nat_eq, All, IfOk, IfSome, Some, None, if◌then◌else◌, codes, refl, sym, ap, ◌∙◌, append_assoc, arith}
 use Rattle.std.proofs.lemmas.Bool.{and_parts}
 use Rattle.std.proofs.lemmas.Fmt.{decimal_nonempty}
-use Rattle.std.proofs.lemmas.List.{append-nil}
+use Rattle.std.proofs.lemmas.List.{append-nil, take-append-drop}
 use Rattle.std.proofs.lemmas.List.Elements.{All-head, All-tail}
+use Rattle.std.proofs.lemmas.Option.{IfSome_then}
+use Rattle.std.proofs.lemmas.Result.{IfOk-weaker}
 use Rattle.std.specs.Char.{is_ascii_digit}
 use Rattle.std.specs.Fmt.{decimal}
 use Rattle.std.specs.List.{list_all}
+use Rattle.std.specs.Option.{option_map}
 use Rattle.std.specs.Str.{all_ascii_digits}
 use Rattle.std.specs.declared.option.Option.{Option}
+use Rattle.std.specs.declared.result.Result.{Result}
 use Rattle.be_journal.specs.Text.{entry_line, lines_from, result_text}
 use Rattle.be_journal.specs.declared.entries.Entry.{Entry}
-use Rattle.be_history.specs.Finding.{AreLines, Tells, from_last_j, or_else}
+use Rattle.be_history.specs.Finding.{AreLines, Tells, from_last_j, head, or_else}
 use Rattle.be_history.specs.History.{AreWritten, IsWritten}
-use Rattle.be_history.proofs.LineLemmas.{body, body_line, body_part, differs, digits_part}
+use Rattle.be_history.specs.Parts.{behind_line, first_line, length_to}
+use Rattle.be_history.specs.declared.parts.Quoting.TheVariants.{Outside}
+use Rattle.be_history.proofs.LineLemmas.{after_end, body, body_line, body_part, differs, digits_part, first_taken, take_front}
 use Rattle.be_history.proofs.NumberLemmas.{decimal_digits}
-use Rattle.be_history.proofs.PartLemmas.{in_line, same_byte}
+use Rattle.be_history.proofs.PartLemmas.{IsPart, both_parts, in_line, same_byte, words_part}
 use Rattle.be_history.proofs.ReadLemmas.{inside, never_some}
 
 none_else : (o : Option (List ℕ)) → or_else o None ≡ o
@@ -128,9 +134,71 @@ tells_result text result es h is =
     inr (found.0, are_lines found.0 found.1, found.2 ∙ ap (λ l. found.0 ++ l) is)
 
 -- and where a text tells entries it is their result, or there is none and the text is theirs
-pub tells_last : (text : List ℕ) (es : List Entry) → AreWritten es → Tells text es →
+tells_last : (text : List ℕ) (es : List Entry) → AreWritten es → Tells text es →
     ((from_last_j true text ≡ None) × (text ≡ lines_from 1 es)) ⊎ (from_last_j true text ≡ Some (result_text es))
 tells_last text es are (inl is) = inl (ap (from_last_j true) is ∙ none_in_lines es are, is)
 tells_last text es are (inr told) =
     inr (ap (from_last_j true) told.2
     ∙ behind_front true told.0 (result_text es) (result_text es) (ap (λ b. from_last_j b (result_text es)) (starts_behind_lines told.0 told.1) ∙ result_is_last es are))
+
+pub some_told : (text result : List ℕ) (es : List Entry) → AreWritten es → Tells text es → from_last_j true text ≡ Some result → result ≡ result_text es
+some_told text result es are tells h =
+    ⊎_elim (λ none. never_some result (sym none.0 ∙ h)) (λ is. inside result (result_text es) (sym h ∙ is)) (tells_last text es are tells)
+
+pub none_told : (text : List ℕ) (es : List Entry) → AreWritten es → Tells text es → from_last_j true text ≡ None → text ≡ lines_from 1 es
+none_told text es are tells h = ⊎_elim (λ none. none.1) (λ is. never_some (result_text es) (sym h ∙ is)) (tells_last text es are tells)
+
+-- What is read of the text from its last such line on, and of a text that has none: the entries that the text tells.
+module _ {X E : Type 0} (r : Result (Option X) E) (items : X → List Entry) (text : List ℕ) where
+  pub some_reads : (last : List ℕ) → from_last_j true text ≡ Some last → IfOk r (λ read. IfSome read (λ x. AreWritten (items x) × (last ≡ result_text (items x)))) →
+      IfOk r (λ read. IfSome read (λ x. AreWritten (items x) × Tells text (items x)))
+  some_reads last h k =
+      IfOk-weaker r (λ read. IfSome read (λ x. AreWritten (items x) × (last ≡ result_text (items x)))) (λ read. IfSome read (λ x. AreWritten (items x) × Tells text (items x)))
+      (λ read are. IfSome_then read are (λ x is. (is.0, tells_result text last (items x) h is.1))) k
+
+  pub some_whole : (last : List ℕ) → from_last_j true text ≡ Some last → IfOk r (λ read. (es : List Entry) → AreWritten es → last ≡ result_text es → option_map items read ≡ Some es) →
+      IfOk r (λ read. (es : List Entry) → AreWritten es → Tells text es → option_map items read ≡ Some es)
+  some_whole last h k =
+      IfOk-weaker r (λ read. (es : List Entry) → AreWritten es → last ≡ result_text es → option_map items read ≡ Some es)
+      (λ read. (es : List Entry) → AreWritten es → Tells text es → option_map items read ≡ Some es)
+      (λ read whole es are tells. whole es are (some_told text last es are tells h)) k
+
+  pub none_reads : IfOk r (λ read. IfSome read (λ x. AreWritten (items x) × (text ≡ lines_from 1 (items x)))) → IfOk r (λ read. IfSome read (λ x. AreWritten (items x) × Tells text (items x)))
+  none_reads k =
+      IfOk-weaker r (λ read. IfSome read (λ x. AreWritten (items x) × (text ≡ lines_from 1 (items x)))) (λ read. IfSome read (λ x. AreWritten (items x) × Tells text (items x)))
+      (λ read are. IfSome_then read are (λ x is. (is.0, inl is.1))) k
+
+  pub none_whole : from_last_j true text ≡ None → IfOk r (λ read. (es : List Entry) → AreWritten es → text ≡ lines_from 1 es → option_map items read ≡ Some es) →
+      IfOk r (λ read. (es : List Entry) → AreWritten es → Tells text es → option_map items read ≡ Some es)
+  none_whole h k =
+      IfOk-weaker r (λ read. (es : List Entry) → AreWritten es → text ≡ lines_from 1 es → option_map items read ≡ Some es)
+      (λ read. (es : List Entry) → AreWritten es → Tells text es → option_map items read ≡ Some es)
+      (λ read whole es are tells. whole es are (none_told text es are tells h)) k
+
+-- The lines of a race's result.
+
+pub result_read : (text : List ℕ) (es : List Entry) → AreWritten es → text ≡ result_text es →
+    (first_line text ≡ head (length es)) × (behind_line text ≡ lines_from 1 es ++ codes "replay ok\n")
+result_read text es are is =
+    let n = length es in
+    let small : n < 2 ^ 64 = omega (arith, are.1) in
+    let lines = lines_from 1 es ++ codes "replay ok\n" in
+    let front = codes "journal " ++ decimal n in
+    let part : IsPart 10 front = both_parts 10 (codes "journal ") (decimal n) (words_part 10 (codes "journal ") refl refl) (digits_part 10 (decimal n) refl (decimal_digits n small)) in
+    let split : text ≡ front ++ 10 ∷ lines = is ∙ ap (λ l. codes "journal " ++ l) (append_assoc (decimal n) (10 ∷ []) lines) in
+    (ap first_line split ∙ first_taken front lines part, ap behind_line split ∙ after_end 10 front lines part)
+
+pub result_made : (text lines : List ℕ) (es : List Entry) → first_line text ≡ head (length es) → behind_line text ≡ lines ++ codes "replay ok\n" → lines ≡ lines_from 1 es → text ≡ result_text es
+result_made text lines es first behind is =
+    sym (take-append-drop (length_to 10 Outside text + 1) text)
+    ∙ (ap (λ l. l ++ behind_line text) first ∙ (ap (λ l. head (length es) ++ l) behind ∙ ap (λ l. head (length es) ++ (l ++ codes "replay ok\n")) is))
+
+same_front : (rest lines : List ℕ) → rest ≡ lines ++ codes "replay ok\n" → take (length rest - 10) rest ≡ lines
+same_front rest lines is =
+    let long : length rest ≡ length lines + 10 = ap length is ∙ length-append lines (codes "replay ok\n") in
+    let place : length rest - 10 ≡ length lines = omega (arith, long) in
+    ap (λ n. take n rest) place ∙ (ap (take (length lines)) is ∙ take_front lines (codes "replay ok\n"))
+
+-- one text stands before the last line
+pub one_front : (rest lines others : List ℕ) → rest ≡ lines ++ codes "replay ok\n" → rest ≡ others ++ codes "replay ok\n" → lines ≡ others
+one_front rest lines others h g = sym (same_front rest lines h) ∙ same_front rest others g

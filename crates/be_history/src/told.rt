@@ -2,7 +2,7 @@
 //!
 //! It is the end of what was printed: the line `journal N`, the journal's text, and `replay ok`. No line of a journal's text
 //! begins with a `j`, so the last line that does is where it begins.
-ghost use Rattle.std.specs.Prelude.{◌≡◌, ◌↔◌, true, List, Some, IfOk, IfSome};
+ghost use Rattle.std.specs.Prelude.{◌≡◌, ◌≢◌, ◌↔◌, ◌++◌, ℕ, true, List, Some, IfOk, IfSome, MatchOption, codes};
 ghost use Rattle.std.specs.Option.{option_map};
 ghost use Rattle.be_journal.specs.Text.{result_text};
 ghost use Rattle.be_journal.specs.declared.entries.Entry.{Entry as AnyEntry};
@@ -41,6 +41,13 @@ fn is_head(alloc: Global, text: &[u8], count: usize) -> Result<bool, AllocError>
     Ok(head.as_bytes() == text)
 }
 
+/// The lines before the last one, where that says that the replay is right.
+fn before_last(text: &[u8]) -> Option<&[u8]>
+    ensures { MatchOption result ((lines : List ℕ) → text.now ≢ lines ++ codes "replay ok\n") (λ lines. text.now ≡ lines.now ++ codes "replay ok\n") }
+{
+    text.strip_suffix(LAST_LINE)
+}
+
 /// The entries of a text that ends a race: `journal N`, the journal's text, and `replay ok`.
 fn read_result(alloc: Global, text: &[u8]) -> Result<Option<Vec<Entry>>, AllocError>
     ensures reads { IfOk result (λ read. IfSome read (λ entries. AreWritten entries.items × (text.now ≡ result_text entries.items))) }
@@ -48,16 +55,16 @@ fn read_result(alloc: Global, text: &[u8]) -> Result<Option<Vec<Entry>>, AllocEr
         option_map (λ v. v.items) read ≡ Some entries) }
 {
     let (head, rest) = first_line(text);
-    if rest.len() < LAST_LINE.len() {
+    let Some(lines) = before_last(rest) else {
         return Ok(None);
-    }
-    let (lines, last) = rest.split_at(rest.len() - LAST_LINE.len());
-    if last != LAST_LINE {
+    };
+    let Some(entries) = read_journal(alloc, lines)? else {
         return Ok(None);
-    }
-    match read_journal(alloc, lines)? {
-        Some(entries) if is_head(alloc, head, entries.len())? => Ok(Some(entries)),
-        _ => Ok(None),
+    };
+    if is_head(alloc, head, entries.len())? {
+        Ok(Some(entries))
+    } else {
+        Ok(None)
     }
 }
 
