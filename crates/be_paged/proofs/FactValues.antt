@@ -8,6 +8,8 @@ use Rattle.std.specs.declared.result.Result.{Result}
 use Rattle.std.specs.FinMap as fin
 use Rattle.std.proofs.lemmas.List.{append-nil}
 use Rattle.be_value.specs.Name.{name_from}
+use Rattle.be_value.specs.Key.{IsValue}
+use Rattle.be_value.specs.declared.values.Value.{Value}
 use Rattle.be_tree.specs.Pair.{Pair}
 use Rattle.be_tree.specs.Key.{payload_at}
 use Rattle.be_value.specs.declared.refusals.Refusal.TheVariants.{NoNode}
@@ -18,6 +20,7 @@ use Rattle.be_volume.specs.Indices.{Indices}
 use Rattle.be_paged.specs.Entry.{Entry}
 use Rattle.be_paged.specs.Page.{IsNamedAt, IsGapAt}
 use Rattle.be_paged.specs.Catalog.{catalog_key, payload_of, value_at, stored, IsCatalog}
+use Rattle.be_paged.specs.Reading.{AreValid}
 use Rattle.be_paged.specs.Version.{AreEntriesOf}
 use Rattle.be_paged.proofs.Segments.{value_there}
 use Rattle.be_paged.proofs.Validity.{named}
@@ -34,6 +37,30 @@ node_there items nodes node k catalog fits e =
 pub stored_there : (nodes : Nodes) (node : ℕ) (name : List ℕ) → name_from name ≡ Ok name → stored nodes node name ≡ option_map payload_of (value_at nodes node name)
 stored_there nodes node [] ok = absurd (named [] ok refl)
 stored_there nodes node (c ∷ name) ok = refl
+
+-- what stands at the key of a node's name
+stored_at : (items : List Pair) (nodes : Nodes) (node : ℕ) (name k : List ℕ) → IsCatalog items nodes → node < 2 ^ 64 → name_from name ≡ Ok name → k ≡ catalog_key node name
+    → payload_at items k ≡ option_map payload_of (value_at nodes node name)
+stored_at items nodes node name k catalog fits ok e = ap (payload_at items) e ∙ catalog.each node name fits ∙ stored_there nodes node name ok
+
+-- where nothing stands the node has no value
+pub value_absent : (items : List Pair) (nodes : Nodes) (node : ℕ) (name k : List ℕ) → IsCatalog items nodes → node < 2 ^ 64 → name_from name ≡ Ok name → k ≡ catalog_key node name
+    → payload_at items k ≡ None → None ≡ value_at nodes node name
+value_absent items nodes node name k catalog fits ok e none = by (value_at nodes node name) (sym none ∙ stored_at items nodes node name k catalog fits ok e)
+  where
+    by : (v : Option Value) → None ≡ option_map payload_of v → None ≡ v
+    by None h = refl
+    by (Some v) h = cc
+
+-- what reads back each value's payload reads the node's value from what stands
+pub value_read : (items : List Pair) (nodes : Nodes) (node : ℕ) (name k payload : List ℕ) (read : Option Value) → IsCatalog items nodes → AreValid nodes → node < 2 ^ 64 → name_from name ≡ Ok name
+    → k ≡ catalog_key node name → payload_at items k ≡ Some payload → ((v : Value) → IsValue v → payload ≡ payload_of v → read ≡ Some v) → read ≡ value_at nodes node name
+value_read items nodes node name k payload read catalog valid fits ok e there reads =
+    by (value_at nodes node name) (λ v is. (valid node name v is).1) (sym there ∙ stored_at items nodes node name k catalog fits ok e)
+  where
+    by : (v : Option Value) → ((w : Value) → v ≡ Some w → IsValue w) → Some payload ≡ option_map payload_of v → read ≡ v
+    by None all h = cc
+    by (Some v) all h = reads v (all v refl) (ap (λ o. unwrap_or o []) h)
 
 pub attribute_there : (items : List Pair) (nodes : Nodes) (node : ℕ) (name k : List ℕ) → IsCatalog items nodes → node < 2 ^ 64 → name_from name ≡ Ok name → k ≡ catalog_key node name
     → is_some (payload_at items k) ≡ fin.contains_key (attributes_of nodes node) name

@@ -729,3 +729,36 @@ fn largest_query(rt: HostRuntime) -> Result<(), Fail> {
     assert!(rt; so);
     Ok(())
 }
+
+/// The lines of a volume whose values fall where its 300 nodes rise.
+fn falling_values(alloc: Global) -> Result<String, Refusal> {
+    let mut lines = String::from_str(alloc, "mkindex n LONG")?;
+    for node in 1..301u32 {
+        let value = 1000 - node;
+        lines.push_str(format!(in alloc; "\nnew\nset {node} n LONG {value}")?.as_str())?;
+    }
+    Ok(lines)
+}
+
+/// Queries on these: of 255 nodes and of 256, of all, of all found twice, and of one.
+const FALLING: [(&str, u64); 5] = [
+    ("n>=700 && n<955", 1),
+    ("n>=700 && n<956", 1),
+    ("n>=0", 1),
+    ("n>=0 || n<1000", 2),
+    ("n==850", 1),
+];
+
+/// Nodes that are found in falling order are answered in rising order, each once.
+#[test]
+fn falling_nodes(rt: HostRuntime) -> Result<(), Fail> {
+    let lines = match falling_values(rt.alloc()) {
+        Err(Refusal::OutOfMemory) => falling_values(rt.alloc())?,
+        lines => lines?,
+    };
+    let volume = volume_of(rt.alloc(), lines.as_str())?;
+    for (text, ranges) in FALLING {
+        decided(rt.alloc(), &volume, text, ranges)?;
+    }
+    Ok(())
+}

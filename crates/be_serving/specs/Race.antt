@@ -11,6 +11,7 @@ use Rattle.be_table.specs.History.{AllBelow, StartsWith}
 use Rattle.be_table.specs.Place.{Opened, Place}
 use Rattle.be_table.specs.Rule.{entries, newcomer}
 use Rattle.be_table.specs.Steps.{Keeps as KeepsSeen}
+use Rattle.be_table.specs.Versions.{CanSpellEach}
 use Rattle.be_table.specs.Works.{knows_of}
 use Rattle.be_table.specs.declared.limits.Limits.{Limits as StoreLimits}
 use Rattle.be_table.specs.declared.pass.Knowledge.{Knowledge}
@@ -82,7 +83,8 @@ abbrev pub result_text : List Entry → List ℕ
 result_text journal = (codes "journal " ++ (decimal (length journal) ++ codes "\n")) ++ (lines_from 1 journal ++ codes "replay ok\n")
 
 -- What a race writes is the replies to its scripts, and a legal journal of the store that replied. Each entry is by one of
--- the scripts, and the operations that are by a script are some of those that its lines ask for, in their order.
+-- the scripts, and the operations that are by a script are some of those that its lines ask for, in their order. After each
+-- entry the volume is one that as many pages as the limits say can spell.
 pub record IsRace (limits : StoreLimits) (scripts : List (List ℕ)) (out : List ℕ) : Type 0 where
   pub replies : List (List ℕ)
   pub journal : List Entry
@@ -91,6 +93,7 @@ pub record IsRace (limits : StoreLimits) (scripts : List (List ℕ)) (out : List
   pub legal : IsLegal journal
   pub by : AllBelow (length scripts) journal
   pub own : (k : ℕ) → k < length scripts → IsPartOf (operations (by_pass k journal)) (write_ops (slice_index_or scripts k []))
+  pub volumes : CanSpellEach limits.pages journal
 
 -- What a fault leaves: where the limits or a script's length are at fault, nothing was written.
 abbrev pub Stops : RunFault → Option (List ℕ) → Option (List ℕ) → Type 0

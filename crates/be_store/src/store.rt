@@ -1,5 +1,5 @@
 //! The store, and the calls of its passes.
-ghost use Rattle.std.specs.Prelude.{◌≡◌, ◌≤◌, ◌<◌, ℕ, None, Some, Ok, MatchResult, IfOk, IfErr, length, map};
+ghost use Rattle.std.specs.Prelude.{◌≡◌, ◌≤◌, ◌<◌, ℕ, [], None, Some, Ok, MatchResult, IsOk, IfOk, IfErr, OnErr, length, map};
 ghost use Rattle.be_store.specs.Passes.{IsPassOf, IsPinnedTo, HasRead, volume_pinned};
 ghost use Rattle.be_store.specs.History.{Accepts, Learns, IsReason, IsLastReason, Pins};
 
@@ -41,8 +41,10 @@ impl Store {
     ghost use Rattle.be_table.specs.Rule.{IsWithin};
     ghost use Rattle.be_table.specs.Seats.{pinned_number};
     ghost use Rattle.be_table.specs.Steps.{Has, Keeps, longer, met, unpins};
+    ghost use Rattle.be_table.specs.Versions.{CanSpellEach};
     ghost use Rattle.be_table.specs.Works.{AllAt, AreNew, IsUnopened, knows_of};
     ghost use Rattle.be_value.specs.Refusal.{Answers};
+    ghost use Rattle.be_value.specs.declared.refusals.Refusal.TheVariants.{OutOfMemory};
     ghost use Rattle.be_volume.specs.Query.{scan};
     ghost use Rattle.be_volume.specs.Reading.{attribute, attributes_at, index_kinds};
 
@@ -59,20 +61,30 @@ impl Store {
         Ok((Store { table }, passes))
     }
 
-    /// Writes 1 to 64 operations, all or none. Answers the journal's length with this write, and an answer for each
-    /// operation. A pin stays.
+    /// Writes 1 to 64 operations, all or none. Answers the journal's length with this write, and puts an answer for each
+    /// operation in the place of what a list had. A pin stays.
     ///
     /// Busy where the call's one try finds another pass holding the lock: it may be made again. Else a refusal of 2 to 8
     /// as the volume gives it; else CommitsSpent where the journal is at its limit, OutOfMemory where its entry found no
-    /// memory, and Full where no page is free. What a refused write did is undone. It costs new pages on the way to each
-    /// change, and where none is free, or many wait for it, a look at each announcement and at the pages that this frees.
-    pub fn apply(&self, pass: &mut Pass, ops: &[Op]) -> Result<(u64, ArrayVec<Done, 64>), Refusal>
+    /// memory, and Full where no page is free. What a refused write did is undone, and the list is empty. It costs new
+    /// pages on the way to each change, and where none is free, or many wait for it, a look at each announcement and at the
+    /// pages that this frees.
+    ///
+    /// The list is filled where it stands, since one that is given by value costs its whole capacity at each move.
+    pub fn apply_into(
+        &self,
+        pass: &mut Pass,
+        ops: &[Op],
+        dones: &mut ArrayVec<Done, 64>,
+    ) -> Result<u64, Refusal>
         requires pass { IsPassOf self.now pass.old }
         requires count { (1 ≤ length ops.now) × (length ops.now ≤ 64) }
         ensures pass { IsPassOf self.now pass.new }
-        ensures accepted { IfOk result (λ r. Accepts pass.old.knows pass.new.knows ops.now r.0 r.1.items) }
+        ensures accepted { IfOk result (λ n. Accepts pass.old.knows pass.new.knows ops.now n dones.new.items) }
         ensures refused { IfErr result (λ e. Learns pass.old.knows pass.new.knows × IsReason pass.old.knows pass.new.knows ops.now e) }
+        ensures empty { OnErr result (dones.new.items ≡ []) }
     {
+        dones.clear();
         let mut writing = match self.table.lock(pass.move_out()) {
             Ok(writing) => writing,
             Err((seat, refusal)) => {
@@ -80,11 +92,28 @@ impl Store {
                 return Err(refusal);
             }
         };
-        let mut dones = ArrayVec::new();
-        let answer = write(&mut writing, ops, &mut dones);
+        let answer = write(&mut writing, ops, dones);
         *pass = writing.unlock();
         pass.is_pass();
         match answer {
+            Ok(number) => Ok(number),
+            Err(refusal) => {
+                dones.clear();
+                Err(refusal)
+            }
+        }
+    }
+
+    /// The same, with the answers in a list of their own.
+    pub fn apply(&self, pass: &mut Pass, ops: &[Op]) -> Result<(u64, ArrayVec<Done, 64>), Refusal>
+        requires pass { IsPassOf self.now pass.old }
+        requires count { (1 ≤ length ops.now) × (length ops.now ≤ 64) }
+        ensures pass { IsPassOf self.now pass.new }
+        ensures accepted { IfOk result (λ r. Accepts pass.old.knows pass.new.knows ops.now r.0 r.1.items) }
+        ensures refused { IfErr result (λ e. Learns pass.old.knows pass.new.knows × IsReason pass.old.knows pass.new.knows ops.now e) }
+    {
+        let mut dones = ArrayVec::new();
+        match self.apply_into(pass, ops, &mut dones) {
             Ok(number) => Ok((number, dones)),
             Err(refusal) => Err(refusal),
         }
@@ -181,7 +210,7 @@ impl Store {
     }
 
     /// A node's attributes in the pinned version, by ascending bytes of their names. NoNode where the node isn't there,
-    /// and OutOfMemory.
+    /// and OutOfMemory only where it is.
     pub fn attrs(
         &self,
         alloc: Global,
@@ -192,6 +221,7 @@ impl Store {
         requires pinned { (n : ℕ) × IsPinnedTo pass.old.knows n }
         ensures pass { IsPassOf self.now pass.new × HasRead pass.old.knows pass.new.knows }
         ensures list { Answers (λ list. list.items) result (attributes_at (volume_pinned pass.old.knows) node) }
+        ensures wanted { IfErr result (λ e. e ≡ OutOfMemory → IsOk (attributes_at (volume_pinned pass.old.knows) node)) }
     {
         let (mut look, page) = self.reader(pass);
         let list = attrs(alloc, &mut look, page, node);
@@ -237,6 +267,7 @@ impl Store {
         ensures legal { IsLegal result.entries }
         ensures by { AllBelow self.limits.passes result.entries }
         ensures passes { Keeps result.entries (map knows_of passes.items) }
+        ensures volumes { CanSpellEach self.limits.pages result.entries }
     {
         let Store { table } = self;
         table.close(passes)

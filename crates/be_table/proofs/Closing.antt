@@ -15,10 +15,11 @@ use Rattle.be_table.specs.Laws.{ArrivalIsNoEvent}
 use Rattle.be_table.specs.Place.{Place}
 use Rattle.be_table.specs.Rule.{Board, entries, is_holder, IsHome, AllFit, Shows, everyone, counted, joined}
 use Rattle.be_table.specs.Steps.{Arrived, Has, AllIdle, Keeps}
+use Rattle.be_table.specs.Versions.{CanSpellEach}
 use Rattle.be_table.specs.Works.{AllAt, Gathered}
 use Rattle.be_table.proofs.Deals.{at_snoc_place}
 use Rattle.be_table.proofs.Histories.{is_legal}
-use Rattle.be_table.proofs.Frames.{entries-start}
+use Rattle.be_table.proofs.Frames.{entries-start, log_spelt}
 
 -- a pass of these that is not the holder
 not_held : (limits : Limits) (b : Board) (i : ℕ) (v : List Knowledge) (h : ℕ) → AllFit limits b i v → AllIdle v → Has v h → is_holder b.world.holder h ≡ false
@@ -36,6 +37,7 @@ all_kept limits b i (a ∷ v) f = (entries-start b.log a.seen f.0.seen, f.0.mine
 -- once all passes are in one seat, the slot has the journal
 pub ends : (limits : Limits) (i : ℕ) (v : List Knowledge) (words : List ℕ) (slots : List (Option Ledger)) → AllIdle v → ((k : ℕ) → k < limits.passes → Has v k) → Final (Seen (Shows limits) i v) words slots
     → (ledger : Ledger) × (get_elem? slots 0 ≡ some (Some ledger)) × IsLegal ledger.journal.entries × AllBelow limits.passes ledger.journal.entries × Keeps ledger.journal.entries v
+    × CanSpellEach limits.pages ledger.journal.entries
 ends limits i v words slots idle all f =
     let s = f.0 in let b = f.1.0.0 in let h = f.1.0.1 in
     let fit = h.views i v f.1.1 in
@@ -47,6 +49,7 @@ ends limits i v words slots idle all f =
       subst IsLegal is (is_legal (entries b.log) h.sound.legal),
       subst (AllBelow limits.passes) is h.sound.by_passes,
       subst (λ l. Keeps l v) is (all_kept limits b i v fit),
+      subst (CanSpellEach limits.pages) is (log_spelt limits b h.sound),
     )
 
 -- what a joined seat has of each
@@ -96,6 +99,7 @@ pub record Closes (limits : Limits) (known : List Knowledge) (items : List Entry
   pub legal : IsLegal items
   pub by_passes : AllBelow limits.passes items
   pub keeps : Keeps items known
+  pub volumes : CanSpellEach limits.pages items
 
 -- the ledger that was found in the slot has the journal
 pub closes : (limits : Limits) (known : List Knowledge) (i : ℕ) (v : List Knowledge) (words : List ℕ) (slots : List (Option Ledger)) (ledger : Ledger) (items : List Entry) → Gathered known v → ((k : ℕ) → k < limits.passes → Has known k)
@@ -104,7 +108,7 @@ closes limits known i v words slots ledger items g all f at is =
     let e = ends limits i v words slots g.idle (λ k lt. g.all k (all k lt)) f in
     let same : Some e.0 ≡ Some ledger = some-injective (Some e.0) (Some ledger) (sym e.1 ∙ at) in
     let it : e.0 ≡ ledger = cc in
-    subst (Closes limits known) (ap (λ (l : Ledger). l.journal.entries) it ∙ sym is) record { legal = e.2; by_passes = e.3; keeps = g.keeps e.0.journal.entries e.4 }
+    subst (Closes limits known) (ap (λ (l : Ledger). l.journal.entries) it ∙ sym is) record { legal = e.2; by_passes = e.3; keeps = g.keeps e.0.journal.entries e.4; volumes = e.5 }
 
 -- a seat with no pass may arrive
 pub arrive_by : (limits : Limits) → ArrivalIsNoEvent limits

@@ -21,7 +21,7 @@ use Rattle.be_table.specs.Laws.{SplitIsNoEvent, JoinIsNoEvent}
 use Rattle.be_table.specs.Ledger.{ShowsPlaces, is_free, is_taken, retired_with}
 use Rattle.be_journal.specs.Journal.{replay}
 use Rattle.be_volume.specs.Volume.{empty}
-use Rattle.be_table.specs.Versions.{in_pages, SpellsVolume}
+use Rattle.be_table.specs.Versions.{in_pages, CanSpellEach, SpellsVolume}
 use Rattle.be_table.specs.Place.{Place}
 use Rattle.be_table.specs.Rule.{ledger_places, Board, IsWithin, IsSound, AreInside, reach_at, page_at, word_place, Fits, IsAbsent, AllFit, Shows, newcomer, newcomers, everyone, counted, first_seat, other_seats, joined}
 use Rattle.be_table.specs.Seats.{IsTold}
@@ -159,6 +159,10 @@ first_own : (n : ℕ) → n ≤ 0 → IsTrue (has (reach_at [] n) (page_at [] n)
 first_own zero le = refl
 first_own (suc n) le = absurd (omega arith)
 
+none_spelt : (pages : ℕ) → CanSpellEach pages []
+unfolding CanSpellEach
+none_spelt pages = λ n lt. absurd (omega (arith, lt))
+
 abbrev first_board : Limits → List ℕ → Board
 first_board limits words = record { log = []; world = first_state limits.pages limits.passes limits.commits (λ p i. slice_index words (word_place p i)); seat_of = λ _. 0 }
 
@@ -241,7 +245,7 @@ abbrev pub Me2 : Type 0
 Me2 = Me (Option Ledger) (List Knowledge)
 
 pub newcomer_told : (limits : Limits) (t k : ℕ) → IsWithin limits → k < limits.passes → IsTold (newcomer limits t k) k 0
-newcomer_told limits t k within lt = record { number_is = refl; seen_is = refl; writes = refl; pass = record { within = within; legal = legal-nil; number_below = lt; by_passes = below-nil limits.passes; room = omega arith; inside = first_inside limits.pages (some_page limits within); own_pages = first_own; pin = tt; mine = by_pass-nil k; spelt = λ x n e. absurd (cc) } }
+newcomer_told limits t k within lt = record { number_is = refl; seen_is = refl; writes = refl; pass = record { within = within; legal = legal-nil; number_below = lt; by_passes = below-nil limits.passes; room = omega arith; inside = first_inside limits.pages (some_page limits within); own_pages = first_own; volumes = none_spelt limits.pages; pin = tt; mine = by_pass-nil k; spelt = λ x n e. absurd (cc) } }
 
 pub AreNewAt-push : (id : TableId) (limits : Limits) (k : ℕ) (ss : List Place) (s : Place) → AreNewAt id limits k ss → (s.blank ≡ false) × (s.table ≡ id) × (s.knows ≡ newcomer limits (k + length ss + 1) (k + length ss)) → AreNewAt id limits k (ss ++ s ∷ [])
 AreNewAt-push id limits k [] s h new = (subst (λ n. (s.blank ≡ false) × (s.table ≡ id) × (s.knows ≡ newcomer limits (n + 1) n)) (let e : k + length {A = Place} [] ≡ k = omega arith in e) new, tt)

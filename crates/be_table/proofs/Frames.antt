@@ -21,7 +21,7 @@ use Rattle.be_table.specs.History.{StartsWith, AllBelow}
 use Rattle.be_table.specs.Rule.{Board, entries, nothing, reach_at, page_at, lock_word, announce_word, word_place, PagesAgree, is_holder, holder_of, WordsAgree, IsHome, IsWithin, ReachesAgree, AreInside, IsSound, Holds, ImageIs, Fits, AllFit, ViewsFit, Stands, counted}
 use Rattle.be_table.specs.Steps.{IsPass, finds_held}
 use Rattle.be_table.specs.Reading.{word_in}
-use Rattle.be_table.specs.Versions.{in_pages, SpellsVolume}
+use Rattle.be_table.specs.Versions.{in_pages, CanSpell, CanSpellEach, SpellsVolume}
 use Rattle.be_table.proofs.Histories.{legal-front, below-front}
 use Rattle.be_table.proofs.Versions.{spells_same, clipped, take_front}
 
@@ -113,6 +113,24 @@ pinned_spelt limits b i a s f x n e =
     (λ q r. clipped (λ j. slice_index a.image (word_place q j)) (b.world.image n q) (λ j lt. f.image x n q j e (subst IsTrue (sym (s.reaches n q late.1)) r) lt))
     (s.spelt n (omega (arith, low.1, l))))
 
+-- the pages can spell the volume after each entry, and so after each of a beginning of the journal
+pub log_spelt : (limits : Limits) (b : Board) → IsSound limits b → CanSpellEach limits.pages (entries b.log)
+unfolding CanSpellEach
+log_spelt limits b s = λ n lt.
+    let low : suc n ≤ length b.log = (let l = length-map b.log (λ (c : Commit). c.entry) in omega (arith, l, lt)) in record {
+      used = reach_at b.log (suc n);
+      words = b.world.image (suc n);
+      page = page_at b.log (suc n);
+      spelt = s.spelt (suc n) low;
+      inside = λ p r. s.inside (suc n) p low r;
+    }
+
+pub spelt_before : (pages : ℕ) (log seen : List Entry) → StartsWith log seen → CanSpellEach pages log → CanSpellEach pages seen
+unfolding CanSpellEach
+spelt_before pages log seen s all = λ n lt.
+    let front : take (suc n) log ≡ take (suc n) seen = ap (take (suc n)) s.1 ∙ take_front seen s.0 (suc n) (omega (arith, lt)) in
+    subst (λ (es : List Entry). CanSpell pages (replay es)) front (all n (let l = longer_seen log seen s in omega (arith, l, lt)))
+
 pub is_pass : (limits : Limits) (b : Board) (i : ℕ) (a : Knowledge) → IsSound limits b → Fits limits b i a → IsPass a
 is_pass limits b i a s f = record {
   within = subst IsWithin (sym f.limits_are) s.within;
@@ -122,6 +140,8 @@ is_pass limits b i a s f = record {
   room = subst (λ (l : Limits). length a.seen ≤ l.commits) (sym f.limits_are) (let w = s.room in let l = longer_seen b.log a.seen f.seen in omega arith);
   inside = subst (λ (l : Limits). AreInside l.pages a.seen) (sym f.limits_are) (inside-front limits.pages b.log a.seen f.seen s.inside);
   own_pages = λ n le. subst (λ (q : List ℕ × ℕ). IsTrue (has q.0 q.1)) (λ k. (reach-front b.log a.seen f.seen n le k, page-front b.log a.seen f.seen n le k)) (s.own_pages n (let l = longer_seen b.log a.seen f.seen in omega arith));
+  volumes = subst (λ (l : Limits). CanSpellEach l.pages (entries a.seen)) (sym f.limits_are)
+      (spelt_before limits.pages (entries b.log) (entries a.seen) (entries-start b.log a.seen f.seen) (log_spelt limits b s));
   pin = f.pin;
   mine = f.own;
   spelt = λ x n e. pinned_spelt limits b i a s f x n e;

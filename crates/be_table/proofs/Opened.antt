@@ -61,7 +61,7 @@ all_held old new least h none p lp un =
 
 -- what a write does to the pages leaves the rest of what is so of the pass
 pub going_pass : (a : Knowledge) (scanned least : ℕ) (places : List Place) (words held : List ℕ) (steps : ℕ) → IsPass a → IsPass (record a { scanned = scanned; least = least; places = places; words = words; held = held; steps = steps })
-going_pass a scanned least places words held steps h = record { within = h.within; legal = h.legal; number_below = h.number_below; by_passes = h.by_passes; room = h.room; inside = h.inside; own_pages = h.own_pages; pin = h.pin; mine = h.mine; spelt = h.spelt }
+going_pass a scanned least places words held steps h = record { within = h.within; legal = h.legal; number_below = h.number_below; by_passes = h.by_passes; room = h.room; inside = h.inside; own_pages = h.own_pages; volumes = h.volumes; pin = h.pin; mine = h.mine; spelt = h.spelt }
 
 -- the journal in hand is as long as what the pass has seen
 pub seen_length : (log : List Commit) → length (entries log) ≡ length log

@@ -18,7 +18,7 @@ use Rattle.be_table.specs.Ledger.{is_taken, is_free, is_kept}
 use Rattle.be_journal.specs.Journal.{HasOperations, Agrees, by_pass, replay}
 use Rattle.be_table.specs.History.{StartsWith, AllBelow, IsHistory}
 use Rattle.be_table.specs.Reading.{standing_in, word_in}
-use Rattle.be_table.specs.Versions.{at_start, SpellsVolume}
+use Rattle.be_table.specs.Versions.{at_start, CanSpellEach, SpellsVolume}
 use Rattle.be_table.specs.Rule.{announce_word, ledger_places, IsWithin, AreInside, OwnPages, pass_of, counted, current_word, page_at, reach_at, entries, word_place}
 
 -- what is always so of a pass
@@ -30,6 +30,7 @@ pub record IsPass (a : Knowledge) : Type 0 where
   pub room : length a.seen ≤ a.limits.commits
   pub inside : AreInside a.limits.pages a.seen
   pub own_pages : OwnPages a.seen
+  pub volumes : CanSpellEach a.limits.pages (entries a.seen)
   pub pin : InTime (length a.seen) a.phase
   pub mine : by_pass a.number (entries a.seen) ≡ a.mine
   pub spelt : (x n : ℕ) → a.phase ≡ Pinned x n → SpellsVolume (reach_at a.seen n) (word_in a.image) (page_at a.seen n) (replay (take n (entries a.seen)))

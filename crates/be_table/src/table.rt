@@ -64,7 +64,7 @@ impl VersionTable {
     ghost use Rattle.be_table.specs.Rule.{IsWithin, entries};
     ghost use Rattle.be_table.specs.History.{StartsWith, AllBelow};
     ghost use Rattle.std.specs.Prelude.{[], ◌∷◌, take};
-    ghost use Rattle.be_table.specs.Versions.{at_start};
+    ghost use Rattle.be_table.specs.Versions.{at_start, CanSpellEach};
     ghost use Rattle.be_paged.specs.Version.{IsVersion};
     ghost use Rattle.be_volume.specs.Volume.{empty};
 
@@ -262,6 +262,7 @@ impl VersionTable {
         ensures legal { IsLegal result.entries }
         ensures by { AllBelow self.limits.passes result.entries }
         ensures seats { Keeps result.entries (map knows_of seats.items) }
+        ensures volumes { CanSpellEach self.limits.pages result.entries }
     {
         let VersionTable { table, limits: _ } = self;
         // A seat with no pass takes in the others.

@@ -99,6 +99,17 @@ fn journal_text(rt: HostRuntime) -> Result<(), Fail> {
     Ok(())
 }
 
+/// Without entries the text is empty, the journal is legal, and its volume has no node; there is room for 64 operations.
+#[test]
+fn journal_without_entries(rt: HostRuntime) -> Result<(), Fail> {
+    let mut journal = Journal::new(rt.alloc(), 1);
+    assert_eq!(rt; text(&journal)?.as_str(), "");
+    assert!(rt; check(&journal)?);
+    assert_eq!(rt; replay(&journal)?.next(), 1);
+    reserve(&mut journal, 64)?;
+    Ok(())
+}
+
 /// An answer that the volume doesn't give.
 #[test]
 fn journal_with_another_answer(rt: HostRuntime) -> Result<(), Fail> {

@@ -99,7 +99,7 @@ fn child_of<L: Look>(look: &mut L, slot: Slot, pair: &Item) -> u64
     ensures unchanged { IsUnchanged L.kept L.standing L.words look.old look.new }
 {
     match slot {
-        Slot::At(page, place) => child_at(look, page as u64, place as usize),
+        Slot::At(place, page) => child_at(look, page as u64, place as usize),
         Slot::Branch(page) => page as u64,
         Slot::New => pair.child(),
     }

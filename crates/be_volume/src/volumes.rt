@@ -3,12 +3,13 @@
 //! A volume holds nodes, each with a number and typed attributes, and indices that are made and removed by name, as the
 //! attributes and indices of the Be File System (Giampaolo, "Practical File System Design"; the Be Book, `fs_attr.h` and
 //! `fs_index.h`). That a new index is empty and takes only attributes set after its making is this project's own choice.
-ghost use Rattle.std.specs.Prelude.{◌≡◌, ◌<◌, ◌≤◌, ◌^◌, ◌+◌, IsOk, IfOk, IfSome, Ok, length, true};
+ghost use Rattle.std.specs.Prelude.{◌≡◌, ◌<◌, ◌≤◌, ◌^◌, ◌+◌, IsOk, IfOk, IfErr, IfSome, Ok, length, true};
 ghost use Rattle.std.specs.Option.{option_map};
 ghost use Rattle.be_volume.specs.Keys.{IsKey, IsNextKey};
 ghost use Rattle.be_volume.specs.Query.{scan};
 ghost use Rattle.be_volume.specs.Sound.{IsSound};
 ghost use Rattle.be_value.specs.Refusal.{Answers};
+ghost use Rattle.be_value.specs.declared.refusals.Refusal.TheVariants.{OutOfMemory};
 ghost use Rattle.std.specs.Result.{result_err};
 ghost use Rattle.be_volume.specs.Volume as model;
 ghost use Rattle.be_volume.specs.Reading.{attribute, attributes_at, index_kinds, index_kind};
@@ -108,8 +109,8 @@ impl Volume {
     /// list leaves the volume as it was.
     ///
     /// The operations are done on the twin of the contents, which takes their place, and then the old contents follow. So
-    /// a call costs what it changes, twice. Only where there is no twin is the whole volume copied: at the first call
-    /// after a refusal with 10, after a `replay`, and on a new copy.
+    /// a call costs what it changes, twice, which no clause says. Only where there is no twin is the whole volume copied:
+    /// at the first call after a refusal with 10, after a `replay`, and on a new copy.
     pub fn apply(&mut self, ops: &[Op]) -> Result<ArrayVec<Done, 64>, Refusal>
         requires some { 1 ≤ length ops.now }
         requires few { length ops.now ≤ 64 }
@@ -167,9 +168,10 @@ impl Volume {
     }
 
     /// The attributes of a node, by ascending bytes of their names. It is refused with 2 where the node isn't there, and
-    /// with 10.
+    /// with 10 only where it is.
     pub fn attrs(&self, node: u64) -> Result<Vec<(Name, Value)>, Refusal>
-        ensures { Answers (λ list. list.items) result (attributes_at self.now node) }
+        ensures list { Answers (λ list. list.items) result (attributes_at self.now node) }
+        ensures wanted { IfErr result (λ e. e ≡ OutOfMemory → IsOk (attributes_at self.now node)) }
     {
         let Some(attributes) = self.contents.nodes().get(node) else {
             return Err(Refusal::NoNode);

@@ -90,10 +90,10 @@ module _ {S K : Type 0} (kept_of : S → K) (standing_of : S → ℕ → Standin
       ∙ ap (λ xs. pairs_below (suc below) (words_of read) (take at items) ++ (put pair xs ++ pairs_below (suc below) (words_of read) (drop (suc at) items))) (append-nil (pairs_at below (words_of read) (child item)))
 
   -- what the slots become where `more` stand in the place of one
-  module _ (slots more out : List Slot) (n : ℕ) (mid : S) (count : n ≡ words_of read page 1) (loaded : slots ≡ map (λ j. At page (place_of j)) (range_with_len 0 n))
+  module _ (slots more out : List Slot) (n : ℕ) (mid : S) (count : n ≡ words_of read page 1) (loaded : slots ≡ map (λ j. At (place_of j) page) (range_with_len 0 n))
       (replaced : out ≡ take at slots ++ (more ++ drop (suc at) slots)) where
     pub slots_count : length slots ≡ words_of read page 1
-    slots_count = ap length loaded ∙ length-map-range_with_len (λ j. At page (place_of j)) 0 n ∙ count
+    slots_count = ap length loaded ∙ length-map-range_with_len (λ j. At (place_of j) page) 0 n ∙ count
 
     inserted : out ≡ take at (remove slots at) ++ (more ++ drop at (remove slots at))
     inserted = as_taken slots more out at (omega (arith, at_item, slots_count)) replaced
@@ -190,7 +190,7 @@ module _ {S K : Type 0} (kept_of : S → K) (standing_of : S → ℕ → Standin
       below = slot_below kept_of standing_of words_of level page pair r at old read tree same still_ranked place;
     }
 
-    pub put_slots : (slots more out : List Slot) (n : ℕ) (mid : S) → n ≡ words_of read page 1 → slots ≡ map (λ j. At page (place_of j)) (range_with_len 0 n)
+    pub put_slots : (slots more out : List Slot) (n : ℕ) (mid : S) → n ≡ words_of read page 1 → slots ≡ map (λ j. At (place_of j) page) (range_with_len 0 n)
         → out ≡ take at slots ++ (more ++ drop (suc at) slots)
         → Becomes kept_of standing_of words_of (pages_below level (words_of read) (item_at (words_of read page) (2 + 42 * at) ∷ [])) (put pair (pairs_below level (words_of read) (item_at (words_of read page) (2 + 42 * at) ∷ []))) level (pairs_of (words_of mid) pair more) read mid
         → PutSlots kept_of standing_of words_of level page pair slots more out old mid

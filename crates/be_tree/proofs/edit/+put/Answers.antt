@@ -1,5 +1,5 @@
 use Rattle.std.specs.Prelude.{IsTrue}
-use Rattle.std.proofs.Common.{◌≡◌, ℕ, suc, [], ◌∷◌, ◌++◌, ◌-◌, ◌+◌, ◌<◌, ◌≤◌, All, List, ap, sym, subst, ◌∙◌, refl, length, arith}
+use Rattle.std.proofs.Common.{◌≡◌, ℕ, suc, [], ◌∷◌, ◌++◌, ◌-◌, ◌+◌, ◌<◌, All, List, ap, sym, subst, ◌∙◌, refl, length, arith}
 use Rattle.std.proofs.lemmas.List.FromFn.{length-map-range_with_len}
 use Rattle.be_pages.specs.Pages.{IsUnchanged}
 use Rattle.be_tree.specs.declared.slot.Slot.{Slot}
@@ -136,7 +136,7 @@ put_at-put_below-requires g t c κs within =
 
 pub put_at-replace_at-requires-clause-room : goal.put_at-replace_at-requires-clause-room
 put_at-replace_at-requires-clause-room g t c =
-    let len = ap length c.fill_slots.ensures.slots ∙ length-map-range_with_len (λ (j : ℕ). At c.args.page (place_of j)) 0 (g.R.Look.words c.sharing_children.new.look c.args.page 1) in
+    let len = ap length c.fill_slots.ensures.slots ∙ length-map-range_with_len (λ (j : ℕ). At (place_of j) c.args.page) 0 (g.R.Look.words c.sharing_children.new.look c.args.page 1) in
     let read = unchanged_trans g.R.Look.kept g.R.Look.standing g.R.Look.words c.args.room.now c.rank.new.look c.sharing_children.new.look c.rank.ensures.unchanged c.sharing_children.ensures.unchanged in
     omega (arith, c.in_ok-beside.ensures.some, len, ap (λ (w : ℕ → ℕ → ℕ). w c.args.page 1) read.words, c.requires.tree.node.is_page.few)
 
@@ -182,7 +182,7 @@ put_shared-fill_slots-requires-clause-page g t c =
 pub put_shared-append-requires : goal.put_shared-append-requires
 put_shared-append-requires g t c =
     let count = left_count g.R.Look.kept g.R.Look.standing g.R.Look.words c.args.level c.args.left c.args.right c.args.room.now c.requires.neighbours (put c.args.pair.now (pairs_at c.args.level (g.R.Look.words c.args.room.now) c.args.right)) c.args.pair.now c.put_at.new.slots.items c.put_at.new.room c.in_ok-put_at.ensures.ok in
-    let len = ap length c.fill_slots.ensures.slots ∙ length-map-range_with_len (λ (j : ℕ). At c.args.left (place_of j)) 0 (g.R.Look.words c.put_at.new.room c.args.left 1) in
+    let len = ap length c.fill_slots.ensures.slots ∙ length-map-range_with_len (λ (j : ℕ). At (place_of j) c.args.left) 0 (g.R.Look.words c.put_at.new.room c.args.left 1) in
     omega (arith, len, count, c.requires.roomy, c.in_ok-put_at.ensures.some, ap length c.deref.ensures.0)
 
 pub put_shared-pack_two-requires-clause-below : goal.put_shared-pack_two-requires-clause-below

@@ -7,7 +7,7 @@ use Rattle.be_tree.proofs.page.fill_slots.Goals as goal
 
 pub loop-j-preserved : goal.loop-j-preserved
 loop-j-preserved g c =
-    let slot : ℕ → Slot = λ k. At c.args.page (place_of k) in
+    let slot : ℕ → Slot = λ k. At (place_of k) c.args.page in
     record {
       slots = c.push.ensures.items
           ∙ ap (λ (xs : List Slot). xs ++ slot c.loop-j.j ∷ []) c.loop-j.invariant.slots

@@ -510,7 +510,7 @@ remove_left-append-requires g t c =
     let mid = c.remove_at.new.room in
     let all = without c.args.key.now (pairs_at level words l) in
     let count = right_count g.R.Look.kept g.R.Look.standing g.R.Look.words level l r old two all c.args.pair.now c.remove_at.new.slots.items mid c.in_ok-remove_at.ensures.ok in
-    let len = ap length c.fill_slots.ensures.slots ∙ length-map-range_with_len (λ (j : ℕ). At r (place_of j)) 0 (g.R.Look.words mid r 1) in
+    let len = ap length c.fill_slots.ensures.slots ∙ length-map-range_with_len (λ (j : ℕ). At (place_of j) r) 0 (g.R.Look.words mid r 1) in
     omega (arith, len, count, two.right_tree.node.is_page.few, c.in_ok-remove_at.ensures.some, ap length c.deref.ensures.0)
 
 pub remove_left-pack_two-requires-clause-below : goal.remove_left-pack_two-requires-clause-below
@@ -581,7 +581,7 @@ remove_right-append-requires g t c =
     let mid = c.remove_at.new.room in
     let all = without c.args.key.now (pairs_at level words r) in
     let count = left_count g.R.Look.kept g.R.Look.standing g.R.Look.words level l r old two all c.args.pair.now c.remove_at.new.slots.items mid c.in_ok-remove_at.ensures.ok in
-    let len = ap length c.fill_slots.ensures.slots ∙ length-map-range_with_len (λ (j : ℕ). At l (place_of j)) 0 (g.R.Look.words mid l 1) in
+    let len = ap length c.fill_slots.ensures.slots ∙ length-map-range_with_len (λ (j : ℕ). At (place_of j) l) 0 (g.R.Look.words mid l 1) in
     omega (arith, len, count, two.left_tree.node.is_page.few, c.in_ok-remove_at.ensures.some, ap length c.deref.ensures.0)
 
 pub remove_right-pack_two-requires-clause-below : goal.remove_right-pack_two-requires-clause-below

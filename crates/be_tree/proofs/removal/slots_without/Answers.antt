@@ -19,7 +19,7 @@ equal g c =
 
 pub remove-requires : goal.remove-requires
 remove-requires g c =
-    let len = ap length c.fill_slots.ensures.slots ∙ length-map-range_with_len (λ (j : ℕ). At c.args.page (place_of j)) 0 (g.L.Look.words c.args.look.now c.args.page 1) in
+    let len = ap length c.fill_slots.ensures.slots ∙ length-map-range_with_len (λ (j : ℕ). At (place_of j) c.args.page) 0 (g.L.Look.words c.args.look.now c.args.page 1) in
     omega (arith, len, c.requires.in_page)
 
 pub returns-clause-items : goal.returns-clause-items
@@ -43,5 +43,5 @@ returns-clause-ready g c =
 
 pub returns-clause-some : goal.returns-clause-some
 returns-clause-some g c =
-    let len = ap length c.fill_slots.ensures.slots ∙ length-map-range_with_len (λ (j : ℕ). At c.args.page (place_of j)) 0 (g.L.Look.words c.args.look.now c.args.page 1) in
+    let len = ap length c.fill_slots.ensures.slots ∙ length-map-range_with_len (λ (j : ℕ). At (place_of j) c.args.page) 0 (g.L.Look.words c.args.look.now c.args.page 1) in
     (omega (arith, len, c.remove.ensures.len), omega (arith, len, c.remove.ensures.len, c.requires.page.few))

@@ -3,7 +3,7 @@ use Rattle.be_table.specs.declared.pass.Knowledge.{Knowledge}
 use Rattle.be_table.specs.Place.{Place}
 use Rattle.be_table.specs.Works.{TakesLock}
 use Rattle.be_store.proofs.Applied.{accepts, learns, reasons}
-use Rattle.be_store.proofs.store.Store.apply.Goals as goal
+use Rattle.be_store.proofs.store.Store.apply_into.Goals as goal
 
 pub returns-in-Ok-answer-clause-accepted : goal.returns-in-Ok-answer-clause-accepted
 returns-in-Ok-answer-clause-accepted c =
