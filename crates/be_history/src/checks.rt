@@ -23,11 +23,7 @@ fn finding_of(alloc: Global, entries: &[Entry]) -> Result<Finding, AllocError>
     ensures { IfOk result (λ found. spec.IsFound entries.now (spec.found_of found)) }
 {
     match first_wrong(alloc, entries)? {
-        Some(place) => Ok(Finding::Wrong(entry_line(
-            alloc,
-            place + 1,
-            &entries[place as usize],
-        )?)),
+        Some(place) => Ok(Finding::Wrong(entry_line(alloc, place + 1, &entries[place as usize])?)),
         None => Ok(Finding::Right),
     }
 }

@@ -42,11 +42,7 @@ fn behind_number(alloc: Global, number: u64, line: &[u8]) -> Result<&[u8], Alloc
 }
 
 /// The texts of the pass, the operations and the answers in the line of the entry with this number.
-fn parts_of(
-    alloc: Global,
-    number: u64,
-    line: &[u8],
-) -> Result<(&[u8], &[u8], &[u8]), AllocError>
+fn parts_of(alloc: Global, number: u64, line: &[u8]) -> Result<(&[u8], &[u8], &[u8]), AllocError>
     ensures by { IfOk result (λ parts. parts.0.now ≡ spec.by_part number line.now) }
     ensures ops { IfOk result (λ parts. parts.1.now ≡ spec.ops_part number line.now) }
     ensures dones { IfOk result (λ parts. parts.2.now ≡ spec.dones_part number line.now) }

@@ -131,8 +131,14 @@ fn results_are_told(rt: HostRuntime) -> Result<(), Fail> {
         ("", Some(0)),
         ("1 by 0 new -> node 1\n", Some(1)),
         ("journal 0\nreplay ok\n", Some(0)),
-        ("pass 0\nnode 1\njournal 1\n1 by 0 new -> node 1\nreplay ok\n", Some(1)),
-        ("journal 0\njournal 1\n1 by 0 new -> node 1\nreplay ok\n", Some(1)),
+        (
+            "pass 0\nnode 1\njournal 1\n1 by 0 new -> node 1\nreplay ok\n",
+            Some(1),
+        ),
+        (
+            "journal 0\njournal 1\n1 by 0 new -> node 1\nreplay ok\n",
+            Some(1),
+        ),
         ("pass 0\n", None),
         ("journal 2\n1 by 0 new -> node 1\nreplay ok\n", None),
         ("journal 1\n1 by 0 new -> node 1\nreplay bad\n", None),

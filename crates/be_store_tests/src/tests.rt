@@ -73,7 +73,10 @@ fn index_made_later(rt: HostRuntime) -> Result<(), Fail> {
     let name = Name::new("size")?;
     assert!(rt; writes(&store, &mut a, &[Op::New], 1, &[Done::Node(1)]));
     assert_eq!(rt; set(&store, &mut a, &name, 5), Ok(2));
-    assert_eq!(rt; write(&store, &mut a, Op::MkIndex(name.copy(), Kind::Long)), Ok(3));
+    assert_eq!(rt;
+        write(&store, &mut a, Op::MkIndex(name.copy(), Kind::Long)),
+        Ok(3)
+    );
     assert!(rt; finds_now(&store, rt.alloc(), &mut a, "size==5", &[]));
     assert_eq!(rt; set(&store, &mut a, &name, 5), Ok(4));
     assert!(rt; finds_now(&store, rt.alloc(), &mut a, "size==5", &[1]));
@@ -112,7 +115,10 @@ fn live_query(rt: HostRuntime) -> Result<(), Fail> {
     let name = Name::new("k")?;
     let mut live = Live::new(rt.alloc(), parsed(rt.alloc(), "k>4")?);
     let nine = Op::Set(2, name.copy(), Value::int32(9));
-    assert_eq!(rt; write(&store, &mut a, Op::MkIndex(name.copy(), Kind::Long)), Ok(1));
+    assert_eq!(rt;
+        write(&store, &mut a, Op::MkIndex(name.copy(), Kind::Long)),
+        Ok(1)
+    );
     assert_eq!(rt; write(&store, &mut a, Op::New), Ok(2));
     assert_eq!(rt; set(&store, &mut a, &name, 5), Ok(3));
     assert!(rt; refreshes(&store, &mut a, &mut live, &[1], &[]));

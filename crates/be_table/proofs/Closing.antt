@@ -37,7 +37,7 @@ all_kept limits b i (a ∷ v) f = (entries-start b.log a.seen f.0.seen, f.0.mine
 -- once all passes are in one seat, the slot has the journal
 pub ends : (limits : Limits) (i : ℕ) (v : List Knowledge) (words : List ℕ) (slots : List (Option Ledger)) → AllIdle v → ((k : ℕ) → k < limits.passes → Has v k) → Final (Seen (Shows limits) i v) words slots
     → (ledger : Ledger) × (get_elem? slots 0 ≡ some (Some ledger)) × IsLegal ledger.journal.entries × AllBelow limits.passes ledger.journal.entries × KeepsSeen ledger.journal.entries v
-      × CanSpellEach limits.pages ledger.journal.entries
+    × CanSpellEach limits.pages ledger.journal.entries
 ends limits i v words slots idle all f =
     let s = f.0 in let b = f.1.0.0 in let h = f.1.0.1 in
     let fit = h.views i v f.1.1 in

@@ -157,7 +157,9 @@ fn talk<R: Runtime + AllocGlobal, F: Peer>(
     };
     let mut ends = Ends::new(reader, io::writer(rt));
     let talked = if is_terminal {
-        eprintln!(rt; "bestore: a line is answered when it comes; the end of input ends it; help lists the commands")?;
+        eprintln!(rt;
+            "bestore: a line is answered when it comes; the end of input ends it; help lists the commands"
+        )?;
         shell(rt.alloc(), first, &mut Terminal::new(rt, ends), limits)
     } else {
         shell(rt.alloc(), first, &mut ends, limits)

@@ -187,14 +187,14 @@ fn tells_what_came_and_went(rt: HostRuntime) -> Result<(), Fail> {
         bes_apply(alloc, &mut mine, &list, b"kv", &mut made, &mut number),
         0
     );
-    assert_eq!(rt;
-        bes_refresh(alloc, &mut mine, &mut kept, &mut counts),
-        66
-    );
+    assert_eq!(rt; bes_refresh(alloc, &mut mine, &mut kept, &mut counts), 66);
     assert_eq!(rt; bes_pin(alloc, &mut mine, &mut number), 0);
     assert_eq!(rt; bes_refresh(alloc, &mut mine, &mut kept, &mut counts), 0);
     assert_eq!(rt; (counts.created, counts.removed), (1, 0));
-    assert_eq!(rt; bes_changes(alloc, &mut kept, &mut created, &mut removed), 0);
+    assert_eq!(rt;
+        bes_changes(alloc, &mut kept, &mut created, &mut removed),
+        0
+    );
     assert_eq!(rt; (created, removed), ([1, 9], [9, 9]));
     assert_eq!(rt; bes_unpin(alloc, &mut mine), 0);
     let list = [spelled(1, 1)];
@@ -205,7 +205,10 @@ fn tells_what_came_and_went(rt: HostRuntime) -> Result<(), Fail> {
     assert_eq!(rt; bes_pin(alloc, &mut mine, &mut number), 0);
     assert_eq!(rt; bes_refresh(alloc, &mut mine, &mut kept, &mut counts), 0);
     assert_eq!(rt; (counts.created, counts.removed), (0, 1));
-    assert_eq!(rt; bes_changes(alloc, &mut kept, &mut created, &mut removed), 0);
+    assert_eq!(rt;
+        bes_changes(alloc, &mut kept, &mut created, &mut removed),
+        0
+    );
     assert_eq!(rt; (created, removed), ([1, 9], [1, 9]));
     Ok(())
 }

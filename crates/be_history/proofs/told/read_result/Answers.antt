@@ -17,9 +17,11 @@ returns-in-None-read_journal-clause-whole c = λ es are is.
 
 pub returns-then-is_head-clause-reads : goal.returns-then-is_head-clause-reads
 returns-then-is_head-clause-reads c =
-    let read = c.in-Some-read_journal.ensures.reads in
-    (read.0, result_made c.args.text.now c.in-Some.lines.now c.in-Some-read_journal.entries.items (sym c.first_line.ensures.line ∙ c.in_ok-is_head.ensures.0 c.if-is_head.true)
-    (sym c.first_line.ensures.rest ∙ c.in-Some.ensures) read.1)
+    let read = c.in-Some-read_journal.ensures.reads in (
+      read.0,
+      result_made c.args.text.now c.in-Some.lines.now c.in-Some-read_journal.entries.items (sym c.first_line.ensures.line ∙ c.in_ok-is_head.ensures.0 c.if-is_head.true)
+          (sym c.first_line.ensures.rest ∙ c.in-Some.ensures) read.1,
+    )
 
 pub returns-then-is_head-clause-whole : goal.returns-then-is_head-clause-whole
 returns-then-is_head-clause-whole c = λ es are is.

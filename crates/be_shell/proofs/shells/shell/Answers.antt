@@ -25,8 +25,8 @@ returns-clause-talked g c =
       subst (λ (s : Session). TalkedTo g.F.Peer.does s c.args.first.now mid c.converse.new.peer) opened c.in_ok-converse.ensures.talked,
       c.in_ok-converse-2.ensures.talked,
       served_spelt c.args.limits.pages c.in-Ok.store c.converse-2.new.server.store c.into_pass-pass.result c.converse-2.new.server.knows
-      (ap (λ s. s.0) c.converse-2.ensures.stays ∙ (ap (λ s. s.0) c.converse.ensures.stays ∙ c.new-server.ensures.0)) c.into_pass-pass.ensures.0
-      c.in-Ok.ensures.pages c.into_pass-pass.ensures.1 c.is_pass.ensures,
+          (ap (λ s. s.0) c.converse-2.ensures.stays ∙ (ap (λ s. s.0) c.converse.ensures.stays ∙ c.new-server.ensures.0)) c.into_pass-pass.ensures.0
+          c.in-Ok.ensures.pages c.into_pass-pass.ensures.1 c.is_pass.ensures,
     )
 
 pub returns-in_err-converse-clause-fault : goal.returns-in_err-converse-clause-fault
