@@ -43,7 +43,7 @@ impl Ledger {
 
     /// The pages that were retired with a number below the least are free.
     pub fn sweep(&mut self, least: u64)
-        ensures { (self.new.journal ≡ self.old.journal) × (self.new.page ≡ self.old.page)
+        ensures kept { (self.new.journal ≡ self.old.journal) × (self.new.page ≡ self.old.page)
             × (places self.new.pool ≡ map (swept_place least) (places self.old.pool)) }
         ensures left { self.new.left ≡ count_by is_retired (places self.new.pool) }
     {
