@@ -38,7 +38,8 @@ impl Prepared {
     pub fn find(&self, alloc: Global, session: &mut Session) -> Result<Vec<u64>, Fault>
         ensures store { (session.new.store ≡ session.old.store) × (session.new.spare ≡ session.old.spare) }
         ensures read { HasRead session.old.knows session.new.knows }
-        ensures nodes { AtPin (pinned_number session.old.knows.phase) result (Tells (λ nodes. nodes.items) result (scan (volume_pinned session.old.knows) self.now.live.query)) }
+        ensures nodes { AtPin (pinned_number session.old.knows.phase) result
+            (Tells (λ nodes. nodes.items) result (scan (volume_pinned session.old.knows) self.now.live.query)) }
     {
         let asked = self.live.query();
         session.query(alloc, asked)
@@ -52,7 +53,8 @@ impl Prepared {
         ensures read { HasRead session.old.knows session.new.knows }
         ensures ok { IfOk result (λ _. Refreshes (volume_pinned session.old.knows) self.old.live self.new.live self.new.came self.new.went) }
         ensures pin { IfOk result (λ _. (n : ℕ) × IsPinnedTo session.old.knows n) }
-        ensures err { IfErr result (λ e. (self.new ≡ self.old) × IsUnrefreshed (pinned_number session.old.knows.phase) (scan (volume_pinned session.old.knows) self.old.live.query) e) }
+        ensures err { IfErr result (λ e. (self.new ≡ self.old)
+            × IsUnrefreshed (pinned_number session.old.knows.phase) (scan (volume_pinned session.old.knows) self.old.live.query) e) }
     {
         match session.refresh(&mut self.live) {
             Ok(updates) => {

@@ -68,7 +68,8 @@ pub(crate) fn find_prepared(
 ) -> u32
     ensures store { (session.new.store ≡ session.old.store) × (session.new.spare ≡ session.old.spare) }
     ensures read { HasRead session.old.knows session.new.knows }
-    ensures found { Found (pinned_number session.old.knows.phase) (scan (volume_pinned session.old.knows) prepared.now.live.query) nodes.old nodes.new count.new result }
+    ensures found { Found (pinned_number session.old.knows.phase) (scan (volume_pinned session.old.knows) prepared.now.live.query)
+        nodes.old nodes.new count.new result }
     ensures kept { (result ≡ 0) ⊎ ((count.new ≡ count.old) × (nodes.new ≡ nodes.old)) }
 {
     let answer = prepared.find(alloc, session);

@@ -14,7 +14,8 @@ ghost use Rattle.be_store.specs.Passes.{HasRead, volume_pinned};
 ghost use Rattle.be_table.specs.Seats.{pinned_number};
 ghost use Rattle.be_table.specs.Steps.{unpins};
 ghost use Rattle.be_volume.specs.Reading.{attributes_at, index_kinds};
-ghost use Rattle.bestore_c.specs.Calls.{Answers, Calls, Explains, Finds, FindsBuilt, FindsPrepared, GivesAnother, Listed, Moves, Opens, Prepares, Reads, RefreshesPrepared, ShowsChanges, TellsJournal, Writes};
+ghost use Rattle.bestore_c.specs.Calls.{Answers, Calls, Explains, Finds, FindsBuilt, FindsPrepared, GivesAnother, Listed, Moves, Opens};
+ghost use Rattle.bestore_c.specs.Calls.{Prepares, Reads, RefreshesPrepared, ShowsChanges, TellsJournal, Writes};
 
 mod asking;
 mod handle;
@@ -200,7 +201,8 @@ pub extern "C" fn bes_apply(
     made: &mut [u64],
     entries: &mut u64,
 ) -> u32
-    ensures pass { Calls pass.old.owned.value pass.new.owned.value result (λ s t. Writes IsHeldBack s t spelled.now bytes.now made.old made.new entries.new result) }
+    ensures pass { Calls pass.old.owned.value pass.new.owned.value result
+        (λ s t. Writes IsHeldBack s t spelled.now bytes.now made.old made.new entries.new result) }
     ensures kept { (result ≡ 0) ⊎ ((entries.new ≡ entries.old) × (made.new ≡ made.old)) }
 {
     if !pass.live {
@@ -234,7 +236,8 @@ pub extern "C" fn bes_apply_or_retry(
     made: &mut [u64],
     entries: &mut u64,
 ) -> u32
-    ensures pass { Calls pass.old.owned.value pass.new.owned.value result (λ s t. Writes (IsHeldBackAtLast (retries + 1)) s t spelled.now bytes.now made.old made.new entries.new result) }
+    ensures pass { Calls pass.old.owned.value pass.new.owned.value result
+        (λ s t. Writes (IsHeldBackAtLast (retries + 1)) s t spelled.now bytes.now made.old made.new entries.new result) }
     ensures kept { (result ≡ 0) ⊎ ((entries.new ≡ entries.old) × (made.new ≡ made.old)) }
 {
     if !pass.live {
@@ -492,7 +495,8 @@ pub extern "C" fn bes_query_prepared(
     nodes: &mut [u64],
     count: &mut u64,
 ) -> u32
-    ensures pass { Calls pass.old.owned.value pass.new.owned.value result (λ s t. FindsPrepared s t prepared.old.owned.value nodes.old nodes.new count.new result) }
+    ensures pass { Calls pass.old.owned.value pass.new.owned.value result
+        (λ s t. FindsPrepared s t prepared.old.owned.value nodes.old nodes.new count.new result) }
     ensures prepared { prepared.new.owned.value ≡ prepared.old.owned.value }
     ensures kept { (result ≡ 0) ⊎ ((count.new ≡ count.old) × (nodes.new ≡ nodes.old)) }
 {
@@ -519,7 +523,8 @@ pub extern "C" fn bes_refresh(
     prepared: &mut PreparedHandle,
     counts: &mut UpdateCounts,
 ) -> u32
-    ensures pass { Calls pass.old.owned.value pass.new.owned.value result (λ s t. RefreshesPrepared s t prepared.old.owned.value prepared.new.owned.value counts.new result) }
+    ensures pass { Calls pass.old.owned.value pass.new.owned.value result
+        (λ s t. RefreshesPrepared s t prepared.old.owned.value prepared.new.owned.value counts.new result) }
     ensures kept { (result ≡ 0) ⊎ ((counts.new ≡ counts.old) × (prepared.new.owned.value ≡ prepared.old.owned.value)) }
 {
     if !pass.live {
