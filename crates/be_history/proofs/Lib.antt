@@ -1,3 +1,4 @@
+pub mod CheckLemmas
 pub mod LineLemmas
 pub mod NumberLemmas
 pub mod OpLemmas

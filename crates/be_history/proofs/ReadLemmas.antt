@@ -53,6 +53,17 @@ less_left {X} P text_of text rest rest' read read' x each some left exact read_i
           rest_is ∙ (ap (λ l. drop 1 (after 59 l)) now ∙ rest_joined text_of y more (each y can)),
         )
 
+-- what is left begins with the text of such an element
+pub first_left : {X : Type 0} (P : X → Type 0) (text_of : X → List ℕ) (text rest : List ℕ) (read : List X) → ((y : X) → P y → IsPart 59 (text_of y)) → 1 ≤ length rest →
+    IsLeft P text_of text read rest → (xs : List X) → All P xs → text ≡ join_by text_of (codes "; ") xs → (y : X) × P y × (before 59 rest ≡ text_of y)
+first_left {X} P text_of text rest read each some left xs are is = let h = left xs are is in by h.0 h.1 h.2
+  where
+    by : (more : List X) → xs ≡ read ++ more → rest ≡ join_by text_of (codes "; ") more → (y : X) × P y × (before 59 rest ≡ text_of y)
+    by [] same last = absurd (omega (arith, some, ap length last))
+    by (y ∷ more) same now =
+        let can : P y = All-head P y more (all_right P read (y ∷ more) (subst (All P) same are)) in
+        (y, can, ap (before 59) now ∙ first_joined text_of y more (each y can))
+
 -- nothing is left
 pub none_left : {X : Type 0} (P : X → Type 0) (text_of : X → List ℕ) (text rest : List ℕ) (read : List X) → ((y : X) → P y → 1 ≤ length (text_of y)) → length rest ≡ 0 → IsLeft P text_of text read rest →
     (xs : List X) → All P xs → text ≡ join_by text_of (codes "; ") xs → read ≡ xs
@@ -92,6 +103,20 @@ less_lines_left text rest rest' read read' entry small some left exact read_is r
           same ∙ (ap (λ z. read ++ z ∷ more) (sym here) ∙ (sym (append_assoc read (entry ∷ []) more) ∙ ap (λ l. l ++ more) (sym read_is))),
           rest_is ∙ (ap behind_line now ∙ (line_behind n e can small (lines_from (n + 1) more) ∙ ap (λ k. lines_from k more) (sym counted))),
         )
+
+-- what is left begins with the line of such an entry
+pub first_line_left : (text rest : List ℕ) (read : List Entry) → 1 + length read < 2 ^ 64 → 1 ≤ length rest → AreLeft text read rest → (entries : List Entry) → AreWritten entries → text ≡ lines_from 1 entries →
+    (entry : Entry) × IsWritten entry × (first_line rest ≡ entry_line (1 + length read) entry)
+first_line_left text rest read small some left entries are is = let h = left entries are is in by h.0 h.1 h.2
+  where
+    n : ℕ
+    n = 1 + length read
+
+    by : (more : List Entry) → entries ≡ read ++ more → rest ≡ lines_from n more → (entry : Entry) × IsWritten entry × (first_line rest ≡ entry_line n entry)
+    by [] same last = absurd (omega (arith, some, ap length last))
+    by (e ∷ more) same now =
+        let can : IsWritten e = All-head IsWritten e more (all_right IsWritten read (e ∷ more) (subst (All IsWritten) same are.0)) in
+        (e, can, ap first_line now ∙ line_first n e can small (lines_from (n + 1) more))
 
 -- a line has its LF at least
 pub entry_line_long : (n : ℕ) (e : Entry) → 1 ≤ length (entry_line n e)
