@@ -26,9 +26,11 @@ pub struct Prepared {
 }
 
 impl Model for Prepared {
-    ghost use Rattle.be_session.specs.Prepared.{PreparedQuery};
+    ghost use Rattle.be_session.specs.Prepared.{PreparedQuery, coded_prepared};
 
     ghost Value = { PreparedQuery };
+
+    ghost coded = { coded_prepared };
 
     ghost view = { λ p. record { live = p.live; came = p.updates.created.items; went = p.updates.removed.items } };
 }
