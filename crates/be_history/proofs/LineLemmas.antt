@@ -1,12 +1,12 @@
 -- Lines as they are printed, and how they are taken apart.
-use Rattle.std.proofs.Common.{◌≡◌, ℕ, suc, ◌+◌, ◌-◌, ◌^◌, ◌<◌, ◌≤◌, ◌/◌, ◌%◌, Bool, true, false, ◌&&◌, List, [], ◌∷◌, ◌++◌, length, length-append, take, drop, nat_eq, All, codes, refl, sym, ap, ◌∙◌, subst, arith, append_assoc, pos, negsuc}
+use Rattle.std.proofs.Common.{◌≡◌, ℕ, suc, ◌+◌, ◌-◌, ◌^◌, ◌<◌, ◌/◌, ◌%◌, true, false, List, [], ◌∷◌, ◌++◌, length, length-append, take, drop, nat_eq, All, codes, refl, sym, ap, ◌∙◌, subst, arith, append_assoc, pos, negsuc}
 use Rattle.std.proofs.lemmas.Bool.Decides.{nat_tests}
-use Rattle.std.proofs.lemmas.Bool.{and_parts, true≢false}
+use Rattle.std.proofs.lemmas.Bool.{and_parts}
 use Rattle.std.proofs.lemmas.List.{append-nil, take-append-le, take_all}
 use Rattle.std.proofs.lemmas.List.Concat.{flat_map-cons}
 use Rattle.std.proofs.lemmas.List.Elements.{All-head, All-tail}
 use Rattle.std.specs.Char.{is_ascii_digit}
-use Rattle.std.specs.Fmt.{decimal, signed_decimal}
+use Rattle.std.specs.Fmt.{decimal}
 use Rattle.std.specs.List.{list_all, flat_map, join_by}
 use Rattle.std.specs.Str.{all_ascii_digits}
 use Rattle.be_value.specs.Key.{IsValue}
@@ -22,8 +22,7 @@ use Rattle.be_volume.specs.declared.ops.Op.TheVariants.{New, Drop, Set, Unset, M
 use Rattle.be_journal.specs.declared.entries.Entry.{Entry}
 use Rattle.be_journal.specs.Text.{done_text, entry_line, hex, hex_digit, op_text, quoted, value_text}
 use Rattle.be_history.specs.History.{CanBeDone, CanBeOp, HasBytes, IsWritten}
-use Rattle.be_history.specs.Parts.{after, before, behind_by, behind_line, behind_number, by_part, done_in, dones_part, first_line, length_to, ops_part, without_last_two}
-use Rattle.be_history.specs.declared.parts.Quoting.TheVariants.{Outside}
+use Rattle.be_history.specs.Parts.{after, before, behind_by, behind_line, behind_number, by_part, done_in, dones_part, first_line, ops_part, without_last_two}
 use Rattle.be_history.proofs.NumberLemmas.{decimal_digits, word_of_decimal}
 use Rattle.be_history.proofs.PartLemmas.{IsPart, both_parts, hex_part, is_word_byte, no_part, part_before, part_whole, quoted_part, unlike, words_part}
 

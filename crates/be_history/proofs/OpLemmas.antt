@@ -1,5 +1,5 @@
 -- A printed operation is read as a script's line that asks for it.
-use Rattle.std.proofs.Common.{◌≡◌, ℕ, suc, ◌+◌, ◌-◌, ◌^◌, ◌<◌, ◌≤◌, Bool, true, false, ◌&&◌, ◌||◌, not, List, [], ◌∷◌, ◌++◌, length, length-append, get_or, take, drop, nat_eq, nat_lt, cond, All, Some, None, Ok, codes, if◌then◌else◌, refl, sym, ap, ◌∙◌, subst, append_assoc, arith, pos, negsuc}
+use Rattle.std.proofs.Common.{◌≡◌, ℕ, suc, ◌-◌, ◌^◌, ◌<◌, ◌≤◌, Bool, true, false, ◌&&◌, ◌||◌, List, [], ◌∷◌, ◌++◌, length, length-append, get_or, take, drop, nat_eq, nat_lt, cond, Some, None, Ok, codes, if◌then◌else◌, refl, sym, ap, ◌∙◌, subst, append_assoc, arith, pos, negsuc}
 use Rattle.std.proofs.Math.Seq.{get_or-append_seam}
 use Rattle.std.proofs.lemmas.Bool.Decides.{nat_tests}
 use Rattle.std.proofs.lemmas.Bool.{and_parts}
@@ -10,7 +10,7 @@ use Rattle.std.proofs.lemmas.Str.{IsUtf8-append, IsUtf8-encode, IsUtf8-from_asci
 use Rattle.std.proofs.lemmas.Str.Ascii.{IsAscii-cons, IsAscii-nil}
 use Rattle.std.proofs.Math.Utf8.{scalar}
 use Rattle.std.specs.Char.{IsScalar, encode_utf8, is_ascii_digit}
-use Rattle.std.specs.Fmt.{decimal, signed_decimal}
+use Rattle.std.specs.Fmt.{decimal}
 use Rattle.std.specs.List.{flat_map, list_all, position_or_len}
 use Rattle.std.specs.Option.{option_and_then, option_map, unwrap_or}
 use Rattle.std.specs.Result.{result_map_both}
@@ -21,7 +21,7 @@ use Rattle.std.specs.declared.result.Result.{Result}
 use Rattle.be_journal.specs.Text.{escaped, hex, op_text, quoted, value_text}
 use Rattle.be_language.specs.Request.{Request, asked, command_in, command_named, command_of, is_comment, malformed, request_in, named, set_from, set_in, set_op, write}
 use Rattle.be_language.specs.Values.{kind_in, value_in}
-use Rattle.be_language.specs.Words.{behind, bytes_of, end_of_word, ends_word, first_word, if_ended, is_blank, is_empty, one_word, quoted_in, skip, two_words, word_at}
+use Rattle.be_language.specs.Words.{behind, bytes_of, end_of_word, ends_word, first_word, if_ended, is_blank, is_empty, one_word, quoted_in, skip, two_words}
 use Rattle.be_language.specs.declared.commands.Command.{Command}
 use Rattle.be_language.specs.declared.commands.Command.TheVariants as commands
 use Rattle.be_language.proofs.WordLemmas.{quoted-end, quoted-plain}
@@ -37,7 +37,7 @@ use Rattle.be_value.specs.declared.values.Value.TheVariants.{Cstr, Long, Llng, M
 use Rattle.be_volume.specs.declared.ops.Op.{Op}
 use Rattle.be_volume.specs.declared.ops.Op.TheVariants.{New, Drop, Set, Unset, MkIndex, RmIndex}
 use Rattle.be_history.specs.History.{CanBeOp, HasBytes}
-use Rattle.be_history.proofs.LineLemmas.{differs, drop_front, hex_words, take_front}
+use Rattle.be_history.proofs.LineLemmas.{drop_front, hex_words, take_front}
 use Rattle.be_history.proofs.NumberLemmas.{decimal_digits, word_of_decimal}
 use Rattle.be_history.proofs.PartLemmas.{is_other, is_word_byte, same_byte, unlike}
 use Rattle.be_history.proofs.ValueLemmas.{kind_read, value_read, value_word}

@@ -1,8 +1,8 @@
 -- Where the parts of a printed line end.
-use Rattle.std.proofs.Common.{◌≡◌, ℕ, suc, ◌+◌, ◌<◌, Bool, true, false, not, ◌&&◌, List, [], ◌∷◌, ◌++◌, length, get_or, take, drop, nat_eq, nat_le, if◌then◌else◌, refl, sym, ap, ◌∙◌, subst, arith, zero-add, append_assoc}
+use Rattle.std.proofs.Common.{◌≡◌, ℕ, suc, ◌+◌, ◌<◌, Bool, true, false, not, List, [], ◌∷◌, ◌++◌, length, get_or, nat_eq, nat_le, if◌then◌else◌, refl, sym, ap, ◌∙◌, subst, arith, zero-add}
 use Rattle.std.proofs.lemmas.Bool.Decides.{nat_tests}
 use Rattle.std.proofs.lemmas.Bool.{true≢false, and_parts}
-use Rattle.std.proofs.lemmas.List.{append-nil, take_all, drop_all}
+use Rattle.std.proofs.lemmas.List.{append-nil}
 use Rattle.std.proofs.lemmas.List.Concat.{flat_map-cons}
 use Rattle.std.proofs.lemmas.List.Folds.{list_all-append}
 use Rattle.std.proofs.lemmas.Str.{inside_one}
@@ -12,7 +12,7 @@ use Rattle.std.specs.Str.{chars}
 use Rattle.be_journal.specs.Text.{escaped, quoted}
 use Rattle.be_history.specs.Parts.{behind, is_end, length_to}
 use Rattle.be_history.specs.declared.parts.Quoting.{Quoting}
-use Rattle.be_history.specs.declared.parts.Quoting.TheVariants.{Outside, Inside, Escaped}
+use Rattle.be_history.specs.declared.parts.Quoting.TheVariants.{Outside, Inside}
 
 -- where one stands behind these bytes
 abbrev pub walk : Quoting → List ℕ → Quoting

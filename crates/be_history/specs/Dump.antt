@@ -1,5 +1,5 @@
 -- The script that makes a journal's writes again.
-use Rattle.std.specs.Prelude.{◌≡◌, ℕ, ◌+◌, List, [], ◌∷◌, ◌++◌, codes, flat_map, map, length, nat_lt, if◌then◌else◌}
+use Rattle.std.specs.Prelude.{ℕ, List, ◌++◌, codes, flat_map, length, nat_lt, if◌then◌else◌}
 use Rattle.be_journal.specs.Text.{op_text}
 use Rattle.be_journal.specs.declared.entries.Entry.{Entry}
 use Rattle.be_volume.specs.declared.ops.Op.{Op}

@@ -1,5 +1,5 @@
 -- Which journal a text tells, and what the check of it finds.
-use Rattle.std.specs.Prelude.{◌≡◌, ◌⊎◌, ℕ, ◌+◌, ◌<◌, ◌^◌, Bool, true, All, List, [], ◌∷◌, ◌++◌, length, get_or, nat_eq, ◌&&◌, if◌then◌else◌, Some, None, codes}
+use Rattle.std.specs.Prelude.{◌≡◌, ◌⊎◌, ℕ, ◌+◌, ◌<◌, ◌^◌, Bool, All, List, [], ◌∷◌, ◌++◌, length, get_or, nat_eq, ◌&&◌, if◌then◌else◌, Some, None, codes}
 use Rattle.std.specs.Fmt.{decimal}
 use Rattle.std.specs.String.{string_bytes}
 use Rattle.std.specs.declared.option.Option.{Option}

@@ -1,5 +1,5 @@
-use Rattle.std.proofs.Common.{◌≡◌, ℕ, ◌+◌, List, ◌∷◌, length, sym, refl, ap, ◌∙◌, arith, zero-add}
-use Rattle.be_history.specs.Parts.{behind, is_end, length_to}
+use Rattle.std.proofs.Common.{◌≡◌, ◌+◌, length, sym, refl, ap, ◌∙◌, arith, zero-add}
+use Rattle.be_history.specs.Parts.{length_to}
 use Rattle.be_history.proofs.parts.length_to.Goals as goal
 
 pub loop-byte-init : goal.loop-byte-init
