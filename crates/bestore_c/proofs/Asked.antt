@@ -14,13 +14,13 @@ use Rattle.bestore_c.proofs.Called.{called, stays}
 -- the pass is open, and the prepared query's handle is closed
 pub finds_none : (p : Option Sitting) (o : Option PreparedQuery) (places : List ℕ) (count code : ℕ) → holds p ≡ true → holds o ≡ false → code ≡ 64
     → Calls p p code (λ s t. FindsPrepared s t o places places count code)
-finds_none p None places count code open closed is = stays p code (λ s t. FindsPrepared s t None places places count code) open (λ s. (is, refl))
-finds_none p (Some q) places count code open closed is = absurd (true≢false closed)
+finds_none p None places count code full lacking is = stays p code (λ s t. FindsPrepared s t None places places count code) full (λ s. (is, refl))
+finds_none p (Some q) places count code full lacking is = absurd (true≢false lacking)
 
 pub refreshes_none : (p : Option Sitting) (o : Option PreparedQuery) (counts : UpdateCounts) (code : ℕ) → holds p ≡ true → holds o ≡ false → code ≡ 64
     → Calls p p code (λ s t. RefreshesPrepared s t o o counts code)
-refreshes_none p None counts code open closed is = stays p code (λ s t. RefreshesPrepared s t None None counts code) open (λ s. (is, refl))
-refreshes_none p (Some q) counts code open closed is = absurd (true≢false closed)
+refreshes_none p None counts code full lacking is = stays p code (λ s t. RefreshesPrepared s t None None counts code) full (λ s. (is, refl))
+refreshes_none p (Some q) counts code full lacking is = absurd (true≢false lacking)
 
 -- both are open
 pub finds_prepared : (p q : Option Sitting) (s t : Sitting) (o : Option PreparedQuery) (x : PreparedQuery) (places filled : List ℕ) (count code : ℕ)
