@@ -205,9 +205,8 @@ uint32_t bes_unpin(bes_pass *pass);
 uint32_t bes_apply(bes_pass *pass, const bes_operation *operations, size_t operations_count, const uint8_t *bytes,
                    size_t bytes_count, uint64_t *made, size_t made_room, uint64_t *number);
 
-/* Writes as bes_apply does, and tries again while another pass is writing, so many times at most after the first. Before each
- * further try another thread may run. With 0 retries it is bes_apply. BES_BUSY: so did the last try find it, and nothing has
- * happened. */
+/* Writes as bes_apply does, and tries again while another pass is writing, so many times at most after the first. It doesn't
+ * wait between two tries. With 0 retries it is bes_apply. BES_BUSY: so did each try find it, and nothing has happened. */
 uint32_t bes_apply_or_retry(bes_pass *pass, const bes_operation *operations, size_t operations_count, const uint8_t *bytes,
                             size_t bytes_count, uint32_t retries, uint64_t *made, size_t made_room, uint64_t *number);
 

@@ -11,6 +11,7 @@ mod lists;
 mod meanings;
 mod passes;
 mod preparing;
+mod retrying;
 mod session;
 mod spellings;
 

@@ -20,6 +20,7 @@ ghost use Rattle.be_volume.specs.Reading.{attribute, attributes_at, index_kinds}
 use crate::Fault;
 use crate::explaining::cover_text;
 use crate::passes::{put_last, take_last};
+use crate::retrying::apply_or_retry;
 use be_store::laws::seen_is_legal;
 use be_store::{
     ArrayVec, Done, Kind, Limits, Live, Name, Op, Pass, Query, Refusal, Store, Updates, Value,
@@ -173,8 +174,8 @@ impl Session {
         Ok(self.store.apply(&mut self.pass, ops)?)
     }
 
-    /// Writes as `apply` does, and tries again while another pass is writing, so many times at most after the first. Before
-    /// each further try another thread may run.
+    /// Writes as `apply` does, and tries again while another pass is writing, so many times at most after the first. It doesn't
+    /// wait between two tries.
     pub fn apply_or_retry(
         &mut self,
         ops: &[Op],
@@ -188,8 +189,7 @@ impl Session {
         if ops.is_empty() || 64 < ops.len() {
             return Err(Fault::BadCount);
         }
-        let tries = retries as u64 + 1;
-        Ok(self.store.apply_or_retry(&mut self.pass, ops, tries)?)
+        Ok(apply_or_retry(&self.store, &mut self.pass, ops, retries)?)
     }
 
     /// The text of the journal up to now, which is legal: as the store's own `journal_text`. It needs no pin.

@@ -2,7 +2,9 @@
 //!
 //! Its type names no other type, so that it can lie in memory that C passes.
 ghost use Rattle.std.specs.Prelude.{◌≡◌, Option, None, Some, true};
+ghost use Rattle.std.specs.Coded.{coded_option};
 ghost use Rattle.std.specs.contracts.impls.GlobalAllocator.TheImpl.{ghosts};
+ghost use Rattle.be_session.specs.Prepared.{coded_prepared};
 ghost use Rattle.be_session.specs.declared.preparing.Prepared.{Prepared};
 ghost use Rattle.be_session.specs.contracts.preparing.Prepared.{the_row};
 ghost use Rattle.bestore_c.specs.Owned.{may_own, holds};
@@ -17,7 +19,7 @@ use std::marker::Model;
 pub struct OwnedQuery {
     at: *mut u8,
     alloc: Global,
-    pub ghost value: { Option (the_row).Denot },
+    pub ghost value: { Option (the_row).Denot } by { coded_option coded_prepared },
 }
 
 impl Model for OwnedQuery {
