@@ -9,7 +9,8 @@ use Rattle.be_history.specs.History.{AreWritten, IsWritten}
 pub written_checked : (entries : List Entry) → AreWritten entries → AreChecked entries
 written_checked entries are = (All-weaker IsWritten IsEntry (λ entry w. w.is) entries are.0, are.1)
 
-pub finding_told : (text : List ℕ) (entries : List Entry) → AreWritten entries → Tells text entries → (found : Found) → IsFound entries found → IsFinding text found
+pub finding_told : (text : List ℕ) (entries : List Entry) → AreWritten entries → Tells text entries → (found : Found) → IsFound entries found →
+    IsFinding text found
 finding_told text entries are tells no_journal is = absurd is
 finding_told text entries are tells right is = (entries, are, tells, is)
 finding_told text entries are tells (wrong line) is = (entries, are, tells, is)

@@ -5,5 +5,5 @@ pub mod OpLemmas
 pub mod PartLemmas
 pub mod ReadLemmas
 pub mod SameLemmas
-pub mod ValueLemmas
 pub mod TellLemmas
+pub mod ValueLemmas

@@ -72,9 +72,11 @@ module _ (end : ℕ) (g : is_word_byte end ≡ false) (other : nat_eq 34 end ≡
   value_part : (v : Value) → IsValue v → HasBytes v → IsPart end (value_text v)
   value_part (Cstr text) is bytes = quoted_part end text other
   value_part (Long (pos n)) is bytes = decimal_part n (omega (arith, is))
-  value_part (Long (negsuc n)) is bytes = both_parts end (45 ∷ []) (decimal (suc n)) (words_part end (45 ∷ []) g refl) (decimal_part (suc n) (omega (arith, is)))
+  value_part (Long (negsuc n)) is bytes = both_parts end (45 ∷ []) (decimal (suc n)) (words_part end (45 ∷ []) g refl)
+      (decimal_part (suc n) (omega (arith, is)))
   value_part (Llng (pos n)) is bytes = decimal_part n (omega (arith, is))
-  value_part (Llng (negsuc n)) is bytes = both_parts end (45 ∷ []) (decimal (suc n)) (words_part end (45 ∷ []) g refl) (decimal_part (suc n) (omega (arith, is)))
+  value_part (Llng (negsuc n)) is bytes = both_parts end (45 ∷ []) (decimal (suc n)) (words_part end (45 ∷ []) g refl)
+      (decimal_part (suc n) (omega (arith, is)))
   value_part (Mims text) is bytes = quoted_part end text other
   value_part (Rawt raw) is bytes = hex_part end (hex raw) other (hex_words raw bytes)
   value_part (Ulng n) is bytes = decimal_part n (omega (arith, is))
@@ -86,11 +88,14 @@ module _ (end : ℕ) (g : is_word_byte end ≡ false) (other : nat_eq 34 end ≡
   op_part (Set node name value) h =
       both_parts end (codes "set ") _ (words_part end (codes "set ") g refl) (both_parts end (decimal node) _ (decimal_part node h.1.0)
       (blank_part _ (both_parts end (quoted name) _ (quoted_part end name other)
-      (blank_part _ (both_parts end (kind_name (kind_of value)) _ (kind_part (kind_of value)) (blank_part (value_text value) (value_part value h.0.1 h.1.1)))))))
+      (blank_part _ (both_parts end (kind_name (kind_of value)) _ (kind_part (kind_of value))
+      (blank_part (value_text value) (value_part value h.0.1 h.1.1)))))))
   op_part (Unset node name) h =
-      both_parts end (codes "unset ") _ (words_part end (codes "unset ") g refl) (both_parts end (decimal node) _ (decimal_part node h.1) (blank_part (quoted name) (quoted_part end name other)))
+      both_parts end (codes "unset ") _ (words_part end (codes "unset ") g refl)
+      (both_parts end (decimal node) _ (decimal_part node h.1) (blank_part (quoted name) (quoted_part end name other)))
   op_part (MkIndex name kind) h =
-      both_parts end (codes "mkindex ") _ (words_part end (codes "mkindex ") g refl) (both_parts end (quoted name) _ (quoted_part end name other) (blank_part (kind_name kind) (kind_part kind)))
+      both_parts end (codes "mkindex ") _ (words_part end (codes "mkindex ") g refl)
+      (both_parts end (quoted name) _ (quoted_part end name other) (blank_part (kind_name kind) (kind_part kind)))
   op_part (RmIndex name) h = both_parts end (codes "rmindex ") (quoted name) (words_part end (codes "rmindex ") g refl) (quoted_part end name other)
 
   pub done_part : (done : Done) → CanBeDone done → IsPart end (done_text done)
@@ -98,12 +103,14 @@ module _ (end : ℕ) (g : is_word_byte end ≡ false) (other : nat_eq 34 end ≡
   done_part Nothing h = words_part end (codes "ok") g refl
 
   -- What is joined by `; ` is a part of what ends otherwise.
-  pub joined_part : {X : Type 0} (P : X → Type 0) (text_of : X → List ℕ) → ((x : X) → P x → IsPart end (text_of x)) → IsPart end (codes "; ") → (xs : List X) → All P xs →
+  pub joined_part : {X : Type 0} (P : X → Type 0) (text_of : X → List ℕ) → ((x : X) → P x → IsPart end (text_of x)) → IsPart end (codes "; ") →
+      (xs : List X) → All P xs →
       IsPart end (flat_map (λ y. codes "; " ++ text_of y) xs)
   joined_part P text_of each parted [] h = no_part end
   joined_part P text_of each parted (x ∷ xs) h =
       subst (λ (l : List ℕ). IsPart end l) (sym (flat_map-cons (λ y. codes "; " ++ text_of y) x xs))
-      (both_parts end (codes "; " ++ text_of x) _ (both_parts end (codes "; ") (text_of x) parted (each x (All-head P x xs h))) (joined_part P text_of each parted xs (All-tail P x xs h)))
+      (both_parts end (codes "; " ++ text_of x) _ (both_parts end (codes "; ") (text_of x) parted (each x (All-head P x xs h)))
+      (joined_part P text_of each parted xs (All-tail P x xs h)))
 
 -- an answer is read as it was printed
 pub done_read : (done : Done) → CanBeDone done → done_in (done_text done) ≡ done
@@ -157,7 +164,8 @@ pub after_none : (end : ℕ) (xs : List ℕ) → IsPart end xs → after end xs 
 after_none end xs h = ap (λ n. drop (n + 1) xs) (part_whole end xs h) ∙ drop_past xs
 
 -- the first of what is joined by `; `
-pub first_joined : {X : Type 0} (text_of : X → List ℕ) (x : X) (xs : List X) → IsPart 59 (text_of x) → before 59 (join_by text_of (codes "; ") (x ∷ xs)) ≡ text_of x
+pub first_joined : {X : Type 0} (text_of : X → List ℕ) (x : X) (xs : List X) → IsPart 59 (text_of x) →
+    before 59 (join_by text_of (codes "; ") (x ∷ xs)) ≡ text_of x
 first_joined text_of x [] h = ap (before 59) (append-nil (text_of x)) ∙ before_none 59 (text_of x) h
 first_joined text_of x (y ∷ ys) h =
     let more = flat_map (λ z. codes "; " ++ text_of z) ys in
@@ -173,7 +181,8 @@ rest_joined text_of x (y ∷ ys) h =
     ∙ ap (drop 1) (after_end 59 (text_of x) (32 ∷ (text_of y ++ more)) h)
 
 -- what is joined by `; ` is a part of what ends otherwise
-pub list_part : {X : Type 0} (end : ℕ) (P : X → Type 0) (text_of : X → List ℕ) → is_word_byte end ≡ false → nat_eq 34 end ≡ false → ((x : X) → P x → IsPart end (text_of x)) → IsPart end (codes "; ") → (xs : List X) → All P xs →
+pub list_part : {X : Type 0} (end : ℕ) (P : X → Type 0) (text_of : X → List ℕ) → is_word_byte end ≡ false → nat_eq 34 end ≡ false →
+    ((x : X) → P x → IsPart end (text_of x)) → IsPart end (codes "; ") → (xs : List X) → All P xs →
     IsPart end (join_by text_of (codes "; ") xs)
 list_part end P text_of g other each parted [] h = no_part end
 list_part end P text_of g other each parted (x ∷ xs) h =
@@ -222,7 +231,8 @@ module _ (number : ℕ) (entry : Entry) (w : IsWritten entry) where
 
   before_arrow : IsPart 62 (ops_of ++ codes " -")
   before_arrow = both_parts 62 ops_of (codes " -")
-      (list_part 62 CanBeOp op_text refl refl (λ op h. op_part 62 refl refl op h) (record { quiet = (refl, (refl, tt)); back = refl; line = refl }) entry.ops w.ops)
+      (list_part 62 CanBeOp op_text refl refl (λ op h. op_part 62 refl refl op h) (record { quiet = (refl, (refl, tt)); back = refl; line = refl })
+      entry.ops w.ops)
       (words_part 62 (codes " -") refl refl)
 
   arrow_split : behind_pass ≡ (ops_of ++ codes " -") ++ 62 ∷ 32 ∷ behind_arrow
@@ -238,7 +248,8 @@ module _ (number : ℕ) (entry : Entry) (w : IsWritten entry) where
       ∙ (ap without_last_two (before_end 62 (ops_of ++ codes " -") (32 ∷ behind_arrow) before_arrow) ∙ less_two ops_of)
 
   answers_part : IsPart 10 dones_of
-  answers_part = list_part 10 CanBeDone done_text refl refl (λ done h. done_part 10 refl refl done h) (record { quiet = (refl, (refl, tt)); back = refl; line = refl }) entry.dones w.dones
+  answers_part = list_part 10 CanBeDone done_text refl refl (λ done h. done_part 10 refl refl done h)
+      (record { quiet = (refl, (refl, tt)); back = refl; line = refl }) entry.dones w.dones
 
   pub dones_read : dones_part number (entry_line number entry) ≡ join_by done_text (codes "; ") entry.dones
   dones_read = ap (λ l. before 10 (drop 1 (after 62 l))) (by_taken ∙ arrow_split)
@@ -260,7 +271,9 @@ module _ (number : ℕ) (entry : Entry) (w : IsWritten entry) where
       (both_parts 10 (codes " by ") _ (words_part 10 (codes " by ") refl refl)
       (both_parts 10 (decimal entry.by) _ (digits_part 10 (decimal entry.by) refl (decimal_digits entry.by w.by))
       (both_parts 10 (codes " ") _ (words_part 10 (codes " ") refl refl)
-      (both_parts 10 ops_of _ (list_part 10 CanBeOp op_text refl refl (λ op k. op_part 10 refl refl op k) (record { quiet = (refl, (refl, tt)); back = refl; line = refl }) entry.ops w.ops)
+      (both_parts 10 ops_of _
+      (list_part 10 CanBeOp op_text refl refl (λ op k. op_part 10 refl refl op k) (record { quiet = (refl, (refl, tt)); back = refl; line = refl })
+      entry.ops w.ops)
       (both_parts 10 (codes " -> ") dones_of (record { quiet = (refl, (refl, (refl, (refl, tt)))); back = refl; line = refl }) answers_part)))))
 
   -- the first line of a text that begins with this one, and what follows it

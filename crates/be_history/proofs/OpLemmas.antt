@@ -165,7 +165,8 @@ spelled_in_quotes cs text h =
     spelled_both (34 ∷ []) (34 ∷ []) (cs ++ 34 ∷ []) (text ++ 34 ∷ []) quote (spelled_both cs text (34 ∷ []) (34 ∷ []) h quote)
 
 spelled_quoted : (text : List ℕ) → IsUtf8 text → Spells (quoted_chars text) (quoted text)
-spelled_quoted text u = spelled_in_quotes (flat_map escaped_chars (chars text)) (flat_map escaped (chars text)) (spelled_inside (chars text) (scalars-chars text u))
+spelled_quoted text u = spelled_in_quotes (flat_map escaped_chars (chars text)) (flat_map escaped (chars text))
+    (spelled_inside (chars text) (scalars-chars text u))
 
 -- ASCII before other characters
 spelled_then : {cs text : List ℕ} (head : List ℕ) → list_all is_low head ≡ true → Spells cs text → Spells (head ++ cs) (head ++ text)
@@ -258,8 +259,10 @@ plain_read (c ∷ w) rest h some e =
     rw (plain_is_not_blank c p.0) (rw (unlike is_plain c 34 p.0 refl) (plain_split (c ∷ w) rest h e))
 
 -- A word in quotes.
-quotes_read : (cs word rest : List ℕ) → quoted_in (cs ++ 34 ∷ rest) ≡ Some (word, rest) → ends_word rest ≡ true → first_word (32 ∷ (34 ∷ (cs ++ 34 ∷ [])) ++ rest) ≡ Some (word, rest)
-quotes_read cs word rest is e = ap (λ l. option_and_then if_ended (quoted_in l)) (append_assoc cs (34 ∷ []) rest) ∙ (ap (option_and_then if_ended) is ∙ rw e refl)
+quotes_read : (cs word rest : List ℕ) → quoted_in (cs ++ 34 ∷ rest) ≡ Some (word, rest) → ends_word rest ≡ true →
+    first_word (32 ∷ (34 ∷ (cs ++ 34 ∷ [])) ++ rest) ≡ Some (word, rest)
+quotes_read cs word rest is e = ap (λ l. option_and_then if_ended (quoted_in l)) (append_assoc cs (34 ∷ []) rest)
+    ∙ (ap (option_and_then if_ended) is ∙ rw e refl)
 
 name_read : (name rest : List ℕ) → IsUtf8 name → ends_word rest ≡ true → first_word (32 ∷ quoted_chars name ++ rest) ≡ Some (name, rest)
 name_read name rest u e =
@@ -279,14 +282,16 @@ words_read [] rest h = quoted-end rest
 words_read (c ∷ ws) rest h =
     let p = and_parts (is_word_byte c) (list_all is_word_byte ws) h in
     quoted-plain c (ws ++ 34 ∷ rest) (is_other c 34 p.0 refl) (is_other c 92 p.0 refl)
-    ∙ (ap (λ (l : List ℕ). behind l (quoted_in (ws ++ 34 ∷ rest))) (encode_ascii c (low_byte c (word_low c p.0))) ∙ ap (behind (c ∷ [])) (words_read ws rest p.1))
+    ∙ (ap (λ (l : List ℕ). behind l (quoted_in (ws ++ 34 ∷ rest))) (encode_ascii c (low_byte c (word_low c p.0)))
+    ∙ ap (behind (c ∷ [])) (words_read ws rest p.1))
 
 -- The words of a line.
 
 one_read : (text word : List ℕ) → first_word text ≡ Some (word, []) → one_word text ≡ Some word
 one_read text word h = ap (option_and_then (λ (first : List ℕ × List ℕ). if is_empty first.1 then Some first.0 else None)) h
 
-two_read : (text first rest second : List ℕ) → first_word text ≡ Some (first, rest) → first_word rest ≡ Some (second, []) → two_words text ≡ Some (first, second)
+two_read : (text first rest second : List ℕ) → first_word text ≡ Some (first, rest) → first_word rest ≡ Some (second, []) →
+    two_words text ≡ Some (first, second)
 two_read text first rest second h g =
     ap (option_and_then (λ (one : List ℕ × List ℕ). option_map {U = List ℕ × List ℕ} (λ two. (one.0, two)) (one_word one.1))) h
     ∙ ap (option_map {U = List ℕ × List ℕ} (λ two. (first, two))) (one_read rest second g)
@@ -346,7 +351,12 @@ record IsValueText (text word : List ℕ) : Type 0 where
   read : first_word (32 ∷ characters) ≡ Some (word, [])
 
 quoted_value : (text : List ℕ) → IsUtf8 text → IsValueText (quoted text) text
-quoted_value text u = record { characters = quoted_chars text; spelled = spelled_quoted text u; ends = (34 ∷ flat_map escaped (chars text), 34, refl, refl); read = last_name text u }
+quoted_value text u = record {
+  characters = quoted_chars text;
+  spelled = spelled_quoted text u;
+  ends = (34 ∷ flat_map escaped (chars text), 34, refl, refl);
+  read = last_name text u;
+}
 
 plain_value : (w : List ℕ) → list_all is_plain w ≡ true → 1 ≤ length w → IsValueText w w
 plain_value w h some = record { characters = w; spelled = spelled_plain w h; ends = ends_plain w h some; read = last_plain w h some }
@@ -385,23 +395,27 @@ new_asked = asked_of (codes "new") (codes "new") (spelled_low (codes "new") refl
 drop_asked : (node : ℕ) → node < 2 ^ 64 → asked (op_text (Drop node)) ≡ write (Ok (Drop node))
 drop_asked node h =
     let number = number_value node h in
-    asked_of (codes "drop " ++ decimal node) (codes "drop " ++ decimal node) (spelled_then (codes "drop ") refl (spelled_plain (decimal node) (decimal_plain node h)))
+    asked_of (codes "drop " ++ decimal node) (codes "drop " ++ decimal node)
+    (spelled_then (codes "drop ") refl (spelled_plain (decimal node) (decimal_plain node h)))
     (ends_behind (codes "drop ") (decimal node) number.ends) refl
     ∙ (command_read (codes "drop") (32 ∷ decimal node) commands.Drop refl refl refl
     ∙ (ap (λ (o : Option (List ℕ)). answer (option_map (λ n. write (Ok (Drop n))) (option_and_then word_in o)))
     (one_read (32 ∷ decimal node) (decimal node) (last_plain (decimal node) (decimal_plain node h) (decimal_nonempty node h)))
     ∙ ap (λ (o : Option ℕ). answer (option_map (λ n. write (Ok (Drop n))) o)) (word_of_decimal node h)))
 
-unset_asked : (node : ℕ) (name : List ℕ) → node < 2 ^ 64 → name_from name ≡ Ok name → IsUtf8 name → asked (op_text (Unset node name)) ≡ write (Ok (Unset node name))
+unset_asked : (node : ℕ) (name : List ℕ) → node < 2 ^ 64 → name_from name ≡ Ok name → IsUtf8 name →
+    asked (op_text (Unset node name)) ≡ write (Ok (Unset node name))
 unset_asked node name h is u =
     let word = quoted_value name u in
     let text = codes " " ++ quoted name in
     let rest = codes " " ++ quoted_chars name in
     asked_of (codes "unset " ++ (decimal node ++ text)) (codes "unset " ++ (decimal node ++ rest))
-    (spelled_then (codes "unset ") refl (spelled_then (decimal node) (plain_low (decimal node) (decimal_plain node h)) (spelled_then (codes " ") refl (spelled_quoted name u))))
+    (spelled_then (codes "unset ") refl
+    (spelled_then (decimal node) (plain_low (decimal node) (decimal_plain node h)) (spelled_then (codes " ") refl (spelled_quoted name u))))
     (ends_behind (codes "unset ") (decimal node ++ text) (ends_behind (decimal node) text (ends_behind (codes " ") (quoted name) word.ends))) refl
     ∙ (command_read (codes "unset") (32 ∷ (decimal node ++ rest)) commands.Unset refl refl refl
-    ∙ (ap (λ (o : Option (List ℕ × List ℕ)). answer (option_and_then (λ (words : List ℕ × List ℕ). option_map (λ n. write (named (λ m. Unset n m) words.1)) (word_in words.0)) o))
+    ∙ (ap (λ (o : Option (List ℕ × List ℕ)). answer
+    (option_and_then (λ (words : List ℕ × List ℕ). option_map (λ n. write (named (λ m. Unset n m) words.1)) (word_in words.0)) o))
     (two_read (32 ∷ (decimal node ++ rest)) (decimal node) rest name (number_read node rest h refl) (last_name name u))
     ∙ (ap (λ (o : Option ℕ). answer (option_map (λ n. write (named (λ m. Unset n m) name)) o)) (word_of_decimal node h)
     ∙ ap (λ r. write (result_map_both (λ m. Unset node m) (λ e. e) r)) is)))
@@ -411,10 +425,14 @@ mkindex_asked name kind is u =
     let plain = kind_plain kind in
     let text = codes " " ++ kind_name kind in
     asked_of (codes "mkindex " ++ (quoted name ++ text)) (codes "mkindex " ++ (quoted_chars name ++ text))
-    (spelled_then (codes "mkindex ") refl (spelled_both (quoted_chars name) (quoted name) text text (spelled_quoted name u) (spelled_then (codes " ") refl (spelled_plain (kind_name kind) plain))))
-    (ends_behind (codes "mkindex ") (quoted name ++ text) (ends_behind (quoted name) text (ends_behind (codes " ") (kind_name kind) (ends_plain (kind_name kind) plain (kind_long kind))))) refl
+    (spelled_then (codes "mkindex ") refl
+    (spelled_both (quoted_chars name) (quoted name) text text (spelled_quoted name u)
+    (spelled_then (codes " ") refl (spelled_plain (kind_name kind) plain))))
+    (ends_behind (codes "mkindex ") (quoted name ++ text)
+    (ends_behind (quoted name) text (ends_behind (codes " ") (kind_name kind) (ends_plain (kind_name kind) plain (kind_long kind))))) refl
     ∙ (command_read (codes "mkindex") (32 ∷ (quoted_chars name ++ text)) commands.MkIndex refl refl refl
-    ∙ (ap (λ (o : Option (List ℕ × List ℕ)). answer (option_and_then (λ (words : List ℕ × List ℕ). option_map (λ k. write (named (λ m. MkIndex m k) words.0)) (kind_in words.1)) o))
+    ∙ (ap (λ (o : Option (List ℕ × List ℕ)). answer
+    (option_and_then (λ (words : List ℕ × List ℕ). option_map (λ k. write (named (λ m. MkIndex m k) words.0)) (kind_in words.1)) o))
     (two_read (32 ∷ (quoted_chars name ++ text)) name text (kind_name kind) (name_read name text u refl) (last_plain (kind_name kind) plain (kind_long kind)))
     ∙ (ap (λ (o : Option Kind). answer (option_map (λ k. write (named (λ m. MkIndex m k) name)) o)) (kind_read kind)
     ∙ ap (λ r. write (result_map_both (λ m. MkIndex m kind) (λ e. e) r)) is)))
@@ -432,22 +450,28 @@ rmindex_asked name is u =
 set_made : (node : ℕ) (name : List ℕ) (v : Value) → node < 2 ^ 64 → name_from name ≡ Ok name → IsValue v → HasBytes v →
     answer (set_from (decimal node) name (kind_name (kind_of v)) (value_word v)) ≡ write (Ok (Set node name v))
 set_made node name v h named_is is bytes =
-    ap (λ (o : Option ℕ). answer (option_and_then (λ n. option_and_then (λ k. option_map (λ w. write (set_op n (name_from name) w)) (value_in k (value_word v))) (kind_in (kind_name (kind_of v)))) o))
+    ap (λ (o : Option ℕ). answer
+    (option_and_then (λ n. option_and_then (λ k. option_map (λ w. write (set_op n (name_from name) w)) (value_in k (value_word v)))
+    (kind_in (kind_name (kind_of v)))) o))
     (word_of_decimal node h)
-    ∙ (ap (λ (o : Option Kind). answer (option_and_then (λ k. option_map (λ w. write (set_op node (name_from name) w)) (value_in k (value_word v))) o)) (kind_read (kind_of v))
+    ∙ (ap (λ (o : Option Kind). answer (option_and_then (λ k. option_map (λ w. write (set_op node (name_from name) w)) (value_in k (value_word v))) o))
+    (kind_read (kind_of v))
     ∙ (ap (λ (o : Option (Result Value Refusal)). answer (option_map (λ w. write (set_op node (name_from name) w)) o)) (value_read v is bytes)
     ∙ ap (λ r. write (set_op node r (Ok v))) named_is))
 
 set_read : (node : ℕ) (name : List ℕ) (v : Value) (last : List ℕ) → node < 2 ^ 64 → IsUtf8 name → first_word (32 ∷ last) ≡ Some (value_word v, []) →
-    set_in (32 ∷ (decimal node ++ 32 ∷ (quoted_chars name ++ 32 ∷ (kind_name (kind_of v) ++ 32 ∷ last)))) ≡ set_from (decimal node) name (kind_name (kind_of v)) (value_word v)
+    set_in (32 ∷ (decimal node ++ 32 ∷ (quoted_chars name ++ 32 ∷ (kind_name (kind_of v) ++ 32 ∷ last)))) ≡ set_from (decimal node) name
+    (kind_name (kind_of v)) (value_word v)
 set_read node name v last h u read =
     let k = kind_of v in
     let value = 32 ∷ last in
     let kind = 32 ∷ (kind_name k ++ value) in
     let words = 32 ∷ (quoted_chars name ++ kind) in
-    ap (option_and_then (λ (a : List ℕ × List ℕ). option_and_then (λ (b : List ℕ × List ℕ). option_and_then (λ (c : List ℕ × List ℕ). set_from a.0 b.0 c.0 c.1) (two_words b.1)) (first_word a.1)))
+    ap (option_and_then (λ (a : List ℕ × List ℕ). option_and_then
+    (λ (b : List ℕ × List ℕ). option_and_then (λ (c : List ℕ × List ℕ). set_from a.0 b.0 c.0 c.1) (two_words b.1)) (first_word a.1)))
     (number_read node words h refl)
-    ∙ (ap (option_and_then (λ (b : List ℕ × List ℕ). option_and_then (λ (c : List ℕ × List ℕ). set_from (decimal node) b.0 c.0 c.1) (two_words b.1))) (name_read name kind u refl)
+    ∙ (ap (option_and_then (λ (b : List ℕ × List ℕ). option_and_then (λ (c : List ℕ × List ℕ). set_from (decimal node) b.0 c.0 c.1) (two_words b.1)))
+    (name_read name kind u refl)
     ∙ ap (option_and_then (λ (c : List ℕ × List ℕ). set_from (decimal node) name c.0 c.1))
     (two_read kind (kind_name k) value (value_word v) (plain_read (kind_name k) value (kind_plain k) (kind_long k) refl) read))
 
@@ -461,7 +485,8 @@ set_asked node name v h named_is u is bytes =
     let kind = codes " " ++ (k ++ value) in
     let words = codes " " ++ (quoted name ++ kind) in
     let rest = 32 ∷ (decimal node ++ 32 ∷ (quoted_chars name ++ 32 ∷ (k ++ 32 ∷ p.characters))) in
-    let spelled_kind : Spells (codes " " ++ (k ++ 32 ∷ p.characters)) kind = spelled_then (codes " ") refl (spelled_then k low (spelled_then (codes " ") refl p.spelled)) in
+    let spelled_kind : Spells (codes " " ++ (k ++ 32 ∷ p.characters)) kind =
+    spelled_then (codes " ") refl (spelled_then k low (spelled_then (codes " ") refl p.spelled)) in
     let spelled_words : Spells (codes " " ++ (quoted_chars name ++ 32 ∷ (k ++ 32 ∷ p.characters))) words =
     spelled_then (codes " ") refl (spelled_both (quoted_chars name) (quoted name) (32 ∷ (k ++ 32 ∷ p.characters)) kind (spelled_quoted name u) spelled_kind) in
     let ends_kind : Ends kind = ends_behind (codes " ") (k ++ value) (ends_behind k value (ends_behind (codes " ") (value_text v) p.ends)) in

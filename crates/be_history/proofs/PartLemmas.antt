@@ -68,7 +68,8 @@ part_before end xs ys h =
     let here : nat_eq end end ≡ true = grind (arith, nat_tests) in
     let stops : length_to end Outside (end ∷ ys) ≡ 0 = rw here refl in
     let sum : length xs + 0 ≡ length xs = omega arith in
-    length_through end Outside xs (end ∷ ys) h.quiet ∙ (ap (λ (q : Quoting). length xs + length_to end q (end ∷ ys)) h.back ∙ (ap (λ n. length xs + n) stops ∙ sum))
+    length_through end Outside xs (end ∷ ys) h.quiet ∙ (ap (λ (q : Quoting). length xs + length_to end q (end ∷ ys)) h.back
+    ∙ (ap (λ n. length xs + n) stops ∙ sum))
 
 -- and with the text
 pub part_whole : (end : ℕ) (xs : List ℕ) → IsPart end xs → length_to end Outside xs ≡ length xs
@@ -166,7 +167,9 @@ inside_char end c = by34 (nat_eq c 34) refl
   where
     by13 : (b : Bool) → nat_eq c 13 ≡ b → nat_eq c 34 ≡ false → nat_eq c 92 ≡ false → nat_eq c 10 ≡ false → IsInside end (escaped c)
     by13 true e q s n = rw q (rw s (rw n (rw e (record { quiet = (refl, (refl, tt)); back = refl; line = refl }))))
-    by13 false e q s n = rw q (rw s (rw n (rw e (inner_inside end (encode_utf8 c) (λ k l. (ascii_byte c 34 k (omega arith) l q, ascii_byte c 92 k (omega arith) l s, ascii_byte c 10 k (omega arith) l n))))))
+    by13 false e q s n = rw q
+        (rw s (rw n (rw e (inner_inside end (encode_utf8 c)
+        (λ k l. (ascii_byte c 34 k (omega arith) l q, ascii_byte c 92 k (omega arith) l s, ascii_byte c 10 k (omega arith) l n))))))
 
     by10 : (b : Bool) → nat_eq c 10 ≡ b → nat_eq c 34 ≡ false → nat_eq c 92 ≡ false → IsInside end (escaped c)
     by10 true e q s = rw q (rw s (rw e (record { quiet = (refl, (refl, tt)); back = refl; line = refl })))
@@ -183,7 +186,8 @@ inside_char end c = by34 (nat_eq c 34) refl
 inside_chars : (end : ℕ) (cs : List ℕ) → IsInside end (flat_map escaped cs)
 inside_chars end [] = no_inside end
 inside_chars end (c ∷ cs) =
-    subst (λ (l : List ℕ). IsInside end l) (sym (flat_map-cons escaped c cs)) (both_inside end (escaped c) (flat_map escaped cs) (inside_char end c) (inside_chars end cs))
+    subst (λ (l : List ℕ). IsInside end l) (sym (flat_map-cons escaped c cs))
+    (both_inside end (escaped c) (flat_map escaped cs) (inside_char end c) (inside_chars end cs))
 
 -- letters and digits inside quotes
 words_inside : (end : ℕ) (xs : List ℕ) → list_all is_word_byte xs ≡ true → IsInside end xs

@@ -38,11 +38,14 @@ pub all_left : {X : Type 0} (P : X → Type 0) (text_of : X → List ℕ) (text 
 all_left P text_of text xs are is = (xs, refl, is)
 
 -- an element more
-pub less_left : {X : Type 0} (P : X → Type 0) (text_of : X → List ℕ) (text rest rest' : List ℕ) (read read' : List X) (x : X) → ((y : X) → P y → IsPart 59 (text_of y)) → 1 ≤ length rest →
-    IsLeft P text_of text read rest → ((y : X) → P y → before 59 rest ≡ text_of y → x ≡ y) → read' ≡ read ++ x ∷ [] → rest' ≡ drop 1 (after 59 rest) → IsLeft P text_of text read' rest'
+pub less_left : {X : Type 0} (P : X → Type 0) (text_of : X → List ℕ) (text rest rest' : List ℕ) (read read' : List X) (x : X) →
+    ((y : X) → P y → IsPart 59 (text_of y)) → 1 ≤ length rest →
+    IsLeft P text_of text read rest → ((y : X) → P y → before 59 rest ≡ text_of y → x ≡ y) → read' ≡ read ++ x ∷ [] → rest' ≡ drop 1 (after 59 rest) →
+    IsLeft P text_of text read' rest'
 less_left {X} P text_of text rest rest' read read' x each some left exact read_is rest_is xs are is = let h = left xs are is in by h.0 h.1 h.2
   where
-    by : (more : List X) → xs ≡ read ++ more → rest ≡ join_by text_of (codes "; ") more → (more : List X) × (xs ≡ read' ++ more) × (rest' ≡ join_by text_of (codes "; ") more)
+    by : (more : List X) → xs ≡ read ++ more → rest ≡ join_by text_of (codes "; ") more →
+        (more : List X) × (xs ≡ read' ++ more) × (rest' ≡ join_by text_of (codes "; ") more)
     by [] same last = absurd (omega (arith, some, ap length last))
     by (y ∷ more) same now =
         let can : P y = All-head P y more (all_right P read (y ∷ more) (subst (All P) same are)) in
@@ -53,7 +56,8 @@ less_left {X} P text_of text rest rest' read read' x each some left exact read_i
         )
 
 -- what is left begins with the text of such an element
-pub first_left : {X : Type 0} (P : X → Type 0) (text_of : X → List ℕ) (text rest : List ℕ) (read : List X) → ((y : X) → P y → IsPart 59 (text_of y)) → 1 ≤ length rest →
+pub first_left : {X : Type 0} (P : X → Type 0) (text_of : X → List ℕ) (text rest : List ℕ) (read : List X) → ((y : X) → P y → IsPart 59 (text_of y)) →
+    1 ≤ length rest →
     IsLeft P text_of text read rest → (xs : List X) → All P xs → text ≡ join_by text_of (codes "; ") xs → (y : X) × P y × (before 59 rest ≡ text_of y)
 first_left {X} P text_of text rest read each some left xs are is = let h = left xs are is in by h.0 h.1 h.2
   where
@@ -64,7 +68,8 @@ first_left {X} P text_of text rest read each some left xs are is = let h = left 
         (y, can, ap (before 59) now ∙ first_joined text_of y more (each y can))
 
 -- nothing is left
-pub none_left : {X : Type 0} (P : X → Type 0) (text_of : X → List ℕ) (text rest : List ℕ) (read : List X) → ((y : X) → P y → 1 ≤ length (text_of y)) → length rest ≡ 0 → IsLeft P text_of text read rest →
+pub none_left : {X : Type 0} (P : X → Type 0) (text_of : X → List ℕ) (text rest : List ℕ) (read : List X) → ((y : X) → P y → 1 ≤ length (text_of y)) →
+    length rest ≡ 0 → IsLeft P text_of text read rest →
     (xs : List X) → All P xs → text ≡ join_by text_of (codes "; ") xs → read ≡ xs
 none_left {X} P text_of text rest read long none left xs are is = let h = left xs are is in by h.0 h.1 h.2
   where
@@ -77,14 +82,17 @@ none_left {X} P text_of text rest read long none left xs are is = let h = left x
 -- The same of a journal: the entries that were read, and the text of the others.
 abbrev pub AreLeft : List ℕ → List Entry → List ℕ → Type 0
 AreLeft text read rest =
-    (entries : List Entry) → AreWritten entries → text ≡ lines_from 1 entries → (more : List Entry) × (entries ≡ read ++ more) × (rest ≡ lines_from (1 + length read) more)
+    (entries : List Entry) → AreWritten entries → text ≡ lines_from 1 entries →
+    (more : List Entry) × (entries ≡ read ++ more) × (rest ≡ lines_from (1 + length read) more)
 
 pub all_lines_left : (text : List ℕ) → AreLeft text [] text
 all_lines_left text entries are is = (entries, refl, is)
 
 -- an entry more
-pub less_lines_left : (text rest rest' : List ℕ) (read read' : List Entry) (entry : Entry) → 1 + length read < 2 ^ 64 → 1 ≤ length rest → AreLeft text read rest →
-    ((e : Entry) → IsWritten e → first_line rest ≡ entry_line (1 + length read) e → entry ≡ e) → read' ≡ read ++ entry ∷ [] → rest' ≡ behind_line rest → AreLeft text read' rest'
+pub less_lines_left : (text rest rest' : List ℕ) (read read' : List Entry) (entry : Entry) → 1 + length read < 2 ^ 64 → 1 ≤ length rest →
+    AreLeft text read rest →
+    ((e : Entry) → IsWritten e → first_line rest ≡ entry_line (1 + length read) e → entry ≡ e) → read' ≡ read ++ entry ∷ [] → rest' ≡ behind_line rest →
+    AreLeft text read' rest'
 less_lines_left text rest rest' read read' entry small some left exact read_is rest_is entries are is = let h = left entries are is in by h.0 h.1 h.2
   where
     n : ℕ
@@ -93,7 +101,8 @@ less_lines_left text rest rest' read read' entry small some left exact read_is r
     counted : 1 + length read' ≡ n + 1
     counted = ap (λ l. 1 + length l) read_is ∙ (let long = length-append read (entry ∷ []) in omega arith)
 
-    by : (more : List Entry) → entries ≡ read ++ more → rest ≡ lines_from n more → (more : List Entry) × (entries ≡ read' ++ more) × (rest' ≡ lines_from (1 + length read') more)
+    by : (more : List Entry) → entries ≡ read ++ more → rest ≡ lines_from n more →
+        (more : List Entry) × (entries ≡ read' ++ more) × (rest' ≡ lines_from (1 + length read') more)
     by [] same last = absurd (omega (arith, some, ap length last))
     by (e ∷ more) same now =
         let can : IsWritten e = All-head IsWritten e more (all_right IsWritten read (e ∷ more) (subst (All IsWritten) same are.0)) in
@@ -104,7 +113,8 @@ less_lines_left text rest rest' read read' entry small some left exact read_is r
         )
 
 -- what is left begins with the line of such an entry
-pub first_line_left : (text rest : List ℕ) (read : List Entry) → 1 + length read < 2 ^ 64 → 1 ≤ length rest → AreLeft text read rest → (entries : List Entry) → AreWritten entries → text ≡ lines_from 1 entries →
+pub first_line_left : (text rest : List ℕ) (read : List Entry) → 1 + length read < 2 ^ 64 → 1 ≤ length rest → AreLeft text read rest →
+    (entries : List Entry) → AreWritten entries → text ≡ lines_from 1 entries →
     (entry : Entry) × IsWritten entry × (first_line rest ≡ entry_line (1 + length read) entry)
 first_line_left text rest read small some left entries are is = let h = left entries are is in by h.0 h.1 h.2
   where
@@ -125,7 +135,8 @@ entry_line_long n e = let long = length-append (decimal n) (codes " by " ++ behi
     behind_by = decimal e.by ++ (codes " " ++ (join_by op_text (codes "; ") e.ops ++ (codes " -> " ++ (join_by done_text (codes "; ") e.dones ++ codes "\n"))))
 
 -- no line is left
-pub no_lines_left : (text rest : List ℕ) (read : List Entry) → length rest ≡ 0 → AreLeft text read rest → (entries : List Entry) → AreWritten entries → text ≡ lines_from 1 entries → read ≡ entries
+pub no_lines_left : (text rest : List ℕ) (read : List Entry) → length rest ≡ 0 → AreLeft text read rest → (entries : List Entry) → AreWritten entries →
+    text ≡ lines_from 1 entries → read ≡ entries
 no_lines_left text rest read none left entries are is = let h = left entries are is in by h.0 h.1 h.2
   where
     by : (more : List Entry) → entries ≡ read ++ more → rest ≡ lines_from (1 + length read) more → read ≡ entries
@@ -135,7 +146,8 @@ no_lines_left text rest read none left entries are is = let h = left entries are
         absurd (omega (arith, long, none, ap length now, entry_line_long (1 + length read) e))
 
 -- a journal's text grows by the line that was read
-pub lines_read : (text rest : List ℕ) (read read' : List Entry) (entry : Entry) → lines_from 1 read ++ rest ≡ text → first_line rest ≡ entry_line (1 + length read) entry → read' ≡ read ++ entry ∷ [] →
+pub lines_read : (text rest : List ℕ) (read read' : List Entry) (entry : Entry) → lines_from 1 read ++ rest ≡ text →
+    first_line rest ≡ entry_line (1 + length read) entry → read' ≡ read ++ entry ∷ [] →
     lines_from 1 read' ++ behind_line rest ≡ text
 lines_read text rest read read' entry was line read_is =
     ap (λ l. lines_from 1 l ++ behind_line rest) read_is

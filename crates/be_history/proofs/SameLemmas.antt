@@ -26,10 +26,13 @@ same_done x y h g e = sym (done_read x h) ∙ (ap done_in e ∙ done_read y g)
 
 -- what is joined by `; `
 same_lists : {X : Type 0} (P : X → Type 0) (text_of : X → List ℕ) → ((x : X) → P x → IsPart 59 (text_of x)) → ((x : X) → P x → 1 ≤ length (text_of x)) →
-    ((x y : X) → P x → P y → text_of x ≡ text_of y → x ≡ y) → (xs ys : List X) → All P xs → All P ys → join_by text_of (codes "; ") xs ≡ join_by text_of (codes "; ") ys → xs ≡ ys
+    ((x y : X) → P x → P y → text_of x ≡ text_of y → x ≡ y) → (xs ys : List X) → All P xs → All P ys →
+    join_by text_of (codes "; ") xs ≡ join_by text_of (codes "; ") ys → xs ≡ ys
 same_lists P text_of each long same [] [] h g e = refl
-same_lists P text_of each long same [] (y ∷ ys) h g e = absurd (omega (arith, long y (All-head P y ys g), ap length e, length-append (text_of y) (flat_map (λ z. codes "; " ++ text_of z) ys)))
-same_lists P text_of each long same (x ∷ xs) [] h g e = absurd (omega (arith, long x (All-head P x xs h), ap length e, length-append (text_of x) (flat_map (λ z. codes "; " ++ text_of z) xs)))
+same_lists P text_of each long same [] (y ∷ ys) h g e = absurd
+    (omega (arith, long y (All-head P y ys g), ap length e, length-append (text_of y) (flat_map (λ z. codes "; " ++ text_of z) ys)))
+same_lists P text_of each long same (x ∷ xs) [] h g e = absurd
+    (omega (arith, long x (All-head P x xs h), ap length e, length-append (text_of x) (flat_map (λ z. codes "; " ++ text_of z) xs)))
 same_lists P text_of each long same (x ∷ xs) (y ∷ ys) h g e =
     let can = All-head P x xs h in
     let may = All-head P y ys g in
@@ -43,11 +46,13 @@ same_entry : (n : ℕ) (e o : Entry) → IsWritten e → IsWritten o → entry_l
 same_entry n e o w v h =
     let by : e.by ≡ o.by = decimal_injective e.by o.by w.by v.by (sym (by_read n e w) ∙ (ap (by_part n) h ∙ by_read n o v)) in
     let ops : e.ops ≡ o.ops =
-    same_lists CanBeOp op_text (λ y k. op_part 59 refl refl y k) op_long same_op e.ops o.ops w.ops v.ops (sym (ops_read n e w) ∙ (ap (ops_part n) h ∙ ops_read n o v)) in
+    same_lists CanBeOp op_text (λ y k. op_part 59 refl refl y k) op_long same_op e.ops o.ops w.ops v.ops
+    (sym (ops_read n e w) ∙ (ap (ops_part n) h ∙ ops_read n o v)) in
     let dones : e.dones ≡ o.dones =
     same_lists CanBeDone done_text (λ y k. done_part 59 refl refl y k) done_long same_done e.dones o.dones w.dones v.dones
     (sym (dones_read n e w) ∙ (ap (dones_part n) h ∙ dones_read n o v)) in
-    inside e o (sym (entry_made e w) ∙ (ap (λ b. entry_of b e.ops e.dones) by ∙ (ap (λ l. entry_of o.by l e.dones) ops ∙ (ap (λ l. entry_of o.by o.ops l) dones ∙ entry_made o v))))
+    inside e o (sym (entry_made e w) ∙ (ap (λ b. entry_of b e.ops e.dones) by ∙ (ap (λ l. entry_of o.by l e.dones) ops
+    ∙ (ap (λ l. entry_of o.by o.ops l) dones ∙ entry_made o v))))
 
 -- the text of a journal
 pub same_lines : (n : ℕ) (es os : List Entry) → All IsWritten es → All IsWritten os → n + length es ≤ 2 ^ 64 → lines_from n es ≡ lines_from n os → es ≡ os
@@ -59,6 +64,9 @@ same_lines n (i ∷ es) (o ∷ os) h g few e =
     let v = All-head IsWritten o os g in
     let small : n < 2 ^ 64 = omega (arith, few) in
     let fewer : n + 1 + length es ≤ 2 ^ 64 = omega (arith, few) in
-    let first : entry_line n i ≡ entry_line n o = sym (line_first n i w small (lines_from (n + 1) es)) ∙ (ap first_line e ∙ line_first n o v small (lines_from (n + 1) os)) in
-    let rest : lines_from (n + 1) es ≡ lines_from (n + 1) os = sym (line_behind n i w small (lines_from (n + 1) es)) ∙ (ap behind_line e ∙ line_behind n o v small (lines_from (n + 1) os)) in
-    ap (λ z. z ∷ es) (same_entry n i o w v first) ∙ ap (λ l. o ∷ l) (same_lines (n + 1) es os (All-tail IsWritten i es h) (All-tail IsWritten o os g) fewer rest)
+    let first : entry_line n i ≡ entry_line n o = sym (line_first n i w small (lines_from (n + 1) es))
+    ∙ (ap first_line e ∙ line_first n o v small (lines_from (n + 1) os)) in
+    let rest : lines_from (n + 1) es ≡ lines_from (n + 1) os = sym (line_behind n i w small (lines_from (n + 1) es))
+    ∙ (ap behind_line e ∙ line_behind n o v small (lines_from (n + 1) os)) in
+    ap (λ z. z ∷ es) (same_entry n i o w v first) ∙ ap (λ l. o ∷ l)
+    (same_lines (n + 1) es os (All-tail IsWritten i es h) (All-tail IsWritten o os g) fewer rest)

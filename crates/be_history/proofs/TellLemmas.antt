@@ -39,7 +39,8 @@ along (c ∷ w) rest h =
     let p = and_parts (in_line c) (list_all in_line w) h in
     none_else (from_last_j (nat_eq c 10) (w ++ rest)) ∙ (ap (λ b. from_last_j b (w ++ rest)) (not_so (nat_eq c 10) p.0) ∙ along w rest p.1)
 
-line_passed : (d : ℕ) (w rest : List ℕ) → nat_eq d 106 ≡ false → list_all in_line (d ∷ w) ≡ true → from_last_j true (d ∷ (w ++ 10 ∷ rest)) ≡ from_last_j true rest
+line_passed : (d : ℕ) (w rest : List ℕ) → nat_eq d 106 ≡ false → list_all in_line (d ∷ w) ≡ true →
+    from_last_j true (d ∷ (w ++ 10 ∷ rest)) ≡ from_last_j true rest
 line_passed d w rest other h =
     let p = and_parts (in_line d) (list_all in_line w) h in
     let text = w ++ 10 ∷ rest in
@@ -51,9 +52,11 @@ line_passed d w rest other h =
 numbered_passed : (ds more rest : List ℕ) → all_ascii_digits ds ≡ true → 1 ≤ length ds → list_all in_line (ds ++ more) ≡ true →
     from_last_j true ((ds ++ more) ++ 10 ∷ rest) ≡ from_last_j true rest
 numbered_passed [] more rest digits some h = absurd (omega (arith, some))
-numbered_passed (d ∷ ds) more rest digits some h = line_passed d (ds ++ more) rest (differs d 106 (and_parts (is_ascii_digit d) (all_ascii_digits ds) digits).0 refl) h
+numbered_passed (d ∷ ds) more rest digits some h = line_passed d (ds ++ more) rest
+    (differs d 106 (and_parts (is_ascii_digit d) (all_ascii_digits ds) digits).0 refl) h
 
-lines_passed : (n : ℕ) (es : List Entry) (rest : List ℕ) → All IsWritten es → n + length es ≤ 2 ^ 64 → from_last_j true (lines_from n es ++ rest) ≡ from_last_j true rest
+lines_passed : (n : ℕ) (es : List Entry) (rest : List ℕ) → All IsWritten es → n + length es ≤ 2 ^ 64 →
+    from_last_j true (lines_from n es ++ rest) ≡ from_last_j true rest
 lines_passed n [] rest h few = refl
 lines_passed n (e ∷ es) rest h few =
     let w = All-head IsWritten e es h in
@@ -64,7 +67,8 @@ lines_passed n (e ∷ es) rest h few =
     append_assoc (entry_line n e) (lines_from (n + 1) es) rest ∙ (ap (λ l. l ++ more) (body_line n e w) ∙ append_assoc (body n e w) (10 ∷ []) more) in
     let part = body_part n e w small in
     ap (from_last_j true) split
-    ∙ (numbered_passed (decimal n) _ more (decimal_digits n small) (decimal_nonempty n small) part.line ∙ lines_passed (n + 1) es rest (All-tail IsWritten e es h) fewer)
+    ∙ (numbered_passed (decimal n) _ more (decimal_digits n small) (decimal_nonempty n small) part.line
+    ∙ lines_passed (n + 1) es rest (All-tail IsWritten e es h) fewer)
 
 -- no line of a journal's text begins with `j`
 pub none_in_lines : (es : List Entry) → AreWritten es → from_last_j true (lines_from 1 es) ≡ None
@@ -80,7 +84,8 @@ result_is_last es are =
     let none : from_last_j false ((codes "ournal " ++ (decimal n ++ 10 ∷ [])) ++ lines) ≡ None =
     along (codes "ournal ") ((decimal n ++ 10 ∷ []) ++ lines) refl
     ∙ (ap (from_last_j false) (append_assoc (decimal n) (10 ∷ []) lines)
-    ∙ (along (decimal n) (10 ∷ lines) digits.line ∙ (none_else (from_last_j true lines) ∙ lines_passed 1 es (codes "replay ok\n") are.0 (omega (arith, are.1))))) in
+    ∙ (along (decimal n) (10 ∷ lines) digits.line ∙ (none_else (from_last_j true lines)
+    ∙ lines_passed 1 es (codes "replay ok\n") are.0 (omega (arith, are.1))))) in
     ap (λ o. or_else o (Some (result_text es))) none
 
 -- whether a line starts behind these bytes
@@ -88,7 +93,8 @@ abbrev start_behind : Bool → List ℕ → Bool
 start_behind start [] = start
 start_behind start (c ∷ text) = start_behind (nat_eq c 10) text
 
-behind_front : (start : Bool) (front text result : List ℕ) → from_last_j (start_behind start front) text ≡ Some result → from_last_j start (front ++ text) ≡ Some result
+behind_front : (start : Bool) (front text result : List ℕ) → from_last_j (start_behind start front) text ≡ Some result →
+    from_last_j start (front ++ text) ≡ Some result
 behind_front start [] text result h = h
 behind_front start (c ∷ front) text result h =
     ap (λ o. or_else o (if start && nat_eq c 106 then Some (c ∷ (front ++ text)) else None)) (behind_front (nat_eq c 10) front text result h)
@@ -113,7 +119,8 @@ are_lines (c ∷ text) h = inr (last_byte true c text h)
 abbrev IsBehind : Bool → List ℕ → List ℕ → Type 0
 IsBehind start text result = (front : List ℕ) × (start_behind start front ≡ true) × (text ≡ front ++ result)
 
-found_here : (start : Bool) (c : ℕ) (text result : List ℕ) → (b : Bool) → (start && nat_eq c 106) ≡ b → (if b then Some (c ∷ text) else None) ≡ Some result → IsBehind start (c ∷ text) result
+found_here : (start : Bool) (c : ℕ) (text result : List ℕ) → (b : Bool) → (start && nat_eq c 106) ≡ b →
+    (if b then Some (c ∷ text) else None) ≡ Some result → IsBehind start (c ∷ text) result
 found_here start c text result true e h = ([], (and_parts start (nat_eq c 106) e).0, inside (c ∷ text) result h)
 found_here start c text result false e h = never_some result h
 
@@ -139,7 +146,8 @@ tells_last : (text : List ℕ) (es : List Entry) → AreWritten es → Tells tex
 tells_last text es are (inl is) = inl (ap (from_last_j true) is ∙ none_in_lines es are, is)
 tells_last text es are (inr told) =
     inr (ap (from_last_j true) told.2
-    ∙ behind_front true told.0 (result_text es) (result_text es) (ap (λ b. from_last_j b (result_text es)) (starts_behind_lines told.0 told.1) ∙ result_is_last es are))
+    ∙ behind_front true told.0 (result_text es) (result_text es)
+    (ap (λ b. from_last_j b (result_text es)) (starts_behind_lines told.0 told.1) ∙ result_is_last es are))
 
 pub some_told : (text result : List ℕ) (es : List Entry) → AreWritten es → Tells text es → from_last_j true text ≡ Some result → result ≡ result_text es
 some_told text result es are tells h =
@@ -150,25 +158,31 @@ none_told text es are tells h = ⊎_elim (λ none. none.1) (λ is. never_some (r
 
 -- What is read of the text from its last such line on, and of a text that has none: the entries that the text tells.
 module _ {X E : Type 0} (r : Result (Option X) E) (items : X → List Entry) (text : List ℕ) where
-  pub some_reads : (last : List ℕ) → from_last_j true text ≡ Some last → IfOk r (λ read. IfSome read (λ x. AreWritten (items x) × (last ≡ result_text (items x)))) →
+  pub some_reads : (last : List ℕ) → from_last_j true text ≡ Some last →
+      IfOk r (λ read. IfSome read (λ x. AreWritten (items x) × (last ≡ result_text (items x)))) →
       IfOk r (λ read. IfSome read (λ x. AreWritten (items x) × Tells text (items x)))
   some_reads last h k =
-      IfOk-weaker r (λ read. IfSome read (λ x. AreWritten (items x) × (last ≡ result_text (items x)))) (λ read. IfSome read (λ x. AreWritten (items x) × Tells text (items x)))
+      IfOk-weaker r (λ read. IfSome read (λ x. AreWritten (items x) × (last ≡ result_text (items x))))
+      (λ read. IfSome read (λ x. AreWritten (items x) × Tells text (items x)))
       (λ read are. IfSome_then read are (λ x is. (is.0, tells_result text last (items x) h is.1))) k
 
-  pub some_whole : (last : List ℕ) → from_last_j true text ≡ Some last → IfOk r (λ read. (es : List Entry) → AreWritten es → last ≡ result_text es → option_map items read ≡ Some es) →
+  pub some_whole : (last : List ℕ) → from_last_j true text ≡ Some last →
+      IfOk r (λ read. (es : List Entry) → AreWritten es → last ≡ result_text es → option_map items read ≡ Some es) →
       IfOk r (λ read. (es : List Entry) → AreWritten es → Tells text es → option_map items read ≡ Some es)
   some_whole last h k =
       IfOk-weaker r (λ read. (es : List Entry) → AreWritten es → last ≡ result_text es → option_map items read ≡ Some es)
       (λ read. (es : List Entry) → AreWritten es → Tells text es → option_map items read ≡ Some es)
       (λ read whole es are tells. whole es are (some_told text last es are tells h)) k
 
-  pub none_reads : IfOk r (λ read. IfSome read (λ x. AreWritten (items x) × (text ≡ lines_from 1 (items x)))) → IfOk r (λ read. IfSome read (λ x. AreWritten (items x) × Tells text (items x)))
+  pub none_reads : IfOk r (λ read. IfSome read (λ x. AreWritten (items x) × (text ≡ lines_from 1 (items x)))) →
+      IfOk r (λ read. IfSome read (λ x. AreWritten (items x) × Tells text (items x)))
   none_reads k =
-      IfOk-weaker r (λ read. IfSome read (λ x. AreWritten (items x) × (text ≡ lines_from 1 (items x)))) (λ read. IfSome read (λ x. AreWritten (items x) × Tells text (items x)))
+      IfOk-weaker r (λ read. IfSome read (λ x. AreWritten (items x) × (text ≡ lines_from 1 (items x))))
+      (λ read. IfSome read (λ x. AreWritten (items x) × Tells text (items x)))
       (λ read are. IfSome_then read are (λ x is. (is.0, inl is.1))) k
 
-  pub none_whole : from_last_j true text ≡ None → IfOk r (λ read. (es : List Entry) → AreWritten es → text ≡ lines_from 1 es → option_map items read ≡ Some es) →
+  pub none_whole : from_last_j true text ≡ None → IfOk r (λ read. (es : List Entry) → AreWritten es → text ≡ lines_from 1 es →
+      option_map items read ≡ Some es) →
       IfOk r (λ read. (es : List Entry) → AreWritten es → Tells text es → option_map items read ≡ Some es)
   none_whole h k =
       IfOk-weaker r (λ read. (es : List Entry) → AreWritten es → text ≡ lines_from 1 es → option_map items read ≡ Some es)
@@ -184,11 +198,13 @@ result_read text es are is =
     let small : n < 2 ^ 64 = omega (arith, are.1) in
     let lines = lines_from 1 es ++ codes "replay ok\n" in
     let front = codes "journal " ++ decimal n in
-    let part : IsPart 10 front = both_parts 10 (codes "journal ") (decimal n) (words_part 10 (codes "journal ") refl refl) (digits_part 10 (decimal n) refl (decimal_digits n small)) in
+    let part : IsPart 10 front = both_parts 10 (codes "journal ") (decimal n) (words_part 10 (codes "journal ") refl refl)
+    (digits_part 10 (decimal n) refl (decimal_digits n small)) in
     let split : text ≡ front ++ 10 ∷ lines = is ∙ ap (λ l. codes "journal " ++ l) (append_assoc (decimal n) (10 ∷ []) lines) in
     (ap first_line split ∙ first_taken front lines part, ap behind_line split ∙ after_end 10 front lines part)
 
-pub result_made : (text lines : List ℕ) (es : List Entry) → first_line text ≡ head (length es) → behind_line text ≡ lines ++ codes "replay ok\n" → lines ≡ lines_from 1 es → text ≡ result_text es
+pub result_made : (text lines : List ℕ) (es : List Entry) → first_line text ≡ head (length es) → behind_line text ≡ lines ++ codes "replay ok\n" →
+    lines ≡ lines_from 1 es → text ≡ result_text es
 result_made text lines es first behind is =
     sym (take-append-drop (length_to 10 Outside text + 1) text)
     ∙ (ap (λ l. l ++ behind_line text) first ∙ (ap (λ l. head (length es) ++ l) behind ∙ ap (λ l. head (length es) ++ (l ++ codes "replay ok\n")) is))

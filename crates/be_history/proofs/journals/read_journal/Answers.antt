@@ -25,9 +25,12 @@ loop-rest-preserved c =
       number = omega (arith, i.number, long);
       short = omega (arith, i.short, shorter, long);
       written = subst (λ (es : List Entry). All IsWritten es) (sym pushed) (All-push IsWritten read entry i.written is.0);
-      reads = ap (λ l. lines_from 1 c.push.new.self.items ++ l) c.first_line.ensures.rest ∙ lines_read text rest read c.push.new.self.items entry i.reads line pushed;
-      left = less_lines_left text rest c.first_line.result.1.now read c.push.new.self.items entry (omega (arith, i.number, c.loop-rest.auto.number-fits)) some i.left
-          (λ e w same. inside entry e (sym c.in-Some.is ∙ c.in_ok-entry.ensures.whole e w (c.first_line.ensures.line ∙ (same ∙ ap (λ n. entry_line n e) (sym i.number)))))
+      reads = ap (λ l. lines_from 1 c.push.new.self.items ++ l) c.first_line.ensures.rest
+          ∙ lines_read text rest read c.push.new.self.items entry i.reads line pushed;
+      left = less_lines_left text rest c.first_line.result.1.now read c.push.new.self.items entry (omega (arith, i.number, c.loop-rest.auto.number-fits))
+          some i.left
+          (λ e w same. inside entry e (sym c.in-Some.is ∙ c.in_ok-entry.ensures.whole e w (c.first_line.ensures.line ∙ (same
+          ∙ ap (λ n. entry_line n e) (sym i.number)))))
           pushed c.first_line.ensures.rest;
     }
 
@@ -39,7 +42,8 @@ returns-in_default-clause-whole c = λ entries are is.
     let some : 1 ≤ length rest = grind (arith, nat_tests, c.loop-rest-test.true, c.is_empty.ensures) in
     let small : 1 + length read < 2 ^ 64 = omega (arith, i.number, c.loop-rest.auto.number-fits) in
     let first = first_line_left c.args.text.now rest read small some i.left entries are is in
-    let line : c.first_line.result.0.now ≡ entry_line c.loop-rest.number first.0 = c.first_line.ensures.line ∙ (first.2 ∙ ap (λ n. entry_line n first.0) (sym i.number)) in
+    let line : c.first_line.result.0.now ≡ entry_line c.loop-rest.number first.0 = c.first_line.ensures.line
+    ∙ (first.2 ∙ ap (λ n. entry_line n first.0) (sym i.number)) in
     never_some first.0 (sym c.in_default.is ∙ c.in_ok-entry.ensures.whole first.0 first.1 line)
 
 pub returns-clause-whole : goal.returns-clause-whole

@@ -9,7 +9,8 @@ use Rattle.be_history.proofs.ReadLemmas.{IsLeft, all_left, done_long, less_left,
 use Rattle.be_history.proofs.lists.read_dones.Goals as goal
 
 pub loop-rest-init : goal.loop-rest-init
-loop-rest-init c = subst (λ (read : List Done). IsLeft CanBeDone done_text c.args.text.now read c.args.text.now) (sym c.new-dones.ensures.items) (all_left CanBeDone done_text c.args.text.now)
+loop-rest-init c = subst (λ (read : List Done). IsLeft CanBeDone done_text c.args.text.now read c.args.text.now) (sym c.new-dones.ensures.items)
+    (all_left CanBeDone done_text c.args.text.now)
 
 pub loop-rest-preserved : goal.loop-rest-preserved
 loop-rest-preserved c =

@@ -8,7 +8,8 @@ loop-byte-init c = record { is = sym (zero-add _); within = zero-add _ }
 pub returns-then-is_end-clause-is : goal.returns-then-is_end-clause-is
 returns-then-is_end-clause-is c =
     let i = c.loop-byte.invariant in
-    let none : length_to c.args.end c.loop-byte.quoting c.loop-byte.rest.now ≡ 0 = rw c.in-Some.ensures.cases.0 (rw (sym c.is_end.ensures ∙ c.if-is_end.true) refl) in
+    let none : length_to c.args.end c.loop-byte.quoting c.loop-byte.rest.now ≡ 0 =
+    rw c.in-Some.ensures.cases.0 (rw (sym c.is_end.ensures ∙ c.if-is_end.true) refl) in
     let sum : c.loop-byte.count + 0 ≡ c.loop-byte.count = omega arith in
     sym (i.is ∙ (ap (λ n. c.loop-byte.count + n) none ∙ sum))
 

@@ -7,7 +7,8 @@ use Rattle.be_history.proofs.TellLemmas.{one_front, result_made, result_read}
 use Rattle.be_history.proofs.told.read_result.Goals as goal
 
 pub returns-in_default-clause-whole : goal.returns-in_default-clause-whole
-returns-in_default-clause-whole c = λ es are is. absurd (c.in_default.ensures (lines_from 1 es) (c.first_line.ensures.rest ∙ (result_read c.args.text.now es are is).1))
+returns-in_default-clause-whole c = λ es are is. absurd (c.in_default.ensures (lines_from 1 es) (c.first_line.ensures.rest
+    ∙ (result_read c.args.text.now es are is).1))
 
 pub returns-in_default-2-clause-whole : goal.returns-in_default-2-clause-whole
 returns-in_default-2-clause-whole c = λ es are is.
@@ -20,7 +21,8 @@ returns-then-branch-clause-reads c =
     let read = rw c.in-Some-2.is at c.in_ok-entries.ensures.reads in
     let count : c.len.result ≡ length c.in-Some-2.entries.items = omega (arith, c.len.ensures, c.in-Some-2.entries.ok.0) in (
       read.0,
-      result_made c.args.text.now c.in-Some.lines.now c.in-Some-2.entries.items (sym c.first_line.ensures.line ∙ (c.in_ok-is_head.ensures.0 c.if-branch.true ∙ ap head count))
+      result_made c.args.text.now c.in-Some.lines.now c.in-Some-2.entries.items
+          (sym c.first_line.ensures.line ∙ (c.in_ok-is_head.ensures.0 c.if-branch.true ∙ ap head count))
           (sym c.first_line.ensures.rest ∙ c.in-Some.ensures) read.1,
     )
 
