@@ -149,9 +149,14 @@ entry_written limit front entry agrees room =
 entries_made : (limit : ℕ) (front rest : List Entry) → All IsWritten rest → IsLegal (front ++ rest) → length (front ++ rest) ≤ limit →
     Outputs (opening (made limit front)) (lines_of (dump rest)) (opening (made limit (front ++ rest))) (dump_output (length front + 1) rest)
 entries_made limit front [] are legal short =
-    let s = opening (made limit front) in
-    (s, [], [], (none, subst (λ (q : Request). Serves s q none s) (sym nothing_asked) (serves_at_once s s silent none refl), refl),
-    (ap (λ (es : List Entry). opening (made limit es)) (append-nil front), refl), refl)
+    let s = opening (made limit front) in (
+      s,
+      [],
+      [],
+      (none, subst (λ (q : Request). Serves s q none s) (sym nothing_asked) (serves_at_once s s silent none refl), refl),
+      (ap (λ (es : List Entry). opening (made limit es)) (append-nil front), refl),
+      refl,
+    )
 entries_made limit front (entry ∷ rest) are legal short =
     let w = All-head IsWritten entry rest are in
     let old = made limit front in
