@@ -1,4 +1,5 @@
 use Rattle.std.proofs.Common.{inl, inr, subst}
+use Rattle.be_serving.proofs.RunLemmas.{always_err}
 use Rattle.be_shell.specs.Conversation.{Event}
 use Rattle.be_shell.proofs.terminals.TerminalPeer.hear.Goals as goal
 
@@ -11,4 +12,4 @@ pub returns-clause-heard : goal.returns-clause-heard
 returns-clause-heard g c = inl c.in_ok-heard.ensures.heard
 
 pub returns-in_err-heard-clause-deaf : goal.returns-in_err-heard-clause-deaf
-returns-in_err-heard-clause-deaf g c = inl c.in_err-heard.ensures.deaf
+returns-in_err-heard-clause-deaf g c = always_err c.from_residual.result (inl c.in_err-heard.ensures.deaf)
