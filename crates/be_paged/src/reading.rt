@@ -1,9 +1,10 @@
 //! Reading a volume from its version page.
-ghost use Rattle.std.specs.Prelude.{◌≡◌, Ok};
+ghost use Rattle.std.specs.Prelude.{◌≡◌, IsOk, IfErr, Ok};
 ghost use Rattle.be_pages.specs.Pages.{IsUnchanged};
 ghost use Rattle.be_tree.specs.Tree.{IsTree, pairs};
 ghost use Rattle.be_volume.specs.Maps.{Nodes as AllNodes};
 ghost use Rattle.be_value.specs.Refusal.{Answers};
+ghost use Rattle.be_value.specs.declared.refusals.Refusal.TheVariants.{OutOfMemory};
 ghost use Rattle.be_volume.specs.Reading.{attribute, attributes_at, index_kinds};
 ghost use Rattle.be_volume.specs.Volume.{State};
 ghost use Rattle.be_paged.specs.Catalog.{IsCatalog, value_at};
@@ -16,7 +17,7 @@ use crate::entries::kinds;
 use crate::version::{Version, fill_version};
 use arrayvec::ArrayVec;
 use be_pages::Look;
-use be_tree::{find, has_key};
+use be_tree::{find_into, has_key};
 use be_value::{Kind, Name, Refusal, Value};
 use std::alloc::Global;
 
@@ -27,7 +28,10 @@ pub(crate) fn value_in<L: Look>(look: &mut L, catalog: u64, node: u64, name: &Na
     ensures unchanged { IsUnchanged L.kept L.standing L.words look.old look.new }
 {
     let key = catalog_key(node, name);
-    let payload = find(look, catalog, &key)?;
+    let mut payload = ArrayVec::new();
+    if !find_into(look, catalog, &key, &mut payload) {
+        return None;
+    }
     read_payload(&payload)
 }
 
@@ -41,8 +45,8 @@ pub fn get<L: Look>(look: &mut L, version_page: u64, node: u64, name: &Name) -> 
     value_in(look, catalog, node, name)
 }
 
-/// The attributes of a node, by ascending bytes of their names. It is refused with 2 where the node isn't there, and with 10. It walks over the
-/// node's pairs in the catalog's tree.
+/// The attributes of a node, by ascending bytes of their names. It is refused with NoNode where the node isn't
+/// there, and with OutOfMemory only where it is. It walks over the node's pairs in the catalog's tree.
 pub fn attrs<L: Look>(
     alloc: Global,
     look: &mut L,
@@ -52,6 +56,8 @@ pub fn attrs<L: Look>(
     requires version { (volume : State) × IsVersion (L.standing look.old) (L.words look.old) version_page volume }
     ensures answer { (volume : State) → IsVersion (L.standing look.old) (L.words look.old) version_page volume →
         Answers (λ list. list.items) result (attributes_at volume node) }
+    ensures wanted { (volume : State) → IsVersion (L.standing look.old) (L.words look.old) version_page volume →
+        IfErr result (λ e. e ≡ OutOfMemory → IsOk (attributes_at volume node)) }
     ensures unchanged { IsUnchanged L.kept L.standing L.words look.old look.new }
 {
     let catalog = look.word(version_page, 3);
@@ -61,7 +67,8 @@ pub fn attrs<L: Look>(
     Ok(list_attributes(alloc, look, catalog, node)?)
 }
 
-/// The names and kinds of the indices, by ascending bytes of the names; refused with 10 alone. It reads the version page and no other.
+/// The names and kinds of the indices, by ascending bytes of the names; refused with OutOfMemory alone. It reads the version
+/// page and no other.
 pub fn indices<L: Look>(
     alloc: Global,
     look: &mut L,

@@ -7,6 +7,7 @@ pub mod Fronts
 pub mod Integers
 pub mod Listed
 pub mod LongTexts
+pub mod Marked
 pub mod Parts
 pub mod Passing
 pub mod Prefixes

@@ -121,7 +121,7 @@ fn choose_in(
     match tree {
         Tree::Leaf(comparison) => {
             let indexed = is_listed(indices, &comparison.name);
-            choose_leaf(alloc, comparison, at, indexed)
+            Ok(choose_leaf(comparison, at, indexed))
         }
         Tree::And(a, b) => {
             let left = choose_in(alloc, a, at, indices)?;
@@ -136,7 +136,7 @@ fn choose_in(
             let end = right.end;
             match (left.cover, right.cover) {
                 (Some(left), Some(right)) => Ok(PartChoice {
-                    cover: Some(join(left, right)?),
+                    cover: Some(join(alloc, left, right)?),
                     end,
                 }),
                 _ => Ok(PartChoice { cover: None, end }),
@@ -164,7 +164,7 @@ fn choose_asking<S: Source>(
     match tree {
         Tree::Leaf(comparison) => {
             let indexed = source.kind_of(&comparison.name).is_some();
-            choose_leaf(alloc, comparison, at, indexed)
+            Ok(choose_leaf(comparison, at, indexed))
         }
         Tree::And(a, b) => {
             let left = choose_asking(alloc, a, at, source)?;
@@ -179,7 +179,7 @@ fn choose_asking<S: Source>(
             let end = right.end;
             match (left.cover, right.cover) {
                 (Some(left), Some(right)) => Ok(PartChoice {
-                    cover: Some(join(left, right)?),
+                    cover: Some(join(alloc, left, right)?),
                     end,
                 }),
                 _ => Ok(PartChoice { cover: None, end }),
@@ -188,34 +188,27 @@ fn choose_asking<S: Source>(
     }
 }
 
-/// The choice for a comparison at a place, if its name has an index.
-fn choose_leaf(
-    alloc: Global,
-    comparison: &Comparison,
-    at: usize,
-    indexed: bool,
-) -> Result<PartChoice, AllocError>
+/// The choice for a comparison at a place, if its name has an index. It takes no memory.
+fn choose_leaf(comparison: &Comparison, at: usize, indexed: bool) -> PartChoice
     requires { at < 256 }
-    ensures cover { IfOk result (λ c. c.cover ≡ if indexed
+    ensures cover { result.cover ≡ if indexed
         then Some (record { picks = at ∷ []; score = score_of comparison.now.op (literal comparison.now.literal) })
-        else None) }
-    ensures small { IfOk result (λ c. IfSome c.cover (λ cover. cover.score ≤ 5)) }
-    ensures end { IfOk result (λ c. c.end ≡ at + 1) }
+        else None }
+    ensures small { IfSome result.cover (λ cover. cover.score ≤ 5) }
+    ensures end { result.end ≡ at + 1 }
 {
     let end = at + 1;
     if !indexed {
-        return Ok(PartChoice { cover: None, end });
+        return PartChoice { cover: None, end };
     }
-    let mut places = Vec::new(alloc);
-    places.push(at)?;
     let cover = Cover {
-        picks: Picks::new(places),
+        picks: Picks::one(at),
         score: score_of(comparison),
     };
-    Ok(PartChoice {
+    PartChoice {
         cover: Some(cover),
         end,
-    })
+    }
 }
 
 /// The one with the smaller score, the left one at a tie.
@@ -234,11 +227,11 @@ fn cheaper(left: Option<Cover>, right: Option<Cover>) -> Option<Cover>
 }
 
 /// The picks of both.
-fn join(left: Cover, right: Cover) -> Result<Cover, AllocError>
+fn join(alloc: Global, left: Cover, right: Cover) -> Result<Cover, AllocError>
     requires { left.score + right.score ≤ 1280 }
     ensures { IfOk result (λ c. c ≡ record { picks = left.picks ++ right.picks; score = left.score + right.score }) }
 {
-    let mut places = left.picks.into_vec();
+    let mut places = left.picks.into_vec(alloc)?;
     places.extend_from_slice(right.picks.as_slice())?;
     Ok(Cover {
         picks: Picks::new(places),

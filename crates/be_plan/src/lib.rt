@@ -18,6 +18,7 @@ mod plain;
 mod plans;
 mod ranges;
 mod running;
+mod sorting;
 mod source;
 mod spine;
 mod walks;

@@ -1,20 +1,30 @@
 //! What a query is answered from.
-ghost use Rattle.std.specs.Prelude.{◌≡◌};
+ghost use Rattle.std.specs.Prelude.{◌≡◌, ◌∷◌, [], IfOk};
 
+use std::alloc::{AllocError, Global};
 use std::marker::Model;
+use std::slice::from_ref;
+
+/// Where places lie: one alone, from which most queries are answered, in the value itself, and more in a list.
+#[derive(Drop)]
+enum Places {
+    One(usize),
+    Many(Vec<usize>),
+}
 
 /// Places of comparisons, counted from 0 from left to right over the whole query. A contract sees their list.
 #[derive(Drop)]
 pub struct Picks {
-    places: Vec<usize>,
+    places: Places,
 }
 
 impl Model for Picks {
     ghost use Rattle.std.specs.Prelude.{ℕ, List};
+    ghost use Rattle.be_plan.specs.Picked.{places_of};
 
     ghost Value = { List ℕ };
 
-    ghost view = { λ p. p.places.items };
+    ghost view = { λ p. places_of p.places };
 }
 
 impl Picks {
@@ -22,22 +32,43 @@ impl Picks {
     pub fn new(places: Vec<usize>) -> Picks
         ensures { result ≡ places.items }
     {
-        Picks { places }
+        Picks {
+            places: Places::Many(places),
+        }
+    }
+
+    /// This place alone, without memory.
+    pub fn one(place: usize) -> Picks
+        ensures { result ≡ place ∷ [] }
+    {
+        Picks {
+            places: Places::One(place),
+        }
     }
 
     /// The places.
     pub fn as_slice(&self) -> &[usize]
         ensures { result.now ≡ self.now }
     {
-        self.places.as_slice()
+        match &self.places {
+            Places::One(place) => from_ref(place),
+            Places::Many(places) => places.as_slice(),
+        }
     }
 
-    /// The places given back, without memory.
-    pub fn into_vec(self) -> Vec<usize>
-        ensures { result.items ≡ self }
+    /// The places in a list, without memory but for one that was alone.
+    pub fn into_vec(self, alloc: Global) -> Result<Vec<usize>, AllocError>
+        ensures { IfOk result (λ places. places.items ≡ self) }
     {
         let Picks { places } = self;
-        places
+        match places {
+            Places::One(place) => {
+                let mut list = Vec::new(alloc);
+                list.push(place)?;
+                Ok(list)
+            }
+            Places::Many(list) => Ok(list),
+        }
     }
 }
 

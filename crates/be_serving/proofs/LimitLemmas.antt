@@ -1,11 +1,16 @@
 -- Which faults come of limits out of their ranges.
-use Rattle.std.proofs.Common.{◌≡◌, ℕ, List, inl, inr, subst, arith}
+use Rattle.std.proofs.Common.{◌≡◌, ℕ, List, inl, inr, ap, ◌∙◌, subst, arith}
 use Rattle.std.specs.Prelude.{◌↔◌, Result, Ok, Err, IfErr}
 use Rattle.std.specs.declared.option.Option.{Option}
 use Rattle.be_value.specs.declared.refusals.Refusal.{Refusal}
 use Rattle.be_value.specs.declared.refusals.Refusal.TheVariants.{OutOfMemory}
 use Rattle.be_table.specs.declared.limits.Limits.{Limits as StoreLimits}
-use Rattle.be_table.specs.Rule.{AreBad, IsWithin}
+use Rattle.be_store.specs.Passes.{IsPassOf}
+use Rattle.be_table.specs.Place.{Opened, SeatFacts}
+use Rattle.be_table.specs.Rule.{AreBad, IsWithin, entries}
+use Rattle.be_table.specs.Steps.{IsPass}
+use Rattle.be_table.specs.Versions.{CanSpellEach}
+use Rattle.be_table.specs.declared.pass.Knowledge.{Knowledge}
 use Rattle.be_table.specs.Works.{IsUnopened}
 use Rattle.be_serving.specs.Race.{Stops}
 use Rattle.be_serving.specs.Run.{IsLate}
@@ -44,3 +49,14 @@ late_stops (Err Read) old new late = absurd late
 late_stops (Err TooLong) old new late = absurd late
 late_stops (Err Write) old new late = tt
 late_stops (Err Memory) old new late = tt
+
+-- as many pages as the store has can spell each volume that a pass of it has seen
+seen_spelt : (pages : ℕ) (store : Opened) (pass : SeatFacts) (a : Knowledge) → IsPassOf store pass → store.limits.pages ≡ pages → pass.knows ≡ a → IsPass pass.knows → CanSpellEach pages (entries a.seen)
+seen_spelt pages store pass a of_store is same h =
+    subst (λ (k : Knowledge). CanSpellEach pages (entries k.seen)) same
+    (subst (λ n. CanSpellEach n (entries pass.knows.seen)) (ap (λ (l : StoreLimits). l.pages) of_store.0.2 ∙ is) h.volumes)
+
+-- the same of a pass that a server of the store gives back
+pub served_spelt : (pages : ℕ) (store kept : Opened) (pass : SeatFacts) (a : Knowledge) → kept ≡ store → IsPassOf kept pass → store.limits.pages ≡ pages → pass.knows ≡ a → IsPass pass.knows →
+    CanSpellEach pages (entries a.seen)
+served_spelt pages store kept pass a same of_kept is knows h = seen_spelt pages store pass a (subst (λ (s : Opened). IsPassOf s pass) same of_kept) is knows h

@@ -10,12 +10,14 @@ use Rattle.std.specs.declared.result.Result.TheVariants.{Ok, Err}
 use Rattle.be_value.specs.declared.refusals.Refusal.TheVariants.{OutOfMemory}
 use Rattle.be_serving.specs.declared.faults.RunFault.{RunFault}
 use Rattle.be_serving.specs.declared.faults.RunFault.TheVariants.{Limits, Read, TooLong, Write, Memory}
-use Rattle.be_serving.specs.Store.{Store}
+use Rattle.be_serving.specs.Store.{Store, start}
 use Rattle.be_language.specs.Request.{Request, silent, malformed, write, query, explain, get, attrs, indices, pin, unpin, live, refresh, begin, commit, abort, asked, lines_of}
 use Rattle.be_language.specs.Reply.{Reply, none, refused, text_of}
-use Rattle.be_serving.specs.Output.{Session, Replies, Serves, Answered, Outputs, IsOutputTo, IsOutputFrom, IsFrontOfOutput, unwritten, opening, pinning}
+use Rattle.be_serving.specs.Output.{Session, Replies, Serves, Answered, Outputs, IsOutputTo, IsFrontOfOutput, unwritten, opening, pinning}
 use Rattle.be_serving.proofs.ReplyLemmas.{serves_at_once}
-use Rattle.be_serving.specs.Run.{Wrote, IsFrontOf, IsFrontOfAnswer, Completes, Leaves, ReadFault, ReadsAll, IsLate, IsOther, is_line_end}
+use Rattle.be_table.specs.Versions.{CanSpellEach}
+use Rattle.be_table.specs.declared.limits.Limits.{Limits as StoreLimits}
+use Rattle.be_serving.specs.Run.{Wrote, IsRun, IsFrontOf, IsFrontOfAnswer, Completes, Leaves, ReadFault, ReadsAll, IsLate, IsOther, is_line_end}
 
 append_nothing : {A : Type 0} (xs : List A) → xs ++ [] ≡ xs
 append_nothing [] = refl
@@ -222,9 +224,18 @@ left_late Write store input left old new bytes l h w = all_read input left bytes
 left_late Memory store input left old new bytes l h w = all_read input left bytes (λ script. Wrote old new (IsFrontOfOutput store script)) h w
 
 pub whole_output : (store store' : Store) (input left old new : Option (List ℕ)) (bytes : List ℕ) → ReadsAll input left bytes → Wrote old new (IsOutputTo store bytes store') →
-    IfSome input (λ script. Wrote old new (IsOutputFrom store script))
-whole_output store store' input left old new bytes h w =
-    all_read input left bytes (λ script. Wrote old new (IsOutputFrom store script)) h (record { out = w.out; appended = w.appended; is = (store', w.is) })
+    IfSome input (λ script. Wrote old new (IsOutputTo store script store'))
+whole_output store store' input left old new bytes h w = all_read input left bytes (λ script. Wrote old new (IsOutputTo store script store')) h w
+
+-- an output that leaves a store whose volumes the pages can spell is that of a run
+pub run_output : (limits : StoreLimits) (input old new : Option (List ℕ)) (first last : Store) → first ≡ start limits.commits → CanSpellEach limits.pages last.journal →
+    IfSome input (λ script. Wrote old new (IsOutputTo first script last)) → IfSome input (λ script. Wrote old new (IsRun limits script))
+run_output limits None old new first last is volumes w = tt
+run_output limits (Some script) old new first last is volumes w = record {
+  out = w.out;
+  appended = w.appended;
+  is = record { last = last; output = subst (λ (s : Store). IsOutputTo s script last w.out) is w.is; volumes = volumes };
+}
 
 pub late_is_other : (e : RunFault) → IsLate e → IsOther e
 late_is_other Limits h = absurd h

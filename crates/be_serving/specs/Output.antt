@@ -19,7 +19,7 @@ use Rattle.be_volume.specs.declared.ops.Done.TheVariants.{Node, Unit as Nothing}
 use Rattle.be_volume.specs.declared.ops.Op.{Op}
 use Rattle.be_language.specs.Reply.{Reply, none, bad_line, ok, node, nodes, value, attributes, kinds, cover, pinned_at, already_pinned, not_pinned, updates, no_live_query, queued, full_batch, empty_batch, already_begun, not_begun, committed, refused, text_of}
 use Rattle.be_language.specs.Request.{Request, silent, malformed, write, query, explain, get, attrs, indices, pin, unpin, live, refresh, begin, commit, abort, asked, lines_of}
-use Rattle.be_serving.specs.Store.{Pin, Store, Meanwhile, IsLeastOf, IsOther, start, viewed, pinned, unpinned, written}
+use Rattle.be_serving.specs.Store.{Pin, Store, Meanwhile, IsLeastOf, IsOther, viewed, pinned, unpinned, written}
 
 -- a script under way: its store, the operations of its batch where one is open, and its live query where it has one
 pub record Session : Type 0 where
@@ -208,10 +208,6 @@ IsOutputTo store script new out = (last : Session) × Outputs (opening store) (l
 -- the text is an output of the script, run from this store on
 abbrev pub IsOutputFrom : Store → List ℕ → List ℕ → Type 0
 IsOutputFrom store script out = (new : Store) × IsOutputTo store script new out
-
--- the text is an output of the script, run from an empty store with this commits limit on
-abbrev pub IsOutput : ℕ → List ℕ → List ℕ → Type 0
-IsOutput limit script out = IsOutputFrom (start limit) script out
 
 -- the text is the front of one
 abbrev pub IsFrontOfOutput : Store → List ℕ → List ℕ → Type 0

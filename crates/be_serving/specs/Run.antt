@@ -2,9 +2,11 @@
 use Rattle.std.specs.Prelude.{◌==◌, ◌≡◌, ℕ, ◌<◌, ◌≤◌, ◌^◌, Bool, List, ◌++◌, length, IfSome}
 use Rattle.std.specs.Io.KnownBytes.{Appends, Keeps, Consumes, IsAtEnd}
 use Rattle.std.specs.declared.option.Option.{Option}
-use Rattle.be_serving.specs.Output.{Session, opening, Answered, Outputs, IsFrontOfOutput}
+use Rattle.be_serving.specs.Output.{Session, opening, Answered, Outputs, IsOutputTo, IsFrontOfOutput}
 use Rattle.be_language.specs.Request.{lines_of}
-use Rattle.be_serving.specs.Store.{Store}
+use Rattle.be_table.specs.Versions.{CanSpellEach}
+use Rattle.be_table.specs.declared.limits.Limits.{Limits as StoreLimits}
+use Rattle.be_serving.specs.Store.{Store, start}
 use Rattle.be_serving.specs.declared.faults.RunFault.{RunFault}
 use Rattle.be_serving.specs.declared.faults.RunFault.TheVariants.{Limits, Read, TooLong, Write, Memory}
 
@@ -13,6 +15,13 @@ pub record Wrote (old new : Option (List ℕ)) (P : List ℕ → Type 0) : Type 
   pub out : List ℕ
   pub appended : Appends old new out
   pub is : P out
+
+-- What a run writes: an output of the script, from an empty store of one pass on. After each of its writes the volume is one
+-- that as many pages as the limits say can spell.
+pub record IsRun (limits : StoreLimits) (script out : List ℕ) : Type 0 where
+  pub last : Store
+  pub output : IsOutputTo (start limits.commits) script last out
+  pub volumes : CanSpellEach limits.pages last.journal
 
 -- a front of the bytes
 abbrev pub IsFrontOf : List ℕ → List ℕ → Type 0

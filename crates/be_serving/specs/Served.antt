@@ -1,13 +1,16 @@
 -- What a pass of a store shows a script, by what it knows.
-use Rattle.std.specs.Prelude.{ℕ, take}
+use Rattle.std.specs.Prelude.{ℕ, List, take}
 use Rattle.std.specs.Option.{option_map}
 use Rattle.be_journal.specs.Journal.{replay}
 use Rattle.be_table.specs.declared.pass.Knowledge.{Knowledge}
 use Rattle.be_table.specs.Place.{Opened}
 use Rattle.be_table.specs.Rule.{entries}
 use Rattle.be_table.specs.Seats.{pinned_number}
+use Rattle.be_store.specs.History.{IsLastReason}
 use Rattle.be_store.specs.Passes.{volume_seen}
 use Rattle.be_serving.specs.Store.{Pin, Store}
+use Rattle.be_value.specs.declared.refusals.Refusal.{Refusal}
+use Rattle.be_volume.specs.declared.ops.Op.{Op}
 
 -- a store, and what one of its passes knows
 pub record Seated : Type 0 where
@@ -32,3 +35,8 @@ known a = record {
   pass = a.number;
   pin = option_map (pin_at a) (pinned_number a.phase);
 }
+
+-- Why a server's write is refused: by Busy after 10,000,000 tries, each of which found a pass holding the lock, and the last one the pass that Busy
+-- names; else as the store refuses it.
+abbrev pub IsRefusedBy : Knowledge → List Op → Refusal → Knowledge → Type 0
+IsRefusedBy a ops e c = IsLastReason 10000000 a c ops e

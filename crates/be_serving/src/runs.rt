@@ -96,7 +96,7 @@ fn split_line(script: &[u8]) -> Option<(&[u8], &[u8])>
 
 /// Runs the lines of a script in turn, each between two calls of the gate, which are told the pass's number and the line's.
 /// What follows the last LF is a line only where it isn't empty.
-fn run_lines<S: Server, G: Gate, W: Write>(
+pub(crate) fn run_lines<S: Server, G: Gate, W: Write>(
     alloc: Global,
     server: &mut S,
     pass: u64,
@@ -188,7 +188,7 @@ pub(crate) fn read_script<R: Read>(alloc: Global, reader: &mut R) -> Result<Vec<
 }
 
 /// Runs a script on what serves it. Where the reader's bytes and the writer's are known, what is written is an output of
-/// the script from there on.
+/// the script from there on, and leaves what then serves.
 pub fn serve<S: Server, R: Read, W: Write>(
     alloc: Global,
     server: &mut S,
@@ -196,7 +196,8 @@ pub fn serve<S: Server, R: Read, W: Write>(
     writer: &mut W,
 ) -> Result<(), RunFault>
     ensures output { OnOk result (IfSome (R.remaining reader.old) (λ script.
-        spec.Wrote (W.contents writer.old) (W.contents writer.new) (outputs.IsOutputFrom (S.shows server.old) script))) }
+        spec.Wrote (W.contents writer.old) (W.contents writer.new) (outputs.IsOutputTo (S.shows server.old) script (S.shows server.new)))) }
+    ensures stays { S.kept server.new ≡ S.kept server.old }
     ensures fault { IfErr result (λ e. spec.Leaves e (S.shows server.old) (R.remaining reader.old) (W.contents writer.old) (W.contents writer.new)) }
     ensures fits { OnOk result (IfSome (R.remaining reader.old) (λ script. length script ≤ 2 ^ 20)) }
     ensures taken { IfErr result (λ e. spec.HasReadScript e (R.remaining reader.old) (R.remaining reader.new)) }
@@ -225,7 +226,7 @@ pub fn run<R: Read, W: Write>(
     ensures limits { (result ≡ Err RunFault.Limits) ↔ AreBad limits }
     ensures unread { result ≡ Err RunFault.Limits → reader.new ≡ reader.old }
     ensures output { OnOk result (IfSome (R.remaining reader.old) (λ script.
-        spec.Wrote (W.contents writer.old) (W.contents writer.new) (outputs.IsOutput limits.commits script))) }
+        spec.Wrote (W.contents writer.old) (W.contents writer.new) (spec.IsRun limits script))) }
     ensures fits { OnOk result (IfSome (R.remaining reader.old) (λ script. length script ≤ 2 ^ 20)) }
     ensures fault { IfErr result (λ e. spec.Leaves e (start limits.commits) (R.remaining reader.old) (W.contents writer.old) (W.contents writer.new)) }
     ensures taken { IfErr result (λ e. spec.HasReadScript e (R.remaining reader.old) (R.remaining reader.new)) }
@@ -237,5 +238,8 @@ pub fn run<R: Read, W: Write>(
         return Err(RunFault::Memory);
     };
     let mut server = PassServer::new(alloc, &store, pass);
-    serve(alloc, &mut server, reader, writer)
+    let ran = serve(alloc, &mut server, reader, writer);
+    let pass = server.into_pass();
+    pass.is_pass();
+    ran
 }

@@ -4,11 +4,13 @@
 //! journal, the volume that it stands for, the limit on its entries, and the pinned version. Other passes may write
 //! between two calls, and a call is answered from the store as they left it. What runs scripts is proved over that trait,
 //! so it holds for whatever serves. [`PassServer`] is a shared store with one of its passes.
-ghost use Rattle.std.specs.Prelude.{◌≡◌, ◌≤◌, ◌<◌, ◌^◌, Ok, None, IsSome, is_some, true, length, IfOk, IfErr, MatchResult, if◌then◌else◌};
+ghost use Rattle.std.specs.Prelude.{◌≡◌, ◌≤◌, ◌<◌, ◌^◌, List, Ok, None, IsSome, is_some, true, length, IfOk, IfErr, MatchResult, if◌then◌else◌};
 ghost use Rattle.be_store.specs.History.{IsLastReason};
 ghost use Rattle.be_store.specs.Passes.{IsPassOf};
 ghost use Rattle.be_value.specs.Refusal.{Answers};
 ghost use Rattle.be_value.specs.declared.refusals.Refusal.TheVariants.{OutOfMemory};
+ghost use Rattle.be_value.specs.declared.refusals.Refusal.{Refusal as AnyRefusal};
+ghost use Rattle.be_volume.specs.declared.ops.Op.{Op as AnyOp};
 ghost use Rattle.be_volume.specs.Query.{scan};
 ghost use Rattle.be_volume.specs.Reading.{attribute, attributes_at, index_kinds};
 ghost use Rattle.be_table.specs.Rule.{IsWithin};
@@ -36,13 +38,17 @@ pub trait Server {
 
     ghost shows: { Self → Store };
 
-    /// Writes operations, all or none: the number of the commit, and an answer for each. It is refused by 1 where another
-    /// pass is writing, else by 2 to 8, then 9, then 10, then 11. A pin stays.
+    /// Why operations are refused, by what becomes of the server.
+    ghost refuses: { Self → List AnyOp → AnyRefusal → Self → Type 0 };
+
+    /// Writes operations, all or none: the number of the commit, and an answer for each. It is refused by Busy where another
+    /// pass is writing, else by what the volume says, then CommitsSpent, then OutOfMemory, then Full. A pin stays.
     fn apply(&mut self, ops: &[Op]) -> Result<(u64, ArrayVec<Done, 64>), Refusal>
         requires some { 1 ≤ length ops.now }
         requires few { length ops.now ≤ 64 }
         ensures stays { kept self.new ≡ kept self.old }
-        ensures writes { Meanwhile (shows self.old) (λ store. MayWrite (λ dones. dones.items) store ops.now result (shows self.new)) };
+        ensures writes { Meanwhile (shows self.old) (λ store. MayWrite (λ dones. dones.items) store ops.now result (shows self.new)) }
+        ensures reason { IfErr result (λ e. refuses self.old ops.now e self.new) };
 
     /// Whether a version is pinned.
     fn is_pinned(&self) -> bool
@@ -60,7 +66,7 @@ pub trait Server {
         ensures stays { kept self.new ≡ kept self.old }
         ensures unpins { shows self.new ≡ unpinned (shows self.old) };
 
-    /// The nodes of which a query is true, ascending; or 17 or 10.
+    /// The nodes of which a query is true, ascending; or NotCovered or OutOfMemory.
     fn query(&mut self, query: &Query) -> Result<Vec<u64>, Refusal>
         ensures stays { kept self.new ≡ kept self.old }
         ensures joins { Joins (shows self.old) (shows self.new) }
@@ -72,13 +78,13 @@ pub trait Server {
         ensures joins { Joins (shows self.old) (shows self.new) }
         ensures answer { result ≡ attribute (viewed (shows self.new)) node name.now };
 
-    /// The attributes of a node, by ascending names; or 2 or 10.
+    /// The attributes of a node, by ascending names; or NoNode or OutOfMemory.
     fn attrs(&mut self, node: u64) -> Result<Vec<(Name, Value)>, Refusal>
         ensures stays { kept self.new ≡ kept self.old }
         ensures joins { Joins (shows self.old) (shows self.new) }
         ensures answers { Answers (λ list. list.items) result (attributes_at (viewed (shows self.new)) node) };
 
-    /// The indices, by ascending names; or 10.
+    /// The indices, by ascending names; or OutOfMemory.
     fn indices(&mut self) -> Result<Vec<(Name, Kind)>, Refusal>
         ensures stays { kept self.new ≡ kept self.old }
         ensures joins { Joins (shows self.old) (shows self.new) }
@@ -90,6 +96,7 @@ pub trait Server {
 pub fn open_for_one(alloc: Global, limits: Limits) -> Result<(be_store::Store, Pass), Refusal>
     requires { IsWithin limits }
     ensures opened { IfOk result (λ r. IsPassOf r.0 r.1 × (known r.1.knows ≡ start limits.commits)) }
+    ensures pages { IfOk result (λ r. r.0.limits.pages ≡ limits.pages) }
     ensures refused { IfErr result (λ e. e ≡ OutOfMemory) }
 {
     let limits = Limits {
@@ -188,7 +195,7 @@ impl<'a> PassServer<'a> {
 
 impl<'a> Server for PassServer<'a> {
     ghost use Rattle.std.specs.Prelude.{ℕ};
-    ghost use Rattle.be_serving.specs.Served.{seat_of};
+    ghost use Rattle.be_serving.specs.Served.{IsRefusedBy, seat_of};
     ghost use Rattle.be_table.specs.Place.{Opened};
 
     ghost Kept = { Opened × ℕ };
@@ -196,6 +203,8 @@ impl<'a> Server for PassServer<'a> {
     ghost kept = { seat_of };
 
     ghost shows = { λ s. known s.knows };
+
+    ghost refuses = { λ s ops e t. IsRefusedBy s.knows ops e t.knows };
 
     fn apply(&mut self, ops: &[Op]) -> Result<(u64, ArrayVec<Done, 64>), Refusal> {
         apply_at_last(self.store, &mut self.pass, ops)

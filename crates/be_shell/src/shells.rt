@@ -4,6 +4,7 @@ ghost use Rattle.be_serving.specs.Output.{Session, opening};
 ghost use Rattle.be_serving.specs.Store.{start};
 ghost use Rattle.be_shell.specs.Conversation as spec;
 ghost use Rattle.be_table.specs.Rule.{AreBad};
+ghost use Rattle.be_table.specs.Versions.{CanSpellEach};
 
 use crate::conversations::converse;
 use crate::peers::Peer;
@@ -23,7 +24,8 @@ pub fn shell<F: Peer, P: Peer>(
 ) -> Result<(), RunFault>
     ensures limits { (result ≡ Err RunFault.Limits) ↔ AreBad limits }
     ensures talked { OnOk result ((mid : Session) × (last : Session)
-        × spec.TalkedTo F.does (opening (start limits.commits)) first.old mid first.new × spec.TalkedTo P.does mid peer.old last peer.new) }
+        × spec.TalkedTo F.does (opening (start limits.commits)) first.old mid first.new × spec.TalkedTo P.does mid peer.old last peer.new
+        × CanSpellEach limits.pages last.store.journal) }
     ensures fault { IfErr result (λ e. spec.Stops F.does P.does e (opening (start limits.commits)) first.old first.new peer.old peer.new) }
 {
     if !limits.are_within() {
@@ -36,5 +38,7 @@ pub fn shell<F: Peer, P: Peer>(
     let mut client = Client::new();
     converse(alloc, &mut server, &mut client, first)?;
     converse(alloc, &mut server, &mut client, peer)?;
+    let pass = server.into_pass();
+    pass.is_pass();
     Ok(())
 }

@@ -10,6 +10,7 @@ ghost use Rattle.be_store.specs.Passes.{IsPassOf, volume_pinned, volume_seen};
 ghost use Rattle.be_table.specs.History.{AllBelow};
 ghost use Rattle.be_table.specs.Rule.{entries};
 ghost use Rattle.be_table.specs.Steps.{IsPass};
+ghost use Rattle.be_table.specs.Versions.{CanSpellEach};
 ghost use Rattle.be_table.specs.declared.pass.Knowledge.{Knowledge};
 ghost use Rattle.be_value.specs.declared.refusals.Refusal.{Refusal};
 ghost use Rattle.be_volume.specs.declared.ops.Done.{Done};
@@ -18,7 +19,7 @@ ghost use Rattle.be_volume.specs.declared.ops.Op.{Op};
 use crate::{Pass, Store};
 
 /// What a pass has seen is a legal journal, of entries by passes of the store, and its own writes are just the entries
-/// by its number.
+/// by its number. The store's pages can spell the volume after each entry.
 pub fn seen_is_legal(store: &Store, pass: &Pass)
     requires { IsPassOf store.now pass.now }
     ensures pass { IsPass pass.now.knows }
@@ -27,6 +28,7 @@ pub fn seen_is_legal(store: &Store, pass: &Pass)
     ensures mine { by_pass pass.now.knows.number (entries pass.now.knows.seen) ≡ pass.now.knows.mine }
     ensures number { pass.now.knows.number < store.now.limits.passes }
     ensures room { length pass.now.knows.seen ≤ store.now.limits.commits }
+    ensures volumes { CanSpellEach store.now.limits.pages (entries pass.now.knows.seen) }
 {
     pass.is_pass();
 }

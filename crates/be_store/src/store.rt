@@ -1,7 +1,7 @@
 //! The store, and the calls of its passes.
-ghost use Rattle.std.specs.Prelude.{◌≡◌, ◌≤◌, ◌<◌, ℕ, None, Some, Ok, MatchResult, IfOk, IfErr, length, map};
+ghost use Rattle.std.specs.Prelude.{◌≡◌, ◌≤◌, ◌<◌, ℕ, [], None, Some, Ok, MatchResult, IsOk, IfOk, IfErr, OnErr, length, map, string_bytes};
 ghost use Rattle.be_store.specs.Passes.{IsPassOf, IsPinnedTo, HasRead, volume_pinned};
-ghost use Rattle.be_store.specs.History.{Accepts, Learns, IsReason, IsLastReason, Pins};
+ghost use Rattle.be_store.specs.History.{Accepts, Learns, IsReason, IsLastReason, IsUntold, Pins, text_seen};
 
 use crate::answers::Answer;
 use crate::asking::ask;
@@ -40,9 +40,11 @@ impl Store {
     ghost use Rattle.be_table.specs.Reading.{pinned_standing, word_in};
     ghost use Rattle.be_table.specs.Rule.{IsWithin};
     ghost use Rattle.be_table.specs.Seats.{pinned_number};
-    ghost use Rattle.be_table.specs.Steps.{Has, Keeps, longer, met, unpins};
+    ghost use Rattle.be_table.specs.Steps.{Has, KeepsSeen, longer, met, unpins};
+    ghost use Rattle.be_table.specs.Versions.{CanSpellEach};
     ghost use Rattle.be_table.specs.Works.{AllAt, AreNew, IsUnopened, knows_of};
     ghost use Rattle.be_value.specs.Refusal.{Answers};
+    ghost use Rattle.be_value.specs.declared.refusals.Refusal.TheVariants.{OutOfMemory};
     ghost use Rattle.be_volume.specs.Query.{scan};
     ghost use Rattle.be_volume.specs.Reading.{attribute, attributes_at, index_kinds};
 
@@ -59,20 +61,30 @@ impl Store {
         Ok((Store { table }, passes))
     }
 
-    /// Writes 1 to 64 operations, all or none. Answers the journal's length with this write, and an answer for each
-    /// operation. A pin stays.
+    /// Writes 1 to 64 operations, all or none. Answers the journal's length with this write, and puts an answer for each
+    /// operation in the place of what a list had. A pin stays.
     ///
-    /// Busy where the call's one try finds another pass holding the lock: it may be made again. Else a refusal of 2 to 8
-    /// as the volume gives it; else CommitsSpent where the journal is at its limit, OutOfMemory where its entry found no
-    /// memory, and Full where no page is free. What a refused write did is undone. It costs new pages on the way to each
-    /// change, and where none is free, or many wait for it, a look at each announcement and at the pages that this frees.
-    pub fn apply(&self, pass: &mut Pass, ops: &[Op]) -> Result<(u64, ArrayVec<Done, 64>), Refusal>
+    /// Busy where the call's one try finds another pass holding the lock: it may be made again. Else a refusal from NoNode
+    /// to NotIndexable as the volume gives it; else CommitsSpent where the journal is at its limit, OutOfMemory where its
+    /// entry found no memory, and Full where no page is free. What a refused write did is undone, and the list is empty. It
+    /// costs new pages on the way to each change, and where none is free, or many wait for it, a look at each announcement
+    /// and at the pages that this frees.
+    ///
+    /// The list is filled where it stands, since one that is given by value costs its whole capacity at each move.
+    pub fn apply_into(
+        &self,
+        pass: &mut Pass,
+        ops: &[Op],
+        dones: &mut ArrayVec<Done, 64>,
+    ) -> Result<u64, Refusal>
         requires pass { IsPassOf self.now pass.old }
         requires count { (1 ≤ length ops.now) × (length ops.now ≤ 64) }
         ensures pass { IsPassOf self.now pass.new }
-        ensures accepted { IfOk result (λ r. Accepts pass.old.knows pass.new.knows ops.now r.0 r.1.items) }
+        ensures accepted { IfOk result (λ n. Accepts pass.old.knows pass.new.knows ops.now n dones.new.items) }
         ensures refused { IfErr result (λ e. Learns pass.old.knows pass.new.knows × IsReason pass.old.knows pass.new.knows ops.now e) }
+        ensures empty { OnErr result (dones.new.items ≡ []) }
     {
+        dones.clear();
         let mut writing = match self.table.lock(pass.move_out()) {
             Ok(writing) => writing,
             Err((seat, refusal)) => {
@@ -80,11 +92,28 @@ impl Store {
                 return Err(refusal);
             }
         };
-        let mut dones = ArrayVec::new();
-        let answer = write(&mut writing, ops, &mut dones);
+        let answer = write(&mut writing, ops, dones);
         *pass = writing.unlock();
         pass.is_pass();
         match answer {
+            Ok(number) => Ok(number),
+            Err(refusal) => {
+                dones.clear();
+                Err(refusal)
+            }
+        }
+    }
+
+    /// The same, with the answers in a list of their own.
+    pub fn apply(&self, pass: &mut Pass, ops: &[Op]) -> Result<(u64, ArrayVec<Done, 64>), Refusal>
+        requires pass { IsPassOf self.now pass.old }
+        requires count { (1 ≤ length ops.now) × (length ops.now ≤ 64) }
+        ensures pass { IsPassOf self.now pass.new }
+        ensures accepted { IfOk result (λ r. Accepts pass.old.knows pass.new.knows ops.now r.0 r.1.items) }
+        ensures refused { IfErr result (λ e. Learns pass.old.knows pass.new.knows × IsReason pass.old.knows pass.new.knows ops.now e) }
+    {
+        let mut dones = ArrayVec::new();
+        match self.apply_into(pass, ops, &mut dones) {
             Ok(number) => Ok((number, dones)),
             Err(refusal) => Err(refusal),
         }
@@ -181,7 +210,7 @@ impl Store {
     }
 
     /// A node's attributes in the pinned version, by ascending bytes of their names. NoNode where the node isn't there,
-    /// and OutOfMemory.
+    /// and OutOfMemory only where it is.
     pub fn attrs(
         &self,
         alloc: Global,
@@ -192,6 +221,7 @@ impl Store {
         requires pinned { (n : ℕ) × IsPinnedTo pass.old.knows n }
         ensures pass { IsPassOf self.now pass.new × HasRead pass.old.knows pass.new.knows }
         ensures list { Answers (λ list. list.items) result (attributes_at (volume_pinned pass.old.knows) node) }
+        ensures wanted { IfErr result (λ e. e ≡ OutOfMemory → IsOk (attributes_at (volume_pinned pass.old.knows) node)) }
     {
         let (mut look, page) = self.reader(pass);
         let list = attrs(alloc, &mut look, page, node);
@@ -211,6 +241,33 @@ impl Store {
         let list = indices(alloc, &mut look, page);
         *pass = look.into_seat();
         list
+    }
+
+    /// The journal's text up to now, as `Journal::text` has it, while passes are in use. A pin stays.
+    ///
+    /// Busy where the call's one try finds another pass holding the lock, and OutOfMemory. The lock is held while the text is
+    /// made, so other passes' writes are answered Busy meanwhile.
+    pub fn journal_text(&self, pass: &mut Pass) -> Result<String, Refusal>
+        requires pass { IsPassOf self.now pass.old }
+        ensures pass { IsPassOf self.now pass.new }
+        ensures learns { Learns pass.old.knows pass.new.knows }
+        ensures text { IfOk result (λ text. string_bytes text ≡ text_seen pass.new.knows) }
+        ensures err { IfErr result (λ e. IsUntold pass.old.knows pass.new.knows e) }
+    {
+        let held = match self.table.lock(pass.move_out()) {
+            Ok(writing) => writing,
+            Err((seat, refusal)) => {
+                *pass = seat;
+                return Err(refusal);
+            }
+        };
+        let answer = held.journal_text();
+        *pass = held.unlock();
+        pass.is_pass();
+        match answer {
+            Ok(text) => Ok(text),
+            Err(_) => Err(Refusal::OutOfMemory),
+        }
     }
 
     /// Two passes tell each other what they have seen: both have then seen what either had, of two beginnings of one
@@ -236,7 +293,8 @@ impl Store {
         requires all { (k : ℕ) → k < self.limits.passes → Has (map knows_of passes.items) k }
         ensures legal { IsLegal result.entries }
         ensures by { AllBelow self.limits.passes result.entries }
-        ensures passes { Keeps result.entries (map knows_of passes.items) }
+        ensures passes { KeepsSeen result.entries (map knows_of passes.items) }
+        ensures volumes { CanSpellEach self.limits.pages result.entries }
     {
         let Store { table } = self;
         table.close(passes)

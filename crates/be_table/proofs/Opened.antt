@@ -19,9 +19,9 @@ use Rattle.be_pages.specs.declared.page_pool.Place.TheVariants.{Free, Reserved, 
 use Rattle.be_table.specs.declared.pass.Knowledge.{Knowledge}
 use Rattle.be_table.specs.Steps.{IsPass, Unreached}
 use Rattle.be_pages.specs.Place.{is_in_hand, place_of, swept_place}
-use Rattle.be_table.specs.Ledger.{is_taken, is_free}
+use Rattle.be_table.specs.Ledger.{shows_taken, shows_free}
 
-pub may_fill : (x : Place) → IsTrue (is_in_hand x) → IsTrue (is_taken x || is_free x)
+pub may_fill : (x : Place) → IsTrue (is_in_hand x) → IsTrue (shows_taken x || shows_free x)
 may_fill Free h = refl
 may_fill Reserved h = refl
 may_fill Filled h = refl
@@ -29,7 +29,7 @@ may_fill Current h = h
 may_fill GivenUp h = h
 may_fill (Retired r) h = h
 
-in_hand_of : (x : Place) → IsTrue (is_free x || is_taken x) → x ≢ Free → IsTrue (is_in_hand x)
+in_hand_of : (x : Place) → IsTrue (shows_free x || shows_taken x) → x ≢ Free → IsTrue (is_in_hand x)
 in_hand_of Free h ne = absurd (ne refl)
 in_hand_of Reserved h ne = refl
 in_hand_of Filled h ne = refl
@@ -61,7 +61,7 @@ all_held old new least h none p lp un =
 
 -- what a write does to the pages leaves the rest of what is so of the pass
 pub going_pass : (a : Knowledge) (scanned least : ℕ) (places : List Place) (words held : List ℕ) (steps : ℕ) → IsPass a → IsPass (record a { scanned = scanned; least = least; places = places; words = words; held = held; steps = steps })
-going_pass a scanned least places words held steps h = record { within = h.within; legal = h.legal; number_below = h.number_below; by_passes = h.by_passes; room = h.room; inside = h.inside; own_pages = h.own_pages; pin = h.pin; mine = h.mine; spelt = h.spelt }
+going_pass a scanned least places words held steps h = record { within = h.within; legal = h.legal; number_below = h.number_below; by_passes = h.by_passes; room = h.room; inside = h.inside; own_pages = h.own_pages; volumes = h.volumes; pin = h.pin; mine = h.mine; spelt = h.spelt }
 
 -- the journal in hand is as long as what the pass has seen
 pub seen_length : (log : List Commit) → length (entries log) ≡ length log

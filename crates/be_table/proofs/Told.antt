@@ -11,17 +11,17 @@ use Rattle.be_table.proofs.Frames.{Me1}
 
 -- the phase changes
 pub phased : (a : Knowledge) (q : Phase) (steps : ℕ) → IsPass a → InTime (length a.seen) q → ((x n : ℕ) → q ≡ Pinned x n → ⊥) → IsPass (record a { phase = q; steps = steps })
-phased a q steps h t none = record { within = h.within; legal = h.legal; number_below = h.number_below; by_passes = h.by_passes; room = h.room; inside = h.inside; own_pages = h.own_pages; pin = t; mine = h.mine; spelt = λ x n e. absurd (none x n e) }
+phased a q steps h t none = record { within = h.within; legal = h.legal; number_below = h.number_below; by_passes = h.by_passes; room = h.room; inside = h.inside; own_pages = h.own_pages; volumes = h.volumes; pin = t; mine = h.mine; spelt = λ x n e. absurd (none x n e) }
 
 -- steps are counted, or the lock is found held, or it is given back
 pub stepped_pass : (a : Knowledge) (steps : ℕ) → IsPass a → IsPass (record a { steps = steps })
-stepped_pass a steps h = record { within = h.within; legal = h.legal; number_below = h.number_below; by_passes = h.by_passes; room = h.room; inside = h.inside; own_pages = h.own_pages; pin = h.pin; mine = h.mine; spelt = h.spelt }
+stepped_pass a steps h = record { within = h.within; legal = h.legal; number_below = h.number_below; by_passes = h.by_passes; room = h.room; inside = h.inside; own_pages = h.own_pages; volumes = h.volumes; pin = h.pin; mine = h.mine; spelt = h.spelt }
 
 pub late_pass : (a : Knowledge) (n : ℕ) → IsPass a → IsPass (finds_held a n)
-late_pass a n h = record { within = h.within; legal = h.legal; number_below = h.number_below; by_passes = h.by_passes; room = h.room; inside = h.inside; own_pages = h.own_pages; pin = h.pin; mine = h.mine; spelt = h.spelt }
+late_pass a n h = record { within = h.within; legal = h.legal; number_below = h.number_below; by_passes = h.by_passes; room = h.room; inside = h.inside; own_pages = h.own_pages; volumes = h.volumes; pin = h.pin; mine = h.mine; spelt = h.spelt }
 
 pub left_pass : (a : Knowledge) → IsPass a → IsPass (leaves a)
-left_pass a h = record { within = h.within; legal = h.legal; number_below = h.number_below; by_passes = h.by_passes; room = h.room; inside = h.inside; own_pages = h.own_pages; pin = h.pin; mine = h.mine; spelt = h.spelt }
+left_pass a h = record { within = h.within; legal = h.legal; number_below = h.number_below; by_passes = h.by_passes; room = h.room; inside = h.inside; own_pages = h.own_pages; volumes = h.volumes; pin = h.pin; mine = h.mine; spelt = h.spelt }
 
 -- the seat has one pass, of which this is known
 pub told_as : (c : Knowledge) (r : Me1) (number seen : ℕ) → pass_of r.0 ≡ c → IsTold c number seen → IsTold (pass_of r.0) number seen

@@ -1,11 +1,13 @@
 -- The volume that a version of the table spells.
-use Rattle.std.specs.Prelude.{◌≡◌, ℕ, Bool, true, false, nat_lt, if◌then◌else◌, List}
+use Rattle.std.specs.Prelude.{◌≡◌, ℕ, suc, ◌<◌, Bool, true, false, nat_lt, if◌then◌else◌, List, length, take, IsTrue}
 use Rattle.be_core.specs.Machine.{has, bit}
 use Rattle.be_pages.specs.declared.room.Standing.{Standing}
 use Rattle.be_pages.specs.declared.room.Standing.TheVariants.{Free as Nowhere, Old}
 use Rattle.be_pages.specs.Pages.{times}
 use Rattle.be_paged.specs.Page.{reach}
 use Rattle.be_paged.specs.Version.{IsVersion}
+use Rattle.be_journal.specs.Journal.{replay}
+use Rattle.be_journal.specs.declared.entries.Entry.{Entry}
 use Rattle.be_volume.specs.Volume.{State}
 
 -- when a write begins: a page of the current version, and any other
@@ -21,3 +23,15 @@ in_pages words q i = if nat_lt i 512 then words q i else 0
 pub record SpellsVolume (pages : List ℕ) (words : ℕ → ℕ → ℕ) (page : ℕ) (volume : State) : Type 0 where
   pub version : IsVersion (λ q. at_start (has pages q)) words page volume
   pub exact : (q : ℕ) → times q (reach words page) ≡ bit (has pages q)
+
+-- So many pages can spell the volume: some of them do, with some words, 512 each.
+pub record CanSpell (pages : ℕ) (volume : State) : Type 0 where
+  pub used : List ℕ
+  pub words : ℕ → ℕ → ℕ
+  pub page : ℕ
+  pub spelt : SpellsVolume used (in_pages words) page volume
+  pub inside : (p : ℕ) → IsTrue (has used p) → p < pages
+
+-- so many pages can spell the volume after each entry of the journal
+unfoldable pub CanSpellEach : ℕ → List Entry → Type 0
+CanSpellEach pages journal = (n : ℕ) → n < length journal → CanSpell pages (replay (take (suc n) journal))

@@ -26,7 +26,8 @@
 //! # What is proved
 //! Between any two steps one rule holds (`specs/Rule.antt`), in three parts: the words and the slot show a state of
 //! be_core's machine and the journal; the journal is legal, each version spells its volume, and the machine's invariant
-//! holds; what each pass knows is so. Each step keeps it, and is the event of the machine that `laws` names.
+//! holds; what each pass knows is so. Each step keeps it. That it is the event of the machine that `laws` names is seen in
+//! its proof, by the lemma that the law has too; no clause of a call names its event.
 #![tactic(auto)]
 
 mod deal;

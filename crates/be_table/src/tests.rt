@@ -345,7 +345,7 @@ fn for_three(alloc: Global) -> Result<(VersionTable, Seat, Seat, Seat), Refusal>
     Ok((table, first, second, third))
 }
 
-// Of three passes each is told which of the others holds the lock.
+/// Of three passes each is told which of the others holds the lock.
 #[test]
 fn busy_of_three(rt: HostRuntime) -> Result<(), Fail> {
     let (table, mut first, mut second, third) = for_three(rt.alloc())?;
@@ -368,7 +368,7 @@ fn busy_of_three(rt: HostRuntime) -> Result<(), Fail> {
     Ok(())
 }
 
-// While a pass holds the lock, another pins and reads: before the write is published, and after.
+/// While a pass holds the lock, another pins and reads: before the write is published, and after.
 #[test]
 fn reading_under_held_lock(rt: HostRuntime) -> Result<(), Fail> {
     let (table, first, mut second) = for_two(rt.alloc(), 64)?;
@@ -387,8 +387,8 @@ fn reading_under_held_lock(rt: HostRuntime) -> Result<(), Fail> {
     Ok(())
 }
 
-// A pinned version is the volume after the entries up to it, for the reader of pages and for queries, while a later
-// write changes it.
+/// A pinned version is the volume after the entries up to it, for the reader of pages and for queries, while a later
+/// write changes it.
 #[test]
 fn pinned_volume(rt: HostRuntime) -> Result<(), Fail> {
     let (table, first, mut second) = for_two(rt.alloc(), 64)?;
@@ -470,7 +470,7 @@ fn enter_until_due(table: &VersionTable, pass: &mut Seat) -> Result<u64, Refusal
     Err(Refusal::BadLimits)
 }
 
-// A scan is due once 256 pages are retired, and, where a pin keeps them, again once there are 256 more.
+/// A scan is due once 256 pages are retired, and, where a pin keeps them, again once there are 256 more.
 #[test]
 fn scan_due(rt: HostRuntime) -> Result<(), Fail> {
     let (table, mut first, mut second) = for_two(rt.alloc(), 1024)?;

@@ -60,7 +60,7 @@ fn put_beside<L: Look>(look: &mut L, page: u64, place: usize, pair: &Item) -> Ar
     ensures some { (0 < length result.items) × (length result.items ≤ 2) }
     ensures unchanged { IsUnchanged L.kept L.standing L.words look.old look.new }
 {
-    let item = Slot::At(page as u32, place as u16);
+    let item = Slot::At(place as u16, page as u32);
     let mut both = ArrayVec::new();
     match cmp_at(look, page, place, pair.key()) {
         Ordering::Less => {

@@ -16,8 +16,8 @@
 //! gives up each page of a tree.
 //!
 //! # What is proved
-//! Reading spells the list from the words (`specs/Tree.antt`). `find`, `range`, `Cursor`, `insert`, `remove` and `clear`
-//! are look-up, next pair, walk, put, removal and the empty list on it (`specs/Key.antt`, `specs/Range.antt`,
+//! Reading spells the list from the words (`specs/Tree.antt`). `find_into`, `range`, `Cursor`, `insert`, `remove` and
+//! `clear` are look-up, next pair, walk, put, removal and the empty list on it (`specs/Key.antt`, `specs/Range.antt`,
 //! `specs/Cursor.antt`). The pages of the old tree that the new one has not are given up, those that it has besides were
 //! taken, and no other page has changed; `laws` has what follows for the other trees of a room.
 #![tactic(auto)]
@@ -40,7 +40,7 @@ pub use clearing::clear;
 pub use cursor::Cursor;
 pub use edit::insert;
 pub use laws::{tree_beside, tree_kept, tree_replaced, tree_undone};
-pub use lookup::{find, has_key, is_key_at};
+pub use lookup::{find, find_into, has_key, is_key_at};
 pub use numbers::numbers_within;
 pub use removal::remove;
 pub use walk::{TreeItem, key_at, range};

@@ -3,7 +3,7 @@
 //! On each level the items of one page are asked one after the other, where they stand, up to the first whose key is
 //! greater. A page has 12 at most, mostly their first words decide, and a processor reads ahead along them, while the steps
 //! of a binary search wait for each other.
-ghost use Rattle.std.specs.Prelude.{◌≡◌, ◌+◌, ◌-◌, ◌<◌, ◌≤◌, length, map, slice_index, option_map, is_some, IfNone, IfSome, None, Some};
+ghost use Rattle.std.specs.Prelude.{◌≡◌, [], ◌+◌, ◌-◌, ◌<◌, ◌≤◌, true, false, length, map, slice_index, option_map, is_some, IfNone, IfSome, None, Some};
 ghost use Rattle.std.specs.Prelude.{IsTrue};
 ghost use Rattle.std.specs.Int.{to_be_bytes, w64};
 ghost use Rattle.std.specs.List.{range_with_len};
@@ -14,19 +14,45 @@ ghost use Rattle.be_tree.specs.Key.{IsRank, key_cmp, payload_at};
 ghost use Rattle.be_tree.specs.Tree.{IsTree, pairs};
 
 use crate::page::{HEADER_WORDS, ITEM_WORDS, child_at, cmp_at, word_from};
-use crate::walk::load_payload;
+use crate::walk::fill_payload;
 use arrayvec::ArrayVec;
 use be_pages::Look;
 use std::cmp::Ordering;
 
-/// The payload of a key. It costs one descent.
+/// Puts the payload of a key into an empty vector, and tells whether the tree has the key; where it hasn't, the vector stays
+/// empty. It is filled where it stands, since a vector that is given by value costs its whole capacity at each move. It costs
+/// one descent.
+pub fn find_into<L: Look>(
+    look: &mut L,
+    root: u64,
+    key: &[u8],
+    payload: &mut ArrayVec<u8, 328>,
+) -> bool
+    requires tree { IsTree (L.standing look.old) (L.words look.old) root }
+    requires empty { payload.old.items ≡ [] }
+    ensures found { result ≡ true → payload_at (pairs (L.words look.old) root) key.now ≡ Some payload.new.items }
+    ensures absent { result ≡ false → payload_at (pairs (L.words look.old) root) key.now ≡ None }
+    ensures empty { result ≡ false → payload.new.items ≡ [] }
+    ensures unchanged { IsUnchanged L.kept L.standing L.words look.old look.new }
+{
+    let Some((page, at)) = key_place(look, root, key) else {
+        return false;
+    };
+    fill_payload(look, page, at, payload);
+    true
+}
+
+/// The same, with the payload in a vector of its own.
 pub fn find<L: Look>(look: &mut L, root: u64, key: &[u8]) -> Option<ArrayVec<u8, 328>>
     requires tree { IsTree (L.standing look.old) (L.words look.old) root }
     ensures payload { option_map (λ payload. payload.items) result ≡ payload_at (pairs (L.words look.old) root) key.now }
     ensures unchanged { IsUnchanged L.kept L.standing L.words look.old look.new }
 {
-    let (page, at) = key_place(look, root, key)?;
-    Some(load_payload(look, page, at))
+    let mut payload = ArrayVec::new();
+    if !find_into(look, root, key, &mut payload) {
+        return None;
+    }
+    Some(payload)
 }
 
 /// Whether a key is in the tree. It costs one descent, and reads no payload.

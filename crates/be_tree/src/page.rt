@@ -5,7 +5,7 @@ ghost use Rattle.std.specs.Int.{from_be_bytes, to_be_bytes, w64};
 ghost use Rattle.be_pages.specs.Pages.{is_readable, is_taken, IsUnchanged, OnlyWrites, StandsAt};
 ghost use Rattle.be_pages.specs.declared.room.Standing.TheVariants.{Filled};
 ghost use Rattle.be_tree.specs.Page.{IsItem, IsPadded, IsPage, item_at, bytes_at, key_len, level_of, items_of, words_for};
-ghost use Rattle.be_tree.specs.Page.{place_of};
+ghost use Rattle.be_tree.specs.Page.{item_place};
 ghost use Rattle.std.specs.Prelude.{◌^◌, ◌⊎◌};
 ghost use Rattle.be_tree.specs.declared.slot.Slot.TheVariants.{At};
 ghost use Rattle.be_tree.specs.Slot.{IsBeside, IsReady, branch_to, pair_of, pairs_of};
@@ -287,7 +287,7 @@ fn store_slot<R: Room>(room: &mut R, page: u64, at: usize, slot: Slot, pair: &It
     ensures only { OnlyWrites R.kept R.standing R.words page at (at + 42) room.old room.new }
 {
     match slot {
-        Slot::At(from, place) => copy_item(room, page, at, from as u64, place as usize),
+        Slot::At(place, from) => copy_item(room, page, at, from as u64, place as usize),
         Slot::Branch(child) => store_branch(room, page, at, child as u64),
         Slot::New => store_item(room, page, at, pair),
     }
@@ -298,14 +298,14 @@ pub(crate) fn fill_slots<L: Look>(look: &mut L, page: u64, slots: &mut ArrayVec<
     requires readable { IsTrue (is_readable (L.standing look.old page)) }
     requires page { IsPage (L.words look.old page) }
     requires empty { slots.old.items ≡ [] }
-    ensures slots { slots.new.items ≡ map (λ j. At page (place_of j)) (range_with_len 0 (L.words look.old page 1)) }
+    ensures slots { slots.new.items ≡ map (λ j. At (item_place j) page) (range_with_len 0 (L.words look.old page 1)) }
     ensures len { length slots.new.items ≡ L.words look.old page 1 }
     ensures few { length slots.new.items ≤ 12 }
     ensures unchanged { IsUnchanged L.kept L.standing L.words look.old look.new }
 {
     let count = look.word(page, 1) as usize;
     for j in 0..count {
-        slots.push(Slot::At(page as u32, (HEADER_WORDS + ITEM_WORDS * j) as u16));
+        slots.push(Slot::At((HEADER_WORDS + ITEM_WORDS * j) as u16, page as u32));
     }
 }
 

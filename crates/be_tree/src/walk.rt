@@ -48,19 +48,6 @@ pub fn key_at<L: Look>(look: &mut L, page: u64, at: usize) -> ArrayVec<u8, 264>
     key
 }
 
-/// The payload at a place of a page.
-pub(crate) fn load_payload<L: Look>(look: &mut L, page: u64, at: usize) -> ArrayVec<u8, 328>
-    requires readable { IsTrue (is_readable (L.standing look.old page)) }
-    requires in_page { at + 42 ≤ 512 }
-    requires item { IsItem (L.words look.old page) at }
-    ensures payload { result.items ≡ (item_at (L.words look.old page) at).payload }
-    ensures unchanged { IsUnchanged L.kept L.standing L.words look.old look.new }
-{
-    let mut payload = ArrayVec::new();
-    fill_payload(look, page, at, &mut payload);
-    payload
-}
-
 /// Puts the key at a place of a page into an empty vector.
 pub(crate) fn fill_key<L: Look>(look: &mut L, page: u64, at: usize, key: &mut ArrayVec<u8, 264>)
     requires readable { IsTrue (is_readable (L.standing look.old page)) }

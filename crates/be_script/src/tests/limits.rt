@@ -166,7 +166,8 @@ fn commits_spent(rt: HostRuntime) -> Result<(), Fail> {
     check_bytes(&rt, rt.alloc(), script, replies, 2)
 }
 
-/// 1,048,576 bytes run, a byte more is too long, and each byte costs a read.
+/// 1,048,576 bytes run, a byte more is too long, and each byte costs a read. A read that fails behind the last byte that
+/// there may be is told, and one behind a byte more is never made.
 #[test]
 fn longest_script(rt: HostRuntime) -> Result<(), Fail> {
     let alloc = rt.alloc();
@@ -179,6 +180,12 @@ fn longest_script(rt: HostRuntime) -> Result<(), Fail> {
     assert_eq!(rt; (written, reads), (0, 1_048_577));
     let (result, written, reads) = dripped(alloc, &script[1..], false);
     assert!(rt; result.is_ok());
+    assert_eq!(rt; (written, reads), (0, 1_048_577));
+    let (result, written, reads) = dripped(alloc, &script[1..], true);
+    assert!(rt; matches!(result, Err(RunFault::Read)));
+    assert_eq!(rt; (written, reads), (0, 1_048_577));
+    let (result, written, reads) = dripped(alloc, &script, true);
+    assert!(rt; matches!(result, Err(RunFault::TooLong)));
     assert_eq!(rt; (written, reads), (0, 1_048_577));
     Ok(())
 }

@@ -106,6 +106,8 @@ impl Server for PlainStore {
 
     ghost shows = { λ s. s };
 
+    ghost refuses = { λ s ops e t. Unit {0} };
+
     fn apply(&mut self, ops: &[Op]) -> Result<(u64, ArrayVec<Done, 64>), Refusal> {
         self.write(ops)
     }

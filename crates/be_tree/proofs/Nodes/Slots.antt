@@ -13,7 +13,7 @@ use Rattle.be_pages.specs.Pages.{is_readable, is_kept, times, Swaps}
 use Rattle.be_tree.specs.declared.slot.Slot.{Slot}
 use Rattle.be_tree.specs.declared.slot.Slot.TheVariants.{At, Branch, New}
 use Rattle.be_tree.specs.Pair.{Pair}
-use Rattle.be_tree.specs.Page.{item_at, items_of, level_of, IsItem, IsPage, place_of}
+use Rattle.be_tree.specs.Page.{item_at, items_of, level_of, IsItem, IsPage, item_place}
 use Rattle.be_tree.specs.Tree.{child, IsBelow, IsNode, IsWritten}
 use Rattle.be_tree.proofs.Frame.{swaps_stands, swaps_same, readable_kept}
 use Rattle.be_tree.proofs.Shape.Below.{child_page}
@@ -22,14 +22,14 @@ use Rattle.be_tree.specs.Slot.{branch_to, pair_of, pairs_of, IsReady, IsBeside, 
 -- pages whose words and standings are the same serve alike
 pub ready_same : (page : ℕ) (s t : ℕ → Standing) (v w : ℕ → ℕ → ℕ) (slot : Slot) → ((q : ℕ) → q ≢ page → t q ≡ s q) → ((q : ℕ) → q ≢ page → w q ≡ v q)
     → IsBeside page slot → IsReady s v slot → IsReady t w slot
-ready_same page s t v w (At from at) stands words beside ready =
+ready_same page s t v w (At at from) stands words beside ready =
     (subst (λ u. IsTrue (is_readable u)) (sym (stands from beside)) ready.0, (ready.1.0, subst (λ u. IsItem u at) (sym (words from beside)) ready.1.1))
 ready_same page s t v w (Branch from) stands words beside ready =
     (subst (λ u. IsTrue (is_readable u)) (sym (stands from beside)) ready.0, (ready.1.0, subst (λ u. IsItem u 2) (sym (words from beside)) ready.1.1))
 ready_same page s t v w New stands words beside ready = tt
 
 pub pair_same : (page : ℕ) (v w : ℕ → ℕ → ℕ) (given : Pair) (slot : Slot) → ((q : ℕ) → q ≢ page → w q ≡ v q) → IsBeside page slot → pair_of w given slot ≡ pair_of v given slot
-pair_same page v w given (At from at) words beside = ap (λ u. item_at u at) (words from beside)
+pair_same page v w given (At at from) words beside = ap (λ u. item_at u at) (words from beside)
 pair_same page v w given (Branch from) words beside = ap (λ u. branch_of u from) (words from beside)
   where
     branch_of : (ℕ → ℕ) → ℕ → Pair
@@ -38,7 +38,7 @@ pair_same page v w given New words beside = refl
 
 -- a page that is free is none of a ready slot's
 pub beside_free : (page : ℕ) (s : ℕ → Standing) (v : ℕ → ℕ → ℕ) (slot : Slot) → s page ≡ Free → IsReady s v slot → IsBeside page slot
-beside_free page s v (At from at) free ready = λ e. false≢true (ap is_readable (sym free) ∙ ap (λ q. is_readable (s q)) (sym e) ∙ ready.0)
+beside_free page s v (At at from) free ready = λ e. false≢true (ap is_readable (sym free) ∙ ap (λ q. is_readable (s q)) (sym e) ∙ ready.0)
 beside_free page s v (Branch from) free ready = λ e. false≢true (ap is_readable (sym free) ∙ ap (λ q. is_readable (s q)) (sym e) ∙ ready.0)
 beside_free page s v New free ready = tt
 
@@ -56,11 +56,11 @@ stored_map f g slots n len same = subst (λ m. map g (range_with_len 0 m) ≡ ma
         ap2 p q = cc
 
 -- a page's item by its number
-pub item_get : (words : ℕ → ℕ) (j : ℕ) (d : Pair) → j < words 1 → get_or (items_of words) j d ≡ item_at words (place_of j)
-item_get words j d lt = get_or-map-range_with_len (λ (j : ℕ). item_at words (place_of j)) 0 (words 1) j j d lt (zero-add j)
+pub item_get : (words : ℕ → ℕ) (j : ℕ) (d : Pair) → j < words 1 → get_or (items_of words) j d ≡ item_at words (item_place j)
+item_get words j d lt = get_or-map-range_with_len (λ (j : ℕ). item_at words (item_place j)) 0 (words 1) j j d lt (zero-add j)
 
 pub items_count : (words : ℕ → ℕ) → length (items_of words) ≡ words 1
-items_count words = length-map-range_with_len (λ (j : ℕ). item_at words (place_of j)) 0 (words 1)
+items_count words = length-map-range_with_len (λ (j : ℕ). item_at words (item_place j)) 0 (words 1)
 
 -- a branch names its page
 pub child_branch : (w : ℕ → ℕ → ℕ) (page : ℕ) → page < 2 ^ 32 → child (branch_to w page) ≡ page
@@ -82,13 +82,13 @@ written_at level w items page small is_page at_level has some =
 
 -- the slot's page is none of these
 pub IsApart : List ℕ → Slot → Type 0
-IsApart pages (At page at) = times page pages ≡ 0
+IsApart pages (At at page) = times page pages ≡ 0
 IsApart pages (Branch page) = times page pages ≡ 0
 IsApart pages New = Unit {0}
 
 pub apart_nil : (slot : Slot) → IsApart [] slot
 unfolding IsApart
-apart_nil (At page at) = refl
+apart_nil (At at page) = refl
 apart_nil (Branch page) = refl
 apart_nil New = tt
 
@@ -109,13 +109,13 @@ module _ {S K : Type 0} (kept_of : S → K) (standing_of : S → ℕ → Standin
 
   pub ready_swaps : (slot : Slot) → IsApart before slot → IsReady (standing_of old) (words_of old) slot → IsReady (standing_of new) (words_of new) slot
   unfolding IsApart
-  ready_swaps (At page at) apart ready = page_ready page (λ w. (at + 42 ≤ 512) × IsItem w at) apart ready
+  ready_swaps (At at page) apart ready = page_ready page (λ w. (at + 42 ≤ 512) × IsItem w at) apart ready
   ready_swaps (Branch page) apart ready = page_ready page (λ w. (page < 2 ^ 32) × IsItem w 2) apart ready
   ready_swaps New apart ready = tt
 
   pub pair_swaps : (given : Pair) (slot : Slot) → IsApart before slot → IsReady (standing_of old) (words_of old) slot → pair_of (words_of new) given slot ≡ pair_of (words_of old) given slot
   unfolding IsApart
-  pair_swaps given (At page at) apart ready = ap (λ w. item_at w at) (swaps_same kept_of standing_of words_of before after old new swaps page apart ready.0)
+  pair_swaps given (At at page) apart ready = ap (λ w. item_at w at) (swaps_same kept_of standing_of words_of before after old new swaps page apart ready.0)
   pair_swaps given (Branch page) apart ready = ap (λ w. branch_of w page) (swaps_same kept_of standing_of words_of before after old new swaps page apart ready.0)
     where
       branch_of : (ℕ → ℕ) → ℕ → Pair
@@ -133,7 +133,7 @@ all_apart_nil slots = λ i d lt. apart_nil (get_or slots i d)
 
 -- branches with what stands below them can be read
 branch_ready : (level : ℕ) (s : ℕ → Standing) (w : ℕ → ℕ → ℕ) (given : Pair) (slot : Slot) → IsBranchSlot slot → IsNode level 6 (w (child (pair_of w given slot))) → IsTrue (is_kept (s (child (pair_of w given slot)))) → IsReady s w slot
-branch_ready level s w given (At page at) is node used = absurd is
+branch_ready level s w given (At at page) is node used = absurd is
 branch_ready level s w given (Branch page) is node used =
     let e = child_branch w page is in
     let here = subst (λ p. IsNode level 6 (w p)) e node in
@@ -150,15 +150,15 @@ branches_ready level s w given slots are below = λ i d lt.
 
 -- a page's items as slots
 pub loaded : ℕ → ℕ → List Slot
-loaded page n = map (λ j. At page (place_of j)) (range_with_len 0 n)
+loaded page n = map (λ j. At (item_place j) page) (range_with_len 0 n)
 
-pub loaded_pairs : (w : ℕ → ℕ → ℕ) (given : Pair) (page n : ℕ) → n ≡ w page 1 → pairs_of w given (map (λ j. At page (place_of j)) (range_with_len 0 n)) ≡ items_of (w page)
-loaded_pairs w given page n e = map-map (pair_of w given) (λ j. At page (place_of j)) (range_with_len 0 n) ∙ ap (λ m. map (λ j. item_at (w page) (place_of j)) (range_with_len 0 m)) e
+pub loaded_pairs : (w : ℕ → ℕ → ℕ) (given : Pair) (page n : ℕ) → n ≡ w page 1 → pairs_of w given (map (λ j. At (item_place j) page) (range_with_len 0 n)) ≡ items_of (w page)
+loaded_pairs w given page n e = map-map (pair_of w given) (λ j. At (item_place j) page) (range_with_len 0 n) ∙ ap (λ m. map (λ j. item_at (w page) (item_place j)) (range_with_len 0 m)) e
 
-pub loaded_ready : (s : ℕ → Standing) (w : ℕ → ℕ → ℕ) (page n : ℕ) → n ≡ w page 1 → IsTrue (is_readable (s page)) → IsPage (w page) → All (IsReady s w) (map (λ j. At page (place_of j)) (range_with_len 0 n))
+pub loaded_ready : (s : ℕ → Standing) (w : ℕ → ℕ → ℕ) (page n : ℕ) → n ≡ w page 1 → IsTrue (is_readable (s page)) → IsPage (w page) → All (IsReady s w) (map (λ j. At (item_place j) page) (range_with_len 0 n))
 loaded_ready s w page n e readable is_page = λ i d lt.
-    let len = length-map-range_with_len (λ j. At page (place_of j)) 0 n in
-    subst (IsReady s w) (sym (get_or-map-range_with_len (λ j. At page (place_of j)) 0 n i i d (omega (arith, lt, len)) (zero-add i)))
+    let len = length-map-range_with_len (λ j. At (item_place j) page) 0 n in
+    subst (IsReady s w) (sym (get_or-map-range_with_len (λ j. At (item_place j) page) 0 n i i d (omega (arith, lt, len)) (zero-add i)))
     (readable, (omega (arith, lt, len, e, is_page.few), is_page.each i (omega (arith, lt, len, e))))
 
 pub branch_same : (v w : ℕ → ℕ → ℕ) (page : ℕ) → w page ≡ v page → branch_to w page ≡ branch_to v page

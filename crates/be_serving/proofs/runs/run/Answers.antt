@@ -1,13 +1,12 @@
 use Rattle.std.proofs.Common.{ap, ◌∙◌, refl, rules, subst}
-use Rattle.std.specs.Prelude.{Err, OnOk, IfSome}
-use Rattle.be_serving.specs.Output.{IsOutputFrom}
-use Rattle.be_serving.specs.Run.{Wrote, IsOther}
+use Rattle.std.specs.Prelude.{Err, IfErr}
+use Rattle.be_serving.specs.Run.{IsOther, Leaves}
 use Rattle.be_serving.specs.Served.{known}
 use Rattle.be_serving.specs.Store.{Store, start}
 use Rattle.be_serving.specs.declared.faults.RunFault.TheVariants.{Limits, Memory}
-use Rattle.be_serving.proofs.LimitLemmas.{no_fault, not_by}
+use Rattle.be_serving.proofs.LimitLemmas.{no_fault, not_by, served_spelt}
 use Rattle.be_serving.proofs.ReadLemmas.{none_read}
-use Rattle.be_serving.proofs.RunLemmas.{none_answered_if}
+use Rattle.be_serving.proofs.RunLemmas.{none_answered_if, on_ok, run_output}
 use Rattle.be_serving.proofs.runs.run.Goals as goal
 
 pub returns-in_default-clause-fault : goal.returns-in_default-clause-fault
@@ -21,9 +20,18 @@ returns-in_default-clause-taken g c = none_read (g.R.Read.remaining c.args.reade
 
 pub returns-clause-output : goal.returns-clause-output
 returns-clause-output g c =
-    subst (λ (s : Store). OnOk c.serve.result (IfSome (g.R.Read.remaining c.args.reader.now) (λ script.
-    Wrote (g.W.Write.contents c.args.writer.now) (g.W.Write.contents c.serve.new.writer) (IsOutputFrom s script))))
-    (ap known c.new-server.ensures.1 ∙ c.in-Ok.ensures.opened.1) c.serve.ensures.output
+    on_ok c.serve-ran.result
+    (run_output c.args.limits (g.R.Read.remaining c.args.reader.now) (g.W.Write.contents c.args.writer.now) (g.W.Write.contents c.serve-ran.new.writer)
+    (known c.new-server.result.knows) (known c.serve-ran.new.server.knows) (ap known c.new-server.ensures.1 ∙ c.in-Ok.ensures.opened.1)
+    (served_spelt c.args.limits.pages c.in-Ok.store c.serve-ran.new.server.store c.into_pass-pass.result c.serve-ran.new.server.knows
+    (ap (λ s. s.0) c.serve-ran.ensures.stays ∙ c.new-server.ensures.0) c.into_pass-pass.ensures.0 c.in-Ok.ensures.pages c.into_pass-pass.ensures.1 c.is_pass.ensures))
+    c.serve-ran.ensures.output
+
+pub returns-clause-fault : goal.returns-clause-fault
+returns-clause-fault g c =
+    subst (λ (s : Store). IfErr c.serve-ran.result (λ e.
+    Leaves e s (g.R.Read.remaining c.args.reader.now) (g.W.Write.contents c.args.writer.now) (g.W.Write.contents c.serve-ran.new.writer)))
+    (ap known c.new-server.ensures.1 ∙ c.in-Ok.ensures.opened.1) c.serve-ran.ensures.fault
 
 pub open_for_one-requires : goal.open_for_one-requires
 open_for_one-requires g c = c.are_within.ensures.within (search rules)
@@ -35,4 +43,5 @@ pub returns-in_default-clause-limits : goal.returns-in_default-clause-limits
 returns-in_default-clause-limits g c = no_fault c.args.limits (Err Memory) (c.are_within.ensures.within (search rules)) (λ is. let e = is in cc)
 
 pub returns-clause-limits : goal.returns-clause-limits
-returns-clause-limits g c = no_fault c.args.limits c.serve.result (c.are_within.ensures.within (search rules)) (not_by c.serve.result IsOther Limits (λ never. never) c.serve.ensures.other)
+returns-clause-limits g c =
+    no_fault c.args.limits c.serve-ran.result (c.are_within.ensures.within (search rules)) (not_by c.serve-ran.result IsOther Limits (λ never. never) c.serve-ran.ensures.other)

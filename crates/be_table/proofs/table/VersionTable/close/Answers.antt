@@ -27,5 +27,8 @@ returns-clause-by c = (closed c).by_passes
 pub returns-clause-seats : goal.returns-clause-seats
 returns-clause-seats c = (closed c).keeps
 
+pub returns-clause-volumes : goal.returns-clause-volumes
+returns-clause-volumes c = (closed c).volumes
+
 pub load_new_seat-rest-requires : goal.load_new_seat-rest-requires
 load_new_seat-rest-requires c = (omega (arith, c.self.invariant.0), arrives _ _)
