@@ -19,6 +19,3 @@ pub use checks::{Finding, check};
 pub use dumps::dump;
 pub use journals::read_journal;
 pub use told::journal_told;
-
-#[cfg(test)]
-mod tests;

@@ -2,7 +2,7 @@ use Rattle.std.proofs.Common.{take}
 use Rattle.be_journal.specs.Journal.{replay}
 use Rattle.be_table.specs.Rule.{entries}
 use Rattle.be_table.proofs.Pins.{looked_version}
-use Rattle.be_table.proofs.tests.ask_source.Goals as goal
+use Rattle.be_table_tests.proofs.tests.ask_source.Goals as goal
 
 pub source-source-requires : goal.source-source-requires
 source-source-requires c =

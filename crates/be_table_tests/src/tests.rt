@@ -13,12 +13,12 @@ ghost use Rattle.be_table.specs.Reading.{open_of, standing_in, word_in, standing
 ghost use Rattle.be_table.specs.Rule.{newcomer};
 ghost use Rattle.be_table.specs.Works.{AreNew, IsSeatOf, TakesLock};
 
-use crate::{Limits, Seat, VersionTable, Writing};
 use arrayvec::ArrayVec;
 use be_journal::Journal;
 use be_paged::{apply, first_page, get, source};
 use be_pages::Look;
 use be_plan::Source;
+use be_table::{Limits, Seat, VersionTable, Writing};
 use be_value::{Kind, Name, Refusal, Value};
 use be_volume::{Done, Op};
 use std::alloc::Global;

@@ -2,7 +2,7 @@
 //! journal.
 //!
 //! Every test passes with any one request for memory refused: a call that wanted memory is made again.
-use crate::{Finding, check, dump, journal_told, read_journal};
+use be_history::{Finding, check, dump, journal_told, read_journal};
 use be_journal::{Entry, entry_line};
 use std::alloc::{AllocError, Global};
 use std::test::Fail;

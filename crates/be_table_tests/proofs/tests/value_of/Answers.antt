@@ -2,7 +2,7 @@ use Rattle.std.proofs.Common.{take}
 use Rattle.be_journal.specs.Journal.{replay}
 use Rattle.be_table.specs.Rule.{entries}
 use Rattle.be_table.proofs.Pins.{looked_version}
-use Rattle.be_table.proofs.tests.value_of.Goals as goal
+use Rattle.be_table_tests.proofs.tests.value_of.Goals as goal
 
 pub get-value-requires : goal.get-value-requires
 get-value-requires c =
