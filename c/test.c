@@ -25,6 +25,29 @@ static void closed_handle(void)
     CHECK(bes_find(&pass, "a==1", nodes, 2, &number) == BES_CLOSED && number == 7);
     CHECK(bes_query_items(&pass, &item, 1, bytes, 0, nodes, 2, &number) == BES_CLOSED && number == 7);
     CHECK(bes_read(&pass, 1, "a", &told, bytes, 2) == BES_CLOSED && told.code == 7 && bytes[0] == 7);
+    CHECK(bes_apply_or_retry(&pass, &op, 1, bytes, 0, 1, nodes, 2, &number) == BES_CLOSED && nodes[0] == 7);
+}
+
+/* A prepared query whose handle is closed, or is asked through a pass that is. */
+static void closed_prepared(void)
+{
+    bes_pass pass = BES_PASS_INIT;
+    bes_prepared prepared = BES_PREPARED_INIT;
+    bes_updates updates = {7, 7};
+    uint64_t number = 7, count = 7, nodes[2] = {7, 7}, more[2] = {7, 7};
+    CHECK(bes_release(&prepared) == BES_CLOSED);
+    CHECK(bes_changes(&prepared, nodes, 2, more, 2) == BES_CLOSED && nodes[0] == 7 && more[0] == 7);
+    CHECK(bes_query_prepared(&pass, &prepared, nodes, 2, &count) == BES_CLOSED && count == 7);
+    CHECK(bes_open(8, 1, 10, &pass) == BES_OK && bes_pin(&pass, &number) == BES_OK);
+    CHECK(bes_query_prepared(&pass, &prepared, nodes, 2, &count) == BES_CLOSED && count == 7 && nodes[0] == 7);
+    CHECK(bes_refresh(&pass, &prepared, &updates) == BES_CLOSED && updates.created == 7 && updates.removed == 7);
+    CHECK(bes_prepare_text("size<", &prepared) == BES_SYNTAX);
+    CHECK(bes_prepare_text("\xff", &prepared) == BES_NOT_UTF8);
+    CHECK(bes_prepare_text("size<1", &prepared) == BES_OK && bes_prepare_text("size<2", &prepared) == BES_OPEN);
+    CHECK(bes_close(&pass) == BES_OK);
+    CHECK(bes_query_prepared(&pass, &prepared, nodes, 2, &count) == BES_CLOSED && count == 7);
+    CHECK(bes_refresh(&pass, &prepared, &updates) == BES_CLOSED && updates.created == 7);
+    CHECK(bes_release(&prepared) == BES_OK && bes_release(&prepared) == BES_CLOSED);
 }
 
 static void opening(void)
@@ -217,6 +240,64 @@ static void queries(void)
     CHECK(bes_close(&pass) == BES_OK);
 }
 
+/* Queries that are parsed once, by text and by items, and what comes and goes. */
+static void prepared_queries(void)
+{
+    bes_pass pass = BES_PASS_INIT;
+    bes_prepared small = BES_PREPARED_INIT, other = BES_PREPARED_INIT;
+    bes_updates updates = {7, 7};
+    uint64_t node = 0, number = 0, count = 7, nodes[4] = {7, 7, 7, 7}, came[2] = {7, 7}, went[2] = {7, 7};
+    bes_item less[3] = {{BES_ITEM_ATTRIBUTE, 0, 4, 0}, {BES_ITEM_INT64, 0, 0, (uint64_t)-1}, {BES_ITEM_LT, 0, 0, 0}};
+    CHECK(bes_open(64, 1, 100, &pass) == BES_OK);
+    CHECK(bes_prepare_text("size<0", &small) == BES_OK);
+    CHECK(bes_prepare_items(less, 2, (const uint8_t *)"size", 4, &other) == BES_BAD_RPN);
+    CHECK(bes_prepare_items(less, 3, (const uint8_t *)"size", 3, &other) == BES_BAD_PART);
+    CHECK(bes_prepare_items(less, 3, (const uint8_t *)"size", 4, &other) == BES_OK);
+    CHECK(bes_query_prepared(&pass, &small, nodes, 4, &count) == BES_NOT_PINNED && count == 7);
+    CHECK(bes_refresh(&pass, &small, &updates) == BES_NOT_PINNED && updates.created == 7);
+    CHECK(bes_pin(&pass, &number) == BES_OK);
+    CHECK(bes_refresh(&pass, &small, &updates) == BES_NOT_COVERED && updates.created == 7);
+    CHECK(bes_unpin(&pass) == BES_OK);
+    CHECK(bes_make_index(&pass, "size", BES_INT32_TYPE) == BES_OK);
+    for (int i = 1; i <= 3; i++)
+        CHECK(bes_new_node(&pass, &node) == BES_OK && bes_set_int32(&pass, node, "size", -i) == BES_OK);
+    CHECK(bes_pin(&pass, &number) == BES_OK);
+    CHECK(bes_query_prepared(&pass, &small, nodes, 2, &count) == BES_OK && count == 3 && nodes[1] == 2 && nodes[2] == 7);
+    CHECK(bes_query_prepared(&pass, &other, nodes, 4, &count) == BES_OK && count == 2 && nodes[0] == 2 && nodes[1] == 3);
+    CHECK(bes_changes(&small, came, 2, went, 2) == BES_OK && came[0] == 7 && went[0] == 7);
+    CHECK(bes_refresh(&pass, &small, &updates) == BES_OK && updates.created == 3 && updates.removed == 0);
+    CHECK(bes_changes(&small, came, 2, went, 2) == BES_OK && came[0] == 1 && came[1] == 2 && went[0] == 7);
+    CHECK(bes_changes(&small, nodes, 4, went, 0) == BES_OK && nodes[2] == 3);
+    CHECK(bes_refresh(&pass, &small, &updates) == BES_OK && updates.created == 0 && updates.removed == 0);
+    CHECK(bes_unpin(&pass) == BES_OK);
+    CHECK(bes_remove_node(&pass, 2) == BES_OK && bes_set_int32(&pass, 3, "size", 3) == BES_OK);
+    CHECK(bes_new_node(&pass, &node) == BES_OK && bes_set_int32(&pass, node, "size", -4) == BES_OK);
+    CHECK(bes_pin(&pass, &number) == BES_OK);
+    CHECK(bes_refresh(&pass, &small, &updates) == BES_OK && updates.created == 1 && updates.removed == 2);
+    CHECK(bes_changes(&small, came, 2, went, 2) == BES_OK && came[0] == 4 && came[1] == 2 && went[0] == 2 && went[1] == 3);
+    CHECK(bes_close(&pass) == BES_OK);
+    CHECK(bes_changes(&small, came, 2, went, 2) == BES_OK && came[0] == 4);
+    CHECK(bes_release(&small) == BES_OK && bes_release(&other) == BES_OK);
+}
+
+static void journal(void)
+{
+    static const char all[] = "1 by 0 new -> node 1\n2 by 0 set 1 \"k\" CSTR \"v\" -> ok\n";
+    bes_pass pass = BES_PASS_INIT;
+    uint64_t node = 0, count = 7;
+    uint8_t text[128];
+    memset(text, 7, sizeof text);
+    CHECK(bes_journal(&pass, text, 128, &count) == BES_CLOSED && count == 7 && text[0] == 7);
+    CHECK(bes_open(64, 1, 10, &pass) == BES_OK);
+    CHECK(bes_journal(&pass, text, 128, &count) == BES_OK && count == 0 && text[0] == 7);
+    CHECK(bes_new_node(&pass, &node) == BES_OK && bes_set_text(&pass, node, "k", "v") == BES_OK);
+    CHECK(bes_unset(&pass, node, "none") == BES_NO_ATTRIBUTE);
+    CHECK(bes_journal(&pass, text, 3, &count) == BES_OK && count == sizeof all - 1);
+    CHECK(memcmp(text, all, 3) == 0 && text[3] == 7);
+    CHECK(bes_journal(&pass, text, 128, &count) == BES_OK && count == sizeof all - 1 && memcmp(text, all, sizeof all - 1) == 0);
+    CHECK(bes_close(&pass) == BES_OK);
+}
+
 static void spent(void)
 {
     bes_pass pass = BES_PASS_INIT;
@@ -255,16 +336,21 @@ static void *writer(void *arg)
 static void *reader(void *arg)
 {
     bes_pass *pass = arg;
+    bes_prepared ann = BES_PREPARED_INIT;
+    bes_updates updates = {0, 0};
     uint64_t seen = 0, last = 0, number = 0, count = 0, again = 0, nodes[WRITES], same[WRITES];
+    CHECK(bes_prepare_text("MAIL:from==\"ann\"", &ann) == BES_OK);
     for (int round = 0; round < rounds; round++) {
         CHECK(bes_pin(pass, &number) == BES_OK && number >= seen);
         seen = number;
         CHECK(bes_find(pass, "MAIL:from==\"ann\"", nodes, WRITES, &count) == BES_OK);
         CHECK(bes_find(pass, "MAIL:from==\"ann\"", same, WRITES, &again) == BES_OK);
         CHECK(count == again && count >= last && count <= WRITES && memcmp(nodes, same, count * sizeof *nodes) == 0);
+        CHECK(bes_refresh(pass, &ann, &updates) == BES_OK && updates.created == count - last && updates.removed == 0);
         last = count;
         CHECK(bes_unpin(pass) == BES_OK);
     }
+    CHECK(bes_release(&ann) == BES_OK);
     return NULL;
 }
 
@@ -292,11 +378,14 @@ int main(int argc, char **argv)
     if (argc > 1 && strcmp(argv[1], "short") == 0)
         rounds = 20;
     closed_handle();
+    closed_prepared();
     opening();
     wrong_writes();
     values();
     lists();
     queries();
+    prepared_queries();
+    journal();
     spent();
     threads();
     puts("ok");

@@ -4,12 +4,13 @@
  *
  * HANDLES. A bes_pass is one user's place in a store: it writes, pins a version and reads it. Its memory is yours. Start it
  * with BES_PASS_INIT (zero bytes), never copy it or change its fields (bes_move moves it), and close it with bes_close. The
- * store goes with its last open pass.
+ * store goes with its last open pass. A bes_prepared is a query that was parsed once: it is held in the same way, starts with
+ * BES_PREPARED_INIT and is closed with bes_release. It belongs to no store, and may be asked through any pass.
  *
  * THREADS. Each thread has a pass of its own, and the calls on different passes may run at the same time; none waits for
- * another. A pass takes one call at a time. It may be handed to another thread where that thread's calls come after yours
- * (a join, a lock, a started thread). Call nothing here from a signal handler, nor in a forked child of a process with
- * threads.
+ * another. A pass takes one call at a time, and so does a prepared query. Either may be handed to another thread where that
+ * thread's calls come after yours (a join, a lock, a started thread). Call nothing here from a signal handler, nor in a forked
+ * child of a process with threads.
  *
  * ANSWERS. Each call answers BES_OK, or the number of what kept it from its work. What a call puts out is written only
  * where it answers BES_OK. Pointers must be valid and lie apart; a length of 0 needs a pointer that isn't null.
@@ -41,6 +42,14 @@ typedef struct bes_pass {
 } bes_pass;
 
 #define BES_PASS_INIT { false, NULL }
+
+/* Both fields are the library's. */
+typedef struct bes_prepared {
+    bool live;
+    void *at;
+} bes_prepared;
+
+#define BES_PREPARED_INIT { false, NULL }
 
 /* What calls answer. */
 enum {
@@ -151,6 +160,12 @@ typedef struct bes_attribute {
     uint64_t number;  /* of a number: the value; (int64_t)number of a signed one */
 } bes_attribute;
 
+/* How many nodes came and how many went at a refresh. */
+typedef struct bes_updates {
+    uint64_t created;
+    uint64_t removed;
+} bes_updates;
+
 /* How much a list has. */
 typedef struct bes_counts {
     uint64_t operations;
@@ -190,6 +205,11 @@ uint32_t bes_unpin(bes_pass *pass);
 uint32_t bes_apply(bes_pass *pass, const bes_operation *operations, size_t operations_count, const uint8_t *bytes,
                    size_t bytes_count, uint64_t *made, size_t made_room, uint64_t *number);
 
+/* Writes as bes_apply does, and tries again while another pass is writing, so many times at most after the first. It doesn't
+ * wait between two tries. With 0 retries it is bes_apply. BES_BUSY: so did each try find it, and nothing has happened. */
+uint32_t bes_apply_or_retry(bes_pass *pass, const bes_operation *operations, size_t operations_count, const uint8_t *bytes,
+                            size_t bytes_count, uint32_t retries, uint64_t *made, size_t made_room, uint64_t *number);
+
 /* Asks a query in the pinned version. Puts out in count how many nodes meet it, and the first of them, ascending, as far as
  * nodes has room: where count is more than the room, the same query with more room answers the same.
  * BES_CLOSED, BES_NOT_PINNED, BES_NOT_UTF8, BES_SYNTAX to BES_NOT_COVERED, BES_NO_MEMORY. */
@@ -200,6 +220,33 @@ uint32_t bes_query(bes_pass *pass, const uint8_t *text, size_t text_length, uint
  * BES_HAS_NUL: an item is misspelt. BES_BAD_RPN, BES_BAD_PATTERN, BES_TOO_DEEP, BES_TOO_MANY: the items build no query. */
 uint32_t bes_query_items(bes_pass *pass, const bes_item *items, size_t items_count, const uint8_t *bytes, size_t bytes_count,
                          uint64_t *nodes, size_t nodes_room, uint64_t *count);
+
+/* Parses the query of this text, and opens the handle with it. Takes memory, until bes_release gives it back.
+ * BES_OPEN, BES_NOT_UTF8, BES_SYNTAX to BES_TOO_MANY, BES_NO_MEMORY: the handle stays as it was. */
+uint32_t bes_prepare(const uint8_t *text, size_t text_length, bes_prepared *prepared);
+
+/* Opens the handle with the query that items in reverse Polish order build. Faults are BES_OPEN and those that bes_query_items
+ * has of its items. */
+uint32_t bes_prepare_items(const bes_item *items, size_t items_count, const uint8_t *bytes, size_t bytes_count,
+                           bes_prepared *prepared);
+
+/* Closes the handle. BES_CLOSED. */
+uint32_t bes_release(bes_prepared *prepared);
+
+/* Asks a prepared query in the pinned version, as bes_query does; nothing is parsed. What its last refresh found stays.
+ * BES_CLOSED (of either handle), BES_NOT_PINNED, BES_NOT_COVERED, BES_NO_MEMORY. */
+uint32_t bes_query_prepared(bes_pass *pass, bes_prepared *prepared, uint64_t *nodes, size_t nodes_room, uint64_t *count);
+
+/* Refreshes a prepared query: asks it in the pinned version, and compares with its answer at the last refresh, which at first
+ * is empty. Puts out how many nodes came and how many went; the handle keeps which they are until the next refresh. Takes what
+ * bes_query does, and a search in one answer for each node of the other. Refresh a query through passes of one store only:
+ * nodes of another store are compared by their numbers. Faults are those of bes_query_prepared: the query stays as it was, and
+ * so does what it keeps. */
+uint32_t bes_refresh(bes_pass *pass, bes_prepared *prepared, bes_updates *updates);
+
+/* Puts out the nodes that came at the last refresh, and those that went, each ascending, as far as there is room. Needs no pin,
+ * and answers the same until the next refresh. BES_CLOSED. */
+uint32_t bes_changes(bes_prepared *prepared, uint64_t *created, size_t created_room, uint64_t *removed, size_t removed_room);
 
 /* Says what the query of this text would be answered from in the pinned version: the comparisons that are picked, joined by
  * " || ", and a score, as in "size"<"0" score 3. Puts out in count how many bytes that text has (it has no zero byte behind it),
@@ -224,6 +271,13 @@ uint32_t bes_attributes(bes_pass *pass, uint64_t node, bes_counts *counts, bes_o
  * BES_CLOSED, BES_NOT_PINNED, BES_NO_MEMORY. */
 uint32_t bes_indices(bes_pass *pass, bes_counts *counts, bes_operation *operations, size_t operations_room, uint8_t *bytes,
                      size_t bytes_room);
+
+/* Tells the journal up to now, pinned or not: a line for each write, numbered from 1, with the pass that wrote it, its operations
+ * and their answers, as in 2 by 0 set 1 "size" LONG 5 -> ok. Puts out in count how many bytes that text has (it has no zero byte
+ * behind it), and its first bytes, as far as bytes has room. The journal only grows: what was told once stands at its beginning
+ * for good. Writes of other passes are answered BES_BUSY while the text is made, which takes as long as the journal is.
+ * BES_BUSY: another pass is writing, call again. BES_CLOSED, BES_NO_MEMORY. */
+uint32_t bes_journal(bes_pass *pass, uint8_t *bytes, size_t bytes_room, uint64_t *count);
 
 /* What an answer means, in English. */
 static inline const char *bes_strerror(uint32_t answer)
@@ -357,11 +411,8 @@ static inline uint32_t bes_batch_remove_index(bes_batch *batch, const char *name
 static inline uint32_t bes_batch_apply(bes_pass *pass, const bes_batch *batch, unsigned tries, uint64_t *made,
                                        size_t made_room, uint64_t *number)
 {
-    uint32_t answer;
-    do
-        answer = bes_apply(pass, batch->operations, batch->count, batch->bytes, batch->used, made, made_room, number);
-    while (answer == BES_BUSY && tries-- > 1);
-    return answer;
+    return bes_apply_or_retry(pass, batch->operations, batch->count, batch->bytes, batch->used, tries > 0 ? tries - 1 : 0, made,
+                              made_room, number);
 }
 
 /* Single operations, each a write of its own, as bes_batch_apply with so many tries as BES_TRIES. */
@@ -376,8 +427,6 @@ static inline uint32_t bes_apply_one(bes_pass *pass, uint32_t kind, uint64_t nod
     uint8_t bytes[63 + 255];
     uint64_t write = 0;
     size_t name_length = strlen(name);
-    unsigned tries = BES_TRIES;
-    uint32_t answer;
     if (name_length > 63)
         return BES_NAME_LENGTH;
     if (value_length > 255)
@@ -393,10 +442,8 @@ static inline uint32_t bes_apply_one(bes_pass *pass, uint32_t kind, uint64_t nod
     operation.name_length = (uint32_t)name_length;
     operation.value_at = (uint32_t)name_length;
     operation.value_length = (uint32_t)value_length;
-    do
-        answer = bes_apply(pass, &operation, 1, bytes, name_length + value_length, made, 1, &write);
-    while (answer == BES_BUSY && tries-- > 1);
-    return answer;
+    return bes_apply_or_retry(pass, &operation, 1, bytes, name_length + value_length,
+                              BES_TRIES > 0 ? BES_TRIES - 1 : 0, made, 1, &write);
 }
 
 /* Makes a node, and puts out its number. */
@@ -475,6 +522,12 @@ static inline uint32_t bes_remove_index(bes_pass *pass, const char *name)
 static inline uint32_t bes_find(bes_pass *pass, const char *text, uint64_t *nodes, size_t nodes_room, uint64_t *count)
 {
     return bes_query(pass, (const uint8_t *)text, strlen(text), nodes, nodes_room, count);
+}
+
+/* bes_prepare for a text that ends with a zero byte. */
+static inline uint32_t bes_prepare_text(const char *text, bes_prepared *prepared)
+{
+    return bes_prepare((const uint8_t *)text, strlen(text), prepared);
 }
 
 /* bes_get for a name that ends with a zero byte. */

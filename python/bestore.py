@@ -55,6 +55,10 @@ class _Handle(ctypes.Structure):
     _fields_ = [("live", ctypes.c_bool), ("at", ctypes.c_void_p)]
 
 
+class _Updates(ctypes.Structure):
+    _fields_ = [("created", ctypes.c_uint64), ("removed", ctypes.c_uint64)]
+
+
 class _Operation(ctypes.Structure):
     _fields_ = [
         ("kind", ctypes.c_uint32), ("code", ctypes.c_uint32), ("node", ctypes.c_uint64), ("number", ctypes.c_uint64),
@@ -90,6 +94,8 @@ def _load():
     library.bes_pin.argtypes = [handle, words]
     library.bes_unpin.argtypes = [handle]
     library.bes_apply.argtypes = [handle, ctypes.POINTER(_Operation), size, text, size, words, size, words]
+    library.bes_apply_or_retry.argtypes = [handle, ctypes.POINTER(_Operation), size, text, size, ctypes.c_uint32, words, size,
+                                           words]
     library.bes_query.argtypes = [handle, text, size, words, size, words]
     library.bes_explain.argtypes = [handle, text, size, text, size, words]
     library.bes_get.argtypes = [handle, word, text, size, ctypes.POINTER(_Attribute), text, size]
@@ -97,8 +103,16 @@ def _load():
     listed = [ctypes.POINTER(_Counts), ctypes.POINTER(_Operation), size, text, size]
     library.bes_attributes.argtypes = [handle, word] + listed
     library.bes_indices.argtypes = [handle] + listed
-    for call in ("open", "another", "move", "close", "pin", "unpin", "apply", "query", "query_items", "explain", "get",
-                 "attributes", "indices"):
+    library.bes_prepare.argtypes = [text, size, handle]
+    library.bes_prepare_items.argtypes = [ctypes.POINTER(_Item), size, text, size, handle]
+    library.bes_release.argtypes = [handle]
+    library.bes_query_prepared.argtypes = [handle, handle, words, size, words]
+    library.bes_refresh.argtypes = [handle, handle, ctypes.POINTER(_Updates)]
+    library.bes_changes.argtypes = [handle, words, size, words, size]
+    library.bes_journal.argtypes = [handle, text, size, words]
+    for call in ("open", "another", "move", "close", "pin", "unpin", "apply", "apply_or_retry", "query", "query_items", "explain",
+                 "get", "attributes", "indices", "prepare", "prepare_items", "release", "query_prepared", "refresh", "changes",
+                 "journal"):
         getattr(library, "bes_" + call).restype = ctypes.c_uint32
     return library
 
@@ -169,6 +183,51 @@ def _item(item):
     return 3, _spelled(UINT64, item)[0], b""
 
 
+def _items(items):
+    """The items as the library takes them, with their bytes."""
+    spelled, texts = (_Item * max(len(items), 1))(), b""
+    for place, item in enumerate(items):
+        kind, number, text = _item(item)
+        spelled[place] = _Item(kind, len(texts), len(text), number)
+        texts += text
+    return spelled, len(items), texts, len(texts)
+
+
+class Prepared:
+    """A query that is parsed once and kept, by `prepare` or `prepare_items`. `Version.query_prepared` asks it, and
+    `Version.refresh` tells what changed since it was refreshed last. It takes one call at a time."""
+
+    def __init__(self):
+        self._handle = _Handle()
+
+    def __enter__(self):
+        return self
+
+    def __exit__(self, *_):
+        self.close()
+
+    def __del__(self):
+        self.close()
+
+    def close(self):
+        """Gives the query up, if it is still there."""
+        _library.bes_release(ctypes.byref(self._handle))
+
+
+def prepare(text):
+    """The query of this text, parsed once."""
+    prepared, spelled = Prepared(), text.encode()
+    _check(_library.bes_prepare(spelled, len(spelled), ctypes.byref(prepared._handle)))
+    return prepared
+
+
+def prepare_items(*items):
+    """The query that items in reverse Polish order build, as `Version.query_items` takes them."""
+    prepared = Prepared()
+    _check(_library.bes_prepare_items(*_items(items), ctypes.byref(prepared._handle)))
+    return prepared
+
+
 class Batch:
     """Up to 64 operations, to be applied all or none by `Pass.apply`. Its calls answer the batch, so they can be chained."""
 
@@ -237,15 +296,14 @@ class Pass:
         _library.bes_close(ctypes.byref(self._handle))
 
     def apply(self, batch, tries=1_000_000):
-        """Applies a batch, all or none. Answers the write's number, and for each operation the new node's number or 0."""
+        """Applies a batch, all or none, with so many tries at most while another pass is writing (one at least). Answers the
+        write's number, and for each operation the new node's number or 0."""
         count = len(batch._operations)
         operations = (_Operation * max(count, 1))(*batch._operations)
         made, number = (ctypes.c_uint64 * max(count, 1))(), ctypes.c_uint64()
-        answer = _BUSY
-        while answer == _BUSY and tries > 0:
-            tries -= 1
-            answer = _library.bes_apply(ctypes.byref(self._handle), operations, count, batch._bytes, len(batch._bytes),
-                                        made, count, ctypes.byref(number))
+        answer = _library.bes_apply_or_retry(
+            ctypes.byref(self._handle), operations, count, batch._bytes, len(batch._bytes), max(tries, 1) - 1, made, count,
+            ctypes.byref(number))
         _check(answer)
         return number.value, list(made[:count])
 
@@ -272,6 +330,22 @@ class Pass:
     def remove_index(self, name):
         """Removes the index of this name."""
         self.apply(Batch().remove_index(name))
+
+    def journal(self, tries=1_000_000):
+        """The journal up to now, with so many tries at most while another pass is writing: a line for each write, with the pass
+        that wrote it, its operations and their answers."""
+        count, room, answer = ctypes.c_uint64(), 65536, _BUSY
+        while tries > 0:
+            said = ctypes.create_string_buffer(room)
+            answer = _library.bes_journal(ctypes.byref(self._handle), said, room, ctypes.byref(count))
+            if answer == _BUSY:
+                tries -= 1
+            elif answer == 0 and count.value > room:
+                room = 2 * count.value
+            else:
+                break
+        _check(answer)
+        return said.raw[:count.value].decode()
 
     def pin(self):
         """Pins the current version: `with store.pin() as version:` reads it, and gives the pin up at the end."""
@@ -316,12 +390,20 @@ class Version:
 
             version.query_items(bestore.Name("size"), 5, bestore.Operator.LT)
         """
-        spelled, texts = (_Item * max(len(items), 1))(), b""
-        for place, item in enumerate(items):
-            kind, number, text = _item(item)
-            spelled[place] = _Item(kind, len(texts), len(text), number)
-            texts += text
-        return self._find(_library.bes_query_items, spelled, len(items), texts, len(texts))
+        return self._find(_library.bes_query_items, *_items(items))
+
+    def query_prepared(self, prepared):
+        """The nodes that meet a prepared query, ascending. What its last refresh told stays."""
+        return self._find(_library.bes_query_prepared, ctypes.byref(prepared._handle))
+
+    def refresh(self, prepared):
+        """Which nodes came and which went since the prepared query was refreshed last: two lists, ascending. At first all of
+        its nodes come. Refresh a query in versions of one store only."""
+        updates = _Updates()
+        _check(_library.bes_refresh(ctypes.byref(self._user._handle), ctypes.byref(prepared._handle), ctypes.byref(updates)))
+        created, removed = (ctypes.c_uint64 * max(updates.created, 1))(), (ctypes.c_uint64 * max(updates.removed, 1))()
+        _check(_library.bes_changes(ctypes.byref(prepared._handle), created, updates.created, removed, updates.removed))
+        return list(created[:updates.created]), list(removed[:updates.removed])
 
     def explain(self, text):
         """What the query would be answered from: the comparisons that are picked, and a score."""

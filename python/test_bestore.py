@@ -70,6 +70,59 @@ class Versions(unittest.TestCase):
                 self.assertEqual(version.query("k > 0"), list(range(1, 301)))
 
 
+class Journals(unittest.TestCase):
+    def test_lines(self):
+        with bestore.open(1024, 2, 2000) as store, store.another() as other:
+            self.assertEqual(store.journal(), "")
+            store.apply(bestore.Batch().new_node().set(1, "k", "v"))
+            other.remove_node(1)
+            self.assertEqual(store.journal(), '1 by 1 new; set 1 "k" CSTR "v" -> node 1; ok\n2 by 0 drop 1 -> ok\n')
+            for _ in range(998):
+                other.new_node()
+            raw = bestore.Batch().set(2, "r", bytes(255))
+            for _ in range(200):
+                store.apply(raw)
+            lines = store.journal().splitlines()
+            self.assertEqual((len(lines), lines[1]), (1200, "2 by 0 drop 1 -> ok"))
+
+
+class PreparedQueries(unittest.TestCase):
+    def test_asked_again(self):
+        with bestore.open(64, 1, 100) as store, bestore.prepare("size < 5") as small:
+            store.make_index("size", bestore.INT64)
+            store.apply(bestore.Batch().new_node().set(1, "size", 1).new_node().set(2, "size", 2))
+            with store.pin() as version:
+                self.assertEqual(version.query_prepared(small), [1, 2])
+                self.assertEqual(version.refresh(small), ([1, 2], []))
+                self.assertEqual(version.refresh(small), ([], []))
+            store.apply(bestore.Batch().set(1, "size", 9).new_node().set(3, "size", 3))
+            with store.pin() as version:
+                self.assertEqual(version.query_prepared(small), [2, 3])
+                self.assertEqual(version.refresh(small), ([3], [1]))
+            with bestore.prepare_items(bestore.Name("size"), 9, bestore.Operator.EQ) as large, store.pin() as version:
+                self.assertEqual(version.query_prepared(large), [1])
+
+    def test_wrong_use(self):
+        for text, number in [("size <", 12), ('name=="[a"', 13)]:
+            with self.assertRaises(bestore.Error) as fault:
+                bestore.prepare(text)
+            self.assertEqual(fault.exception.number, number)
+        with self.assertRaises(bestore.Error) as fault:
+            bestore.prepare_items(bestore.Name("size"))
+        self.assertEqual(fault.exception.number, 22)
+        with bestore.open(64, 1, 100) as store, store.pin() as version:
+            small = bestore.prepare("size < 5")
+            for number, call in [(17, version.query_prepared), (17, version.refresh)]:
+                with self.assertRaises(bestore.Error) as fault:
+                    call(small)
+                self.assertEqual(fault.exception.number, number)
+            small.close()
+            small.close()
+            with self.assertRaises(bestore.Error) as fault:
+                version.refresh(small)
+            self.assertEqual(fault.exception.number, 64)
+
+
 class WrongUse(unittest.TestCase):
     def test_numbers(self):
         store = bestore.open(64, 1, 100)
@@ -103,6 +156,11 @@ class Threads(unittest.TestCase):
             running.join()
             with store.pin() as version:
                 self.assertEqual(version.number, 200)
+
+    def test_one_try(self):
+        with bestore.open(64, 1, 10) as store:
+            self.assertEqual(store.apply(bestore.Batch().new_node(), tries=1), (1, [1]))
+            self.assertEqual(store.apply(bestore.Batch().new_node(), tries=0), (2, [2]))
 
 
 if __name__ == "__main__":

@@ -27,24 +27,28 @@ struct watch {
     size_t found;
 };
 
-/* Asks the query again and again until the last version was seen, and counts what it finds. */
+/* Refreshes the query again and again until the last version was seen, and counts the mails that came. */
 static void *watcher(void *arg)
 {
     struct watch *watch = arg;
-    uint64_t version = 0, until = 0, count = 0, nodes[MOST];
+    bes_prepared query = BES_PREPARED_INIT;
+    bes_updates updates = {0, 0};
+    uint64_t version = 0, until = 0;
+    stop_at(watch->query, bes_prepare_text(watch->query, &query));
     do {
         pthread_mutex_lock(&watch->lock);
         until = watch->last_version;
         pthread_mutex_unlock(&watch->lock);
         stop_at("pin", bes_pin(&watch->pass, &version));
-        stop_at(watch->query, bes_find(&watch->pass, watch->query, nodes, MOST, &count));
+        stop_at(watch->query, bes_refresh(&watch->pass, &query, &updates));
         stop_at("unpin", bes_unpin(&watch->pass));
-        if (count < watch->found) {
+        if (updates.removed > 0) {
             fprintf(stderr, "a mail went away\n");
             exit(1);
         }
-        watch->found = count;
+        watch->found += updates.created;
     } while (until == 0 || version < until);
+    stop_at("release", bes_release(&query));
     return NULL;
 }
 

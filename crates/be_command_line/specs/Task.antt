@@ -1,9 +1,9 @@
 -- What a command line may ask for.
-use Rattle.std.specs.Prelude.{◌≡◌, ◌≤◌, vec_len}
+use Rattle.std.specs.Prelude.{◌≡◌, ◌≤◌, ⊤, vec_len}
 use Rattle.be_table.specs.declared.limits.Limits.{Limits}
 use Rattle.be_table.specs.Rule.{IsWithin}
 use Rattle.be_command_line.specs.declared.tasks.Task.{Task}
-use Rattle.be_command_line.specs.declared.tasks.Task.TheVariants.{Run, Race, Shell}
+use Rattle.be_command_line.specs.declared.tasks.Task.TheVariants.{Run, RunAndTell, Race, Shell, Check, Dump}
 
 -- the limits with one pass, whatever their own number of passes
 abbrev pub for_one : Limits → Limits
@@ -14,8 +14,11 @@ abbrev pub AreForOne : Limits → Type 0
 AreForOne limits = IsWithin limits × (limits.passes ≡ 1)
 
 -- The pages and commits are within their ranges. A run and a shell have one pass; a race has a script, and each of its
--- scripts a pass.
+-- scripts a pass. What is read from a file alone has no store.
 abbrev pub IsTask : Task → Type 0
 IsTask (Run file limits) = AreForOne limits
+IsTask (RunAndTell file limits) = AreForOne limits
 IsTask (Race files limits) = IsWithin (for_one limits) × (1 ≤ vec_len files) × (limits.passes ≡ vec_len files)
 IsTask (Shell file limits) = AreForOne limits
+IsTask (Check file) = ⊤
+IsTask (Dump file) = ⊤

@@ -1,8 +1,8 @@
 //! The command line.
 //!
-//! `bestore run [--pages N] [--commits N] FILE`, `bestore race [--pages N] [--commits N] SCRIPT...`, and
-//! `bestore shell [--pages N] [--commits N] [FILE]`. `clap` reads the words, writes the help and the version, and tells what
-//! is wrong. How many scripts a race takes is for the program to look at.
+//! `bestore run [--journal] [--pages N] [--commits N] FILE`, `bestore race [--pages N] [--commits N] SCRIPT...`, `bestore
+//! shell [--pages N] [--commits N] [FILE]`, `bestore check FILE` and `bestore dump FILE`. `clap` reads the words, writes
+//! the help and the version, and tells what is wrong. How many scripts a race takes is for the program to look at.
 ghost use Rattle.std.specs.Prelude.{IfOk, IfSome};
 ghost use Rattle.be_command_line.specs.Task.{AreForOne, IsTask};
 
@@ -15,8 +15,11 @@ use std::alloc::{AllocError, Global};
 /// The program's version. It stands nowhere else.
 const VERSION: &str = "0.1.0";
 
-/// The argument of `run` and `shell`, as help shows it.
+/// The argument of all commands but `race`, as help shows it.
 const FILE: &str = "FILE";
+
+/// The option of `run`.
+const JOURNAL: &str = "journal";
 
 /// The arguments of `race`.
 const SCRIPT: &str = "SCRIPT";
@@ -54,12 +57,17 @@ fn run_command<'a>(alloc: Global) -> Result<Command<'a>, AllocError> {
         .help("The script, a command a line; - is standard input")
         .required(true)
         .action(ArgAction::Set);
+    let journal = Arg::new(alloc, JOURNAL)
+        .long(JOURNAL)
+        .help("Print the journal and its check behind the replies")
+        .action(ArgAction::SetTrue);
     command(
         alloc,
         "run",
         "Run a script and print the reply to each line",
         file,
-    )
+    )?
+    .arg(journal)
 }
 
 fn race_command<'a>(alloc: Global) -> Result<Command<'a>, AllocError> {
@@ -88,6 +96,35 @@ fn shell_command<'a>(alloc: Global) -> Result<Command<'a>, AllocError> {
     )
 }
 
+/// A command that takes the file of a journal alone.
+fn journal_command<'a>(
+    alloc: Global,
+    name: &'a str,
+    about: &'a str,
+) -> Result<Command<'a>, AllocError> {
+    let file = Arg::new(alloc, FILE)
+        .help("What race or run --journal printed, or a journal's text alone")
+        .required(true)
+        .action(ArgAction::Set);
+    Command::new(alloc, name).about(about).arg(file)
+}
+
+fn check_command<'a>(alloc: Global) -> Result<Command<'a>, AllocError> {
+    journal_command(
+        alloc,
+        "check",
+        "Run a journal again and print the first line that was answered otherwise",
+    )
+}
+
+fn dump_command<'a>(alloc: Global) -> Result<Command<'a>, AllocError> {
+    journal_command(
+        alloc,
+        "dump",
+        "Print the script that makes a journal's writes again",
+    )
+}
+
 /// Reads the words of a command line, which begin with the program's name. An error is `clap`'s: a request for help or for
 /// the version, a fault of the command line, or, told by its kind, a want of memory.
 pub fn task<'a>(alloc: Global, words: &'a [&'a str]) -> Result<Task, Error>
@@ -101,7 +138,9 @@ pub fn task<'a>(alloc: Global, words: &'a [&'a str]) -> Result<Task, Error>
         .subcommand_required(true)
         .subcommand(run_command(alloc)?)?
         .subcommand(race_command(alloc)?)?
-        .subcommand(shell_command(alloc)?)?;
+        .subcommand(shell_command(alloc)?)?
+        .subcommand(check_command(alloc)?)?
+        .subcommand(dump_command(alloc)?)?;
     let matches = command.try_get_matches_from_mut(words)?;
     match task_of(alloc, &matches)? {
         Some(task) => Ok(task),
@@ -154,6 +193,7 @@ fn run_task(alloc: Global, matches: &ArgMatches) -> Result<Option<Task>, AllocEr
         return Ok(None);
     };
     match file_of(alloc, matches)? {
+        Some(file) if matches.get_flag(JOURNAL) => Ok(Some(Task::RunAndTell(file, limits))),
         Some(file) => Ok(Some(Task::Run(file, limits))),
         None => Ok(None),
     }
@@ -185,6 +225,24 @@ fn shell_task(alloc: Global, matches: &ArgMatches) -> Result<Option<Task>, Alloc
     Ok(Some(Task::Shell(file_of(alloc, matches)?, limits)))
 }
 
+fn check_task(alloc: Global, matches: &ArgMatches) -> Result<Option<Task>, AllocError>
+    ensures { IfOk result (λ task. IfSome task IsTask) }
+{
+    match file_of(alloc, matches)? {
+        Some(file) => Ok(Some(Task::Check(file))),
+        None => Ok(None),
+    }
+}
+
+fn dump_task(alloc: Global, matches: &ArgMatches) -> Result<Option<Task>, AllocError>
+    ensures { IfOk result (λ task. IfSome task IsTask) }
+{
+    match file_of(alloc, matches)? {
+        Some(file) => Ok(Some(Task::Dump(file))),
+        None => Ok(None),
+    }
+}
+
 /// The task of the command, where there is one and its values are within their ranges, as `clap` has seen to.
 fn task_of(alloc: Global, matches: &ArgMatches) -> Result<Option<Task>, AllocError>
     ensures { IfOk result (λ task. IfSome task IsTask) }
@@ -193,6 +251,8 @@ fn task_of(alloc: Global, matches: &ArgMatches) -> Result<Option<Task>, AllocErr
         Some(("run", found)) => run_task(alloc, found),
         Some(("race", found)) => race_task(alloc, found),
         Some(("shell", found)) => shell_task(alloc, found),
+        Some(("check", found)) => check_task(alloc, found),
+        Some(("dump", found)) => dump_task(alloc, found),
         _ => Ok(None),
     }
 }

@@ -6,8 +6,14 @@ use be_serving::Limits;
 pub enum Task {
     /// To run the script of a file, on a store of one pass.
     Run(String, Limits),
+    /// The same, and to tell the journal behind the replies.
+    RunAndTell(String, Limits),
     /// To race the scripts of these files against one another, on a store with a pass for each.
     Race(Vec<String>, Limits),
     /// To talk with standard input about a store of one pass, behind the lines of a file where one is named.
     Shell(Option<String>, Limits),
+    /// To check the journal that a file tells.
+    Check(String),
+    /// To print the script of the journal that a file tells.
+    Dump(String),
 }

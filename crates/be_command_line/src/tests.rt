@@ -22,10 +22,12 @@ fn task_of(alloc: Global, words: &'static [&'static str]) -> Result<Task, Error>
     result
 }
 
-/// The pages, passes and commits of a task.
+/// The pages, passes and commits of a task; zeros of one without a store.
 fn numbers(task: &Task) -> (u64, u64, u64) {
     let limits = match task {
-        Task::Run(_, limits) | Task::Race(_, limits) | Task::Shell(_, limits) => limits,
+        Task::Run(_, limits) | Task::RunAndTell(_, limits) => limits,
+        Task::Race(_, limits) | Task::Shell(_, limits) => limits,
+        Task::Check(_) | Task::Dump(_) => return (0, 0, 0),
     };
     (limits.pages, limits.passes, limits.commits)
 }
@@ -34,6 +36,9 @@ fn numbers(task: &Task) -> (u64, u64, u64) {
 fn name_of(task: &Task) -> &'static str {
     match task {
         Task::Run(..) => "run",
+        Task::RunAndTell(..) => "run --journal",
+        Task::Check(..) => "check",
+        Task::Dump(..) => "dump",
         Task::Race(..) => "race",
         Task::Shell(..) => "shell",
     }
@@ -42,7 +47,9 @@ fn name_of(task: &Task) -> &'static str {
 /// The file at a place of a task, if it has so many.
 fn file_at(task: &Task, place: usize) -> Option<&str> {
     match task {
-        Task::Run(file, _) | Task::Shell(Some(file), _) if place == 0 => Some(file.as_str()),
+        Task::Run(file, _) | Task::RunAndTell(file, _) if place == 0 => Some(file.as_str()),
+        Task::Check(file) | Task::Dump(file) if place == 0 => Some(file.as_str()),
+        Task::Shell(Some(file), _) if place == 0 => Some(file.as_str()),
         Task::Race(files, _) => files.get(place).map(|file| file.as_str()),
         _ => None,
     }
@@ -86,6 +93,30 @@ fn runs(rt: HostRuntime) -> Result<(), Fail> {
     check_task(&rt, alloc, words, "run", (1024, 1, 1_000_000), &["-"])?;
     let words = &["bestore", "run", "--pages", "8", "--commits", "1", "f"];
     check_task(&rt, alloc, words, "run", (8, 1, 1), &["f"])
+}
+
+/// A run that tells its journal, by an option before the file or behind it.
+#[test]
+fn runs_that_tell(rt: HostRuntime) -> Result<(), Fail> {
+    let alloc = rt.alloc();
+    let words = &["bestore", "run", "--journal", "f"];
+    let limits = (1024, 1, 1_000_000);
+    check_task(&rt, alloc, words, "run --journal", limits, &["f"])?;
+    let words = &["bestore", "run", "f", "--pages", "9", "--journal"];
+    let limits = (9, 1, 1_000_000);
+    check_task(&rt, alloc, words, "run --journal", limits, &["f"])
+}
+
+/// What takes a journal's file alone.
+#[test]
+fn journals(rt: HostRuntime) -> Result<(), Fail> {
+    let alloc = rt.alloc();
+    let words = &["bestore", "check", "f"];
+    check_task(&rt, alloc, words, "check", (0, 0, 0), &["f"])?;
+    let words = &["bestore", "check", "-"];
+    check_task(&rt, alloc, words, "check", (0, 0, 0), &["-"])?;
+    let words = &["bestore", "dump", "check"];
+    check_task(&rt, alloc, words, "dump", (0, 0, 0), &["check"])
 }
 
 /// The words of a shell, with a file and without.
@@ -177,6 +208,16 @@ fn faults(rt: HostRuntime) -> Result<(), Fail> {
         ),
         (&["bestore", "run"], ErrorKind::MissingRequiredArgument),
         (&["bestore", "run", "f", "g"], ErrorKind::UnknownArgument),
+        (&["bestore", "check"], ErrorKind::MissingRequiredArgument),
+        (&["bestore", "dump", "f", "g"], ErrorKind::UnknownArgument),
+        (
+            &["bestore", "check", "--pages", "8", "f"],
+            ErrorKind::UnknownArgument,
+        ),
+        (
+            &["bestore", "race", "--journal", "f", "g"],
+            ErrorKind::UnknownArgument,
+        ),
         (&["bestore", "walk", "f"], ErrorKind::InvalidSubcommand),
         (&["bestore", "race"], ErrorKind::MissingRequiredArgument),
         (

@@ -5,7 +5,7 @@ use Rattle.be_core.specs.declared.event.Event.{Event}
 use Rattle.be_core.specs.declared.event.Event.TheVariants.{Look, Announce, LookAgain, Read, Unpin, Lock, Scan, Fill, Publish, Unlock}
 use Rattle.be_core.specs.declared.event.Phase.{Phase}
 use Rattle.be_core.specs.declared.event.Phase.TheVariants.{Idle, Looked, Announced, Pinned}
-use Rattle.be_core.specs.Machine.{World, Holder, Writes, Allowed, after}
+use Rattle.be_core.specs.Machine.{World, Holder, HasOpenWrite, Allowed, after}
 use Rattle.be_core.specs.Laws.{EachScheduleRuns}
 
 abbrev Decided : Type 0 → Type 0
@@ -102,7 +102,7 @@ all_distinct (x ∷ xs) = like {A = All (λ p. IsTrue (differs x p)) xs × AllPa
     from_pairs h = ((λ k d b. differ x _ (h 0 (suc k) d (omega arith) (omega arith))), (λ i j d a b. h (suc i) (suc j) d (omega arith) (omega arith)))
 
 module _ (w : World) where
-  writes : (k : ℕ) → Decided ((h : Holder) × Writes w k h)
+  writes : (k : ℕ) → Decided ((h : Holder) × HasOpenWrite w k h)
   writes k = like (λ x. (x.0, (x.1, x.2.0, x.2.1))) (λ x. (x.0, x.1.0, (x.1.1, x.1.2))) (held_by w.holder (λ h. (h.pass ≡ k) × IsFalse h.published) (λ h. both (equal h.pass k) (is_false h.published)))
 
   decided : (e : Event) → Decided (Allowed w e)

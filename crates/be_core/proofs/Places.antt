@@ -1,7 +1,7 @@
 -- In which of the four sets a page is.
 use Rattle.std.proofs.Common.{◌≡◌, ℕ, suc, ◌+◌, ◌<◌, ◌≤◌, Bool, true, false, not, ◌&&◌, ◌||◌, ◌==◌, nat_lt, Option, Some, None, is_some, IsTrue, IsFalse, arith, refl, inl, inr, if◌then◌else◌, subst, List, [], ◌∷◌, All, length, slice_index_or, eq-eqb, zero}
 use Rattle.std.proofs.lemmas.Bool.Decides.{eqb_tells, leb_tells}
-use Rattle.be_core.specs.Machine.{World, Sound, Keeps, bit, update, is_below, has}
+use Rattle.be_core.specs.Machine.{World, Sound, KeepsPinned, bit, update, is_below, has}
 
 pub bit-le : (b : Bool) → bit b ≤ 1
 bit-le true = omega arith
@@ -101,7 +101,7 @@ test-other k a h = elim (eqb_tells k a) [ inl y ↦ absurd (h y.1) | inr n ↦ n
 pub current-alone : (w : World) → Sound w → (p : ℕ) → IsTrue (w.reach w.current p) → IsFalse (w.free p) × IsFalse (w.taken p) × IsFalse (is_some (w.retired p))
 current-alone w s p r = only_last _ _ _ _ (rw r at (s.partition p))
 
-pub current-keeps : (w : World) → Sound w → (p : ℕ) → IsTrue (w.reach w.current p) → Keeps w w.current p
+pub current-keeps : (w : World) → Sound w → (p : ℕ) → IsTrue (w.reach w.current p) → KeepsPinned w w.current p
 current-keeps w s p r = let a = current-alone w s p r in (a.0, a.1, (λ q e. absurd (unretired (w.retired p) q a.2 e)), (λ i. s.now p i r))
 
 -- the only value of an option

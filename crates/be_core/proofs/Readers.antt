@@ -3,7 +3,7 @@ use Rattle.std.proofs.Common.{◌≡◌, ℕ, ◌<◌, ◌≤◌, Some, IsTrue, 
 use Rattle.std.proofs.lemmas.Bool.Decides.{eqb_tells}
 use Rattle.be_core.specs.declared.event.Phase.{Phase}
 use Rattle.be_core.specs.declared.event.Phase.TheVariants.{Idle, Looked, Announced, Pinned}
-use Rattle.be_core.specs.Machine.{World, Holder, update, to, Sound, InTime, Keeps, phase_after_look, after_look, after_announce, after_look_again, after_unpin, MayLook, MayAnnounce, MayLookAgain, MayUnpin}
+use Rattle.be_core.specs.Machine.{World, Holder, update, to, Sound, InTime, KeepsPinned, phase_after_look, after_look, after_announce, after_look_again, after_unpin, MayLook, MayAnnounce, MayLookAgain, MayUnpin}
 use Rattle.be_core.proofs.Places.{current-keeps}
 
 -- a fact of each phase, where one was changed
@@ -15,14 +15,14 @@ each_phase P f k0 phase new old k = elim (eqb_tells k k0) [
 
 module _ (w : World) (s : Sound w) (k0 : ℕ) (phase : Phase) where
   pub to-sound : k0 < w.passes → InTime w.current phase
-      → ((a n p : ℕ) → phase ≡ Pinned a n → IsTrue (w.reach n p) → Keeps w n p)
+      → ((a n p : ℕ) → phase ≡ Pinned a n → IsTrue (w.reach n p) → KeepsPinned w n p)
       → ((h : Holder) → w.holder ≡ Some h → IsFalse h.published → (a n : ℕ) → k0 < h.scanned → phase ≡ Pinned a n → n < w.current → h.least ≤ a)
       → Sound (to w k0 phase)
   to-sound inside in_time pinned counted = record {
     partition = s.partition;
     in_time = each_phase (λ k ph. InTime w.current ph) w.phases k0 phase in_time s.in_time;
     outside = each_phase (λ k ph. w.passes ≤ k → ph ≡ Idle) w.phases k0 phase (λ h. absurd (omega arith)) s.outside;
-    pinned = λ k. each_phase (λ k ph. (a n p : ℕ) → ph ≡ Pinned a n → IsTrue (w.reach n p) → Keeps w n p) w.phases k0 phase pinned s.pinned k;
+    pinned = λ k. each_phase (λ k ph. (a n p : ℕ) → ph ≡ Pinned a n → IsTrue (w.reach n p) → KeepsPinned w n p) w.phases k0 phase pinned s.pinned k;
     now = s.now;
     was_reached = s.was_reached;
     counted = λ h is open_ k a n below. each_phase (λ k ph. k < h.scanned → (a n : ℕ) → ph ≡ Pinned a n → n < w.current → h.least ≤ a) w.phases k0 phase
@@ -46,7 +46,7 @@ module _ (w : World) (s : Sound w) (k : ℕ) where
 
   pub after_look_again-sound : MayLookAgain w k → Sound (after_look_again w k)
   after_look_again-sound may = rw may.1.1 (to-sound w s k (Pinned may.1.0 w.current) may.0 (rw may.1.1 at (s.in_time k), le_refl w.current)
-      (λ a n p e r. let m : w.current ≡ n = cc in subst (λ (v : ℕ). IsTrue (w.reach v p) → Keeps w v p) m (current-keeps w s p) r)
+      (λ a n p e r. let m : w.current ≡ n = cc in subst (λ (v : ℕ). IsTrue (w.reach v p) → KeepsPinned w v p) m (current-keeps w s p) r)
       (λ h is open_ a n b e l. let m : w.current ≡ n = cc in absurd (omega arith)))
 
   pub after_look-sound : MayLook w k → Sound (after_look w k)

@@ -5,7 +5,7 @@ use Rattle.be_core.specs.declared.event.Phase.{Phase}
 use Rattle.be_core.specs.declared.event.Phase.TheVariants.{Idle, Looked, Announced, Pinned}
 use Rattle.be_core.specs.declared.event.Event.TheVariants.{Scan}
 use Rattle.be_core.specs.Laws.{LeavesNone}
-use Rattle.be_core.specs.Machine.{World, Holder, Writes, Sound, MayScan, after_scan, scanned_by, least_after, least_with, is_below, swept, Unreached}
+use Rattle.be_core.specs.Machine.{World, Holder, HasOpenWrite, Sound, MayScan, after_scan, scanned_by, least_after, least_with, is_below, swept, Unreached}
 use Rattle.be_core.proofs.Places.{swept_now, or_false, current-alone, only, test-other, left_over, lt-test}
 
 -- the least after one more phase is no more than before, and no more than what a pinned pass announced
@@ -37,7 +37,7 @@ left_late (Some q) l r e = elim (leb_tells (suc q) l) [
   | inr n ↦ let f : Some q ≡ Some r = (rw n.0 at e) in let same : q ≡ r = cc in omega (arith, n.1)
 ]
 
-module _ (w : World) (s : Sound w) (h : Holder) (k j : ℕ) (writes : Writes w k h) (at_j : j ≡ h.scanned) where
+module _ (w : World) (s : Sound w) (h : Holder) (k j : ℕ) (writes : HasOpenWrite w k h) (at_j : j ≡ h.scanned) where
   start-in_time : (if j == 0 then w.current else h.least) ≤ w.current
   start-in_time = elim (eqb_tells j 0) [ inl y ↦ rw y.0 (le_refl w.current) | inr n ↦ rw n.0 (s.least_in_time h writes.0) ]
 

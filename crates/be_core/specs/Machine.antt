@@ -115,8 +115,8 @@ MayUnpin w k = (k < w.passes) × ((a : ℕ) × (n : ℕ) × (w.phases k ≡ Pinn
 -- ## The holder's events
 
 -- h has the lock, is the pass k, and has not published
-abbrev pub Writes : World → ℕ → Holder → Type 0
-Writes w k h = (w.holder ≡ Some h) × (h.pass ≡ k) × IsFalse h.published
+abbrev pub HasOpenWrite : World → ℕ → Holder → Type 0
+HasOpenWrite w k h = (w.holder ≡ Some h) × (h.pass ≡ k) × IsFalse h.published
 
 abbrev pub MayLock : World → ℕ → Type 0
 MayLock w k = (k < w.passes) × (w.holder ≡ None)
@@ -161,13 +161,13 @@ scanned_by w None j = w
 scanned_by w (Some h) j = if suc j == w.passes then scanned_out w h j else scanned_on w h j
 
 abbrev pub MayScan : World → ℕ → ℕ → Type 0
-MayScan w k j = (j < w.passes) × ((h : Holder) × Writes w k h × (j ≡ h.scanned))
+MayScan w k j = (j < w.passes) × ((h : Holder) × HasOpenWrite w k h × (j ≡ h.scanned))
 
 abbrev pub after_scan : World → ℕ → World
 after_scan w j = scanned_by w w.holder j
 
 abbrev pub MayFill : World → ℕ → ℕ → ℕ → Type 0
-MayFill w k p i = (p < w.pages) × (i < 512) × ((h : Holder) × Writes w k h) × IsTrue (w.taken p || w.free p)
+MayFill w k p i = (p < w.pages) × (i < 512) × ((h : Holder) × HasOpenWrite w k h) × IsTrue (w.taken p || w.free p)
 
 abbrev pub after_fill : World → ℕ → ℕ → ℕ → World
 after_fill w p i word =
@@ -183,7 +183,7 @@ has given p = list_any (λ q. q == p) given
 
 abbrev pub MayPublish : World → ℕ → ℕ → List ℕ → Type 0
 MayPublish w k v given =
-    (w.current < w.commits) × (v < w.pages) × ((h : Holder) × Writes w k h) × IsTrue (w.taken v)
+    (w.current < w.commits) × (v < w.pages) × ((h : Holder) × HasOpenWrite w k h) × IsTrue (w.taken v)
     × AllPairs ◌≢◌ given × All (λ p. IsTrue (w.reach w.current p)) given
 
 abbrev pub with_published : Option Holder → Option Holder
@@ -285,15 +285,15 @@ InTime c (Announced a) = a ≤ c
 InTime c (Pinned a n) = (a ≤ n) × (n ≤ c)
 
 -- what a pin to the version n keeps of the page p: it is neither free nor taken, nor retired too early, and its words stay
-abbrev pub Keeps : World → ℕ → ℕ → Type 0
-Keeps w n p = IsFalse (w.free p) × IsFalse (w.taken p) × ((r : ℕ) → w.retired p ≡ Some r → n ≤ r) × ((i : ℕ) → w.words p i ≡ w.image n p i)
+abbrev pub KeepsPinned : World → ℕ → ℕ → Type 0
+KeepsPinned w n p = IsFalse (w.free p) × IsFalse (w.taken p) × ((r : ℕ) → w.retired p ≡ Some r → n ≤ r) × ((i : ℕ) → w.words p i ≡ w.image n p i)
 
 -- The invariant
 pub record Sound (w : World) : Type 0 where
   pub partition : Partition w
   pub in_time : (k : ℕ) → InTime w.current (w.phases k)
   pub outside : (k : ℕ) → w.passes ≤ k → w.phases k ≡ Idle
-  pub pinned : (k a n p : ℕ) → w.phases k ≡ Pinned a n → IsTrue (w.reach n p) → Keeps w n p
+  pub pinned : (k a n p : ℕ) → w.phases k ≡ Pinned a n → IsTrue (w.reach n p) → KeepsPinned w n p
   pub now : (p i : ℕ) → IsTrue (w.reach w.current p) → w.words p i ≡ w.image w.current p i
   pub was_reached : (p r : ℕ) → w.retired p ≡ Some r → (r < w.current) × IsTrue (w.reach r p)
   -- while the lock is held, a pass that was scanned and is pinned to an older version has announced no less than the least

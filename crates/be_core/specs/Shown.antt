@@ -55,5 +55,5 @@ abbrev pub page_count : State → ℕ
 page_count s = vec_len s.words
 
 -- with some words of its versions, the state shows one in which the invariant holds
-abbrev pub IsSound : State → Type 0
-IsSound s = (image : Images) × Sound (shown s image)
+abbrev pub ShowsSound : State → Type 0
+ShowsSound s = (image : Images) × Sound (shown s image)

@@ -4,7 +4,10 @@
 //! state of the machine, so a table of words that shows one, without having it, can use them too.
 ghost use Rattle.std.specs.Prelude.{◌≡◌, ℕ, suc, ◌<◌, ◌≤◌, ◌||◌, List, Some, IsTrue};
 ghost use Rattle.be_core.specs.declared.event.Phase.TheVariants.{Pinned};
-ghost use Rattle.be_core.specs.Machine.{World, Sound, first_state, Protected, Partition, MayLook, after_look, MayAnnounce, after_announce, MayLookAgain, after_look_again, MayRead, MayUnpin, after_unpin, MayLock, after_lock, MayScan, after_scan, Holder, Writes, scanned_on, scanned_out, least_after, Unreached, MayFill, after_fill, MayPublish, after_publish, MayUnlock, after_unlock, after_return};
+ghost use Rattle.be_core.specs.Machine.{World, Sound, first_state, Protected, Partition, MayLook, after_look, MayAnnounce, after_announce};
+ghost use Rattle.be_core.specs.Machine.{MayLookAgain, after_look_again, MayRead, MayUnpin, after_unpin, MayLock, after_lock, MayScan};
+ghost use Rattle.be_core.specs.Machine.{after_scan, Holder, HasOpenWrite, scanned_on, scanned_out, least_after, Unreached, MayFill, after_fill};
+ghost use Rattle.be_core.specs.Machine.{MayPublish, after_publish, MayUnlock, after_unlock, after_return};
 ghost use Rattle.be_core.specs.Laws.{FillsNoPinned, ScanLeavesNone};
 ghost use Rattle.be_core.specs.Least.{FindsLeast};
 
@@ -57,11 +60,11 @@ pub fn lock()
 pub fn scan()
     ensures kept { (w : World) (k j : ℕ) → Sound w → MayScan w k j → Sound (after_scan w j) }
     // the two outcomes of a scan by a holder that the caller knows
-    ensures on { (w : World) (k j : ℕ) (h : Holder) → Sound w → Writes w k h → j ≡ h.scanned → Sound (scanned_on w h j) }
-    ensures out { (w : World) (k j : ℕ) (h : Holder) → Sound w → Writes w k h → j ≡ h.scanned → suc j ≡ w.passes → Sound (scanned_out w h j) }
+    ensures on { (w : World) (k j : ℕ) (h : Holder) → Sound w → HasOpenWrite w k h → j ≡ h.scanned → Sound (scanned_on w h j) }
+    ensures out { (w : World) (k j : ℕ) (h : Holder) → Sound w → HasOpenWrite w k h → j ≡ h.scanned → suc j ≡ w.passes → Sound (scanned_out w h j) }
     // a page that is still retired after a whole scan has a number from the least on
     ensures gone { (w : World) (j p r : ℕ) (h : Holder) → (scanned_out w h j).retired p ≡ Some r → least_after w h j ≤ r }
-    ensures leaves { (w : World) (k j p : ℕ) (h : Holder) → Sound w → Writes w k h → j ≡ h.scanned → suc j ≡ w.passes
+    ensures leaves { (w : World) (k j p : ℕ) (h : Holder) → Sound w → HasOpenWrite w k h → j ≡ h.scanned → suc j ≡ w.passes
         → p < w.pages → Unreached w (least_after w h j) w.current p
         → IsTrue ((scanned_out w h j).free p || (scanned_out w h j).taken p) }
     ensures least { FindsLeast }

@@ -2,7 +2,8 @@
 //!
 //! A `State` shows a state of the machine (`shown`). It doesn't keep what the words were at each publishing, so those
 //! are given to `shown`; each clause holds for all of them.
-ghost use Rattle.std.specs.Prelude.{◌≡◌, ◌≢◌, ℕ, suc, ◌+◌, ◌<◌, ◌≤◌, ◌^◌, vec_len, length, slice_index_or, false, ◌||◌, if◌then◌else◌, ◌&&◌, not, All, AllPairs, IsTrue, IfOk, Vec, Bool, ◌∷◌, [], ◌==◌, slice_index, nat_lt, ◌↔◌};
+ghost use Rattle.std.specs.Prelude.{◌≡◌, ◌≢◌, ℕ, suc, ◌+◌, ◌<◌, ◌≤◌, ◌^◌, vec_len, length, slice_index_or, false, ◌||◌, if◌then◌else◌};
+ghost use Rattle.std.specs.Prelude.{◌&&◌, not, All, AllPairs, IsTrue, IfOk, Vec, Bool, ◌∷◌, [], ◌==◌, slice_index, nat_lt, ◌↔◌};
 ghost use Rattle.std.specs.declared.alloc.Global.{Global};
 ghost use Rattle.be_core.specs.Machine.{is_below, has};
 
@@ -172,10 +173,13 @@ fn is_distinct(given: &[u64]) -> bool
 
 impl State {
     ghost use Rattle.std.specs.Prelude.{IfOk, OnErr, IsOk, IsOkUnless, IsTrue, IsFalse, IfSome, IsNone, ◌↔◌, All, ◌&&◌, ◌||◌, not, slice_index, slice_index_or};
-    ghost use Rattle.be_core.specs.Machine.{World, Allowed, after, MayLook, after_look, MayAnnounce, after_announce, MayLookAgain, after_look_again, MayUnpin, after_unpin, MayLock, after_lock, MayUnlock, after_unlock, MayFill, after_fill, MayRead, Writes, MayScan, after_scan, MayPublish, after_publish, has, first_state, zeros, InLimits};
+    ghost use Rattle.be_core.specs.Machine.{World, Allowed, after, MayLook, after_look, MayAnnounce, after_announce, MayLookAgain};
+    ghost use Rattle.be_core.specs.Machine.{after_look_again, MayUnpin, after_unpin, MayLock, after_lock, MayUnlock, after_unlock, MayFill};
+    ghost use Rattle.be_core.specs.Machine.{after_fill, MayRead, HasOpenWrite, MayScan, after_scan, MayPublish, after_publish, has, first_state};
+    ghost use Rattle.be_core.specs.Machine.{zeros, InLimits};
     ghost use Rattle.be_core.specs.Machine as machine;
     ghost use Rattle.be_core.specs.Laws.{LeavesNone};
-    ghost use Rattle.be_core.specs.Shown.{shown, MakesStep, IsSound, Images, blank, as_holder, IsUnchanged, page_count};
+    ghost use Rattle.be_core.specs.Shown.{shown, MakesStep, ShowsSound, Images, blank, as_holder, IsUnchanged, page_count};
 
     /// The first state, with every word 0: version 0 has the page 0 alone, and each other page is free. `BadLimits`
     /// outside 1 to 16,384 pages, 1 to 64 passes and 1 to 4,294,967,295 commits. A page costs 4 KiB.
@@ -183,7 +187,7 @@ impl State {
         ensures first { IfOk result (λ s. shown s blank ≡ first_state pages passes commits zeros) }
         ensures size { IfOk result (λ s. page_count s ≡ pages) }
         ensures within { IsOk result → InLimits pages passes commits }
-        ensures sound { IfOk result (λ s. IsSound s) }
+        ensures sound { IfOk result (λ s. ShowsSound s) }
         ensures limits { (result ≡ Err Refusal.BadLimits) ↔ (¬ (InLimits pages passes commits)) }
         ensures memory { InLimits pages passes commits → IsOkUnless result Refusal.OutOfMemory }
     {
@@ -340,7 +344,7 @@ impl State {
 
     /// Whether the pass k holds the lock and has not published.
     fn writes(&self, k: u64) -> bool
-        ensures { IsTrue result ↔ ((h : machine.Holder) × Writes (shown self.now blank) k h) }
+        ensures { IsTrue result ↔ ((h : machine.Holder) × HasOpenWrite (shown self.now blank) k h) }
     {
         match self.holder {
             Some(h) => h.pass == k && !h.published,
@@ -509,9 +513,9 @@ impl State {
         ensures done { IfOk result (λ done. MakesStep self.old (λ w. Allowed w event.now) (λ w. after w event.now) done self.new) }
         ensures err { OnErr result (IsUnchanged self.old self.new) }
         ensures memory { IsOkUnless result Refusal.OutOfMemory }
-        ensures sound { IsSound self.old → IsSound self.new }
+        ensures sound { ShowsSound self.old → ShowsSound self.new }
         // a whole scan leaves no page that no version from the least on reaches
-        ensures leaves_none { IsSound self.old → IfOk result (λ done. IsTrue done → LeavesNone (shown self.old blank) event.now (shown self.new blank)) }
+        ensures leaves_none { ShowsSound self.old → IfOk result (λ done. IsTrue done → LeavesNone (shown self.old blank) event.now (shown self.new blank)) }
         ensures size { page_count self.new ≡ page_count self.old }
     {
         self.happen(event)

@@ -1,6 +1,6 @@
 -- Replays and legal journals, entry by entry.
-use Rattle.std.proofs.Common.{◌≡◌, ◌<◌, ◌≤◌, ℕ, ◌+◌, Bool, true, false, nat_lt, List, [], ◌∷◌, ◌++◌, length, length-append, take, get_or, refl, sym, ap, subst, ◌∙◌, Ok, arith}
-use Rattle.std.proofs.lemmas.List.{take_more, get_or_default, take-append-le, take_all, get_or_append_left, get_or_push, length_push}
+use Rattle.std.proofs.Common.{◌≡◌, ◌<◌, ◌≤◌, ℕ, ◌+◌, Bool, true, false, nat_lt, List, [], ◌∷◌, ◌++◌, length, length-append, length-take-le, take, drop, get_or, refl, sym, ap, subst, ◌∙◌, Ok, arith}
+use Rattle.std.proofs.lemmas.List.{take-append-drop, take_more, get_or_default, take-append-le, take_all, get_or_append_left, get_or_push, length_push}
 use Rattle.std.proofs.lemmas.Bool.Decides.{nat_tests}
 use Rattle.std.proofs.lemmas.Grind.{fold-append}
 use Rattle.be_volume.specs.Ahead.{after, reached}
@@ -70,3 +70,22 @@ legal_last entries now legal =
     let long : length (entries ++ now ∷ []) ≡ length entries + 1 = length_push entries now in
     let whole : take (length entries) (entries ++ now ∷ []) ≡ entries = take-append-le (length entries) entries (now ∷ []) (omega arith) ∙ take_all (length entries) entries (omega arith) in
     subst (λ es. Agrees (replay es) now) whole (legal (length entries) now (omega arith) (sym (get_or_push entries now now (length entries) refl)))
+
+-- the first entries are legal where each of them tells what the volume answers
+pub front_legal : (entries : List Entry) (n : ℕ) → n < length entries → ((i : ℕ) (entry : Entry) → i < n → entry ≡ get_or entries i entry → Agrees (replay (take i entries)) entry) →
+    IsLegal (take n entries)
+front_legal entries n short agree i entry h e =
+    let long : length (take n entries) ≡ n = length-take-le n entries (omega (arith, short)) in
+    let whole : take n entries ++ drop n entries ≡ entries = take-append-drop n entries in
+    let below : i < n = subst (λ k. i < k) long h in
+    let same : take i (take n entries) ≡ take i entries =
+    sym (take-append-le i (take n entries) (drop n entries) (omega (arith, below, long))) ∙ ap (take i) whole in
+    subst (λ es. Agrees (replay es) entry) (sym same)
+    (agree i entry below (e ∙ sym (get_or_append_left (take n entries) (drop n entries) entry i h) ∙ ap (λ es. get_or es i entry) whole))
+
+-- an entry that does not tell what the volume answers, by whatever it is read as
+pub not_agreed : (entries : List Entry) (n : ℕ) (now : Entry) (old : State) (b : Bool) → n < length entries → now ≡ get_or entries n now → old ≡ replay (take n entries) →
+    (Agrees old now → b ≡ true) → b ≡ false → (entry : Entry) → entry ≡ get_or entries n entry → Agrees (replay (take n entries)) entry → ⊥
+not_agreed entries n now old b short is e so not_so entry same agrees =
+    let one : entry ≡ now = same ∙ get_or_default entries n entry now short ∙ sym is in
+    never (sym not_so ∙ so (subst (λ s. Agrees s now) (sym e) (subst (λ x. Agrees (replay (take n entries)) x) one agrees)))

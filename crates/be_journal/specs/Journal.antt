@@ -1,6 +1,7 @@
 -- The journal, its replay, and when it is legal.
-use Rattle.std.specs.Prelude.{◌≡◌, ◌<◌, ◌≤◌, ◌⊎◌, ℕ, List, [], ◌∷◌, ◌++◌, length, take, get_or, fold, filter, refl, nat_eq, All}
+use Rattle.std.specs.Prelude.{◌≡◌, ◌<◌, ◌≤◌, ◌⊎◌, ℕ, List, [], ◌∷◌, ◌++◌, length, take, get_or, fold, filter, refl, nat_eq, All, Some, None}
 use Rattle.std.specs.Coded.{Coded, code_by, coded_ℕ, coded_list, coded×}
+use Rattle.std.specs.declared.option.Option.{Option}
 use Rattle.std.specs.declared.result.Result.{Result}
 use Rattle.std.specs.declared.result.Result.TheVariants.{Ok, Err}
 use Rattle.be_value.specs.declared.refusals.Refusal.{Refusal}
@@ -52,6 +53,11 @@ Agrees s entry = (next : State) × (steps s entry.ops ≡ Ok (next, entry.dones)
 -- each entry tells what the volume answers after the entries before it; none is refused
 abbrev pub IsLegal : List Entry → Type 0
 IsLegal entries = (i : ℕ) (entry : Entry) → i < length entries → entry ≡ get_or entries i entry → Agrees (replay (take i entries)) entry
+
+-- the place of the first entry that does not tell what the volume answers after the entries before it; none where the journal is legal
+abbrev pub IsFirstWrong : List Entry → Option ℕ → Type 0
+IsFirstWrong entries None = IsLegal entries
+IsFirstWrong entries (Some i) = (i < length entries) × IsLegal (take i entries) × ((entry : Entry) → entry ≡ get_or entries i entry → Agrees (replay (take i entries)) entry → ⊥)
 
 -- an entry has 1 to 64 operations, and an answer for each
 abbrev pub IsEntry : Entry → Type 0

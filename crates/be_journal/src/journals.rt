@@ -2,7 +2,7 @@
 //!
 //! An entry is appended in one of two ways. `push` takes the memory that it needs. A writer that must not fail once it has
 //! published takes the memory first, by `reserve`, and then appends by `push_reserved`, which takes none.
-ghost use Rattle.std.specs.Prelude.{◌≡◌, ◌≤◌, ◌<◌, ◌^◌, ◌↔◌, ℕ, length, get_or, true, IfOk, IfErr, OnOk, Ok, [], ◌++◌, ◌+◌, vec_len, vec_capacity};
+ghost use Rattle.std.specs.Prelude.{◌≡◌, ◌≤◌, ◌<◌, ◌^◌, ◌↔◌, ℕ, length, get_or, true, IfOk, IfErr, OnOk, Ok, [], ◌++◌, ◌+◌, vec_len, vec_capacity, All};
 ghost use Rattle.be_volume.specs.Ahead.{after};
 ghost use Rattle.be_volume.specs.Volume.{steps};
 ghost use Rattle.be_value.specs.Refusal.{Answers};
@@ -78,8 +78,8 @@ impl Journal {
         &self.entries[i as usize]
     }
 
-    /// Appends an entry; what was reserved is given up. It is refused with 9 exactly where the journal is at its limit, and
-    /// with 10 below it; the journal is then as it was, and the entry is dropped.
+    /// Appends an entry; what was reserved is given up. It is refused with CommitsSpent exactly where the journal is at its
+    /// limit, and with OutOfMemory below it; the journal is then as it was, and the entry is dropped.
     pub fn push(&mut self, entry: Entry) -> Result<(), Refusal>
         requires { model.IsEntry entry }
         ensures { model.Grows self.old (model.extended self.old entry) result self.new }
@@ -92,8 +92,8 @@ impl Journal {
         Ok(())
     }
 
-    /// Makes room for one entry of so many operations, 1 to 64, in place of any room made before. It is refused with 9 exactly
-    /// where the journal is at its limit, and with 10 below it; the journal is then as it was.
+    /// Makes room for one entry of so many operations, 1 to 64, in place of any room made before. It is refused with
+    /// CommitsSpent exactly where the journal is at its limit, and with OutOfMemory below it; the journal is then as it was.
     pub fn reserve(&mut self, count: usize) -> Result<(), Refusal>
         requires some { 1 ≤ count }
         requires few { count ≤ 64 }
@@ -132,7 +132,7 @@ impl Journal {
     }
 
     /// The volume after the entries, one after the other; an entry that the volume refuses changes nothing as a whole. It is
-    /// refused with 10 alone, and costs what the entries change.
+    /// refused with OutOfMemory alone, and costs what the entries change.
     pub fn replay(&self) -> Result<Volume, Refusal>
         ensures { Answers (λ volume. volume) result (Ok (model.replay self.now.entries)) }
     {
@@ -144,7 +144,8 @@ impl Journal {
     }
 
     /// The journal's text, a line for each entry, numbered from 1: the pass, the operations as script lines with names quoted,
-    /// and their answers, as in `2 by 0 set 1 "size" LONG 5 -> ok`. It is refused with 10 alone.
+    /// and their answers, as in `2 by 0 set 1 "size" LONG 5 -> ok`. It is refused with OutOfMemory
+    /// alone.
     pub fn text(&self) -> Result<String, Refusal>
         ensures { Answers string_bytes result (Ok (lines_from 1 self.now.entries)) }
     {
@@ -157,7 +158,7 @@ impl Journal {
     }
 
     /// Whether the journal is legal: each entry tells what the volume answers after the entries before it, and none is
-    /// refused. It is refused with 10 alone, and costs what the entries change.
+    /// refused. It is refused with OutOfMemory alone, and costs what the entries change.
     pub fn check(&self) -> Result<bool, Refusal>
         ensures ok { IfOk result (λ legal. (legal ≡ true) ↔ model.IsLegal self.now.entries) }
         ensures err { IfErr result (λ e. e ≡ OutOfMemory) }
@@ -221,4 +222,24 @@ fn enter_if_agreed(volume: Volume, entry: &Entry) -> Result<(Volume, bool), Allo
         }
         Err(_) => Ok((volume, false)),
     }
+}
+
+/// The place of the first entry, from 0, that doesn't tell what the volume answers after the entries before it; None where
+/// there is no such entry, and so the journal is legal. It costs what the entries change.
+pub fn first_wrong(alloc: Global, entries: &[Entry]) -> Result<Option<u64>, AllocError>
+    requires are { All model.IsEntry entries.now }
+    requires few { length entries.now < 2 ^ 32 }
+    ensures { IfOk result (λ place. model.IsFirstWrong entries.now place) }
+{
+    let mut reached = Volume::new(alloc);
+    let mut place = 0;
+    for entry in entries {
+        let (next, agrees) = enter_if_agreed(reached, entry)?;
+        if !agrees {
+            return Ok(Some(place));
+        }
+        reached = next;
+        place += 1;
+    }
+    Ok(None)
 }

@@ -66,7 +66,8 @@ fn push_dones(alloc: Global, text: &mut String, dones: &[Done]) -> Result<(), Al
     Ok(())
 }
 
-fn op_text(alloc: Global, op: &Op) -> Result<String, AllocError>
+/// The operation as a script's line, without its end.
+pub fn op_text(alloc: Global, op: &Op) -> Result<String, AllocError>
     ensures { IfOk result (λ text. string_bytes text ≡ spec.op_text op.now) }
 {
     match op {

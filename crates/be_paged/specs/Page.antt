@@ -26,8 +26,8 @@ abbrev pub contents : Version → Contents
 contents version = record { next = version.next; catalog = version.catalog; entries = version.entries.items }
 
 -- index i takes the eleven words from here on
-abbrev pub place_of : ℕ → ℕ
-place_of i = 4 + 11 * i
+abbrev pub entry_place : ℕ → ℕ
+entry_place i = 4 + 11 * i
 
 -- the index that the words from a place on tell: the name's length, its bytes in eight words, the kind's number, the root
 unfoldable pub entry_at : (words : ℕ → ℕ) (at : ℕ) → Entry
@@ -37,7 +37,7 @@ abbrev pub contents_of : (words : ℕ → ℕ) → Contents
 contents_of words = record {
   next = words 2;
   catalog = words 3;
-  entries = map (λ i. entry_at words (place_of i)) (range_with_len 0 (words 1));
+  entries = map (λ i. entry_at words (entry_place i)) (range_with_len 0 (words 1));
 }
 
 -- eleven words tell an index
@@ -52,7 +52,7 @@ pub record IsVersionPage (words : ℕ → ℕ) : Type 0 where
   pub tag : words 0 ≡ 255
   pub few : words 1 ≤ 32
   pub fits : words 2 < 2 ^ 64
-  pub each : (i : ℕ) → i < words 1 → IsEntry words (place_of i)
+  pub each : (i : ℕ) → i < words 1 → IsEntry words (entry_place i)
 
 -- all roots: that of the catalog, and then one for each index
 abbrev pub roots : Contents → List ℕ

@@ -53,7 +53,8 @@ fn holds_both<L: Look>(
     key: &Option<ArrayVec<u8, 264>>,
 ) -> bool
     requires tree { IsTree (L.standing look.old) (L.words look.old) root }
-    ensures found { result ≡ true → (k : List ℕ) × (option_map (λ k. k.items) key.now ≡ Some k) × (is_some (payload_at (pairs (L.words look.old) root) k) ≡ true) }
+    ensures found { result ≡ true → (k : List ℕ) × (option_map (λ k. k.items) key.now ≡ Some k)
+        × (is_some (payload_at (pairs (L.words look.old) root) k) ≡ true) }
     ensures finds { (k : List ℕ) → option_map (λ k. k.items) other.now ≡ Some k → option_map (λ k. k.items) key.now ≡ Some k →
         is_some (payload_at (pairs (L.words look.old) root) k) ≡ true → result ≡ true }
     ensures unchanged { IsUnchanged L.kept L.standing L.words look.old look.new }
@@ -104,8 +105,9 @@ fn put_key<R: Room>(
     }
 }
 
-/// Changes the node's pair in the tree of an index: that of the old value leaves, and that of the new one enters, each if it is of the index's
-/// kind. A pair that stands already isn't touched, and the root and the room are as they were: it is looked for only where the old value has it too, since an index has no pair of another value.
+/// Changes the node's pair in the tree of an index: that of the old value leaves, and that of the new one enters, each if it
+/// is of the index's kind. A pair that stands already isn't touched, and the root and the room are as they were: it is looked
+/// for only where the old value has it too, since an index has no pair of another value.
 fn change_root<R: Room>(
     room: &mut R,
     root: u64,

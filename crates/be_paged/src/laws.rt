@@ -23,7 +23,8 @@ pub fn version_kept()
 {}
 
 /// One page spells one volume: a reader of its words can find no other.
-#[tactic(auto, using(crate::proofs::OneVolume::one_volume))]
+#[tactic(auto, using(crate::proofs::Stored::OneVolume::one_volume))]
 pub fn one_volume()
-    ensures { (standing other : ℕ → Stands) (words : ℕ → ℕ → ℕ) (page : ℕ) (a b : State) → IsVersion standing words page a → IsVersion other words page b → a ≡ b }
+    ensures { (standing other : ℕ → Stands) (words : ℕ → ℕ → ℕ) (page : ℕ) (a b : State)
+        → IsVersion standing words page a → IsVersion other words page b → a ≡ b }
 {}

@@ -1,7 +1,8 @@
 //! A version as a source of queries.
 //!
-//! A walk over an index asks for one key after the other. So the source keeps a cursor of the tree that it walked last, and the place of the item
-//! whose key it gave last: where the next key is asked from that very key, it goes on from there and makes no descent. The nodes of a range are read leaf by leaf, and no key is unpacked.
+//! A walk over an index asks for one key after the other. So the source keeps a cursor of the tree that it walked last, and
+//! the place of the item whose key it gave last: where the next key is asked from that very key, it goes on from there and
+//! makes no descent. The nodes of a range are read leaf by leaf, and no key is unpacked.
 ghost use Rattle.std.specs.Prelude.{◌≡◌, ◌<◌, ℕ, true, length, slice_index_or};
 ghost use Rattle.be_pages.specs.Pages.{IsUnchanged};
 ghost use Rattle.be_tree.specs.Cursor.{IsCursor, remaining};
@@ -37,7 +38,8 @@ pub struct PagedSource<L> {
 /// The version of a page as a source. It reads nothing yet, and keeps the look until `into_look`.
 pub fn source<L: Look>(look: L, version_page: u64) -> PagedSource<L>
     requires version { (volume : State) × IsVersion (L.standing look) (L.words look) version_page volume }
-    ensures answers { (volume : State) → IsVersion (L.standing look) (L.words look) version_page volume → ⟦<PagedSource<L> as Source>⟧.answers_for result volume }
+    ensures answers { (volume : State) → IsVersion (L.standing look) (L.words look) version_page volume
+        → ⟦<PagedSource<L> as Source>⟧.answers_for result volume }
     ensures look { ⟦<PagedSource<L> as Source>⟧.kept result ≡ (L.kept look, (L.standing look, L.words look)) }
 {
     PagedSource {
@@ -63,7 +65,8 @@ impl<L: Look> PagedSource<L> {
         requires in_range { index.place < length (contents_of (L.words self.old.look self.old.page)).entries }
         requires root { (d : AnyEntry) → index.root ≡ (slice_index_or (contents_of (L.words self.old.look self.old.page)).entries index.place d).root }
         requires tree { IsTree (L.standing self.old.look) (L.words self.old.look) index.root }
-        requires behind { StandsBehind (L.standing self.old.look) (L.words self.old.look) (contents_of (L.words self.old.look self.old.page)).entries self.old.cursor self.old.place self.old.last.0 self.old.last.1 }
+        requires behind { StandsBehind (L.standing self.old.look) (L.words self.old.look)
+            (contents_of (L.words self.old.look self.old.page)).entries self.old.cursor self.old.place self.old.last.0 self.old.last.1 }
         ensures cursor { IsCursor (L.standing self.new.look) (L.words self.new.look) self.new.cursor }
         ensures rest { remaining (L.words self.new.look) self.new.cursor ≡ pairs_from (pairs (L.words self.new.look) index.root) from.now after }
         ensures page { self.new.page ≡ self.old.page }

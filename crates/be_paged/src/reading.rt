@@ -45,8 +45,8 @@ pub fn get<L: Look>(look: &mut L, version_page: u64, node: u64, name: &Name) -> 
     value_in(look, catalog, node, name)
 }
 
-/// The attributes of a node, by ascending bytes of their names. It is refused with 2 where the node isn't there, and with 10 only where it is.
-/// It walks over the node's pairs in the catalog's tree.
+/// The attributes of a node, by ascending bytes of their names. It is refused with NoNode where the node isn't
+/// there, and with OutOfMemory only where it is. It walks over the node's pairs in the catalog's tree.
 pub fn attrs<L: Look>(
     alloc: Global,
     look: &mut L,
@@ -67,7 +67,8 @@ pub fn attrs<L: Look>(
     Ok(list_attributes(alloc, look, catalog, node)?)
 }
 
-/// The names and kinds of the indices, by ascending bytes of the names; refused with 10 alone. It reads the version page and no other.
+/// The names and kinds of the indices, by ascending bytes of the names; refused with OutOfMemory alone. It reads the version
+/// page and no other.
 pub fn indices<L: Look>(
     alloc: Global,
     look: &mut L,

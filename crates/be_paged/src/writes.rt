@@ -19,7 +19,8 @@ use be_pages::{Look, Room};
 use be_value::Refusal;
 use be_volume::{Done, Op, first_refusal};
 
-/// The refusal of 2 to 8 that the list meets, if it meets one. It is found from the list and the old version, and nothing changes.
+/// The refusal, from NoNode to NotIndexable, that the list meets, if it meets one. It is found from the list and the old
+/// version, and nothing changes.
 fn refusal<L: Look>(look: &mut L, version: &Version, ops: &[Op]) -> Option<Refusal>
     ghost volume: { State }
     requires answers { AnswersFor (L.standing look.old) (L.words look.old) (contents version.now) volume }
@@ -68,8 +69,9 @@ fn replace_version<R: Room>(room: &mut R, old_page: u64, version: &Version) -> R
 /// list. The new page is one that this write has taken, also where nothing changed. The list is filled where it stands, since one that is given by
 /// value costs its whole capacity.
 ///
-/// The list is refused with 2 to 8 as the plain volume refuses it, before a page is taken, and the room is as it was; or with 11 where no page is
-/// left, and what stood when the write began stands once it is undone. It takes no memory.
+/// The list is refused with NoNode to NotIndexable as the plain volume refuses it, before a page is taken, and the room is
+/// as it was; or with Full where no page is left, and what stood when the write began stands once it is undone. It takes no
+/// memory.
 pub fn apply_into<R: Room>(
     room: &mut R,
     version_page: u64,

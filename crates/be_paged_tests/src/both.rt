@@ -32,7 +32,8 @@ impl Model for Both {
 
     ghost view = { λ b. b.page };
 
-    ghost invariant = { λ b. IsVersion (⟦<VecRoom as Look>⟧.standing b.room) (⟦<VecRoom as Look>⟧.words b.room) b.page b.plain × IsWriteStart (⟦<VecRoom as Look>⟧.standing b.room) };
+    ghost invariant = { λ b. IsVersion (⟦<VecRoom as Look>⟧.standing b.room) (⟦<VecRoom as Look>⟧.words b.room) b.page b.plain
+        × IsWriteStart (⟦<VecRoom as Look>⟧.standing b.room) };
 }
 
 /// An answer that both forms gave, if they did.

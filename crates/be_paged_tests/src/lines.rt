@@ -1,19 +1,10 @@
 //! Requests and replies of tests, as text. Several operations make one list, with `;` between them, and so do their replies.
 use crate::same::same_value;
 use arrayvec::ArrayVec;
+use be_language::{Request, read_line};
 use be_value::{Kind, Name, Refusal, Value, number_of, word_of};
 use be_volume::{Done, Op};
 use std::alloc::{AllocError, Global};
-
-fn read_kind(word: &str) -> Kind {
-    if word == "CSTR" {
-        Kind::Cstr
-    } else if word == "LONG" {
-        Kind::Long
-    } else {
-        Kind::Rawt
-    }
-}
 
 fn read_value(kind: &str, word: &str) -> Option<Value> {
     if kind == "LONG" {
@@ -27,65 +18,13 @@ pub(crate) fn read_number(word: &str) -> Option<u64> {
     word_of(word.as_bytes())
 }
 
-/// The operation of a command and one word.
-fn read_short(command: &str, word: &str) -> Option<Op> {
-    if command == "drop" {
-        Some(Op::Drop(read_number(word)?))
-    } else if command == "rmindex" {
-        Some(Op::RmIndex(Name::new(word).ok()?))
-    } else {
-        None
-    }
-}
-
-/// A set, whose kind and value stand in the text.
-fn read_set(node: u64, name: &str, text: &str) -> Option<Op> {
-    let (kind, word) = text.split_once(" ")?;
-    let value = read_value(kind, word)?;
-    Some(Op::Set(node, Name::new(name).ok()?, value))
-}
-
-/// The operation of a node's attribute.
-fn read_change(command: &str, node: u64, text: &str) -> Option<Op> {
-    if command == "unset" {
-        return Some(Op::Unset(node, Name::new(text).ok()?));
-    }
-    let (name, rest) = text.split_once(" ")?;
-    read_set(node, name, rest)
-}
-
-/// The operation of a command and two words or more.
-fn read_long(command: &str, first: &str, rest: &str) -> Option<Op> {
-    if command == "mkindex" {
-        return Some(Op::MkIndex(Name::new(first).ok()?, read_kind(rest)));
-    }
-    read_change(command, read_number(first)?, rest)
-}
-
-/// The operation of a command and its words.
-fn read_command(command: &str, text: &str) -> Option<Op> {
-    match text.split_once(" ") {
-        Some((first, rest)) => read_long(command, first, rest),
-        None => read_short(command, text),
-    }
-}
-
-/// The operation of a request.
-fn read_op(request: &str) -> Option<Op> {
-    match request.split_once(" ") {
-        Some((command, text)) => read_command(command, text),
-        None if request == "new" => Some(Op::New),
-        None => None,
-    }
-}
-
-/// The operations of a request; none where one of them can't be read.
+/// The operations of a request, each a line of a script; none where one of them is none.
 fn read_list(alloc: Global, request: &str) -> Result<Vec<Op>, AllocError> {
     let mut ops = Vec::new(alloc);
     for part in request.split(';') {
-        match read_op(part) {
-            Some(op) => ops.push(op)?,
-            None => return Ok(Vec::new(alloc)),
+        match read_line(alloc, part.as_bytes())? {
+            Request::Write(Ok(op)) => ops.push(op)?,
+            _ => return Ok(Vec::new(alloc)),
         }
     }
     Ok(ops)

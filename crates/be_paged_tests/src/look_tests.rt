@@ -35,7 +35,7 @@ fn hundred(alloc: Global) -> Result<Both, Fail> {
     Ok(both)
 }
 
-// A walk over a hundred keys reads some words for each, and the look comes back with its count. The version stands.
+/// A walk over a hundred keys reads some words for each, and the look comes back with its count. The version stands.
 #[test]
 fn counting_look(rt: HostRuntime) -> Result<(), Fail> {
     let both = hundred(rt.alloc())?;

@@ -137,7 +137,7 @@ fn runs(alloc: Global, pages: u64, lines: &str) -> Result<(), Fail> {
     Ok(())
 }
 
-// An index takes no page before it has a pair, and gives up all that it has.
+/// An index takes no page before it has a pair, and gives up all that it has.
 #[test]
 fn paged_pool(rt: HostRuntime) -> Result<(), Fail> {
     let lines = "free => 63
@@ -256,7 +256,7 @@ fn make_nodes(both: Both, most: u64) -> Result<(Both, u64), Fail> {
     Ok((both, most))
 }
 
-// A room of eight pages takes at least 13 nodes and at most 36. Then it is full, which the version page outlives.
+/// A room of eight pages takes at least 13 nodes and at most 36. Then it is full, which the version page outlives.
 #[test]
 fn smallest_pool(rt: HostRuntime) -> Result<(), Fail> {
     let (both, made) = make_nodes(Both::new(rt.alloc(), 8)?, 37)?;

@@ -61,8 +61,10 @@ pub(crate) fn apply_pages(
     requires some { 1 ≤ length ops.now }
     requires few { length ops.now ≤ 64 }
     requires fits { volume.next + 64 < 2 ^ 64 }
-    ensures ok { IfOk result (λ r. Applies ⟦<VecRoom as Look>⟧.kept ⟦<VecRoom as Look>⟧.standing ⟦<VecRoom as Look>⟧.words page r.0 volume ops.now r.1.items room.old room.new) }
-    ensures err { IfErr result (λ e. IsRefused ⟦<VecRoom as Look>⟧.kept ⟦<VecRoom as Look>⟧.standing ⟦<VecRoom as Look>⟧.words ⟦<VecRoom as Room>⟧.full volume ops.now e room.old room.new) }
+    ensures ok { IfOk result (λ r. Applies ⟦<VecRoom as Look>⟧.kept ⟦<VecRoom as Look>⟧.standing ⟦<VecRoom as Look>⟧.words
+        page r.0 volume ops.now r.1.items room.old room.new) }
+    ensures err { IfErr result (λ e. IsRefused ⟦<VecRoom as Look>⟧.kept ⟦<VecRoom as Look>⟧.standing ⟦<VecRoom as Look>⟧.words
+        ⟦<VecRoom as Room>⟧.full volume ops.now e room.old room.new) }
 {
     apply(room, page, ops)
 }

@@ -11,7 +11,7 @@ use Rattle.be_pages.specs.declared.room.Standing.{Standing as Stands}
 use Rattle.be_pages.specs.declared.room.Standing.TheVariants as stands
 use Rattle.be_pages.specs.declared.page_pool.Place.{Place}
 use Rattle.be_pages.specs.declared.page_pool.Place.TheVariants.{Free, Reserved, Filled, Current, GivenUp, Retired}
-use Rattle.be_pages.specs.Pages.{StandsAt, after_give_up, after_keep, after_undo, is_held, is_taken, is_free as stands_free}
+use Rattle.be_pages.specs.Pages.{StandsAt, after_give_up, after_keep, after_undo, is_held, is_taken, is_takable as stands_free}
 use Rattle.be_pages.specs.Place.{given_place, is_free, is_held_page, is_in_hand, is_retired, kept_place, place_of, undone_place}
 use Rattle.be_pages.specs.VecRoom.{standing_in, standing_of, standings}
 use Rattle.be_pages.proofs.PageSets.{same_test, other_test}

@@ -10,11 +10,13 @@
 //! since its words are still near. The pages that the open write took or gave up lie on another, so the write ends by
 //! walking these alone. The retired pages stand in a queue, oldest first, so a sweep stops at the first one that has
 //! to wait. Each list has room for every page from the start: no call but `new` takes memory.
-ghost use Rattle.std.specs.Prelude.{◌≡◌, ◌≢◌, ℕ, ◌+◌, ◌<◌, ◌≤◌, List, Bool, true, false, length, vec_len, map, count_by, slice_set, slice_index, slice_index_or, IsTrue, IfOk, IfSome, IfNone};
+ghost use Rattle.std.specs.Prelude.{◌≡◌, ◌≢◌, ℕ, ◌+◌, ◌<◌, ◌≤◌, List, Bool, true, false, length, vec_len, map, count_by, slice_set};
+ghost use Rattle.std.specs.Prelude.{slice_index, slice_index_or, IsTrue, IfOk, IfSome, IfNone};
 ghost use Rattle.std.specs.VecDeque.{deque_len, deque_capacity};
 ghost use Rattle.be_pages.specs.Pages.{times};
 ghost use Rattle.be_pages.specs.PageSet.{has_page, one_if};
-ghost use Rattle.be_pages.specs.Place.{given_place, is_free, is_held_page, is_idle, is_in_hand, is_retired, kept_place, number_of, place_after, place_of, published_place, swept_place, undone_place, IsNewest, IsOldestFirst};
+ghost use Rattle.be_pages.specs.Place.{given_place, is_free, is_held_page, is_idle, is_in_hand, is_retired, kept_place, number_of};
+ghost use Rattle.be_pages.specs.Place.{place_after, place_of, published_place, swept_place, undone_place, IsNewest, IsOldestFirst};
 ghost use Rattle.be_pages.specs.declared.page_pool.Place.TheVariants.{Free, Reserved, Filled, Current, GivenUp, Retired};
 ghost use Rattle.be_pages.specs.declared.page_pool.Ending.TheVariants.{Published, Kept, Undone};
 
@@ -210,7 +212,8 @@ impl PagePool {
     /// The oldest retired page, if its number is below `least`.
     fn expired(&self, least: u64) -> Option<u64>
         ensures first { IfSome result (λ page. (0 < length self.now.retired.items) × (page ≡ slice_index self.now.retired.items 0)) }
-        ensures retired { IfSome result (λ page. (is_retired (place_of (places self.now) page) ≡ true) × (swept_place least (place_of (places self.now) page) ≡ Free)) }
+        ensures retired { IfSome result (λ page. (is_retired (place_of (places self.now) page) ≡ true)
+            × (swept_place least (place_of (places self.now) page) ≡ Free)) }
         ensures none { IfNone result ((q : ℕ) → swept_place least (place_of (places self.now) q) ≡ place_of (places self.now) q) }
     {
         let page = *self.retired.front()?;

@@ -2,7 +2,7 @@
 //! tests, and where one thread alone reads and writes.
 ghost use Rattle.std.specs.Prelude.{◌≡◌, ◌≢◌, ℕ, ◌<◌, ◌≤◌, ◌*◌, false, length, vec_len, count_by, slice_index, IfOk, IfErr, OnErr, ◌^◌};
 ghost use Rattle.be_pages.specs.declared.room.Standing.TheVariants.{Free, Taken};
-ghost use Rattle.be_pages.specs.Pages.{StandsAt, after_keep, after_undo, is_free};
+ghost use Rattle.be_pages.specs.Pages.{StandsAt, after_keep, after_undo, is_takable};
 ghost use Rattle.be_pages.specs.PagePool.{places};
 ghost use Rattle.be_pages.specs.Place.{is_retired, place_of};
 ghost use Rattle.be_pages.specs.Refusal.{IsFullOf, IsLimitOrMemory};
@@ -115,7 +115,7 @@ impl VecRoom {
     /// How many pages are free.
     #[tactic(auto, using(crate::proofs::Rooms::count_free))]
     pub fn free(&self) -> u64
-        ensures { result ≡ count_by is_free (standings (places self.now.pool)) }
+        ensures { result ≡ count_by is_takable (standings (places self.now.pool)) }
     {
         self.pool.free() as u64
     }

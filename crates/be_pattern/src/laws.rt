@@ -19,5 +19,6 @@ pub fn characters()
     // The tokens that a text spells name no character that the text lacks.
     ensures named { (test : ℕ → Bool) (cs : List ℕ) (ps : List Part) → pattern cs ≡ Ok ps → list_all test cs ≡ true → list_all (has_only test) ps ≡ true }
     // The canonical text has the characters that its tokens name, and those of the notation.
-    ensures printed { (test : ℕ → Bool) (ps : List Part) → list_all test notation ≡ true → list_all (has_only test) ps ≡ true → list_all test (canonical ps) ≡ true }
+    ensures printed { (test : ℕ → Bool) (ps : List Part) → list_all test notation ≡ true → list_all (has_only test) ps ≡ true
+        → list_all test (canonical ps) ≡ true }
 {}

@@ -29,7 +29,8 @@ impl Letter {
 
 /// The first letter and the text after it. There is none at the end, and none of an ending backslash.
 fn split_letter(text: &str) -> Option<(Letter, &str)>
-    ensures some { IfSome result (λ p. (total : ℕ) → length text.now ≤ total → letters_in total text.now ≡ letter_of (total - length text.now) p.0 ∷ letters_in total p.1.now) }
+    ensures some { IfSome result (λ p. (total : ℕ) → length text.now ≤ total
+        → letters_in total text.now ≡ letter_of (total - length text.now) p.0 ∷ letters_in total p.1.now) }
     ensures ending { IfSome result (λ p. (total : ℕ) → length text.now ≤ total → ending_in total text.now ≡ ending_in total p.1.now) }
     ensures none { IfNone result ((total : ℕ) → letters_in total text.now ≡ []) }
     ensures end { IfNone result ((total : ℕ) → ending_in total text.now ≡ ending_of total (length text.now)) }
@@ -118,8 +119,10 @@ fn read_token(
 
 /// The text behind a `^` that stands first.
 fn split_caret(text: &str) -> Option<&str>
-    ensures some { IfSome result (λ after. (total : ℕ) → length text.now ≤ total → set_behind (letters_in total text.now) ≡ with_members true (members_behind (letters_in total after.now))) }
-    ensures none { IfNone result ((total : ℕ) → length text.now ≤ total → set_behind (letters_in total text.now) ≡ with_members false (members_behind (letters_in total text.now))) }
+    ensures some { IfSome result (λ after. (total : ℕ) → length text.now ≤ total
+        → set_behind (letters_in total text.now) ≡ with_members true (members_behind (letters_in total after.now))) }
+    ensures none { IfNone result ((total : ℕ) → length text.now ≤ total
+        → set_behind (letters_in total text.now) ≡ with_members false (members_behind (letters_in total text.now))) }
     ensures shorter { IfSome result (λ after. length after.now ≤ length text.now) }
 {
     let Some((letter, after)) = split_letter(text) else {

@@ -2,7 +2,8 @@
 ghost use Rattle.std.specs.Prelude.{◌≡◌, ◌++◌, ◌∷◌, ◌<◌, false, [], length, IfOk, IfNone, IfSome, string_bytes, encode_utf8_all};
 ghost use Rattle.std.specs.List.{flat_map};
 ghost use Rattle.be_pattern.specs.Match.{Only, part_of, parts_of};
-ghost use Rattle.be_pattern.specs.Canonical.{canonical, is_literal, is_plain, is_prefix, is_special, is_special_in_set, marked, member, member_char, opening, part_text, literal_prefix};
+ghost use Rattle.be_pattern.specs.Canonical.{canonical, is_literal, is_plain, is_prefix, is_special, is_special_in_set, marked, member};
+ghost use Rattle.be_pattern.specs.Canonical.{member_char, opening, part_text, literal_prefix};
 
 use crate::token::Token;
 use std::alloc::{AllocError, Global};
@@ -138,7 +139,8 @@ fn push_marked(text: &mut String, c: char, backslash: bool) -> Result<(), AllocE
 
 /// Appends a set.
 fn push_set(text: &mut String, negated: bool, members: &[(char, char)]) -> Result<(), AllocError>
-    ensures { IfOk result (λ _. string_bytes text.new ≡ string_bytes text.old ++ encode_utf8_all (opening negated ++ (flat_map member members.now ++ 93 ∷ []))) }
+    ensures { IfOk result (λ _. string_bytes text.new
+        ≡ string_bytes text.old ++ encode_utf8_all (opening negated ++ (flat_map member members.now ++ 93 ∷ []))) }
 {
     push_opening(text, negated)?;
     let mut rest = members;

@@ -19,7 +19,7 @@ use Rattle.be_plan.specs.Cover.{Comparison, leaves, covers, covers_part, rests_o
 use Rattle.be_volume.specs.Sound.{IsSound, IsPaired}
 use Rattle.be_plan.specs.Walk.{AllSatisfy, HasReached}
 use Rattle.be_plan.proofs.Ways.{Way, IsPart, way, is_covered, at_pick, or_cases, and_first, and_second, nat_is}
-use Rattle.be_plan.proofs.Rising.{in_by_place, place_of, same_rising, in_filter, from_filter, rises_filter, rises_increasing, rises_keys}
+use Rattle.be_plan.proofs.Rising.{in_by_place, contains_of_is_in, same_rising, in_filter, from_filter, rises_filter, rises_increasing, rises_keys}
 
 -- a node with an attribute is there
 has_attribute : (s : State) (node : ℕ) (name : List ℕ) (value : Value) → attribute s node name ≡ Some value → map.contains_key s.nodes node ≡ true
@@ -55,7 +55,7 @@ scanned s f picks found sound rest covers rising satisfy reached =
     let w : Way s picks f n 0 f = found_way n holds in
     in_by_place found n (reached w.pick w.is_pick n (record { picked = w.picked; there = w.there; value = w.value; seen = w.seen; allows = w.allows w.picked.name w.value w.seen }) holds))
     (λ n h.
-    let holds : sat s f n ≡ true = satisfy n (place_of found n h) in
+    let holds : sat s f n ≡ true = satisfy n (contains_of_is_in found n h) in
     let w : Way s picks f n 0 f = found_way n holds in
     in_filter (sat s f) (map.keys s.nodes) n (sym (map.contains_key-keys s.nodes n) ∙ is_node s sound n w.picked.name w.value (rests n holds) w.seen) holds))
 

@@ -14,7 +14,7 @@ ghost use Rattle.std.specs.Prelude.{◌≡◌, ◌<◌, ◌≤◌, ◌+◌, ◌^
 ghost use Rattle.std.specs.Str.{chars};
 ghost use Rattle.be_pattern.specs.Match.{matches};
 ghost use Rattle.be_pattern.specs.Canonical.{is_plain};
-ghost use Rattle.be_value.specs.Key.{key as key_bytes, value_key, counted, IsValue};
+ghost use Rattle.be_value.specs.Key.{key as key_bytes, value_key, IsValue};
 ghost use Rattle.be_value.specs.Name.{has_nul};
 ghost use Rattle.be_value.specs.Value.{kind_of};
 ghost use Rattle.be_value.specs.declared.values.Value.{Value as AnyValue};
@@ -27,7 +27,7 @@ ghost use Rattle.be_plan.specs.Narrow.{IsIn, IsBetween, IsPair, StandsFor, HasEn
 use crate::ranges::Range;
 use be_pattern::Pattern;
 use be_query::{Cmp, Comparison, Literal, Tree};
-use be_value::{Kind, Name};
+use be_value::{Kind, Name, counted32, counted64};
 use be_volume::literal_number;
 
 /// What stands in a text's key behind the text, with the least node.
@@ -94,24 +94,6 @@ fn narrow_by_integer(range: &mut Range, comparison: &Comparison, kind: Kind, byt
         holds comparison.now.op v (literal comparison.now.literal) ≡ true }
 {
     narrow_by(range, comparison, kind, bytes, &NUMBER_FIRST, &NUMBER_AFTER)
-}
-
-/// A number of 32 bits counted from the least one.
-fn counted32(n: i32) -> u32
-    ensures { result ≡ counted (2 ^ 31) n }
-{
-    (i64::from(n) + (1 << 31)) as u32
-}
-
-/// A number of 64 bits counted from the least one.
-fn counted64(n: i64) -> u64
-    ensures { result ≡ counted (2 ^ 63) n }
-{
-    if n < 0 {
-        (n - i64::MIN) as u64
-    } else {
-        n as u64 + (1 << 63)
-    }
 }
 
 /// The same by the number that the literal spells, if a value of the kind is this number; else the range stays.
@@ -209,7 +191,8 @@ fn narrow_integers(range: &mut Range, comparison: &Comparison, kind: Kind) -> bo
     false
 }
 
-/// What is above each byte that may stand behind the pattern's literal characters in a key: a zero byte where it has no wildcard, else also the first byte of a character.
+/// What is above each byte that may stand behind the pattern's literal characters in a key: a zero byte where it has no
+/// wildcard, else also the first byte of a character.
 fn limit_of(pattern: &Pattern) -> u8
     ensures { result ≡ limit (is_plain pattern.now) }
 {

@@ -7,6 +7,7 @@
 ghost use Rattle.be_volume.specs.Volume.{State};
 ghost use Rattle.be_plan.specs.Sources.{IsVolume};
 
+use crate::tests::keys_within;
 use arrayvec::ArrayVec;
 use be_plan::{Source, VolumeSource, choose_from, run, volume_source};
 use be_query::parse;
@@ -39,29 +40,6 @@ fn start_counting(volume: &Volume) -> Counting<'_>
     }
 }
 
-/// Whether the key is above the bound, if there is one.
-fn is_past(high: Option<&[u8]>, key: &[u8]) -> bool {
-    match high {
-        Some(high) => key > high,
-        None => false,
-    }
-}
-
-/// How many keys of the index lie from `low` to `high`, up to 16, counted from key to key.
-fn count_within(volume: &Volume, name: &Name, low: &[u8], high: Option<&[u8]>) -> usize {
-    let mut next = volume.next_key(name, low, false);
-    for count in 0..16 {
-        let Some(key) = &next else {
-            return count;
-        };
-        if is_past(high, key.as_slice()) {
-            return count;
-        }
-        next = volume.next_key(name, key.as_slice(), true);
-    }
-    16
-}
-
 impl Source for Counting<'_> {
     ghost use Rattle.be_volume.specs.Volume.{State};
     ghost use Rattle.be_plan.specs.Sources.{IsVolume};
@@ -90,7 +68,7 @@ impl Source for Counting<'_> {
         high: Option<&[u8]>,
         found: &mut Vec<u64>,
     ) -> Result<(), Refusal> {
-        let keys = count_within(self.volume, name, low, high);
+        let keys = keys_within(self.volume, name, low, high);
         self.asked = self.asked.wrapping_add(keys).wrapping_add(1);
         self.source.nodes_within(name, low, high, found)
     }

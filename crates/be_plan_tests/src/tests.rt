@@ -1,20 +1,22 @@
 //! Worked examples, over a plain volume's source that writes down its calls.
 //!
-//! A volume is made by lines such as `set 1 n LONG 5`. What is asked of it stands in lines `COMMAND QUERY => REPLY`. The command `explain` asks
-//! what the query is answered from, and `query` for its nodes by these picks. Digits are a command too: the nodes by these picks, a digit for
-//! each. Behind the nodes stands of which indices a key was asked, the first letter of the name for each call, and for a range that is asked
-//! for whole, one for each key that lies in it and one for its end: `nodes 2 3 asks nnn`.
+//! A volume is made by lines of a script, such as `set 1 n LONG 5`. What is asked of it stands in lines
+//! `COMMAND QUERY => REPLY`. The command `explain` asks what the query is answered from, and `query` for its nodes by these
+//! picks. Digits are a command too: the nodes by these picks, a digit for each. Behind the nodes stands of which indices a
+//! key was asked, the first letter of the name for each call, and for a range that is asked for whole, one for each key that
+//! lies in it and one for its end: `nodes 2 3 asks nnn`.
 
 ghost use Rattle.be_volume.specs.Volume.{State};
 ghost use Rattle.be_plan.specs.Sources.{IsVolume};
 
 use arrayvec::{ArrayString, ArrayVec};
+use be_language::{Request, read_line};
 use be_plan::{
     Cover, Picks, Source, VolumeSource, choose, choose_from, covers, explain, run, volume_source,
 };
 use be_query::{Query, parse};
-use be_value::{Kind, Name, Refusal, Value, number_of, word_of};
-use be_volume::{Op, Volume};
+use be_value::{Kind, Name, Refusal, Value};
+use be_volume::Volume;
 use std::alloc::Global;
 use std::test::Fail;
 
@@ -31,7 +33,7 @@ fn is_past(high: Option<&[u8]>, key: &[u8]) -> bool {
 }
 
 /// How many keys of the index lie from `low` to `high`, up to 64, counted from key to key.
-fn keys_within(volume: &Volume, name: &Name, low: &[u8], high: Option<&[u8]>) -> usize {
+pub(crate) fn keys_within(volume: &Volume, name: &Name, low: &[u8], high: Option<&[u8]>) -> usize {
     let mut next = volume.next_key(name, low, false);
     for count in 0..64 {
         let Some(key) = &next else {
@@ -119,61 +121,12 @@ impl Source for Recording<'_> {
     }
 }
 
-fn read_kind(word: &str) -> Option<Kind> {
-    if word == "CSTR" {
-        Some(Kind::Cstr)
-    } else if word == "LONG" {
-        Some(Kind::Long)
-    } else if word == "LLNG" {
-        Some(Kind::Llng)
-    } else if word == "ULNG" {
-        Some(Kind::Ulng)
-    } else if word == "ULLG" {
-        Some(Kind::Ullg)
-    } else {
-        None
-    }
-}
-
-fn read_value(kind: Kind, word: &str) -> Option<Value> {
-    match kind {
-        Kind::Long => Some(Value::int32(i32::try_from(number_of(word)?).ok()?)),
-        Kind::Llng => Some(Value::int64(i64::try_from(number_of(word)?).ok()?)),
-        Kind::Ulng => Some(Value::uint32(u32::try_from(number_of(word)?).ok()?)),
-        Kind::Ullg => Some(Value::uint64(u64::try_from(number_of(word)?).ok()?)),
-        Kind::Cstr | Kind::Mims | Kind::Rawt => Value::text(word).ok(),
-    }
-}
-
-/// The operation of a line.
-fn read_op(line: &str) -> Option<Op> {
-    let mut words = line.split(' ');
-    let command = words.next()?;
-    if command == "new" {
-        return Some(Op::New);
-    }
-    let first = words.next()?;
-    if command == "drop" {
-        return Some(Op::Drop(word_of(first.as_bytes())?));
-    }
-    let second = words.next()?;
-    if command == "mkindex" {
-        return Some(Op::MkIndex(Name::new(first).ok()?, read_kind(second)?));
-    }
-    let node = word_of(first.as_bytes())?;
-    let kind = read_kind(words.next()?)?;
-    Some(Op::Set(
-        node,
-        Name::new(second).ok()?,
-        read_value(kind, words.next()?)?,
-    ))
-}
-
 /// Does the operation of a line, which has to be accepted.
-fn write(volume: &mut Volume, line: &str) -> Result<(), Refusal> {
-    let Some(op) = read_op(line) else {
+fn write(alloc: Global, volume: &mut Volume, line: &str) -> Result<(), Refusal> {
+    let Request::Write(op) = read_line(alloc, line.as_bytes())? else {
         return Err(Refusal::BadLimits);
     };
+    let op = op?;
     if volume.next() > u64::MAX - 64 {
         return Err(Refusal::BadLimits);
     }
@@ -185,8 +138,8 @@ fn write(volume: &mut Volume, line: &str) -> Result<(), Refusal> {
 fn volume_of(alloc: Global, lines: &str) -> Result<Volume, Refusal> {
     let mut volume = Volume::new(alloc);
     for line in lines.lines() {
-        match write(&mut volume, line) {
-            Err(Refusal::OutOfMemory) => write(&mut volume, line)?,
+        match write(alloc, &mut volume, line) {
+            Err(Refusal::OutOfMemory) => write(alloc, &mut volume, line)?,
             done => done?,
         }
     }
@@ -241,7 +194,7 @@ fn answer(alloc: Global, volume: &Volume, command: &str, query: &Query) -> Resul
     found(alloc, volume, query, &cover)
 }
 
-/// The reply to a request; refused with 10 alone.
+/// The reply to a request; refused with OutOfMemory alone.
 fn reply_to(alloc: Global, volume: &Volume, request: &str) -> Result<String, Refusal> {
     let Some((command, text)) = request.split_once(' ') else {
         return Ok(String::new(alloc));

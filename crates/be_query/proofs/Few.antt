@@ -8,8 +8,8 @@ use Rattle.be_value.specs.declared.refusals.Refusal.TheVariants.{Syntax, BadPatt
 use Rattle.be_query.specs.declared.tree.Cmp.{Cmp}
 use Rattle.be_query.specs.Tokens.{Token, Open, Close, Bang, Both, Either, Compares, Text, plain, is_name}
 use Rattle.be_query.specs.Grammar.{Formula, Leaf, And, Or, complement, comparisons, literal_of, Spells}
-use Rattle.be_query.specs.Reading.{Place, Operand, Mark, next}
-use Rattle.be_query.specs.Building.{Level, Stage, Operands, Operators, Values, Joints, State, start, turned, conjunction, disjunction, joined, with_operand, with_side, close, build_at, build, build_from, tree_at, tree_of, place_of, marks_of, view_of, IsSettled}
+use Rattle.be_query.specs.Reading.{Awaited, Operand, Mark, next}
+use Rattle.be_query.specs.Building.{Level, Stage, Operands, Operators, Values, Joints, State, start, turned, conjunction, disjunction, joined, with_operand, with_side, close, build_at, build, build_from, tree_at, tree_of, awaited_at, marks_of, view_of, IsSettled}
 use Rattle.be_query.specs.Lexing.{Placed, Lexeme, Whole, Broken, Odd, lexemes, whole, all_whole, tokens}
 use Rattle.be_query.specs.Faults.{bad_pattern, value_fault, own_fault, counted, broken_at, first_fault, fault}
 use Rattle.be_query.specs.Rpn as rpn
@@ -127,8 +127,8 @@ value_few n start None h = go (nat_le 256 n) refl h
     go true e k = cc
     go false e k = leb-false 256 n e
 
-one_more : (stage : Stage) (level : Level) (outer : List Level) (n start : ℕ) (t : Token) → (s : State) → build_at stage level outer t ≡ Some s → own_fault (place_of stage) (marks_of level outer) n start t ≡ None → n ≤ 256
-    → (ends_one stage + n ≡ counted (place_of stage) n) × (counted (place_of stage) n ≤ 256)
+one_more : (stage : Stage) (level : Level) (outer : List Level) (n start : ℕ) (t : Token) → (s : State) → build_at stage level outer t ≡ Some s → own_fault (awaited_at stage) (marks_of level outer) n start t ≡ None → n ≤ 256
+    → (ends_one stage + n ≡ counted (awaited_at stage) n) × (counted (awaited_at stage) n ≤ 256)
 unfolding ends_one
 one_more Operands level outer n start t s b h k = (omega arith, k)
 one_more (Operators name) level outer n start t s b h k = (omega arith, k)
@@ -155,7 +155,7 @@ none_built (x ∷ ts) t e = cc
 
 -- What is read on without a fault has no more comparisons than were counted.
 Few : List Placed → Type 0
-Few xs = (s : State) (n len : ℕ) (t : Formula) → IsSettled s → first_fault (place_of s.stage) (marks_of s.level s.outer) n len xs ≡ None
+Few xs = (s : State) (n len : ℕ) (t : Formula) → IsSettled s → first_fault (awaited_at s.stage) (marks_of s.level s.outer) n len xs ≡ None
     → in_state s.stage s.level s.outer ≤ n → n ≤ 256 → tree_of (build_from (Some s) (whole xs)) ≡ Some t → comparisons t ≤ 256
 
 few_none : Few []
@@ -172,18 +172,18 @@ few_token at start tk xs rest s n len t settled f h k e = by_next (build s tk) r
     x : Placed
     x = record { at = at; start = start; lexeme = Whole tk }
 
-    by_own : (p : State) → build s tk ≡ Some p → tree_of (build_from (Some p) (whole xs)) ≡ Some t → (o : Option Refusal) → own_fault (place_of s.stage) (marks_of s.level s.outer) n start tk ≡ o → comparisons t ≤ 256
-    by_own p b e (Some r) w = let stops = own_stops (place_of s.stage) (marks_of s.level s.outer) n len x tk xs (view_of p) r refl (build_seen s.stage s.level s.outer tk settled ∙ ap seen b) w in absurd (let no : Some r ≡ None = sym stops ∙ f in cc)
+    by_own : (p : State) → build s tk ≡ Some p → tree_of (build_from (Some p) (whole xs)) ≡ Some t → (o : Option Refusal) → own_fault (awaited_at s.stage) (marks_of s.level s.outer) n start tk ≡ o → comparisons t ≤ 256
+    by_own p b e (Some r) w = let stops = own_stops (awaited_at s.stage) (marks_of s.level s.outer) n len x tk xs (view_of p) r refl (build_seen s.stage s.level s.outer tk settled ∙ ap seen b) w in absurd (let no : Some r ≡ None = sym stops ∙ f in cc)
     by_own p b e None w =
-        let g = goes_on (place_of s.stage) (marks_of s.level s.outer) n len x tk xs (view_of p) refl (build_seen s.stage s.level s.outer tk settled ∙ ap seen b) w in
+        let g = goes_on (awaited_at s.stage) (marks_of s.level s.outer) n len x tk xs (view_of p) refl (build_seen s.stage s.level s.outer tk settled ∙ ap seen b) w in
         let held : in_state p.stage p.level p.outer ≤ in_state s.stage s.level s.outer + ends_one s.stage = subst (Holds (in_state s.stage s.level s.outer + ends_one s.stage)) b (build_holds s.stage s.level s.outer tk) in
         let c = one_more s.stage s.level s.outer n start tk p b w k in
         let counts = c.0 in
-        rest p (counted (place_of s.stage) n) len t (subst SettledIf b (settled_build s.stage s.level s.outer tk)) (sym g ∙ f) (omega arith) c.1 e
+        rest p (counted (awaited_at s.stage) n) len t (subst SettledIf b (settled_build s.stage s.level s.outer tk)) (sym g ∙ f) (omega arith) c.1 e
 
     by_next : (p : Option State) → build s tk ≡ p → tree_of (build_from p (whole xs)) ≡ Some t → comparisons t ≤ 256
     by_next None b e = absurd (none_built (whole xs) t e)
-    by_next (Some p) b e = by_own p b e (own_fault (place_of s.stage) (marks_of s.level s.outer) n start tk) refl
+    by_next (Some p) b e = by_own p b e (own_fault (awaited_at s.stage) (marks_of s.level s.outer) n start tk) refl
 
 few_more : (x : Placed) (xs : List Placed) → Few xs → Few (x ∷ xs)
 unfolding Few
@@ -191,7 +191,7 @@ few_more x xs rest = by_lexeme x.lexeme
   where
     by_lexeme : (l : Lexeme) → Few (record { at = x.at; start = x.start; lexeme = l } ∷ xs)
     by_lexeme Odd s n len t settled f h k e = absurd (let no : Some (Syntax x.at) ≡ None = f in cc)
-    by_lexeme (Broken m) s n len t settled f h k e = absurd (let no : Some (Syntax (broken_at (place_of s.stage) x.at m)) ≡ None = f in cc)
+    by_lexeme (Broken m) s n len t settled f h k e = absurd (let no : Some (Syntax (broken_at (awaited_at s.stage) x.at m)) ≡ None = f in cc)
     by_lexeme (Whole tk) s n len t settled f h k e = few_token x.at x.start tk xs rest s n len t settled f h k e
 
 read_few : (xs : List Placed) → Few xs
@@ -207,17 +207,17 @@ fault_short text h = go (nat_lt 4096 (length text)) refl h
 
 -- Where there is no fault each lexeme is a token.
 Unbroken : ℕ → List Placed → Type 0
-Unbroken len xs = (place : Place) (marks : List Mark) (n : ℕ) → first_fault place marks n len xs ≡ None → all_whole xs ≡ true
+Unbroken len xs = (place : Awaited) (marks : List Mark) (n : ℕ) → first_fault place marks n len xs ≡ None → all_whole xs ≡ true
 
 unbroken_more : (len : ℕ) (x : Placed) (xs : List Placed) → Unbroken len xs → Unbroken len (x ∷ xs)
 unfolding Unbroken
 unbroken_more len x xs rest place marks n = by_lexeme x.lexeme
   where
-    by_own : (s : Place × List Mark) (o : Option Refusal) → ◌≡◌ {A = Option Refusal} (elim o [ Some r ↦ Some r | None ↦ first_fault s.0 s.1 (counted place n) len xs ]) None → all_whole xs ≡ true
+    by_own : (s : Awaited × List Mark) (o : Option Refusal) → ◌≡◌ {A = Option Refusal} (elim o [ Some r ↦ Some r | None ↦ first_fault s.0 s.1 (counted place n) len xs ]) None → all_whole xs ≡ true
     by_own s (Some r) f = absurd (let no : Some r ≡ None = f in cc)
     by_own s None f = rest s.0 s.1 (counted place n) f
 
-    by_next : (t : Token) (o : Option (Place × List Mark))
+    by_next : (t : Token) (o : Option (Awaited × List Mark))
         → ◌≡◌ {A = Option Refusal} (elim o [ None ↦ Some (Syntax x.at) | Some s ↦ elim (own_fault place marks n x.start t) [ Some r ↦ Some r | None ↦ first_fault s.0 s.1 (counted place n) len xs ] ]) None → all_whole xs ≡ true
     by_next t None f = absurd (let no : Some (Syntax x.at) ≡ None = f in cc)
     by_next t (Some s) f = by_own s (own_fault place marks n x.start t) f

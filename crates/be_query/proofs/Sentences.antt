@@ -3,7 +3,7 @@ use Rattle.std.proofs.Common.{◌≡◌, ℕ, ◌+◌, Bool, true, false, zero, 
 use Rattle.be_query.specs.Tokens.{Token, Open, Close, Bang, Both, Either, Compares, Text, is_name}
 use Rattle.be_query.specs.Grammar.{or_tree, Formula, Spells}
 use Rattle.be_query.specs.Reading.{Joint, read_from}
-use Rattle.be_query.specs.Building.{Level, Stage, Operands, Operators, Values, Joints, State, start, close, build_at, build, build_from, tree_at, tree_of, place_of, negations_on, marks_of, IsSettledAt, IsSettled}
+use Rattle.be_query.specs.Building.{Level, Stage, Operands, Operators, Values, Joints, State, start, close, build_at, build, build_from, tree_at, tree_of, awaited_at, negations_on, marks_of, IsSettledAt, IsSettled}
 use Rattle.be_query.specs.Lexing.{lexemes}
 use Rattle.be_query.proofs.Viability.{read_sentence}
 use Rattle.be_query.proofs.Trees.{seen, build_seen, tree_built}
@@ -66,7 +66,7 @@ settled_from s [] h = h
 settled_from None (t ∷ ts) h = tt
 settled_from (Some s) (t ∷ ts) h = settled_from (build s t) ts (settled_build s.stage s.level s.outer t)
 
-whole_view : (stage : Stage) (level : Level) (outer : List Level) (t : Formula) → IsSettledAt stage level → tree_at stage level outer ≡ Some t → (place_of stage ≡ Joint) × (marks_of level outer ≡ [])
+whole_view : (stage : Stage) (level : Level) (outer : List Level) (t : Formula) → IsSettledAt stage level → tree_at stage level outer ≡ Some t → (awaited_at stage ≡ Joint) × (marks_of level outer ≡ [])
 whole_view Operands level outer t h e = cc
 whole_view (Operators n) level outer t h e = cc
 whole_view (Values n op) level outer t h e = cc

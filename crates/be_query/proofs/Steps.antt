@@ -6,8 +6,8 @@ use Rattle.be_value.specs.declared.refusals.Refusal.TheVariants.{Syntax, BadPatt
 use Rattle.be_query.specs.declared.tree.Cmp.{Cmp}
 use Rattle.be_query.specs.Grammar.{Formula, Leaf, literal_of}
 use Rattle.be_query.specs.Tokens.{Token, Close, Text}
-use Rattle.be_query.specs.Reading.{Place, Value, Joint, Mark, Paren, ended, next}
-use Rattle.be_query.specs.Building.{Level, Stage, Values, Joints, State, turned, conjunction, ended_level, with_side, joined, close, build_at, place_of, negations_on, outer_marks, marks_of, view_of, IsSettledAt}
+use Rattle.be_query.specs.Reading.{Awaited, Value, Joint, Mark, Paren, ended, next}
+use Rattle.be_query.specs.Building.{Level, Stage, Values, Joints, State, turned, conjunction, ended_level, with_side, joined, close, build_at, awaited_at, negations_on, outer_marks, marks_of, view_of, IsSettledAt}
 use Rattle.be_query.specs.Lexing.{Placed, Whole}
 use Rattle.be_query.specs.Faults.{first_fault, own_fault, counted, bad_pattern, value_fault, ends}
 use Rattle.be_query.proofs.Trees.{seen, build_seen}
@@ -23,15 +23,15 @@ pub negations_within : (level : Level) (outer : List Level) → level.negations 
 negations_within level outer = omega (arith, length-negations level.negations (outer_marks outer))
 
 -- the reading goes on behind a token that can follow and has no fault
-pub goes_on : (place : Place) (marks : List Mark) (n len : ℕ) (x : Placed) (t : Token) (xs : List Placed) (s : Place × List Mark)
+pub goes_on : (place : Awaited) (marks : List Mark) (n len : ℕ) (x : Placed) (t : Token) (xs : List Placed) (s : Awaited × List Mark)
     → x.lexeme ≡ Whole t → next place marks t ≡ Some s → own_fault place marks n x.start t ≡ None
     → first_fault place marks n len (x ∷ xs) ≡ first_fault s.0 s.1 (counted place n) len xs
 goes_on place marks n len x t xs s e k h = rw e (rw k (rw h refl))
 
 pub built_on : (stage : Stage) (level : Level) (outer : List Level) (n len : ℕ) (x : Placed) (t : Token) (xs : List Placed) (p : State)
-    → IsSettledAt stage level → x.lexeme ≡ Whole t → build_at stage level outer t ≡ Some p → own_fault (place_of stage) (marks_of level outer) n x.start t ≡ None
-    → first_fault (place_of stage) (marks_of level outer) n len (x ∷ xs) ≡ first_fault (place_of p.stage) (marks_of p.level p.outer) (counted (place_of stage) n) len xs
-built_on stage level outer n len x t xs p settled e k h = goes_on (place_of stage) (marks_of level outer) n len x t xs (view_of p) e (build_seen stage level outer t settled ∙ ap seen k) h
+    → IsSettledAt stage level → x.lexeme ≡ Whole t → build_at stage level outer t ≡ Some p → own_fault (awaited_at stage) (marks_of level outer) n x.start t ≡ None
+    → first_fault (awaited_at stage) (marks_of level outer) n len (x ∷ xs) ≡ first_fault (awaited_at p.stage) (marks_of p.level p.outer) (counted (awaited_at stage) n) len xs
+built_on stage level outer n len x t xs p settled e k h = goes_on (awaited_at stage) (marks_of level outer) n len x t xs (view_of p) e (build_seen stage level outer t settled ∙ ap seen k) h
 
 -- the levels round the innermost one, where the next is taken
 pub outer_pop : (xs rest : List code_level.Level) (l : code_level.Level) → xs ≡ rest ++ l ∷ [] → reverse (map level_of xs) ≡ level_of l ∷ reverse (map level_of rest)
@@ -45,7 +45,7 @@ outer_within level outer rest l e =
     omega arith
 
 -- a token that can follow and has a fault of its own
-pub own_stops : (place : Place) (marks : List Mark) (n len : ℕ) (x : Placed) (t : Token) (xs : List Placed) (s : Place × List Mark) (e : Refusal)
+pub own_stops : (place : Awaited) (marks : List Mark) (n len : ℕ) (x : Placed) (t : Token) (xs : List Placed) (s : Awaited × List Mark) (e : Refusal)
     → x.lexeme ≡ Whole t → next place marks t ≡ Some s → own_fault place marks n x.start t ≡ Some e
     → first_fault place marks n len (x ∷ xs) ≡ Some e
 own_stops place marks n len x t xs s e l k h = rw l (rw k (rw h refl))

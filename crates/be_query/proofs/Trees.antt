@@ -6,8 +6,8 @@ use Rattle.be_query.specs.declared.tree.Cmp.{Cmp}
 use Rattle.be_query.specs.Tokens.{Token, Open, Close, Bang, Both, Either, Compares, Text, plain, is_name}
 use Rattle.be_query.specs.Grammar.{OrPhrase, or_one, or_more, AndPhrase, and_one, and_more, NotPhrase, negation, group, comparison, or_tokens, and_tokens, not_tokens, or_tree, and_tree, not_tree, Formula, Leaf, And, Or, opposite, complement, Spells}
 use Rattle.be_query.specs.declared.tree.Cmp.TheVariants.{Eq, Ne, Lt, Le, Gt, Ge}
-use Rattle.be_query.specs.Reading.{Place, Operator, Joint, Mark, ended, next}
-use Rattle.be_query.specs.Building.{Level, fresh, Stage, Operands, Operators, Values, Joints, State, start, turned, conjunction, disjunction, joined, with_operand, with_side, close, build_at, build_from, tree_of, place_of, negations_on, outer_marks, marks_of, view_of, IsSettledAt}
+use Rattle.be_query.specs.Reading.{Awaited, Operator, Joint, Mark, ended, next}
+use Rattle.be_query.specs.Building.{Level, fresh, Stage, Operands, Operators, Values, Joints, State, start, turned, conjunction, disjunction, joined, with_operand, with_side, close, build_at, build_from, tree_of, awaited_at, negations_on, outer_marks, marks_of, view_of, IsSettledAt}
 
 opposite_twice : (op : Cmp) → opposite (opposite op) ≡ op
 opposite_twice Eq = refl
@@ -107,7 +107,7 @@ one_tree ts s t (o, eo, es) (p, ep, et) =
 
 -- Building goes on exactly as long as reading does.
 
-abbrev pub seen : Option State → Option (Place × List Mark)
+abbrev pub seen : Option State → Option (Awaited × List Mark)
 seen None = None
 seen (Some s) = Some (view_of s)
 
@@ -133,7 +133,7 @@ closed_seen t level outer h = ap (λ n. next Joint (negations_on n (outer_marks 
     go [] s = refl
     go (l ∷ ls) s = ap (λ m. Some (Joint, m)) (ended_marks l ls)
 
-pub build_seen : (stage : Stage) (level : Level) (outer : List Level) (t : Token) → IsSettledAt stage level → next (place_of stage) (marks_of level outer) t ≡ seen (build_at stage level outer t)
+pub build_seen : (stage : Stage) (level : Level) (outer : List Level) (t : Token) → IsSettledAt stage level → next (awaited_at stage) (marks_of level outer) t ≡ seen (build_at stage level outer t)
 build_seen Operands level outer Open h = refl
 build_seen Operands level outer Close h = refl
 build_seen Operands level outer Bang h = refl

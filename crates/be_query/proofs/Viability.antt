@@ -5,13 +5,13 @@ use Rattle.be_query.specs.declared.tree.Cmp.{Cmp}
 use Rattle.be_query.specs.declared.tree.Cmp.TheVariants.{Eq}
 use Rattle.be_query.specs.Tokens.{Token, Open, Close, Bang, Both, Either, Compares, Text, is_name}
 use Rattle.be_query.specs.Grammar.{OrPhrase, or_one, or_more, AndPhrase, and_one, and_more, NotPhrase, negation, group, comparison, or_tokens, and_tokens, not_tokens, Viable}
-use Rattle.be_query.specs.Reading.{Place, Operand, Operator, Value, Joint, Mark, Paren, Negation, ended, next, read_from, read}
+use Rattle.be_query.specs.Reading.{Awaited, Operand, Operator, Value, Joint, Mark, Paren, Negation, ended, next, read_from, read}
 
 pub read_none : (ts : List Token) → read_from None ts ≡ None
 read_none [] = refl
 read_none (t ∷ ts) = refl
 
-pub read-append : (s : Option (Place × List Mark)) (ts us : List Token) → read_from s (ts ++ us) ≡ read_from (read_from s ts) us
+pub read-append : (s : Option (Awaited × List Mark)) (ts us : List Token) → read_from s (ts ++ us) ≡ read_from (read_from s ts) us
 read-append s [] us = refl
 read-append None (t ∷ ts) us = sym (read_none us)
 read-append (Some s) (t ∷ ts) us = read-append (next s.0 s.1 t) ts us
@@ -46,7 +46,7 @@ mutual
       ∙ or_read o (Paren ∷ ms) (Close ∷ us)
   not_read (comparison name valid op value) ms us = named (is_name name) valid ms (λ s. read_from s (Compares op ∷ Text value ∷ us))
     where
-      named : (b : Bool) → b ≡ true → (m : List Mark) (k : Option (Place × List Mark) → Option (Place × List Mark)) → k (cond b (Some (Operator, m)) None) ≡ k (Some (Operator, m))
+      named : (b : Bool) → b ≡ true → (m : List Mark) (k : Option (Awaited × List Mark) → Option (Awaited × List Mark)) → k (cond b (Some (Operator, m)) None) ≡ k (Some (Operator, m))
       named true e m k = refl
       named false e m k = absurd (false≢true e)
 
@@ -144,13 +144,13 @@ banged [] ts h = continues_negated ts h
 banged (Negation ∷ ms) ts h = banged ms ts h
 banged (Paren ∷ ms) ts h = (h.0, h.1 ++ Bang ∷ [], ap (λ l. l ++ Bang ∷ []) h.2 ∙ append_assoc h.0 (Open ∷ h.1) (Bang ∷ []), h.3, continues_negated h.1 h.4)
 
-abbrev Reached : Place → List Mark → List Token → Type 0
+abbrev Reached : Awaited → List Mark → List Token → Type 0
 Reached Operand ms ts = AtOperand ms ts
 Reached Operator ms ts = (front : List Token) × (name : List ℕ) × (ts ≡ front ++ Text name ∷ []) × (is_name name ≡ true) × AtOperand ms front
 Reached (Value op) ms ts = (front : List Token) × (name : List ℕ) × (ts ≡ front ++ Text name ∷ Compares op ∷ []) × (is_name name ≡ true) × AtOperand ms front
 Reached Joint ms ts = AtJoint ms ts
 
-abbrev ReachedIf : Option (Place × List Mark) → List Token → Type 0
+abbrev ReachedIf : Option (Awaited × List Mark) → List Token → Type 0
 ReachedIf None ts = Unit {0}
 ReachedIf (Some s) ts = Reached s.0 s.1 ts
 
@@ -158,7 +158,7 @@ named_if : (raw : List ℕ) (ms : List Mark) (ts : List Token) → AtOperand ms 
 named_if raw ms ts h true e = (ts, raw, refl, e, h)
 named_if raw ms ts h false e = tt
 
-step : (p : Place) (ms : List Mark) (t : Token) (ts : List Token) → Reached p ms ts → ReachedIf (next p ms t) (ts ++ t ∷ [])
+step : (p : Awaited) (ms : List Mark) (t : Token) (ts : List Token) → Reached p ms ts → ReachedIf (next p ms t) (ts ++ t ∷ [])
 step Operand ms Open ts h = (ts, [], refl, h, λ e. (e, refl))
 step Operand ms Close ts h = tt
 step Operand ms Bang ts h = banged ms ts h
@@ -192,7 +192,7 @@ step Joint ms Either ts h = joined Either either ms ts h
 step Joint ms (Compares op) ts h = tt
 step Joint ms (Text raw) ts h = tt
 
-reached : (s : Option (Place × List Mark)) (front ts : List Token) → ReachedIf s front → ReachedIf (read_from s ts) (front ++ ts)
+reached : (s : Option (Awaited × List Mark)) (front ts : List Token) → ReachedIf s front → ReachedIf (read_from s ts) (front ++ ts)
 reached s front [] h = subst (ReachedIf s) (sym (append-nil front)) h
 reached None front (t ∷ ts) h = tt
 reached (Some s) front (t ∷ ts) h = subst (ReachedIf (read_from (next s.0 s.1 t) ts)) (append_assoc front (t ∷ []) ts) (reached (next s.0 s.1 t) (front ++ t ∷ []) ts (step s.0 s.1 t front h))
@@ -208,7 +208,7 @@ joint_viable (Paren ∷ ms) ts h = viable_more ts (Close ∷ []) (joint_viable m
 operand_viable : (ms : List Mark) (ts : List Token) → (name : List ℕ) → is_name name ≡ true → Cmp → (value : List ℕ) → AtOperand ms ts → Viable ts
 operand_viable ms ts name valid op value h = viable_more ts _ (joint_viable ms _ (fill ms ts (or_one (and_one (comparison name valid op value))) h))
 
-any_viable : (p : Place) (ms : List Mark) (ts : List Token) → Reached p ms ts → Viable ts
+any_viable : (p : Awaited) (ms : List Mark) (ts : List Token) → Reached p ms ts → Viable ts
 any_viable Operand ms ts h = operand_viable ms ts (97 ∷ []) refl Eq [] h
 any_viable Operator ms ts h =
     let w = fill ms h.0 (or_one (and_one (comparison h.1 h.3 Eq []))) h.4 in
@@ -224,10 +224,10 @@ reached_whole : (ts : List Token) → ReachedIf (read ts) ts
 reached_whole ts = reached (Some (Operand, [])) [] ts (λ e. (e, refl))
 
 -- what is read on is the front of a sentence
-pub read_viable : (ts : List Token) (s : Place × List Mark) → read ts ≡ Some s → Viable ts
+pub read_viable : (ts : List Token) (s : Awaited × List Mark) → read ts ≡ Some s → Viable ts
 read_viable ts s e = any_viable s.0 s.1 ts (subst (λ o. ReachedIf o ts) e (reached_whole ts))
 
-not_none : (s : Place × List Mark) → Some s ≡ None → ⊥
+not_none : (s : Awaited × List Mark) → Some s ≡ None → ⊥
 not_none s e = cc
 
 -- the front of a sentence is read on

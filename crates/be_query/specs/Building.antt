@@ -3,7 +3,7 @@ use Rattle.std.specs.Prelude.{◌≡◌, ℕ, zero, suc, Bool, true, false, Opti
 use Rattle.be_query.specs.declared.tree.Cmp.{Cmp}
 use Rattle.be_query.specs.Tokens.{Token, Open, Close, Bang, Both, Either, Compares, Text, plain, is_name}
 use Rattle.be_query.specs.Grammar.{Formula, Leaf, And, Or, complement, literal_of}
-use Rattle.be_query.specs.Reading.{Place, Operand, Operator, Value, Joint, Mark, Paren, Negation}
+use Rattle.be_query.specs.Reading.{Awaited, Operand, Operator, Value, Joint, Mark, Paren, Negation}
 
 -- What waits for its right end inside one pair of parentheses: the left sides of `||` and `&&`, and the number of `!`.
 -- A tree inside an odd number of `!` is its complement from the start, so each side here is turned as its level is.
@@ -97,11 +97,11 @@ abbrev pub tree_of : Option State → Option Formula
 tree_of None = None
 tree_of (Some s) = tree_at s.stage s.level s.outer
 
-abbrev pub place_of : Stage → Place
-place_of Operands = Operand
-place_of (Operators n) = Operator
-place_of (Values n op) = Value op
-place_of (Joints t) = Joint
+abbrev pub awaited_at : Stage → Awaited
+awaited_at Operands = Operand
+awaited_at (Operators n) = Operator
+awaited_at (Values n op) = Value op
+awaited_at (Joints t) = Joint
 
 abbrev pub negations_on : ℕ → List Mark → List Mark
 negations_on zero marks = marks
@@ -115,8 +115,8 @@ outer_marks (level ∷ outer) = Paren ∷ negations_on level.negations (outer_ma
 abbrev pub marks_of : Level → List Level → List Mark
 marks_of level outer = negations_on level.negations (outer_marks outer)
 
-abbrev pub view_of : State → Place × List Mark
-view_of s = (place_of s.stage, marks_of s.level s.outer)
+abbrev pub view_of : State → Awaited × List Mark
+view_of s = (awaited_at s.stage, marks_of s.level s.outer)
 
 -- behind a whole operand no `!` waits
 abbrev pub IsSettledAt : Stage → Level → Type 0

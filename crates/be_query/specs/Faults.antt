@@ -7,7 +7,7 @@ use Rattle.be_value.specs.declared.refusals.Refusal.TheVariants.{Syntax, BadPatt
 use Rattle.be_query.specs.declared.tree.Cmp.{Cmp}
 use Rattle.be_query.specs.declared.tree.Cmp.TheVariants.{Eq, Ne, Lt, Le, Gt, Ge}
 use Rattle.be_query.specs.Tokens.{Token, Open, Bang, Text}
-use Rattle.be_query.specs.Reading.{Place, Operand, Value, Joint, Mark, next}
+use Rattle.be_query.specs.Reading.{Awaited, Operand, Value, Joint, Mark, next}
 use Rattle.be_query.specs.Lexing.{Whole, Broken, Odd, Placed, lexemes}
 
 -- the operator takes a pattern
@@ -33,28 +33,28 @@ value_fault comparisons start (Some at) = Some (BadPattern (start + at))
 value_fault comparisons start None = if nat_le 256 comparisons then Some TooMany else None
 
 -- the fault of a token that can follow, behind so many comparisons; its text begins at start
-abbrev pub own_fault : Place → List Mark → ℕ → ℕ → Token → Option Refusal
+abbrev pub own_fault : Awaited → List Mark → ℕ → ℕ → Token → Option Refusal
 own_fault Operand marks comparisons start Open = if nat_le 64 (length marks) then Some TooDeep else None
 own_fault Operand marks comparisons start Bang = if nat_le 64 (length marks) then Some TooDeep else None
 own_fault (Value op) marks comparisons start (Text raw) = value_fault comparisons start (bad_pattern op raw)
 own_fault _ _ _ _ _ = None
 
-abbrev pub counted : Place → ℕ → ℕ
+abbrev pub counted : Awaited → ℕ → ℕ
 counted (Value op) comparisons = comparisons + 1
 counted _ comparisons = comparisons
 
 -- a name or value that breaks off is a text that ends too soon, or has a NUL, where it may stand
-abbrev pub broken_at : Place → ℕ → ℕ → ℕ
+abbrev pub broken_at : Awaited → ℕ → ℕ → ℕ
 broken_at Operand at n = at + n
 broken_at (Value op) at n = at + n
 broken_at _ at n = at
 
-abbrev pub ends : Place → List Mark → ℕ → Option Refusal
+abbrev pub ends : Awaited → List Mark → ℕ → Option Refusal
 ends Joint [] len = None
 ends _ _ len = Some (Syntax len)
 
 -- the first fault of the lexemes, where a text of so many bytes is read up to them
-abbrev pub first_fault : Place → List Mark → ℕ → ℕ → List Placed → Option Refusal
+abbrev pub first_fault : Awaited → List Mark → ℕ → ℕ → List Placed → Option Refusal
 first_fault place marks comparisons len [] = ends place marks len
 first_fault place marks comparisons len (x ∷ xs) = elim x.lexeme [
   | Odd ↦ Some (Syntax x.at)

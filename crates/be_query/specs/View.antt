@@ -18,7 +18,7 @@ use Rattle.be_query.specs.declared.printing.Place as code_place
 use Rattle.be_query.specs.Printing.{or_text, and_text, operand_text}
 use Rattle.be_query.specs.Tokens.{Token, Open, Close, Bang, Both, Either, Compares, Text}
 use Rattle.be_query.specs.Grammar.{Formula, Leaf, And, Or, Literal, Wild, Exact}
-use Rattle.be_query.specs.Building.{Level, Stage, Operands, Operators, Values, Joints, State, IsSettledAt, marks_of, place_of, build_at}
+use Rattle.be_query.specs.Building.{Level, Stage, Operands, Operators, Values, Joints, State, IsSettledAt, marks_of, awaited_at, build_at}
 use Rattle.be_query.specs.Lexing.{Placed, Lexeme, Whole, Broken, Odd, Separator, Takes, front, is_sign}
 use Rattle.be_query.specs.Faults.{first_fault}
 
@@ -99,7 +99,7 @@ pub record IsCounted (stage : Stage) (c : code_context.Context) : Type 0 where
 
 -- the first fault of what follows
 abbrev pub fault_in : Stage → code_context.Context → ℕ → List Placed → Option Refusal
-fault_in stage c len xs = first_fault (place_of stage) (marks_of (level_of c.level) (outer_of c)) c.comparisons len xs
+fault_in stage c len xs = first_fault (awaited_at stage) (marks_of (level_of c.level) (outer_of c)) c.comparisons len xs
 
 -- the refusal is want of memory, or what it otherwise has to be
 abbrev pub IsMemory : Refusal → Type 0 → Type 0

@@ -2,7 +2,7 @@
 ghost use Rattle.std.specs.Prelude.{ℕ, ◌≡◌, ◌≤◌, false, List, Some, None, []};
 ghost use Rattle.be_query.specs.Faults.{fault};
 ghost use Rattle.be_query.specs.Grammar.{Formula, OrPhrase, comparisons, Spells, IsTextOf, Viable, or_tokens};
-ghost use Rattle.be_query.specs.Reading.{Place, Joint, Mark, read};
+ghost use Rattle.be_query.specs.Reading.{Awaited, Joint, Mark, read};
 ghost use Rattle.be_query.specs.Tokens.{Token, plain};
 ghost use Rattle.be_value.specs.Name.{has_nul};
 ghost use Rattle.be_query.specs.Printing.{IsKept, IsPrintable, IsQuotable, IsWhole, escaped, or_printed, or_text, limit_of};
@@ -11,7 +11,7 @@ ghost use Rattle.be_query.specs.Lexing.{tokens};
 /// A token list is read on exactly as long as some tokens behind it make a sentence, is a sentence
 /// exactly where it is read to its end, and has one tree at most.
 pub fn reading()
-    ensures viable { (ts : List Token) (s : Place × List Mark) → read ts ≡ Some s → Viable ts }
+    ensures viable { (ts : List Token) (s : Awaited × List Mark) → read ts ≡ Some s → Viable ts }
     ensures stuck { (ts : List Token) → read ts ≡ None → Viable ts → ⊥ }
     ensures sentence { (ts : List Token) → read ts ≡ Some (Joint, []) → (o : OrPhrase) × (or_tokens o ≡ ts) }
     ensures whole { (o : OrPhrase) → read (or_tokens o) ≡ Some (Joint, []) }

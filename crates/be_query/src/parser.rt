@@ -2,10 +2,12 @@
 //! wait for their right one, and the `!` that wait for their operand. A `!` is carried down while its operand is read:
 //! inside an odd number of them each comparison and each joint is made as its complement. So nothing here recurses,
 //! and no tree that stands is gone over again.
-ghost use Rattle.std.specs.Prelude.{false, true, ℕ, ◌≡◌, MatchOption, IfNone, IfSome, [], ◌++◌, encode_utf8, string_bytes, Some, None, IfOk, IfErr, ◌<◌, ◌≤◌, ◌+◌, ◌^◌, length};
+ghost use Rattle.std.specs.Prelude.{false, true, ℕ, ◌≡◌, MatchOption, IfNone, IfSome, [], ◌++◌, encode_utf8, string_bytes, Some, None};
+ghost use Rattle.std.specs.Prelude.{IfOk, IfErr, ◌<◌, ◌≤◌, ◌+◌, ◌^◌, length};
 ghost use Rattle.std.specs.Str.{chars};
 ghost use Rattle.be_pattern.specs.Parse.{pattern};
-ghost use Rattle.be_query.specs.Building.{Operands, Operators, Values, Joints, fresh, turned, conjunction, disjunction, joined, ended_level, with_side, with_operand, State};
+ghost use Rattle.be_query.specs.Building.{Operands, Operators, Values, Joints, fresh, turned, conjunction, disjunction, joined};
+ghost use Rattle.be_query.specs.Building.{ended_level, with_side, with_operand, State};
 ghost use Rattle.be_query.specs.Grammar.{Leaf, literal_of};
 ghost use Rattle.be_query.specs.Faults.{bad_pattern};
 ghost use Rattle.be_query.specs.Tokens.{is_name, plain};
@@ -23,7 +25,7 @@ use std::mem;
 const MAX_OPEN: usize = 64;
 
 /// How many comparisons a query may have.
-const MAX_COMPARISONS: usize = 256;
+pub(crate) const MAX_COMPARISONS: usize = 256;
 
 /// What waits for its right end inside one pair of parentheses.
 #[derive(Drop)]
@@ -85,7 +87,7 @@ impl Level {
 impl Parser {
     ghost use Rattle.be_query.specs.Building.{start, tree_at};
     ghost use Rattle.be_query.specs.Faults.{broken_at, ends};
-    ghost use Rattle.be_query.specs.Building.{place_of, marks_of};
+    ghost use Rattle.be_query.specs.Building.{awaited_at, marks_of};
     ghost use Rattle.be_query.specs.View.{outer_of, parser_state};
 
     /// At the start of a text.
@@ -143,7 +145,7 @@ impl Parser {
     /// The fault of a name or value at a place that breaks off so many bytes behind its first.
     pub(crate) fn broken(&self, at: usize, len: usize) -> Refusal
         requires { at + len < 2 ^ 64 }
-        ensures { result ≡ Refusal.Syntax (broken_at (place_of (stage_of self.now.stage)) at len) }
+        ensures { result ≡ Refusal.Syntax (broken_at (awaited_at (stage_of self.now.stage)) at len) }
     {
         match &self.stage {
             Stage::Operand => Refusal::Syntax(at + len),
@@ -157,8 +159,9 @@ impl Parser {
     pub(crate) fn finish(self, alloc: Global, len: usize) -> Result<Tree, Refusal>
         requires { IsCounted (stage_of self.stage) self.context }
         ensures ok { IfOk result (λ t. tree_at (stage_of self.stage) (level_of self.context.level) (outer_of self.context) ≡ Some (formula t)) }
-        ensures ends { IfOk result (λ t. ends (place_of (stage_of self.stage)) (marks_of (level_of self.context.level) (outer_of self.context)) len ≡ None) }
-        ensures err { IfErr result (λ e. IsMemory e (ends (place_of (stage_of self.stage)) (marks_of (level_of self.context.level) (outer_of self.context)) len ≡ Some e)) }
+        ensures ends { IfOk result (λ t. ends (awaited_at (stage_of self.stage)) (marks_of (level_of self.context.level) (outer_of self.context)) len ≡ None) }
+        ensures err { IfErr result (λ e. IsMemory e
+            (ends (awaited_at (stage_of self.stage)) (marks_of (level_of self.context.level) (outer_of self.context)) len ≡ Some e)) }
     {
         let Parser { stage, context } = self;
         let Context {
@@ -425,7 +428,8 @@ fn end_operand(
     level: &mut Level,
     operand: Box<Tree>,
 ) -> Result<Box<Tree>, AllocError>
-    ensures tree { IfOk result (λ t. formula t.value ≡ joined (conjunction (level_of level.old).negated) (level_of level.old).and_left (formula operand.value)) }
+    ensures tree { IfOk result (λ t. formula t.value
+        ≡ joined (conjunction (level_of level.old).negated) (level_of level.old).and_left (formula operand.value)) }
     ensures level { level_of level.new ≡ ended_level (level_of level.old) }
 {
     level.negations = 0;

@@ -89,7 +89,8 @@ fn push_if(text: &mut String, shown: bool, piece: &str) -> Result<(), AllocError
 
 /// Appends a comparison.
 fn push_comparison(alloc: Global, text: &mut String, comparison: &Comparison) -> Result<(), Refusal>
-    ensures ok { IfOk result (λ _. string_bytes text.new ≡ string_bytes text.old ++ leaf_text comparison.now.name comparison.now.op (literal comparison.now.literal)) }
+    ensures ok { IfOk result (λ _. string_bytes text.new
+        ≡ string_bytes text.old ++ leaf_text comparison.now.name comparison.now.op (literal comparison.now.literal)) }
     ensures err { IfErr result (λ e. e ≡ OutOfMemory) }
 {
     text.push('"')?;

@@ -2,20 +2,19 @@
 ghost use Rattle.std.specs.Prelude.{◌≡◌, ◌≤◌, ℕ, ◌∷◌, Ok, Err, Some, None, IfOk, IfErr, MatchOption, map, string_bytes};
 ghost use Rattle.be_query.specs.Faults.{bad_pattern};
 ghost use Rattle.be_query.specs.Grammar.{And, Or, Leaf};
-ghost use Rattle.be_query.specs.Rpn.{Number, Attribute, Value, Whole, top_value, top_attribute, top_tree, top_comparison, top_trees, counts, given_literal, compares, surrounds, joins, complements, work, shallow, one_tree, rpn, thing_of, things_of, stack_of, item_of, ItemClean};
+ghost use Rattle.be_query.specs.Rpn.{Number, Attribute, Value, Whole, top_value, top_attribute, top_tree, top_comparison, top_trees};
+ghost use Rattle.be_query.specs.Rpn.{counts, given_literal, compares, surrounds, joins, complements, work, shallow, one_tree, rpn};
+ghost use Rattle.be_query.specs.Rpn.{thing_of, things_of, stack_of, item_of, ItemClean};
 ghost use Rattle.be_value.specs.Name.{has_nul};
 ghost use Rattle.std.specs.Fmt.{decimal, signed_decimal};
 ghost use Rattle.be_query.specs.View.{IsMemory, formula, literal};
 
-use crate::parser::read_literal;
+use crate::parser::{MAX_COMPARISONS, read_literal};
 use crate::query::Query;
 use crate::tree::{Cmp, Comparison, Literal, Tree};
 use be_pattern::Pattern;
 use be_value::{Name, Refusal};
 use std::alloc::{AllocError, Global};
-
-/// How many comparisons a query may have.
-const MAX_COMPARISONS: usize = 256;
 
 /// How many things the stack may hold after an item.
 const MAX_THINGS: usize = 64;
@@ -258,8 +257,10 @@ fn push(stack: Stack, thing: Thing) -> Result<Stack, Refusal>
 
 /// The stack with one comparison more.
 fn push_comparison(stack: Stack, comparison: Comparison) -> Result<Stack, Refusal>
-    ensures ok { IfOk result (λ s. counts (stack_of stack).0 (Leaf comparison.name comparison.op (literal comparison.literal)) (stack_of stack).1 ≡ Ok (stack_of s)) }
-    ensures err { IfErr result (λ e. IsMemory e (counts (stack_of stack).0 (Leaf comparison.name comparison.op (literal comparison.literal)) (stack_of stack).1 ≡ Err e)) }
+    ensures ok { IfOk result (λ s. counts (stack_of stack).0 (Leaf comparison.name comparison.op (literal comparison.literal)) (stack_of stack).1
+        ≡ Ok (stack_of s)) }
+    ensures err { IfErr result (λ e. IsMemory e
+        (counts (stack_of stack).0 (Leaf comparison.name comparison.op (literal comparison.literal)) (stack_of stack).1 ≡ Err e)) }
 {
     let Stack {
         mut things,
@@ -345,7 +346,8 @@ fn surround(
 
 /// The value on the top, and what is below it.
 fn pop_value(mut things: Vec<Thing>) -> Option<(String, Vec<Thing>)>
-    ensures { MatchOption result (top_value (things_of things.items) ≡ None) (λ p. top_value (things_of things.items) ≡ Some (string_bytes p.0, things_of p.1.items)) }
+    ensures { MatchOption result (top_value (things_of things.items) ≡ None)
+        (λ p. top_value (things_of things.items) ≡ Some (string_bytes p.0, things_of p.1.items)) }
 {
     let Some(thing) = things.pop() else {
         return None;
@@ -359,7 +361,8 @@ fn pop_value(mut things: Vec<Thing>) -> Option<(String, Vec<Thing>)>
 
 /// The attribute on the top, and what is below it.
 fn pop_attribute(mut things: Vec<Thing>) -> Option<(Name, Vec<Thing>)>
-    ensures { MatchOption result (top_attribute (things_of things.items) ≡ None) (λ p. top_attribute (things_of things.items) ≡ Some (p.0, things_of p.1.items)) }
+    ensures { MatchOption result (top_attribute (things_of things.items) ≡ None)
+        (λ p. top_attribute (things_of things.items) ≡ Some (p.0, things_of p.1.items)) }
 {
     let Some(thing) = things.pop() else {
         return None;
@@ -387,7 +390,8 @@ fn pop_tree(mut things: Vec<Thing>) -> Option<(Tree, Vec<Thing>)>
 
 /// The value on the top and the attribute below it, and what is below both.
 fn pop_comparison(things: Vec<Thing>) -> Option<(Name, String, Vec<Thing>)>
-    ensures { MatchOption result (top_comparison (things_of things.items) ≡ None) (λ p. top_comparison (things_of things.items) ≡ Some (p.0, string_bytes p.1, things_of p.2.items)) }
+    ensures { MatchOption result (top_comparison (things_of things.items) ≡ None)
+        (λ p. top_comparison (things_of things.items) ≡ Some (p.0, string_bytes p.1, things_of p.2.items)) }
 {
     let Some((text, things)) = pop_value(things) else {
         return None;
@@ -400,7 +404,8 @@ fn pop_comparison(things: Vec<Thing>) -> Option<(Name, String, Vec<Thing>)>
 
 /// The two trees on the top, the lower one first, and what is below both.
 fn pop_trees(things: Vec<Thing>) -> Option<(Tree, Tree, Vec<Thing>)>
-    ensures { MatchOption result (top_trees (things_of things.items) ≡ None) (λ p. top_trees (things_of things.items) ≡ Some (formula p.0, formula p.1, things_of p.2.items)) }
+    ensures { MatchOption result (top_trees (things_of things.items) ≡ None)
+        (λ p. top_trees (things_of things.items) ≡ Some (formula p.0, formula p.1, things_of p.2.items)) }
 {
     let Some((right, things)) = pop_tree(things) else {
         return None;

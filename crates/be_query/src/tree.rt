@@ -61,8 +61,8 @@ impl Cmp {
 }
 
 impl Drop for Tree {
-    // The joints on the left are turned to the right one by one, and the comparison that comes to stand left is let go:
-    // at most two rounds for each joint.
+    /// The joints on the left are turned to the right one by one, and the comparison that comes to stand left is let go:
+    /// at most two rounds for each joint.
     fn drop(mut self) {
         'joints: loop {
             if turn(&mut self) {
@@ -99,7 +99,8 @@ fn turn(tree: &mut Tree) -> bool
 
 /// Does so for the sides of a joint.
 fn turn_sides(left: &mut Box<Tree>, right: &mut Box<Tree>) -> bool
-    ensures turned { result ≡ true → rounds (And (formula left.new.value) (formula right.new.value)) < rounds (And (formula left.old.value) (formula right.old.value)) }
+    ensures turned { result ≡ true → rounds (And (formula left.new.value) (formula right.new.value))
+        < rounds (And (formula left.old.value) (formula right.old.value)) }
     ensures kept { result ≡ false → (formula left.new.value ≡ formula left.old.value) × (formula right.new.value ≡ formula right.old.value) }
     ensures leaf { result ≡ false → IsLeaf (formula left.new.value) }
 {

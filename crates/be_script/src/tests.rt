@@ -14,6 +14,7 @@ mod pools;
 mod races;
 mod readings;
 mod talks;
+mod tellings;
 
 use crate::{Limits, RunFault, run};
 use be_serving::serve;

@@ -1,8 +1,10 @@
 pub mod CoverLemmas
+pub mod DumpLemmas
 pub mod EndLemmas
 pub mod FileLemmas
 pub mod JoinLemmas
 pub mod LimitLemmas
+pub mod LineLemmas
 pub mod OwnLemmas
 pub mod PartLemmas
 pub mod PassLemmas
@@ -10,3 +12,4 @@ pub mod RaceLemmas
 pub mod ReadLemmas
 pub mod ReplyLemmas
 pub mod RunLemmas
+pub mod TellLemmas

@@ -6,7 +6,7 @@ use Rattle.be_value.specs.declared.refusals.Refusal.{Refusal}
 use Rattle.be_value.specs.declared.refusals.Refusal.TheVariants.{OutOfMemory}
 use Rattle.be_table.specs.declared.limits.Limits.{Limits as StoreLimits}
 use Rattle.be_store.specs.Passes.{IsPassOf}
-use Rattle.be_table.specs.Place.{Opened, Place}
+use Rattle.be_table.specs.Place.{Opened, SeatFacts}
 use Rattle.be_table.specs.Rule.{AreBad, IsWithin, entries}
 use Rattle.be_table.specs.Steps.{IsPass}
 use Rattle.be_table.specs.Versions.{CanSpellEach}
@@ -51,12 +51,12 @@ late_stops (Err Write) old new late = tt
 late_stops (Err Memory) old new late = tt
 
 -- as many pages as the store has can spell each volume that a pass of it has seen
-seen_spelt : (pages : ℕ) (store : Opened) (pass : Place) (a : Knowledge) → IsPassOf store pass → store.limits.pages ≡ pages → pass.knows ≡ a → IsPass pass.knows → CanSpellEach pages (entries a.seen)
+seen_spelt : (pages : ℕ) (store : Opened) (pass : SeatFacts) (a : Knowledge) → IsPassOf store pass → store.limits.pages ≡ pages → pass.knows ≡ a → IsPass pass.knows → CanSpellEach pages (entries a.seen)
 seen_spelt pages store pass a of_store is same h =
     subst (λ (k : Knowledge). CanSpellEach pages (entries k.seen)) same
     (subst (λ n. CanSpellEach n (entries pass.knows.seen)) (ap (λ (l : StoreLimits). l.pages) of_store.0.2 ∙ is) h.volumes)
 
 -- the same of a pass that a server of the store gives back
-pub served_spelt : (pages : ℕ) (store kept : Opened) (pass : Place) (a : Knowledge) → kept ≡ store → IsPassOf kept pass → store.limits.pages ≡ pages → pass.knows ≡ a → IsPass pass.knows →
+pub served_spelt : (pages : ℕ) (store kept : Opened) (pass : SeatFacts) (a : Knowledge) → kept ≡ store → IsPassOf kept pass → store.limits.pages ≡ pages → pass.knows ≡ a → IsPass pass.knows →
     CanSpellEach pages (entries a.seen)
 served_spelt pages store kept pass a same of_kept is knows h = seen_spelt pages store pass a (subst (λ (s : Opened). IsPassOf s pass) same of_kept) is knows h

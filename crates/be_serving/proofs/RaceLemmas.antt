@@ -7,14 +7,14 @@ use Rattle.std.specs.declared.result.Result.{Result}
 use Rattle.std.specs.declared.result.Result.TheVariants.{Ok, Err}
 use Rattle.be_store.specs.Passes.{IsPassOf}
 use Rattle.be_journal.specs.Journal.{by_pass}
-use Rattle.be_journal.specs.Text.{lines_from}
+use Rattle.be_journal.specs.Text.{lines_from, result_text}
 use Rattle.be_journal.specs.declared.entries.Entry.{Entry}
 use Rattle.be_table.specs.History.{StartsWith}
-use Rattle.be_table.specs.Place.{Opened, Place}
+use Rattle.be_table.specs.Place.{Opened, SeatFacts}
 use Rattle.be_table.specs.Rule.{entries, newcomer}
 use Rattle.be_table.specs.declared.limits.Limits.{Limits}
 use Rattle.be_table.specs.declared.pass.Knowledge.{Knowledge}
-use Rattle.be_table.specs.Steps.{Has, Keeps}
+use Rattle.be_table.specs.Steps.{Has, KeepsSeen}
 use Rattle.be_table.specs.Works.{AllAt, knows_of}
 use Rattle.be_serving.specs.Own.{IsPartOf, operations, write_ops}
 use Rattle.std.specs.declared.option.Option.{Option}
@@ -23,7 +23,7 @@ use Rattle.be_serving.specs.Output.{IsOutputTo}
 use Rattle.be_serving.specs.Run.{Wrote}
 use Rattle.be_serving.specs.Served.{known}
 use Rattle.be_serving.proofs.RunLemmas.{written_both}
-use Rattle.be_serving.specs.Race.{HaveServed, AreRepliesOf, IsOutcome, IsReplied, pass_line, replies_text, result_text}
+use Rattle.be_serving.specs.Race.{HaveServed, AreRepliesOf, IsOutcome, IsReplied, pass_line, replies_text}
 
 -- what is so of each element, and of one more at its place, is so of all
 pub each_pushed : {X : Type 0} (P : ℕ → X → Type 0) (xs : List X) (x : X) → ((k : ℕ) (d : X) → k < length xs → P k (get_or xs k d)) → P (length xs) x →
@@ -73,15 +73,15 @@ replied_by limits journal k script text a number o seen own = record {
 
 module _ {V E : Type 0} (store : Opened) (items : V → List ℕ) where
   -- what the thread of the pass k has promised
-  abbrev pub EndsAs : ℕ → V → Place × Result V E → Type 0
+  abbrev pub EndsAs : ℕ → V → SeatFacts × Result V E → Type 0
   EndsAs k script o = IsPassOf store o.0 × (o.0.knows.number ≡ k) × IfOk o.1 (λ text. IsOutcome store.limits k (items script) o.0.knows (items text))
 
   -- the outcomes from the number k on, none of which is a fault
-  pub served_from : (k : ℕ) (scripts : List V) (outcomes : List (Place × Result V E)) (texts : List V) → length outcomes ≡ length scripts →
-      ((i : ℕ) (o : Place × Result V E) (s : V) → i < length scripts → EndsAs (k + i) (get_or scripts i s) (get_or outcomes i o)) →
-      map Ok texts ≡ map (λ (o : Place × Result V E). o.1) outcomes →
-      HaveServed store k (map items scripts) (map (λ (o : Place × Result V E). o.0) outcomes)
-      × AreRepliesOf store.limits k (map items scripts) (map (λ (o : Place × Result V E). o.0) outcomes) (map items texts)
+  pub served_from : (k : ℕ) (scripts : List V) (outcomes : List (SeatFacts × Result V E)) (texts : List V) → length outcomes ≡ length scripts →
+      ((i : ℕ) (o : SeatFacts × Result V E) (s : V) → i < length scripts → EndsAs (k + i) (get_or scripts i s) (get_or outcomes i o)) →
+      map Ok texts ≡ map (λ (o : SeatFacts × Result V E). o.1) outcomes →
+      HaveServed store k (map items scripts) (map (λ (o : SeatFacts × Result V E). o.0) outcomes)
+      × AreRepliesOf store.limits k (map items scripts) (map (λ (o : SeatFacts × Result V E). o.0) outcomes) (map items texts)
   served_from k [] [] [] count each all = (tt, λ journal keeps. tt)
   served_from k [] [] (t ∷ ts) count each all = cc
   served_from k [] (o ∷ os) texts count each all = absurd (omega (arith, count))
@@ -90,7 +90,7 @@ module _ {V E : Type 0} (store : Opened) (items : V → List ℕ) where
   served_from k (s ∷ ss) (o ∷ os) (t ∷ ts) count each all =
       let here = subst (λ n. EndsAs n s o) (add-zero k) (each 0 o s (omega arith)) in
       let first : Ok t ≡ o.1 = cc in
-      let rest : map Ok ts ≡ map (λ (o : Place × Result V E). o.1) os = cc in
+      let rest : map Ok ts ≡ map (λ (o : SeatFacts × Result V E). o.1) os = cc in
       let told : IsOutcome store.limits k (items s) o.0.knows (items t) = IfOk-at_ok (λ text. IsOutcome store.limits k (items s) o.0.knows (items text)) (sym first) here.2 in
       let behind = served_from (k + 1) ss os ts (omega (arith, count)) (λ i d u below.
       let e : k + suc i ≡ (k + 1) + i = omega arith in subst (λ n. EndsAs n (get_or ss i u) (get_or os i d)) e (each (suc i) d u (omega arith))) rest in (
@@ -99,7 +99,7 @@ module _ {V E : Type 0} (store : Opened) (items : V → List ℕ) where
       )
 
 -- an end is one by equal promises
-pub same_end : {V E : Type 0} (items : V → List ℕ) (store store' : Opened) (k k' : ℕ) (script script' : V) (o : Place × Result V E) → store ≡ store' → k ≡ k' → script ≡ script' →
+pub same_end : {V E : Type 0} (items : V → List ℕ) (store store' : Opened) (k k' : ℕ) (script script' : V) (o : SeatFacts × Result V E) → store ≡ store' → k ≡ k' → script ≡ script' →
     EndsAs store items k script o → EndsAs store' items k' script' o
 same_end items store store' k k' script script' o of_store of_number of_script end =
     subst (λ s. EndsAs s items k' script' o) of_store (subst (λ n. EndsAs store items n script' o) of_number (subst (λ v. EndsAs store items k v o) of_script end))
@@ -139,14 +139,14 @@ module _ {V : Type 0} (items : V → List ℕ) (texts : List V) (k : ℕ) (old m
   replies_all past = subst (Appends old mid) (sym (w.is ∙ (ap (λ z. w.out ++ z) (done_at items k k texts past) ∙ append-nil w.out))) w.appended
 
 -- the passes are of the store
-pub all_at : (store : Opened) (k : ℕ) (scripts : List (List ℕ)) (passes : List Place) → HaveServed store k scripts passes → AllAt store.id passes
+pub all_at : (store : Opened) (k : ℕ) (scripts : List (List ℕ)) (passes : List SeatFacts) → HaveServed store k scripts passes → AllAt store.id passes
 all_at store k [] [] h = tt
 all_at store k [] (p ∷ ps) h = absurd h
 all_at store k (s ∷ ss) [] h = tt
 all_at store k (s ∷ ss) (p ∷ ps) h = ((h.0.pass.0.0, h.0.pass.0.1), all_at store (k + 1) ss ps h.1)
 
 -- each number has its pass
-pub has_each : (store : Opened) (k : ℕ) (scripts : List (List ℕ)) (passes : List Place) → HaveServed store k scripts passes → (n : ℕ) → n < length scripts → Has (map knows_of passes) (k + n)
+pub has_each : (store : Opened) (k : ℕ) (scripts : List (List ℕ)) (passes : List SeatFacts) → HaveServed store k scripts passes → (n : ℕ) → n < length scripts → Has (map knows_of passes) (k + n)
 has_each store k [] passes h n below = absurd (omega (arith, below))
 has_each store k (s ∷ ss) [] h n below = absurd h
 has_each store k (s ∷ ss) (p ∷ ps) h zero below = inl (h.0.number ∙ omega arith)
@@ -154,7 +154,7 @@ has_each store k (s ∷ ss) (p ∷ ps) h (suc n) below =
     let e : (k + 1) + n ≡ k + suc n = omega arith in inr (subst (Has (map knows_of ps)) e (has_each store (k + 1) ss ps h.1 n (omega (arith, below))))
 
 -- what a journal that keeps the passes' writes has of each number is of that number's script
-pub own_of : (store : Opened) (k : ℕ) (scripts : List (List ℕ)) (passes : List Place) (log : List Entry) → HaveServed store k scripts passes → Keeps log (map knows_of passes) →
+pub own_of : (store : Opened) (k : ℕ) (scripts : List (List ℕ)) (passes : List SeatFacts) (log : List Entry) → HaveServed store k scripts passes → KeepsSeen log (map knows_of passes) →
     (n : ℕ) → n < length scripts → IsPartOf (operations (by_pass (k + n) log)) (write_ops (slice_index_or scripts n []))
 own_of store k [] passes log h keeps n below = absurd (omega (arith, below))
 own_of store k (s ∷ ss) [] log h keeps n below = absurd h

@@ -4,4 +4,5 @@ pub mod Race
 pub mod Run
 pub mod Served
 pub mod Store
+pub mod Telling
 pub mod View

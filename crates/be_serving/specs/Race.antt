@@ -5,12 +5,12 @@ use Rattle.std.specs.Io.KnownBytes.{Keeps}
 use Rattle.std.specs.declared.option.Option.{Option}
 use Rattle.be_volume.specs.Volume.{empty}
 use Rattle.be_journal.specs.Journal.{IsLegal, by_pass}
-use Rattle.be_journal.specs.Text.{lines_from}
+use Rattle.be_journal.specs.Text.{result_text}
 use Rattle.be_journal.specs.declared.entries.Entry.{Entry}
 use Rattle.be_table.specs.History.{AllBelow, StartsWith}
-use Rattle.be_table.specs.Place.{Opened, Place}
+use Rattle.be_table.specs.Place.{Opened, SeatFacts}
 use Rattle.be_table.specs.Rule.{entries, newcomer}
-use Rattle.be_table.specs.Steps.{Keeps as KeepsSeen}
+use Rattle.be_table.specs.Steps.{KeepsSeen}
 use Rattle.be_table.specs.Versions.{CanSpellEach}
 use Rattle.be_table.specs.Works.{knows_of}
 use Rattle.be_table.specs.declared.limits.Limits.{Limits as StoreLimits}
@@ -24,7 +24,7 @@ use Rattle.be_serving.specs.declared.faults.RunFault.{RunFault}
 use Rattle.be_serving.specs.declared.faults.RunFault.TheVariants.{Limits, Read, TooLong, Write, Memory}
 
 -- the pass k of the store, which has seen and written nothing
-abbrev pub IsNew : Opened → ℕ → Place → Type 0
+abbrev pub IsNew : Opened → ℕ → SeatFacts → Type 0
 IsNew store k pass = (pass.blank ≡ false) × (pass.table ≡ store.id) × (pass.knows ≡ newcomer store.limits (k + 1) k)
 
 -- an empty store as its pass k sees it
@@ -32,13 +32,13 @@ abbrev pub start_of : StoreLimits → ℕ → Store
 start_of limits k = record { journal = []; volume = empty; limit = limits.commits; passes = limits.passes; pass = k; pin = None }
 
 -- The pass has the number k, and its own writes are some of those that the script asks for, in their order.
-pub record HasServed (store : Opened) (k : ℕ) (script : List ℕ) (p : Place) : Type 0 where
+pub record HasServed (store : Opened) (k : ℕ) (script : List ℕ) (p : SeatFacts) : Type 0 where
   pub pass : IsPassOf store p
   pub number : p.knows.number ≡ k
   pub own : IsPartOf (operations p.knows.mine) (write_ops script)
 
 -- a pass for each script, by its number, from the number k on
-abbrev pub HaveServed : Opened → ℕ → List (List ℕ) → List Place → Type 0
+abbrev pub HaveServed : Opened → ℕ → List (List ℕ) → List SeatFacts → Type 0
 HaveServed store k [] [] = Unit {0}
 HaveServed store k [] (pass ∷ passes) = ⊥
 HaveServed store k (script ∷ scripts) [] = ⊥
@@ -67,7 +67,7 @@ HaveReplied limits journal k (script ∷ scripts) [] = ⊥
 HaveReplied limits journal k (script ∷ scripts) (text ∷ texts) = IsReplied limits journal k script text × HaveReplied limits journal (k + 1) scripts texts
 
 -- The replies are those of the store of these passes: by whatever journal keeps what they have seen and written.
-abbrev pub AreRepliesOf : StoreLimits → ℕ → List (List ℕ) → List Place → List (List ℕ) → Type 0
+abbrev pub AreRepliesOf : StoreLimits → ℕ → List (List ℕ) → List SeatFacts → List (List ℕ) → Type 0
 AreRepliesOf limits k scripts passes texts = (journal : List Entry) → KeepsSeen journal (map knows_of passes) → HaveReplied limits journal k scripts texts
 
 -- the line of a pass, and its replies
@@ -77,10 +77,6 @@ pass_line k = codes "pass " ++ (decimal k ++ codes "\n")
 abbrev pub replies_text : ℕ → List (List ℕ) → List ℕ
 replies_text k [] = []
 replies_text k (text ∷ texts) = (pass_line k ++ text) ++ replies_text (k + 1) texts
-
--- the last lines of a race: the journal with its length, and that its replay is right
-abbrev pub result_text : List Entry → List ℕ
-result_text journal = (codes "journal " ++ (decimal (length journal) ++ codes "\n")) ++ (lines_from 1 journal ++ codes "replay ok\n")
 
 -- What a race writes is the replies to its scripts, and a legal journal of the store that replied. Each entry is by one of
 -- the scripts, and the operations that are by a script are some of those that its lines ask for, in their order. After each

@@ -1,9 +1,14 @@
 //! Laws of the definitions. Each does nothing; its contract is the law.
-ghost use Rattle.std.specs.Prelude.{◌≡◌};
-ghost use Rattle.be_serving.specs.Output.{Session, Replies, Serves};
+ghost use Rattle.std.specs.Prelude.{◌≡◌, ◌≤◌, ℕ, List, length};
+ghost use Rattle.be_history.specs.Dump.{dump};
+ghost use Rattle.be_history.specs.History.{AreWritten};
+ghost use Rattle.be_journal.specs.Journal.{IsLegal};
+ghost use Rattle.be_journal.specs.declared.entries.Entry.{Entry as AnyEntry};
+ghost use Rattle.be_serving.specs.Output.{IsOutputTo, Session, Replies, Serves};
 ghost use Rattle.be_language.specs.Reply.{Reply};
 ghost use Rattle.be_language.specs.Request.{Request};
-ghost use Rattle.be_serving.specs.Store.{Store, Joins};
+ghost use Rattle.be_serving.specs.Store.{Store, Joins, start};
+ghost use Rattle.be_serving.specs.Telling.{dump_output, made};
 
 /// A store of one pass has no others: it is always as its pass left it.
 pub fn nobody_joins()
@@ -15,4 +20,11 @@ pub fn nobody_joins()
 pub fn answered_alone()
     ensures { (s after : Session) (request : Request) (reply : Reply) → s.store.passes ≡ 1 → s.store.pass ≡ 0 → Serves s request reply after →
         Replies s request reply after × (after.store.passes ≡ 1) × (after.store.pass ≡ 0) }
+{}
+
+/// The script of a journal makes it again: a run of it, where memory and pages are there, has the same journal but for the
+/// numbers of passes, and the same volume.
+pub fn dump_makes_journal()
+    ensures { (limit : ℕ) (entries : List AnyEntry) → AreWritten entries → IsLegal entries → length entries ≤ limit →
+        IsOutputTo (start limit) (dump entries) (made limit entries) (dump_output 1 entries) }
 {}

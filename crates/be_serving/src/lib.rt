@@ -4,8 +4,9 @@
 //! writes the replies. What a script may be answered is one definition (`Output` in specs/), and `run` is proved to write
 //! nothing else. [`race`] runs several scripts at once, each on a thread of its own and from a pass of its own of one
 //! store, and writes their replies and the store's journal, which is proved to be legal and to have nothing that the
-//! scripts don't ask for. [`read_files`] reads the scripts of a race. [`answer`] answers one line, for callers that have the
-//! lines from elsewhere. From the bottom up: what serves a line, the reply to it, the run, the race, and the files.
+//! scripts don't ask for. [`run_and_tell`] is a run that writes its journal too. [`read_files`] reads the scripts of a race.
+//! [`answer`] answers one line, for callers that have the lines from elsewhere. From the bottom up: what serves a line, the
+//! reply to it, the run, the race, the run that tells, and the files.
 #![tactic(auto)]
 
 mod answers;
@@ -17,6 +18,7 @@ pub mod laws;
 mod races;
 mod runs;
 mod stores;
+mod tellings;
 
 pub use answers::answer;
 pub use be_store::Limits;
@@ -27,3 +29,4 @@ pub use gates::{Gate, OpenGate};
 pub use races::race;
 pub use runs::{put, run, serve};
 pub use stores::{PassServer, Server, open_for_one};
+pub use tellings::run_and_tell;

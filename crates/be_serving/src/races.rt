@@ -12,7 +12,8 @@ ghost use Rattle.std.specs.Prelude.{◌≡◌, ◌≤◌, ◌<◌, ℕ, ◌^◌,
 ghost use Rattle.std.specs.Io.KnownBytes.{Appends};
 ghost use Rattle.std.specs.List.{list_any};
 ghost use Rattle.be_journal.specs.Journal.{IsLegal};
-ghost use Rattle.be_serving.specs.Race.{IsOutcome, AreRepliesOf, HaveServed, IsNew, IsRace, Stops, pass_line, replies_text, result_text};
+ghost use Rattle.be_journal.specs.Text.{result_text};
+ghost use Rattle.be_serving.specs.Race.{IsOutcome, AreRepliesOf, HaveServed, IsNew, IsRace, Stops, pass_line, replies_text};
 ghost use Rattle.be_serving.specs.Run.{Wrote, IsLate};
 ghost use Rattle.be_store.specs.Passes.{IsPassOf};
 ghost use Rattle.std.specs.String.{string_bytes};
@@ -205,7 +206,11 @@ fn put_replies<W: Write>(alloc: Global, writer: &mut W, replies: &[Vec<u8>]) -> 
 }
 
 /// Writes how many entries the journal has, their text, and the result of its check, which it answers.
-fn put_result<W: Write>(alloc: Global, writer: &mut W, journal: &Journal) -> Result<bool, RunFault>
+pub(crate) fn put_result<W: Write>(
+    alloc: Global,
+    writer: &mut W,
+    journal: &Journal,
+) -> Result<bool, RunFault>
     requires { IsLegal journal.now.entries }
     ensures ok { IfOk result (λ legal. (legal ≡ true) × Appends (W.contents writer.old) (W.contents writer.new) (result_text journal.now.entries)) }
     ensures late { IfErr result IsLate }

@@ -96,7 +96,7 @@ fn split_line(script: &[u8]) -> Option<(&[u8], &[u8])>
 
 /// Runs the lines of a script in turn, each between two calls of the gate, which are told the pass's number and the line's.
 /// What follows the last LF is a line only where it isn't empty.
-fn run_lines<S: Server, G: Gate, W: Write>(
+pub(crate) fn run_lines<S: Server, G: Gate, W: Write>(
     alloc: Global,
     server: &mut S,
     pass: u64,

@@ -41,8 +41,8 @@ pub trait Server {
     /// Why operations are refused, by what becomes of the server.
     ghost refuses: { Self → List AnyOp → AnyRefusal → Self → Type 0 };
 
-    /// Writes operations, all or none: the number of the commit, and an answer for each. It is refused by 1 where another
-    /// pass is writing, else by 2 to 8, then 9, then 10, then 11. A pin stays.
+    /// Writes operations, all or none: the number of the commit, and an answer for each. It is refused by Busy where another
+    /// pass is writing, else by what the volume says, then CommitsSpent, then OutOfMemory, then Full. A pin stays.
     fn apply(&mut self, ops: &[Op]) -> Result<(u64, ArrayVec<Done, 64>), Refusal>
         requires some { 1 ≤ length ops.now }
         requires few { length ops.now ≤ 64 }
@@ -66,7 +66,7 @@ pub trait Server {
         ensures stays { kept self.new ≡ kept self.old }
         ensures unpins { shows self.new ≡ unpinned (shows self.old) };
 
-    /// The nodes of which a query is true, ascending; or 17 or 10.
+    /// The nodes of which a query is true, ascending; or NotCovered or OutOfMemory.
     fn query(&mut self, query: &Query) -> Result<Vec<u64>, Refusal>
         ensures stays { kept self.new ≡ kept self.old }
         ensures joins { Joins (shows self.old) (shows self.new) }
@@ -78,13 +78,13 @@ pub trait Server {
         ensures joins { Joins (shows self.old) (shows self.new) }
         ensures answer { result ≡ attribute (viewed (shows self.new)) node name.now };
 
-    /// The attributes of a node, by ascending names; or 2 or 10.
+    /// The attributes of a node, by ascending names; or NoNode or OutOfMemory.
     fn attrs(&mut self, node: u64) -> Result<Vec<(Name, Value)>, Refusal>
         ensures stays { kept self.new ≡ kept self.old }
         ensures joins { Joins (shows self.old) (shows self.new) }
         ensures answers { Answers (λ list. list.items) result (attributes_at (viewed (shows self.new)) node) };
 
-    /// The indices, by ascending names; or 10.
+    /// The indices, by ascending names; or OutOfMemory.
     fn indices(&mut self) -> Result<Vec<(Name, Kind)>, Refusal>
         ensures stays { kept self.new ≡ kept self.old }
         ensures joins { Joins (shows self.old) (shows self.new) }

@@ -3,3 +3,4 @@ pub mod Meant
 pub mod Built
 pub mod Spelt
 pub mod Covers
+pub mod Same

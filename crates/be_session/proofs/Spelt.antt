@@ -1,5 +1,6 @@
 -- Bytes that grow at the end: what lay within them stays.
-use Rattle.std.proofs.Common.{◌≡◌, ◌<◌, ◌≤◌, ◌+◌, ℕ, List, [], ◌∷◌, ◌++◌, arith, drop, get_or, length, map, length-append, length-drop, refl, sym, ap, subst, take, ◌∙◌}
+use Rattle.std.proofs.Common.{◌≡◌, ◌<◌, ◌≤◌, ◌+◌, ℕ, List, [], ◌∷◌, ◌++◌, arith, drop}
+use Rattle.std.proofs.Common.{get_or, length, map, length-append, length-drop, refl, sym, ap, subst, take, ◌∙◌}
 use Rattle.std.proofs.lemmas.List.{drop-append-le, drop_at, map_more, take-append-le, take_all}
 use Rattle.be_volume.specs.declared.ops.Op.{Op}
 use Rattle.be_session.specs.Meaning.{IsMeant}
@@ -23,8 +24,10 @@ part_middle bytes name more =
 
 meant_kept : (o : Operation) (bytes more : List ℕ) (op : Op) → IsWithin o (length bytes) → IsMeantBy o bytes op → IsMeantBy o (bytes ++ more) op
 meant_kept o bytes more op within is =
-    subst (λ name. IsMeant o.kind o.node name o.code o.number (part (bytes ++ more) o.value_at o.value_length) op) (sym (part_kept bytes more o.name_at o.name_length within.0))
-    (subst (λ value. IsMeant o.kind o.node (part bytes o.name_at o.name_length) o.code o.number value op) (sym (part_kept bytes more o.value_at o.value_length within.1)) is)
+    subst (λ name. IsMeant o.kind o.node name o.code o.number (part (bytes ++ more) o.value_at o.value_length) op)
+    (sym (part_kept bytes more o.name_at o.name_length within.0))
+    (subst (λ value. IsMeant o.kind o.node (part bytes o.name_at o.name_length) o.code o.number value op)
+    (sym (part_kept bytes more o.value_at o.value_length within.1)) is)
 
 pub spelled_kept : (os : List Operation) (bytes more : List ℕ) (ops : List Op) → AreSpelled os bytes ops → AreSpelled os (bytes ++ more) ops
 spelled_kept [] bytes more [] are = tt
@@ -32,8 +35,10 @@ spelled_kept [] bytes more (op ∷ ops) are = absurd are
 spelled_kept (o ∷ os) bytes more [] are = absurd are
 spelled_kept (o ∷ os) bytes more (op ∷ ops) are =
     let name : o.name_at + o.name_length ≤ length bytes = are.0.0.0 in
-    let value : o.value_at + o.value_length ≤ length bytes = are.0.0.1 in
-    (((omega (arith, length-append bytes more), omega (arith, length-append bytes more)), meant_kept o bytes more op are.0.0 are.0.1), spelled_kept os bytes more ops are.1)
+    let value : o.value_at + o.value_length ≤ length bytes = are.0.0.1 in (
+      ((omega (arith, length-append bytes more), omega (arith, length-append bytes more)), meant_kept o bytes more op are.0.0 are.0.1),
+      spelled_kept os bytes more ops are.1,
+    )
 
 spelled_more : (os : List Operation) (o : Operation) (bytes : List ℕ) (ops : List Op) (op : Op) → AreSpelled os bytes ops → IsWithin o (length bytes)
     → IsMeantBy o bytes op → AreSpelled (os ++ o ∷ []) bytes (ops ++ op ∷ [])

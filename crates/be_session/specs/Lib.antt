@@ -4,3 +4,4 @@ pub mod Sitting
 pub mod Operations
 pub mod Items
 pub mod Explained
+pub mod Prepared

@@ -4,7 +4,7 @@ use Rattle.std.specs.declared.option.Option.{Option}
 use Rattle.std.specs.declared.result.Result.{Result}
 use Rattle.be_query.specs.Faults.{fault}
 use Rattle.be_query.specs.View.{IsMemory}
-use Rattle.be_store.specs.History.{IsReason, Learns}
+use Rattle.be_store.specs.History.{IsLastReason, IsReason, Learns}
 use Rattle.be_table.specs.Place.{Opened}
 use Rattle.be_table.specs.Rule.{IsWithin, newcomer}
 use Rattle.be_table.specs.declared.limits.Limits.{Limits}
@@ -13,7 +13,8 @@ use Rattle.be_value.specs.declared.refusals.Refusal.{Refusal}
 use Rattle.be_value.specs.declared.refusals.Refusal.TheVariants.{OutOfMemory}
 use Rattle.be_volume.specs.declared.ops.Op.{Op}
 use Rattle.be_session.specs.declared.faults.Fault.{Fault}
-use Rattle.be_session.specs.declared.faults.Fault.TheVariants.{NotPinned, AlreadyPinned, NoPass, BadCount, NotUtf8, NoOperation, NoKind, NoValue, BadPart, NoItem, Refused}
+use Rattle.be_session.specs.declared.faults.Fault.TheVariants.{NotPinned, AlreadyPinned, NoPass, BadCount}
+use Rattle.be_session.specs.declared.faults.Fault.TheVariants.{NotUtf8, NoOperation, NoKind, NoValue, BadPart, NoItem, Refused}
 
 -- the store, what its pass knows, and how many of the store's passes wait here for a session of their own
 pub record Sitting : Type 0 where
@@ -41,6 +42,20 @@ IsHeldBack a c ops NoKind = ⊥
 IsHeldBack a c ops NoValue = ⊥
 IsHeldBack a c ops BadPart = ⊥
 IsHeldBack a c ops NoItem = ⊥
+
+-- the same of a write that is tried so many times at most
+abbrev pub IsHeldBackAtLast : ℕ → Knowledge → Knowledge → List Op → Fault → Type 0
+IsHeldBackAtLast tries a c ops (Refused e) = Learns a c × IsLastReason tries a c ops e
+IsHeldBackAtLast tries a c ops BadCount = (c ≡ a) × ((length ops ≡ 0) ⊎ (64 < length ops))
+IsHeldBackAtLast tries a c ops NotPinned = ⊥
+IsHeldBackAtLast tries a c ops AlreadyPinned = ⊥
+IsHeldBackAtLast tries a c ops NoPass = ⊥
+IsHeldBackAtLast tries a c ops NotUtf8 = ⊥
+IsHeldBackAtLast tries a c ops NoOperation = ⊥
+IsHeldBackAtLast tries a c ops NoKind = ⊥
+IsHeldBackAtLast tries a c ops NoValue = ⊥
+IsHeldBackAtLast tries a c ops BadPart = ⊥
+IsHeldBackAtLast tries a c ops NoItem = ⊥
 
 -- A read answered what is meant, seen by view, or a growth was refused; the store has no other refusal than the meant one.
 abbrev pub Tells : {X Y : Type 0} → (X → Y) → Result X Fault → Result Y Refusal → Type 0

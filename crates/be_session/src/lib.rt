@@ -10,6 +10,8 @@ mod items;
 mod lists;
 mod meanings;
 mod passes;
+mod preparing;
+mod retrying;
 mod session;
 mod spellings;
 
@@ -17,5 +19,6 @@ pub use faults::Fault;
 pub use items::{PredicateItem, query_of_items};
 pub use lists::{Operation, operations};
 pub use meanings::{kind_of_code, name, operation, spelled, value};
+pub use preparing::{Prepared, prepare, prepare_items};
 pub use session::{Session, may_move, query_of};
 pub use spellings::{Spelling, attributes_spelled, indices_spelled};

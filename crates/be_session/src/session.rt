@@ -1,13 +1,14 @@
 //! A pass with its share of the store, and its calls.
 ghost use Rattle.std.specs.Prelude.{◌≡◌, ◌⊎◌, ◌≤◌, ◌+◌, ℕ, Ok, IfOk, IfErr, length, string_bytes, vec_len};
 ghost use Rattle.be_session.specs.Explained.{explained_in};
-ghost use Rattle.be_session.specs.Sitting.{AtPin, IsHeldBack, IsNoQuery, IsOpened, IsUnrefreshed, Tells};
+ghost use Rattle.be_session.specs.Sitting.{AtPin, IsHeldBack, IsHeldBackAtLast, IsNoQuery, IsOpened, IsUnrefreshed, Tells};
 ghost use Rattle.be_session.specs.declared.faults.Fault.TheVariants.{AlreadyPinned, NoPass, NotPinned, Refused};
+ghost use Rattle.be_journal.specs.Journal.{IsLegal};
 ghost use Rattle.be_query.specs.Grammar.{IsTextOf};
-ghost use Rattle.be_store.specs.History.{Accepts, Pins};
+ghost use Rattle.be_store.specs.History.{Accepts, IsUntold, Learns, Pins, text_seen};
 ghost use Rattle.be_store.specs.Live.{Refreshes};
 ghost use Rattle.be_store.specs.Passes.{HasRead, IsPassOf, IsPinnedTo, volume_pinned};
-ghost use Rattle.be_table.specs.Rule.{IsWithin, newcomer};
+ghost use Rattle.be_table.specs.Rule.{IsWithin, entries, newcomer};
 ghost use Rattle.be_table.specs.Seats.{pinned_number};
 ghost use Rattle.be_table.specs.Steps.{unpins};
 ghost use Rattle.be_table.specs.Works.{AreNew, IsUnopened};
@@ -19,6 +20,8 @@ ghost use Rattle.be_volume.specs.Reading.{attribute, attributes_at, index_kinds}
 use crate::Fault;
 use crate::explaining::cover_text;
 use crate::passes::{put_last, take_last};
+use crate::retrying::apply_or_retry;
+use be_store::laws::seen_is_legal;
 use be_store::{
     ArrayVec, Done, Kind, Limits, Live, Name, Op, Pass, Query, Refusal, Store, Updates, Value,
     parse,
@@ -171,11 +174,43 @@ impl Session {
         Ok(self.store.apply(&mut self.pass, ops)?)
     }
 
+    /// Writes as `apply` does, and tries again while another pass is writing, so many times at most after the first. It doesn't
+    /// wait between two tries.
+    pub fn apply_or_retry(
+        &mut self,
+        ops: &[Op],
+        retries: u32,
+    ) -> Result<(u64, ArrayVec<Done, 64>), Fault>
+        ensures store { (self.new.store ≡ self.old.store) × (self.new.spare ≡ self.old.spare) }
+        ensures ok { IfOk result (λ r. Accepts self.old.knows self.new.knows ops.now r.0 r.1.items) }
+        ensures count { IfOk result (λ r. (1 ≤ length ops.now) × (length ops.now ≤ 64)) }
+        ensures err { IfErr result (λ e. IsHeldBackAtLast (retries + 1) self.old.knows self.new.knows ops.now e) }
+    {
+        if ops.is_empty() || 64 < ops.len() {
+            return Err(Fault::BadCount);
+        }
+        Ok(apply_or_retry(&self.store, &mut self.pass, ops, retries)?)
+    }
+
+    /// The text of the journal up to now, which is legal: as the store's own `journal_text`. It needs no pin.
+    pub fn journal_text(&mut self) -> Result<String, Fault>
+        ensures store { (self.new.store ≡ self.old.store) × (self.new.spare ≡ self.old.spare) }
+        ensures learns { Learns self.old.knows self.new.knows }
+        ensures legal { IsLegal (entries self.new.knows.seen) }
+        ensures text { IfOk result (λ text. string_bytes text ≡ text_seen self.new.knows) }
+        ensures err { IfErr result (λ e. (why : AnyRefusal) × (e ≡ Refused why) × IsUntold self.old.knows self.new.knows why) }
+    {
+        let answer = self.store.journal_text(&mut self.pass);
+        seen_is_legal(&self.store, &self.pass);
+        Ok(answer?)
+    }
+
     /// The nodes of which the query is true in the pinned version, ascending.
     pub fn query(&mut self, alloc: Global, query: &Query) -> Result<Vec<u64>, Fault>
         ensures store { (self.new.store ≡ self.old.store) × (self.new.spare ≡ self.old.spare) }
         ensures read { HasRead self.old.knows self.new.knows }
-        ensures nodes { AtPin (pinned_number self.old.knows.phase) result (Tells (λ nodes. nodes.items) result (scan (volume_pinned self.old.knows) query.now)) }
+        ensures nodes { AtPin (pinned_number self.old.knows.phase) result
+            (Tells (λ nodes. nodes.items) result (scan (volume_pinned self.old.knows) query.now)) }
     {
         let Some(_) = self.pass.pinned() else {
             return Err(Fault::NotPinned);
@@ -190,7 +225,8 @@ impl Session {
         ensures read { HasRead self.old.knows self.new.knows }
         ensures ok { IfOk result (λ u. Refreshes (volume_pinned self.old.knows) live.old live.new u.created.items u.removed.items) }
         ensures pin { IfOk result (λ u. (n : ℕ) × IsPinnedTo self.old.knows n) }
-        ensures err { IfErr result (λ e. (live.new ≡ live.old) × IsUnrefreshed (pinned_number self.old.knows.phase) (scan (volume_pinned self.old.knows) live.old.query) e) }
+        ensures err { IfErr result (λ e. (live.new ≡ live.old)
+            × IsUnrefreshed (pinned_number self.old.knows.phase) (scan (volume_pinned self.old.knows) live.old.query) e) }
     {
         let Some(_) = self.pass.pinned() else {
             return Err(Fault::NotPinned);
@@ -231,7 +267,8 @@ impl Session {
     pub fn attrs(&mut self, alloc: Global, node: u64) -> Result<Vec<(Name, Value)>, Fault>
         ensures store { (self.new.store ≡ self.old.store) × (self.new.spare ≡ self.old.spare) }
         ensures read { HasRead self.old.knows self.new.knows }
-        ensures list { AtPin (pinned_number self.old.knows.phase) result (Tells (λ list. list.items) result (attributes_at (volume_pinned self.old.knows) node)) }
+        ensures list { AtPin (pinned_number self.old.knows.phase) result
+            (Tells (λ list. list.items) result (attributes_at (volume_pinned self.old.knows) node)) }
     {
         let Some(_) = self.pass.pinned() else {
             return Err(Fault::NotPinned);

@@ -1,13 +1,55 @@
 //! A peer at a terminal.
-ghost use Rattle.std.specs.Prelude.{◌≡◌};
+ghost use Rattle.std.specs.Prelude.{◌≡◌, [], true};
+ghost use Rattle.be_shell.specs.Conversation.{hearing, hears, short_line};
+ghost use Rattle.be_shell.specs.Terminal.{help_line};
 
 use crate::Line;
 use crate::peers::Peer;
 use be_serving::RunFault;
 use std::alloc::Global;
 
+/// What `help` tells at a terminal: each command with one line.
+const HELP: &str = "\
+new                       make a node
+drop N                    remove a node
+set N NAME KIND VALUE     set an attribute; KIND is CSTR, LONG, LLNG, ULNG, ULLG, MIMS or RAWT
+unset N NAME              remove an attribute
+mkindex NAME KIND         make an index, of what is set from then on
+rmindex NAME              remove an index
+query TEXT                the nodes of which a query is true
+explain TEXT              the comparisons that answer a query, and their score
+get N NAME                an attribute
+attrs N                   the attributes of a node
+indices                   the indices
+pin                       read from this version from now on
+unpin                     read from the last write again
+live TEXT                 take a live query
+refresh                   what changed in its answer
+begin                     open a batch
+commit                    write the batch as one
+abort                     drop the batch
+";
+
+/// Whether what was heard is the line `help`.
+fn is_help(heard: &Option<Line>) -> bool
+    ensures { result ≡ true → hearing heard.now ≡ hears help_line }
+{
+    match heard {
+        Some(Line::Short(bytes)) => bytes.as_slice() == b"help".as_slice(),
+        Some(Line::Long) | None => false,
+    }
+}
+
+/// A line that asks for nothing.
+fn empty_line(alloc: Global) -> Option<Line>
+    ensures { hearing result ≡ hears (short_line []) }
+{
+    Some(Line::Short(Vec::new(alloc)))
+}
+
 /// A peer at a terminal, who is asked for each line by a prompt on standard error: `batch> ` while a batch is open, and else
-/// `bestore> `. A prompt that can't be written is left out.
+/// `bestore> `. The line `help` is answered there with a list of the commands, and is heard as an empty line. What can't be
+/// written to standard error is left out.
 #[derive(Drop)]
 pub struct Terminal<'a, R, P> {
     rt: &'a R,
@@ -23,7 +65,9 @@ impl<'a, R: Eprint, P: Peer> Terminal<'a, R, P> {
 }
 
 impl<'a, R: Eprint, P: Peer> Peer for Terminal<'a, R, P> {
-    ghost does = { λ old event new. P.does old.peer event new.peer };
+    ghost use Rattle.be_shell.specs.Terminal.{asks};
+
+    ghost does = { λ old event new. asks P.does old.peer event new.peer };
 
     fn hear(&mut self, alloc: Global, is_batch_open: bool) -> Result<Option<Line>, RunFault> {
         let prompt = if is_batch_open {
@@ -32,7 +76,12 @@ impl<'a, R: Eprint, P: Peer> Peer for Terminal<'a, R, P> {
             "bestore> "
         };
         let _ = eprint!(self.rt; "{prompt}");
-        self.peer.hear(alloc, is_batch_open)
+        let heard = self.peer.hear(alloc, is_batch_open)?;
+        if is_help(&heard) {
+            let _ = eprint!(self.rt; "{HELP}");
+            return Ok(empty_line(alloc));
+        }
+        Ok(heard)
     }
 
     fn say(&mut self, reply: &[u8]) -> Result<(), RunFault> {

@@ -11,7 +11,7 @@ use Rattle.be_table.specs.declared.pass.Knowledge.{Knowledge}
 use Rattle.be_table.specs.History.{AllBelow, StartsWith}
 use Rattle.be_table.specs.Rule.{entries}
 use Rattle.be_table.specs.Steps.{IsPass, announces, entry_of}
-use Rattle.be_table.specs.Works.{Pins}
+use Rattle.be_table.specs.Works.{PinsCurrent}
 use Rattle.be_table.proofs.Histories.{by_pass-append, by_pass-own}
 use Rattle.be_volume.specs.Ahead.{after, reached}
 use Rattle.be_volume.specs.declared.ops.Done.{Done}
@@ -22,7 +22,7 @@ use Rattle.be_store.specs.Passes.{IsSettled, volume_seen}
 use Rattle.be_store.proofs.Applied.{entries_append, nothing_more}
 
 -- entries by passes below 1 are by the pass 0
-by_one : (log : List Entry) → AllBelow 1 log → by_pass 0 log ≡ log
+pub by_one : (log : List Entry) → AllBelow 1 log → by_pass 0 log ≡ log
 unfolding AllBelow
 by_one [] b = refl
 by_one (e ∷ log) b =
@@ -54,7 +54,7 @@ announced_in (Announced x) = x
 announced_in (Pinned x n) = 0
 
 -- The pass looks, announces what it found, and looks again. Where it is the only one, it is then pinned to what it announced.
-pub settled_pin : (passes n : ℕ) (b p c : Knowledge) → IsPass b → b.limits.passes ≡ passes → c.limits.passes ≡ passes → n ≡ length b.seen → p ≡ announces b n → Pins p c → IsSettled passes c.phase
+pub settled_pin : (passes n : ℕ) (b p c : Knowledge) → IsPass b → b.limits.passes ≡ passes → c.limits.passes ≡ passes → n ≡ length b.seen → p ≡ announces b n → PinsCurrent p c → IsSettled passes c.phase
 settled_pin passes n b p c pass limits limits_then number announced h =
     let x : ℕ = h.same.0 in
     let found : x ≡ n = sym (ap announced_in h.same.1) ∙ ap (λ (k : Knowledge). announced_in k.phase) announced in

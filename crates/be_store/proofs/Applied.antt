@@ -14,7 +14,7 @@ use Rattle.be_value.specs.declared.refusals.Refusal.{Refusal}
 use Rattle.be_volume.specs.Volume.{steps}
 use Rattle.be_volume.specs.declared.ops.Done.{Done}
 use Rattle.be_volume.specs.declared.ops.Op.{Op}
-use Rattle.be_store.specs.History.{Accepts, Learns, IsReason}
+use Rattle.be_store.specs.History.{Accepts, Learns, IsReason, text_seen}
 use Rattle.be_store.specs.Writing.{Publishes, IsHeldBack}
 
 pub entries_append : (log more : List Commit) → entries (log ++ more) ≡ entries log ++ entries more
@@ -68,6 +68,17 @@ module _ (a w : Knowledge) (t : TakesLock a w) where
         pin = ap (λ (k : Knowledge). k.phase) is ∙ (p.same.pin ∙ same_phase);
       }
 
+  -- the lock is given back as it was taken
+  pub learns_only : (c : Knowledge) → c ≡ leaves w → IsPass c → Learns a c
+  learns_only c is pass =
+      let seen : c.seen ≡ w.seen = ap (λ (k : Knowledge). k.seen) is in
+      let number : c.number ≡ a.number = ap (λ (k : Knowledge). k.number) is ∙ same_number in record {
+        more = (t.more.0, seen ∙ t.more.1);
+        mine = sym pass.mine ∙ (ap (λ k. by_pass k (entries c.seen)) number ∙ (ap (λ l. by_pass a.number (entries l)) seen ∙ own));
+        pass = number;
+        pin = ap (λ (k : Knowledge). k.phase) is ∙ same_phase;
+      }
+
   pub learns : (v c : Knowledge) (ops : List Op) (e : Refusal) → IsHeldBack w v ops e → c ≡ leaves v → IsPass c → Learns a c
   learns v c ops e p is pass =
       let seen : c.seen ≡ w.seen = ap (λ (k : Knowledge). k.seen) is ∙ p.seen in
@@ -88,3 +99,12 @@ accepted_if (Err e) P R Q m f = tt
 pub refused_if : {T E : Type 0} (r : Result T E) (P : T → Type 0) (Q R : E → Type 0) → MatchResult r P Q → ((e : E) → Q e → R e) → IfErr r R
 refused_if (Ok x) P Q R m f = tt
 refused_if (Err e) P Q R m f = f e m
+
+-- the text of an Ok
+abbrev text_or : List ℕ → Result (List ℕ) Refusal → List ℕ
+text_or d (Ok x) = x
+text_or d (Err e) = d
+
+-- the text that was made while the lock was held is that of what the pass has seen behind it
+pub told : (w c : Knowledge) (text : List ℕ) (made : Result (List ℕ) Refusal) → c ≡ leaves w → made ≡ Ok (text_seen w) → made ≡ Ok text → text ≡ text_seen c
+told w c text made is all one = ap (text_or text) (sym one ∙ all) ∙ ap text_seen (sym is)

@@ -3,6 +3,7 @@ use Rattle.std.specs.Prelude.{◌≡◌, ◌≢◌, ◌⊎◌, ℕ, ◌+◌, ◌
 use Rattle.std.specs.declared.result.Result.{Result}
 use Rattle.std.specs.declared.result.Result.TheVariants.{Ok, Err}
 use Rattle.be_journal.specs.Journal.{Agrees, by_pass, replay}
+use Rattle.be_journal.specs.Text.{lines_from}
 use Rattle.be_pages.specs.Refusal.{IsFullOf}
 use Rattle.be_table.specs.declared.pass.Commit.{Commit}
 use Rattle.be_table.specs.declared.pass.Knowledge.{Knowledge}
@@ -11,7 +12,7 @@ use Rattle.be_table.specs.Rule.{entries}
 use Rattle.be_table.specs.Steps.{entry_of}
 use Rattle.be_table.specs.Works.{IsBusy, HasNoRoom, IsSpent}
 use Rattle.be_value.specs.declared.refusals.Refusal.{Refusal}
-use Rattle.be_value.specs.declared.refusals.Refusal.TheVariants.{Busy}
+use Rattle.be_value.specs.declared.refusals.Refusal.TheVariants.{Busy, OutOfMemory}
 use Rattle.be_volume.specs.Volume.{steps}
 use Rattle.be_volume.specs.declared.ops.Done.{Done}
 use Rattle.be_volume.specs.declared.ops.Op.{Op}
@@ -74,3 +75,11 @@ pub record Pins (a c : Knowledge) (n : ℕ) : Type 0 where
   pub number : n ≡ length c.seen
   pub pin : IsPinnedTo c n
   pub same : c ≡ record a { seen = c.seen; phase = c.phase; image = c.image; steps = a.steps + 3 }
+
+-- the journal's text, as far as the pass has seen it
+abbrev pub text_seen : Knowledge → List ℕ
+text_seen a = lines_from 1 (entries a.seen)
+
+-- Why the journal isn't told: the one try found that another pass holds the lock, and nothing more was seen; or a growth was refused.
+abbrev pub IsUntold : (a c : Knowledge) → Refusal → Type 0
+IsUntold a c e = (IsBusy e a c × (c.seen ≡ a.seen)) ⊎ (e ≡ OutOfMemory)

@@ -5,7 +5,7 @@ use Rattle.be_core.specs.declared.event.Phase.{Phase}
 use Rattle.be_core.specs.declared.event.Phase.TheVariants.{Idle, Looked, Announced, Pinned}
 use Rattle.be_journal.specs.Journal.{replay}
 use Rattle.be_table.specs.declared.pass.Knowledge.{Knowledge}
-use Rattle.be_table.specs.Place.{Opened, Place}
+use Rattle.be_table.specs.Place.{Opened, SeatFacts}
 use Rattle.be_table.specs.Rule.{entries}
 use Rattle.be_table.specs.Seats.{pinned_number}
 use Rattle.be_table.specs.Works.{IsSeatOf}
@@ -19,7 +19,7 @@ IsSettled passes (Announced x) = ⊥
 IsSettled passes (Pinned x n) = passes ≡ 1 → x ≡ n
 
 -- a pass of this store
-abbrev pub IsPassOf : Opened → Place → Type 0
+abbrev pub IsPassOf : Opened → SeatFacts → Type 0
 IsPassOf store pass = IsSeatOf store pass × IsSettled store.limits.passes pass.knows.phase
 
 -- the pass is pinned to the first n entries of the journal

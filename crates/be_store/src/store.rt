@@ -1,7 +1,7 @@
 //! The store, and the calls of its passes.
-ghost use Rattle.std.specs.Prelude.{◌≡◌, ◌≤◌, ◌<◌, ℕ, [], None, Some, Ok, MatchResult, IsOk, IfOk, IfErr, OnErr, length, map};
+ghost use Rattle.std.specs.Prelude.{◌≡◌, ◌≤◌, ◌<◌, ℕ, [], None, Some, Ok, MatchResult, IsOk, IfOk, IfErr, OnErr, length, map, string_bytes};
 ghost use Rattle.be_store.specs.Passes.{IsPassOf, IsPinnedTo, HasRead, volume_pinned};
-ghost use Rattle.be_store.specs.History.{Accepts, Learns, IsReason, IsLastReason, Pins};
+ghost use Rattle.be_store.specs.History.{Accepts, Learns, IsReason, IsLastReason, IsUntold, Pins, text_seen};
 
 use crate::answers::Answer;
 use crate::asking::ask;
@@ -40,7 +40,7 @@ impl Store {
     ghost use Rattle.be_table.specs.Reading.{pinned_standing, word_in};
     ghost use Rattle.be_table.specs.Rule.{IsWithin};
     ghost use Rattle.be_table.specs.Seats.{pinned_number};
-    ghost use Rattle.be_table.specs.Steps.{Has, Keeps, longer, met, unpins};
+    ghost use Rattle.be_table.specs.Steps.{Has, KeepsSeen, longer, met, unpins};
     ghost use Rattle.be_table.specs.Versions.{CanSpellEach};
     ghost use Rattle.be_table.specs.Works.{AllAt, AreNew, IsUnopened, knows_of};
     ghost use Rattle.be_value.specs.Refusal.{Answers};
@@ -64,11 +64,11 @@ impl Store {
     /// Writes 1 to 64 operations, all or none. Answers the journal's length with this write, and puts an answer for each
     /// operation in the place of what a list had. A pin stays.
     ///
-    /// Busy where the call's one try finds another pass holding the lock: it may be made again. Else a refusal of 2 to 8
-    /// as the volume gives it; else CommitsSpent where the journal is at its limit, OutOfMemory where its entry found no
-    /// memory, and Full where no page is free. What a refused write did is undone, and the list is empty. It costs new
-    /// pages on the way to each change, and where none is free, or many wait for it, a look at each announcement and at the
-    /// pages that this frees.
+    /// Busy where the call's one try finds another pass holding the lock: it may be made again. Else a refusal from NoNode
+    /// to NotIndexable as the volume gives it; else CommitsSpent where the journal is at its limit, OutOfMemory where its
+    /// entry found no memory, and Full where no page is free. What a refused write did is undone, and the list is empty. It
+    /// costs new pages on the way to each change, and where none is free, or many wait for it, a look at each announcement
+    /// and at the pages that this frees.
     ///
     /// The list is filled where it stands, since one that is given by value costs its whole capacity at each move.
     pub fn apply_into(
@@ -243,6 +243,33 @@ impl Store {
         list
     }
 
+    /// The journal's text up to now, as `Journal::text` has it, while passes are in use. A pin stays.
+    ///
+    /// Busy where the call's one try finds another pass holding the lock, and OutOfMemory. The lock is held while the text is
+    /// made, so other passes' writes are answered Busy meanwhile.
+    pub fn journal_text(&self, pass: &mut Pass) -> Result<String, Refusal>
+        requires pass { IsPassOf self.now pass.old }
+        ensures pass { IsPassOf self.now pass.new }
+        ensures learns { Learns pass.old.knows pass.new.knows }
+        ensures text { IfOk result (λ text. string_bytes text ≡ text_seen pass.new.knows) }
+        ensures err { IfErr result (λ e. IsUntold pass.old.knows pass.new.knows e) }
+    {
+        let held = match self.table.lock(pass.move_out()) {
+            Ok(writing) => writing,
+            Err((seat, refusal)) => {
+                *pass = seat;
+                return Err(refusal);
+            }
+        };
+        let answer = held.journal_text();
+        *pass = held.unlock();
+        pass.is_pass();
+        match answer {
+            Ok(text) => Ok(text),
+            Err(_) => Err(Refusal::OutOfMemory),
+        }
+    }
+
     /// Two passes tell each other what they have seen: both have then seen what either had, of two beginnings of one
     /// journal the longer. Answers its length. Three steps.
     pub fn meet(&self, left: &mut Pass, right: &mut Pass) -> u64
@@ -266,7 +293,7 @@ impl Store {
         requires all { (k : ℕ) → k < self.limits.passes → Has (map knows_of passes.items) k }
         ensures legal { IsLegal result.entries }
         ensures by { AllBelow self.limits.passes result.entries }
-        ensures passes { Keeps result.entries (map knows_of passes.items) }
+        ensures passes { KeepsSeen result.entries (map knows_of passes.items) }
         ensures volumes { CanSpellEach self.limits.pages result.entries }
     {
         let Store { table } = self;

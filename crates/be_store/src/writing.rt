@@ -46,7 +46,7 @@ fn scan_early(writing: &mut Writing<'_>)
 }
 
 /// Applies the operations to the current version, and publishes what they make. Their answers enter an empty list, which
-/// is filled where it stands. A refusal of 2 to 8 comes at once; the journal's want of room goes before that of a page.
+/// is filled where it stands. A refusal by the volume comes at once; the journal's want of room goes before that of a page.
 fn write_current(
     writing: &mut Writing<'_>,
     ops: &[Op],

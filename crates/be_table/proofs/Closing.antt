@@ -12,9 +12,9 @@ use Rattle.be_table.specs.declared.pass.Knowledge.{Knowledge}
 use Rattle.be_journal.specs.Journal.{IsLegal}
 use Rattle.be_table.specs.History.{AllBelow}
 use Rattle.be_table.specs.Laws.{ArrivalIsNoEvent}
-use Rattle.be_table.specs.Place.{Place}
+use Rattle.be_table.specs.Place.{SeatFacts}
 use Rattle.be_table.specs.Rule.{Board, entries, is_holder, IsHome, AllFit, Shows, everyone, counted, joined}
-use Rattle.be_table.specs.Steps.{Arrived, Has, AllIdle, Keeps}
+use Rattle.be_table.specs.Steps.{Arrived, Has, AllIdle, KeepsSeen}
 use Rattle.be_table.specs.Versions.{CanSpellEach}
 use Rattle.be_table.specs.Works.{AllAt, Gathered}
 use Rattle.be_table.proofs.Deals.{at_snoc_place}
@@ -30,13 +30,13 @@ nobody_holds : (o : Option Holder) (passes : ℕ) → ((h : Holder) → o ≡ So
 nobody_holds None passes b f = refl
 nobody_holds (Some h) passes b f = absurd (true≢false (sym (eq-eqb h.pass h.pass refl) ∙ f h.pass (b h refl)))
 
-all_kept : (limits : Limits) (b : Board) (i : ℕ) (v : List Knowledge) → AllFit limits b i v → Keeps (entries b.log) v
+all_kept : (limits : Limits) (b : Board) (i : ℕ) (v : List Knowledge) → AllFit limits b i v → KeepsSeen (entries b.log) v
 all_kept limits b i [] f = tt
 all_kept limits b i (a ∷ v) f = (entries-start b.log a.seen f.0.seen, f.0.mine, all_kept limits b i v f.2)
 
 -- once all passes are in one seat, the slot has the journal
 pub ends : (limits : Limits) (i : ℕ) (v : List Knowledge) (words : List ℕ) (slots : List (Option Ledger)) → AllIdle v → ((k : ℕ) → k < limits.passes → Has v k) → Final (Seen (Shows limits) i v) words slots
-    → (ledger : Ledger) × (get_elem? slots 0 ≡ some (Some ledger)) × IsLegal ledger.journal.entries × AllBelow limits.passes ledger.journal.entries × Keeps ledger.journal.entries v
+    → (ledger : Ledger) × (get_elem? slots 0 ≡ some (Some ledger)) × IsLegal ledger.journal.entries × AllBelow limits.passes ledger.journal.entries × KeepsSeen ledger.journal.entries v
     × CanSpellEach limits.pages ledger.journal.entries
 ends limits i v words slots idle all f =
     let s = f.0 in let b = f.1.0.0 in let h = f.1.0.1 in
@@ -48,7 +48,7 @@ ends limits i v words slots idle all f =
       f.4 0 (Some home.0) (ap (λ hs. get_elem? hs 0) home.1),
       subst IsLegal is (is_legal (entries b.log) h.sound.legal),
       subst (AllBelow limits.passes) is h.sound.by_passes,
-      subst (λ l. Keeps l v) is (all_kept limits b i v fit),
+      subst (λ l. KeepsSeen l v) is (all_kept limits b i v fit),
       subst (CanSpellEach limits.pages) is (log_spelt limits b h.sound),
     )
 
@@ -73,11 +73,11 @@ idle_append : (v w : List Knowledge) → AllIdle v → AllIdle w → AllIdle (v 
 idle_append [] w h g = g
 idle_append (a ∷ v) w h g = (h.0, idle_append v w h.1 g)
 
-keeps_counted : (log : List Entry) (v : List Knowledge) → Keeps log (map counted v) → Keeps log v
+keeps_counted : (log : List Entry) (v : List Knowledge) → KeepsSeen log (map counted v) → KeepsSeen log v
 keeps_counted log [] h = tt
 keeps_counted log (a ∷ v) h = (h.0, h.1, keeps_counted log v h.2)
 
-keeps_parts : (log : List Entry) (v w : List Knowledge) → Keeps log (v ++ w) → Keeps log v × Keeps log w
+keeps_parts : (log : List Entry) (v w : List Knowledge) → KeepsSeen log (v ++ w) → KeepsSeen log v × KeepsSeen log w
 keeps_parts log [] w h = (tt, h)
 keeps_parts log (a ∷ v) w h = let r = keeps_parts log v w h.2 in ((h.0, h.1, r.0), r.1)
 
@@ -91,14 +91,14 @@ gathered_more known v a idle g = record {
   keeps = λ log h. let p = keeps_parts log (map counted v) (counted a ∷ []) h in (p.1.0, p.1.1, g.keeps log (keeps_counted log v p.0));
 }
 
-pub AllAt-parts : (id : TableId) (ss : List Place) (s : Place) → AllAt id (ss ++ s ∷ []) → AllAt id ss × (s.blank ≡ false) × (s.table ≡ id)
+pub AllAt-parts : (id : TableId) (ss : List SeatFacts) (s : SeatFacts) → AllAt id (ss ++ s ∷ []) → AllAt id ss × (s.blank ≡ false) × (s.table ≡ id)
 AllAt-parts id [] s h = (tt, h.0.0, h.0.1)
 AllAt-parts id (x ∷ ss) s h = let r = AllAt-parts id ss s h.1 in ((h.0, r.0), r.1, r.2)
 
 pub record Closes (limits : Limits) (known : List Knowledge) (items : List Entry) : Type 0 where
   pub legal : IsLegal items
   pub by_passes : AllBelow limits.passes items
-  pub keeps : Keeps items known
+  pub keeps : KeepsSeen items known
   pub volumes : CanSpellEach limits.pages items
 
 -- the ledger that was found in the slot has the journal

@@ -18,12 +18,12 @@ use Rattle.be_table.specs.declared.limits.Limits.{Limits}
 use Rattle.be_table.specs.declared.pass.Knowledge.{Knowledge}
 use Rattle.be_pages.specs.Place.{undone_place, place_of}
 use Rattle.be_table.specs.Laws.{SplitIsNoEvent, JoinIsNoEvent}
-use Rattle.be_table.specs.Ledger.{ShowsPlaces, is_free, is_taken, retired_with}
+use Rattle.be_table.specs.Ledger.{ShowsPlaces, shows_free, shows_taken, retired_with}
 use Rattle.be_journal.specs.Journal.{replay}
 use Rattle.be_volume.specs.Volume.{empty}
 use Rattle.be_table.specs.Versions.{in_pages, CanSpellEach, SpellsVolume}
-use Rattle.be_table.specs.Place.{Place}
-use Rattle.be_table.specs.Rule.{ledger_places, Board, IsWithin, IsSound, AreInside, reach_at, page_at, word_place, Fits, IsAbsent, AllFit, Shows, newcomer, newcomers, everyone, counted, first_seat, other_seats, joined}
+use Rattle.be_table.specs.Place.{SeatFacts}
+use Rattle.be_table.specs.Rule.{ledger_places, Board, IsWithin, IsSoundBoard, AreInside, reach_at, page_at, word_place, Fits, IsAbsent, AllFit, Shows, newcomer, newcomers, everyone, counted, first_seat, other_seats, joined}
 use Rattle.be_table.specs.Seats.{IsTold}
 use Rattle.be_table.specs.Works.{AreNewAt}
 use Rattle.be_table.proofs.Histories.{by_pass-nil, legal-nil, below-nil}
@@ -56,7 +56,7 @@ choose_else m k n o e = ap (λ b. if b then n else o) (ne_eqb m k e)
 reseat : (limits : Limits) (b : Board) (f : ℕ → ℕ) (i j : ℕ) (a : Knowledge) → f a.number ≡ j → Fits limits b i a → Fits limits (record b { seat_of = f }) j a
 reseat limits b f i j a e h = record { number = h.number; limits_are = h.limits_are; seat_is = e; seen = h.seen; mine = h.mine; own = h.own; writes = h.writes; whole = λ t. let x = h.whole t in record { log = x.log; holder = x.holder; turn = x.turn; count = x.count; shown = x.shown; size = x.size; words = x.words }; phase = h.phase; pin = h.pin; image = h.image }
 
-sound_seats : (limits : Limits) (b : Board) (f : ℕ → ℕ) → IsSound limits b → IsSound limits (record b { seat_of = f })
+sound_seats : (limits : Limits) (b : Board) (f : ℕ → ℕ) → IsSoundBoard limits b → IsSoundBoard limits (record b { seat_of = f })
 sound_seats limits b f s = record { within = s.within; legal = s.legal; by_passes = s.by_passes; room = s.room; page = s.page; inside = s.inside; own_pages = s.own_pages; pages = s.pages; passes = s.passes; commits = s.commits; holder = s.holder; reaches = s.reaches; machine = s.machine; spelt = s.spelt }
 
 absent_counted : (k : ℕ) (v : List Knowledge) → IsAbsent k v → IsAbsent k (map counted v)
@@ -247,8 +247,8 @@ Me2 = Me (Option Ledger) (List Knowledge)
 pub newcomer_told : (limits : Limits) (t k : ℕ) → IsWithin limits → k < limits.passes → IsTold (newcomer limits t k) k 0
 newcomer_told limits t k within lt = record { number_is = refl; seen_is = refl; writes = refl; pass = record { within = within; legal = legal-nil; number_below = lt; by_passes = below-nil limits.passes; room = omega arith; inside = first_inside limits.pages (some_page limits within); own_pages = first_own; volumes = none_spelt limits.pages; pin = tt; mine = by_pass-nil k; spelt = λ x n e. absurd (cc) } }
 
-pub AreNewAt-push : (id : TableId) (limits : Limits) (k : ℕ) (ss : List Place) (s : Place) → AreNewAt id limits k ss → (s.blank ≡ false) × (s.table ≡ id) × (s.knows ≡ newcomer limits (k + length ss + 1) (k + length ss)) → AreNewAt id limits k (ss ++ s ∷ [])
-AreNewAt-push id limits k [] s h new = (subst (λ n. (s.blank ≡ false) × (s.table ≡ id) × (s.knows ≡ newcomer limits (n + 1) n)) (let e : k + length {A = Place} [] ≡ k = omega arith in e) new, tt)
+pub AreNewAt-push : (id : TableId) (limits : Limits) (k : ℕ) (ss : List SeatFacts) (s : SeatFacts) → AreNewAt id limits k ss → (s.blank ≡ false) × (s.table ≡ id) × (s.knows ≡ newcomer limits (k + length ss + 1) (k + length ss)) → AreNewAt id limits k (ss ++ s ∷ [])
+AreNewAt-push id limits k [] s h new = (subst (λ n. (s.blank ≡ false) × (s.table ≡ id) × (s.knows ≡ newcomer limits (n + 1) n)) (let e : k + length {A = SeatFacts} [] ≡ k = omega arith in e) new, tt)
 AreNewAt-push id limits k (x ∷ ss) s h new = (h.0, AreNewAt-push id limits (k + 1) ss s h.1 (subst (λ n. (s.blank ≡ false) × (s.table ≡ id) × (s.knows ≡ newcomer limits (n + 1) n)) (let e : k + length (x ∷ ss) ≡ k + 1 + length ss = omega arith in e) new))
 
 pub dealt : (limits : Limits) (k n : ℕ) (me r : Me2) → me ≡ (newcomers limits k k (suc n), []) → r ≡ (first_seat me.0, []) → r ≡ (newcomer limits (k + 1) k ∷ [], [])
@@ -266,7 +266,7 @@ pub first_places : (limits : Limits) (words : List ℕ) (places : List PagePlace
     → ShowsPlaces places (first_board limits words).world × (map undone_place places ≡ places)
 first_places limits words places within count used unused = (record { free = λ p. (at p).0; taken = λ p. (at p).1; retired = λ p. (at p).2 }, sym (mapped undone_place refl places places refl (λ q lt. (at q).3)))
   where
-    at : (p : ℕ) → ((nat_lt p limits.pages && not (p == 0)) ≡ is_free (place_of places p)) × (false ≡ is_taken (place_of places p)) × (None ≡ retired_with (place_of places p)) × (place_of places p ≡ undone_place (place_of places p))
+    at : (p : ℕ) → ((nat_lt p limits.pages && not (p == 0)) ≡ shows_free (place_of places p)) × (false ≡ shows_taken (place_of places p)) × (None ≡ retired_with (place_of places p)) × (place_of places p ≡ undone_place (place_of places p))
     at zero = rw (used 0 (omega arith), lt-ltb 0 limits.pages (some_page limits within)) (refl, refl, refl, refl)
     at (suc p) = elim (cases_lt (suc p) limits.pages) [
       | inl lt ↦ rw (unused (suc p) (omega arith) lt, ne_eqb (suc p) 0 (λ z. absurd (omega arith)), lt-ltb (suc p) limits.pages lt) (refl, refl, refl, refl)

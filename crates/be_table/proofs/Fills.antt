@@ -5,13 +5,13 @@ use Rattle.be_pages.specs.declared.page_pool.Place.{Place}
 use Rattle.be_pages.specs.declared.page_pool.Place.TheVariants.{Filled, Current}
 use Rattle.be_table.specs.declared.pass.Knowledge.{Knowledge}
 use Rattle.be_table.specs.Rule.{pass_of, word_place}
-use Rattle.be_table.specs.Ledger.{is_free, is_taken}
+use Rattle.be_table.specs.Ledger.{shows_free, shows_taken}
 use Rattle.be_table.specs.Steps.{MayBeFilled, fills, fill_steps, fills_word}
 use Rattle.be_table.proofs.Frames.{Me1}
 
 -- a page that was filled may be filled again
 pub may_again : (places : List Place) (p : ℕ) → p < length places → MayBeFilled (slice_set places p Filled) p
-may_again places p lt = (omega (arith, lt, length-set places p Filled), ap (λ (x : Place). is_taken x || is_free x) (get_or-set_same places p Filled Current lt))
+may_again places p lt = (omega (arith, lt, length-set places p Filled), ap (λ (x : Place). shows_taken x || shows_free x) (get_or-set_same places p Filled Current lt))
 
 -- the word was there
 pub there : (a : Knowledge) (p i n x : ℕ) → n ≡ slice_index a.words (word_place p i) → n ≡ x → fills a p i n ≡ fills_word a p i x

@@ -18,7 +18,7 @@ use Rattle.be_table.specs.declared.pass.Knowledge.{Knowledge}
 use Rattle.be_journal.specs.declared.entries.Entry.{Entry}
 use Rattle.be_journal.specs.Journal.{by_pass, replay}
 use Rattle.be_table.specs.History.{StartsWith, AllBelow}
-use Rattle.be_table.specs.Rule.{Board, entries, nothing, reach_at, page_at, lock_word, announce_word, word_place, PagesAgree, is_holder, holder_of, WordsAgree, IsHome, IsWithin, ReachesAgree, AreInside, IsSound, Holds, ImageIs, Fits, AllFit, ViewsFit, Stands, counted}
+use Rattle.be_table.specs.Rule.{Board, entries, nothing, reach_at, page_at, lock_word, announce_word, word_place, PagesAgree, is_holder, holder_of, WordsAgree, IsHome, IsWithin, ReachesAgree, AreInside, IsSoundBoard, Holds, ImageIs, Fits, AllFit, ViewsFit, Stands, counted}
 use Rattle.be_table.specs.Steps.{IsPass, finds_held}
 use Rattle.be_table.specs.Reading.{word_in}
 use Rattle.be_table.specs.Versions.{in_pages, CanSpell, CanSpellEach, SpellsVolume}
@@ -103,7 +103,7 @@ spelt_front log seen words s n le h =
     subst (λ (q : List ℕ × ℕ × List Entry). SpellsVolume q.0 words q.1 (replay q.2)) (λ k. (reach-front log seen s n le k, page-front log seen s n le k, front k)) h
 
 -- the image of a pinned version spells the volume
-pinned_spelt : (limits : Limits) (b : Board) (i : ℕ) (a : Knowledge) → IsSound limits b → Fits limits b i a → (x n : ℕ) → a.phase ≡ Pinned x n → SpellsVolume (reach_at a.seen n) (word_in a.image) (page_at a.seen n) (replay (take n (entries a.seen)))
+pinned_spelt : (limits : Limits) (b : Board) (i : ℕ) (a : Knowledge) → IsSoundBoard limits b → Fits limits b i a → (x n : ℕ) → a.phase ≡ Pinned x n → SpellsVolume (reach_at a.seen n) (word_in a.image) (page_at a.seen n) (replay (take n (entries a.seen)))
 pinned_spelt limits b i a s f x n e =
     let low : (x ≤ n) × (n ≤ length a.seen) = subst (InTime (length a.seen)) e f.pin in
     let late : (x ≤ n) × (n ≤ b.world.current) = subst (InTime b.world.current) (f.phase ∙ e) (s.machine.in_time a.number) in
@@ -114,7 +114,7 @@ pinned_spelt limits b i a s f x n e =
     (s.spelt n (omega (arith, low.1, l))))
 
 -- the pages can spell the volume after each entry, and so after each of a beginning of the journal
-pub log_spelt : (limits : Limits) (b : Board) → IsSound limits b → CanSpellEach limits.pages (entries b.log)
+pub log_spelt : (limits : Limits) (b : Board) → IsSoundBoard limits b → CanSpellEach limits.pages (entries b.log)
 unfolding CanSpellEach
 log_spelt limits b s = λ n lt.
     let low : suc n ≤ length b.log = (let l = length-map b.log (λ (c : Commit). c.entry) in omega (arith, l, lt)) in record {
@@ -131,7 +131,7 @@ spelt_before pages log seen s all = λ n lt.
     let front : take (suc n) log ≡ take (suc n) seen = ap (take (suc n)) s.1 ∙ take_front seen s.0 (suc n) (omega (arith, lt)) in
     subst (λ (es : List Entry). CanSpell pages (replay es)) front (all n (let l = longer_seen log seen s in omega (arith, l, lt)))
 
-pub is_pass : (limits : Limits) (b : Board) (i : ℕ) (a : Knowledge) → IsSound limits b → Fits limits b i a → IsPass a
+pub is_pass : (limits : Limits) (b : Board) (i : ℕ) (a : Knowledge) → IsSoundBoard limits b → Fits limits b i a → IsPass a
 is_pass limits b i a s f = record {
   within = subst IsWithin (sym f.limits_are) s.within;
   legal = legal-front (entries b.log) (entries a.seen) (entries-start b.log a.seen f.seen) s.legal;
@@ -247,7 +247,7 @@ fits_world limits b w j x h p whole image f = record {
 pub not_other : (k j : ℕ) → j ≢ k → eqb k j ≡ false
 not_other k j ne = ne_eqb k j (λ q. ne (sym q))
 
-pub sound_world : (limits : Limits) (b : Board) (w : World) → IsSound limits b → w.pages ≡ b.world.pages → w.passes ≡ b.world.passes → w.commits ≡ b.world.commits → w.image ≡ b.world.image → ((h : Holder) → w.holder ≡ Some h → h.pass < limits.passes) → ReachesAgree w b.log → Sound w → IsSound limits (record b { world = w })
+pub sound_world : (limits : Limits) (b : Board) (w : World) → IsSoundBoard limits b → w.pages ≡ b.world.pages → w.passes ≡ b.world.passes → w.commits ≡ b.world.commits → w.image ≡ b.world.image → ((h : Holder) → w.holder ≡ Some h → h.pass < limits.passes) → ReachesAgree w b.log → Sound w → IsSoundBoard limits (record b { world = w })
 sound_world limits b w h pages passes commits image holder reaches sound = record { within = h.within; legal = h.legal; by_passes = h.by_passes; room = h.room; page = h.page; inside = h.inside; own_pages = h.own_pages; pages = pages ∙ h.pages; passes = passes ∙ h.passes; commits = commits ∙ h.commits; holder = holder; reaches = reaches; machine = sound; spelt = λ n le. subst (λ (f : ℕ → ℕ → ℕ → ℕ). SpellsVolume (reach_at b.log n) (in_pages (f n)) (page_at b.log n) (replay (take n (entries b.log)))) (sym image) (h.spelt n le) }
 
 home_phases : (o : Option Holder) (w : World) (phases : ℕ → Phase) (log : List Commit) (homes : List (mathlib.Core.Option.Option (Option Ledger))) → IsHome o w log homes → IsHome o (record w { phases = phases }) log homes

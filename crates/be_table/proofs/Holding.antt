@@ -17,7 +17,7 @@ use Rattle.be_table.specs.declared.limits.Limits.{Limits}
 use Rattle.be_table.specs.declared.pass.Knowledge.{Knowledge}
 use Rattle.be_table.specs.Laws.{AllowsBy, NoEvent, IsFill, IsReturn, IsScan}
 use Rattle.be_pages.specs.Place.{place_of, is_in_hand, is_held_page, given_place, swept_place}
-use Rattle.be_table.specs.Ledger.{is_taken, is_free, retired_with}
+use Rattle.be_table.specs.Ledger.{shows_taken, shows_free, retired_with}
 use Rattle.be_table.specs.Rule.{Board, page_at, reach_at, announce_word, word_place, holder_of, WordsAgree, Holds, Fits, Stands, Shows, counted}
 use Rattle.be_table.specs.Steps.{fills, takes_page, gives_up, least_found, least_then, pages_from, scans_on, scans_out, scans, MayBeFilled, OwnRead, FilledAt, FilledFound, PageTaken, PageGivenUp, Scanned}
 use Rattle.be_table.proofs.Frames.{Table, Me1, views_step, fits_counted, words_load, words_fill, pages_fill, same_place, not_holder, fits_world, sound_world}
@@ -49,7 +49,7 @@ module _ (limits : Limits) (s : Table) (b0 : Board) (i : ℕ) (a : Knowledge) wh
         views = views_step limits b (record b { world = w }) s.views i a c h.views at (λ j y ne f. fits_world limits b w j y refl refl (λ z. absurd (not_holder b a y ne refl z)) (λ g. g) f) fc;
       }
 
-fillable : (x : Place) → IsTrue (is_taken x || is_free x) → retired_with x ≡ None
+fillable : (x : Place) → IsTrue (shows_taken x || shows_free x) → retired_with x ≡ None
 fillable Free h = refl
 fillable Reserved h = refl
 fillable Filled h = refl
@@ -135,7 +135,7 @@ module _ (limits : Limits) (slots i : ℕ) (a : Knowledge) (carried : List (ℕ 
       (y.0, y.1, y.2, y.3, (y.4, work.0.table.words.pages p j lp lj ∙ sym (m.words p j lp lj)))
 
   -- a load by the holder, before which a page goes to another place that is the same for the machine
-  note_by : (p : ℕ) (x : Place) → a.writes ≡ true → p < length a.places → is_free x ≡ is_free (place_of a.places p) → is_taken x ≡ is_taken (place_of a.places p) → retired_with x ≡ retired_with (place_of a.places p)
+  note_by : (p : ℕ) (x : Place) → a.writes ≡ true → p < length a.places → shows_free x ≡ shows_free (place_of a.places p) → shows_taken x ≡ shows_taken (place_of a.places p) → retired_with x ≡ retired_with (place_of a.places p)
       → let c : Knowledge = record a { places = slice_set a.places p x; steps = a.steps + 1 } in AllowsBy limits slots i (a ∷ [], carried) (word_place p 0) (λ n. n) NoEvent (λ n r. r ≡ (c ∷ [], carried))
   note_by p x writes lp free taken retired s b0 h0 sized at fits =
       let work = at_work limits s b0 i a h0 at writes in
@@ -175,7 +175,7 @@ module _ (limits : Limits) (slots i : ℕ) (a : Knowledge) (carried : List (ℕ 
       let m = work.1 in
       let v = b.world in
       let w : World = after_return v p in
-      let in_hand : IsTrue (v.taken p) = m.shown.taken p ∙ ap is_taken filled in
+      let in_hand : IsTrue (v.taken p) = m.shown.taken p ∙ ap shows_taken filled in
       let t = words_load v (page_at b.log (length b.log)) s.words h.table.words (word_place p 0) in (
         record a { places = slice_set a.places p Free; steps = a.steps + 1 } ∷ [],
         keeps,
@@ -214,7 +214,7 @@ module _ (limits : Limits) (slots i : ℕ) (a : Knowledge) (carried : List (ℕ 
   widen p x event more g by s b h sized at fits = let y = by s b h sized at fits in (y.0, y.1, y.2, (y.3.0, y.3.1, g _ _ _ y.3.2), y.4)
 
   pub take_by : (p : ℕ) → a.writes ≡ true → p < length a.places → place_of a.places p ≡ Free → AllowsBy limits slots i (a ∷ [], carried) (word_place p 0) (λ n. n) NoEvent (PageTaken (step slots (word_place p 0) 0 0 none) (a ∷ [], carried))
-  take_by p writes lp is = at_page p Reserved (takes_page a) refl NoEvent (note_by p Reserved writes lp (ap is_free (sym is)) (ap is_taken (sym is)) (ap retired_with (sym is)))
+  take_by p writes lp is = at_page p Reserved (takes_page a) refl NoEvent (note_by p Reserved writes lp (ap shows_free (sym is)) (ap shows_taken (sym is)) (ap retired_with (sym is)))
 
   pub give_up_by : (p : ℕ) → a.writes ≡ true → p < length a.places → IsTrue (is_held_page (place_of a.places p)) → AllowsBy limits slots i (a ∷ [], carried) (word_place p 0) (λ n. n) (λ n v w. NoEvent n v w ⊎ IsReturn p n v w) (PageGivenUp (step slots (word_place p 0) 0 0 none) (a ∷ [], carried))
   give_up_by p writes lp held = at_page p (given_place (place_of a.places p)) (gives_up a) refl Gives (by_place (place_of a.places p) refl held)
@@ -222,15 +222,15 @@ module _ (limits : Limits) (slots i : ℕ) (a : Knowledge) (carried : List (ℕ 
       Gives : ℕ → World → World → Type 0
       Gives n v w = NoEvent n v w ⊎ IsReturn p n v w
 
-      noted : (x : Place) → is_free x ≡ is_free (place_of a.places p) → is_taken x ≡ is_taken (place_of a.places p) → retired_with x ≡ retired_with (place_of a.places p)
+      noted : (x : Place) → shows_free x ≡ shows_free (place_of a.places p) → shows_taken x ≡ shows_taken (place_of a.places p) → retired_with x ≡ retired_with (place_of a.places p)
           → AllowsBy limits slots i (a ∷ [], carried) (word_place p 0) (λ n. n) Gives (λ n r. r ≡ (record a { places = slice_set a.places p x; steps = a.steps + 1 } ∷ [], carried))
       noted x f t r = widen p x NoEvent Gives (λ n v w e. inl e) (note_by p x writes lp f t r)
 
       by_place : (y : Place) → place_of a.places p ≡ y → IsTrue (is_held_page y) → AllowsBy limits slots i (a ∷ [], carried) (word_place p 0) (λ n. n) Gives (λ n r. r ≡ (record a { places = slice_set a.places p (given_place y); steps = a.steps + 1 } ∷ [], carried))
       by_place Free e h = absurd (cc)
-      by_place Reserved e h = noted Free (ap is_free (sym e)) (ap is_taken (sym e)) (ap retired_with (sym e))
+      by_place Reserved e h = noted Free (ap shows_free (sym e)) (ap shows_taken (sym e)) (ap retired_with (sym e))
       by_place Filled e h = widen p Free (IsReturn p) Gives (λ n v w r. inr r) (back_by p writes lp e)
-      by_place Current e h = noted GivenUp (ap is_free (sym e)) (ap is_taken (sym e)) (ap retired_with (sym e))
+      by_place Current e h = noted GivenUp (ap shows_free (sym e)) (ap shows_taken (sym e)) (ap retired_with (sym e))
       by_place GivenUp e h = absurd (cc)
       by_place (Retired r) e h = absurd (cc)
 

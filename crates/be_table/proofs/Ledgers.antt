@@ -6,7 +6,7 @@ use Rattle.be_core.specs.Machine.{World, is_below, swept, after_fill, after_unlo
 use Rattle.be_pages.specs.declared.page_pool.Place.{Place}
 use Rattle.be_pages.specs.declared.page_pool.Place.TheVariants.{Free, Reserved, Filled, Current, GivenUp, Retired}
 use Rattle.be_pages.specs.Place.{place_of, swept_place, undone_place}
-use Rattle.be_table.specs.Ledger.{is_free, is_taken, retired_with, ShowsPlaces}
+use Rattle.be_table.specs.Ledger.{shows_free, shows_taken, retired_with, ShowsPlaces}
 
 pub place-map : (f : Place → Place) → f Current ≡ Current → (places : List Place) (p : ℕ) → place_of (map f places) p ≡ f (place_of places p)
 place-map f e [] p = sym e
@@ -38,7 +38,7 @@ shows-fill places w s p i word inside unretired = record {
 }
 
 -- a place changes, and the sets stay
-pub shows-place : (places : List Place) (w : World) → ShowsPlaces places w → (p : ℕ) (x : Place) → p < length places → is_free x ≡ is_free (place_of places p) → is_taken x ≡ is_taken (place_of places p) → retired_with x ≡ retired_with (place_of places p)
+pub shows-place : (places : List Place) (w : World) → ShowsPlaces places w → (p : ℕ) (x : Place) → p < length places → shows_free x ≡ shows_free (place_of places p) → shows_taken x ≡ shows_taken (place_of places p) → retired_with x ≡ retired_with (place_of places p)
     → ShowsPlaces (slice_set places p x) w
 shows-place places w s p x inside f t r = record {
   free = λ q. elim (eqb_tells q p) [ inl y ↦ rw (y.1, get_or-set_same places p x Current inside) (s.free p ∙ sym f) | inr n ↦ rw (get_or-set_other places p q x Current n.1) (s.free q) ];
@@ -63,7 +63,7 @@ shows-unlock places w s = record {
   retired = λ p. rw (s.retired p, place-map undone_place refl places p) (stays (place_of places p));
 }
   where
-    freed : (x : Place) → (is_free x || is_taken x) ≡ is_free (undone_place x)
+    freed : (x : Place) → (shows_free x || shows_taken x) ≡ shows_free (undone_place x)
     freed Free = refl
     freed Reserved = refl
     freed Filled = refl
@@ -71,7 +71,7 @@ shows-unlock places w s = record {
     freed Current = refl
     freed GivenUp = refl
 
-    untaken : (x : Place) → false ≡ is_taken (undone_place x)
+    untaken : (x : Place) → false ≡ shows_taken (undone_place x)
     untaken Free = refl
     untaken Reserved = refl
     untaken Filled = refl
@@ -95,11 +95,11 @@ shows-sweep places w s l = record {
   retired = λ p. rw (s.retired p, place-map (swept_place l) refl places p) (left (place_of places p));
 }
   where
-    by_test : (b : Bool) (r : ℕ) → ((false || b) ≡ is_free (if b then Free else Retired r)) × (false ≡ is_taken (if b then Free else Retired r)) × ((if b then None else Some r) ≡ retired_with (if b then Free else Retired r))
+    by_test : (b : Bool) (r : ℕ) → ((false || b) ≡ shows_free (if b then Free else Retired r)) × (false ≡ shows_taken (if b then Free else Retired r)) × ((if b then None else Some r) ≡ retired_with (if b then Free else Retired r))
     by_test true r = (refl, refl, refl)
     by_test false r = (refl, refl, refl)
 
-    freed : (x : Place) → (is_free x || is_below l (retired_with x)) ≡ is_free (swept_place l x)
+    freed : (x : Place) → (shows_free x || is_below l (retired_with x)) ≡ shows_free (swept_place l x)
     freed Free = refl
     freed Reserved = refl
     freed Filled = refl
@@ -107,7 +107,7 @@ shows-sweep places w s l = record {
     freed Current = refl
     freed GivenUp = refl
 
-    taken : (x : Place) → is_taken x ≡ is_taken (swept_place l x)
+    taken : (x : Place) → shows_taken x ≡ shows_taken (swept_place l x)
     taken Free = refl
     taken Reserved = refl
     taken Filled = refl

@@ -17,7 +17,7 @@ use Rattle.be_table.specs.declared.pass.Knowledge.{Knowledge}
 use Rattle.be_table.specs.Laws.{AllowsBy, IsLock, IsUnlock}
 use Rattle.be_pages.specs.Place.{undone_place}
 use Rattle.be_table.specs.Ledger.{ShowsPlaces}
-use Rattle.be_table.specs.Rule.{ledger_places, Board, entries, reach_at, page_at, word_place, lock_word, is_holder, holder_of, IsHome, IsSound, Holds, Fits, Stands, Shows}
+use Rattle.be_table.specs.Rule.{ledger_places, Board, entries, reach_at, page_at, word_place, lock_word, is_holder, holder_of, IsHome, IsSoundBoard, Holds, Fits, Stands, Shows}
 use Rattle.be_table.specs.Steps.{takes_lock, finds_held, leaves, Gets, IsLate, Locked, Unlocked}
 use Rattle.be_table.proofs.Histories.{starts_itself}
 use Rattle.be_table.proofs.Frames.{Table, Me1, views_step, fits_late, longer_seen, is_pass, in_time_later, words_load, words_lock, not_holder, fits_world, not_other, sound_world}
@@ -105,7 +105,7 @@ module _ (limits : Limits) (slots i : ℕ) (a : Knowledge) (carried : List (ℕ 
         pin = in_time_later (length a.seen) (length b.log) a.phase (longer_seen b.log a.seen fa.seen) fa.pin;
         image = fa.image;
       } in
-      let sd : IsSound limits d = sound_world limits b w h.sound refl refl refl refl (λ g e. subst (λ (g : Holder). g.pass < limits.passes) (same_some _ _ e) fa.number) h.sound.reaches (after_lock-sound b.world h.sound.machine k (below, refl)) in (
+      let sd : IsSoundBoard limits d = sound_world limits b w h.sound refl refl refl refl (λ g e. subst (λ (g : Holder). g.pass < limits.passes) (same_some _ _ e) fa.number) h.sound.reaches (after_lock-sound b.world h.sound.machine k (below, refl)) in (
         c ∷ [],
         takes 0 (Some ledger),
         ap (λ hs. get_elem? hs 0) home.1,

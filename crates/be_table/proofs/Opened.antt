@@ -19,9 +19,9 @@ use Rattle.be_pages.specs.declared.page_pool.Place.TheVariants.{Free, Reserved, 
 use Rattle.be_table.specs.declared.pass.Knowledge.{Knowledge}
 use Rattle.be_table.specs.Steps.{IsPass, Unreached}
 use Rattle.be_pages.specs.Place.{is_in_hand, place_of, swept_place}
-use Rattle.be_table.specs.Ledger.{is_taken, is_free}
+use Rattle.be_table.specs.Ledger.{shows_taken, shows_free}
 
-pub may_fill : (x : Place) → IsTrue (is_in_hand x) → IsTrue (is_taken x || is_free x)
+pub may_fill : (x : Place) → IsTrue (is_in_hand x) → IsTrue (shows_taken x || shows_free x)
 may_fill Free h = refl
 may_fill Reserved h = refl
 may_fill Filled h = refl
@@ -29,7 +29,7 @@ may_fill Current h = h
 may_fill GivenUp h = h
 may_fill (Retired r) h = h
 
-in_hand_of : (x : Place) → IsTrue (is_free x || is_taken x) → x ≢ Free → IsTrue (is_in_hand x)
+in_hand_of : (x : Place) → IsTrue (shows_free x || shows_taken x) → x ≢ Free → IsTrue (is_in_hand x)
 in_hand_of Free h ne = absurd (ne refl)
 in_hand_of Reserved h ne = refl
 in_hand_of Filled h ne = refl

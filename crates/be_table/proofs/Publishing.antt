@@ -19,8 +19,8 @@ use Rattle.be_journal.specs.Journal.{by_pass, replay}
 use Rattle.be_table.specs.History.{AllBelow, StartsWith, IsHistory}
 use Rattle.be_table.specs.Laws.{AllowsBy, IsPublish}
 use Rattle.be_pages.specs.Place.{number_in, place_of, published_place}
-use Rattle.be_table.specs.Ledger.{ShowsPlaces, is_free, is_taken, is_current, is_kept, is_given, retired_with}
-use Rattle.be_table.specs.Rule.{Board, entries, nothing, reach_at, page_at, word_place, current_word, holder_of, WordsAgree, IsSound, ImageIs, Fits, Shows}
+use Rattle.be_table.specs.Ledger.{ShowsPlaces, shows_free, shows_taken, is_current, is_of_next, is_given, retired_with}
+use Rattle.be_table.specs.Rule.{Board, entries, nothing, reach_at, page_at, word_place, current_word, holder_of, WordsAgree, IsSoundBoard, ImageIs, Fits, Shows}
 use Rattle.be_table.specs.Steps.{pages_from, commit_of, publishes, MayPublish, Published, IsNewest}
 use Rattle.be_table.specs.Reading.{word_in}
 use Rattle.be_table.specs.Versions.{in_pages, SpellsVolume}
@@ -67,7 +67,7 @@ module _ (xs : List Place) (w : World) (s : Sound w) (shown : ShowsPlaces xs w) 
     retired = λ p. rw (place-map (published_place w.current) refl xs p, given_at p, shown.retired p) (retired (place_of xs p));
   }
     where
-      free : (x : Place) → is_free x ≡ is_free (published_place w.current x)
+      free : (x : Place) → shows_free x ≡ shows_free (published_place w.current x)
       free Free = refl
       free Reserved = refl
       free Filled = refl
@@ -75,7 +75,7 @@ module _ (xs : List Place) (w : World) (s : Sound w) (shown : ShowsPlaces xs w) 
       free GivenUp = refl
       free (Retired r) = refl
 
-      taken : (x : Place) → false ≡ is_taken (published_place w.current x)
+      taken : (x : Place) → false ≡ shows_taken (published_place w.current x)
       taken Free = refl
       taken Reserved = refl
       taken Filled = refl
@@ -92,13 +92,13 @@ module _ (xs : List Place) (w : World) (s : Sound w) (shown : ShowsPlaces xs w) 
       retired (Retired r) = refl
 
   -- the pages of the new version
-  pub reach_new : (q : ℕ) → ((w.reach w.current q && not (has given q)) || w.taken q) ≡ has (pages_from is_kept 0 xs) q
+  pub reach_new : (q : ℕ) → ((w.reach w.current q && not (has given q)) || w.taken q) ≡ has (pages_from is_of_next 0 xs) q
   reach_new q = elim (cases_lt q (length xs)) [
-    | inl lt ↦ rw (reach_shown xs w s shown count q lt, given_at q, shown.taken q, listed is_kept xs q, tested is_kept xs q lt) (kept (place_of xs q))
-    | inr le ↦ rw (reach_past xs w s shown count q le, shown.taken q, past_place xs q le, listed is_kept xs q, untested is_kept xs q le) refl
+    | inl lt ↦ rw (reach_shown xs w s shown count q lt, given_at q, shown.taken q, listed is_of_next xs q, tested is_of_next xs q lt) (kept (place_of xs q))
+    | inr le ↦ rw (reach_past xs w s shown count q le, shown.taken q, past_place xs q le, listed is_of_next xs q, untested is_of_next xs q le) refl
   ]
     where
-      kept : (x : Place) → ((is_current x && not (is_given x)) || is_taken x) ≡ is_kept x
+      kept : (x : Place) → ((is_current x && not (is_given x)) || shows_taken x) ≡ is_of_next x
       kept Free = refl
       kept Reserved = refl
       kept Filled = refl
@@ -120,10 +120,10 @@ module _ (xs : List Place) (w : World) (s : Sound w) (shown : ShowsPlaces xs w) 
     | inr le ↦ absurd (let e = untested is_given xs q le in cc)
   ]
 
-  pub kept_inside : (q : ℕ) → IsTrue (has (pages_from is_kept 0 xs) q) → q < length xs
+  pub kept_inside : (q : ℕ) → IsTrue (has (pages_from is_of_next 0 xs) q) → q < length xs
   kept_inside q h = elim (cases_lt q (length xs)) [
     | inl lt ↦ lt
-    | inr le ↦ absurd (let e : has (pages_from is_kept 0 xs) q ≡ false = listed is_kept xs q ∙ untested is_kept xs q le in cc)
+    | inr le ↦ absurd (let e : has (pages_from is_of_next 0 xs) q ≡ false = listed is_of_next xs q ∙ untested is_of_next xs q le in cc)
   ]
 
 -- what an older version spells
@@ -134,8 +134,8 @@ older_spelt log c words n le h =
     subst (λ (q : List ℕ × ℕ × List Entry). SpellsVolume q.0 (in_pages words) q.1 (replay q.2)) (λ k. (sym (reach-append log (c ∷ []) n le) k, sym (page-append log (c ∷ []) n le) k, sym front k)) h
 
 -- a filled page is one of the new version
-kept_filled : (xs : List Place) (v : ℕ) → v < length xs → place_of xs v ≡ Filled → IsTrue (has (pages_from is_kept 0 xs) v)
-kept_filled xs v lt is = listed is_kept xs v ∙ tested is_kept xs v lt ∙ ap is_kept is
+kept_filled : (xs : List Place) (v : ℕ) → v < length xs → place_of xs v ≡ Filled → IsTrue (has (pages_from is_of_next 0 xs) v)
+kept_filled xs v lt is = listed is_of_next xs v ∙ tested is_of_next xs v lt ∙ ap is_of_next is
 
 -- the current number is stored
 words_publish : (w : World) (page v : ℕ) (ws : List ℕ) (given : List ℕ) (n : ℕ) (h : Holder) → w.holder ≡ Some h → w.passes ≤ 64 → n ≡ current_word (suc w.current) v → WordsAgree w page ws → WordsAgree (after_publish w given) v (set ws 8 n)
@@ -192,7 +192,7 @@ module _ (limits : Limits) (slots i : ℕ) (a : Knowledge) (carried : List (ℕ 
         rw (h.sound.commits, now) may.room,
         inside,
         (holder_of a, (refl, refl, may.unpublished)),
-        rw (m.shown.taken v) (ap is_taken may.filled),
+        rw (m.shown.taken v) (ap shows_taken may.filled),
         distinct is_given a.places,
         all_listed is_given (λ q. IsTrue (g.reach g.current q)) a.places (given_reached a.places g h.sound.machine m.shown m.count),
       ) in
@@ -219,7 +219,7 @@ module _ (limits : Limits) (slots i : ℕ) (a : Knowledge) (carried : List (ℕ 
         image = image_kept g given a.phase a.image (length a.seen) (omega arith) fa.pin fa.image;
       } in
       let below : e.by < limits.passes = subst (λ n. n < limits.passes) (sym may.by) fa.number in
-      let sd : IsSound limits d = record {
+      let sd : IsSoundBoard limits d = record {
         within = h.sound.within;
         legal = subst IsHistory (sym journal) (legal-push (entries a.seen) e (subst (λ l. IsHistory (entries l)) (sym m.log) h.sound.legal) may.agrees may.operations);
         by_passes = subst (AllBelow limits.passes) (sym journal) (below-push limits.passes (entries a.seen) e (subst (λ l. AllBelow limits.passes (entries l)) (sym m.log) h.sound.by_passes) below);

@@ -12,7 +12,7 @@ use Rattle.atomic_table.specs.Table.{Me}
 use Rattle.be_table.specs.declared.ledger.Ledger.{Ledger}
 use Rattle.be_table.specs.Rule.{announce_word, pass_of}
 use Rattle.be_pages.specs.Place.{swept_place, is_in_hand}
-use Rattle.be_table.specs.Steps.{scans, scans_on, scans_out, scans_all, scan_from, least_found, IsLeast, least_then, pages_from, IsPart, IsOwnLeast, IsOwnPart, own_least, LeavesNone}
+use Rattle.be_table.specs.Steps.{scans, scans_on, scans_out, scans_all, scan_from, least_found, IsLeastAnnounced, least_then, pages_from, IsPart, IsOwnLeast, IsOwnPart, own_least, LeavesNone}
 
 pub scans_all-push : (a : Knowledge) (ns : List ℕ) (n : ℕ) → scans_all a (ns ++ n ∷ []) ≡ scans (scans_all a ns) n
 scans_all-push a [] n = refl
@@ -22,23 +22,23 @@ pub part_none : (passes : ℕ) (a : Knowledge) (l : ℕ) → 0 < passes → a.sc
 part_none passes a l some none is = record { same = refl; turn = λ _. none; waits = λ _. refl; whole = λ e. absurd (omega arith); begins = λ _. is; so_far = λ h. absurd (omega arith) }
 
 -- the least of no announcement
-pub least_none : (current : ℕ) → IsLeast current [] current
+pub least_none : (current : ℕ) → IsLeastAnnounced current [] current
 least_none current = record { at_most = le_refl current; below = λ a h. absurd (let lt = h.1 in omega arith); one = inl refl }
 
 -- the least of one announcement more
-pub least_more : (current : ℕ) (words : List ℕ) (least word : ℕ) → IsLeast current words least → IsLeast current (words ++ word ∷ []) (least_found least word)
+pub least_more : (current : ℕ) (words : List ℕ) (least word : ℕ) → IsLeastAnnounced current words least → IsLeastAnnounced current (words ++ word ∷ []) (least_found least word)
 least_more current words least zero h = record {
   at_most = h.at_most;
   below = λ a m. ⊎_elim (h.below a) (λ e. absurd (omega (arith, e))) (Contains-push_cases words 0 (suc a) m);
   one = ⊎_elim inl (λ m. inr (Contains-append_left words (0 ∷ []) (suc least) m)) h.one;
 }
 least_more current words least (suc a) h = elim (leb_tells least a) [
-  | inl y ↦ subst (IsLeast current (words ++ suc a ∷ [])) (sym (min-eq_left y.1)) (record {
+  | inl y ↦ subst (IsLeastAnnounced current (words ++ suc a ∷ [])) (sym (min-eq_left y.1)) (record {
     at_most = h.at_most;
     below = λ b m. ⊎_elim (h.below b) (λ e. let le = y.1 in omega arith) (Contains-push_cases words (suc a) (suc b) m);
     one = ⊎_elim inl (λ m. inr (Contains-append_left words (suc a ∷ []) (suc least) m)) h.one;
   })
-  | inr n ↦ subst (IsLeast current (words ++ suc a ∷ [])) (sym (min-eq_right (let gt = n.1 in omega arith))) (record {
+  | inr n ↦ subst (IsLeastAnnounced current (words ++ suc a ∷ [])) (sym (min-eq_right (let gt = n.1 in omega arith))) (record {
     at_most = (let top = h.at_most in let gt = n.1 in omega arith);
     below = λ b m. ⊎_elim (λ k. let low = h.below b k in let gt = n.1 in omega arith) (λ e. omega (arith, e)) (Contains-push_cases words (suc a) (suc b) m);
     one = inr (Contains-push words (suc a));

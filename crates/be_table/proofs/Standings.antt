@@ -9,13 +9,13 @@ use Rattle.be_pages.specs.declared.room.Standing.TheVariants.{Free as Nowhere, F
 use Rattle.be_pages.specs.declared.page_pool.Place.{Place}
 use Rattle.be_pages.specs.declared.page_pool.Place.TheVariants.{Free, Reserved, Filled, Current, GivenUp, Retired}
 use Rattle.be_pages.specs.Place.{place_of, undone_place}
-use Rattle.be_table.specs.Ledger.{ShowsPlaces, is_free, is_taken, is_current, retired_with}
+use Rattle.be_table.specs.Ledger.{ShowsPlaces, shows_free, shows_taken, is_current, retired_with}
 use Rattle.be_table.specs.Reading.{standing_at, standing_in}
 use Rattle.be_table.specs.Versions.{at_start}
 use Rattle.be_table.proofs.Ledgers.{place-map}
 
 -- the sets of a page that has this place
-one_place : (x : Place) (r : Bool) → bit (is_free x) + bit (is_taken x) + bit (Rattle.std.specs.Prelude.is_some (retired_with x)) + bit r ≡ 1 → r ≡ is_current x
+one_place : (x : Place) (r : Bool) → bit (shows_free x) + bit (shows_taken x) + bit (Rattle.std.specs.Prelude.is_some (retired_with x)) + bit r ≡ 1 → r ≡ is_current x
 one_place Free true e = absurd (omega (arith, e))
 one_place Free false e = refl
 one_place Reserved true e = absurd (omega (arith, e))

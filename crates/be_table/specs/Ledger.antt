@@ -6,22 +6,22 @@ use Rattle.be_pages.specs.declared.page_pool.Place.{Place}
 use Rattle.be_pages.specs.declared.page_pool.Place.TheVariants.{Free, Reserved, Filled, Current, GivenUp, Retired}
 
 -- free, or taken and not filled yet
-abbrev pub is_free : Place → Bool
-is_free Free = true
-is_free Reserved = true
-is_free Filled = false
-is_free Current = false
-is_free GivenUp = false
-is_free (Retired r) = false
+abbrev pub shows_free : Place → Bool
+shows_free Free = true
+shows_free Reserved = true
+shows_free Filled = false
+shows_free Current = false
+shows_free GivenUp = false
+shows_free (Retired r) = false
 
 -- taken and filled
-abbrev pub is_taken : Place → Bool
-is_taken Free = false
-is_taken Reserved = false
-is_taken Filled = true
-is_taken Current = false
-is_taken GivenUp = false
-is_taken (Retired r) = false
+abbrev pub shows_taken : Place → Bool
+shows_taken Free = false
+shows_taken Reserved = false
+shows_taken Filled = true
+shows_taken Current = false
+shows_taken GivenUp = false
+shows_taken (Retired r) = false
 
 -- the number with which it is retired
 abbrev pub retired_with : Place → Option ℕ
@@ -43,18 +43,18 @@ is_current (Retired r) = false
 
 -- the places of the pages are those of the state
 pub record ShowsPlaces (places : List Place) (w : World) : Type 0 where
-  pub free : (p : ℕ) → w.free p ≡ is_free (place_of places p)
-  pub taken : (p : ℕ) → w.taken p ≡ is_taken (place_of places p)
+  pub free : (p : ℕ) → w.free p ≡ shows_free (place_of places p)
+  pub taken : (p : ℕ) → w.taken p ≡ shows_taken (place_of places p)
   pub retired : (p : ℕ) → w.retired p ≡ retired_with (place_of places p)
 
 -- a page of the version that the open write makes
-abbrev pub is_kept : Place → Bool
-is_kept Free = false
-is_kept Reserved = false
-is_kept Filled = true
-is_kept Current = true
-is_kept GivenUp = false
-is_kept (Retired r) = false
+abbrev pub is_of_next : Place → Bool
+is_of_next Free = false
+is_of_next Reserved = false
+is_of_next Filled = true
+is_of_next Current = true
+is_of_next GivenUp = false
+is_of_next (Retired r) = false
 
 -- given up by the open write
 abbrev pub is_given : Place → Bool

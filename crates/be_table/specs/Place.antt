@@ -5,7 +5,7 @@ use Rattle.be_table.specs.declared.limits.Limits.{Limits}
 use Rattle.be_table.specs.declared.pass.Knowledge.{Knowledge}
 
 -- a seat: its table, and what its pass knows; a blank one has no pass
-pub record Place : Type 0 where
+pub record SeatFacts : Type 0 where
   pub blank : Bool
   pub table : TableId
   pub knows : Knowledge

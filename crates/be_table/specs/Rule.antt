@@ -94,7 +94,7 @@ pub record WordsAgree (w : World) (page : ℕ) (words : List ℕ) : Type 0 where
   pub pages : PagesAgree w.pages w.words words
 
 -- the words, the slot and the journal's length are those of the machine
-pub record Agrees (b : Board) (s : State (Option Ledger) (List Knowledge)) : Type 0 where
+pub record ShowsBoard (b : Board) (s : State (Option Ledger) (List Knowledge)) : Type 0 where
   pub words : WordsAgree b.world (page_at b.log (length b.log)) s.words
   pub home : IsHome b.world.holder b.world b.log s.homes
   pub version : b.world.current ≡ length b.log
@@ -126,7 +126,7 @@ AreInside pages log = (n p : ℕ) → n ≤ length log → IsTrue (has (reach_at
 abbrev pub OwnPages : List Commit → Type 0
 OwnPages log = (n : ℕ) → n ≤ length log → IsTrue (has (reach_at log n) (page_at log n))
 
-pub record IsSound (limits : Limits) (b : Board) : Type 0 where
+pub record IsSoundBoard (limits : Limits) (b : Board) : Type 0 where
   pub within : IsWithin limits
   pub legal : IsHistory (entries b.log)
   pub by_passes : AllBelow limits.passes (entries b.log)
@@ -189,8 +189,8 @@ abbrev pub ViewsFit : Limits → Board → List (List Knowledge) → Type 0
 ViewsFit limits b views = (seat : ℕ) (v : List Knowledge) → get_elem? views seat ≡ some v → AllFit limits b seat v
 
 pub record Stands (limits : Limits) (s : State (Option Ledger) (List Knowledge)) (b : Board) : Type 0 where
-  pub table : Agrees b s
-  pub sound : IsSound limits b
+  pub table : ShowsBoard b s
+  pub sound : IsSoundBoard limits b
   pub views : ViewsFit limits b s.views
 
 abbrev pub Shows : Limits → State (Option Ledger) (List Knowledge) → Type 0

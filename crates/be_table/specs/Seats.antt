@@ -7,7 +7,7 @@ use Rattle.be_table.specs.declared.marks.PinnedVersion.{PinnedVersion}
 use Rattle.be_table.specs.declared.pass.Commit.{Commit}
 use Rattle.be_table.specs.declared.pass.Knowledge.{Knowledge}
 use Rattle.be_table.specs.declared.seat.Seat.TheInside.{Inside}
-use Rattle.be_table.specs.Place.{Place}
+use Rattle.be_table.specs.Place.{SeatFacts}
 use Rattle.be_table.specs.Rule.{pass_of, nobody, page_at}
 use Rattle.be_table.specs.Steps.{IsPass}
 
@@ -19,8 +19,8 @@ abbrev pub known_of : List (List Knowledge) → Knowledge
 known_of [] = nobody
 known_of (v ∷ vs) = pass_of v
 
-abbrev pub place_of : Inside → Place
-place_of s = record { blank = is_blank s.badge.views; table = s.badge.table_id; knows = known_of s.badge.views }
+abbrev pub facts_of : Inside → SeatFacts
+facts_of s = record { blank = is_blank s.badge.views; table = s.badge.table_id; knows = known_of s.badge.views }
 
 -- the seat's numbers are those of its pass, which doesn't hold the lock
 pub record IsTold (a : Knowledge) (number seen : ℕ) : Type 0 where

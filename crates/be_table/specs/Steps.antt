@@ -14,7 +14,7 @@ use Rattle.be_table.specs.declared.limits.Limits.{Limits}
 use Rattle.be_table.specs.declared.pass.Commit.{Commit}
 use Rattle.be_table.specs.declared.pass.Knowledge.{Knowledge}
 use Rattle.be_pages.specs.Place.{number_of, swept_place, is_in_hand, given_place, published_place, place_of, undone_place}
-use Rattle.be_table.specs.Ledger.{is_taken, is_free, is_kept}
+use Rattle.be_table.specs.Ledger.{shows_taken, shows_free, is_of_next}
 use Rattle.be_journal.specs.Journal.{HasOperations, Agrees, by_pass, replay}
 use Rattle.be_table.specs.History.{StartsWith, AllBelow, IsHistory}
 use Rattle.be_table.specs.Reading.{standing_in, word_in}
@@ -64,7 +64,7 @@ abbrev pub least_then : Knowledge → ℕ → ℕ
 least_then a n = least_found (scan_from a) n
 
 -- of the current number and the announced numbers, of which a word has one more, the least
-pub record IsLeast (current : ℕ) (words : List ℕ) (least : ℕ) : Type 0 where
+pub record IsLeastAnnounced (current : ℕ) (words : List ℕ) (least : ℕ) : Type 0 where
   pub at_most : least ≤ current
   pub below : (a : ℕ) → Contains words (suc a) → least ≤ a
   pub one : (least ≡ current) ⊎ Contains words (suc least)
@@ -87,7 +87,7 @@ Unreached seen l p = (n : ℕ) → l ≤ n → n ≤ length seen → IsFalse (ha
 
 -- each page that no version from the least on reaches is free or taken
 abbrev pub LeavesNone : Knowledge → Type 0
-LeavesNone a = (p : ℕ) → p < length a.places → Unreached a.seen a.least p → IsTrue (is_free (place_of a.places p) || is_taken (place_of a.places p))
+LeavesNone a = (p : ℕ) → p < length a.places → Unreached a.seen a.least p → IsTrue (shows_free (place_of a.places p) || shows_taken (place_of a.places p))
 
 abbrev pub scans : Knowledge → ℕ → Knowledge
 scans a n = if suc a.scanned == a.limits.passes then scans_out a n else scans_on a n
@@ -122,7 +122,7 @@ entry_of a ops dones = record { by = a.number; ops = ops; dones = dones }
 
 -- the entry e with the version that the places make, whose version page is v
 abbrev pub commit_of : Knowledge → Entry → ℕ → Commit
-commit_of a e v = record { entry = e; page = v; reach = pages_from is_kept 0 a.places }
+commit_of a e v = record { entry = e; page = v; reach = pages_from is_of_next 0 a.places }
 
 -- a pass with one more entry of its own
 abbrev pub publishes : Knowledge → Entry → ℕ → Knowledge
@@ -138,14 +138,14 @@ pub record MayPublish (limits : Limits) (a : Knowledge) (e : Entry) (v : ℕ) : 
   pub room : length a.seen < limits.commits
   pub inside : v < length a.places
   pub filled : place_of a.places v ≡ Filled
-  pub spelt : SpellsVolume (pages_from is_kept 0 a.places) (word_in a.words) v (replay (entries a.seen ++ e ∷ []))
+  pub spelt : SpellsVolume (pages_from is_of_next 0 a.places) (word_in a.words) v (replay (entries a.seen ++ e ∷ []))
 
 -- a pass that holds the lock may read the announcement of the pass j
 abbrev pub MayScan : Limits → Me (Option Ledger) (List Knowledge) → ℕ → Type 0
 MayScan limits m j = let a = pass_of m.0 in (m.0 ≡ a ∷ []) × (a.writes ≡ true) × (a.published ≡ false) × (a.scanned ≡ j) × (j < limits.passes)
 
 abbrev pub MayBeFilled : List Place → ℕ → Type 0
-MayBeFilled places p = (p < length places) × IsTrue (is_taken (place_of places p) || is_free (place_of places p))
+MayBeFilled places p = (p < length places) × IsTrue (shows_taken (place_of places p) || shows_free (place_of places p))
 
 -- the current number was found
 abbrev pub LookTold : Step (Option Ledger) → Me (Option Ledger) (List Knowledge) → ℕ → Me (Option Ledger) (List Knowledge) → Type 0
@@ -218,9 +218,9 @@ AllIdle [] = Unit {0}
 AllIdle (a ∷ v) = (a.writes ≡ false) × AllIdle v
 
 -- the journal contains what each has seen, and has of each the entries that it knows
-abbrev pub Keeps : List Entry → List Knowledge → Type 0
-Keeps log [] = Unit {0}
-Keeps log (a ∷ v) = StartsWith log (entries a.seen) × (by_pass a.number log ≡ a.mine) × Keeps log v
+abbrev pub KeepsSeen : List Entry → List Knowledge → Type 0
+KeepsSeen log [] = Unit {0}
+KeepsSeen log (a ∷ v) = StartsWith log (entries a.seen) × (by_pass a.number log ≡ a.mine) × KeepsSeen log v
 
 -- the ledger is at home
 abbrev pub Unlocked : Step (Option Ledger) → Me (Option Ledger) (List Knowledge) → ℕ → Me (Option Ledger) (List Knowledge) → Type 0

@@ -11,31 +11,31 @@ use Rattle.be_value.specs.declared.refusals.Refusal.TheVariants.{Busy, CommitsSp
 use Rattle.be_table.specs.History.{StartsWith}
 use Rattle.be_pages.specs.declared.page_pool.Place.TheVariants.{Free}
 use Rattle.be_pages.specs.Place.{undone_place, swept_place, place_of, is_in_hand}
-use Rattle.be_table.specs.Place.{Place, Opened, Work}
+use Rattle.be_table.specs.Place.{SeatFacts, Opened, Work}
 use Rattle.be_table.specs.Reading.{standing_in, word_in}
 use Rattle.be_table.specs.Versions.{at_start, SpellsVolume}
 use Rattle.be_journal.specs.Journal.{replay}
 use Rattle.be_table.specs.Rule.{AreBad, IsWithin, entries, page_at, reach_at, newcomer}
-use Rattle.be_table.specs.Steps.{Has, AllIdle, Keeps, IsPass, looks, finds_held, takes_lock, pins, takes_page, scans_all, IsLeast, IsOwnLeast, pages_from, LeavesNone, Unreached}
+use Rattle.be_table.specs.Steps.{Has, AllIdle, KeepsSeen, IsPass, looks, finds_held, takes_lock, pins, takes_page, scans_all, IsLeastAnnounced, IsOwnLeast, pages_from, LeavesNone, Unreached}
 
 -- a seat of this table
-abbrev pub IsSeatOf : Opened → Place → Type 0
+abbrev pub IsSeatOf : Opened → SeatFacts → Type 0
 IsSeatOf t s = (s.blank ≡ false) × (s.table ≡ t.id) × (s.knows.limits ≡ t.limits)
 
 -- seats of this table, of passes that have seen nothing, from the pass k on
-abbrev pub AreNewAt : TableId → Limits → ℕ → List Place → Type 0
+abbrev pub AreNewAt : TableId → Limits → ℕ → List SeatFacts → Type 0
 AreNewAt id limits k [] = Unit {0}
 AreNewAt id limits k (s ∷ ss) = ((s.blank ≡ false) × (s.table ≡ id) × (s.knows ≡ newcomer limits (k + 1) k)) × AreNewAt id limits (k + 1) ss
 
-abbrev pub AreNew : Opened → ℕ → List Place → Type 0
+abbrev pub AreNew : Opened → ℕ → List SeatFacts → Type 0
 AreNew t k ss = AreNewAt t.id t.limits k ss
 
 -- seats of the table
-abbrev pub AllAt : TableId → List Place → Type 0
+abbrev pub AllAt : TableId → List SeatFacts → Type 0
 AllAt id [] = Unit {0}
 AllAt id (s ∷ ss) = ((s.blank ≡ false) × (s.table ≡ id)) × AllAt id ss
 
-abbrev pub knows_of : Place → Knowledge
+abbrev pub knows_of : SeatFacts → Knowledge
 knows_of s = s.knows
 
 -- the pass has looked: it has seen a journal that contains what it had seen
@@ -55,7 +55,7 @@ pub record TakesLock (a c : Knowledge) : Type 0 where
   pub pass : IsPass c
 
 -- the pass, which had announced x, is pinned at the current number
-pub record Pins (a c : Knowledge) : Type 0 where
+pub record PinsCurrent (a c : Knowledge) : Type 0 where
   pub more : StartsWith c.seen a.seen
   pub same : (x : ℕ) × (a.phase ≡ Announced x) × (c ≡ pins a x c.seen c.image)
   pub pass : IsPass c
@@ -70,7 +70,7 @@ HasNoRoom r a = ((r ≡ CommitsSpent) × (length a.seen ≡ a.limits.commits)) �
 
 -- the write has made a whole scan, with this least
 pub record MakesScan (old new : Work) (least : ℕ) : Type 0 where
-  pub by : (found : List ℕ) × (length found ≡ old.knows.limits.passes) × (new ≡ record old { knows = scans_all old.knows found }) × IsLeast (length old.knows.seen) found least
+  pub by : (found : List ℕ) × (length found ≡ old.knows.limits.passes) × (new ≡ record old { knows = scans_all old.knows found }) × IsLeastAnnounced (length old.knows.seen) found least
   pub least_is : new.knows.least ≡ least
   pub own : IsOwnLeast old.knows least
   pub places : new.knows.places ≡ map (swept_place least) old.knows.places
@@ -115,4 +115,4 @@ IsUnopened l r = ((r ≡ BadLimits) × AreBad l) ⊎ ((r ≡ OutOfMemory) × IsW
 pub record Gathered (known v : List Knowledge) : Type 0 where
   pub idle : AllIdle v
   pub all : (k : ℕ) → Has known k → Has v k
-  pub keeps : (log : List Entry) → Keeps log v → Keeps log known
+  pub keeps : (log : List Entry) → KeepsSeen log v → KeepsSeen log known

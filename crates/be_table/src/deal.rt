@@ -9,7 +9,7 @@ use crate::rule::Deal;
 use crate::seat::{Base, Seat};
 use crate::table::{Inner, PAGES};
 
-// Each pass gets a seat.
+/// Each pass gets a seat.
 pub(crate) fn deal(table: &Inner, rest: &mut Base, limits: Limits, seats: &mut Vec<Seat>)
     requires table { (0 < table.now.shared.table_id.words) × (table.now.shared.key ≡ limits) × IsWithin limits }
     requires rest { (rest.old.table_id ≡ table.now.shared.table_id) × (rest.old.me ≡ (everyone limits, [])) }
@@ -28,17 +28,19 @@ pub(crate) fn deal(table: &Inner, rest: &mut Base, limits: Limits, seats: &mut V
     }
 }
 
-// The words of the first page lie at page 0.
+/// The words of the first page lie at page 0.
 pub(crate) fn lay_first(words: &mut Vec<u64>, first: &[u64; 512])
     requires { 528 + 512 ≤ vec_len words.old }
-    ensures { (length words.new.items ≡ length words.old.items) × ((k : ℕ) → k < 528 → slice_index words.new.items k ≡ slice_index words.old.items k) × ((i : ℕ) → i < 512 → slice_index words.new.items (528 + i) ≡ slice_index first.now i) }
+    ensures { (length words.new.items ≡ length words.old.items)
+        × ((k : ℕ) → k < 528 → slice_index words.new.items k ≡ slice_index words.old.items k)
+        × ((i : ℕ) → i < 512 → slice_index words.new.items (528 + i) ≡ slice_index first.now i) }
 {
     for i in 0..512 {
         words[PAGES + i] = first[i];
     }
 }
 
-// The seats' passes go to one seat.
+/// The seats' passes go to one seat.
 pub(crate) fn gather(table: &Inner, rest: &mut Base, mut seats: Vec<Seat>)
     requires table { 0 < table.now.shared.table_id.words }
     requires rest { (rest.old.table_id ≡ table.now.shared.table_id) × (rest.old.me ≡ ([], [])) }

@@ -9,7 +9,10 @@ ghost use Rattle.std.specs.Prelude.{ℕ, List, Option};
 ghost use Rattle.be_table.specs.declared.ledger.Ledger.{Ledger};
 ghost use Rattle.be_table.specs.declared.limits.Limits.{Limits};
 ghost use Rattle.be_table.specs.declared.pass.Knowledge.{Knowledge};
-ghost use Rattle.be_table.specs.Laws.{LookIsItsEvent, AnnounceIsItsEvent, LookAgainIsItsEvent, UnpinIsItsEvent, PinnedReadIsItsEvent, LockIsItsEvent, ScanIsItsEvent, FillIsItsEvent, FoundFillIsItsEvent, OwnReadIsNoEvent, TakeIsNoEvent, GiveUpIsNoEvent, PublishIsItsEvent, UnlockIsItsEvent, CompareIsNoEvent, SplitIsNoEvent, JoinIsNoEvent, ArrivalIsNoEvent};
+ghost use Rattle.be_table.specs.Laws.{LookIsItsEvent, AnnounceIsItsEvent, LookAgainIsItsEvent, UnpinIsItsEvent, PinnedReadIsItsEvent};
+ghost use Rattle.be_table.specs.Laws.{LockIsItsEvent, ScanIsItsEvent, FillIsItsEvent, FoundFillIsItsEvent, OwnReadIsNoEvent, TakeIsNoEvent};
+ghost use Rattle.be_table.specs.Laws.{GiveUpIsNoEvent, PublishIsItsEvent, UnlockIsItsEvent, CompareIsNoEvent, SplitIsNoEvent};
+ghost use Rattle.be_table.specs.Laws.{JoinIsNoEvent, ArrivalIsNoEvent};
 
 /// A load of the current number is Look.
 pub fn look()

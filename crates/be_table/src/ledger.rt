@@ -2,10 +2,10 @@
 //!
 //! Who holds the lock has the ledger in hand and changes it as plain data. It keeps no volume: the pages are the
 //! volume.
-ghost use Rattle.std.specs.Prelude.{◌≡◌, ◌≤◌, ℕ, map, length};
+ghost use Rattle.std.specs.Prelude.{◌≡◌, ◌≤◌, ℕ, count_by, map, length};
 ghost use Rattle.be_journal.specs.Journal.{Grows, extended, with_room};
 ghost use Rattle.be_pages.specs.PagePool.{places};
-ghost use Rattle.be_pages.specs.Place.{number_of, undone_place, swept_place, published_place};
+ghost use Rattle.be_pages.specs.Place.{is_retired, number_of, undone_place, swept_place, published_place};
 
 use be_journal::Journal;
 use be_pages::PagePool;
@@ -43,7 +43,9 @@ impl Ledger {
 
     /// The pages that were retired with a number below the least are free.
     pub fn sweep(&mut self, least: u64)
-        ensures { (self.new.journal ≡ self.old.journal) × (self.new.page ≡ self.old.page) × (places self.new.pool ≡ map (swept_place least) (places self.old.pool)) }
+        ensures kept { (self.new.journal ≡ self.old.journal) × (self.new.page ≡ self.old.page)
+            × (places self.new.pool ≡ map (swept_place least) (places self.old.pool)) }
+        ensures left { self.new.left ≡ count_by is_retired (places self.new.pool) }
     {
         self.pool.sweep(least);
         self.left = self.pool.retired();

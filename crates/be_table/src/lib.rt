@@ -41,8 +41,6 @@ mod rooms;
 mod rule;
 mod seat;
 mod table;
-#[cfg(test)]
-mod tests;
 mod writing;
 
 pub use limits::Limits;

@@ -44,7 +44,7 @@ impl<'a> PinnedLook<'a> {
         PinnedLook { table, base, marks }
     }
 
-    // Word i of a page of the pinned version. One load.
+    /// Word i of a page of the pinned version. One load.
     fn read(&mut self, page: u64, i: usize) -> u64
         requires page { IsTrue (is_readable (pinned_standing self.old.knows page)) }
         requires place { i < 512 }

@@ -4,7 +4,8 @@
 //! its pass is the definition that its name carries.
 ghost use Rattle.std.specs.Prelude.{[]};
 ghost use Rattle.be_table.specs.Rule.{Shows, everyone, first_seat, other_seats, joined};
-ghost use Rattle.be_table.specs.Steps.{LookTold, Locked, Unlocked, Compared, Arrived, Told, PinnedAt, Unpinned, Scanned, PinnedRead, OwnRead, FilledAt, FilledFound, PageTaken, PageGivenUp, Published};
+ghost use Rattle.be_table.specs.Steps.{LookTold, Locked, Unlocked, Compared, Arrived, Told, PinnedAt, Unpinned, Scanned, PinnedRead};
+ghost use Rattle.be_table.specs.Steps.{OwnRead, FilledAt, FilledFound, PageTaken, PageGivenUp, Published};
 
 use crate::ledger::Ledger;
 use crate::limits::Limits;

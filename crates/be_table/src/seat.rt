@@ -25,13 +25,13 @@ pub struct Seat {
 }
 
 impl Model for Seat {
-    ghost use Rattle.be_table.specs.Place.{Place};
+    ghost use Rattle.be_table.specs.Place.{SeatFacts};
 
-    ghost Value = { Place };
+    ghost Value = { SeatFacts };
 
-    ghost use Rattle.be_table.specs.Seats.{place_of, IsPlaced};
+    ghost use Rattle.be_table.specs.Seats.{facts_of, IsPlaced};
 
-    ghost view = { place_of };
+    ghost view = { facts_of };
 
     ghost invariant = { IsPlaced };
 }
@@ -58,7 +58,7 @@ impl Seat {
         }
     }
 
-    // The base's seat, with what it tells of the pass.
+    /// The base's seat, with what it tells of the pass.
     pub(crate) fn into_base(self) -> (Base, Marks)
         requires { self.blank ≡ false }
         ensures pass { (result.0.table_id ≡ self.table) × (result.0.me ≡ (self.knows ∷ [], [])) }
@@ -103,7 +103,9 @@ impl Seat {
         requires pinned { (x : ℕ) × (n : ℕ) × (self.now.knows.phase ≡ Pinned x n) }
         ensures page { (x n : ℕ) → self.now.knows.phase ≡ Pinned x n → result ≡ page_at self.now.knows.seen n }
         ensures readable { (x n : ℕ) → self.now.knows.phase ≡ Pinned x n → IsTrue (has (reach_at self.now.knows.seen n) result) }
-        ensures spelt { (x n : ℕ) → self.now.knows.phase ≡ Pinned x n → SpellsVolume (reach_at self.now.knows.seen n) (word_in self.now.knows.image) (page_at self.now.knows.seen n) (replay (take n (entries self.now.knows.seen))) }
+        ensures spelt { (x n : ℕ) → self.now.knows.phase ≡ Pinned x n
+            → SpellsVolume (reach_at self.now.knows.seen n) (word_in self.now.knows.image) (page_at self.now.knows.seen n)
+            (replay (take n (entries self.now.knows.seen))) }
     {
         self.is_pass();
         match self.marks.pin {

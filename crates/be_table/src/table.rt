@@ -24,14 +24,16 @@ use be_value::Refusal;
 use std::alloc::Global;
 use std::marker::Model;
 
+/// 0 while no pass holds the lock, else the holder's number + 1.
 pub(crate) const LOCK: usize = 0;
 
+/// The current version: its number times 2^32, plus its version page.
 pub(crate) const CURRENT: usize = 8;
 
-// The announcement of pass k is the word ANNOUNCE + 8 * k, on a cache line of its own.
+/// The announcement of pass k is the word ANNOUNCE + 8 * k, on a cache line of its own.
 pub(crate) const ANNOUNCE: usize = 16;
 
-// Then come the pages, of 512 words each.
+/// Then come the pages, of 512 words each.
 pub(crate) const PAGES: usize = 528;
 
 pub(crate) type Inner = Table<Option<Ledger>, View, Limits, Law, Global>;
@@ -52,12 +54,13 @@ impl Model for VersionTable {
 
     ghost view = { λ t. record { id = t.table.shared.table_id; limits = t.table.shared.key } };
 
-    ghost invariant = { λ t. (t.table.shared.table_id.words ≡ 528 + 512 * t.limits.pages) × (t.table.shared.table_id.slots ≡ 1) × (t.limits ≡ t.table.shared.key) × IsWithin t.limits };
+    ghost invariant = { λ t. (t.table.shared.table_id.words ≡ 528 + 512 * t.limits.pages) × (t.table.shared.table_id.slots ≡ 1)
+        × (t.limits ≡ t.table.shared.key) × IsWithin t.limits };
 }
 
 impl VersionTable {
-    ghost use Rattle.be_table.specs.Works.{IsSeatOf, SeesMore, TakesLock, IsBusy, Pins, AreNew, IsUnopened, AllAt, knows_of};
-    ghost use Rattle.be_table.specs.Steps.{announces, unpins, met, longer, Has, Keeps};
+    ghost use Rattle.be_table.specs.Works.{IsSeatOf, SeesMore, TakesLock, IsBusy, PinsCurrent, AreNew, IsUnopened, AllAt, knows_of};
+    ghost use Rattle.be_table.specs.Steps.{announces, unpins, met, longer, Has, KeepsSeen};
     ghost use Rattle.be_core.specs.declared.event.Phase.TheVariants.{Pinned};
     ghost use Rattle.be_journal.specs.Journal.{IsLegal, replay};
     ghost use Rattle.be_table.specs.Reading.{pinned_standing, word_in};
@@ -154,7 +157,7 @@ impl VersionTable {
         requires seat { IsSeatOf self.now seat.old }
         requires announced { (x : ℕ) × (seat.old.knows.phase ≡ Phase.Announced x) }
         ensures seat { IsSeatOf self.now seat.new }
-        ensures pass { Pins seat.old.knows seat.new.knows }
+        ensures pass { PinsCurrent seat.old.knows seat.new.knows }
         ensures number { result.0 ≡ length seat.new.knows.seen }
         ensures page { result.1 ≡ page_at seat.new.knows.seen (length seat.new.knows.seen) }
     {
@@ -223,7 +226,9 @@ impl VersionTable {
         requires seat { IsSeatOf self.now seat }
         requires pinned { (x : ℕ) × (n : ℕ) × (seat.knows.phase ≡ Phase.Pinned x n) }
         ensures look { (result.table ≡ self.now) × (result.knows ≡ seat.knows) }
-        ensures version { (x n : ℕ) → seat.knows.phase ≡ Pinned x n → IsVersion (pinned_standing result.knows) (word_in result.knows.image) (page_at result.knows.seen n) (replay (take n (entries result.knows.seen))) }
+        ensures version { (x n : ℕ) → seat.knows.phase ≡ Pinned x n
+            → IsVersion (pinned_standing result.knows) (word_in result.knows.image) (page_at result.knows.seen n)
+            (replay (take n (entries result.knows.seen))) }
     {
         seat.is_pass();
         PinnedLook::of(self, seat)
@@ -235,8 +240,10 @@ impl VersionTable {
     pub fn meet(&self, left: Seat, right: Seat) -> (Seat, Seat, u64)
         requires { IsSeatOf self.now left × IsSeatOf self.now right }
         ensures seats { IsSeatOf self.now result.0 × IsSeatOf self.now result.1 }
-        ensures left { StartsWith (longer left.knows.seen right.knows.seen) left.knows.seen × (result.0.knows ≡ met left.knows (longer left.knows.seen right.knows.seen)) }
-        ensures right { StartsWith (longer left.knows.seen right.knows.seen) right.knows.seen × (result.1.knows ≡ met right.knows (longer left.knows.seen right.knows.seen)) }
+        ensures left { StartsWith (longer left.knows.seen right.knows.seen) left.knows.seen
+            × (result.0.knows ≡ met left.knows (longer left.knows.seen right.knows.seen)) }
+        ensures right { StartsWith (longer left.knows.seen right.knows.seen) right.knows.seen
+            × (result.1.knows ≡ met right.knows (longer left.knows.seen right.knows.seen)) }
         ensures length { result.2 ≡ length (longer left.knows.seen right.knows.seen) }
     {
         let (mut base, mut marks) = left.into_base();
@@ -261,7 +268,7 @@ impl VersionTable {
         requires all { (k : ℕ) → k < self.limits.passes → Has (map knows_of seats.items) k }
         ensures legal { IsLegal result.entries }
         ensures by { AllBelow self.limits.passes result.entries }
-        ensures seats { Keeps result.entries (map knows_of seats.items) }
+        ensures seats { KeepsSeen result.entries (map knows_of seats.items) }
         ensures volumes { CanSpellEach self.limits.pages result.entries }
     {
         let VersionTable { table, limits: _ } = self;

@@ -3,13 +3,15 @@
 //! A write takes pages, fills them, gives pages up, and publishes. Until it publishes, nothing of it can be seen by
 //! others, and `unlock` undoes it. It is never let go of but by `unlock`, since it has no `Drop`: so the ledger always
 //! comes back.
-ghost use Rattle.std.specs.Prelude.{◌≡◌, ◌≤◌, All, suc, ◌+◌, ◌*◌, ◌^◌, ◌<◌, true, false, [], ◌∷◌, length, count_by, None, MatchResult, ℕ, map, slice_index, IsTrue, List, IfOk, IfErr, IfSome, IfNone, ◌≢◌};
+ghost use Rattle.std.specs.Prelude.{◌≡◌, ◌≤◌, All, suc, ◌+◌, ◌*◌, ◌^◌, ◌<◌, true, false, [], ◌∷◌, length, count_by, None, MatchResult, ℕ};
+ghost use Rattle.std.specs.Prelude.{map, slice_index, IsTrue, List, IfOk, IfErr, IfSome, IfNone, ◌≢◌, Ok, string_bytes};
 ghost use Rattle.be_volume.specs.Sound.{IsOperation};
 ghost use Rattle.be_pages.specs.declared.room.Standing.TheVariants.{Taken, Filled as Full};
 ghost use Rattle.be_table.specs.Reading.{standing_in};
 ghost use Rattle.be_pages.specs.Place.{is_in_hand, is_held_page, is_retired, place_of, given_place};
 ghost use Rattle.be_table.specs.Rule.{announce_word, pass_of, counted, word_place, current_word};
-ghost use Rattle.be_table.specs.Steps.{IsNewest, IsPass, IsFound, MayPublish, publishes, MayBeFilled, MayScan, IsPart, fills_word, takes_page, gives_up, scans, scans_out, scans_all, least_found, IsLeast, IsOwnLeast, LeavesNone};
+ghost use Rattle.be_table.specs.Steps.{IsNewest, IsPass, IsFound, MayPublish, publishes, MayBeFilled, MayScan, IsPart, fills_word};
+ghost use Rattle.be_table.specs.Steps.{takes_page, gives_up, scans, scans_out, scans_all, least_found, IsLeastAnnounced, IsOwnLeast, LeavesNone};
 
 use crate::ledger::Ledger;
 use crate::marks::Marks;
@@ -21,9 +23,9 @@ use be_value::Refusal;
 use be_volume::{Done, Op};
 use std::marker::{Brand, Model};
 
-// A retired page is used again only once a scan has freed it. A write that lets the pool run empty first goes through
-// the memory of every page, where those that were given up last are still near: 256 of them are a mebibyte, which a
-// processor's cache holds. A scan that comes so late costs less than a load for each page that it frees.
+/// A retired page is used again only once a scan has freed it. A write that lets the pool run empty first goes through
+/// the memory of every page, where those that were given up last are still near: 256 of them are a mebibyte, which a
+/// processor's cache holds. A scan that comes so late costs less than a load for each page that it frees.
 const EARLY: usize = 256;
 
 /// The lock is held by this pass. It has no `Drop`, so it ends in `unlock`.
@@ -53,6 +55,8 @@ impl<'a> Writing<'a> {
     ghost use Rattle.be_table.specs.Rule.{page_at, entries};
     ghost use Rattle.be_table.specs.Steps.{entry_of};
     ghost use Rattle.be_journal.specs.Journal.{Agrees, replay};
+    ghost use Rattle.be_journal.specs.Text.{lines_from};
+    ghost use Rattle.be_value.specs.Refusal.{Answers};
     ghost use Rattle.be_table.specs.Steps.{leaves};
     ghost use Rattle.be_table.specs.Seats.{pin_of};
     ghost use Rattle.be_table.specs.Reading.{word_in};
@@ -69,7 +73,8 @@ impl<'a> Writing<'a> {
         ledger: Ledger,
     ) -> Writing<'a>
         requires seat { (base.table_id ≡ table.now.id) × (base.me ≡ (pass_of base.me.0 ∷ [], (0, None) ∷ [])) }
-        requires pass { ((pass_of base.me.0).number ≡ marks.number) × ((pass_of base.me.0).limits ≡ table.now.limits) × (marks.number < 64) × ((pass_of base.me.0).writes ≡ true) × IsPass (pass_of base.me.0) }
+        requires pass { ((pass_of base.me.0).number ≡ marks.number) × ((pass_of base.me.0).limits ≡ table.now.limits)
+            × (marks.number < 64) × ((pass_of base.me.0).writes ≡ true) × IsPass (pass_of base.me.0) }
         requires ledger { IsFound ledger (pass_of base.me.0) }
         requires turn { (pass_of base.me.0).scanned ≡ 0 }
         requires pin { marks.pin ≡ pin_of (pass_of base.me.0).phase (pass_of base.me.0).seen }
@@ -91,6 +96,13 @@ impl<'a> Writing<'a> {
         ensures next { (replay (entries self.now.knows.seen)).next + 64 < 2 ^ 64 }
     {
         (self.ledger.journal.len(), self.ledger.page)
+    }
+
+    /// The journal's text. OutOfMemory. No step.
+    pub fn journal_text(&self) -> Result<String, Refusal>
+        ensures { Answers string_bytes result (Ok (lines_from 1 (entries self.now.knows.seen))) }
+    {
+        self.ledger.journal.text()
     }
 
     /// Word i of a page, as the current version has it or as this write filled it. One load.
@@ -133,7 +145,7 @@ impl<'a> Writing<'a> {
         self.ledger.pool.give_up(page);
     }
 
-    // Takes the page that was freed last, if one is free.
+    /// Takes the page that was freed last, if one is free.
     fn take_free(&mut self) -> Option<u64>
         requires open { self.old.knows.published ≡ false }
         ensures some { IfSome result (λ page. (page < length self.old.knows.places) × (place_of self.old.knows.places page ≡ Place.Free)) }
@@ -201,7 +213,7 @@ impl<'a> Writing<'a> {
         Ok(())
     }
 
-    // A page that stands filled is one of the table. It does nothing.
+    /// A page that stands filled is one of the table. It does nothing.
     fn is_filled(&self, page: u64)
         requires { standing_in self.now.knows.places page ≡ Full }
         ensures { (page < length self.now.knows.places) × (place_of self.now.knows.places page ≡ Place.Filled) }
@@ -217,7 +229,8 @@ impl<'a> Writing<'a> {
         requires entry { Agrees (replay (entries self.old.knows.seen)) (entry_of self.old.knows ops.now dones.now) }
         requires page { standing_in self.old.knows.places page ≡ Full }
         requires filled { (q : ℕ) → standing_in self.old.knows.places q ≢ Taken }
-        requires volume { IsVersion (standing_in self.old.knows.places) (word_in self.old.knows.words) page (after (replay (entries self.old.knows.seen)) ops.now) }
+        requires volume { IsVersion (standing_in self.old.knows.places) (word_in self.old.knows.words)
+            page (after (replay (entries self.old.knows.seen)) ops.now) }
         requires exact { (q : ℕ) → times q (reach (word_in self.old.knows.words) page) ≡ bit (is_kept (standing_in self.old.knows.places q)) }
         ensures write { self.new ≡ record self.old { knows = publishes self.old.knows (entry_of self.old.knows ops.now dones.now) page; reserved = 0 } }
         ensures result { result ≡ length self.new.knows.seen }
@@ -254,7 +267,7 @@ impl<'a> Writing<'a> {
     }
 }
 
-// The operations are such of the program, as their types have it.
+/// The operations are such of the program, as their types have it.
 fn all_valid(ops: &[Op])
     ensures { All IsOperation ops.now }
 {
@@ -263,7 +276,7 @@ fn all_valid(ops: &[Op])
     }
 }
 
-// The one step at which the write takes effect.
+/// The one step at which the write takes effect.
 fn announce<E: Announced>(
     table: &VersionTable,
     base: &mut Base,
@@ -285,12 +298,13 @@ fn announce<E: Announced>(
     table.table.shared.store::<Publish<E>>(base, CURRENT, word)
 }
 
-// The load by which a page is taken.
+/// The load by which a page is taken.
 fn tell_taken(table: &VersionTable, base: &mut Base, page: u64)
     requires seat { base.old.table_id ≡ table.now.id }
     requires pass { (base.old.me.0 ≡ pass_of base.old.me.0 ∷ []) × ((pass_of base.old.me.0).writes ≡ true) }
     requires small { page < 16384 }
-    requires page { (page < table.now.limits.pages) × (page < length (pass_of base.old.me.0).places) × (place_of (pass_of base.old.me.0).places page ≡ Place.Free) }
+    requires page { (page < table.now.limits.pages) × (page < length (pass_of base.old.me.0).places)
+        × (place_of (pass_of base.old.me.0).places page ≡ Place.Free) }
     ensures seat { (base.new.table_id ≡ base.old.table_id) × (base.new.id ≡ base.old.id) }
     ensures me { base.new.me ≡ (takes_page (pass_of base.old.me.0) page ∷ [], base.old.me.1) }
 {
@@ -298,7 +312,7 @@ fn tell_taken(table: &VersionTable, base: &mut Base, page: u64)
     table.table.shared.load::<TakePage>(base, at);
 }
 
-// Stores a word of a page in hand, where it isn't there.
+/// Stores a word of a page in hand, where it isn't there.
 fn fill_word(table: &VersionTable, base: &mut Base, page: u64, i: usize, word: u64)
     requires seat { base.old.table_id ≡ table.now.id }
     requires pass { (base.old.me.0 ≡ pass_of base.old.me.0 ∷ []) × ((pass_of base.old.me.0).writes ≡ true) × ((pass_of base.old.me.0).published ≡ false) }
@@ -316,7 +330,7 @@ fn fill_word(table: &VersionTable, base: &mut Base, page: u64, i: usize, word: u
     }
 }
 
-// One announcement, of the pass whose turn it is.
+/// One announcement, of the pass whose turn it is.
 fn read_announcement(table: &VersionTable, base: &mut Base, pass: u64) -> u64
     requires seat { base.old.table_id ≡ table.now.id }
     requires pass { MayScan table.now.limits base.old.me pass }
@@ -347,7 +361,8 @@ fn read_all(table: &VersionTable, base: &mut Base, current: u64) -> u64
     requires number { (pass_of base.old.me.0).number < table.now.limits.passes }
     requires current { ((pass_of base.old.me.0).limits ≡ table.now.limits) × (current ≡ length (pass_of base.old.me.0).seen) }
     ensures seat { (base.new.table_id ≡ base.old.table_id) × (base.new.id ≡ base.old.id) }
-    ensures me { (found : List ℕ) × (length found ≡ table.now.limits.passes) × (base.new.me ≡ (scans_all (pass_of base.old.me.0) found ∷ [], base.old.me.1)) × IsLeast current found result }
+    ensures me { (found : List ℕ) × (length found ≡ table.now.limits.passes)
+        × (base.new.me ≡ (scans_all (pass_of base.old.me.0) found ∷ [], base.old.me.1)) × IsLeastAnnounced current found result }
     ensures part { IsPart table.now.limits.passes (pass_of base.old.me.0) (pass_of base.new.me.0) table.now.limits.passes result }
     ensures own { IsOwnLeast (pass_of base.old.me.0) result }
 {

@@ -83,6 +83,14 @@ fn journal_of(alloc: Global, first: Done, second: Op) -> Result<Journal, Refusal
     Ok(journal)
 }
 
+/// Pushes so many nodes that were made.
+fn push_nodes(alloc: Global, journal: &mut Journal, count: u64) -> Result<(), Refusal> {
+    for node in 1..=count {
+        push(alloc, journal, Op::New, Done::Node(node))?;
+    }
+    Ok(())
+}
+
 #[test]
 fn journal_text(rt: HostRuntime) -> Result<(), Fail> {
     let sized = set("size", Value::int32(5))?;
@@ -161,7 +169,8 @@ fn values_have_a_text(rt: HostRuntime) -> Result<(), Fail> {
     push(rt.alloc(), &mut journal, most, Done::Unit)?;
     assert_eq!(rt;
         text(&journal)?.as_str(),
-        "1 by 0 set 1 \"a\\\"b\" CSTR \"x\\\\y\\n\\r\" -> ok\n2 by 0 set 1 \"r\" RAWT \"00abff\" -> ok\n3 by 0 set 1 \"l\" LLNG -9223372036854775808 -> ok\n4 by 0 set 1 \"u\" ULLG 18446744073709551615 -> ok\n"
+        "1 by 0 set 1 \"a\\\"b\" CSTR \"x\\\\y\\n\\r\" -> ok\n2 by 0 set 1 \"r\" RAWT \"00abff\" -> ok\n\
+        3 by 0 set 1 \"l\" LLNG -9223372036854775808 -> ok\n4 by 0 set 1 \"u\" ULLG 18446744073709551615 -> ok\n"
     );
     Ok(())
 }
@@ -178,5 +187,17 @@ fn removals_have_a_text(rt: HostRuntime) -> Result<(), Fail> {
         text(&journal)?.as_str(),
         "1 by 0 unset 7 \"m\" -> ok\n2 by 0 rmindex \"k\" -> ok\n3 by 0 drop 7 -> ok\n"
     );
+    Ok(())
+}
+
+/// A journal of 1,100 entries is told, checked and played whole.
+#[test]
+fn long_journal(rt: HostRuntime) -> Result<(), Fail> {
+    let mut journal = Journal::new(rt.alloc(), 1_100);
+    push_nodes(rt.alloc(), &mut journal, 1_100)?;
+    let told = text(&journal)?;
+    assert!(rt; told.as_str().ends_with("\n1100 by 0 new -> node 1100\n"));
+    assert!(rt; check(&journal)?);
+    assert_eq!(rt; replay(&journal)?.next(), 1_101);
     Ok(())
 }

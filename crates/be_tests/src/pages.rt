@@ -1,22 +1,10 @@
 //! A room's pages, counted. The room is made once more after `OutOfMemory`, so the tests also pass where any one request
 //! for memory is refused (`rt try --test --fail-alloc N`).
-ghost use Rattle.std.specs.Prelude.{◌≡◌, ℕ, IfOk};
-ghost use Rattle.be_pages.specs.declared.room.Standing.TheVariants.{Free};
 
+use crate::counting_look::room_of;
 use be_pages::{Look, Room, VecRoom};
 use be_value::Refusal;
-use std::alloc::Global;
 use std::test::Fail;
-
-/// A room, at the second call where memory is refused at the first.
-fn room_of(alloc: Global, pages: u64) -> Result<VecRoom, Refusal>
-    ensures { IfOk result (λ r. (q : ℕ) → ⟦<VecRoom as Look>⟧.standing r q ≡ Free) }
-{
-    match VecRoom::new(alloc, pages) {
-        Err(Refusal::OutOfMemory) => VecRoom::new(alloc, pages),
-        answer => answer,
-    }
-}
 
 #[test]
 fn keeps_and_undoes(rt: HostRuntime) -> Result<(), Fail> {
@@ -35,7 +23,7 @@ fn keeps_and_undoes(rt: HostRuntime) -> Result<(), Fail> {
     Ok(())
 }
 
-// Each page is taken once; then the room is full.
+/// Each page is taken once; then the room is full.
 #[test]
 fn full_room(rt: HostRuntime) -> Result<(), Fail> {
     let mut room = room_of(rt.alloc(), 8)?;
@@ -47,7 +35,7 @@ fn full_room(rt: HostRuntime) -> Result<(), Fail> {
     Ok(())
 }
 
-// A page that was taken and given up within one write is free at once, and is the next one taken.
+/// A page that was taken and given up within one write is free at once, and is the next one taken.
 #[test]
 fn page_given_up(rt: HostRuntime) -> Result<(), Fail> {
     let mut room = room_of(rt.alloc(), 8)?;

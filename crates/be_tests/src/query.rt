@@ -1,6 +1,7 @@
 //! Worked examples. Each call that asks for memory is made again where it was refused, so that the tests also pass
 //! where any one request for memory is refused.
 
+use crate::value::refusal;
 use be_query::{Item, Literal, Query, Tree, from_rpn, parse, print, print_comparison};
 use be_value::{Name, Refusal, number_of};
 
@@ -53,13 +54,6 @@ fn canonical_leaf(rt: &HostRuntime, answer: Result<Query, Refusal>) -> Result<St
             Literal::Text(_) => Err(Refusal::NotCovered),
         },
         _ => Err(Refusal::NotCovered),
-    }
-}
-
-fn refusal<T: Drop>(answer: Result<T, Refusal>) -> Option<Refusal> {
-    match answer {
-        Ok(_) => None,
-        Err(refusal) => Some(refusal),
     }
 }
 

@@ -62,7 +62,7 @@ fn take_numbers(room: &mut VecRoom, root: u64, to: u64) -> Result<u64, Refusal>
     Ok(root)
 }
 
-// Twelve pairs stand in one page; the thirteenth makes two leaves and an inner page.
+/// Twelve pairs stand in one page; the thirteenth makes two leaves and an inner page.
 #[test]
 fn tree_pages(rt: HostRuntime) -> Result<(), Fail> {
     let mut room = room_of(rt.alloc(), 16)?;
@@ -78,8 +78,8 @@ fn tree_pages(rt: HostRuntime) -> Result<(), Fail> {
     Ok(())
 }
 
-// In a room of eight pages at least 20 rising keys are accepted and at most 60. The next one is refused, and its write
-// undone: the pairs before it stand.
+/// In a room of eight pages at least 20 rising keys are accepted and at most 60. The next one is refused, and its write
+/// undone: the pairs before it stand.
 #[test]
 fn full_tree(rt: HostRuntime) -> Result<(), Fail> {
     assert!(rt; matches!(VecRoom::new(rt.alloc(), 7), Err(Refusal::BadLimits)));
@@ -95,7 +95,7 @@ fn full_tree(rt: HostRuntime) -> Result<(), Fail> {
     Ok(())
 }
 
-// Rising keys fill their pages: 600 pairs take 50 leaves of 12, five pages above them and the root.
+/// Rising keys fill their pages: 600 pairs take 50 leaves of 12, five pages above them and the root.
 #[test]
 fn rising_keys_fill_pages(rt: HostRuntime) -> Result<(), Fail> {
     let mut room = room_of(rt.alloc(), 128)?;
@@ -138,7 +138,7 @@ fn has_nodes<L: Look>(look: &mut L, root: u64, nodes: &[u8]) -> bool
     cursor.next_key(look).is_none()
 }
 
-// One value at three nodes is three keys; one of them is taken out.
+/// One value at three nodes is three keys; one of them is taken out.
 #[test]
 fn equal_values(rt: HostRuntime) -> Result<(), Fail> {
     let mut room = room_of(rt.alloc(), 8)?;

@@ -108,7 +108,8 @@ fn texts_spell_numbers(rt: HostRuntime) -> Result<(), Fail> {
     Ok(())
 }
 
-fn refusal<T: Drop>(answer: Result<T, Refusal>) -> Option<Refusal> {
+/// Why a call was refused, if it was.
+pub(crate) fn refusal<T: Drop>(answer: Result<T, Refusal>) -> Option<Refusal> {
     match answer {
         Ok(_) => None,
         Err(refusal) => Some(refusal),

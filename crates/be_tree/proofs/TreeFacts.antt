@@ -10,7 +10,7 @@ use Rattle.be_pages.specs.declared.room.Standing.{Standing}
 use Rattle.be_pages.specs.Pages.{times}
 use Rattle.be_tree.specs.Pair.{Pair}
 use Rattle.be_tree.specs.Key.{key_cmp, AllBelow, AllAbove, IsRising, payload_at, put, StartsAt, IsRank}
-use Rattle.be_tree.specs.Page.{items_of, item_at, bytes_at, place_of, key_len, payload_len, IsItem, IsPage}
+use Rattle.be_tree.specs.Page.{items_of, item_at, bytes_at, item_place, key_len, payload_len, IsItem, IsPage}
 use Rattle.std.proofs.lemmas.List.Elements.{All-map}
 use Rattle.std.proofs.lemmas.List.FromFn.{get_or-range_with_len, length-range_with_len}
 use Rattle.be_tree.specs.Tree.{child, pairs_at, pages_at, pages_below, IsBelow, IsTreeAt}
@@ -116,9 +116,9 @@ unfolding item_at
 key_fits words at item = omega (arith, length-take (key_len words at) (bytes_at words (at + 1) (key_len words at + payload_len words at)), item.key_fits)
 
 pub page_keys : (words : ℕ → ℕ) → IsPage words → All (λ item. length item.key ≤ 264) (items_of words)
-page_keys words page = All-map (λ item. length item.key ≤ 264) (λ (j : ℕ). item_at words (place_of j)) (range_with_len 0 (words 1)) (λ j d lt.
+page_keys words page = All-map (λ item. length item.key ≤ 264) (λ (j : ℕ). item_at words (item_place j)) (range_with_len 0 (words 1)) (λ j d lt.
     let at : get_or (range_with_len 0 (words 1)) j d ≡ j = get_or-range_with_len 0 (words 1) j d (omega (arith, lt, length-range_with_len 0 (words 1))) ∙ zero-add j in
-    subst (λ n. length (item_at words (place_of n)).key ≤ 264) (sym at) (key_fits words (place_of j) (page.each j (omega (arith, lt, length-range_with_len 0 (words 1))))))
+    subst (λ n. length (item_at words (item_place n)).key ≤ 264) (sym at) (key_fits words (item_place j) (page.each j (omega (arith, lt, length-range_with_len 0 (words 1))))))
 
 module _ (level : ℕ) (standing : ℕ → Standing) (words : ℕ → ℕ → ℕ) (items : List Pair) (below : IsBelow (suc level) standing words items) where
   -- a branch's child is a tree of the level below

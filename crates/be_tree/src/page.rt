@@ -5,7 +5,7 @@ ghost use Rattle.std.specs.Int.{from_be_bytes, to_be_bytes, w64};
 ghost use Rattle.be_pages.specs.Pages.{is_readable, is_taken, IsUnchanged, OnlyWrites, StandsAt};
 ghost use Rattle.be_pages.specs.declared.room.Standing.TheVariants.{Filled};
 ghost use Rattle.be_tree.specs.Page.{IsItem, IsPadded, IsPage, item_at, bytes_at, key_len, level_of, items_of, words_for};
-ghost use Rattle.be_tree.specs.Page.{place_of};
+ghost use Rattle.be_tree.specs.Page.{item_place};
 ghost use Rattle.std.specs.Prelude.{◌^◌, ◌⊎◌};
 ghost use Rattle.be_tree.specs.declared.slot.Slot.TheVariants.{At};
 ghost use Rattle.be_tree.specs.Slot.{IsBeside, IsReady, branch_to, pair_of, pairs_of};
@@ -298,7 +298,7 @@ pub(crate) fn fill_slots<L: Look>(look: &mut L, page: u64, slots: &mut ArrayVec<
     requires readable { IsTrue (is_readable (L.standing look.old page)) }
     requires page { IsPage (L.words look.old page) }
     requires empty { slots.old.items ≡ [] }
-    ensures slots { slots.new.items ≡ map (λ j. At (place_of j) page) (range_with_len 0 (L.words look.old page 1)) }
+    ensures slots { slots.new.items ≡ map (λ j. At (item_place j) page) (range_with_len 0 (L.words look.old page 1)) }
     ensures len { length slots.new.items ≡ L.words look.old page 1 }
     ensures few { length slots.new.items ≤ 12 }
     ensures unchanged { IsUnchanged L.kept L.standing L.words look.old look.new }

@@ -13,7 +13,7 @@ ghost use Rattle.be_pages.specs.Pages.{IsUnchanged, is_readable, Swaps, KeepsSta
 ghost use Rattle.be_pages.specs.Refusal.{IsFullOf};
 ghost use Rattle.be_tree.specs.Key.{key_cmp, payload_at, without};
 ghost use Rattle.std.specs.Ordering.{is_eq};
-ghost use Rattle.be_tree.specs.Page.{IsItem, IsPage, item_at, items_of, place_of};
+ghost use Rattle.be_tree.specs.Page.{IsItem, IsPage, item_at, items_of, item_place};
 ghost use Rattle.be_tree.specs.Pair.{Pair};
 ghost use Rattle.be_tree.specs.Slot.{IsReady, pair_of, pairs_of};
 ghost use Rattle.be_tree.specs.Stop.{IfAbsent, IfRefused};
@@ -119,11 +119,11 @@ fn slots_without<L: Look>(
     requires empty { slots.old.items ≡ [] }
     ensures items { OnOk result ((given : Pair) → pairs_of (L.words look.old) given slots.new.items
         ≡ take at (items_of (L.words look.old page))
-        ++ (without key.now (item_at (L.words look.old page) (place_of at) ∷ []) ++ drop (suc at) (items_of (L.words look.old page)))) }
+        ++ (without key.now (item_at (L.words look.old page) (item_place at) ∷ []) ++ drop (suc at) (items_of (L.words look.old page)))) }
     ensures ready { OnOk result (All (IsReady (L.standing look.old) (L.words look.old)) slots.new.items) }
     ensures some { OnOk result ((L.words look.old page 1 ≤ length slots.new.items + 1) × (length slots.new.items ≤ 12)) }
-    ensures found { OnOk result (is_eq (key_cmp (item_at (L.words look.old page) (place_of at)).key key.now) ≡ true) }
-    ensures absent { IfErr result (λ stop. (stop ≡ Absent) × (is_eq (key_cmp (item_at (L.words look.old page) (place_of at)).key key.now) ≡ false)) }
+    ensures found { OnOk result (is_eq (key_cmp (item_at (L.words look.old page) (item_place at)).key key.now) ≡ true) }
+    ensures absent { IfErr result (λ stop. (stop ≡ Absent) × (is_eq (key_cmp (item_at (L.words look.old page) (item_place at)).key key.now) ≡ false)) }
     ensures unchanged { IsUnchanged L.kept L.standing L.words look.old look.new }
 {
     fill_slots(look, page, slots);

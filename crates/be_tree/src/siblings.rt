@@ -1,7 +1,7 @@
 //! Two neighbours among the children of a node.
 ghost use Rattle.std.specs.Prelude.{◌≡◌, ℕ, suc, ◌+◌, ◌-◌, ◌<◌, ◌≤◌, [], ◌∷◌, ◌++◌, length, take, drop, All, IfSome, IsTrue};
 ghost use Rattle.be_pages.specs.Pages.{IsUnchanged, is_readable};
-ghost use Rattle.be_tree.specs.Page.{IsPage, item_at, items_of, place_of};
+ghost use Rattle.be_tree.specs.Page.{IsPage, item_at, items_of, item_place};
 ghost use Rattle.be_tree.specs.Pair.{Pair};
 ghost use Rattle.be_tree.specs.Slot.{IsReady, pair_of, pairs_of};
 ghost use Rattle.be_tree.specs.Tree.{AreNeighbours, IsTreeAt, child};
@@ -17,8 +17,8 @@ pub(crate) fn two_children<L: Look>(look: &mut L, level: u64, page: u64, at: usi
     requires tree { IsTreeAt level 1 (L.standing look.old) (L.words look.old) page }
     requires inner { 0 < level }
     requires in_page { at + 2 ≤ L.words look.old page 1 }
-    ensures left { result.0 ≡ child (item_at (L.words look.old page) (place_of at)) }
-    ensures right { result.1 ≡ child (item_at (L.words look.old page) (place_of (at + 1))) }
+    ensures left { result.0 ≡ child (item_at (L.words look.old page) (item_place at)) }
+    ensures right { result.1 ≡ child (item_at (L.words look.old page) (item_place (at + 1))) }
     ensures neighbours { AreNeighbours (level - 1) (L.standing look.old) (L.words look.old) result.0 result.1 }
     ensures unchanged { IsUnchanged L.kept L.standing L.words look.old look.new }
 {
@@ -32,7 +32,7 @@ pub(crate) fn spare_child<L: Look>(look: &mut L, level: u64, page: u64, at: usiz
     requires tree { IsTreeAt level 1 (L.standing look.old) (L.words look.old) page }
     requires inner { 0 < level }
     requires in_page { at < L.words look.old page 1 }
-    ensures child { IfSome result (λ below. below ≡ child (item_at (L.words look.old page) (place_of at))) }
+    ensures child { IfSome result (λ below. below ≡ child (item_at (L.words look.old page) (item_place at))) }
     ensures tree { IfSome result (λ below. IsTreeAt (level - 1) 6 (L.standing look.old) (L.words look.old) below) }
     ensures spare { IfSome result (λ below. 6 < L.words look.old below 1) }
     ensures unchanged { IsUnchanged L.kept L.standing L.words look.old look.new }
@@ -54,8 +54,8 @@ pub(crate) fn sharing_children<L: Look>(
     requires tree { IsTreeAt level 1 (L.standing look.old) (L.words look.old) page }
     requires in_page { at < L.words look.old page 1 }
     ensures inner { IfSome result (λ both. (0 < level) × (0 < at)) }
-    ensures left { IfSome result (λ both. both.0 ≡ child (item_at (L.words look.old page) (place_of (at - 1)))) }
-    ensures right { IfSome result (λ both. both.1 ≡ child (item_at (L.words look.old page) (place_of (at - 1 + 1)))) }
+    ensures left { IfSome result (λ both. both.0 ≡ child (item_at (L.words look.old page) (item_place (at - 1)))) }
+    ensures right { IfSome result (λ both. both.1 ≡ child (item_at (L.words look.old page) (item_place (at - 1 + 1)))) }
     ensures neighbours { IfSome result (λ both. AreNeighbours (level - 1) (L.standing look.old) (L.words look.old) both.0 both.1) }
     ensures roomy { IfSome result (λ both. L.words look.old both.0 1 < 12) }
     ensures crowded { IfSome result (λ both. L.words look.old both.1 1 ≡ 12) }

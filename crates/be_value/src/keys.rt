@@ -17,15 +17,15 @@ use crate::{Kind, Text, Value};
 use arrayvec::ArrayVec;
 use std::str;
 
-/// A 32-bit number counted from the least one.
-fn counted32(n: i32) -> u32
+/// A 32-bit number counted from the least one. Its bytes, the high one first, are those of its key.
+pub fn counted32(n: i32) -> u32
     ensures { result ≡ counted (2 ^ 31) n }
 {
     (i64::from(n) + (1 << 31)) as u32
 }
 
-/// A 64-bit number counted from the least one.
-fn counted64(n: i64) -> u64
+/// A 64-bit number counted from the least one. Its bytes, the high one first, are those of its key.
+pub fn counted64(n: i64) -> u64
     ensures { result ≡ counted (2 ^ 63) n }
 {
     if n < 0 {

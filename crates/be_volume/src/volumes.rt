@@ -77,8 +77,8 @@ impl Volume {
         self.contents.next()
     }
 
-    /// An equal volume, at the cost of all that this one holds; refused with 10 alone. The first `apply` on it costs as
-    /// much again.
+    /// An equal volume, at the cost of all that this one holds; refused with OutOfMemory alone. The first `apply` on it
+    /// costs as much again.
     pub fn copy(&self) -> Result<Volume, Refusal>
         ensures { Answers (λ copy. copy) result (Ok self.now) }
     {
@@ -90,7 +90,8 @@ impl Volume {
         })
     }
 
-    /// The refusal of 2 to 8 that `apply` answers for these operations, if there is one. It takes no memory.
+    /// The refusal, from NoNode to NotIndexable, that `apply` answers for these operations, if there is one. It takes no
+    /// memory.
     pub fn refusal(&self, ops: &[Op]) -> Option<Refusal>
         requires few { length ops.now ≤ 64 }
         requires fits { self.now.next + 64 < 2 ^ 64 }
@@ -103,14 +104,14 @@ impl Volume {
     }
 
     /// Applies 1 to 64 operations one after the other, all or none, and answers each. The list is refused as its first
-    /// operation that is refused: with 2 where the node isn't there, 3 where it lacks the attribute, 4 where a new name
-    /// would be its 65th, 5 where the index is there, 6 where it isn't, 7 where it would be the 33rd, and 8 where the kind
-    /// can't be indexed; this is found before memory is taken. It is refused with 10 where there is no memory. A refused
-    /// list leaves the volume as it was.
+    /// operation that is refused: with NoNode where the node isn't there, NoAttr where it lacks the attribute, TooManyAttrs
+    /// where a new name would be its 65th, IndexExists where the index is there, NoSuchIndex where it isn't, TooManyIndices
+    /// where it would be the 33rd, and NotIndexable where the kind can't be indexed; this is found before memory is taken.
+    /// It is refused with OutOfMemory where there is no memory. A refused list leaves the volume as it was.
     ///
     /// The operations are done on the twin of the contents, which takes their place, and then the old contents follow. So
     /// a call costs what it changes, twice, which no clause says. Only where there is no twin is the whole volume copied:
-    /// at the first call after a refusal with 10, after a `replay`, and on a new copy.
+    /// at the first call after a refusal with OutOfMemory, after a `replay`, and on a new copy.
     pub fn apply(&mut self, ops: &[Op]) -> Result<ArrayVec<Done, 64>, Refusal>
         requires some { 1 ≤ length ops.now }
         requires few { length ops.now ≤ 64 }
@@ -167,8 +168,8 @@ impl Volume {
         Some(self.contents.nodes().get(node)?.get(name)?.copy())
     }
 
-    /// The attributes of a node, by ascending bytes of their names. It is refused with 2 where the node isn't there, and
-    /// with 10 only where it is.
+    /// The attributes of a node, by ascending bytes of their names. It is refused with NoNode where the node isn't there,
+    /// and with OutOfMemory only where it is.
     pub fn attrs(&self, node: u64) -> Result<Vec<(Name, Value)>, Refusal>
         ensures list { Answers (λ list. list.items) result (attributes_at self.now node) }
         ensures wanted { IfErr result (λ e. e ≡ OutOfMemory → IsOk (attributes_at self.now node)) }
@@ -179,7 +180,7 @@ impl Volume {
         Ok(attributes.list(self.alloc)?)
     }
 
-    /// The names and kinds of the indices, by ascending bytes of the names; refused with 10 alone.
+    /// The names and kinds of the indices, by ascending bytes of the names; refused with OutOfMemory alone.
     pub fn indices(&self) -> Result<Vec<(Name, Kind)>, Refusal>
         ensures { Answers (λ list. list.items) result (Ok (index_kinds self.now)) }
     {
@@ -212,8 +213,8 @@ impl Volume {
         index.pairs.has_key(key)
     }
 
-    /// The nodes of which the query is true, ascending. It is refused with 17 where it rests on no index, and with 10
-    /// where there is no memory for the answer. It looks at every node.
+    /// The nodes of which the query is true, ascending. It is refused with NotCovered where it rests on no index, and with
+    /// OutOfMemory where there is no memory for the answer. It looks at every node.
     pub fn query(&self, query: &Query) -> Result<Vec<u64>, Refusal>
         ensures { Answers (λ nodes. nodes.items) result (scan self.now query.now) }
     {

@@ -1,13 +1,16 @@
 //! `bestore`: runs a script and writes the reply to each of its lines to standard output, races scripts against one
-//! another and writes the replies of each and their journal, or answers the lines of standard input as they come.
+//! another and writes the replies of each and their journal, or answers the lines of standard input as they come. It also
+//! checks a journal that was written, and writes the script that makes it again.
 //!
-//! The status is 0 for a run, a race or a shell to its end and for a request for help or for the version, 2 for a command
-//! line that says nothing that can be done, and 1, with one line on standard error, where it stopped before its end.
+//! The status is 0 for a run, a race or a shell to its end, for a journal that is right and for a request for help or for the
+//! version, 2 for a command line that says nothing that can be done, and 1, with one line on standard error, where it stopped
+//! before its end. It is 1 too where a journal is wrong; the line that is stands on standard output.
 //! Replies go through a buffer, which is written before the program ends; a shell writes each reply when it has it.
 #![tactic(auto)]
 
 use be_script::{
-    Ends, Limits, OpenGate, Peer, RunFault, Task, Terminal, race, read_files, run, shell, task,
+    Ends, Finding, Limits, OpenGate, Peer, RunFault, Task, Terminal, check, dump, journal_told,
+    race, read_files, run, run_and_tell, shell, task,
 };
 use clap::Error;
 use clap::error::ErrorKind;
@@ -58,30 +61,44 @@ fn finish<W: Write + Drop>(
     }
 }
 
-/// Runs a script that comes from a reader.
+/// Runs a script that comes from a reader, and tells its journal where that is asked for.
 fn run_from<R: Runtime + AllocGlobal, I: Read>(
     rt: &R,
     file: &str,
     script: &mut I,
     limits: Limits,
+    tells: bool,
 ) -> io::Result<ExitCode> {
     let Ok(mut writer) = BufWriter::new(rt.alloc(), io::writer(rt)) else {
         return fail(rt, reason(RunFault::Memory));
     };
-    let ran = run(rt.alloc(), script, &mut writer, limits);
+    let (legal, ran) = if tells {
+        match run_and_tell(rt.alloc(), script, &mut writer, limits) {
+            Ok(legal) => (legal, Ok(())),
+            Err(fault) => (false, Err(fault)),
+        }
+    } else {
+        (true, run(rt.alloc(), script, &mut writer, limits))
+    };
     match finish(writer, ran) {
-        Ok(()) => Ok(ExitCode::SUCCESS),
+        Ok(()) if legal => Ok(ExitCode::SUCCESS),
+        Ok(()) => Ok(ExitCode::FAILURE),
         Err(RunFault::Read) => fail_to_read(rt, file),
         Err(fault) => fail(rt, reason(fault)),
     }
 }
 
-fn run_file<R: Runtime + AllocGlobal>(rt: &R, file: &str, limits: Limits) -> io::Result<ExitCode> {
+fn run_file<R: Runtime + AllocGlobal>(
+    rt: &R,
+    file: &str,
+    limits: Limits,
+    tells: bool,
+) -> io::Result<ExitCode> {
     if file == STANDARD_INPUT {
-        return run_from(rt, file, &mut rt.reader(), limits);
+        return run_from(rt, file, &mut rt.reader(), limits, tells);
     }
     match fs::open(rt, file) {
-        Ok(mut script) => run_from(rt, file, &mut script, limits),
+        Ok(mut script) => run_from(rt, file, &mut script, limits, tells),
         Err(_) => fail_to_read(rt, file),
     }
 }
@@ -140,7 +157,9 @@ fn talk<R: Runtime + AllocGlobal, F: Peer>(
     };
     let mut ends = Ends::new(reader, io::writer(rt));
     let talked = if is_terminal {
-        eprintln!(rt; "bestore: a line is answered when it comes; the end of input ends it")?;
+        eprintln!(rt;
+            "bestore: a line is answered when it comes; the end of input ends it; help lists the commands"
+        )?;
         shell(rt.alloc(), first, &mut Terminal::new(rt, ends), limits)
     } else {
         shell(rt.alloc(), first, &mut ends, limits)
@@ -173,15 +192,84 @@ fn open_shell<R: Runtime + AllocGlobal>(
     talk(rt, &mut lines, limits, is_terminal)
 }
 
+/// Reads all of a file.
+fn read_whole<R: Runtime + AllocGlobal>(rt: &R, file: &str) -> io::Result<Vec<u8>> {
+    let mut text = Vec::new(rt.alloc());
+    if file == STANDARD_INPUT {
+        let mut reader = rt.reader();
+        reader.read_to_end(&mut text)?;
+    } else {
+        let mut reader = fs::open(rt, file)?;
+        reader.read_to_end(&mut text)?;
+    }
+    Ok(text)
+}
+
+/// Why a file wasn't read whole.
+fn fail_whole(rt: &impl Eprint, file: &str, error: &io::Error) -> io::Result<ExitCode> {
+    if matches!(error.kind(), io::ErrorKind::OutOfMemory) {
+        return fail(rt, reason(RunFault::Memory));
+    }
+    fail_to_read(rt, file)
+}
+
+fn fail_without_journal(rt: &impl Eprint, file: &str) -> io::Result<ExitCode> {
+    eprintln!(rt; "bestore: no journal in {file}")?;
+    Ok(ExitCode::FAILURE)
+}
+
+/// Prints a text, and ends with this status.
+fn print_text<R: Runtime>(rt: &R, text: &str, status: ExitCode) -> io::Result<ExitCode> {
+    let mut writer = io::writer(rt);
+    match writer.write_all(text.as_bytes()) {
+        Ok(()) => Ok(status),
+        Err(_) => fail(rt, reason(RunFault::Write)),
+    }
+}
+
+/// Checks the journal that a file tells, and prints that it is right, or the first line that isn't.
+fn check_file<R: Runtime + AllocGlobal>(rt: &R, file: &str) -> io::Result<ExitCode> {
+    let text = match read_whole(rt, file) {
+        Ok(text) => text,
+        Err(error) => return fail_whole(rt, file, &error),
+    };
+    match check(rt.alloc(), &text) {
+        Ok(Finding::Right) => print_text(rt, "replay ok\n", ExitCode::SUCCESS),
+        Ok(Finding::Wrong(line)) => print_text(rt, line.as_str(), ExitCode::FAILURE),
+        Ok(Finding::NoJournal) => fail_without_journal(rt, file),
+        Err(_) => fail(rt, reason(RunFault::Memory)),
+    }
+}
+
+/// Prints the script that makes the writes of the journal again that a file tells.
+fn dump_file<R: Runtime + AllocGlobal>(rt: &R, file: &str) -> io::Result<ExitCode> {
+    let text = match read_whole(rt, file) {
+        Ok(text) => text,
+        Err(error) => return fail_whole(rt, file, &error),
+    };
+    let entries = match journal_told(rt.alloc(), &text) {
+        Ok(Some(entries)) => entries,
+        Ok(None) => return fail_without_journal(rt, file),
+        Err(_) => return fail(rt, reason(RunFault::Memory)),
+    };
+    match dump(rt.alloc(), &entries) {
+        Ok(script) => print_text(rt, script.as_str(), ExitCode::SUCCESS),
+        Err(_) => fail(rt, reason(RunFault::Memory)),
+    }
+}
+
 fn run_task<R: Runtime + AllocGlobal + Threads + Wait + Sync>(
     rt: &R,
     task: &Task,
     is_terminal: bool,
 ) -> io::Result<ExitCode> {
     match task {
-        Task::Run(file, limits) => run_file(rt, file.as_str(), *limits),
+        Task::Run(file, limits) => run_file(rt, file.as_str(), *limits, false),
+        Task::RunAndTell(file, limits) => run_file(rt, file.as_str(), *limits, true),
         Task::Race(files, limits) => race_files(rt, files.as_slice(), *limits),
         Task::Shell(file, limits) => open_shell(rt, file, *limits, is_terminal),
+        Task::Check(file) => check_file(rt, file.as_str()),
+        Task::Dump(file) => dump_file(rt, file.as_str()),
     }
 }
 

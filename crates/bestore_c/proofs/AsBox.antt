@@ -23,7 +23,11 @@ use Rattle.bestore_c.specs.contracts.loose.Loose as loose
 use Rattle.bestore_c.specs.contracts.owned.Owned as owned
 
 abbrev pub E : Bx
-E = record { row = Held.the_row; laws = held.the_row_laws; al = record { row = Heap.the_row; laws = heap.the_row_laws; g = ghosts; d = dict; drops = impl [] tnil dnil } }
+E = record {
+  row = Held.the_row;
+  laws = held.the_row_laws;
+  al = record { row = Heap.the_row; laws = heap.the_row_laws; g = ghosts; d = dict; drops = impl [] tnil dnil };
+}
 
 abbrev pub FromLoose : Slot 0
 FromLoose = plain (λ _. loose.the_row Held.the_row Heap.the_row ghosts)

@@ -11,7 +11,8 @@ stays None code does full all = absurd (false≢true full)
 stays (Some s) code does full all = (refl, refl, all s)
 
 -- the session is another one of the same store
-pub called : (p q : Option Sitting) (s t : Sitting) (code : ℕ) (does : Sitting → Sitting → Type 0) → p ≡ Some s → q ≡ Some t → t.store ≡ s.store → t.spare ≡ s.spare
+pub called : (p q : Option Sitting) (s t : Sitting) (code : ℕ) (does : Sitting → Sitting → Type 0) → p ≡ Some s → q ≡ Some t → t.store ≡ s.store
+    → t.spare ≡ s.spare
     → does s t → Calls p q code does
 called p q s t code does was is store spare done =
     subst (λ r. Calls r q code does) (sym was) (subst (λ r. Calls (Some s) r code does) (sym is) (store, spare, done))

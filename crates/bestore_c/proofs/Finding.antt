@@ -1,10 +1,12 @@
 -- What a query's answer is to C.
-use Rattle.std.proofs.Common.{◌≡◌, ◌⊎◌, ℕ, List, [], ◌∷◌, ◌++◌, ◌+◌, ◌<◌, length, map, take, get_or, Option, Some, None, Result, Ok, Err, inl, inr, ap, sym, subst, ◌∙◌}
+use Rattle.std.proofs.Common.{◌≡◌, ◌⊎◌, ℕ, List, [], ◌∷◌, ◌++◌, ◌+◌, ◌<◌, length, map, take, get_or}
+use Rattle.std.proofs.Common.{Option, Some, None, Result, Ok, Err, inl, inr, ap, sym, subst, ◌∙◌}
 use Rattle.std.proofs.lemmas.List.{map_more}
 use Rattle.be_session.specs.Fault.{fault_code}
 use Rattle.be_session.specs.Sitting.{AtPin, Tells}
 use Rattle.be_session.specs.declared.faults.Fault.{Fault}
-use Rattle.be_session.specs.declared.faults.Fault.TheVariants.{NotPinned, AlreadyPinned, NoPass, BadCount, NotUtf8, NoOperation, NoKind, NoValue, BadPart, NoItem, Refused}
+use Rattle.be_session.specs.declared.faults.Fault.TheVariants.{NotPinned, AlreadyPinned, NoPass, BadCount, NotUtf8, NoOperation}
+use Rattle.be_session.specs.declared.faults.Fault.TheVariants.{NoKind, NoValue, BadPart, NoItem, Refused}
 use Rattle.be_value.specs.Refusal.{refusal_number}
 use Rattle.be_value.specs.declared.refusals.Refusal.{Refusal}
 use Rattle.be_value.specs.declared.refusals.Refusal.TheVariants.{OutOfMemory}
@@ -53,13 +55,15 @@ found_fault {X} view (Some n) (Refused why) meant places filled count code pinne
     ]
 
 -- the same of an answer that is known to be one or the other
-pub found_ok : {X : Type 0} (view : X → List ℕ) (pin : Option ℕ) (answer : Result X Fault) (x : X) (meant : Result (List ℕ) Refusal) (places filled : List ℕ) (count code : ℕ)
+pub found_ok : {X : Type 0} (view : X → List ℕ) (pin : Option ℕ) (answer : Result X Fault) (x : X) (meant : Result (List ℕ) Refusal) (places filled : List ℕ)
+    (count code : ℕ)
     → answer ≡ Ok x → AtPin pin answer (Tells view answer meant) → code ≡ 0 → count ≡ length (view x) → filled ≡ over (view x) places
     → Found pin meant places filled count code
 found_ok {X} view pin answer x meant places filled count code is pinned =
     found_nodes view pin x meant places filled count code (subst (λ (a : Result X Fault). AtPin pin a (Tells view a meant)) is pinned)
 
-pub found_err : {X : Type 0} (view : X → List ℕ) (pin : Option ℕ) (answer : Result X Fault) (e : Fault) (meant : Result (List ℕ) Refusal) (places filled : List ℕ) (count code : ℕ)
+pub found_err : {X : Type 0} (view : X → List ℕ) (pin : Option ℕ) (answer : Result X Fault) (e : Fault) (meant : Result (List ℕ) Refusal)
+    (places filled : List ℕ) (count code : ℕ)
     → answer ≡ Err e → AtPin pin answer (Tells view answer meant) → code ≡ fault_code e → Found pin meant places filled count code
 found_err {X} view pin answer e meant places filled count code is pinned =
     found_fault view pin e meant places filled count code (subst (λ (a : Result X Fault). AtPin pin a (Tells view a meant)) is pinned)

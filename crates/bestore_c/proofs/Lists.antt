@@ -4,7 +4,8 @@ use Rattle.be_session.specs.Fault.{fault_code}
 use Rattle.be_session.specs.Operations.{AreSpelled}
 use Rattle.be_session.specs.Sitting.{AtPin, Tells}
 use Rattle.be_session.specs.declared.faults.Fault.{Fault}
-use Rattle.be_session.specs.declared.faults.Fault.TheVariants.{NotPinned, AlreadyPinned, NoPass, BadCount, NotUtf8, NoOperation, NoKind, NoValue, BadPart, NoItem, Refused}
+use Rattle.be_session.specs.declared.faults.Fault.TheVariants.{NotPinned, AlreadyPinned, NoPass, BadCount, NotUtf8, NoOperation}
+use Rattle.be_session.specs.declared.faults.Fault.TheVariants.{NoKind, NoValue, BadPart, NoItem, Refused}
 use Rattle.be_session.specs.declared.lists.Operation.{Operation}
 use Rattle.be_value.specs.Refusal.{refusal_number}
 use Rattle.be_value.specs.declared.refusals.Refusal.{Refusal}
@@ -42,7 +43,8 @@ module _ {A X : Type 0} (makes : A → Op) (view : X → List A) (counts : Count
   told_as None x meant pinned out = cc
   told_as (Some n) x meant pinned out = subst (λ m. Told (Some n) m) (sym pinned) out
 
-  fault_as : (pin : Option ℕ) (e : Fault) (meant : Result (List A) Refusal) → AtPin {X = X} pin (Err e) (Tells view (Err e) meant) → code ≡ fault_code e → Told pin meant
+  fault_as : (pin : Option ℕ) (e : Fault) (meant : Result (List A) Refusal) → AtPin {X = X} pin (Err e) (Tells view (Err e) meant) → code ≡ fault_code e
+      → Told pin meant
   fault_as None e meant pinned is = is ∙ ap (λ (r : Result X Fault). fault_code (fault_in r)) pinned
   fault_as (Some n) NotPinned meant pinned is = absurd pinned
   fault_as (Some n) AlreadyPinned meant pinned is = absurd pinned
@@ -68,7 +70,8 @@ module _ {A X : Type 0} (makes : A → Op) (view : X → List A) (counts : Count
       told_as pin x meant (subst (λ (a : Result X Fault). AtPin pin a (Tells view a meant)) is pinned)
       (subst (λ (l : List A). IsPutOut (map makes l) counts places filled byte_places bytes code) same out)
 
-  pub listed_err : (pin : Option ℕ) (answer : Result X Fault) (e : Fault) (meant : Result (List A) Refusal) → answer ≡ Err e → AtPin pin answer (Tells view answer meant)
+  pub listed_err : (pin : Option ℕ) (answer : Result X Fault) (e : Fault) (meant : Result (List A) Refusal) → answer ≡ Err e
+      → AtPin pin answer (Tells view answer meant)
       → code ≡ fault_code e → Told pin meant
   listed_err pin answer e meant is pinned =
       fault_as pin e meant (subst (λ (a : Result X Fault). AtPin pin a (Tells view a meant)) is pinned)

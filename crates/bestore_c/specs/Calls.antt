@@ -1,22 +1,26 @@
 -- What calls make of handles.
 use Rattle.std.specs.Prelude.{◌≡◌, ◌⊎◌, ℕ, ◌+◌, List, length, map, Option, None, Some, Ok, Err}
 use Rattle.std.specs.declared.result.Result.{Result}
+use Rattle.be_journal.specs.Journal.{IsLegal}
 use Rattle.be_query.specs.Grammar.{Formula, IsTextOf}
 use Rattle.be_session.specs.Fault.{fault_code}
 use Rattle.be_session.specs.Items.{IsBuilt, IsUnbuilt}
 use Rattle.be_session.specs.Meaning.{IsNoName, IsValueMeant}
 use Rattle.be_session.specs.Operations.{AreMeant, AreSpelled, IsMisspelt}
 use Rattle.be_session.specs.Explained.{explained_in}
-use Rattle.be_session.specs.Sitting.{IsHeldBack, IsNoQuery, IsOpened, Sitting}
+use Rattle.be_session.specs.Prepared.{IsUnasked, PreparedQuery}
+use Rattle.be_session.specs.Sitting.{IsNoQuery, IsOpened, IsUnrefreshed, Sitting}
 use Rattle.be_session.specs.declared.faults.Fault.{Fault}
 use Rattle.be_session.specs.declared.items.PredicateItem.{PredicateItem}
 use Rattle.be_session.specs.declared.lists.Operation.{Operation}
-use Rattle.be_store.specs.History.{Accepts}
-use Rattle.be_store.specs.Passes.{HasRead, volume_pinned}
-use Rattle.be_table.specs.Rule.{IsWithin, newcomer}
+use Rattle.be_store.specs.History.{Accepts, IsUntold, Learns, text_seen}
+use Rattle.be_store.specs.Live.{Refreshes}
+use Rattle.be_store.specs.Passes.{HasRead, IsPinnedTo, volume_pinned}
+use Rattle.be_table.specs.Rule.{IsWithin, entries, newcomer}
 use Rattle.be_table.specs.Seats.{pinned_number}
 use Rattle.be_table.specs.Works.{IsUnopened}
 use Rattle.be_table.specs.declared.limits.Limits.{Limits}
+use Rattle.be_table.specs.declared.pass.Knowledge.{Knowledge}
 use Rattle.be_value.specs.Refusal.{refusal_number}
 use Rattle.be_value.specs.declared.refusals.Refusal.{Refusal}
 use Rattle.be_value.specs.declared.values.Value.{Value}
@@ -27,8 +31,10 @@ use Rattle.be_volume.specs.declared.ops.Op.{Op}
 use Rattle.bestore_c.specs.Places.{node_of, over}
 use Rattle.bestore_c.specs.declared.handle.Attribute.{Attribute}
 use Rattle.bestore_c.specs.declared.handle.Counts.{Counts}
+use Rattle.bestore_c.specs.declared.handle.UpdateCounts.{UpdateCounts}
 
--- A call of a handle that is closed leaves it closed and answers 64. One of a handle that is open leaves it open with a session of the same store, with which as many passes wait, and what it makes of its session is this.
+-- A call of a handle that is closed leaves it closed and answers 64. One of a handle that is open leaves it open with a session
+-- of the same store, with which as many passes wait, and what it makes of its session is this.
 abbrev pub Calls : Option Sitting → Option Sitting → ℕ → (Sitting → Sitting → Type 0) → Type 0
 Calls None None code does = code ≡ 64
 Calls None (Some t) code does = ⊥
@@ -36,18 +42,20 @@ Calls (Some s) None code does = ⊥
 Calls (Some s) (Some t) code does = (t.store ≡ s.store) × (t.spare ≡ s.spare) × does s t
 
 -- 64 of a handle that is closed, and 0 of one that is open
-abbrev pub Answers : Option Sitting → ℕ → Type 0
+abbrev pub Answers : {A : Type 0} → Option A → ℕ → Type 0
 Answers None code = code ≡ 64
 Answers (Some s) code = code ≡ 0
 
--- Opening: an open handle stays as it was and answers 65; a closed one holds a session that has just opened a store with these limits, or stays closed where the store says why, or where memory was refused.
+-- Opening: an open handle stays as it was and answers 65; a closed one holds a session that has just opened a store with these
+-- limits, or stays closed where the store says why, or where memory was refused.
 abbrev pub Opens : Limits → Option Sitting → Option Sitting → ℕ → Type 0
 Opens limits (Some s) (Some t) code = (code ≡ 65) × (t ≡ s)
 Opens limits (Some s) None code = ⊥
 Opens limits None (Some t) code = (code ≡ 0) × IsOpened limits t
 Opens limits None None code = ((code ≡ 10) × IsWithin limits) ⊎ ((why : Refusal) × (code ≡ refusal_number why) × IsUnopened limits why)
 
--- A second handle: one that is open stays as it was, and the answer is 65; a closed one gets a session of the same store with the last pass that waits, which has seen and written nothing; 68 where none waits, and 10 where memory was refused.
+-- A second handle: one that is open stays as it was, and the answer is 65; a closed one gets a session of the same store with
+-- the last pass that waits, which has seen and written nothing; 68 where none waits, and 10 where memory was refused.
 abbrev pub Gives : Sitting → Sitting → Option Sitting → Option Sitting → ℕ → Type 0
 Gives s t (Some o) (Some p) code = (code ≡ 65) × (p ≡ o) × (t ≡ s)
 Gives s t (Some o) None code = ⊥
@@ -62,21 +70,24 @@ GivesAnother None (Some t) o p code = ⊥
 GivesAnother (Some s) None o p code = ⊥
 GivesAnother (Some s) (Some t) o p code = (t.store ≡ s.store) × Gives s t o p code
 
--- A handle is moved: what it holds goes to one that is closed, and it is closed then; 65 where the other is open, and 64 where it holds nothing.
+-- A handle is moved: what it holds goes to one that is closed, and it is closed then; 65 where the other is open, and 64 where
+-- it holds nothing.
 abbrev pub Moves : Option Sitting → Option Sitting → Option Sitting → Option Sitting → ℕ → Type 0
 Moves None o from to code = (code ≡ 64) × (from ≡ None) × (to ≡ o)
 Moves (Some s) (Some o) from to code = (code ≡ 65) × (from ≡ Some s) × (to ≡ Some o)
 Moves (Some s) None from to code = (code ≡ 0) × (from ≡ None) × (to ≡ Some s)
 
--- A write: what is spelled is misspelt, and then nothing has happened; or it means operations, which the session accepted, and the numbers of the new nodes and the length of the journal are put out, or which it held back.
-abbrev pub Writes : Sitting → Sitting → List Operation → List ℕ → List ℕ → List ℕ → ℕ → ℕ → Type 0
-Writes s t spelled bytes places filled entries code =
+-- A write: what is spelled is misspelt, and then nothing has happened; or it means operations, which the session accepted, and
+-- the numbers of the new nodes and the length of the journal are put out, or which it held back, for a reason of this kind.
+abbrev pub Writes : (Knowledge → Knowledge → List Op → Fault → Type 0) → Sitting → Sitting → List Operation → List ℕ → List ℕ → List ℕ → ℕ → ℕ → Type 0
+Writes is_held_back s t spelled bytes places filled entries code =
     ((e : Fault) × (code ≡ fault_code e) × IsMisspelt spelled bytes e × (t ≡ s))
     ⊎ ((ops : List Op) × AreMeant spelled bytes ops ×
     (((code ≡ 0) × (dones : List Done) × Accepts s.knows t.knows ops entries dones × (filled ≡ over (map node_of dones) places))
-    ⊎ ((e : Fault) × (code ≡ fault_code e) × IsHeldBack s.knows t.knows ops e)))
+    ⊎ ((e : Fault) × (code ≡ fault_code e) × is_held_back s.knows t.knows ops e)))
 
--- What a version answers, a list of nodes or of a text's bytes: how many they are, and as many of them as there are places; or why there is no answer.
+-- What a version answers, a list of nodes or of a text's bytes: how many they are, and as many of them as there are places; or
+-- why there is no answer.
 abbrev pub Scanned : Result (List ℕ) Refusal → List ℕ → List ℕ → ℕ → ℕ → Type 0
 Scanned (Ok nodes) places filled count code = (code ≡ 0) × (count ≡ length nodes) × (filled ≡ over nodes places)
 Scanned (Err why) places filled count code = code ≡ refusal_number why
@@ -93,7 +104,8 @@ Finds s t text places filled count code =
     ⊎ ((query : Formula) × IsTextOf text query × HasRead s.knows t.knows
     × Found (pinned_number s.knows.phase) (scan (volume_pinned s.knows) query) places filled count code)
 
--- What a query would be answered from, by its text: the bytes are no query, and then nothing has happened; or they are one, and what is said of it is put out.
+-- What a query would be answered from, by its text: the bytes are no query, and then nothing has happened; or they are one, and
+-- what is said of it is put out.
 abbrev pub Explains : Sitting → Sitting → List ℕ → List ℕ → List ℕ → ℕ → ℕ → Type 0
 Explains s t text places filled count code =
     ((e : Fault) × (code ≡ fault_code e) × IsNoQuery text e × (t ≡ s))
@@ -107,7 +119,8 @@ FindsBuilt s t spelled bytes places filled count code =
     ⊎ ((query : Formula) × IsBuilt spelled bytes query × HasRead s.knows t.knows
     × Found (pinned_number s.knows.phase) (scan (volume_pinned s.knows) query) places filled count code)
 
--- what is there in the pinned version, if there is a pin: its type code, number and length are told, and as many of its bytes as there are places
+-- what is there in the pinned version, if there is a pin: its type code, number and length are told, and as many of its bytes
+-- as there are places
 abbrev pub Shown : Option ℕ → Option Value → Attribute → List ℕ → List ℕ → ℕ → Type 0
 Shown None found told places filled code = code ≡ 66
 Shown (Some n) None told places filled code = code ≡ 3
@@ -120,7 +133,8 @@ Reads s t node name told places filled code =
     ((e : Fault) × (code ≡ fault_code e) × IsNoName name e × (t ≡ s))
     ⊎ (HasRead s.knows t.knows × Shown (pinned_number s.knows.phase) (attribute (volume_pinned s.knows) node name) told places filled code)
 
--- A list is put out as these operations: how many there are in a spelling of them, with how many bytes, and of both as many as there are places; or memory was refused.
+-- A list is put out as these operations: how many there are in a spelling of them, with how many bytes, and of both as many as
+-- there are places; or memory was refused.
 abbrev pub IsPutOut : List Op → Counts → List Operation → List Operation → List ℕ → List ℕ → ℕ → Type 0
 IsPutOut ops counts places filled byte_places bytes code =
     (code ≡ 10)
@@ -132,3 +146,47 @@ abbrev pub Listed : {A : Type 0} → (A → Op) → Option ℕ → Result (List 
 Listed makes None meant counts places filled byte_places bytes code = code ≡ 66
 Listed makes (Some n) (Err why) counts places filled byte_places bytes code = (code ≡ 10) ⊎ (code ≡ refusal_number why)
 Listed makes (Some n) (Ok list) counts places filled byte_places bytes code = IsPutOut (map makes list) counts places filled byte_places bytes code
+
+-- A query is prepared: an open handle stays as it was and answers 65; a closed one holds a query that is meant here and was
+-- never refreshed, or stays closed where this fault says why.
+abbrev pub Prepares : (Formula → Type 0) → (Fault → Type 0) → Option PreparedQuery → Option PreparedQuery → ℕ → Type 0
+Prepares is_meant is_fault (Some p) (Some q) code = (code ≡ 65) × (q ≡ p)
+Prepares is_meant is_fault (Some p) None code = ⊥
+Prepares is_meant is_fault None (Some q) code = (code ≡ 0) × (query : Formula) × is_meant query × IsUnasked query q
+Prepares is_meant is_fault None None code = (e : Fault) × (code ≡ fault_code e) × is_fault e
+
+-- A prepared query: its handle is closed, and then nothing has happened; or its answer in the pinned version is put out.
+abbrev pub FindsPrepared : Sitting → Sitting → Option PreparedQuery → List ℕ → List ℕ → ℕ → ℕ → Type 0
+FindsPrepared s t None places filled count code = (code ≡ 64) × (t ≡ s)
+FindsPrepared s t (Some p) places filled count code =
+    HasRead s.knows t.knows × Found (pinned_number s.knows.phase) (scan (volume_pinned s.knows) p.live.query) places filled count code
+
+-- A query was asked in the pinned version, and keeps which nodes came and which went: how many these are is told; or it stays
+-- as it was.
+abbrev pub Refreshed : Sitting → PreparedQuery → PreparedQuery → UpdateCounts → ℕ → Type 0
+Refreshed s p q counts code =
+    ((code ≡ 0) × (n : ℕ) × IsPinnedTo s.knows n × Refreshes (volume_pinned s.knows) p.live q.live q.came q.went
+    × (counts.created ≡ length q.came) × (counts.removed ≡ length q.went))
+    ⊎ ((e : Fault) × (code ≡ fault_code e) × (q ≡ p) × IsUnrefreshed (pinned_number s.knows.phase) (scan (volume_pinned s.knows) p.live.query) e)
+
+-- A refresh of a prepared query: its handle is closed and stays so, and then nothing has happened; or it stays open, and is
+-- refreshed.
+abbrev pub RefreshesPrepared : Sitting → Sitting → Option PreparedQuery → Option PreparedQuery → UpdateCounts → ℕ → Type 0
+RefreshesPrepared s t None None counts code = (code ≡ 64) × (t ≡ s)
+RefreshesPrepared s t None (Some q) counts code = ⊥
+RefreshesPrepared s t (Some p) None counts code = ⊥
+RefreshesPrepared s t (Some p) (Some q) counts code = HasRead s.knows t.knows × Refreshed s p q counts code
+
+-- What came and what went at the last refresh is put out, of both as many as there are places.
+abbrev pub ShowsChanges : Option PreparedQuery → List ℕ → List ℕ → List ℕ → List ℕ → ℕ → Type 0
+ShowsChanges None created_places created removed_places removed code = code ≡ 64
+ShowsChanges (Some p) created_places created removed_places removed code =
+    (code ≡ 0) × (created ≡ over p.came created_places) × (removed ≡ over p.went removed_places)
+
+-- The journal, as far as the pass has then seen it, is legal, and its text is told: how many bytes it has, and as many of them
+-- as there are places; or why it isn't told.
+abbrev pub TellsJournal : Sitting → Sitting → List ℕ → List ℕ → ℕ → ℕ → Type 0
+TellsJournal s t places filled count code =
+    Learns s.knows t.knows × IsLegal (entries t.knows.seen)
+    × (((code ≡ 0) × (count ≡ length (text_seen t.knows)) × (filled ≡ over (text_seen t.knows) places))
+    ⊎ ((why : Refusal) × (code ≡ refusal_number why) × IsUntold s.knows t.knows why))

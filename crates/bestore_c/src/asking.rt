@@ -1,19 +1,26 @@
-//! What a query answered, or what is said of it, put out.
+//! What a query answered, or what is said of it, put out; and queries that are prepared.
 ghost use Rattle.std.specs.Prelude.{◌≡◌, ◌⊎◌, ℕ, List, length, string_bytes};
 ghost use Rattle.std.specs.declared.option.Option.{Option as AnyOption};
 ghost use Rattle.std.specs.declared.result.Result.{Result as AnyResult};
 ghost use Rattle.be_session.specs.Sitting.{AtPin, Tells};
+ghost use Rattle.be_store.specs.Passes.{HasRead, volume_pinned};
+ghost use Rattle.be_table.specs.Seats.{pinned_number};
 ghost use Rattle.be_value.specs.declared.refusals.Refusal.{Refusal as AnyRefusal};
-ghost use Rattle.bestore_c.specs.Calls.{Found};
+ghost use Rattle.be_volume.specs.Query.{scan};
+ghost use Rattle.bestore_c.specs.Calls.{Found, Refreshed};
 ghost use Rattle.bestore_c.specs.Places.{over};
 
+use crate::handle::UpdateCounts;
 use crate::places::put;
-use be_session::Fault;
+use be_session::{Fault, Prepared, Session};
+use std::alloc::Global;
 
 /// Puts out how many nodes a session found, and as many of them as there is room for. What that says of the version is known of
 /// what the session told.
 pub(crate) fn tell(answer: Result<Vec<u64>, Fault>, nodes: &mut [u64], count: &mut u64) -> u32
-    ensures found { (pin : AnyOption ℕ) (meant : AnyResult (List ℕ) AnyRefusal) → AtPin pin answer (Tells (λ found. found.items) answer meant) → Found pin meant nodes.old nodes.new count.new result }
+    ensures found { (pin : AnyOption ℕ) (meant : AnyResult (List ℕ) AnyRefusal)
+        → AtPin pin answer (Tells (λ found. found.items) answer meant)
+        → Found pin meant nodes.old nodes.new count.new result }
     ensures kept { (result ≡ 0) ⊎ ((count.new ≡ count.old) × (nodes.new ≡ nodes.old)) }
 {
     match answer {
@@ -26,7 +33,8 @@ pub(crate) fn tell(answer: Result<Vec<u64>, Fault>, nodes: &mut [u64], count: &m
     }
 }
 
-fn put_text(text: &str, bytes: &mut [u8], count: &mut u64)
+/// Puts out how many bytes a text has, and as many of them as there is room for.
+pub(crate) fn put_text(text: &str, bytes: &mut [u8], count: &mut u64)
     ensures count { count.new ≡ length text.now }
     ensures bytes { bytes.new ≡ over text.now bytes.old }
 {
@@ -36,12 +44,55 @@ fn put_text(text: &str, bytes: &mut [u8], count: &mut u64)
 
 /// Puts out how many bytes a text of a session's has, and as many of them as there is room for; else as `tell`.
 pub(crate) fn tell_text(answer: Result<String, Fault>, bytes: &mut [u8], count: &mut u64) -> u32
-    ensures found { (pin : AnyOption ℕ) (meant : AnyResult (List ℕ) AnyRefusal) → AtPin pin answer (Tells string_bytes answer meant) → Found pin meant bytes.old bytes.new count.new result }
+    ensures found { (pin : AnyOption ℕ) (meant : AnyResult (List ℕ) AnyRefusal)
+        → AtPin pin answer (Tells string_bytes answer meant)
+        → Found pin meant bytes.old bytes.new count.new result }
     ensures kept { (result ≡ 0) ⊎ ((count.new ≡ count.old) × (bytes.new ≡ bytes.old)) }
 {
     match answer {
         Ok(text) => {
             put_text(text.as_str(), bytes, count);
+            0
+        }
+        Err(fault) => fault.code(),
+    }
+}
+
+/// Asks a prepared query in the session's pinned version, and puts out what `tell` does.
+pub(crate) fn find_prepared(
+    alloc: Global,
+    session: &mut Session,
+    prepared: &Prepared,
+    nodes: &mut [u64],
+    count: &mut u64,
+) -> u32
+    ensures store { (session.new.store ≡ session.old.store) × (session.new.spare ≡ session.old.spare) }
+    ensures read { HasRead session.old.knows session.new.knows }
+    ensures found { Found (pinned_number session.old.knows.phase) (scan (volume_pinned session.old.knows) prepared.now.live.query)
+        nodes.old nodes.new count.new result }
+    ensures kept { (result ≡ 0) ⊎ ((count.new ≡ count.old) × (nodes.new ≡ nodes.old)) }
+{
+    let answer = prepared.find(alloc, session);
+    tell(answer, nodes, count)
+}
+
+/// Refreshes a prepared query in the session's pinned version, and puts out how many nodes came and how many went.
+pub(crate) fn refresh_prepared(
+    session: &mut Session,
+    prepared: &mut Prepared,
+    counts: &mut UpdateCounts,
+) -> u32
+    ensures store { (session.new.store ≡ session.old.store) × (session.new.spare ≡ session.old.spare) }
+    ensures read { HasRead session.old.knows session.new.knows }
+    ensures refreshed { Refreshed session.old prepared.old prepared.new counts.new result }
+    ensures kept { (result ≡ 0) ⊎ ((counts.new ≡ counts.old) × (prepared.new ≡ prepared.old)) }
+{
+    match prepared.refresh(session) {
+        Ok(()) => {
+            *counts = UpdateCounts {
+                created: prepared.created().len() as u64,
+                removed: prepared.removed().len() as u64,
+            };
             0
         }
         Err(fault) => fault.code(),

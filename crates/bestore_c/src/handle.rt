@@ -3,6 +3,7 @@ ghost use Rattle.std.specs.Prelude.{◌≡◌};
 ghost use Rattle.bestore_c.specs.Owned.{holds};
 
 use crate::owned::Owned;
+use crate::owned_query::OwnedQuery;
 
 /// What C holds for one pass: closed, or open with a session. Zero bytes are a closed one.
 #[repr(C)]
@@ -10,6 +11,15 @@ use crate::owned::Owned;
 pub struct Handle {
     pub live: bool,
     pub owned: Owned,
+    ghost full: { live ≡ holds owned.value },
+}
+
+/// What C holds of a query that is parsed once and kept: closed, or open with the query. Zero bytes are a closed one.
+#[repr(C)]
+#[derive(Drop)]
+pub struct PreparedHandle {
+    pub live: bool,
+    pub owned: OwnedQuery,
     ghost full: { live ≡ holds owned.value },
 }
 
@@ -29,4 +39,12 @@ pub struct Attribute {
 pub struct Counts {
     pub operations: u64,
     pub bytes: u64,
+}
+
+/// How many nodes came at a refresh, and how many went.
+#[repr(C)]
+#[derive(Clone, Copy)]
+pub struct UpdateCounts {
+    pub created: u64,
+    pub removed: u64,
 }

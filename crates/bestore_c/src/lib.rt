@@ -4,32 +4,39 @@
 //! of a fault, or 64 and 65, which are the handle's own. None has a `requires`.
 #![tactic(auto)]
 
-ghost use Rattle.std.specs.Prelude.{◌≡◌, ◌⊎◌, None, Ok};
+ghost use Rattle.std.specs.Prelude.{◌≡◌, ◌⊎◌, ◌+◌, None, Ok};
+ghost use Rattle.be_query.specs.Grammar.{IsTextOf};
+ghost use Rattle.be_session.specs.Items.{IsBuilt, IsUnbuilt};
 ghost use Rattle.be_session.specs.Operations.{makes, sets};
+ghost use Rattle.be_session.specs.Sitting.{IsHeldBack, IsHeldBackAtLast, IsNoQuery};
 ghost use Rattle.be_store.specs.History.{Pins};
 ghost use Rattle.be_store.specs.Passes.{HasRead, volume_pinned};
 ghost use Rattle.be_table.specs.Seats.{pinned_number};
 ghost use Rattle.be_table.specs.Steps.{unpins};
 ghost use Rattle.be_volume.specs.Reading.{attributes_at, index_kinds};
-ghost use Rattle.bestore_c.specs.Calls.{Answers, Calls, Explains, Finds, FindsBuilt, GivesAnother, Listed, Moves, Opens, Reads, Writes};
+ghost use Rattle.bestore_c.specs.Calls.{Answers, Calls, Explains, Finds, FindsBuilt, FindsPrepared, GivesAnother, Listed, Moves, Opens};
+ghost use Rattle.bestore_c.specs.Calls.{Prepares, Reads, RefreshesPrepared, ShowsChanges, TellsJournal, Writes};
 
 mod asking;
 mod handle;
 mod listing;
 mod loose;
 mod owned;
+mod owned_query;
 mod places;
 #[cfg(test)]
 mod tests;
 
-use asking::{tell, tell_text};
+use asking::{find_prepared, put_text, refresh_prepared, tell, tell_text};
 use be_session::{
-    Operation, PredicateItem, Session, name, operations, query_of, query_of_items, spelled,
+    Operation, PredicateItem, Session, name, operations, prepare, prepare_items, query_of,
+    query_of_items, spelled,
 };
 use be_store::Limits;
-use handle::{Attribute, Counts, Handle};
+use handle::{Attribute, Counts, Handle, PreparedHandle, UpdateCounts};
 use listing::{tell_attributes, tell_indices};
 use owned::Owned;
+use owned_query::OwnedQuery;
 use places::{nodes_of, put};
 use std::alloc::Global;
 use std::mem;
@@ -147,7 +154,8 @@ pub extern "C" fn bes_close(alloc: Global, pass: &mut Handle) -> u32
 /// Pins the current version, and puts out its number.
 #[unsafe(no_mangle)]
 pub extern "C" fn bes_pin(alloc: Global, pass: &mut Handle, number: &mut u64) -> u32
-    ensures pass { Calls pass.old.owned.value pass.new.owned.value result (λ s t. ((result ≡ 0) × Pins s.knows t.knows number.new) ⊎ ((result ≡ 67) × (t ≡ s))) }
+    ensures pass { Calls pass.old.owned.value pass.new.owned.value result
+        (λ s t. ((result ≡ 0) × Pins s.knows t.knows number.new) ⊎ ((result ≡ 67) × (t ≡ s))) }
     ensures kept { (result ≡ 0) ⊎ (number.new ≡ number.old) }
 {
     if !pass.live {
@@ -193,7 +201,8 @@ pub extern "C" fn bes_apply(
     made: &mut [u64],
     entries: &mut u64,
 ) -> u32
-    ensures pass { Calls pass.old.owned.value pass.new.owned.value result (λ s t. Writes s t spelled.now bytes.now made.old made.new entries.new result) }
+    ensures pass { Calls pass.old.owned.value pass.new.owned.value result
+        (λ s t. Writes IsHeldBack s t spelled.now bytes.now made.old made.new entries.new result) }
     ensures kept { (result ≡ 0) ⊎ ((entries.new ≡ entries.old) × (made.new ≡ made.old)) }
 {
     if !pass.live {
@@ -209,6 +218,41 @@ pub extern "C" fn bes_apply(
     match answer {
         Ok((length, dones)) => {
             *entries = length;
+            put(made, nodes_of(&dones).as_slice());
+            DONE
+        }
+        Err(fault) => fault.code(),
+    }
+}
+
+/// Writes as `bes_apply` does, and tries again while another pass is writing, so many times at most after the first.
+#[unsafe(no_mangle)]
+pub extern "C" fn bes_apply_or_retry(
+    alloc: Global,
+    pass: &mut Handle,
+    spelled: &[Operation],
+    bytes: &[u8],
+    retries: u32,
+    made: &mut [u64],
+    entries: &mut u64,
+) -> u32
+    ensures pass { Calls pass.old.owned.value pass.new.owned.value result
+        (λ s t. Writes (IsHeldBackAtLast (retries + 1)) s t spelled.now bytes.now made.old made.new entries.new result) }
+    ensures kept { (result ≡ 0) ⊎ ((entries.new ≡ entries.old) × (made.new ≡ made.old)) }
+{
+    if !pass.live {
+        return CLOSED;
+    }
+    let ops = match operations(alloc, spelled, bytes) {
+        Ok(ops) => ops,
+        Err(fault) => return fault.code(),
+    };
+    let mut session = mem::replace(&mut pass.owned, Owned::none(alloc)).into_box();
+    let answer = session.apply_or_retry(ops.as_slice(), retries);
+    pass.owned = Owned::of(session);
+    match answer {
+        Ok((written, dones)) => {
+            *entries = written;
             put(made, nodes_of(&dones).as_slice());
             DONE
         }
@@ -258,12 +302,12 @@ pub extern "C" fn bes_query_items(
     if !pass.live {
         return CLOSED;
     }
-    let query = match query_of_items(alloc, spelled, bytes) {
+    let built = match query_of_items(alloc, spelled, bytes) {
         Ok(query) => query,
         Err(fault) => return fault.code(),
     };
     let mut session = mem::replace(&mut pass.owned, Owned::none(alloc)).into_box();
-    let answer = session.query(alloc, &query);
+    let answer = session.query(alloc, &built);
     pass.owned = Owned::of(session);
     tell(answer, nodes, count)
 }
@@ -345,7 +389,9 @@ pub extern "C" fn bes_attributes(
     listed: &mut [Operation],
     bytes: &mut [u8],
 ) -> u32
-    ensures pass { Calls pass.old.owned.value pass.new.owned.value result (λ s t. HasRead s.knows t.knows × Listed (sets node) (pinned_number s.knows.phase) (attributes_at (volume_pinned s.knows) node) counts.new listed.old listed.new bytes.old bytes.new result) }
+    ensures pass { Calls pass.old.owned.value pass.new.owned.value result
+        (λ s t. HasRead s.knows t.knows × Listed (sets node) (pinned_number s.knows.phase)
+        (attributes_at (volume_pinned s.knows) node) counts.new listed.old listed.new bytes.old bytes.new result) }
     ensures kept { (result ≡ 0) ⊎ ((counts.new ≡ counts.old) × (listed.new ≡ listed.old) × (bytes.new ≡ bytes.old)) }
 {
     if !pass.live {
@@ -366,7 +412,9 @@ pub extern "C" fn bes_indices(
     listed: &mut [Operation],
     bytes: &mut [u8],
 ) -> u32
-    ensures pass { Calls pass.old.owned.value pass.new.owned.value result (λ s t. HasRead s.knows t.knows × Listed makes (pinned_number s.knows.phase) (Ok (index_kinds (volume_pinned s.knows))) counts.new listed.old listed.new bytes.old bytes.new result) }
+    ensures pass { Calls pass.old.owned.value pass.new.owned.value result
+        (λ s t. HasRead s.knows t.knows × Listed makes (pinned_number s.knows.phase)
+        (Ok (index_kinds (volume_pinned s.knows))) counts.new listed.old listed.new bytes.old bytes.new result) }
     ensures kept { (result ≡ 0) ⊎ ((counts.new ≡ counts.old) × (listed.new ≡ listed.old) × (bytes.new ≡ bytes.old)) }
 {
     if !pass.live {
@@ -376,4 +424,168 @@ pub extern "C" fn bes_indices(
     let answer = session.indices(alloc);
     pass.owned = Owned::of(session);
     tell_indices(alloc, answer, counts, listed, bytes)
+}
+
+/// Parses the query of this text, and opens the handle with it.
+#[unsafe(no_mangle)]
+pub extern "C" fn bes_prepare(alloc: Global, text: &[u8], prepared: &mut PreparedHandle) -> u32
+    ensures { Prepares (IsTextOf text.now) (IsNoQuery text.now) prepared.old.owned.value prepared.new.owned.value result }
+{
+    if prepared.live {
+        return OPEN;
+    }
+    match prepare(alloc, text) {
+        Ok(query) => {
+            *prepared = PreparedHandle {
+                live: true,
+                owned: OwnedQuery::of(query),
+            };
+            DONE
+        }
+        Err(fault) => fault.code(),
+    }
+}
+
+/// Opens the handle with the query that items in reverse Polish order build.
+#[unsafe(no_mangle)]
+pub extern "C" fn bes_prepare_items(
+    alloc: Global,
+    spelled: &[PredicateItem],
+    bytes: &[u8],
+    prepared: &mut PreparedHandle,
+) -> u32
+    ensures { Prepares (IsBuilt spelled.now bytes.now) (IsUnbuilt spelled.now bytes.now) prepared.old.owned.value prepared.new.owned.value result }
+{
+    if prepared.live {
+        return OPEN;
+    }
+    match prepare_items(alloc, spelled, bytes) {
+        Ok(query) => {
+            *prepared = PreparedHandle {
+                live: true,
+                owned: OwnedQuery::of(query),
+            };
+            DONE
+        }
+        Err(fault) => fault.code(),
+    }
+}
+
+/// Closes the handle of a prepared query.
+#[unsafe(no_mangle)]
+pub extern "C" fn bes_release(alloc: Global, prepared: &mut PreparedHandle) -> u32
+    ensures closed { prepared.new.owned.value ≡ None }
+    ensures answer { Answers prepared.old.owned.value result }
+{
+    if !prepared.live {
+        return CLOSED;
+    }
+    let query = mem::replace(&mut prepared.owned, OwnedQuery::none(alloc)).into_box();
+    prepared.live = false;
+    drop(query);
+    DONE
+}
+
+/// Asks a prepared query in the pinned version, as `bes_query` does. What its last refresh found stays.
+#[unsafe(no_mangle)]
+pub extern "C" fn bes_query_prepared(
+    alloc: Global,
+    pass: &mut Handle,
+    prepared: &mut PreparedHandle,
+    nodes: &mut [u64],
+    count: &mut u64,
+) -> u32
+    ensures pass { Calls pass.old.owned.value pass.new.owned.value result
+        (λ s t. FindsPrepared s t prepared.old.owned.value nodes.old nodes.new count.new result) }
+    ensures prepared { prepared.new.owned.value ≡ prepared.old.owned.value }
+    ensures kept { (result ≡ 0) ⊎ ((count.new ≡ count.old) × (nodes.new ≡ nodes.old)) }
+{
+    if !pass.live {
+        return CLOSED;
+    }
+    if !prepared.live {
+        return CLOSED;
+    }
+    let mut session = mem::replace(&mut pass.owned, Owned::none(alloc)).into_box();
+    let query = mem::replace(&mut prepared.owned, OwnedQuery::none(alloc)).into_box();
+    let code = find_prepared(alloc, &mut *session, &*query, nodes, count);
+    pass.owned = Owned::of(session);
+    prepared.owned = OwnedQuery::of(query);
+    code
+}
+
+/// Refreshes a prepared query in the pinned version. Puts out how many nodes came since its last refresh, and how many went;
+/// `bes_changes` tells which.
+#[unsafe(no_mangle)]
+pub extern "C" fn bes_refresh(
+    alloc: Global,
+    pass: &mut Handle,
+    prepared: &mut PreparedHandle,
+    counts: &mut UpdateCounts,
+) -> u32
+    ensures pass { Calls pass.old.owned.value pass.new.owned.value result
+        (λ s t. RefreshesPrepared s t prepared.old.owned.value prepared.new.owned.value counts.new result) }
+    ensures kept { (result ≡ 0) ⊎ ((counts.new ≡ counts.old) × (prepared.new.owned.value ≡ prepared.old.owned.value)) }
+{
+    if !pass.live {
+        return CLOSED;
+    }
+    if !prepared.live {
+        return CLOSED;
+    }
+    let mut session = mem::replace(&mut pass.owned, Owned::none(alloc)).into_box();
+    let mut query = mem::replace(&mut prepared.owned, OwnedQuery::none(alloc)).into_box();
+    let code = refresh_prepared(&mut *session, &mut *query, counts);
+    pass.owned = Owned::of(session);
+    prepared.owned = OwnedQuery::of(query);
+    code
+}
+
+/// Puts out the nodes that came at the last refresh of a prepared query, and those that went, of both as many as there is room
+/// for.
+#[unsafe(no_mangle)]
+pub extern "C" fn bes_changes(
+    alloc: Global,
+    prepared: &mut PreparedHandle,
+    created: &mut [u64],
+    removed: &mut [u64],
+) -> u32
+    ensures prepared { prepared.new.owned.value ≡ prepared.old.owned.value }
+    ensures changes { ShowsChanges prepared.old.owned.value created.old created.new removed.old removed.new result }
+    ensures kept { (result ≡ 0) ⊎ ((created.new ≡ created.old) × (removed.new ≡ removed.old)) }
+{
+    if !prepared.live {
+        return CLOSED;
+    }
+    let query = mem::replace(&mut prepared.owned, OwnedQuery::none(alloc)).into_box();
+    put(created, query.created());
+    put(removed, query.removed());
+    prepared.owned = OwnedQuery::of(query);
+    DONE
+}
+
+/// Tells the journal's text up to now. Puts out how many bytes it has, and as many of them as there is room for.
+#[unsafe(no_mangle)]
+pub extern "C" fn bes_journal(
+    alloc: Global,
+    pass: &mut Handle,
+    bytes: &mut [u8],
+    count: &mut u64,
+) -> u32
+    ensures pass { Calls pass.old.owned.value pass.new.owned.value result (λ s t. TellsJournal s t bytes.old bytes.new count.new result) }
+    ensures kept { (result ≡ 0) ⊎ ((count.new ≡ count.old) × (bytes.new ≡ bytes.old)) }
+{
+    if !pass.live {
+        return CLOSED;
+    }
+    let mut session = mem::replace(&mut pass.owned, Owned::none(alloc)).into_box();
+    let answer = session.journal_text();
+    pass.owned = Owned::of(session);
+    match answer {
+        Ok(text) => {
+            put_text(text.as_str(), bytes, count);
+            DONE
+        }
+        Err(fault) => fault.code(),
+    }
 }

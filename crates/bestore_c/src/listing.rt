@@ -43,7 +43,9 @@ fn put_spelled(
     operations: &mut [Operation],
     bytes: &mut [u8],
 ) -> u32
-    ensures listed { (ops : List AnyOp) → IfOk spelled (λ s. AreSpelled s.operations.items s.bytes.items ops) → IfErr spelled (λ e. e ≡ Refused OutOfMemory) → IsPutOut ops counts.new operations.old operations.new bytes.old bytes.new result }
+    ensures listed { (ops : List AnyOp) → IfOk spelled (λ s. AreSpelled s.operations.items s.bytes.items ops)
+        → IfErr spelled (λ e. e ≡ Refused OutOfMemory)
+        → IsPutOut ops counts.new operations.old operations.new bytes.old bytes.new result }
     ensures kept { (result ≡ 0) ⊎ ((counts.new ≡ counts.old) × (operations.new ≡ operations.old) × (bytes.new ≡ bytes.old)) }
 {
     match spelled {
@@ -64,7 +66,9 @@ pub(crate) fn tell_attributes(
     operations: &mut [Operation],
     bytes: &mut [u8],
 ) -> u32
-    ensures listed { (pin : AnyOption ℕ) (meant : AnyResult (List (List ℕ × AnyValue)) AnyRefusal) → AtPin pin answer (Tells (λ list. list.items) answer meant) → Listed (sets node) pin meant counts.new operations.old operations.new bytes.old bytes.new result }
+    ensures listed { (pin : AnyOption ℕ) (meant : AnyResult (List (List ℕ × AnyValue)) AnyRefusal)
+        → AtPin pin answer (Tells (λ list. list.items) answer meant)
+        → Listed (sets node) pin meant counts.new operations.old operations.new bytes.old bytes.new result }
     ensures kept { (result ≡ 0) ⊎ ((counts.new ≡ counts.old) × (operations.new ≡ operations.old) × (bytes.new ≡ bytes.old)) }
 {
     match answer {
@@ -84,7 +88,9 @@ pub(crate) fn tell_indices(
     operations: &mut [Operation],
     bytes: &mut [u8],
 ) -> u32
-    ensures listed { (pin : AnyOption ℕ) (meant : AnyResult (List (List ℕ × AnyKind)) AnyRefusal) → AtPin pin answer (Tells (λ list. list.items) answer meant) → Listed makes pin meant counts.new operations.old operations.new bytes.old bytes.new result }
+    ensures listed { (pin : AnyOption ℕ) (meant : AnyResult (List (List ℕ × AnyKind)) AnyRefusal)
+        → AtPin pin answer (Tells (λ list. list.items) answer meant)
+        → Listed makes pin meant counts.new operations.old operations.new bytes.old bytes.new result }
     ensures kept { (result ≡ 0) ⊎ ((counts.new ≡ counts.old) × (operations.new ≡ operations.old) × (bytes.new ≡ bytes.old)) }
 {
     match answer {

@@ -1,11 +1,13 @@
 //! The exports, called from Rattle. The tests in C show what only C can.
-use crate::handle::{Attribute, Counts, Handle};
+use crate::handle::{Attribute, Counts, Handle, PreparedHandle, UpdateCounts};
 use crate::owned::Owned;
+use crate::owned_query::OwnedQuery;
 use crate::{
-    bes_another, bes_apply, bes_close, bes_explain, bes_get, bes_indices, bes_move, bes_open,
-    bes_pin, bes_query, bes_unpin,
+    bes_another, bes_apply, bes_apply_or_retry, bes_changes, bes_close, bes_explain, bes_get,
+    bes_indices, bes_journal, bes_move, bes_open, bes_pin, bes_prepare, bes_prepare_items,
+    bes_query, bes_query_prepared, bes_refresh, bes_release, bes_unpin,
 };
-use be_session::Operation;
+use be_session::{Operation, PredicateItem};
 use std::alloc::Global;
 use std::test::Fail;
 
@@ -13,6 +15,23 @@ fn closed(alloc: Global) -> Handle {
     Handle {
         live: false,
         owned: Owned::none(alloc),
+    }
+}
+
+fn unprepared(alloc: Global) -> PreparedHandle {
+    PreparedHandle {
+        live: false,
+        owned: OwnedQuery::none(alloc),
+    }
+}
+
+/// An item without a number, whose bytes are one from there.
+fn item(kind: u32, at: u32) -> PredicateItem {
+    PredicateItem {
+        kind,
+        at,
+        length: 1,
+        number: 0,
     }
 }
 
@@ -118,5 +137,97 @@ fn moves_and_lists(rt: HostRuntime) -> Result<(), Fail> {
     );
     let answer = bes_explain(alloc, &mut theirs, b"k==\"v\"", &mut bytes, &mut number);
     assert_eq!(rt; (answer, number, bytes), (0, 16, [34, 107, 34]));
+    Ok(())
+}
+
+#[test]
+fn asks_what_is_prepared(rt: HostRuntime) -> Result<(), Fail> {
+    let alloc = rt.alloc();
+    let mut mine = closed(alloc);
+    let mut kept = unprepared(alloc);
+    let (mut number, mut count) = (0, 0);
+    let (mut made, mut nodes) = ([0; 2], [9; 2]);
+    assert_eq!(rt; bes_open(alloc, 64, 1, 10, &mut mine), 0);
+    assert_eq!(rt; bes_pin(alloc, &mut mine, &mut number), 0);
+    assert_eq!(rt;
+        bes_query_prepared(alloc, &mut mine, &mut kept, &mut nodes, &mut count),
+        64
+    );
+    assert_eq!(rt; bes_prepare(alloc, b"k==", &mut kept), 12);
+    let items = [item(0, 0), item(1, 1), item(4, 0)];
+    assert_eq!(rt; bes_prepare_items(alloc, &items, b"kv", &mut kept), 0);
+    assert_eq!(rt; bes_prepare(alloc, b"k==\"v\"", &mut kept), 65);
+    assert_eq!(rt; bes_unpin(alloc, &mut mine), 0);
+    let list = [spelled(4, 0), spelled(0, 0), spelled(2, 1)];
+    let answer = bes_apply_or_retry(alloc, &mut mine, &list, b"kv", 3, &mut made, &mut number);
+    assert_eq!(rt; (answer, number, made), (0, 1, [0, 1]));
+    assert_eq!(rt; bes_pin(alloc, &mut mine, &mut number), 0);
+    let answer = bes_query_prepared(alloc, &mut mine, &mut kept, &mut nodes, &mut count);
+    assert_eq!(rt; (answer, count, nodes), (0, 1, [1, 9]));
+    assert_eq!(rt; bes_release(alloc, &mut kept), 0);
+    assert_eq!(rt; bes_release(alloc, &mut kept), 64);
+    Ok(())
+}
+
+#[test]
+fn tells_what_came_and_went(rt: HostRuntime) -> Result<(), Fail> {
+    let alloc = rt.alloc();
+    let mut mine = closed(alloc);
+    let mut kept = unprepared(alloc);
+    let (mut number, mut made) = (0, [0; 2]);
+    let (mut created, mut removed) = ([9; 2], [9; 2]);
+    let mut counts = UpdateCounts {
+        created: 7,
+        removed: 7,
+    };
+    assert_eq!(rt; bes_open(alloc, 64, 1, 10, &mut mine), 0);
+    assert_eq!(rt; bes_prepare(alloc, b"k==\"v\"", &mut kept), 0);
+    let list = [spelled(4, 0), spelled(0, 0), spelled(2, 1)];
+    assert_eq!(rt;
+        bes_apply(alloc, &mut mine, &list, b"kv", &mut made, &mut number),
+        0
+    );
+    assert_eq!(rt; bes_refresh(alloc, &mut mine, &mut kept, &mut counts), 66);
+    assert_eq!(rt; bes_pin(alloc, &mut mine, &mut number), 0);
+    assert_eq!(rt; bes_refresh(alloc, &mut mine, &mut kept, &mut counts), 0);
+    assert_eq!(rt; (counts.created, counts.removed), (1, 0));
+    assert_eq!(rt;
+        bes_changes(alloc, &mut kept, &mut created, &mut removed),
+        0
+    );
+    assert_eq!(rt; (created, removed), ([1, 9], [9, 9]));
+    assert_eq!(rt; bes_unpin(alloc, &mut mine), 0);
+    let list = [spelled(1, 1)];
+    assert_eq!(rt;
+        bes_apply(alloc, &mut mine, &list, b"kv", &mut made, &mut number),
+        0
+    );
+    assert_eq!(rt; bes_pin(alloc, &mut mine, &mut number), 0);
+    assert_eq!(rt; bes_refresh(alloc, &mut mine, &mut kept, &mut counts), 0);
+    assert_eq!(rt; (counts.created, counts.removed), (0, 1));
+    assert_eq!(rt;
+        bes_changes(alloc, &mut kept, &mut created, &mut removed),
+        0
+    );
+    assert_eq!(rt; (created, removed), ([1, 9], [1, 9]));
+    Ok(())
+}
+
+#[test]
+fn tells_its_journal(rt: HostRuntime) -> Result<(), Fail> {
+    let alloc = rt.alloc();
+    let mut mine = closed(alloc);
+    let (mut number, mut count) = (0, 0);
+    let (mut made, mut bytes) = ([0; 1], [9; 22]);
+    assert_eq!(rt; bes_journal(alloc, &mut mine, &mut bytes, &mut count), 64);
+    assert_eq!(rt; bes_open(alloc, 64, 1, 10, &mut mine), 0);
+    let list = [spelled(0, 0)];
+    assert_eq!(rt;
+        bes_apply(alloc, &mut mine, &list, b"kv", &mut made, &mut number),
+        0
+    );
+    let answer = bes_journal(alloc, &mut mine, &mut bytes, &mut count);
+    assert_eq!(rt; (answer, count), (0, 21));
+    assert_eq!(rt; (bytes[0], bytes[20], bytes[21]), (49, 10, 9));
     Ok(())
 }

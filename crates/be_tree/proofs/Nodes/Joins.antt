@@ -9,7 +9,7 @@ use Rattle.be_tree.specs.declared.slot.Slot.{Slot}
 use Rattle.be_tree.specs.declared.slot.Slot.TheVariants.{At}
 use Rattle.be_tree.specs.Pair.{Pair}
 use Rattle.be_tree.specs.Key.{IsRising}
-use Rattle.be_tree.specs.Page.{items_of, place_of}
+use Rattle.be_tree.specs.Page.{items_of, item_place}
 use Rattle.be_tree.specs.Slot.{pairs_of, IsReady}
 use Rattle.be_tree.specs.Tree.{AreNeighbours, pairs_at, pairs_below, pages_below, IsBelow, Becomes}
 use Rattle.be_tree.proofs.Frame.{swaps_start}
@@ -45,21 +45,21 @@ module _ {S K : Type 0} (kept_of : S → K) (standing_of : S → ℕ → Standin
   module _ (all : List Pair) (given : Pair) (sub other slots : List Slot) (mid read : S) (same : IsUnchanged kept_of standing_of words_of mid read) where
     -- the first one changed
     module _ (first : Becomes kept_of standing_of words_of (pages_below level (words_of old) (items_of (words_of old l))) all level (pairs_of (words_of mid) given sub) old mid)
-        (loaded : other ≡ map (λ j. At (place_of j) r) (range_with_len 0 (words_of mid r 1))) (e : slots ≡ sub ++ other) where
+        (loaded : other ≡ map (λ j. At (item_place j) r) (range_with_len 0 (words_of mid r 1))) (e : slots ≡ sub ++ other) where
       pub left_length : length slots ≡ length sub + words_of old r 1
       left_length = omega (
         arith,
         ap length e,
         length-append sub other,
-        ap length loaded ∙ length-map-range_with_len (λ (j : ℕ). At (place_of j) r) 0 (words_of mid r 1),
+        ap length loaded ∙ length-map-range_with_len (λ (j : ℕ). At (item_place j) r) 0 (words_of mid r 1),
         right_count kept_of standing_of words_of level l r old two all given sub mid first,
       )
 
       first_read : Becomes kept_of standing_of words_of (pages_below level (words_of old) (items_of (words_of old l))) all level (pairs_of (words_of read) given sub) old read
       first_read = slots_until kept_of standing_of words_of (pages_below level (words_of old) (items_of (words_of old l))) all level given sub old mid read same first
 
-      loaded_read : other ≡ map (λ j. At (place_of j) r) (range_with_len 0 (words_of read r 1))
-      loaded_read = subst (λ (w : ℕ → ℕ → ℕ). other ≡ map (λ (j : ℕ). At (place_of j) r) (range_with_len 0 (w r 1))) (sym same.words) loaded
+      loaded_read : other ≡ map (λ j. At (item_place j) r) (range_with_len 0 (words_of read r 1))
+      loaded_read = subst (λ (w : ℕ → ℕ → ℕ). other ≡ map (λ (j : ℕ). At (item_place j) r) (range_with_len 0 (w r 1))) (sym same.words) loaded
 
       pub left_in_hand : All (IsReady (standing_of mid) (words_of mid)) sub → All (IsReady (standing_of read) (words_of read)) slots
       left_in_hand ready =
@@ -74,21 +74,21 @@ module _ {S K : Type 0} (kept_of : S → K) (standing_of : S → ℕ → Standin
 
     -- the second one changed
     module _ (first : Becomes kept_of standing_of words_of (pages_below level (words_of old) (items_of (words_of old r))) all level (pairs_of (words_of mid) given sub) old mid)
-        (loaded : other ≡ map (λ j. At (place_of j) l) (range_with_len 0 (words_of mid l 1))) (e : slots ≡ other ++ sub) where
+        (loaded : other ≡ map (λ j. At (item_place j) l) (range_with_len 0 (words_of mid l 1))) (e : slots ≡ other ++ sub) where
       pub right_length : length slots ≡ words_of old l 1 + length sub
       right_length = omega (
         arith,
         ap length e,
         length-append other sub,
-        ap length loaded ∙ length-map-range_with_len (λ (j : ℕ). At (place_of j) l) 0 (words_of mid l 1),
+        ap length loaded ∙ length-map-range_with_len (λ (j : ℕ). At (item_place j) l) 0 (words_of mid l 1),
         left_count kept_of standing_of words_of level l r old two all given sub mid first,
       )
 
       second_read : Becomes kept_of standing_of words_of (pages_below level (words_of old) (items_of (words_of old r))) all level (pairs_of (words_of read) given sub) old read
       second_read = slots_until kept_of standing_of words_of (pages_below level (words_of old) (items_of (words_of old r))) all level given sub old mid read same first
 
-      pages_read : other ≡ map (λ j. At (place_of j) l) (range_with_len 0 (words_of read l 1))
-      pages_read = subst (λ (w : ℕ → ℕ → ℕ). other ≡ map (λ (j : ℕ). At (place_of j) l) (range_with_len 0 (w l 1))) (sym same.words) loaded
+      pages_read : other ≡ map (λ j. At (item_place j) l) (range_with_len 0 (words_of read l 1))
+      pages_read = subst (λ (w : ℕ → ℕ → ℕ). other ≡ map (λ (j : ℕ). At (item_place j) l) (range_with_len 0 (w l 1))) (sym same.words) loaded
 
       pub right_in_hand : All (IsReady (standing_of mid) (words_of mid)) sub → All (IsReady (standing_of read) (words_of read)) slots
       right_in_hand ready =

@@ -10,7 +10,7 @@ use Rattle.be_tree.specs.declared.slot.Slot.{Slot}
 use Rattle.be_tree.specs.declared.slot.Slot.TheVariants.{At}
 use Rattle.be_tree.specs.Pair.{Pair}
 use Rattle.be_tree.specs.Key.{IsRising}
-use Rattle.be_tree.specs.Page.{items_of, place_of, IsPage}
+use Rattle.be_tree.specs.Page.{items_of, item_place, IsPage}
 use Rattle.be_tree.specs.Slot.{pair_of, pairs_of, IsReady}
 use Rattle.be_tree.specs.Tree.{AreNeighbours, child, pairs_at, pairs_below, pages_below, IsBelow, Becomes}
 use Rattle.be_tree.proofs.Frame.{times_append, times-cons, times_itself, times_other, same_page, swaps_trans, swaps_frame, swaps_same, swaps_stands, readable_kept}
@@ -149,7 +149,7 @@ module _ {S K : Type 0} (kept_of : S → K) (standing_of : S → ℕ → Standin
       pub right_count : words_of mid r 1 ≡ words_of old r 1
       right_count = ap (λ (w : ℕ → ℕ). w 1) r_words
 
-      module _ (other : List Slot) (loaded : other ≡ map (λ j. At (place_of j) r) (range_with_len 0 (words_of mid r 1))) where
+      module _ (other : List Slot) (loaded : other ≡ map (λ j. At (item_place j) r) (range_with_len 0 (words_of mid r 1))) where
         pub left_ready : All (IsReady (standing_of mid) (words_of mid)) sub → All (IsReady (standing_of mid) (words_of mid)) (sub ++ other)
         left_ready ready =
             All-append (IsReady (standing_of mid) (words_of mid)) sub other ready
@@ -192,7 +192,7 @@ module _ {S K : Type 0} (kept_of : S → K) (standing_of : S → ℕ → Standin
       pub left_count : words_of mid l 1 ≡ words_of old l 1
       left_count = ap (λ (w : ℕ → ℕ). w 1) l_words
 
-      module _ (other : List Slot) (loaded : other ≡ map (λ j. At (place_of j) l) (range_with_len 0 (words_of mid l 1))) where
+      module _ (other : List Slot) (loaded : other ≡ map (λ j. At (item_place j) l) (range_with_len 0 (words_of mid l 1))) where
         pub right_ready : All (IsReady (standing_of mid) (words_of mid)) sub → All (IsReady (standing_of mid) (words_of mid)) (other ++ sub)
         right_ready ready =
             All-append (IsReady (standing_of mid) (words_of mid)) other sub

@@ -13,7 +13,7 @@ use Rattle.be_pages.specs.Pages.{is_readable, is_kept, times, Swaps}
 use Rattle.be_tree.specs.declared.slot.Slot.{Slot}
 use Rattle.be_tree.specs.declared.slot.Slot.TheVariants.{At, Branch, New}
 use Rattle.be_tree.specs.Pair.{Pair}
-use Rattle.be_tree.specs.Page.{item_at, items_of, level_of, IsItem, IsPage, place_of}
+use Rattle.be_tree.specs.Page.{item_at, items_of, level_of, IsItem, IsPage, item_place}
 use Rattle.be_tree.specs.Tree.{child, IsBelow, IsNode, IsWritten}
 use Rattle.be_tree.proofs.Frame.{swaps_stands, swaps_same, readable_kept}
 use Rattle.be_tree.proofs.Shape.Below.{child_page}
@@ -56,11 +56,11 @@ stored_map f g slots n len same = subst (λ m. map g (range_with_len 0 m) ≡ ma
         ap2 p q = cc
 
 -- a page's item by its number
-pub item_get : (words : ℕ → ℕ) (j : ℕ) (d : Pair) → j < words 1 → get_or (items_of words) j d ≡ item_at words (place_of j)
-item_get words j d lt = get_or-map-range_with_len (λ (j : ℕ). item_at words (place_of j)) 0 (words 1) j j d lt (zero-add j)
+pub item_get : (words : ℕ → ℕ) (j : ℕ) (d : Pair) → j < words 1 → get_or (items_of words) j d ≡ item_at words (item_place j)
+item_get words j d lt = get_or-map-range_with_len (λ (j : ℕ). item_at words (item_place j)) 0 (words 1) j j d lt (zero-add j)
 
 pub items_count : (words : ℕ → ℕ) → length (items_of words) ≡ words 1
-items_count words = length-map-range_with_len (λ (j : ℕ). item_at words (place_of j)) 0 (words 1)
+items_count words = length-map-range_with_len (λ (j : ℕ). item_at words (item_place j)) 0 (words 1)
 
 -- a branch names its page
 pub child_branch : (w : ℕ → ℕ → ℕ) (page : ℕ) → page < 2 ^ 32 → child (branch_to w page) ≡ page
@@ -150,15 +150,15 @@ branches_ready level s w given slots are below = λ i d lt.
 
 -- a page's items as slots
 pub loaded : ℕ → ℕ → List Slot
-loaded page n = map (λ j. At (place_of j) page) (range_with_len 0 n)
+loaded page n = map (λ j. At (item_place j) page) (range_with_len 0 n)
 
-pub loaded_pairs : (w : ℕ → ℕ → ℕ) (given : Pair) (page n : ℕ) → n ≡ w page 1 → pairs_of w given (map (λ j. At (place_of j) page) (range_with_len 0 n)) ≡ items_of (w page)
-loaded_pairs w given page n e = map-map (pair_of w given) (λ j. At (place_of j) page) (range_with_len 0 n) ∙ ap (λ m. map (λ j. item_at (w page) (place_of j)) (range_with_len 0 m)) e
+pub loaded_pairs : (w : ℕ → ℕ → ℕ) (given : Pair) (page n : ℕ) → n ≡ w page 1 → pairs_of w given (map (λ j. At (item_place j) page) (range_with_len 0 n)) ≡ items_of (w page)
+loaded_pairs w given page n e = map-map (pair_of w given) (λ j. At (item_place j) page) (range_with_len 0 n) ∙ ap (λ m. map (λ j. item_at (w page) (item_place j)) (range_with_len 0 m)) e
 
-pub loaded_ready : (s : ℕ → Standing) (w : ℕ → ℕ → ℕ) (page n : ℕ) → n ≡ w page 1 → IsTrue (is_readable (s page)) → IsPage (w page) → All (IsReady s w) (map (λ j. At (place_of j) page) (range_with_len 0 n))
+pub loaded_ready : (s : ℕ → Standing) (w : ℕ → ℕ → ℕ) (page n : ℕ) → n ≡ w page 1 → IsTrue (is_readable (s page)) → IsPage (w page) → All (IsReady s w) (map (λ j. At (item_place j) page) (range_with_len 0 n))
 loaded_ready s w page n e readable is_page = λ i d lt.
-    let len = length-map-range_with_len (λ j. At (place_of j) page) 0 n in
-    subst (IsReady s w) (sym (get_or-map-range_with_len (λ j. At (place_of j) page) 0 n i i d (omega (arith, lt, len)) (zero-add i)))
+    let len = length-map-range_with_len (λ j. At (item_place j) page) 0 n in
+    subst (IsReady s w) (sym (get_or-map-range_with_len (λ j. At (item_place j) page) 0 n i i d (omega (arith, lt, len)) (zero-add i)))
     (readable, (omega (arith, lt, len, e, is_page.few), is_page.each i (omega (arith, lt, len, e))))
 
 pub branch_same : (v w : ℕ → ℕ → ℕ) (page : ℕ) → w page ≡ v page → branch_to w page ≡ branch_to v page

@@ -11,7 +11,7 @@ use Rattle.be_tree.specs.declared.slot.Slot.{Slot}
 use Rattle.be_tree.specs.declared.slot.Slot.TheVariants.{At}
 use Rattle.be_tree.specs.Pair.{Pair}
 use Rattle.be_tree.specs.Key.{IsRank, IsRising, put}
-use Rattle.be_tree.specs.Page.{item_at, items_of, IsItem, IsPage, place_of}
+use Rattle.be_tree.specs.Page.{item_at, items_of, IsItem, IsPage, item_place}
 use Rattle.be_tree.specs.Slot.{pair_of, pairs_of, IsReady}
 use Rattle.be_tree.specs.Tree.{child, pairs_at, pairs_below, pages_below, IsBelow, IsTreeAt, Becomes}
 use Rattle.be_tree.proofs.Frame.{swaps_same, swaps_stands, readable_kept}
@@ -55,7 +55,7 @@ module _ {S K : Type 0} (kept_of : S → K) (standing_of : S → ℕ → Standin
   items = items_of (words_of read page)
 
   item : Pair
-  item = item_at (words_of read page) (place_of at)
+  item = item_at (words_of read page) (item_place at)
 
   here : IsTreeAt level 1 (standing_of read) (words_of read) page
   here = subst (λ s. IsTreeAt level 1 s (words_of read) page) (sym same.standing) (subst (λ w. IsTreeAt level 1 (standing_of old) w page) (sym same.words) tree)
@@ -65,7 +65,7 @@ module _ {S K : Type 0} (kept_of : S → K) (standing_of : S → ℕ → Standin
 
   is_item : item ≡ get_or items at item
   unfolding items item
-  is_item = sym (item_get (words_of read page) at (item_at (words_of read page) (place_of at)) at_item)
+  is_item = sym (item_get (words_of read page) at (item_at (words_of read page) (item_place at)) at_item)
 
   pub slot_readable : IsTrue (is_readable (standing_of read page))
   slot_readable = readable_kept _ here.page_in_use
@@ -82,7 +82,7 @@ module _ {S K : Type 0} (kept_of : S → K) (standing_of : S → ℕ → Standin
 
   -- where the pair goes
   pub key_in : (below : ℕ) → level ≡ suc below → put pair (pairs_at level (words_of read) page)
-      ≡ pairs_below (suc below) (words_of read) (take at (items_of (words_of read page))) ++ (put pair (pairs_at below (words_of read) (child (item_at (words_of read page) (place_of at)))) ++ pairs_below (suc below) (words_of read) (drop (suc at) (items_of (words_of read page))))
+      ≡ pairs_below (suc below) (words_of read) (take at (items_of (words_of read page))) ++ (put pair (pairs_at below (words_of read) (child (item_at (words_of read page) (item_place at)))) ++ pairs_below (suc below) (words_of read) (drop (suc at) (items_of (words_of read page))))
   unfolding items item
   key_in below e =
       let all = (put_at_item level (standing_of read) (words_of read) items pair r at item here.below (omega (arith, here.node.enough)) rank place is_item).all in
@@ -90,10 +90,10 @@ module _ {S K : Type 0} (kept_of : S → K) (standing_of : S → ℕ → Standin
       ∙ ap (λ xs. pairs_below (suc below) (words_of read) (take at items) ++ (put pair xs ++ pairs_below (suc below) (words_of read) (drop (suc at) items))) (append-nil (pairs_at below (words_of read) (child item)))
 
   -- what the slots become where `more` stand in the place of one
-  module _ (slots more out : List Slot) (n : ℕ) (mid : S) (count : n ≡ words_of read page 1) (loaded : slots ≡ map (λ j. At (place_of j) page) (range_with_len 0 n))
+  module _ (slots more out : List Slot) (n : ℕ) (mid : S) (count : n ≡ words_of read page 1) (loaded : slots ≡ map (λ j. At (item_place j) page) (range_with_len 0 n))
       (replaced : out ≡ take at slots ++ (more ++ drop (suc at) slots)) where
     pub slots_count : length slots ≡ words_of read page 1
-    slots_count = ap length loaded ∙ length-map-range_with_len (λ j. At (place_of j) page) 0 n ∙ count
+    slots_count = ap length loaded ∙ length-map-range_with_len (λ j. At (item_place j) page) 0 n ∙ count
 
     inserted : out ≡ take at (remove slots at) ++ (more ++ drop at (remove slots at))
     inserted = as_taken slots more out at (omega (arith, at_item, slots_count)) replaced
@@ -148,9 +148,9 @@ pub record Shares (level page at : ℕ) (pair : Pair) (words : ℕ → ℕ → �
   pub level_is : level ≡ suc (level - 1)
   pub next : at - 1 + 2 ≤ words page 1
   pub put_is : put pair (pairs_at level words page) ≡ pairs_below level words (take (at - 1) (items_of (words page)))
-      ++ ((pairs_at (level - 1) words (child (item_at (words page) (place_of (at - 1)))) ++ put pair (pairs_at (level - 1) words (child (item_at (words page) (place_of (at - 1 + 1))))))
+      ++ ((pairs_at (level - 1) words (child (item_at (words page) (item_place (at - 1)))) ++ put pair (pairs_at (level - 1) words (child (item_at (words page) (item_place (at - 1 + 1))))))
       ++ pairs_below level words (drop (at - 1 + 2) (items_of (words page))))
-  pub rising : IsRising (pairs_at (level - 1) words (child (item_at (words page) (place_of (at - 1)))) ++ put pair (pairs_at (level - 1) words (child (item_at (words page) (place_of (at - 1 + 1))))))
+  pub rising : IsRising (pairs_at (level - 1) words (child (item_at (words page) (item_place (at - 1)))) ++ put pair (pairs_at (level - 1) words (child (item_at (words page) (item_place (at - 1 + 1))))))
 
 -- the key's rank was told of the page as it was
 module _ {S K : Type 0} (kept_of : S → K) (standing_of : S → ℕ → Standing) (words_of : S → ℕ → ℕ → ℕ) (level page : ℕ) (pair : Pair) (k : List ℕ) (r at : ℕ) (old : S)
@@ -190,7 +190,7 @@ module _ {S K : Type 0} (kept_of : S → K) (standing_of : S → ℕ → Standin
       below = slot_below kept_of standing_of words_of level page pair r at old read tree same still_ranked place;
     }
 
-    pub put_slots : (slots more out : List Slot) (n : ℕ) (mid : S) → n ≡ words_of read page 1 → slots ≡ map (λ j. At (place_of j) page) (range_with_len 0 n)
+    pub put_slots : (slots more out : List Slot) (n : ℕ) (mid : S) → n ≡ words_of read page 1 → slots ≡ map (λ j. At (item_place j) page) (range_with_len 0 n)
         → out ≡ take at slots ++ (more ++ drop (suc at) slots)
         → Becomes kept_of standing_of words_of (pages_below level (words_of read) (item_at (words_of read page) (2 + 42 * at) ∷ [])) (put pair (pairs_below level (words_of read) (item_at (words_of read page) (2 + 42 * at) ∷ []))) level (pairs_of (words_of mid) pair more) read mid
         → PutSlots kept_of standing_of words_of level page pair slots more out old mid

@@ -6,7 +6,7 @@ use Rattle.be_pages.specs.declared.room.Standing.{Standing}
 use Rattle.be_tree.specs.declared.cursor.Place.{Place}
 use Rattle.be_tree.specs.Pair.{Pair}
 use Rattle.be_tree.specs.Key.{IsRank}
-use Rattle.be_tree.specs.Page.{items_of, item_at, level_of, place_of}
+use Rattle.be_tree.specs.Page.{items_of, item_at, level_of, item_place}
 use Rattle.be_tree.specs.Tree.{child, pairs, pairs_at, pairs_below, IsTreeAt}
 use Rattle.be_tree.specs.Cursor.{pairs_past, pairs_along, IsPlace, IsPath}
 use Rattle.be_tree.specs.Range.{pairs_from}
@@ -67,19 +67,19 @@ module _ (standing : ℕ → Standing) (words : ℕ → ℕ → ℕ) (level leas
   in_items : next < length (items_of (words page))
   in_items = omega (arith, lt, items_count (words page))
 
-  is_here : get_or (items_of (words page)) next (item_at (words page) (place_of next)) ≡ item_at (words page) (place_of next)
-  is_here = item_get (words page) next (item_at (words page) (place_of next)) lt
+  is_here : get_or (items_of (words page)) next (item_at (words page) (item_place next)) ≡ item_at (words page) (item_place next)
+  is_here = item_get (words page) next (item_at (words page) (item_place next)) lt
 
-  pub at_rest : drop next (items_of (words page)) ≡ item_at (words page) (place_of next) ∷ drop (next + 1) (items_of (words page))
+  pub at_rest : drop next (items_of (words page)) ≡ item_at (words page) (item_place next) ∷ drop (next + 1) (items_of (words page))
   at_rest =
       let e : suc next ≡ next + 1 = omega arith in
-      drop-cons (items_of (words page)) next (item_at (words page) (place_of next)) in_items
+      drop-cons (items_of (words page)) next (item_at (words page) (item_place next)) in_items
       ∙ ap (λ (x : Pair). x ∷ drop (suc next) (items_of (words page))) is_here
-      ∙ ap (λ i. item_at (words page) (place_of next) ∷ drop i (items_of (words page))) e
+      ∙ ap (λ i. item_at (words page) (item_place next) ∷ drop i (items_of (words page))) e
 
   -- the pair at a place of a leaf stands before those past it
-  pub leaf_step : level ≡ 0 → pairs_below level words (drop next (items_of (words page))) ≡ item_at (words page) (place_of next) ∷ pairs_below level words (drop (next + 1) (items_of (words page)))
-  leaf_step e = subst (λ l. pairs_below l words (drop next (items_of (words page))) ≡ item_at (words page) (place_of next) ∷ pairs_below l words (drop (next + 1) (items_of (words page)))) (sym e) at_rest
+  pub leaf_step : level ≡ 0 → pairs_below level words (drop next (items_of (words page))) ≡ item_at (words page) (item_place next) ∷ pairs_below level words (drop (next + 1) (items_of (words page)))
+  leaf_step e = subst (λ l. pairs_below l words (drop next (items_of (words page))) ≡ item_at (words page) (item_place next) ∷ pairs_below l words (drop (next + 1) (items_of (words page)))) (sym e) at_rest
 
 -- what the branch at a place of an inner node leads to
 pub record LeadsDown (level below : ℕ) (standing : ℕ → Standing) (words : ℕ → ℕ → ℕ) (page next : ℕ) (branch : Pair) : Type 0 where
@@ -89,9 +89,9 @@ pub record LeadsDown (level below : ℕ) (standing : ℕ → Standing) (words : 
   pub parts : pairs_below level words (drop next (items_of (words page))) ≡ pairs_at below words (child branch) ++ pairs_below level words (drop (next + 1) (items_of (words page)))
 
 leads_from : (below : ℕ) (standing : ℕ → Standing) (words : ℕ → ℕ → ℕ) (least page next : ℕ) → IsTreeAt (suc below) least standing words page → next < words page 1
-    → LeadsDown (suc below) below standing words page next (item_at (words page) (place_of next))
+    → LeadsDown (suc below) below standing words page next (item_at (words page) (item_place next))
 leads_from below standing words least page next tree lt =
-    let branch = item_at (words page) (place_of next) in
+    let branch = item_at (words page) (item_place next) in
     let items = items_of (words page) in
     let in_items : next < length items = omega (arith, lt, items_count (words page)) in
     let is : get_or items next branch ≡ branch = item_get (words page) next branch lt in
@@ -106,22 +106,22 @@ leads_from below standing words least page next tree lt =
     }
 
 pub leads_down : (level below : ℕ) (standing : ℕ → Standing) (words : ℕ → ℕ → ℕ) (least page next : ℕ) → level ≡ suc below → IsTreeAt level least standing words page → next < words page 1
-    → LeadsDown level below standing words page next (item_at (words page) (place_of next))
+    → LeadsDown level below standing words page next (item_at (words page) (item_place next))
 leads_down level below standing words least page next e tree lt =
-    subst (λ l. LeadsDown l below standing words page next (item_at (words page) (place_of next))) (sym e) (leads_from below standing words least page next (subst (λ l. IsTreeAt l least standing words page) e tree) lt)
+    subst (λ l. LeadsDown l below standing words page next (item_at (words page) (item_place next))) (sym e) (leads_from below standing words least page next (subst (λ l. IsTreeAt l least standing words page) e tree) lt)
 
 -- the way down to the pairs from a key on: those of the branch, and all past it
 pub from_branch : (level below : ℕ) (standing : ℕ → Standing) (words : ℕ → ℕ → ℕ) (least page : ℕ) (k : List ℕ) (r at : ℕ) (after : Bool)
     → level ≡ suc below → IsTreeAt level least standing words page → 0 < least → IsRank k (items_of (words page)) r → at ≡ r - 1 → at < words page 1
-    → pairs_from (pairs_at level words page) k after ≡ pairs_from (pairs_at below words (child (item_at (words page) (place_of at)))) k after ++ pairs_below level words (drop (at + 1) (items_of (words page)))
+    → pairs_from (pairs_at level words page) k after ≡ pairs_from (pairs_at below words (child (item_at (words page) (item_place at)))) k after ++ pairs_below level words (drop (at + 1) (items_of (words page)))
 from_branch level below standing words least page k r at after e tree some rank place lt =
-    subst (λ l. pairs_from (pairs_at l words page) k after ≡ pairs_from (pairs_at below words (child (item_at (words page) (place_of at)))) k after ++ pairs_below l words (drop (at + 1) (items_of (words page)))) (sym e)
+    subst (λ l. pairs_from (pairs_at l words page) k after ≡ pairs_from (pairs_at below words (child (item_at (words page) (item_place at)))) k after ++ pairs_below l words (drop (at + 1) (items_of (words page)))) (sym e)
     (from_inner (subst (λ l. IsTreeAt l least standing words page) e tree))
   where
     from_inner : IsTreeAt (suc below) least standing words page
-        → pairs_from (pairs_at (suc below) words page) k after ≡ pairs_from (pairs_at below words (child (item_at (words page) (place_of at)))) k after ++ pairs_below (suc below) words (drop (at + 1) (items_of (words page)))
+        → pairs_from (pairs_at (suc below) words page) k after ≡ pairs_from (pairs_at below words (child (item_at (words page) (item_place at)))) k after ++ pairs_below (suc below) words (drop (at + 1) (items_of (words page)))
     from_inner inner =
-        let branch = item_at (words page) (place_of at) in
+        let branch = item_at (words page) (item_place at) in
         let items = items_of (words page) in
         let split = inner_split below standing words items inner.below k r rank (omega (arith, inner.node.enough, some)) in
         let is : get_or items (r - 1) branch ≡ branch = ap (λ i. get_or items i branch) (sym place) ∙ item_get (words page) at branch lt in

@@ -6,7 +6,7 @@ use Rattle.std.proofs.lemmas.Bool.Decides.{nat_tests}
 use Rattle.be_pages.specs.declared.room.Standing.{Standing}
 use Rattle.be_pages.specs.Pages.{is_kept, is_readable, after_give_up, times, PageStep, untouched, StandsAt, Swaps, IsUnchanged}
 use Rattle.be_tree.specs.Pair.{Pair}
-use Rattle.be_tree.specs.Page.{items_of, item_at, place_of}
+use Rattle.be_tree.specs.Page.{items_of, item_at, item_place}
 use Rattle.be_tree.specs.Tree.{child, pages_at, pages_below, IsTreeAt}
 use Rattle.be_tree.proofs.Shape.Below.{pages_append, times_pages}
 use Rattle.be_tree.proofs.Frame.{times_append, times-cons, times_tail, same_page, swaps_trans, swaps_frame, swaps_stands, readable_kept}
@@ -54,44 +54,44 @@ module _ (level below least : ℕ) (standing : ℕ → Standing) (words : ℕ �
   in_items : j < length (items_of (words page))
   in_items = omega (arith, lt, items_count (words page))
 
-  is_branch : get_or (items_of (words page)) j (item_at (words page) (place_of j)) ≡ item_at (words page) (place_of j)
-  is_branch = item_get (words page) j (item_at (words page) (place_of j)) lt
+  is_branch : get_or (items_of (words page)) j (item_at (words page) (item_place j)) ≡ item_at (words page) (item_place j)
+  is_branch = item_get (words page) j (item_at (words page) (item_place j)) lt
 
-  pub one_more : pages_below level words (take (j + 1) (items_of (words page))) ≡ pages_below level words (take j (items_of (words page))) ++ pages_at below words (child (item_at (words page) (place_of j)))
+  pub one_more : pages_below level words (take (j + 1) (items_of (words page))) ≡ pages_below level words (take j (items_of (words page))) ++ pages_at below words (child (item_at (words page) (item_place j)))
   one_more =
       let past : j + 1 ≡ suc j = omega arith in
-      subst (λ l. pages_below l words (take (j + 1) (items_of (words page))) ≡ pages_below l words (take j (items_of (words page))) ++ pages_at below words (child (item_at (words page) (place_of j)))) (sym e)
+      subst (λ l. pages_below l words (take (j + 1) (items_of (words page))) ≡ pages_below l words (take j (items_of (words page))) ++ pages_at below words (child (item_at (words page) (item_place j)))) (sym e)
       (ap (λ n. pages_below (suc below) words (take n (items_of (words page)))) past
-      ∙ ap (pages_below (suc below) words) (take-suc (items_of (words page)) j (item_at (words page) (place_of j)) in_items)
-      ∙ pages_append (suc below) words (take j (items_of (words page))) (get_or (items_of (words page)) j (item_at (words page) (place_of j)) ∷ [])
+      ∙ ap (pages_below (suc below) words) (take-suc (items_of (words page)) j (item_at (words page) (item_place j)) in_items)
+      ∙ pages_append (suc below) words (take j (items_of (words page))) (get_or (items_of (words page)) j (item_at (words page) (item_place j)) ∷ [])
       ∙ ap (λ (x : Pair). pages_below (suc below) words (take j (items_of (words page))) ++ pages_below (suc below) words (x ∷ [])) is_branch
-      ∙ ap (λ ps. pages_below (suc below) words (take j (items_of (words page))) ++ ps) (append-nil (pages_at below words (child (item_at (words page) (place_of j))))))
+      ∙ ap (λ ps. pages_below (suc below) words (take j (items_of (words page))) ++ ps) (append-nil (pages_at below words (child (item_at (words page) (item_place j))))))
 
-  pub among : (q : ℕ) → times q (pages_below level words (take j (items_of (words page)))) + times q (pages_at below words (child (item_at (words page) (place_of j)))) ≤ times q (pages_below level words (items_of (words page)))
+  pub among : (q : ℕ) → times q (pages_below level words (take j (items_of (words page)))) + times q (pages_at below words (child (item_at (words page) (item_place j)))) ≤ times q (pages_below level words (items_of (words page)))
   among q = omega (
     arith,
     ap (λ xs. times q (pages_below level words xs)) (take-append-drop (j + 1) (items_of (words page))),
     times_pages level words (take (j + 1) (items_of (words page))) (drop (j + 1) (items_of (words page))) q,
     ap (times q) one_more,
-    times_append q (pages_below level words (take j (items_of (words page)))) (pages_at below words (child (item_at (words page) (place_of j)))),
+    times_append q (pages_below level words (take j (items_of (words page)))) (pages_at below words (child (item_at (words page) (item_place j)))),
   )
 
-  pub next_apart : (q : ℕ) → times q (pages_below level words (take j (items_of (words page)))) + times q (pages_at below words (child (item_at (words page) (place_of j)))) ≤ 1
+  pub next_apart : (q : ℕ) → times q (pages_below level words (take j (items_of (words page)))) + times q (pages_at below words (child (item_at (words page) (item_place j)))) ≤ 1
   next_apart q = omega (arith, among q, tree.below.once q)
 
-  pub next_in_use : (q : ℕ) → 0 < times q (pages_at below words (child (item_at (words page) (place_of j)))) → IsTrue (is_kept (standing q))
+  pub next_in_use : (q : ℕ) → 0 < times q (pages_at below words (child (item_at (words page) (item_place j)))) → IsTrue (is_kept (standing q))
   next_in_use q some = tree.below.in_use q (omega (arith, among q, some))
 
-  pub next_names_page : length (item_at (words page) (place_of j)).payload ≡ 8
+  pub next_names_page : length (item_at (words page) (item_place j)).payload ≡ 8
   next_names_page =
       let inner = subst (λ l. IsTreeAt l least standing words page) e tree in
-      subst (λ (x : Pair). length x.payload ≡ 8) is_branch (inner.below.shaped j (item_at (words page) (place_of j)) in_items).1.names_page
+      subst (λ (x : Pair). length x.payload ≡ 8) is_branch (inner.below.shaped j (item_at (words page) (item_place j)) in_items).1.names_page
 
-  pub next_tree : IsTreeAt below 1 standing words (child (item_at (words page) (place_of j)))
+  pub next_tree : IsTreeAt below 1 standing words (child (item_at (words page) (item_place j)))
   next_tree =
       let inner = subst (λ l. IsTreeAt l least standing words page) e tree in
-      let down = branch_tree below standing words (items_of (words page)) inner.below j (item_at (words page) (place_of j)) in_items in
-      subst (λ (x : Pair). IsTreeAt below 1 standing words (child x)) is_branch (tree_weaker below 6 standing words (child (get_or (items_of (words page)) j (item_at (words page) (place_of j)))) (omega arith) down)
+      let down = branch_tree below standing words (items_of (words page)) inner.below j (item_at (words page) (item_place j)) in_items in
+      subst (λ (x : Pair). IsTreeAt below 1 standing words (child x)) is_branch (tree_weaker below 6 standing words (child (get_or (items_of (words page)) j (item_at (words page) (item_place j)))) (omega arith) down)
 
 -- all items of a page
 pub take_count : (words : ℕ → ℕ) (n : ℕ) → n ≡ words 1 → take n (items_of words) ≡ items_of words
@@ -136,10 +136,10 @@ module _ {S K : Type 0} (kept_of : S → K) (standing_of : S → ℕ → Standin
   -- the next branch's child stands, while those before it are given up
   pub child_still : (level below least page j : ℕ) (old mid : S) → level ≡ suc below → IsTreeAt level least (standing_of old) (words_of old) page → j < words_of old page 1
       → Swaps kept_of standing_of words_of (pages_below level (words_of old) (take j (items_of (words_of old page)))) [] old mid → words_of mid ≡ words_of old
-      → IsTreeAt below 1 (standing_of mid) (words_of mid) (child (item_at (words_of old page) (place_of j)))
+      → IsTreeAt below 1 (standing_of mid) (words_of mid) (child (item_at (words_of old page) (item_place j)))
   child_still level below least page j old mid e tree lt swaps words =
       let taken = pages_below level (words_of old) (take j (items_of (words_of old page))) in
-      tree_standing kept_of standing_of words_of below 1 (child (item_at (words_of old page) (place_of j))) old mid (next_tree level below least (standing_of old) (words_of old) page j e tree lt) words
+      tree_standing kept_of standing_of words_of below 1 (child (item_at (words_of old page) (item_place j))) old mid (next_tree level below least (standing_of old) (words_of old) page j e tree lt) words
       (λ q some. swaps_stands kept_of standing_of words_of taken [] old mid swaps q
       (omega (arith, next_apart level below least (standing_of old) (words_of old) page j e tree lt q, some))
       (readable_kept (standing_of old q) (next_in_use level below least (standing_of old) (words_of old) page j e tree lt q some)))

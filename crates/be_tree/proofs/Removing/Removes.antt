@@ -8,7 +8,7 @@ use Rattle.be_pages.specs.declared.room.Standing.{Standing}
 use Rattle.be_pages.specs.Pages.{is_readable, untouched}
 use Rattle.be_tree.specs.Pair.{Pair}
 use Rattle.be_tree.specs.Key.{key_cmp, AllAbove, AllBelow, IsRising, IsRank, payload_at, without}
-use Rattle.be_tree.specs.Page.{item_at, items_of, place_of}
+use Rattle.be_tree.specs.Page.{item_at, items_of, item_place}
 use Rattle.be_tree.specs.Tree.{child, pairs_at, pairs_below, pages_below, least_of_root, IsBelow, IsTreeAt, Becomes}
 use Rattle.be_tree.proofs.Order.{AllAbove_left, AllAbove_right}
 use Rattle.be_tree.proofs.TreeFacts.{flat_map_in_three, found_in_leaf, IsSplit, inner_split, leaf_split, as_branches, steps_down}
@@ -120,11 +120,11 @@ module _ {S K : Type 0} (kept_of : S → K) (standing_of : S → ℕ → Standin
 
   -- a leaf without the key
   leaf_pairs : IsRising (items_of (words_of old page)) → without k (items_of (words_of old page))
-      ≡ take at (items_of (words_of old page)) ++ (without k (item_at (words_of old page) (place_of at) ∷ []) ++ drop (suc at) (items_of (words_of old page)))
+      ≡ take at (items_of (words_of old page)) ++ (without k (item_at (words_of old page) (item_place at) ∷ []) ++ drop (suc at) (items_of (words_of old page)))
   leaf_pairs rising =
       let items = items_of (words_of old page) in
       let f = λ (x : Pair). x ∷ [] in
-      let item = item_at (words_of old page) (place_of at) in
+      let item = item_at (words_of old page) (item_place at) in
       let split = subst (λ (n : ℕ). IsSplit f k items n) (sym place) (leaf_split items rising k r rank some) in
       ap (without k) (sym (as_branches items)) ∙ without_split f k items at split item
       ∙ ap (λ xs. xs ++ (without k (f (get_or items at item)) ++ flat_map f (drop (suc at) items))) (as_branches (take at items))
@@ -145,7 +145,7 @@ module _ {S K : Type 0} (kept_of : S → K) (standing_of : S → ℕ → Standin
     swaps = record { kept = refl; each = λ q. untouched refl };
   }
 
-  pub leaf_removed : level ≡ 0 → (out : List Pair) → out ≡ take at (items_of (words_of old page)) ++ (without k (item_at (words_of old page) (place_of at) ∷ []) ++ drop (suc at) (items_of (words_of old page)))
+  pub leaf_removed : level ≡ 0 → (out : List Pair) → out ≡ take at (items_of (words_of old page)) ++ (without k (item_at (words_of old page) (item_place at) ∷ []) ++ drop (suc at) (items_of (words_of old page)))
       → Becomes kept_of standing_of words_of (pages_below level (words_of old) (items_of (words_of old page))) (without k (pairs_at level (words_of old) page)) level out old old
   leaf_removed e out is =
       let items = items_of (words_of old page) in
@@ -154,9 +154,9 @@ module _ {S K : Type 0} (kept_of : S → K) (standing_of : S → ℕ → Standin
       (subst (λ xs. Becomes kept_of standing_of words_of [] (without k items) 0 xs old old) (sym (is ∙ sym (leaf_pairs below.rising))) (leaf_becomes below))
 
   pub payload_leaf : level ≡ 0 → payload_at (pairs_at level (words_of old) page) k
-      ≡ (if is_eq (key_cmp (item_at (words_of old page) (place_of at)).key k) then Some (item_at (words_of old page) (place_of at)).payload else None)
+      ≡ (if is_eq (key_cmp (item_at (words_of old page) (item_place at)).key k) then Some (item_at (words_of old page) (item_place at)).payload else None)
   payload_leaf e =
-      let d = item_at (words_of old page) (place_of at) in
+      let d = item_at (words_of old page) (item_place at) in
       found_in_leaf level (least_of_root level) (standing_of old) (words_of old) page k (items_of (words_of old page)) r at d e tree (root_some level) refl rank place (sym (item_get (words_of old page) at d at_in))
 
   -- where the key goes
@@ -171,19 +171,19 @@ module _ {S K : Type 0} (kept_of : S → K) (standing_of : S → ℕ → Standin
     split = subst (λ (n : ℕ). IsSplit (λ b. pairs_at below (words_of old) (child b)) k (items_of (words_of old page)) n) (sym place) (inner_split below (standing_of old) (words_of old) (items_of (words_of old page)) inner k r rank some)
 
     key_split : without k (pairs_below (suc below) (words_of old) (items_of (words_of old page)))
-        ≡ pairs_below (suc below) (words_of old) (take at (items_of (words_of old page))) ++ (without k (pairs_at below (words_of old) (child (item_at (words_of old page) (place_of at)))) ++ pairs_below (suc below) (words_of old) (drop (suc at) (items_of (words_of old page))))
+        ≡ pairs_below (suc below) (words_of old) (take at (items_of (words_of old page))) ++ (without k (pairs_at below (words_of old) (child (item_at (words_of old page) (item_place at)))) ++ pairs_below (suc below) (words_of old) (drop (suc at) (items_of (words_of old page))))
     key_split =
         let items = items_of (words_of old page) in
         let f = λ (b : Pair). pairs_at below (words_of old) (child b) in
-        let d = item_at (words_of old page) (place_of at) in
+        let d = item_at (words_of old page) (item_place at) in
         without_split f k items at split d ∙ ap (λ x. flat_map f (take at items) ++ (without k (f x) ++ flat_map f (drop (suc at) items))) (item_get (words_of old page) at d at_in)
 
     -- a look-up goes the same way
-    pub payload_down : payload_at (pairs_at level (words_of old) page) k ≡ payload_at (pairs_at below (words_of old) (child (item_at (words_of old page) (place_of at)))) k
+    pub payload_down : payload_at (pairs_at level (words_of old) page) k ≡ payload_at (pairs_at below (words_of old) (child (item_at (words_of old page) (item_place at)))) k
     payload_down =
-        let d = item_at (words_of old page) (place_of at) in
+        let d = item_at (words_of old page) (item_place at) in
         (steps_down level below (least_of_root level) (standing_of old) (words_of old) page k (items_of (words_of old page)) r at d e tree (root_some level) refl rank place (sym (item_get (words_of old page) at d at_in))).same
 
     pub key_out : without k (pairs_at level (words_of old) page)
-        ≡ pairs_below (suc below) (words_of old) (take at (items_of (words_of old page))) ++ (without k (pairs_at below (words_of old) (child (item_at (words_of old page) (place_of at)))) ++ pairs_below (suc below) (words_of old) (drop (suc at) (items_of (words_of old page))))
+        ≡ pairs_below (suc below) (words_of old) (take at (items_of (words_of old page))) ++ (without k (pairs_at below (words_of old) (child (item_at (words_of old page) (item_place at)))) ++ pairs_below (suc below) (words_of old) (drop (suc at) (items_of (words_of old page))))
     key_out = ap (λ (n : ℕ). without k (pairs_below n (words_of old) (items_of (words_of old page)))) e ∙ key_split

@@ -6,7 +6,7 @@ use Rattle.std.specs.Prelude.{◌≢◌, Option, true, false}
 use Rattle.be_pages.specs.declared.room.Standing.{Standing}
 use Rattle.be_pages.specs.Pages.{IsUnchanged}
 use Rattle.be_tree.specs.Key.{IsRank, payload_at}
-use Rattle.be_tree.specs.Page.{item_at, items_of, place_of}
+use Rattle.be_tree.specs.Page.{item_at, items_of, item_place}
 use Rattle.be_tree.specs.Tree.{child, pairs_at, least_of_root, IsTreeAt}
 use Rattle.be_tree.proofs.Removing.Removes.{payload_down}
 use Rattle.be_tree.specs.declared.stop.Stop.{Stop}
@@ -50,11 +50,11 @@ other_told stop refusal P Q e h = subst (λ s. IfAbsent s P Q) e h
 pub down_read : {S K : Type 0} (kept_of : S → K) (standing_of : S → ℕ → Standing) (words_of : S → ℕ → ℕ → ℕ) (level page : ℕ) (k : List ℕ) (r at : ℕ) (old : S)
     → IsTreeAt level (least_of_root level) (standing_of old) (words_of old) page → IsRank k (items_of (words_of old page)) r → at ≡ r - 1
     → (below : ℕ) → level ≡ suc below → (p i : ℕ) (here read : S) → at ≡ i → IsUnchanged kept_of standing_of words_of old here → IsUnchanged kept_of standing_of words_of here read
-    → p ≡ child (item_at (words_of here page) (place_of i))
+    → p ≡ child (item_at (words_of here page) (item_place i))
     → payload_at (pairs_at level (words_of old) page) k ≡ payload_at (pairs_at below (words_of read) p) k
 down_read kept_of standing_of words_of level page k r at old tree rank place below e p i here read is same also p_is =
     payload_down kept_of standing_of words_of level page k r at old tree rank place below e
-    ∙ ap (λ (n : ℕ). payload_at (pairs_at below (words_of old) (child (item_at (words_of old page) (place_of n)))) k) is
-    ∙ ap (λ (w : ℕ → ℕ → ℕ). payload_at (pairs_at below (words_of old) (child (item_at (w page) (place_of i)))) k) (sym same.words)
+    ∙ ap (λ (n : ℕ). payload_at (pairs_at below (words_of old) (child (item_at (words_of old page) (item_place n)))) k) is
+    ∙ ap (λ (w : ℕ → ℕ → ℕ). payload_at (pairs_at below (words_of old) (child (item_at (w page) (item_place i)))) k) (sym same.words)
     ∙ ap (λ (q : ℕ). payload_at (pairs_at below (words_of old) q) k) (sym p_is)
     ∙ ap (λ (w : ℕ → ℕ → ℕ). payload_at (pairs_at below w p) k) (sym (also.words ∙ same.words))

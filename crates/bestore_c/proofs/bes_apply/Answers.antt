@@ -1,5 +1,6 @@
 use Rattle.std.proofs.Common.{◌≡◌, Some, inl, inr, refl, subst, sym, true, ◌∙◌}
 use Rattle.be_session.specs.Operations.{AreMeant}
+use Rattle.be_session.specs.Sitting.{IsHeldBack}
 use Rattle.bestore_c.specs.Calls.{Writes}
 use Rattle.bestore_c.specs.Owned.{holds}
 use Rattle.bestore_c.proofs.Called.{called, stays}
@@ -9,7 +10,8 @@ pub returns-in-Err-clause-pass : goal.returns-in-Err-clause-pass
 returns-in-Err-clause-pass c =
     let open_is : c.args.pass.now.live ≡ holds c.args.pass.now.owned.value = c.args.pass.now.full in
     let full : holds c.args.pass.now.owned.value ≡ true = sym open_is ∙ c.if-not-pass.false in
-    stays c.args.pass.now.owned.value c.code.result (λ s t. Writes s t c.args.spelled.now c.args.bytes.now c.args.made.now c.args.made.now c.args.entries.now c.code.result)
+    stays c.args.pass.now.owned.value c.code.result (λ s t. Writes IsHeldBack s t c.args.spelled.now c.args.bytes.now c.args.made.now c.args.made.now
+    c.args.entries.now c.code.result)
     full (λ s. inl (c.in-Err.fault, c.code.ensures, c.in-Err.ensures.err, refl))
 
 pub returns-clause-pass : goal.returns-clause-pass
@@ -18,4 +20,8 @@ returns-clause-pass c =
     let is : c.of-pass.result.value ≡ Some c.apply-answer.new.self = search in
     called c.args.pass.now.owned.value c.of-pass.result.value c.deref_mut.result.now c.apply-answer.new.self c.code-in-Err-answer.result _
     was is c.apply-answer.ensures.store.0 c.apply-answer.ensures.store.1
-    (inr (c.as_slice.result.now, subst (AreMeant c.args.spelled.now c.args.bytes.now) (sym c.as_slice.ensures.value) c.in-Ok.ensures.ok, inr (c.in-Err-answer.fault, c.code-in-Err-answer.ensures, c.in-Err-answer.ensures.err)))
+    (inr (
+      c.as_slice.result.now,
+      subst (AreMeant c.args.spelled.now c.args.bytes.now) (sym c.as_slice.ensures.value) c.in-Ok.ensures.ok,
+      inr (c.in-Err-answer.fault, c.code-in-Err-answer.ensures, c.in-Err-answer.ensures.err),
+    ))

@@ -11,7 +11,8 @@ pub returns-in-Err-clause-pass : goal.returns-in-Err-clause-pass
 returns-in-Err-clause-pass c =
     let open_is : c.args.pass.now.live ≡ holds c.args.pass.now.owned.value = c.args.pass.now.full in
     let full : holds c.args.pass.now.owned.value ≡ true = sym open_is ∙ c.if-not-pass.false in
-    stays c.args.pass.now.owned.value c.code.result (λ s t. FindsBuilt s t c.args.spelled.now c.args.bytes.now c.args.nodes.now c.args.nodes.now c.args.count.now c.code.result)
+    stays c.args.pass.now.owned.value c.code.result (λ s t. FindsBuilt s t c.args.spelled.now c.args.bytes.now c.args.nodes.now c.args.nodes.now
+    c.args.count.now c.code.result)
     full (λ s. inl (c.in-Err.fault, c.code.ensures, c.in-Err.ensures.err, refl))
 
 pub returns-clause-pass : goal.returns-clause-pass
@@ -19,5 +20,12 @@ returns-clause-pass c =
     let was : c.args.pass.now.owned.value ≡ Some c.deref_mut.result.now = search in
     let is : c.of-pass.result.value ≡ Some c.query-answer.new.self = search in
     called c.args.pass.now.owned.value c.of-pass.result.value c.deref_mut.result.now c.query-answer.new.self c.tell.result
-    (λ s t. FindsBuilt s t c.args.spelled.now c.args.bytes.now c.args.nodes.now c.tell.new.nodes c.tell.new.count c.tell.result) was is c.query-answer.ensures.store.0 c.query-answer.ensures.store.1
-    (inr (c.in-Ok.query, c.in-Ok.ensures.ok, c.query-answer.ensures.read, c.tell.ensures.found (pinned_number c.deref_mut.result.now.knows.phase) (scan (volume_pinned c.deref_mut.result.now.knows) c.in-Ok.query) c.query-answer.ensures.nodes))
+    (λ s t. FindsBuilt s t c.args.spelled.now c.args.bytes.now c.args.nodes.now c.tell.new.nodes c.tell.new.count c.tell.result) was is
+    c.query-answer.ensures.store.0 c.query-answer.ensures.store.1
+    (inr (
+      c.in-Ok.query,
+      c.in-Ok.ensures.ok,
+      c.query-answer.ensures.read,
+      c.tell.ensures.found (pinned_number c.deref_mut.result.now.knows.phase)
+          (scan (volume_pinned c.deref_mut.result.now.knows) c.in-Ok.query) c.query-answer.ensures.nodes,
+    ))

@@ -10,7 +10,7 @@ use Rattle.be_tree.proofs.Frame.{unchanged_trans}
 use Rattle.be_tree.proofs.Trees.{tree_rising}
 use Rattle.be_volume.specs.Maps.{attributes_of}
 use Rattle.be_paged.specs.Reading.{front}
-use Rattle.be_paged.proofs.Walks.{none_left, one_left, drop_next, counted, cursor_since}
+use Rattle.be_paged.proofs.Asking.Walks.{none_left, one_left, drop_next, counted, cursor_since}
 use Rattle.be_paged.proofs.attributes.attribute_count.Goals as goal
 
 pub loop-count-preserved : goal.loop-count-preserved

@@ -6,7 +6,7 @@ use Rattle.be_tree.specs.Range.{pairs_from}
 use Rattle.be_tree.specs.Tree.{pairs}
 use Rattle.be_tree.proofs.Trees.{tree_rising}
 use Rattle.be_paged.specs.Reading.{front}
-use Rattle.be_paged.proofs.Walks.{next_is}
+use Rattle.be_paged.proofs.Asking.Walks.{next_is}
 use Rattle.be_paged.proofs.attributes.first_attribute.Goals as goal
 
 pub returns-in_err-name-clause-name : goal.returns-in_err-name-clause-name

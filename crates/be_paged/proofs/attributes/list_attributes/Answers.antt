@@ -9,7 +9,7 @@ use Rattle.be_tree.proofs.Frame.{unchanged_trans}
 use Rattle.be_tree.proofs.Trees.{tree_rising}
 use Rattle.be_volume.specs.Maps.{attributes_of}
 use Rattle.be_paged.specs.Reading.{front}
-use Rattle.be_paged.proofs.Walks.{more_left, drop_next, counted, cursor_since, next_is, all_listed, all_passed, one_listed}
+use Rattle.be_paged.proofs.Asking.Walks.{more_left, drop_next, counted, cursor_since, next_is, all_listed, all_passed, one_listed}
 use Rattle.be_paged.proofs.attributes.list_attributes.Goals as goal
 
 pub loop-preserved : goal.loop-preserved

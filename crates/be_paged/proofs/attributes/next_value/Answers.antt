@@ -2,7 +2,7 @@ use Rattle.std.proofs.Common.{◌∙◌, sym}
 use Rattle.be_tree.specs.Cursor.{remaining}
 use Rattle.be_tree.specs.Range.{pair_in}
 use Rattle.be_paged.specs.Reading.{front, attribute_pair}
-use Rattle.be_paged.proofs.Walks.{always, some_same, none_some, not_end}
+use Rattle.be_paged.proofs.Asking.Walks.{always, some_same, none_some, not_end}
 use Rattle.be_paged.proofs.attributes.next_value.Goals as goal
 
 pub returns-clause-value : goal.returns-clause-value

@@ -9,10 +9,10 @@ use Rattle.be_paged.specs.Changes.{Changes, IsReady, repaired, with_change}
 use Rattle.be_paged.specs.Page.{contents}
 use Rattle.be_paged.specs.Version.{Spells}
 use Rattle.be_volume.specs.Indices.{Indices}
-use Rattle.be_paged.proofs.EntryChange.{indexed}
-use Rattle.be_paged.proofs.Hand.{entry_changes, entry_spells, replaced}
-use Rattle.be_paged.proofs.Settled.{by_kinds, paired_same, root_kept}
-use Rattle.be_paged.proofs.SourceKeys.{entry_tree}
+use Rattle.be_paged.proofs.IndexEntries.EntryChange.{indexed}
+use Rattle.be_paged.proofs.Applying.Hand.{entry_changes, entry_spells, replaced}
+use Rattle.be_paged.proofs.IndexEntries.Settled.{by_kinds, paired_same, root_kept}
+use Rattle.be_paged.proofs.Asking.SourceKeys.{entry_tree}
 use Rattle.be_paged.proofs.changes.change_at.Goals as goal
 
 nowhere : Entry

@@ -2,9 +2,9 @@ use Rattle.std.proofs.Common.{ℕ, List, sym, subst, ◌∙◌, rules, arith}
 use Rattle.be_paged.specs.Entry.{Entry}
 use Rattle.be_paged.specs.Page.{IsNamedAt, IsGapAt, contents}
 use Rattle.be_paged.specs.Version.{Spells}
-use Rattle.be_paged.proofs.Composing.{changes_none, changes_since, start_since, in_hand_since}
-use Rattle.be_paged.proofs.EntryChange.{spells_unindexed}
-use Rattle.be_paged.proofs.Validity.{values_valid}
+use Rattle.be_paged.proofs.Applying.Composing.{changes_none, changes_since, start_since, in_hand_since}
+use Rattle.be_paged.proofs.IndexEntries.EntryChange.{spells_unindexed}
+use Rattle.be_paged.proofs.CatalogPairs.Validity.{values_valid}
 use Rattle.be_paged.proofs.changes.change_entry.Goals as goal
 
 pub returns-in_default-clause-changes : goal.returns-in_default-clause-changes

@@ -8,9 +8,9 @@ use Rattle.be_tree.proofs.Frame.{swaps_trans, swaps_since, swaps_start, start_tr
 use Rattle.be_volume.specs.Indices.{unpaired}
 use Rattle.be_paged.specs.Catalog.{IsIndexOf}
 use Rattle.be_paged.specs.Changes.{repaired, key_taken}
-use Rattle.be_paged.proofs.Composing.{tree_read, start_since}
-use Rattle.be_paged.proofs.Repairs.{taken, entered, stands, Leaves, HasNone, key_there, seen_some, seen_none, seen_at}
-use Rattle.be_paged.proofs.Settled.{no_key}
+use Rattle.be_paged.proofs.Applying.Composing.{tree_read, start_since}
+use Rattle.be_paged.proofs.IndexEntries.Repairs.{taken, entered, stands, Leaves, HasNone, key_there, seen_some, seen_none, seen_at}
+use Rattle.be_paged.proofs.IndexEntries.Settled.{no_key}
 use Rattle.be_paged.proofs.changes.change_root.Goals as goal
 
 pub returns-then-holds_both-clause-swaps : goal.returns-then-holds_both-clause-swaps

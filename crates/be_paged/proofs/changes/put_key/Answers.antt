@@ -1,5 +1,5 @@
-use Rattle.be_paged.proofs.Composing.{tree_stays}
-use Rattle.be_paged.proofs.Settled.{if_ok, key_clash}
+use Rattle.be_paged.proofs.Applying.Composing.{tree_stays}
+use Rattle.be_paged.proofs.IndexEntries.Settled.{if_ok, key_clash}
 use Rattle.be_paged.proofs.changes.put_key.Goals as goal
 
 pub returns-in-None-clause-ok : goal.returns-in-None-clause-ok

@@ -9,9 +9,9 @@ use Rattle.be_volume.specs.declared.ops.Done.TheVariants.{Node}
 use Rattle.be_volume.proofs.StepLemmas.{made}
 use Rattle.be_paged.specs.Page.{contents}
 use Rattle.be_paged.specs.Catalog.{IsCatalog, catalog_key}
-use Rattle.be_paged.proofs.Hand.{catalog_changes, catalog_spells}
-use Rattle.be_paged.proofs.Items.{catalog_new}
-use Rattle.be_paged.proofs.Validity.{none_at_next}
+use Rattle.be_paged.proofs.Applying.Hand.{catalog_changes, catalog_spells}
+use Rattle.be_paged.proofs.CatalogPairs.Items.{catalog_new}
+use Rattle.be_paged.proofs.CatalogPairs.Validity.{none_at_next}
 use Rattle.be_paged.proofs.edits.add_node.Goals as goal
 
 pub insert-requires-clause-tree : goal.insert-requires-clause-tree

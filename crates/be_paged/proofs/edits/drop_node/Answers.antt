@@ -11,11 +11,11 @@ use Rattle.be_volume.proofs.StepLemmas.{made}
 use Rattle.be_paged.specs.Catalog.{IsCatalog}
 use Rattle.be_paged.specs.Page.{Contents, contents}
 use Rattle.be_paged.specs.Version.{Spells}
-use Rattle.be_paged.proofs.Composing.{changes_trans, start_after}
-use Rattle.be_paged.proofs.Dropping.{no_values, indices_bare}
-use Rattle.be_paged.proofs.Hand.{catalog_changes, catalog_spells}
-use Rattle.be_paged.proofs.Items.{catalog_dropped}
-use Rattle.be_paged.proofs.Stepping.{stepped_is}
+use Rattle.be_paged.proofs.Applying.Composing.{changes_trans, start_after}
+use Rattle.be_paged.proofs.Applying.Dropping.{no_values, indices_bare}
+use Rattle.be_paged.proofs.Applying.Hand.{catalog_changes, catalog_spells}
+use Rattle.be_paged.proofs.CatalogPairs.Items.{catalog_dropped}
+use Rattle.be_paged.proofs.Applying.Stepping.{stepped_is}
 use Rattle.be_paged.proofs.edits.drop_node.Goals as goal
 
 same_state : {m n : ℕ} {a b : Nodes} {k l : Indices} → m ≡ n → a ≡ b → k ≡ l → ◌≡◌ {A = State} (record { next = m; nodes = a; indices = k }) (record { next = n; nodes = b; indices = l })

@@ -5,7 +5,7 @@ use Rattle.be_volume.specs.declared.ops.Op.{Op}
 use Rattle.be_volume.specs.declared.ops.Op.TheVariants.{MkIndex}
 use Rattle.be_paged.specs.Changes.{SetsWhatStands, Steps}
 use Rattle.be_paged.specs.Page.{contents}
-use Rattle.be_paged.proofs.Settled.{if_ok}
+use Rattle.be_paged.proofs.IndexEntries.Settled.{if_ok}
 use Rattle.be_paged.proofs.edits.edit.Goals as goal
 
 pub returns-in-New-clause-steps : goal.returns-in-New-clause-steps

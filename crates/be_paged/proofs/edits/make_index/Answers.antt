@@ -4,8 +4,8 @@ use Rattle.be_volume.specs.declared.ops.Done.TheVariants.{Unit as Nothing}
 use Rattle.be_paged.specs.Entry.{Entry}
 use Rattle.be_paged.specs.Changes.{Changes, Steps}
 use Rattle.be_paged.specs.Page.{IsNamedAt, IsGapAt, contents}
-use Rattle.be_paged.proofs.Composing.{changes_none}
-use Rattle.be_paged.proofs.Making.{made_changes, made_steps, not_there, not_full}
+use Rattle.be_paged.proofs.Applying.Composing.{changes_none}
+use Rattle.be_paged.proofs.IndexEntries.Making.{made_changes, made_steps, not_there, not_full}
 use Rattle.be_paged.proofs.edits.make_index.Goals as goal
 
 pub returns-then-len-lt-MAX_INDICES-clause-changes : goal.returns-then-len-lt-MAX_INDICES-clause-changes

@@ -9,11 +9,11 @@ use Rattle.be_paged.specs.Page.{Contents, contents}
 use Rattle.be_paged.specs.Catalog.{IsCatalog}
 use Rattle.be_paged.specs.Changes.{with_indices}
 use Rattle.be_paged.specs.Version.{Spells}
-use Rattle.be_paged.proofs.Composing.{changes_trans, start_after}
-use Rattle.be_paged.proofs.Hand.{catalog_changes, catalog_spells}
-use Rattle.be_paged.proofs.Items.{catalog_set}
-use Rattle.be_paged.proofs.Settled.{settled}
-use Rattle.be_paged.proofs.Stepping.{stepped_is}
+use Rattle.be_paged.proofs.Applying.Composing.{changes_trans, start_after}
+use Rattle.be_paged.proofs.Applying.Hand.{catalog_changes, catalog_spells}
+use Rattle.be_paged.proofs.CatalogPairs.Items.{catalog_set}
+use Rattle.be_paged.proofs.IndexEntries.Settled.{settled}
+use Rattle.be_paged.proofs.Applying.Stepping.{stepped_is}
 use Rattle.be_paged.proofs.edits.set_value.Goals as goal
 
 pub insert-requires-clause-tree : goal.insert-requires-clause-tree

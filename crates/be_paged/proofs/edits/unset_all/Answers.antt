@@ -3,10 +3,10 @@ use Rattle.be_volume.specs.declared.ops.Op.TheVariants.{Drop}
 use Rattle.be_volume.proofs.StepLemmas.{accepted}
 use Rattle.be_paged.specs.Page.{contents}
 use Rattle.be_paged.specs.Version.{Spells}
-use Rattle.be_paged.proofs.Composing.{changes_none, changes_trans, changes_since, in_hand_since, start_since, start_after}
-use Rattle.be_paged.proofs.Dropping.{leaves_first}
-use Rattle.be_paged.proofs.Emptying.{first_has, bare_of, unset_ok, thinner, some_there}
-use Rattle.be_paged.proofs.Validity.{values_valid}
+use Rattle.be_paged.proofs.Applying.Composing.{changes_none, changes_trans, changes_since, in_hand_since, start_since, start_after}
+use Rattle.be_paged.proofs.Applying.Dropping.{leaves_first}
+use Rattle.be_paged.proofs.Applying.Emptying.{first_has, bare_of, unset_ok, thinner, some_there}
+use Rattle.be_paged.proofs.CatalogPairs.Validity.{values_valid}
 use Rattle.be_paged.proofs.edits.unset_all.Goals as goal
 
 pub loop-init : goal.loop-init

@@ -7,10 +7,10 @@ use Rattle.be_volume.proofs.StepLemmas.{made, accepted}
 use Rattle.be_paged.specs.Page.{Contents, contents}
 use Rattle.be_paged.specs.Catalog.{IsCatalog}
 use Rattle.be_paged.specs.Changes.{with_indices}
-use Rattle.be_paged.proofs.Composing.{changes_trans, start_after}
-use Rattle.be_paged.proofs.Hand.{catalog_changes, catalog_spells}
-use Rattle.be_paged.proofs.Items.{catalog_unset}
-use Rattle.be_paged.proofs.Stepping.{stepped_is}
+use Rattle.be_paged.proofs.Applying.Composing.{changes_trans, start_after}
+use Rattle.be_paged.proofs.Applying.Hand.{catalog_changes, catalog_spells}
+use Rattle.be_paged.proofs.CatalogPairs.Items.{catalog_unset}
+use Rattle.be_paged.proofs.Applying.Stepping.{stepped_is}
 use Rattle.be_paged.proofs.edits.unset_value.Goals as goal
 
 pub remove-requires-clause-tree : goal.remove-requires-clause-tree

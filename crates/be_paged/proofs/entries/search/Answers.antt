@@ -1,6 +1,6 @@
 use Rattle.std.proofs.Common.{◌∙◌, sym, arith}
 use Rattle.std.specs.declared.cmp.Ordering.TheVariants.{Less, Equal, Greater}
-use Rattle.be_paged.proofs.Indexing.{names_exact, below_next, entry_compared}
+use Rattle.be_paged.proofs.IndexEntries.Indexing.{names_exact, below_next, entry_compared}
 use Rattle.be_paged.proofs.entries.search.Goals as goal
 
 pub loop-i-init : goal.loop-i-init

@@ -1,6 +1,6 @@
 use Rattle.std.proofs.Common.{◌∷◌, ◌++◌, take, drop, ap, ◌∙◌}
 use Rattle.be_paged.specs.Entry.{Entry}
-use Rattle.be_paged.proofs.RootSetting.{root_set}
+use Rattle.be_paged.proofs.IndexEntries.RootSetting.{root_set}
 use Rattle.be_paged.proofs.entries.set_root.Goals as goal
 
 pub returns : goal.returns

@@ -3,7 +3,7 @@ use Rattle.std.specs.Int.{to_be_bytes, w64}
 use Rattle.std.specs.Ordering.{nat_cmp}
 use Rattle.be_paged.specs.Page.{entry_at}
 use Rattle.be_tree.proofs.Padded.{alike_differ, alike_end, alike_first, alike_next, padded}
-use Rattle.be_paged.proofs.UsedWords.{name_len}
+use Rattle.be_paged.proofs.Stored.UsedWords.{name_len}
 use Rattle.be_paged.proofs.on_page.compare_at.Given.{Over}
 use Rattle.be_paged.proofs.on_page.compare_at.Goals as goal
 use Rattle.be_paged.proofs.on_page.compare_at.Goals.{After-word-mine, After-word_from-other}

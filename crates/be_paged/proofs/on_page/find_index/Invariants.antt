@@ -1,5 +1,5 @@
 use Rattle.be_pages.specs.Pages.{IsUnchanged}
-use Rattle.be_paged.proofs.PageIndices.{AreBelow}
+use Rattle.be_paged.proofs.Stored.PageIndices.{AreBelow}
 use Rattle.be_paged.proofs.on_page.find_index.Given as goal
 
 abbrev pub invariant-loop-i : goal.invariant-loop-i

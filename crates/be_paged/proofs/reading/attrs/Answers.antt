@@ -6,8 +6,8 @@ use Rattle.be_value.specs.declared.refusals.Refusal.TheVariants.{OutOfMemory}
 use Rattle.be_value.specs.declared.values.Value.{Value}
 use Rattle.be_tree.specs.Tree.{pairs}
 use Rattle.be_paged.specs.Catalog.{IsCatalog}
-use Rattle.be_paged.proofs.FactValues.{attributes_none, attributes_some, node_there}
-use Rattle.be_paged.proofs.Validity.{values_valid}
+use Rattle.be_paged.proofs.CatalogPairs.FactValues.{attributes_none, attributes_some, node_there}
+use Rattle.be_paged.proofs.CatalogPairs.Validity.{values_valid}
 use Rattle.be_paged.proofs.reading.attrs.Goals as goal
 
 pub returns-then-not-has_key-clause-answer : goal.returns-then-not-has_key-clause-answer

@@ -3,7 +3,7 @@ use Rattle.std.specs.FinMap as fin
 use Rattle.be_volume.specs.Sound.{IsName}
 use Rattle.be_paged.specs.Entry.{Entry}
 use Rattle.be_paged.specs.Page.{Contents, contents_of}
-use Rattle.be_paged.proofs.Indexing.{kinds_are, listed_entry}
+use Rattle.be_paged.proofs.IndexEntries.Indexing.{kinds_are, listed_entry}
 use Rattle.be_paged.proofs.reading.indices.Goals as goal
 
 abbrev entries_of : Contents → List Entry

@@ -1,6 +1,6 @@
 use Rattle.std.proofs.Common.{◌∙◌}
 use Rattle.be_tree.specs.Tree.{pairs}
-use Rattle.be_paged.proofs.FactValues.{value_absent, value_read}
+use Rattle.be_paged.proofs.CatalogPairs.FactValues.{value_absent, value_read}
 use Rattle.be_paged.proofs.reading.value_in.Goals as goal
 
 pub returns-then-not-find_into-clause-value : goal.returns-then-not-find_into-clause-value

@@ -1,13 +1,13 @@
 use Rattle.std.proofs.Common.{ℕ, ◌++◌, ◌∷◌, [], ◌∙◌, ap, sym, subst, map, arith}
 use Rattle.std.specs.List.{range_with_len}
 use Rattle.std.proofs.lemmas.List.FromFn.{map-range_with_len_more}
-use Rattle.be_paged.specs.Page.{entry_at, place_of, IsEntry}
+use Rattle.be_paged.specs.Page.{entry_at, entry_place, IsEntry}
 use Rattle.be_paged.proofs.version.fill_version.Goals as goal
 
 pub loop-i-preserved : goal.loop-i-preserved
 loop-i-preserved g c =
-    let entry_of = λ (k : ℕ). entry_at (g.L.Look.words c.args.look.now c.args.page) (place_of k) in
-    let same = ap (λ (h : ℕ → ℕ → ℕ). entry_at (h c.args.page) (place_of c.loop-i.i)) c.loop-i.invariant.unchanged.words in
+    let entry_of = λ (k : ℕ). entry_at (g.L.Look.words c.args.look.now c.args.page) (entry_place k) in
+    let same = ap (λ (h : ℕ → ℕ → ℕ). entry_at (h c.args.page) (entry_place c.loop-i.i)) c.loop-i.invariant.unchanged.words in
     record {
       entries = c.push.ensures.items
           ∙ ap (λ xs. xs ++ c.load.result ∷ []) c.loop-i.invariant.entries
@@ -25,5 +25,5 @@ loop-i-preserved g c =
 
 pub load-requires-clause-entry : goal.load-requires-clause-entry
 load-requires-clause-entry g c =
-    subst (λ (h : ℕ → ℕ → ℕ). IsEntry (h c.args.page) (place_of c.loop-i.i)) (sym c.loop-i.invariant.unchanged.words)
+    subst (λ (h : ℕ → ℕ → ℕ). IsEntry (h c.args.page) (entry_place c.loop-i.i)) (sym c.loop-i.invariant.unchanged.words)
     (c.requires.page.each c.loop-i.i (omega (arith, c.loop-i-test.true, ap (λ (h : ℕ → ℕ → ℕ). h c.args.page 1) c.word-next.ensures.words)))

@@ -5,8 +5,8 @@ use Rattle.be_volume.proofs.StepLemmas.{is_accepted}
 use Rattle.be_paged.specs.Changes.{Changes}
 use Rattle.be_paged.specs.Page.{Contents, contents}
 use Rattle.be_paged.specs.Version.{Spells}
-use Rattle.be_paged.proofs.Applied.{page_stays, applied}
-use Rattle.be_paged.proofs.Composing.{changes_since, start_after}
+use Rattle.be_paged.proofs.Applying.Applied.{page_stays, applied}
+use Rattle.be_paged.proofs.Applying.Composing.{changes_since, start_after}
 use Rattle.be_paged.proofs.writes.apply_into.Goals as goal
 
 pub replace_version-requires-clause-in_use : goal.replace_version-requires-clause-in_use

@@ -1,6 +1,6 @@
 use Rattle.std.proofs.Common.{[], ◌∷◌}
 use Rattle.be_tree.proofs.Frame.{swaps_trans}
-use Rattle.be_paged.proofs.Replacing.{given_swaps}
+use Rattle.be_paged.proofs.Applying.Replacing.{given_swaps}
 use Rattle.be_paged.proofs.writes.replace_version.Goals as goal
 
 pub returns-clause-swaps : goal.returns-clause-swaps

@@ -2,13 +2,14 @@ use Rattle.std.proofs.Common.{◌≡◌, ◌++◌, [], length, map, slice_index_
 use Rattle.std.proofs.lemmas.List.{length-map}
 use Rattle.std.specs.Io.KnownBytes.{Appends}
 use Rattle.be_journal.specs.Journal.{by_pass}
+use Rattle.be_journal.specs.Text.{result_text}
 use Rattle.be_table.specs.History.{AllBelow}
 use Rattle.be_table.specs.Steps.{Has}
 use Rattle.be_table.specs.Versions.{CanSpellEach}
 use Rattle.be_table.specs.Works.{knows_of}
 use Rattle.be_table.specs.declared.limits.Limits.{Limits}
 use Rattle.be_serving.specs.Own.{IsPartOf, operations, write_ops}
-use Rattle.be_serving.specs.Race.{HaveReplied, replies_text, result_text}
+use Rattle.be_serving.specs.Race.{HaveReplied, replies_text}
 use Rattle.be_serving.proofs.RaceLemmas.{all_at, has_each, own_of, on_both}
 use Rattle.be_serving.proofs.RunLemmas.{written_both}
 use Rattle.be_serving.proofs.races.race_within.Goals as goal

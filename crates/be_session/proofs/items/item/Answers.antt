@@ -10,4 +10,5 @@ weaker (Err e) P Q follows p = tt
 pub returns-in_default-clause-ok : goal.returns-in_default-clause-ok
 returns-in_default-clause-ok c =
     weaker c.working_item.result (λ item. (number : ℕ) (bytes : List ℕ) → IsItemMeant c.args.kind number bytes (item_of item))
-    (λ item. IsItemMeant c.args.kind c.args.number c.args.bytes.now (item_of item)) (λ item meant. meant c.args.number c.args.bytes.now) c.working_item.ensures.ok
+    (λ item. IsItemMeant c.args.kind c.args.number c.args.bytes.now (item_of item)) (λ item meant. meant c.args.number c.args.bytes.now)
+    c.working_item.ensures.ok

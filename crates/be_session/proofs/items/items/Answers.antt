@@ -18,4 +18,5 @@ returns-in_err-item-clause-err c =
 pub loop-next-preserved : goal.loop-next-preserved
 loop-next-preserved c =
     subst (λ xs. AreItemsMeant (take (c.loop-next.next-index + 1) c.args.spelled.now) c.args.bytes.now (map item_of xs)) (sym c.in_ok-push.ensures.items)
-    (items_next c.args.spelled.now c.loop-next.next-index _ c.args.bytes.now c.loop-next.items.items c.in_ok-item.item c.loop-next-test.true c.loop-next.invariant c.in_ok-item.ensures.ok)
+    (items_next c.args.spelled.now c.loop-next.next-index _ c.args.bytes.now c.loop-next.items.items c.in_ok-item.item c.loop-next-test.true
+    c.loop-next.invariant c.in_ok-item.ensures.ok)

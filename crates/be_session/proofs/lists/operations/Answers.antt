@@ -17,4 +17,5 @@ returns-in_err-op-clause-err c =
 pub loop-next-preserved : goal.loop-next-preserved
 loop-next-preserved c =
     subst (AreMeant (take (c.loop-next.next-index + 1) c.args.spelled.now) c.args.bytes.now) (sym c.in_ok-push.ensures.items)
-    (meant_next c.args.spelled.now c.loop-next.next-index _ c.args.bytes.now c.loop-next.ops.items c.in_ok-op.op c.loop-next-test.true c.loop-next.invariant c.in_ok-op.ensures.ok)
+    (meant_next c.args.spelled.now c.loop-next.next-index _ c.args.bytes.now c.loop-next.ops.items c.in_ok-op.op c.loop-next-test.true c.loop-next.invariant
+    c.in_ok-op.ensures.ok)

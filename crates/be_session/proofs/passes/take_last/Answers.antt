@@ -5,7 +5,8 @@ pub returns-clause-rest : goal.returns-clause-rest
 returns-clause-rest c = new_rest c.args._store.now c.args.passes.now.items c.pop.new.self.items c.pop.result c.pop.ensures.items c.requires
 
 pub returns-clause-pass : goal.returns-clause-pass
-returns-clause-pass c = new_last c.args._store.now c.args.passes.now.items c.pop.new.self.items c.pop.result _ c.pop.ensures.items c.pop.new.self.ok.0 c.requires
+returns-clause-pass c = new_last c.args._store.now c.args.passes.now.items c.pop.new.self.items c.pop.result _ c.pop.ensures.items c.pop.new.self.ok.0
+    c.requires
 
 pub returns-clause-room : goal.returns-clause-room
 returns-clause-room c = room_left c.pop.result _ _ _ _ c.pop.ensures.cases c.pop.ensures.capacity c.args.passes.now.ok.1

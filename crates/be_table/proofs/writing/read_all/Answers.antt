@@ -1,6 +1,6 @@
 use Rattle.std.proofs.Common.{◌+◌, [], ◌∷◌, ◌++◌, refl, sym, ap, ◌∙◌, subst, arith, length-append}
 use Rattle.be_table.specs.Rule.{pass_of}
-use Rattle.be_table.specs.Steps.{IsLeast, IsOwnPart, IsPart}
+use Rattle.be_table.specs.Steps.{IsLeastAnnounced, IsOwnPart, IsPart}
 use Rattle.be_table.proofs.Scans.{me_next, part_none, part_step, least_none, least_more, own_none, own_step, own_all, found_own}
 use Rattle.be_table.proofs.writing.read_all.Goals as goal
 
@@ -21,7 +21,7 @@ loop-pass-preserved c =
     record {
       table = r.ensures.seat.0 ∙ i.table;
       id = r.ensures.seat.1 ∙ i.id;
-      me = (i.me.0 ++ r.result ∷ [], length-append i.me.0 (r.result ∷ []) ∙ ap (λ n. n + 1) i.me.1, me_next a i.me.0 r.result c.loop-pass.base.me r.new.base.me c.args.base.now.me i.me.2 r.ensures.me, subst (IsLeast c.args.current (i.me.0 ++ r.result ∷ [])) (sym c.lower-least.ensures) (least_more c.args.current i.me.0 c.loop-pass.least r.result i.me.3));
+      me = (i.me.0 ++ r.result ∷ [], length-append i.me.0 (r.result ∷ []) ∙ ap (λ n. n + 1) i.me.1, me_next a i.me.0 r.result c.loop-pass.base.me r.new.base.me c.args.base.now.me i.me.2 r.ensures.me, subst (IsLeastAnnounced c.args.current (i.me.0 ++ r.result ∷ [])) (sym c.lower-least.ensures) (least_more c.args.current i.me.0 c.loop-pass.least r.result i.me.3));
       part = subst (IsPart c.args.table.now.limits.passes a (pass_of r.new.base.me.0) (c.loop-pass.pass + 1)) (sym c.lower-least.ensures)
           (part_step c.args.table.now.limits.passes a c.loop-pass.base.me r.new.base.me c.loop-pass.pass c.loop-pass.least r.result (omega arith) (ap (λ l. l.passes) c.requires.current.0) i.part r.ensures.me r.ensures.leaves);
       own = subst (IsOwnPart a (c.loop-pass.pass + 1)) (sym c.lower-least.ensures)

@@ -6,7 +6,7 @@ use Rattle.be_tree.specs.declared.slot.Slot.{Slot}
 use Rattle.be_tree.specs.declared.slot.Slot.TheVariants.{At}
 use Rattle.be_tree.specs.Pair.{Pair}
 use Rattle.be_tree.specs.Key.{IsRising, put}
-use Rattle.be_tree.specs.Page.{items_of, item_at, place_of}
+use Rattle.be_tree.specs.Page.{items_of, item_at, item_place}
 use Rattle.be_tree.specs.Slot.{IsReady, pairs_of}
 use Rattle.be_tree.specs.Tree.{AreNeighbours, child, pairs_at, pairs_below, pages_below, Becomes, IsBelow, IsTreeAt}
 use Rattle.be_tree.proofs.Putting.Puts.{becomes_beside, tree_weaker, becomes_below, becomes_since, becomes_until, child_read, held_after, becomes_trans, rising_put}
@@ -74,10 +74,10 @@ put_at-put_shared-requires g t c κs within =
     let same = unchanged_trans g.R.Look.kept g.R.Look.standing g.R.Look.words old here read c.rank.ensures.unchanged c.sharing_children.ensures.unchanged in
     let l = c.in-Some.left in
     let r = c.in-Some.right in
-    let l_is = c.in-Some.ensures.left ∙ ap (λ (w : ℕ → ℕ → ℕ). child (item_at (w page) (place_of i))) c.rank.ensures.unchanged.words in
-    let r_is = c.in-Some.ensures.right ∙ ap (λ (w : ℕ → ℕ → ℕ). child (item_at (w page) (place_of (i + 1)))) c.rank.ensures.unchanged.words in
+    let l_is = c.in-Some.ensures.left ∙ ap (λ (w : ℕ → ℕ → ℕ). child (item_at (w page) (item_place i))) c.rank.ensures.unchanged.words in
+    let r_is = c.in-Some.ensures.right ∙ ap (λ (w : ℕ → ℕ → ℕ). child (item_at (w page) (item_place (i + 1)))) c.rank.ensures.unchanged.words in
     let two = shares g.R.Look.kept g.R.Look.standing g.R.Look.words level page pair _ c.rank.result c.saturating_sub-at.result old c.requires.tree c.key.ensures c.rank.ensures.rank c.saturating_sub-at.ensures c.in-Some.ensures.inner.0 c.in-Some.ensures.inner.1 in
-    let named = subst (λ (p : ℕ). IsRising (pairs_at (level - 1) words p ++ put pair (pairs_at (level - 1) words r))) (sym l_is) (subst (λ (p : ℕ). IsRising (pairs_at (level - 1) words (child (item_at (words page) (place_of i))) ++ put pair (pairs_at (level - 1) words p))) (sym r_is) two.rising) in
+    let named = subst (λ (p : ℕ). IsRising (pairs_at (level - 1) words p ++ put pair (pairs_at (level - 1) words r))) (sym l_is) (subst (λ (p : ℕ). IsRising (pairs_at (level - 1) words (child (item_at (words page) (item_place i))) ++ put pair (pairs_at (level - 1) words p))) (sym r_is) two.rising) in
     let after = c.sharing_children.ensures.unchanged in (
       omega (arith, c.in-Some.ensures.inner),
       (
@@ -136,7 +136,7 @@ put_at-put_below-requires g t c κs within =
 
 pub put_at-replace_at-requires-clause-room : goal.put_at-replace_at-requires-clause-room
 put_at-replace_at-requires-clause-room g t c =
-    let len = ap length c.fill_slots.ensures.slots ∙ length-map-range_with_len (λ (j : ℕ). At (place_of j) c.args.page) 0 (g.R.Look.words c.sharing_children.new.look c.args.page 1) in
+    let len = ap length c.fill_slots.ensures.slots ∙ length-map-range_with_len (λ (j : ℕ). At (item_place j) c.args.page) 0 (g.R.Look.words c.sharing_children.new.look c.args.page 1) in
     let read = unchanged_trans g.R.Look.kept g.R.Look.standing g.R.Look.words c.args.room.now c.rank.new.look c.sharing_children.new.look c.rank.ensures.unchanged c.sharing_children.ensures.unchanged in
     omega (arith, c.in_ok-beside.ensures.some, len, ap (λ (w : ℕ → ℕ → ℕ). w c.args.page 1) read.words, c.requires.tree.node.is_page.few)
 
@@ -182,7 +182,7 @@ put_shared-fill_slots-requires-clause-page g t c =
 pub put_shared-append-requires : goal.put_shared-append-requires
 put_shared-append-requires g t c =
     let count = left_count g.R.Look.kept g.R.Look.standing g.R.Look.words c.args.level c.args.left c.args.right c.args.room.now c.requires.neighbours (put c.args.pair.now (pairs_at c.args.level (g.R.Look.words c.args.room.now) c.args.right)) c.args.pair.now c.put_at.new.slots.items c.put_at.new.room c.in_ok-put_at.ensures.ok in
-    let len = ap length c.fill_slots.ensures.slots ∙ length-map-range_with_len (λ (j : ℕ). At (place_of j) c.args.left) 0 (g.R.Look.words c.put_at.new.room c.args.left 1) in
+    let len = ap length c.fill_slots.ensures.slots ∙ length-map-range_with_len (λ (j : ℕ). At (item_place j) c.args.left) 0 (g.R.Look.words c.put_at.new.room c.args.left 1) in
     omega (arith, len, count, c.requires.roomy, c.in_ok-put_at.ensures.some, ap length c.deref.ensures.0)
 
 pub put_shared-pack_two-requires-clause-below : goal.put_shared-pack_two-requires-clause-below

@@ -2,7 +2,7 @@ use Rattle.std.proofs.Common.{ℕ, ◌≡◌, ◌∙◌, ap, subst, inl, inr, ge
 use Rattle.std.proofs.lemmas.List.{get_or_default}
 use Rattle.std.proofs.lemmas.Bool.{cases_lt}
 use Rattle.be_tree.specs.declared.slot.Slot.{Slot}
-use Rattle.be_tree.specs.Page.{IsItem, item_at, place_of}
+use Rattle.be_tree.specs.Page.{IsItem, item_at, item_place}
 use Rattle.be_tree.specs.Slot.{pair_of}
 use Rattle.be_tree.proofs.Codec.{item_at_same}
 use Rattle.be_tree.proofs.Bytes.Zeros.{IsItem_same}
@@ -21,16 +21,16 @@ loop-j-preserved g c =
       level = only.before 0 (omega arith) ∙ c.loop-j.invariant.level;
       count = only.before 1 (omega arith) ∙ c.loop-j.invariant.count;
       stored = λ k d lt. elim (cases_lt k c.loop-j.j) [
-        | inl below ↦ item_at_same v w (place_of k) (c.loop-j.invariant.fit k below) (λ i ge up. only.before i (omega arith)) ∙ c.loop-j.invariant.stored k d below
+        | inl below ↦ item_at_same v w (item_place k) (c.loop-j.invariant.fit k below) (λ i ge up. only.before i (omega arith)) ∙ c.loop-j.invariant.stored k d below
         | inr above ↦
             let e : c.loop-j.j ≡ k = omega arith in
-            subst (λ n. item_at w (place_of n) ≡ pair_of (g.R.Look.words c.args.room.now) c.args.pair.now (get_or c.args.slots.now n d)) e (this d)
+            subst (λ n. item_at w (item_place n) ≡ pair_of (g.R.Look.words c.args.room.now) c.args.pair.now (get_or c.args.slots.now n d)) e (this d)
       ];
       fit = λ k lt. elim (cases_lt k c.loop-j.j) [
-        | inl below ↦ IsItem_same v w (place_of k) (c.loop-j.invariant.fit k below) (λ i ge up. only.before i (omega arith))
+        | inl below ↦ IsItem_same v w (item_place k) (c.loop-j.invariant.fit k below) (λ i ge up. only.before i (omega arith))
         | inr above ↦
             let e : c.loop-j.j ≡ k = omega arith in
-            subst (λ n. IsItem w (place_of n)) e c.store_slot.ensures.fits
+            subst (λ n. IsItem w (item_place n)) e c.store_slot.ensures.fits
       ];
       standing = λ q. only.standing q ∙ c.loop-j.invariant.standing q;
       others = λ q ne. only.others q ne ∙ c.loop-j.invariant.others q ne;
@@ -40,5 +40,5 @@ loop-j-preserved g c =
 pub returns-clause-items : goal.returns-clause-items
 returns-clause-items g c =
     let w = g.R.Look.words c.loop-j.room c.args.page in
-    stored_map (pair_of (g.R.Look.words c.args.room.now) c.args.pair.now) (λ (k : ℕ). item_at w (place_of k)) c.args.slots.now (w 1) c.loop-j.invariant.count
+    stored_map (pair_of (g.R.Look.words c.args.room.now) c.args.pair.now) (λ (k : ℕ). item_at w (item_place k)) c.args.slots.now (w 1) c.loop-j.invariant.count
     (λ k d lt. c.loop-j.invariant.stored k d (omega (arith, c.loop-j.invariant.count, c.loop-j-test.false, lt)))

@@ -8,7 +8,7 @@ use Rattle.be_tree.specs.Key.{key_cmp, payload_at, without}
 use Rattle.std.specs.Prelude.{true, false}
 use Rattle.std.specs.Ordering.{is_eq}
 use Rattle.be_tree.proofs.Removing.Stops.{absent_is, down_read, found_is, passed_absent, passed_stop}
-use Rattle.be_tree.specs.Page.{items_of, item_at, place_of}
+use Rattle.be_tree.specs.Page.{items_of, item_at, item_place}
 use Rattle.be_tree.specs.Slot.{branch_to, IsBranchSlot, IsReady, pair_of, pairs_of}
 use Rattle.be_tree.specs.Tree.{Becomes, child, least_of_root, pairs_at, pairs_below, pages_below}
 use Rattle.be_tree.proofs.Nodes.Alone.{AroundOne, around_one}
@@ -42,7 +42,7 @@ remove_at-returns-then-level-eq0-clause-ok g t c =
     let same1 = c.rank.ensures.unchanged in
     let slots = c.slots_without.new.slots.items in
     let final = c.slots_without.new.look in
-    let is = subst (λ (w : ℕ → ℕ → ℕ). pairs_of w pair slots ≡ take at (items_of (w page)) ++ (without k (item_at (w page) (place_of at) ∷ []) ++ drop (suc at) (items_of (w page)))) same1.words (c.in_ok-slots_without.ensures.items pair) in
+    let is = subst (λ (w : ℕ → ℕ → ℕ). pairs_of w pair slots ≡ take at (items_of (w page)) ++ (without k (item_at (w page) (item_place at) ∷ []) ++ drop (suc at) (items_of (w page)))) same1.words (c.in_ok-slots_without.ensures.items pair) in
     slots_until g.R.Look.kept g.R.Look.standing g.R.Look.words (pages_below level words (items_of (words page))) (without k (pairs_at level words page)) level pair slots old old final (unchanged_trans g.R.Look.kept g.R.Look.standing g.R.Look.words old c.rank.new.look final same1 c.slots_without.ensures.unchanged)
     (leaf_removed g.R.Look.kept g.R.Look.standing g.R.Look.words level page k c.rank.result at old c.requires.tree c.rank.ensures.rank c.saturating_sub-at.ensures c.if-level-eq0.true (pairs_of words pair slots) is)
 
@@ -68,14 +68,14 @@ alone_around g t c =
     let old = c.args.room.now in
     let read = c.spare_child.new.look in
     let same = unchanged_trans g.R.Look.kept g.R.Look.standing g.R.Look.words old c.rank.new.look read c.rank.ensures.unchanged c.spare_child.ensures.unchanged in
-    let is = c.in-Some.ensures.child ∙ ap (λ (w : ℕ → ℕ → ℕ). child (item_at (w page) (place_of at))) c.rank.ensures.unchanged.words in
+    let is = c.in-Some.ensures.child ∙ ap (λ (w : ℕ → ℕ → ℕ). child (item_at (w page) (item_place at))) c.rank.ensures.unchanged.words in
     let mid = c.remove_alone.new.room in
     let us = pair_of (g.R.Look.words mid) c.args.pair.now c.in_ok-slot.slot ∷ [] in
     around_one g.R.Look.kept g.R.Look.standing g.R.Look.words c.args.level (c.args.level - 1) (least_of_root c.args.level) page at c.in-Some.below old read (alone_level g t c) c.requires.tree (alone_place g t c) same is (without c.args.key.now) us mid c.in_ok-slot.ensures.ok
 
 alone_without : (g : Over) (t : ℕ) (c : remove_at-After-slots_with_one-arg-1 g t)
     → without c.args.key.now (pairs_at c.args.level (g.R.Look.words c.args.room.now) c.args.page) ≡ pairs_below (suc (c.args.level - 1)) (g.R.Look.words c.args.room.now) (take c.saturating_sub-at.result (items_of (g.R.Look.words c.args.room.now c.args.page)))
-    ++ (without c.args.key.now (pairs_at (c.args.level - 1) (g.R.Look.words c.args.room.now) (child (item_at (g.R.Look.words c.args.room.now c.args.page) (place_of c.saturating_sub-at.result)))) ++ pairs_below (suc (c.args.level - 1)) (g.R.Look.words c.args.room.now) (drop (suc c.saturating_sub-at.result) (items_of (g.R.Look.words c.args.room.now c.args.page))))
+    ++ (without c.args.key.now (pairs_at (c.args.level - 1) (g.R.Look.words c.args.room.now) (child (item_at (g.R.Look.words c.args.room.now c.args.page) (item_place c.saturating_sub-at.result)))) ++ pairs_below (suc (c.args.level - 1)) (g.R.Look.words c.args.room.now) (drop (suc c.saturating_sub-at.result) (items_of (g.R.Look.words c.args.room.now c.args.page))))
 alone_without g t c = key_out g.R.Look.kept g.R.Look.standing g.R.Look.words c.args.level c.args.page c.args.key.now c.rank.result c.saturating_sub-at.result c.args.room.now c.requires.tree c.rank.ensures.rank c.saturating_sub-at.ensures (c.args.level - 1) (alone_level g t c)
 
 next_level : (g : Over) (t : ℕ) (c : remove_at-After-slots_with-arg-1 g t) → c.args.level ≡ suc (c.args.level - 1)
@@ -98,7 +98,7 @@ next_around g t c =
     around_two g.R.Look.kept g.R.Look.standing g.R.Look.words c.args.level (c.args.level - 1) (least_of_root c.args.level) c.args.page c.saturating_sub-at.result c.two_children-here.result.0 c.two_children-here.result.1 old here c.two_children-here.new.look (next_level g t c) c.requires.tree (next_place g t c) same c.two_children-here.ensures.unchanged c.two_children-here.ensures.left c.two_children-here.ensures.right (λ (xs ys : List Pair). without c.args.key.now xs ++ ys) us mid c.in_ok-two.ensures.ok
 
 next_without : (g : Over) (t : ℕ) (c : remove_at-After-slots_with-arg-1 g t)
-    → without c.args.key.now (pairs_at c.args.level (g.R.Look.words c.args.room.now) c.args.page) ≡ pairs_below c.args.level (g.R.Look.words c.args.room.now) (take c.saturating_sub-at.result (items_of (g.R.Look.words c.args.room.now c.args.page))) ++ ((without c.args.key.now (pairs_at (c.args.level - 1) (g.R.Look.words c.args.room.now) (child (item_at (g.R.Look.words c.args.room.now c.args.page) (place_of c.saturating_sub-at.result)))) ++ pairs_at (c.args.level - 1) (g.R.Look.words c.args.room.now) (child (item_at (g.R.Look.words c.args.room.now c.args.page) (place_of (c.saturating_sub-at.result + 1))))) ++ pairs_below c.args.level (g.R.Look.words c.args.room.now) (drop (c.saturating_sub-at.result + 2) (items_of (g.R.Look.words c.args.room.now c.args.page))))
+    → without c.args.key.now (pairs_at c.args.level (g.R.Look.words c.args.room.now) c.args.page) ≡ pairs_below c.args.level (g.R.Look.words c.args.room.now) (take c.saturating_sub-at.result (items_of (g.R.Look.words c.args.room.now c.args.page))) ++ ((without c.args.key.now (pairs_at (c.args.level - 1) (g.R.Look.words c.args.room.now) (child (item_at (g.R.Look.words c.args.room.now c.args.page) (item_place c.saturating_sub-at.result)))) ++ pairs_at (c.args.level - 1) (g.R.Look.words c.args.room.now) (child (item_at (g.R.Look.words c.args.room.now c.args.page) (item_place (c.saturating_sub-at.result + 1))))) ++ pairs_below c.args.level (g.R.Look.words c.args.room.now) (drop (c.saturating_sub-at.result + 2) (items_of (g.R.Look.words c.args.room.now c.args.page))))
 next_without g t c =
     let one = key_out g.R.Look.kept g.R.Look.standing g.R.Look.words c.args.level c.args.page c.args.key.now c.rank.result c.saturating_sub-at.result c.args.room.now c.requires.tree c.rank.ensures.rank c.saturating_sub-at.ensures (c.args.level - 1) (next_level g t c) in
     first_changed c.args.level (c.args.level - 1) (least_of_root c.args.level) c.args.page (g.R.Look.standing c.args.room.now) (g.R.Look.words c.args.room.now) (next_level g t c) c.requires.tree c.saturating_sub-at.result (next_place g t c) (without c.args.key.now (pairs_at c.args.level (g.R.Look.words c.args.room.now) c.args.page)) (without c.args.key.now) one
@@ -126,7 +126,7 @@ before_around g t c =
     around_two g.R.Look.kept g.R.Look.standing g.R.Look.words c.args.level (c.args.level - 1) (least_of_root c.args.level) c.args.page (c.saturating_sub-at.result - 1) c.two_children-before.result.0 c.two_children-before.result.1 old here c.two_children-before.new.look (before_level g t c) c.requires.tree (before_place g t c) same c.two_children-before.ensures.unchanged c.two_children-before.ensures.left c.two_children-before.ensures.right (λ (xs ys : List Pair). xs ++ without c.args.key.now ys) us mid c.in_ok-two-2.ensures.ok
 
 before_without : (g : Over) (t : ℕ) (c : remove_at-After-slots_with-arg-2-1 g t)
-    → without c.args.key.now (pairs_at c.args.level (g.R.Look.words c.args.room.now) c.args.page) ≡ pairs_below c.args.level (g.R.Look.words c.args.room.now) (take (c.saturating_sub-at.result - 1) (items_of (g.R.Look.words c.args.room.now c.args.page))) ++ ((pairs_at (c.args.level - 1) (g.R.Look.words c.args.room.now) (child (item_at (g.R.Look.words c.args.room.now c.args.page) (place_of (c.saturating_sub-at.result - 1)))) ++ without c.args.key.now (pairs_at (c.args.level - 1) (g.R.Look.words c.args.room.now) (child (item_at (g.R.Look.words c.args.room.now c.args.page) (place_of ((c.saturating_sub-at.result - 1) + 1)))))) ++ pairs_below c.args.level (g.R.Look.words c.args.room.now) (drop ((c.saturating_sub-at.result - 1) + 2) (items_of (g.R.Look.words c.args.room.now c.args.page))))
+    → without c.args.key.now (pairs_at c.args.level (g.R.Look.words c.args.room.now) c.args.page) ≡ pairs_below c.args.level (g.R.Look.words c.args.room.now) (take (c.saturating_sub-at.result - 1) (items_of (g.R.Look.words c.args.room.now c.args.page))) ++ ((pairs_at (c.args.level - 1) (g.R.Look.words c.args.room.now) (child (item_at (g.R.Look.words c.args.room.now c.args.page) (item_place (c.saturating_sub-at.result - 1)))) ++ without c.args.key.now (pairs_at (c.args.level - 1) (g.R.Look.words c.args.room.now) (child (item_at (g.R.Look.words c.args.room.now c.args.page) (item_place ((c.saturating_sub-at.result - 1) + 1)))))) ++ pairs_below c.args.level (g.R.Look.words c.args.room.now) (drop ((c.saturating_sub-at.result - 1) + 2) (items_of (g.R.Look.words c.args.room.now c.args.page))))
 before_without g t c =
     let one = key_out g.R.Look.kept g.R.Look.standing g.R.Look.words c.args.level c.args.page c.args.key.now c.rank.result c.saturating_sub-at.result c.args.room.now c.requires.tree c.rank.ensures.rank c.saturating_sub-at.ensures (c.args.level - 1) (before_level g t c) in
     second_changed c.args.level (c.args.level - 1) (least_of_root c.args.level) c.args.page (g.R.Look.standing c.args.room.now) (g.R.Look.words c.args.room.now) (before_level g t c) c.requires.tree (c.saturating_sub-at.result - 1) (before_place g t c) c.saturating_sub-at.result (before_is g t c) (without c.args.key.now (pairs_at c.args.level (g.R.Look.words c.args.room.now) c.args.page)) (without c.args.key.now) one
@@ -329,10 +329,10 @@ remove_at-returns-then-level-eq0-clause-found g t c =
     let k = c.args.key.now in
     let at = c.saturating_sub-at.result in
     let words = g.R.Look.words old in
-    let item = item_at (words c.args.page) (place_of at) in
+    let item = item_at (words c.args.page) (item_place at) in
     let is = payload_leaf g.R.Look.kept g.R.Look.standing g.R.Look.words level c.args.page k c.rank.result at old c.requires.tree c.rank.ensures.rank c.saturating_sub-at.ensures c.if-level-eq0.true in
     found_is (payload_at (pairs_at level words c.args.page) k) (is_eq (key_cmp item.key k)) item.payload is
-    (subst (λ (w : ℕ → ℕ → ℕ). is_eq (key_cmp (item_at (w c.args.page) (place_of at)).key k) ≡ true) c.rank.ensures.unchanged.words c.in_ok-slots_without.ensures.found)
+    (subst (λ (w : ℕ → ℕ → ℕ). is_eq (key_cmp (item_at (w c.args.page) (item_place at)).key k) ≡ true) c.rank.ensures.unchanged.words c.in_ok-slots_without.ensures.found)
 
 pub remove_at-returns-in_err-slots_without-clause-stopped : goal.remove_at-returns-in_err-slots_without-clause-stopped
 remove_at-returns-in_err-slots_without-clause-stopped g t c =
@@ -341,12 +341,12 @@ remove_at-returns-in_err-slots_without-clause-stopped g t c =
     let k = c.args.key.now in
     let at = c.saturating_sub-at.result in
     let words = g.R.Look.words old in
-    let item = item_at (words c.args.page) (place_of at) in
+    let item = item_at (words c.args.page) (item_place at) in
     let is = payload_leaf g.R.Look.kept g.R.Look.standing g.R.Look.words level c.args.page k c.rank.result at old c.requires.tree c.rank.ensures.rank c.saturating_sub-at.ensures c.if-level-eq0.true in
     let told = c.in_err-slots_without.ensures.absent in
     passed_absent c.from_residual.result c.in_err-slots_without.field-0.0 _ _ c.from_residual.ensures.1 told.0 (
       absent_is (payload_at (pairs_at level words c.args.page) k) (is_eq (key_cmp item.key k)) item.payload is
-          (subst (λ (w : ℕ → ℕ → ℕ). is_eq (key_cmp (item_at (w c.args.page) (place_of at)).key k) ≡ false) c.rank.ensures.unchanged.words told.1),
+          (subst (λ (w : ℕ → ℕ → ℕ). is_eq (key_cmp (item_at (w c.args.page) (item_place at)).key k) ≡ false) c.rank.ensures.unchanged.words told.1),
       unchanged_trans g.R.Look.kept g.R.Look.standing g.R.Look.words old c.rank.new.look c.slots_without.new.look c.rank.ensures.unchanged c.slots_without.ensures.unchanged,
     )
 
@@ -510,7 +510,7 @@ remove_left-append-requires g t c =
     let mid = c.remove_at.new.room in
     let all = without c.args.key.now (pairs_at level words l) in
     let count = right_count g.R.Look.kept g.R.Look.standing g.R.Look.words level l r old two all c.args.pair.now c.remove_at.new.slots.items mid c.in_ok-remove_at.ensures.ok in
-    let len = ap length c.fill_slots.ensures.slots ∙ length-map-range_with_len (λ (j : ℕ). At (place_of j) r) 0 (g.R.Look.words mid r 1) in
+    let len = ap length c.fill_slots.ensures.slots ∙ length-map-range_with_len (λ (j : ℕ). At (item_place j) r) 0 (g.R.Look.words mid r 1) in
     omega (arith, len, count, two.right_tree.node.is_page.few, c.in_ok-remove_at.ensures.some, ap length c.deref.ensures.0)
 
 pub remove_left-pack_two-requires-clause-below : goal.remove_left-pack_two-requires-clause-below
@@ -581,7 +581,7 @@ remove_right-append-requires g t c =
     let mid = c.remove_at.new.room in
     let all = without c.args.key.now (pairs_at level words r) in
     let count = left_count g.R.Look.kept g.R.Look.standing g.R.Look.words level l r old two all c.args.pair.now c.remove_at.new.slots.items mid c.in_ok-remove_at.ensures.ok in
-    let len = ap length c.fill_slots.ensures.slots ∙ length-map-range_with_len (λ (j : ℕ). At (place_of j) l) 0 (g.R.Look.words mid l 1) in
+    let len = ap length c.fill_slots.ensures.slots ∙ length-map-range_with_len (λ (j : ℕ). At (item_place j) l) 0 (g.R.Look.words mid l 1) in
     omega (arith, len, count, two.left_tree.node.is_page.few, c.in_ok-remove_at.ensures.some, ap length c.deref.ensures.0)
 
 pub remove_right-pack_two-requires-clause-below : goal.remove_right-pack_two-requires-clause-below

@@ -4,7 +4,7 @@ use Rattle.std.proofs.lemmas.List.{length-set}
 use Rattle.std.proofs.lemmas.List.FromFn.{length-map-range_with_len}
 use Rattle.be_tree.specs.declared.slot.Slot.TheVariants.{At}
 use Rattle.be_tree.specs.Pair.{Pair}
-use Rattle.be_tree.specs.Page.{place_of}
+use Rattle.be_tree.specs.Page.{item_place}
 use Rattle.be_tree.specs.Slot.{pair_of, pairs_of, IsReady}
 use Rattle.be_tree.proofs.Nodes.Slots.{loaded_pairs, loaded_ready}
 use Rattle.be_tree.proofs.Nodes.SlotLists.{one_all, one_mapped_in, one_set, refilled}
@@ -20,7 +20,7 @@ is_set g c =
     refilled slots (set lent c.args.at c.args.slot) (length-set lent c.args.at c.args.slot ∙ ap length c.deref_mut.ensures.value) ∙ ap (λ xs. set xs c.args.at c.args.slot) c.deref_mut.ensures.value
 
 inside : (g : Over) (c : After-deref_mut g) → c.args.at < length c.fill_slots.new.slots.items
-inside g c = omega (arith, ap length c.fill_slots.ensures.slots ∙ length-map-range_with_len (λ (j : ℕ). At (place_of j) c.args.page) 0 (g.L.Look.words c.args.look.now c.args.page 1), c.requires.in_page)
+inside g c = omega (arith, ap length c.fill_slots.ensures.slots ∙ length-map-range_with_len (λ (j : ℕ). At (item_place j) c.args.page) 0 (g.L.Look.words c.args.look.now c.args.page 1), c.requires.in_page)
 
 pub returns-clause-items : goal.returns-clause-items
 returns-clause-items g c = λ given.

@@ -5,7 +5,8 @@ use Rattle.bestore_c.proofs.asking.tell.Goals as goal
 
 pub returns-in-Ok-clause-found : goal.returns-in-Ok-clause-found
 returns-in-Ok-clause-found c = λ pin meant pinned.
-    found_ok (λ v. v.items) pin c.args.answer c.in-Ok.found meant c.args.nodes.now c.put.new.places _ _ c.in-Ok.is pinned refl (c.len.ensures ∙ c.in-Ok.found.ok.0)
+    found_ok (λ v. v.items) pin c.args.answer c.in-Ok.found meant c.args.nodes.now c.put.new.places _ _ c.in-Ok.is pinned refl
+    (c.len.ensures ∙ c.in-Ok.found.ok.0)
     (c.put.ensures ∙ ap (λ xs. over xs c.args.nodes.now) c.as_slice.ensures.value)
 
 pub returns-in-Err-clause-found : goal.returns-in-Err-clause-found

@@ -9,7 +9,8 @@ use Rattle.bestore_c.proofs.listing.put_spelled.Goals as goal
 pub returns-in-Ok-clause-listed : goal.returns-in-Ok-clause-listed
 returns-in-Ok-clause-listed c = λ ops are none.
     let spelling = c.in-Ok.spelling in
-    put_out ops c.put_spelling.new.counts c.args.operations.now c.put_spelling.new.operations c.args.bytes.now c.put_spelling.new.bytes _ spelling.operations.items spelling.bytes.items
+    put_out ops c.put_spelling.new.counts c.args.operations.now c.put_spelling.new.operations c.args.bytes.now c.put_spelling.new.bytes _
+    spelling.operations.items spelling.bytes.items
     (at_ok (λ s. AreSpelled s.operations.items s.bytes.items ops) c.args.spelled spelling c.in-Ok.is are) refl
     c.put_spelling.ensures.operations.0 c.put_spelling.ensures.operations.1 c.put_spelling.ensures.bytes.0 c.put_spelling.ensures.bytes.1
 

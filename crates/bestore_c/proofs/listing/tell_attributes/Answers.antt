@@ -5,9 +5,11 @@ use Rattle.bestore_c.proofs.listing.tell_attributes.Goals as goal
 
 pub returns-in-Ok-clause-listed : goal.returns-in-Ok-clause-listed
 returns-in-Ok-clause-listed c = λ pin meant pinned.
-    listed_ok (sets c.args.node) (λ v. v.items) c.put_spelled.new.counts c.args.operations.now c.put_spelled.new.operations c.args.bytes.now c.put_spelled.new.bytes c.put_spelled.result
+    listed_ok (sets c.args.node) (λ v. v.items) c.put_spelled.new.counts c.args.operations.now c.put_spelled.new.operations c.args.bytes.now
+    c.put_spelled.new.bytes c.put_spelled.result
     pin c.args.answer c.in-Ok.list meant c.as_slice.result.now c.in-Ok.is pinned c.as_slice.ensures.value
-    (c.put_spelled.ensures.listed (map (sets c.args.node) c.as_slice.result.now) c.attributes_spelled-spelled.ensures.ok c.attributes_spelled-spelled.ensures.err)
+    (c.put_spelled.ensures.listed (map (sets c.args.node) c.as_slice.result.now) c.attributes_spelled-spelled.ensures.ok
+    c.attributes_spelled-spelled.ensures.err)
 
 pub returns-in-Err-clause-listed : goal.returns-in-Err-clause-listed
 returns-in-Err-clause-listed c = λ pin meant pinned.

@@ -5,7 +5,8 @@ use Rattle.bestore_c.proofs.listing.tell_indices.Goals as goal
 
 pub returns-in-Ok-clause-listed : goal.returns-in-Ok-clause-listed
 returns-in-Ok-clause-listed c = λ pin meant pinned.
-    listed_ok makes (λ v. v.items) c.put_spelled.new.counts c.args.operations.now c.put_spelled.new.operations c.args.bytes.now c.put_spelled.new.bytes c.put_spelled.result
+    listed_ok makes (λ v. v.items) c.put_spelled.new.counts c.args.operations.now c.put_spelled.new.operations c.args.bytes.now c.put_spelled.new.bytes
+    c.put_spelled.result
     pin c.args.answer c.in-Ok.list meant c.as_slice.result.now c.in-Ok.is pinned c.as_slice.ensures.value
     (c.put_spelled.ensures.listed (map makes c.as_slice.result.now) c.indices_spelled-spelled.ensures.ok c.indices_spelled-spelled.ensures.err)
 

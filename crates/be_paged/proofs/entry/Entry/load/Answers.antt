@@ -1,7 +1,7 @@
 use Rattle.std.proofs.Common.{ℕ, List, ◌+◌, ◌<◌, ◌≤◌, slice_index, ap, sym, subst, ◌∙◌}
 use Rattle.be_paged.specs.Entry.{HaveText}
 use Rattle.be_paged.specs.Page.{entry_at, kind_numbered}
-use Rattle.be_paged.proofs.Codec.{name_moved, text_moved, entry_is}
+use Rattle.be_paged.proofs.Stored.Codec.{name_moved, text_moved, entry_is}
 use Rattle.be_paged.proofs.entry.Entry.load.Goals as goal
 
 pub invariant_of-result : goal.invariant_of-result

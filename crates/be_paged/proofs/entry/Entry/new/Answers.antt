@@ -1,6 +1,6 @@
 use Rattle.std.proofs.Common.{◌≡◌, ℕ, ◌≤◌, ◌∷◌, [], List, length, slice_index, sym, subst, ◌∙◌, refl}
 use Rattle.be_paged.specs.Entry.{HaveText}
-use Rattle.be_paged.proofs.Codec.{have_text, text_told, name_short, same_entry}
+use Rattle.be_paged.proofs.Stored.Codec.{have_text, text_told, name_short, same_entry}
 use Rattle.be_paged.proofs.entry.Entry.new.Goals as goal
 
 pub invariant_of-result : goal.invariant_of-result

@@ -3,7 +3,7 @@ use Rattle.std.proofs.lemmas.Bool.Decides.{nat_tests}
 use Rattle.be_volume.specs.Sound.{IsName}
 use Rattle.be_paged.specs.Entry.{Entry, HaveText}
 use Rattle.be_paged.specs.Page.{kind_numbered}
-use Rattle.be_paged.proofs.Codec.{name_moved, text_moved, entry_is}
+use Rattle.be_paged.proofs.Stored.Codec.{name_moved, text_moved, entry_is}
 use Rattle.be_paged.proofs.entry.Entry.store.Goals as goal
 
 pub returns-clause-stored : goal.returns-clause-stored

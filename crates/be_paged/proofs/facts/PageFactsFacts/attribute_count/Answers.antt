@@ -1,4 +1,4 @@
-use Rattle.be_paged.proofs.Validity.{values_valid}
+use Rattle.be_paged.proofs.CatalogPairs.Validity.{values_valid}
 use Rattle.be_paged.proofs.facts.PageFactsFacts.attribute_count.Goals as goal
 
 pub returns-clause-answer : goal.returns-clause-answer

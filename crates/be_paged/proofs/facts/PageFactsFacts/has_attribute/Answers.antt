@@ -1,6 +1,6 @@
 use Rattle.std.proofs.Common.{◌∙◌}
 use Rattle.be_tree.specs.Tree.{pairs}
-use Rattle.be_paged.proofs.FactValues.{attribute_there}
+use Rattle.be_paged.proofs.CatalogPairs.FactValues.{attribute_there}
 use Rattle.be_paged.proofs.facts.PageFactsFacts.has_attribute.Goals as goal
 
 pub returns-clause-answer : goal.returns-clause-answer

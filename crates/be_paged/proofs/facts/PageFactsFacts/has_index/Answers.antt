@@ -2,7 +2,7 @@ use Rattle.std.proofs.Common.{◌∙◌, subst, List}
 use Rattle.std.specs.Result.{IfOk, IfErr}
 use Rattle.be_paged.specs.Entry.{Entry}
 use Rattle.be_paged.specs.Page.{IsNamedAt, IsGapAt}
-use Rattle.be_paged.proofs.FactValues.{index_there}
+use Rattle.be_paged.proofs.CatalogPairs.FactValues.{index_there}
 use Rattle.be_paged.proofs.facts.PageFactsFacts.has_index.Goals as goal
 
 pub returns-clause-answer : goal.returns-clause-answer

@@ -1,5 +1,5 @@
 use Rattle.std.proofs.Common.{◌∙◌}
-use Rattle.be_paged.proofs.FactValues.{index_count}
+use Rattle.be_paged.proofs.CatalogPairs.FactValues.{index_count}
 use Rattle.be_paged.proofs.facts.PageFactsFacts.index_count.Goals as goal
 
 pub returns-clause-answer : goal.returns-clause-answer

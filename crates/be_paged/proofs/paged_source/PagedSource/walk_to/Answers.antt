@@ -7,7 +7,7 @@ use Rattle.be_tree.specs.Tree.{pairs}
 use Rattle.be_value.specs.declared.values.Kind.TheVariants as kinds
 use Rattle.be_paged.specs.Entry.{Entry}
 use Rattle.be_paged.specs.Page.{contents_of}
-use Rattle.be_paged.proofs.Walks.{cursor_since}
+use Rattle.be_paged.proofs.Asking.Walks.{cursor_since}
 use Rattle.be_paged.proofs.paged_source.PagedSource.walk_to.Goals as goal
 
 nowhere : Entry

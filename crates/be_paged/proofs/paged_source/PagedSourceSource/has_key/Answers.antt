@@ -4,8 +4,8 @@ use Rattle.be_tree.specs.Tree.{IsTree, pairs}
 use Rattle.be_value.specs.declared.values.Kind.TheVariants as kinds
 use Rattle.be_paged.specs.Entry.{Entry}
 use Rattle.be_paged.specs.Page.{contents_of}
-use Rattle.be_paged.proofs.PageIndices.{source_since}
-use Rattle.be_paged.proofs.SourceKeys.{entry_tree, no_key, key_found, key_finds}
+use Rattle.be_paged.proofs.Stored.PageIndices.{source_since}
+use Rattle.be_paged.proofs.Asking.SourceKeys.{entry_tree, no_key, key_found, key_finds}
 use Rattle.be_paged.proofs.Versions.{version_since}
 use Rattle.be_paged.proofs.paged_source.PagedSourceSource.has_key.Goals as goal
 

@@ -3,8 +3,8 @@ use Rattle.be_value.specs.declared.values.Kind.{Kind}
 use Rattle.be_value.specs.declared.values.Kind.TheVariants as kinds
 use Rattle.be_paged.specs.Entry.{Entry}
 use Rattle.be_paged.specs.Page.{contents_of}
-use Rattle.be_paged.proofs.Indexing.{kind_found, kind_absent}
-use Rattle.be_paged.proofs.PageIndices.{source_since}
+use Rattle.be_paged.proofs.IndexEntries.Indexing.{kind_found, kind_absent}
+use Rattle.be_paged.proofs.Stored.PageIndices.{source_since}
 use Rattle.be_paged.proofs.Versions.{version_since}
 use Rattle.be_paged.proofs.paged_source.PagedSourceSource.kind_of.Goals as goal
 

@@ -12,8 +12,8 @@ use Rattle.be_tree.proofs.Trees.{tree_rising}
 use Rattle.be_value.specs.declared.values.Kind.TheVariants as kinds
 use Rattle.be_paged.specs.Entry.{Entry}
 use Rattle.be_paged.specs.Page.{IsNamedAt, contents_of}
-use Rattle.be_paged.proofs.PageIndices.{source_since}
-use Rattle.be_paged.proofs.SourceKeys.{entry_tree, no_key, is_next_key, behind_next}
+use Rattle.be_paged.proofs.Stored.PageIndices.{source_since}
+use Rattle.be_paged.proofs.Asking.SourceKeys.{entry_tree, no_key, is_next_key, behind_next}
 use Rattle.be_paged.proofs.Versions.{version_since}
 use Rattle.be_paged.proofs.paged_source.PagedSourceSource.next_key.Goals as goal
 

@@ -8,9 +8,9 @@ use Rattle.be_tree.proofs.Trees.{tree_rising}
 use Rattle.be_value.specs.declared.values.Kind.TheVariants as kinds
 use Rattle.be_paged.specs.Entry.{Entry}
 use Rattle.be_paged.specs.Page.{contents_of}
-use Rattle.be_paged.proofs.PageIndices.{source_since}
-use Rattle.be_paged.proofs.RangeNodes.{first_keeps, first_only, keys_long, range_has}
-use Rattle.be_paged.proofs.SourceKeys.{entry_tree, no_key}
+use Rattle.be_paged.proofs.Stored.PageIndices.{source_since}
+use Rattle.be_paged.proofs.Asking.RangeNodes.{first_keeps, first_only, keys_long, range_has}
+use Rattle.be_paged.proofs.Asking.SourceKeys.{entry_tree, no_key}
 use Rattle.be_paged.proofs.Versions.{version_since}
 use Rattle.be_paged.proofs.paged_source.PagedSourceSource.nodes_within.Goals as goal
 

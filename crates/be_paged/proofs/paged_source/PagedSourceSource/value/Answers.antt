@@ -1,4 +1,4 @@
-use Rattle.be_paged.proofs.PageIndices.{source_since}
+use Rattle.be_paged.proofs.Stored.PageIndices.{source_since}
 use Rattle.be_paged.proofs.paged_source.PagedSourceSource.value.Goals as goal
 
 pub get-requires : goal.get-requires

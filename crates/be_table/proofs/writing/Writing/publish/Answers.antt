@@ -7,7 +7,7 @@ use Rattle.be_table.specs.declared.pass.Knowledge.{Knowledge}
 use Rattle.be_table.specs.Place.{Work}
 use Rattle.be_table.specs.Rule.{entries, ledger_places, page_at, pass_of}
 use Rattle.be_table.specs.Seats.{pin_of}
-use Rattle.be_table.specs.Ledger.{is_kept}
+use Rattle.be_table.specs.Ledger.{is_of_next}
 use Rattle.be_table.specs.Reading.{word_in}
 use Rattle.be_table.specs.Steps.{IsPass, commit_of, pages_from, publishes}
 use Rattle.be_table.specs.Versions.{SpellsVolume}
@@ -38,8 +38,8 @@ announce-requires-clause-pass c =
         room = (i.room (let n = c.requires.count.0 in let r = c.requires.reserved in omega arith)).1;
         inside = subst (λ (n : Knowledge). c.args.page < length n.places) (sym k) c.is_filled.ensures.0;
         filled = ap (λ (n : Knowledge). place_of n.places c.args.page) k ∙ c.is_filled.ensures.1;
-        spelt = subst (λ (n : Knowledge). SpellsVolume (pages_from is_kept 0 n.places) (word_in n.words) c.args.page (replay (entries n.seen ++ e ∷ []))) (sym k)
-            (subst (λ s. SpellsVolume (pages_from is_kept 0 n0.places) (word_in n0.words) c.args.page s) (sym (replay_push (entries n0.seen) e))
+        spelt = subst (λ (n : Knowledge). SpellsVolume (pages_from is_of_next 0 n.places) (word_in n.words) c.args.page (replay (entries n.seen ++ e ∷ []))) (sym k)
+            (subst (λ s. SpellsVolume (pages_from is_of_next 0 n0.places) (word_in n0.words) c.args.page s) (sym (replay_push (entries n0.seen) e))
             (spells_kept n0.places few c.requires.filled (word_in n0.words) c.args.page _ c.requires.volume c.requires.exact));
       },
     )

@@ -1,0 +1,9 @@
+pub mod CheckLemmas
+pub mod LineLemmas
+pub mod NumberLemmas
+pub mod OpLemmas
+pub mod PartLemmas
+pub mod ReadLemmas
+pub mod SameLemmas
+pub mod TellLemmas
+pub mod ValueLemmas

@@ -1,0 +1,60 @@
+-- Which journal a text tells, and what the check of it finds.
+use Rattle.std.specs.Prelude.{◌≡◌, ◌⊎◌, ℕ, ◌+◌, ◌<◌, ◌^◌, Bool, All, List, [], ◌∷◌, ◌++◌, length, get_or, nat_eq, ◌&&◌, if◌then◌else◌, Some, None, codes}
+use Rattle.std.specs.Fmt.{decimal}
+use Rattle.std.specs.String.{string_bytes}
+use Rattle.std.specs.declared.option.Option.{Option}
+use Rattle.be_journal.specs.Journal.{IsEntry, IsFirstWrong}
+use Rattle.be_journal.specs.Text.{entry_line, lines_from, result_text}
+use Rattle.be_journal.specs.declared.entries.Entry.{Entry}
+use Rattle.be_history.specs.History.{AreWritten}
+use Rattle.be_history.specs.declared.checks.Finding.{Finding}
+use Rattle.be_history.specs.declared.checks.Finding.TheVariants as findings
+
+-- whole lines, or nothing
+abbrev pub AreLines : List ℕ → Type 0
+AreLines text = (text ≡ []) ⊎ ((front : List ℕ) × (text ≡ front ++ 10 ∷ []))
+
+-- the line `journal N`
+abbrev pub head : ℕ → List ℕ
+head count = codes "journal " ++ (decimal count ++ codes "\n")
+
+-- A text tells the journal whose text it is, or that which stands as the result of a race behind its other lines.
+abbrev pub Tells : List ℕ → List Entry → Type 0
+Tells text entries = (text ≡ lines_from 1 entries) ⊎ ((front : List ℕ) × AreLines front × (text ≡ front ++ result_text entries))
+
+-- the first of the two that is some
+abbrev pub or_else : Option (List ℕ) → Option (List ℕ) → Option (List ℕ)
+or_else (Some text) other = Some text
+or_else None other = other
+
+-- the text from its last line on that begins with `j`; whether a line starts at its front
+abbrev pub from_last_j : Bool → List ℕ → Option (List ℕ)
+from_last_j start [] = None
+from_last_j start (c ∷ text) = or_else (from_last_j (nat_eq c 10) text) (if start && nat_eq c 106 then Some (c ∷ text) else None)
+
+-- entries of which each has its operations and answers, and fewer than 2^32 of them
+abbrev pub AreChecked : List Entry → Type 0
+AreChecked entries = All IsEntry entries × (length entries < 2 ^ 32)
+
+-- what the check of a text finds: that it tells no journal, that its journal is right, or the line of the first wrong entry
+pub data Found : Type 0 where
+  no_journal : Found
+  right : Found
+  wrong : List ℕ → Found
+
+abbrev pub found_of : Finding → Found
+found_of findings.NoJournal = no_journal
+found_of findings.Right = right
+found_of (findings.Wrong line) = wrong (string_bytes line)
+
+-- what the check of entries finds
+abbrev pub IsFound : List Entry → Found → Type 0
+IsFound entries no_journal = ⊥
+IsFound entries right = IsFirstWrong entries None
+IsFound entries (wrong line) = (i : ℕ) × (entry : Entry) × IsFirstWrong entries (Some i) × (entry ≡ get_or entries i entry) × (line ≡ entry_line (i + 1) entry)
+
+-- what the check of a text finds
+abbrev pub IsFinding : List ℕ → Found → Type 0
+IsFinding text no_journal = (entries : List Entry) → AreWritten entries → Tells text entries → ⊥
+IsFinding text right = (entries : List Entry) × AreWritten entries × Tells text entries × IsFound entries right
+IsFinding text (wrong line) = (entries : List Entry) × AreWritten entries × Tells text entries × IsFound entries (wrong line)

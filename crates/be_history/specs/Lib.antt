@@ -1,0 +1,4 @@
+pub mod Dump
+pub mod Finding
+pub mod History
+pub mod Parts

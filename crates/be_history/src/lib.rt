@@ -1,0 +1,21 @@
+//! Histories as texts: a journal that is read back from its text, checked, and made again by a script.
+//!
+//! [`read_journal`] is the exact inverse of a journal's text: it reads each text that a journal has, as that journal's
+//! entries, and no other text. [`check`] runs a journal's text again on an empty volume. [`dump`] writes the script that
+//! makes the same writes again. From the bottom up: where a part of a line ends, operations and answers, an entry, a
+//! journal, what a race printed, the check, and the script.
+#![tactic(auto)]
+
+mod checks;
+mod dumps;
+mod journals;
+pub mod laws;
+mod lists;
+mod parts;
+mod ranges;
+mod told;
+
+pub use checks::{Finding, check};
+pub use dumps::dump;
+pub use journals::read_journal;
+pub use told::journal_told;

@@ -1,0 +1,4 @@
+-- What a query reads of a version.
+pub mod Walks
+pub mod SourceKeys
+pub mod RangeNodes

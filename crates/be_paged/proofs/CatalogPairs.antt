@@ -1,0 +1,6 @@
+-- The pairs of the catalog, and the nodes and attributes that they tell.
+pub mod Finding
+pub mod Validity
+pub mod Segments
+pub mod Items
+pub mod FactValues

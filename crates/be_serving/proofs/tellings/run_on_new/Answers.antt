@@ -1,0 +1,27 @@
+use Rattle.std.proofs.Common.{◌≡◌, ℕ, sym, ap, ◌∙◌, subst}
+use Rattle.be_table.specs.Place.{Opened}
+use Rattle.be_store.specs.Passes.{IsPassOf}
+use Rattle.be_serving.specs.Served.{known}
+use Rattle.be_serving.specs.Store.{Store}
+use Rattle.be_serving.proofs.RaceLemmas.{on_both}
+use Rattle.be_serving.proofs.TellLemmas.{told_run}
+use Rattle.be_serving.proofs.tellings.run_on_new.Goals as goal
+
+pub close_alone-requires-clause-pass : goal.close_alone-requires-clause-pass
+close_alone-requires-clause-pass g c =
+    subst (λ (store : Opened). IsPassOf store c.into_pass-pass.result) (ap (λ s. s.0) c.run_lines.ensures.stays ∙ c.new-server.ensures.0) c.into_pass-pass.ensures.0
+
+pub close_alone-requires-clause-one : goal.close_alone-requires-clause-one
+close_alone-requires-clause-one g c =
+    ap (λ l. l.passes) (sym c.in-Ok.ensures.opened.0.0.2) ∙ ap (λ (s : Store). s.passes) c.in-Ok.ensures.opened.1
+
+pub returns-clause-told : goal.returns-clause-told
+returns-clause-told g c =
+    let holds = g.W.Write.contents in
+    on_both c.put_result.result c.put_result.ensures.ok c.put_result.ensures.ok (λ legal is _. (
+      is.0,
+      told_run c.args.limits.commits c.args.script.now c.new-server.result.knows c.run_lines.new.server.knows c.into_pass-pass.result.knows c.in_ok-journal.journal.entries
+          (holds c.args.writer.now) (holds c.run_lines.new.writer) (holds c.put_result.new.writer)
+          (ap (λ k. known k) c.new-server.ensures.1 ∙ c.in-Ok.ensures.opened.1) c.into_pass-pass.ensures.1 c.in_ok-journal.ensures.all c.in_ok-journal.ensures.legal
+          c.in_ok-run_lines.ensures.ok is.1,
+    ))

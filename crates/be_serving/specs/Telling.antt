@@ -1,0 +1,45 @@
+-- What a run writes that tells its journal, and what the script of a journal is answered.
+use Rattle.std.specs.Prelude.{◌≡◌, ℕ, ◌+◌, ◌<◌, ◌^◌, List, [], ◌∷◌, ◌++◌, codes, flat_map, length, map, nat_lt, if◌then◌else◌, IfSome, None}
+use Rattle.std.specs.Io.KnownBytes.{Keeps}
+use Rattle.std.specs.declared.option.Option.{Option}
+use Rattle.be_history.specs.Dump.{by_only_pass}
+use Rattle.be_journal.specs.Journal.{IsLegal, replay}
+use Rattle.be_journal.specs.Text.{result_text}
+use Rattle.be_journal.specs.declared.entries.Entry.{Entry}
+use Rattle.be_language.specs.Reply.{Reply, ok, queued, committed, text_of}
+use Rattle.be_volume.specs.declared.ops.Op.{Op}
+use Rattle.be_serving.specs.Output.{IsOutputTo, done_reply}
+use Rattle.be_serving.specs.Store.{Store, start}
+use Rattle.be_serving.specs.declared.faults.RunFault.{RunFault}
+use Rattle.be_serving.specs.declared.faults.RunFault.TheVariants.{Limits, Read, TooLong, Write, Memory}
+
+-- The replies are an output of the script, and behind them stands the journal of the store that this output leaves.
+pub record IsToldRun (limit : ℕ) (script out : List ℕ) : Type 0 where
+  pub last : Store
+  pub replies : List ℕ
+  pub output : IsOutputTo (start limit) script last replies
+  pub legal : IsLegal last.journal
+  pub is : out ≡ replies ++ result_text last.journal
+
+-- What a fault leaves: nothing was written where the limits or the script are at fault.
+abbrev pub StopsTelling : RunFault → Option (List ℕ) → Option (List ℕ) → Option (List ℕ) → Type 0
+StopsTelling Limits input old new = Keeps old new
+StopsTelling Read input old new = Keeps old new
+StopsTelling TooLong input old new = Keeps old new × IfSome input (λ script. 2 ^ 20 < length script)
+StopsTelling Write input old new = Unit {0}
+StopsTelling Memory input old new = Unit {0}
+
+-- a store of one pass with these writes, by its pass
+abbrev pub made : ℕ → List Entry → Store
+made limit entries = record { journal = map by_only_pass entries; volume = replay entries; limit = limit; passes = 1; pass = 0; pin = None }
+
+-- what the lines of the write with this number are answered: the reply to its operation, or those of a batch of several
+abbrev pub write_output : ℕ → Entry → List ℕ
+write_output number entry =
+    if nat_lt 1 (length entry.ops) then text_of ok ++ (flat_map (λ (op : Op). text_of queued) entry.ops ++ text_of (committed number entry.dones))
+    else text_of (done_reply entry.dones)
+
+-- what the lines of writes are answered that are numbered from n on
+abbrev pub dump_output : ℕ → List Entry → List ℕ
+dump_output n [] = []
+dump_output n (entry ∷ entries) = write_output n entry ++ dump_output (n + 1) entries

@@ -1,0 +1,20 @@
+-- A query that is prepared: parsed once and kept, to be asked again.
+use Rattle.std.specs.Prelude.{◌≡◌, ℕ, List, [], refl}
+use Rattle.std.specs.Coded.{Coded, code_by, coded_ℕ, coded_list, coded×}
+use Rattle.be_query.specs.Grammar.{Formula}
+use Rattle.be_store.specs.Live.{LiveQuery, coded_live}
+
+-- the query with its answer at the last refresh, and the nodes that came and that went then
+pub record PreparedQuery : Type 0 where
+  pub live : LiveQuery
+  pub came : List ℕ
+  pub went : List ℕ
+
+abbrev pub coded_prepared : Coded PreparedQuery
+coded_prepared =
+    code_by _ (coded× coded_live (coded× (coded_list coded_ℕ) (coded_list coded_ℕ))) (λ p. (p.live, (p.came, p.went)))
+    (λ c. record { live = c.0; came = c.1.0; went = c.1.1 }) (λ _. refl)
+
+-- this query, which was never refreshed: its last answer is empty, and nothing came or went
+abbrev pub IsUnasked : Formula → PreparedQuery → Type 0
+IsUnasked query p = (p.live ≡ record { query = query; last = [] }) × (p.came ≡ []) × (p.went ≡ [])

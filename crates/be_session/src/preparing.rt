@@ -1,0 +1,122 @@
+//! Queries that are parsed once and kept, to be asked again.
+ghost use Rattle.std.specs.Prelude.{◌≡◌, ℕ, IfOk, IfErr};
+ghost use Rattle.be_query.specs.Grammar.{Formula, IsTextOf};
+ghost use Rattle.be_session.specs.Items.{IsBuilt, IsUnbuilt};
+ghost use Rattle.be_session.specs.Prepared.{IsUnasked};
+ghost use Rattle.be_session.specs.Sitting.{AtPin, IsNoQuery, IsUnrefreshed, Tells};
+ghost use Rattle.be_session.specs.declared.faults.Fault.TheVariants.{Refused};
+ghost use Rattle.be_store.specs.Live.{Refreshes};
+ghost use Rattle.be_store.specs.Passes.{HasRead, IsPinnedTo, volume_pinned};
+ghost use Rattle.be_table.specs.Seats.{pinned_number};
+ghost use Rattle.be_value.specs.declared.refusals.Refusal.TheVariants.{OutOfMemory};
+ghost use Rattle.be_volume.specs.Query.{scan};
+
+use crate::session::{Session, query_of};
+use crate::{Fault, PredicateItem, query_of_items};
+use be_store::{Live, Query, Refusal, Updates};
+use std::alloc::Global;
+use std::marker::Model;
+
+/// A query that is parsed once and kept, with its answer at the last refresh, and with which nodes came and which went then.
+/// It belongs to no session, and may be asked by any.
+#[derive(Drop)]
+pub struct Prepared {
+    live: Live,
+    updates: Updates,
+}
+
+impl Model for Prepared {
+    ghost use Rattle.be_session.specs.Prepared.{PreparedQuery, coded_prepared};
+
+    ghost Value = { PreparedQuery };
+
+    ghost coded = { coded_prepared };
+
+    ghost view = { λ p. record { live = p.live; came = p.updates.created.items; went = p.updates.removed.items } };
+}
+
+impl Prepared {
+    /// The nodes of which the query is true in the session's pinned version, ascending. The last answer stays as it was.
+    pub fn find(&self, alloc: Global, session: &mut Session) -> Result<Vec<u64>, Fault>
+        ensures store { (session.new.store ≡ session.old.store) × (session.new.spare ≡ session.old.spare) }
+        ensures read { HasRead session.old.knows session.new.knows }
+        ensures nodes { AtPin (pinned_number session.old.knows.phase) result
+            (Tells (λ nodes. nodes.items) result (scan (volume_pinned session.old.knows) self.now.live.query)) }
+    {
+        let asked = self.live.query();
+        session.query(alloc, asked)
+    }
+
+    /// Asks the query in the session's pinned version, and keeps which nodes came and which went since the last refresh. A fault
+    /// leaves the query as it was.
+    #[tactic(auto, using(crate::proofs::Same::same_prepared))]
+    pub fn refresh(&mut self, session: &mut Session) -> Result<(), Fault>
+        ensures store { (session.new.store ≡ session.old.store) × (session.new.spare ≡ session.old.spare) }
+        ensures read { HasRead session.old.knows session.new.knows }
+        ensures ok { IfOk result (λ _. Refreshes (volume_pinned session.old.knows) self.old.live self.new.live self.new.came self.new.went) }
+        ensures pin { IfOk result (λ _. (n : ℕ) × IsPinnedTo session.old.knows n) }
+        ensures err { IfErr result (λ e. (self.new ≡ self.old)
+            × IsUnrefreshed (pinned_number session.old.knows.phase) (scan (volume_pinned session.old.knows) self.old.live.query) e) }
+    {
+        match session.refresh(&mut self.live) {
+            Ok(updates) => {
+                self.updates = updates;
+                Ok(())
+            }
+            Err(fault) => Err(fault),
+        }
+    }
+
+    /// The nodes that came at the last refresh, ascending.
+    pub fn created(&self) -> &[u64]
+        ensures { result.now ≡ self.now.came }
+    {
+        self.updates.created.as_slice()
+    }
+
+    /// The nodes that went at the last refresh, ascending.
+    pub fn removed(&self) -> &[u64]
+        ensures { result.now ≡ self.now.went }
+    {
+        self.updates.removed.as_slice()
+    }
+}
+
+fn in_box(alloc: Global, query: Query) -> Result<Box<Prepared, Global>, Fault>
+    ensures ok { IfOk result (λ p. IsUnasked query p.value) }
+    ensures err { IfErr result (λ e. e ≡ Refused OutOfMemory) }
+{
+    let prepared = Prepared {
+        live: Live::new(alloc, query),
+        updates: Updates {
+            created: Vec::new(alloc),
+            removed: Vec::new(alloc),
+        },
+    };
+    match Box::new(alloc, prepared) {
+        Ok(prepared) => Ok(prepared),
+        Err(_) => Err(Fault::Refused(Refusal::OutOfMemory)),
+    }
+}
+
+/// The query of a text in bytes, in a box. Faults are those of `query_of`.
+pub fn prepare(alloc: Global, text: &[u8]) -> Result<Box<Prepared, Global>, Fault>
+    ensures ok { IfOk result (λ p. (query : Formula) × IsTextOf text.now query × IsUnasked query p.value) }
+    ensures err { IfErr result (λ e. IsNoQuery text.now e) }
+{
+    let query = query_of(alloc, text)?;
+    Ok(in_box(alloc, query)?)
+}
+
+/// The query that items in reverse Polish order build, in a box. Faults are those of `query_of_items`.
+pub fn prepare_items(
+    alloc: Global,
+    spelled: &[PredicateItem],
+    bytes: &[u8],
+) -> Result<Box<Prepared, Global>, Fault>
+    ensures ok { IfOk result (λ p. (query : Formula) × IsBuilt spelled.now bytes.now query × IsUnasked query p.value) }
+    ensures err { IfErr result (λ e. IsUnbuilt spelled.now bytes.now e) }
+{
+    let query = query_of_items(alloc, spelled, bytes)?;
+    Ok(in_box(alloc, query)?)
+}

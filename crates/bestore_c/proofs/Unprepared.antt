@@ -1,0 +1,15 @@
+-- A query that wasn't prepared.
+use Rattle.std.proofs.Common.{◌≡◌, ℕ, Option, Some, None, false}
+use Rattle.std.proofs.lemmas.Bool.{true≢false}
+use Rattle.be_query.specs.Grammar.{Formula}
+use Rattle.be_session.specs.Fault.{fault_code}
+use Rattle.be_session.specs.Prepared.{PreparedQuery}
+use Rattle.be_session.specs.declared.faults.Fault.{Fault}
+use Rattle.bestore_c.specs.Calls.{Prepares}
+use Rattle.bestore_c.specs.Owned.{holds}
+
+-- its handle is closed, and stays so
+pub prepares_none : (is_meant : Formula → Type 0) (is_fault : Fault → Type 0) (o : Option PreparedQuery) (e : Fault) (code : ℕ) → holds o ≡ false
+    → code ≡ fault_code e → is_fault e → Prepares is_meant is_fault o o code
+prepares_none is_meant is_fault None e code lacking is why = (e, is, why)
+prepares_none is_meant is_fault (Some q) e code lacking is why = absurd (true≢false lacking)

@@ -1,0 +1,72 @@
+//! What the handle of a prepared query owns: a box that C holds as a pointer, or nothing. As in `owned`, for another type.
+//!
+//! Its type names no other type, so that it can lie in memory that C passes.
+ghost use Rattle.std.specs.Prelude.{◌≡◌, Option, None, Some, true};
+ghost use Rattle.std.specs.Coded.{coded_option};
+ghost use Rattle.std.specs.contracts.impls.GlobalAllocator.TheImpl.{ghosts};
+ghost use Rattle.be_session.specs.Prepared.{coded_prepared};
+ghost use Rattle.be_session.specs.declared.preparing.Prepared.{Prepared};
+ghost use Rattle.be_session.specs.contracts.preparing.Prepared.{the_row};
+ghost use Rattle.bestore_c.specs.Owned.{may_own, holds};
+
+use crate::loose::Loose;
+use be_session::Prepared;
+use std::alloc::Global;
+use std::marker::Model;
+
+#[repr(C)]
+#[derive(Drop)]
+pub struct OwnedQuery {
+    at: *mut u8,
+    alloc: Global,
+    pub ghost value: { Option (the_row).Denot } by { coded_option coded_prepared },
+}
+
+impl Model for OwnedQuery {
+    ghost also_owns = { λ p. may_own (ghosts.dealloc_token p.alloc) the_row p.at p.value };
+}
+
+impl OwnedQuery {
+    pub fn none(alloc: Global) -> OwnedQuery
+        ensures { result.value ≡ None }
+    {
+        OwnedQuery {
+            at: std::ptr::null_mut(),
+            alloc,
+        }
+    }
+
+    fn of_loose(loose: Loose<Prepared, Global>) -> OwnedQuery
+        ensures { result.value ≡ Some loose.value }
+    {
+        let Loose { at, alloc } = loose;
+        OwnedQuery {
+            at: at as *mut u8,
+            alloc,
+        }
+    }
+
+    fn into_loose(self) -> Loose<Prepared, Global>
+        requires { holds self.value ≡ true }
+        ensures { self.value ≡ Some result.value }
+    {
+        let OwnedQuery { at, alloc } = self;
+        Loose {
+            at: at as *mut Prepared,
+            alloc,
+        }
+    }
+
+    pub fn of(prepared: Box<Prepared, Global>) -> OwnedQuery
+        ensures { result.value ≡ Some prepared.value }
+    {
+        OwnedQuery::of_loose(Loose::of(prepared))
+    }
+
+    pub fn into_box(self) -> Box<Prepared, Global>
+        requires { holds self.value ≡ true }
+        ensures { self.value ≡ Some result.value }
+    {
+        self.into_loose().into_box()
+    }
+}
