@@ -278,10 +278,16 @@ fn lists_attributes(rt: HostRuntime) -> Result<(), Fail> {
     assert_eq!(rt; answer, 66);
     assert_eq!(rt; bes_pin(alloc, &mut mine, &mut number), 0);
     let answer = bes_attributes(alloc, &mut mine, 2, &mut counts, &mut listed, &mut bytes);
-    assert_eq!(rt; (answer, counts.operations, counts.bytes, bytes), (2, 7, 7, [9]));
+    assert_eq!(rt;
+        (answer, counts.operations, counts.bytes, bytes),
+        (2, 7, 7, [9])
+    );
     // There is room for the name alone, and the value's byte is counted all the same.
     let answer = bes_attributes(alloc, &mut mine, 1, &mut counts, &mut listed, &mut bytes);
-    assert_eq!(rt; (answer, counts.operations, counts.bytes, bytes), (0, 1, 2, [107]));
+    assert_eq!(rt;
+        (answer, counts.operations, counts.bytes, bytes),
+        (0, 1, 2, [107])
+    );
     assert_eq!(rt;
         (listed[0].kind, listed[0].node, listed[0].value_length),
         (2, 1, 1)
