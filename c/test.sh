@@ -49,20 +49,38 @@ has() {
     echo "C, $1: skipped, cc has no such sanitizer"
     return 1
 }
+sanitized=
 if has address,undefined; then
+    sanitized=yes
     build -g -O1 -fsanitize=address,undefined test.c -o "$work/sanitized"
-    run "C, address,undefined" "$work/sanitized"
+    run "C, address,undefined" "$work/sanitized" short
 fi
 # The library's own steps, those of its lock among them, carry no marks for this sanitizer. So it is told to pass over what the
 # shared object does, and looks at the test's own memory alone.
 if has thread; then
     cc -std=c11 "${warn[@]}" -g -O1 -fsanitize=thread -I../include test.c -L. -lbestore -lpthread -o "$work/threads"
-    run "C, thread" env LD_LIBRARY_PATH=. TSAN_OPTIONS=ignore_noninstrumented_modules=1 "$work/threads"
+    run "C, thread" env LD_LIBRARY_PATH=. TSAN_OPTIONS=ignore_noninstrumented_modules=1 "$work/threads" short
 fi
 if command -v valgrind >/dev/null; then
     run "C, valgrind" valgrind -q --leak-check=full --error-exitcode=9 "$work/test" short
 else
     echo "C, valgrind: skipped, it isn't installed"
+fi
+
+# Requests for memory are refused where the linker lets them come by the test.
+wrap=(-Wl,--wrap=malloc,--wrap=realloc)
+if cc "${wrap[@]}" "$work/empty.c" -o "$work/empty" 2>/dev/null; then
+    build -g -O1 "${wrap[@]}" memory.c -o "$work/memory"
+    run "C, memory" "$work/memory"
+    if [ -n "$sanitized" ]; then
+        build -g -O1 -fsanitize=address,undefined "${wrap[@]}" memory.c -o "$work/memory-sanitized"
+        run "C, memory, address,undefined" "$work/memory-sanitized"
+    fi
+    if command -v valgrind >/dev/null; then
+        run "C, memory, valgrind" valgrind -q --leak-check=full --error-exitcode=9 "$work/memory"
+    fi
+else
+    echo "C, memory: skipped, the linker has no --wrap"
 fi
 
 build -O2 ../examples/c/mailbox.c -o "$work/mailbox"
