@@ -9,8 +9,8 @@
         with store.pin() as version:
             print(version.query('MAIL:from == "ann"'))
 
-A `Pass` is one user's place in a store. Each thread has one of its own, by `Pass.another`; a pass takes one call at a
-time. The shared object is looked for beside this file, in ../c, and where the system looks; BESTORE_LIBRARY names another.
+A `Pass` is one user's place in a store. Each thread has one of its own: the thread that opened the store makes it by
+`another`, before that thread starts, since a pass takes one call at a time. The shared object is looked for beside this file, in ../c, and where the system looks; BESTORE_LIBRARY names another.
 """
 
 import ctypes
