@@ -132,20 +132,16 @@ static void go_between(void)
     CHECK(count == 1 && nodes[0] == 1 && bes_unpin(&theirs) == BES_OK);
 }
 
-/* The journal's text is made while its pass holds the lock; a write asks for memory before that, too. */
+/* The journal's text is made while its pass holds the lock. What a write asks for is asked in part before it takes the lock. */
 static void meet_busy(void)
 {
-    unsigned requests_met;
     between = go_between;
-    requests = 0;
     CHECK(call_journal() == BES_OK);
-    between = NULL;
     CHECK(busy > 0 && accepted == 0);
-    requests_met = busy;
-    between = go_between;
+    busy = 0;
     CHECK(call_apply() == BES_OK);
     between = NULL;
-    CHECK(busy > requests_met && out.number == 7 + accepted);
+    CHECK(accepted + busy > 0 && out.number == 7 + accepted);
     CHECK(bes_unpin(&mine) == BES_OK && bes_pin(&mine, &out.number) == BES_OK && out.number == 7 + accepted);
 }
 

@@ -140,7 +140,7 @@ static void most(void)
     static bes_batch batch;
     bes_pass pass = BES_PASS_INIT;
     uint64_t node = 7, number = 7, made[64] = {7};
-    char name[8];
+    char name[8], long_text[257] = "";
     CHECK(bes_open(256, 1, 100, &pass) == BES_OK && bes_new_node(&pass, &node) == BES_OK);
     bes_batch_clear(&batch);
     for (int i = 0; i < 64; i++) {
@@ -163,7 +163,18 @@ static void most(void)
     }
     LEAVES(&pass, bes_make_index(&pass, "i32", BES_INT64_TYPE), BES_TOO_MANY_INDICES);
     CHECK(bes_remove_index(&pass, "i0") == BES_OK && bes_make_index(&pass, "i32", BES_INT64_TYPE) == BES_OK);
+    bes_batch_clear(&batch);
+    CHECK(bes_batch_remove_index(&batch, "i1") == BES_OK && bes_batch_unset(&batch, 1, "a1") == BES_OK);
+    CHECK(bes_batch_remove_node(&batch, 1) == BES_OK);
+    CHECK(bes_batch_apply(&pass, &batch, 1, made, 64, &number) == BES_OK && made[0] == 0 && made[2] == 0);
     CHECK(bes_close(&pass) == BES_OK);
+    /* What a batch has no room for. */
+    memset(long_text, 'x', 256);
+    CHECK(bes_batch_set_text(&batch, 1, long_text, "") == BES_NAME_LENGTH && batch.count == 3);
+    CHECK(bes_batch_set_text(&batch, 1, "k", long_text) == BES_DATA_LENGTH && batch.count == 3);
+    while (batch.count < 64)
+        CHECK(bes_batch_set_raw(&batch, 1, long_text + 256 - 63, long_text, 255) == BES_OK);
+    CHECK(bes_batch_new_node(&batch) == BES_BAD_COUNT && batch.count == 64);
 }
 
 /* A pin keeps the pages of its version, until no page is free for a write. */
