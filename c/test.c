@@ -140,7 +140,7 @@ static void most(void)
     static bes_batch batch;
     bes_pass pass = BES_PASS_INIT;
     uint64_t node = 7, number = 7, made[64] = {7};
-    char name[8], long_text[257] = "";
+    char name[16], long_text[257] = "";
     CHECK(bes_open(256, 1, 100, &pass) == BES_OK && bes_new_node(&pass, &node) == BES_OK);
     bes_batch_clear(&batch);
     for (int i = 0; i < 64; i++) {
