@@ -40,7 +40,7 @@ def spelled(value):
     if isinstance(value, str):
         return f'"{value}"'
     if isinstance(value, bytes):
-        return value.hex() or '""'
+        return f'"{value.hex()}"'
     return str(value)
 
 
