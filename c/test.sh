@@ -11,7 +11,7 @@ trap 'rm -rf "$work"' EXIT
 run() {
     local what=$1 said
     shift
-    timeout 300 "$@" >"$work/said" || { echo "$what: failed" >&2; exit 1; }
+    timeout 300 "$@" >"$work/said" || { cat "$work/said" >&2; echo "$what: failed" >&2; exit 1; }
     said=$(cat "$work/said")
     echo "$what: ${said:-ok}"
 }
@@ -33,6 +33,14 @@ END
 if [ -n "$has_cpp" ]; then
     c++ -std=c++17 "${warn[@]}" -I../include "$work/plain.cpp" libbestore.a -o "$work/plain"
     run C++ "$work/plain"
+fi
+
+# The program and the library are of one version.
+program=../crates/bestore/out/bestore
+version=$(sed -n 's/^#define BES_VERSION "\(.*\)"$/\1/p' ../include/bestore.h)
+if [ -x $program ] && [ "$($program --version)" != "bestore $version" ]; then
+    echo "the header has the version $version, and the program $($program --version)" >&2
+    exit 1
 fi
 
 build() { cc -std=c11 "${warn[@]}" -I../include "$@" libbestore.a -lpthread; }
@@ -100,8 +108,8 @@ fi
 
 if command -v python3 >/dev/null; then
     run Python env PYTHONDONTWRITEBYTECODE=1 BESTORE_LIBRARY="$PWD/libbestore.so" python3 -W error -m unittest discover -q -s ../python
-    if [ -x ../crates/bestore/out/bestore ]; then
-        run "the library and the program" env PYTHONDONTWRITEBYTECODE=1 BESTORE_LIBRARY="$PWD/libbestore.so" python3 -W error ../python/alike.py ../crates/bestore/out/bestore
+    if [ -x $program ]; then
+        run "the library and the program" env PYTHONDONTWRITEBYTECODE=1 BESTORE_LIBRARY="$PWD/libbestore.so" python3 -W error ../python/alike.py $program
     else
         echo "the library and the program: skipped, crates/bestore/out/bestore isn't built"
     fi
