@@ -1,6 +1,6 @@
 use Rattle.be_pages.specs.Pages.{IsUnchanged}
 use Rattle.be_tree.specs.Cursor.{IsPath}
-use Rattle.be_tests.proofs.tree.has_nodes.Given as goal
+use Rattle.be_tests.proofs.tests.tree.has_nodes.Given as goal
 
 abbrev pub invariant-loop-node : goal.invariant-loop-node
 invariant-loop-node g l = record {

@@ -5,7 +5,7 @@ ghost use Rattle.be_pages.specs.Pages.{IsUnchanged};
 ghost use Rattle.be_tree.specs.Forest.{IsWriteStart};
 ghost use Rattle.be_tree.specs.Tree.{IsTree};
 
-use crate::counting_look::{finds, ranges, room_of};
+use super::counting_look::{finds, ranges, room_of};
 use be_pages::{Look, VecRoom};
 use be_tree::{Cursor, insert, remove};
 use be_value::Refusal;

@@ -1,7 +1,7 @@
 use Rattle.be_pages.specs.PagePool.{places}
 use Rattle.be_pages.specs.VecRoom.{standing_in, word_in}
 use Rattle.be_tree.proofs.Trees.{tree_kept}
-use Rattle.be_tests.proofs.tree.take_numbers.Goals as goal
+use Rattle.be_tests.proofs.tests.tree.take_numbers.Goals as goal
 
 pub loop-i-preserved : goal.loop-i-preserved
 loop-i-preserved c =

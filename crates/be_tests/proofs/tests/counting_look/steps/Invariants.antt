@@ -1,6 +1,6 @@
 use Rattle.be_pages.specs.Pages.{IsUnchanged}
 use Rattle.be_tree.specs.Cursor.{IsPath}
-use Rattle.be_tests.proofs.counting_look.steps.Given as goal
+use Rattle.be_tests.proofs.tests.counting_look.steps.Given as goal
 
 abbrev pub invariant-loop-i : goal.invariant-loop-i
 invariant-loop-i g l = record {

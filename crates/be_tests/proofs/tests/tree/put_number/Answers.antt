@@ -2,7 +2,7 @@ use Rattle.std.proofs.Common.{ℕ, ap, ◌∙◌}
 use Rattle.be_pages.specs.PagePool.{places}
 use Rattle.be_pages.specs.VecRoom.{standing_in, word_in}
 use Rattle.be_tree.proofs.Trees.{tree_kept, tree_undone}
-use Rattle.be_tests.proofs.tree.put_number.Goals as goal
+use Rattle.be_tests.proofs.tests.tree.put_number.Goals as goal
 
 pub returns-in-Ok-clause-ok : goal.returns-in-Ok-clause-ok
 returns-in-Ok-clause-ok c =

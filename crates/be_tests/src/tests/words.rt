@@ -1,7 +1,7 @@
 //! The words of a page, by an example from outside.
 ghost use Rattle.be_tree.specs.Tree.{IsTree};
 
-use crate::counting_look::room_of;
+use super::counting_look::room_of;
 use be_pages::Look;
 use be_tree::insert;
 use std::test::Fail;

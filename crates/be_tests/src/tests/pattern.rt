@@ -11,19 +11,27 @@ fn read(rt: &HostRuntime, text: &str) -> Result<Pattern, Refusal> {
     }
 }
 
-fn canonical(rt: &HostRuntime, text: &str) -> Result<String, Refusal> {
-    let pattern = read(rt, text)?;
+/// The canonical text of a pattern.
+pub(crate) fn canonical(rt: &HostRuntime, pattern: &Pattern) -> Result<String, Refusal> {
     match pattern.canonical(rt.alloc()) {
         Err(Refusal::OutOfMemory) => pattern.canonical(rt.alloc()),
-        answer => answer,
+        text => text,
+    }
+}
+
+/// Whether this is the canonical text of what was made.
+fn has_text(rt: &HostRuntime, answer: Result<Pattern, Refusal>, want: &str) -> bool {
+    let Ok(pattern) = answer else {
+        return false;
+    };
+    match canonical(rt, &pattern) {
+        Ok(text) => text.as_str() == want,
+        Err(_) => false,
     }
 }
 
 fn is_canonical(rt: &HostRuntime, text: &str, want: &str) -> bool {
-    match canonical(rt, text) {
-        Ok(text) => text.as_str() == want,
-        Err(_) => false,
-    }
+    has_text(rt, read(rt, text), want)
 }
 
 fn fault(rt: &HostRuntime, text: &str) -> Option<Refusal> {
@@ -165,17 +173,6 @@ fn literal_texts(rt: HostRuntime) {
             Err(Refusal::OutOfMemory) => Pattern::around(rt.alloc(), before, "a*", behind),
             answer => answer,
         };
-        let text = match pattern {
-            Ok(pattern) => match pattern.canonical(rt.alloc()) {
-                Err(Refusal::OutOfMemory) => pattern.canonical(rt.alloc()),
-                answer => answer,
-            },
-            Err(refusal) => Err(refusal),
-        };
-        let same = match text {
-            Ok(text) => text.as_str() == want,
-            Err(_) => false,
-        };
-        assert!(rt; same, "at {want}");
+        assert!(rt; has_text(&rt, pattern, want), "at {want}");
     }
 }

@@ -1,7 +1,8 @@
 //! Worked examples. Each call that asks for memory is made again where it was refused, so that the tests also pass
 //! where any one request for memory is refused.
 
-use crate::value::refusal;
+use super::leaves::pattern_text;
+use super::value::refusal;
 use be_query::{Item, Literal, Query, Tree, from_rpn, parse, print, print_comparison};
 use be_value::{Name, Refusal, number_of};
 
@@ -45,16 +46,7 @@ fn printed_leaf(rt: &HostRuntime, answer: Result<Query, Refusal>) -> Result<Stri
 /// The canonical text of the pattern in an answer's one comparison, or the refusal.
 fn canonical_leaf(rt: &HostRuntime, answer: Result<Query, Refusal>) -> Result<String, Refusal> {
     let query = answer?;
-    match query.tree() {
-        Tree::Leaf(comparison) => match &comparison.literal {
-            Literal::Pattern(pattern) => match pattern.canonical(rt.alloc()) {
-                Err(Refusal::OutOfMemory) => pattern.canonical(rt.alloc()),
-                text => text,
-            },
-            Literal::Text(_) => Err(Refusal::NotCovered),
-        },
-        _ => Err(Refusal::NotCovered),
-    }
+    pattern_text(rt, query.tree())
 }
 
 fn is_text(answer: Result<String, Refusal>, want: &str) -> bool {

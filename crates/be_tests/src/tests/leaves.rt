@@ -1,16 +1,14 @@
 //! The patterns of a query with several comparisons, each by its own text. A call that is refused memory is made again.
 
+use super::pattern::canonical;
 use be_query::{Literal, Tree, parse};
 use be_value::Refusal;
 
 /// The canonical text of the pattern in a comparison.
-fn pattern_text(rt: &HostRuntime, tree: &Tree) -> Result<String, Refusal> {
+pub(crate) fn pattern_text(rt: &HostRuntime, tree: &Tree) -> Result<String, Refusal> {
     match tree {
         Tree::Leaf(comparison) => match &comparison.literal {
-            Literal::Pattern(pattern) => match pattern.canonical(rt.alloc()) {
-                Err(Refusal::OutOfMemory) => pattern.canonical(rt.alloc()),
-                text => text,
-            },
+            Literal::Pattern(pattern) => canonical(rt, pattern),
             Literal::Text(_) => Err(Refusal::NotCovered),
         },
         _ => Err(Refusal::NotCovered),

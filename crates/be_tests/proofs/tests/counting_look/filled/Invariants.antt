@@ -1,6 +1,6 @@
 use Rattle.std.proofs.Common.{◌≡◌}
 use Rattle.be_tree.specs.Tree.{IsTree}
-use Rattle.be_tests.proofs.counting_look.filled.Given as goal
+use Rattle.be_tests.proofs.tests.counting_look.filled.Given as goal
 
 abbrev pub invariant-loop-i : goal.invariant-loop-i
 invariant-loop-i g l = record {
