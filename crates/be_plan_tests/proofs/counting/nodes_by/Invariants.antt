@@ -1,4 +1,4 @@
-use Rattle.be_plan_tests.proofs.tests.chosen.Given as goal
+use Rattle.be_plan_tests.proofs.counting.nodes_by.Given as goal
 
 abbrev pub ghost-covers : goal.ghost-covers
 ghost-covers a = a.source.now.source
