@@ -1,10 +1,17 @@
-/* Every export and every kind of wrong use, from one thread and then from four. */
-#include "bestore.h"
+/* Every export and every kind of wrong use, from one thread and then from four. Each answer that bestore.h lists comes here or
+ * in memory.c: BES_NO_MEMORY there, and BES_BUSY where it has to come. */
+#define _POSIX_C_SOURCE 199309L
+#include "tests.h"
 #include <pthread.h>
-#include <stdio.h>
-#include <stdlib.h>
+#include <time.h>
 
-#define CHECK(e) do { if (!(e)) { fprintf(stderr, "%s:%d: %s\n", __FILE__, __LINE__, #e); exit(1); } } while (0)
+static view before;
+
+/* A call that is answered so, and leaves the store and the pin as they were. */
+#define LEAVES(pass, call, answer) do { \
+        look(pass, &before); \
+        CHECK((call) == (answer) && is_as_it_was(pass, &before)); \
+    } while (0)
 
 static void closed_handle(void)
 {
@@ -54,10 +61,10 @@ static void opening(void)
 {
     bes_pass mine = BES_PASS_INIT, theirs = BES_PASS_INIT, third = BES_PASS_INIT;
     uint64_t number = 7;
-    CHECK(bes_open(7, 2, 10, &mine) == BES_BAD_LIMITS);
-    CHECK(bes_open(8, 0, 10, &mine) == BES_BAD_LIMITS);
-    CHECK(bes_open(8, 65, 10, &mine) == BES_BAD_LIMITS);
-    CHECK(bes_open(8, 2, 0, &mine) == BES_BAD_LIMITS);
+    CHECK(bes_open(7, 2, 10, &mine) == BES_BAD_LIMITS && bes_open(16385, 2, 10, &mine) == BES_BAD_LIMITS);
+    CHECK(bes_open(8, 0, 10, &mine) == BES_BAD_LIMITS && bes_open(8, 65, 10, &mine) == BES_BAD_LIMITS);
+    CHECK(bes_open(8, 2, 0, &mine) == BES_BAD_LIMITS && bes_open(8, 2, 1ull << 32, &mine) == BES_BAD_LIMITS);
+    CHECK(bes_pin(&mine, &number) == BES_CLOSED && number == 7);
     CHECK(bes_open(8, 2, 10, &mine) == BES_OK);
     CHECK(bes_open(8, 2, 10, &mine) == BES_OPEN);
     CHECK(bes_another(&mine, &theirs) == BES_OK);
@@ -83,8 +90,11 @@ static uint32_t wrong(bes_pass *pass, bes_operation op, size_t count, size_t siz
     uint32_t answer;
     for (size_t i = 0; i < 65; i++)
         ops[i] = op;
+    look(pass, &before);
     answer = bes_apply(pass, ops, count, bytes, size, made, 2, &number);
     CHECK(made[0] == 7 && made[1] == 7 && number == 7);
+    CHECK(bes_apply_or_retry(pass, ops, count, bytes, size, 3, made, 2, &number) == answer && made[0] == 7 && number == 7);
+    CHECK(is_as_it_was(pass, &before));
     return answer;
 }
 
@@ -121,6 +131,67 @@ static void wrong_writes(void)
     CHECK(wrong(&pass, no_kind, 1, 0) == BES_BAD_PART);
     CHECK(bes_set_text(&pass, 1, "k", "v") == BES_NO_NODE);
     CHECK(bes_pin(&pass, &number) == BES_OK && number == 0);
+    CHECK(bes_close(&pass) == BES_OK);
+}
+
+/* A node with all the attributes that it may have, and a store with all the indices. */
+static void most(void)
+{
+    static bes_batch batch;
+    bes_pass pass = BES_PASS_INIT;
+    uint64_t node = 7, number = 7, made[64] = {7};
+    char name[16], long_text[257] = "";
+    CHECK(bes_open(256, 1, 100, &pass) == BES_OK && bes_new_node(&pass, &node) == BES_OK);
+    bes_batch_clear(&batch);
+    for (int i = 0; i < 64; i++) {
+        snprintf(name, sizeof name, "a%d", i);
+        CHECK(bes_batch_set_int32(&batch, 1, name, i) == BES_OK);
+    }
+    CHECK(bes_batch_apply(&pass, &batch, 1, made, 64, &number) == BES_OK && number == 2);
+    CHECK(bes_pin(&pass, &number) == BES_OK);
+    LEAVES(&pass, bes_set_int32(&pass, 1, "a64", 64), BES_TOO_MANY_ATTRS);
+    /* A list is refused whole by its last operation. */
+    bes_batch_clear(&batch);
+    CHECK(bes_batch_new_node(&batch) == BES_OK && bes_batch_set_int32(&batch, 1, "a64", 64) == BES_OK);
+    made[0] = 7;
+    LEAVES(&pass, bes_batch_apply(&pass, &batch, 1, made, 64, &number), BES_TOO_MANY_ATTRS);
+    CHECK(made[0] == 7 && number == 2);
+    CHECK(bes_unset(&pass, 1, "a0") == BES_OK && bes_set_int32(&pass, 1, "a64", 64) == BES_OK);
+    for (int i = 0; i < 32; i++) {
+        snprintf(name, sizeof name, "i%d", i);
+        CHECK(bes_make_index(&pass, name, BES_INT64_TYPE) == BES_OK);
+    }
+    LEAVES(&pass, bes_make_index(&pass, "i32", BES_INT64_TYPE), BES_TOO_MANY_INDICES);
+    CHECK(bes_remove_index(&pass, "i0") == BES_OK && bes_make_index(&pass, "i32", BES_INT64_TYPE) == BES_OK);
+    bes_batch_clear(&batch);
+    CHECK(bes_batch_remove_index(&batch, "i1") == BES_OK && bes_batch_unset(&batch, 1, "a1") == BES_OK);
+    CHECK(bes_batch_remove_node(&batch, 1) == BES_OK);
+    CHECK(bes_batch_apply(&pass, &batch, 1, made, 64, &number) == BES_OK && made[0] == 0 && made[2] == 0);
+    CHECK(bes_close(&pass) == BES_OK);
+    /* What a batch has no room for. */
+    memset(long_text, 'x', 256);
+    CHECK(bes_batch_set_text(&batch, 1, long_text, "") == BES_NAME_LENGTH && batch.count == 3);
+    CHECK(bes_batch_set_text(&batch, 1, "k", long_text) == BES_DATA_LENGTH && batch.count == 3);
+    while (batch.count < 64)
+        CHECK(bes_batch_set_raw(&batch, 1, long_text + 256 - 63, long_text, 255) == BES_OK);
+    CHECK(bes_batch_new_node(&batch) == BES_BAD_COUNT && batch.count == 64);
+}
+
+/* A pin keeps the pages of its version, until no page is free for a write. */
+static void no_page_is_free(void)
+{
+    bes_pass pass = BES_PASS_INIT;
+    uint64_t node = 0, number = 7, count = 7;
+    uint32_t answer;
+    CHECK(bes_open(8, 1, 1000, &pass) == BES_OK && bes_make_index(&pass, "k", BES_INT64_TYPE) == BES_OK);
+    CHECK(bes_new_node(&pass, &node) == BES_OK && bes_pin(&pass, &number) == BES_OK && number == 2);
+    do
+        answer = bes_new_node(&pass, &node);
+    while (answer == BES_OK && node < 100);
+    CHECK(answer == BES_FULL);
+    LEAVES(&pass, bes_new_node(&pass, &count), BES_FULL);
+    CHECK(count == 7);
+    CHECK(bes_unpin(&pass) == BES_OK && bes_new_node(&pass, &count) == BES_OK && count == node + 1);
     CHECK(bes_close(&pass) == BES_OK);
 }
 
@@ -240,6 +311,87 @@ static void queries(void)
     CHECK(bes_close(&pass) == BES_OK);
 }
 
+/* A text that is no query: each call that reads it answers so, and puts out nothing. */
+static void no_query(bes_pass *pass, const char *text, size_t length, uint32_t answer)
+{
+    const uint8_t *query = (const uint8_t *)text;
+    bes_prepared prepared = BES_PREPARED_INIT;
+    uint64_t count = 7, nodes[2] = {7, 7};
+    uint8_t said[2] = {7, 7};
+    LEAVES(pass, bes_query(pass, query, length, nodes, 2, &count), answer);
+    LEAVES(pass, bes_explain(pass, query, length, said, 2, &count), answer);
+    CHECK(count == 7 && nodes[0] == 7 && said[0] == 7);
+    CHECK(bes_prepare(query, length, &prepared) == answer && bes_release(&prepared) == BES_CLOSED);
+}
+
+/* The same of items. */
+static void no_items(bes_pass *pass, const bes_item *items, size_t items_count, const char *bytes, uint32_t answer)
+{
+    const uint8_t *parts = (const uint8_t *)bytes;
+    bes_prepared prepared = BES_PREPARED_INIT;
+    uint64_t count = 7, nodes[2] = {7, 7};
+    LEAVES(pass, bes_query_items(pass, items, items_count, parts, 64, nodes, 2, &count), answer);
+    CHECK(count == 7 && nodes[0] == 7);
+    CHECK(bes_prepare_items(items, items_count, parts, 64, &prepared) == answer && bes_release(&prepared) == BES_CLOSED);
+}
+
+static void no_queries(void)
+{
+    static const bes_item size = {BES_ITEM_ATTRIBUTE, 0, 4, 0}, one = {BES_ITEM_UINT64, 0, 0, 1}, less = {BES_ITEM_LT, 0, 0, 0};
+    static bes_item items[4 * 257];
+    static char text[4098], bytes[64] = "size[a\xff";
+    bes_pass pass = BES_PASS_INIT;
+    uint64_t number = 7, count = 7, nodes[2];
+    size_t length = 0;
+    CHECK(bes_open(64, 1, 100, &pass) == BES_OK && bes_make_index(&pass, "size", BES_INT32_TYPE) == BES_OK);
+    CHECK(bes_new_node(&pass, &number) == BES_OK && bes_set_int32(&pass, number, "size", 0) == BES_OK);
+    CHECK(bes_pin(&pass, &number) == BES_OK);
+    no_query(&pass, "size<", 5, BES_SYNTAX);
+    no_query(&pass, "\xff", 1, BES_NOT_UTF8);
+    no_query(&pass, "size<1\0", 7, BES_SYNTAX);
+    no_query(&pass, "size==[a", 8, BES_BAD_PATTERN);
+    memset(text, ' ', sizeof text);
+    memcpy(text, "size<1", 6);
+    CHECK(bes_query(&pass, (const uint8_t *)text, 4096, nodes, 2, &count) == BES_OK && count == 1);
+    no_query(&pass, text, 4097, BES_TOO_LONG);
+    memset(text, '(', 65);
+    memcpy(text + 65, "size<1", 6);
+    memset(text + 71, ')', 65);
+    CHECK(bes_query(&pass, (const uint8_t *)text + 1, 64 + 6 + 64, nodes, 2, &count) == BES_OK && count == 1);
+    no_query(&pass, text, 65 + 6 + 65, BES_TOO_DEEP);
+    for (int i = 0; i < 257; i++, length += 8)
+        memcpy(text + length, "size<1||", 8);
+    CHECK(bes_query(&pass, (const uint8_t *)text, 256 * 8 - 2, nodes, 2, &count) == BES_OK && count == 1);
+    no_query(&pass, text, 257 * 8 - 2, BES_TOO_MANY);
+
+    /* Items: a value that is no pattern, 65 that stand on one another, 257 comparisons, and parts of bytes that are none. */
+    items[0] = size, items[1] = (bes_item){BES_ITEM_TEXT, 4, 2, 0}, items[2] = (bes_item){BES_ITEM_EQ, 0, 0, 0};
+    no_items(&pass, items, 3, bytes, BES_BAD_PATTERN);
+    items[1].at = 6, items[1].length = 1;
+    no_items(&pass, items, 3, bytes, BES_NOT_UTF8);
+    items[1].at = 64;
+    no_items(&pass, items, 3, bytes, BES_BAD_PART);
+    items[1] = one, items[2].kind = 16;
+    no_items(&pass, items, 3, bytes, BES_NO_ITEM);
+    items[0].length = 0;
+    no_items(&pass, items, 3, bytes, BES_NAME_LENGTH);
+    items[0].at = 7, items[0].length = 1;
+    no_items(&pass, items, 3, bytes, BES_HAS_NUL);
+    no_items(&pass, &size, 1, bytes, BES_BAD_RPN);
+    for (int i = 0; i < 65; i++)
+        items[i] = size;
+    no_items(&pass, items, 65, bytes, BES_TOO_DEEP);
+    for (int i = 0; i < 257; i++) {
+        items[4 * i] = size, items[4 * i + 1] = one, items[4 * i + 2] = less;
+        items[4 * i + 3] = (bes_item){BES_ITEM_OR, 0, 0, 0};
+    }
+    /* The first has nothing before it to be joined with. */
+    items[3] = (bes_item){BES_ITEM_NOT, 0, 0, 0};
+    CHECK(bes_query_items(&pass, items, 4 * 256, (const uint8_t *)bytes, 64, nodes, 2, &count) == BES_OK && count == 1);
+    no_items(&pass, items, 4 * 257, bytes, BES_TOO_MANY);
+    CHECK(bes_close(&pass) == BES_OK);
+}
+
 /* Queries that are parsed once, by text and by items, and what comes and goes. */
 static void prepared_queries(void)
 {
@@ -311,83 +463,150 @@ static void spent(void)
     CHECK(strcmp(bes_strerror(63), "unknown answer") == 0);
 }
 
-enum { WRITES = 300 };
+/* Four threads, one pass each: two write, and two ask. Each writer has nodes of its own in pairs, one of which is from ann and
+ * the other from bob, and exchanges the two of a pair in one write: so each version has as many nodes from ann as from bob. */
+enum { PAIRS = 100, NODES = 4 * PAIRS };
 
-static int rounds = 400; /* fewer where the program is told to be short */
+static double seconds = 3; /* fewer where the program is told to be short */
+
+static struct timespec end;
+
+static bool is_over(void)
+{
+    struct timespec now;
+    CHECK(clock_gettime(CLOCK_MONOTONIC, &now) == 0);
+    return now.tv_sec > end.tv_sec || (now.tv_sec == end.tv_sec && now.tv_nsec >= end.tv_nsec);
+}
+
+typedef struct user {
+    bes_pass pass;
+    uint64_t first;  /* of a writer's nodes */
+    uint64_t rounds; /* writes that were accepted, or versions that were asked */
+} user;
+
+/* Writes a pair, the first node of which is then from ann, or else from bob. A pin of another thread may hold all free pages
+ * for a while. */
+static uint64_t write_pair(bes_pass *pass, uint64_t node, bool is_new, bool ann)
+{
+    bes_batch batch;
+    uint64_t made[4] = {0, 0, 0, 0}, number = 0;
+    uint32_t answer;
+    bes_batch_clear(&batch);
+    if (is_new)
+        CHECK(bes_batch_new_node(&batch) == BES_OK && bes_batch_new_node(&batch) == BES_OK);
+    CHECK(bes_batch_set_text(&batch, node, "MAIL:from", ann ? "ann" : "bob") == BES_OK);
+    CHECK(bes_batch_set_text(&batch, node + 1, "MAIL:from", ann ? "bob" : "ann") == BES_OK);
+    do
+        answer = bes_batch_apply(pass, &batch, BES_TRIES, made, 4, &number);
+    while (answer == BES_FULL || answer == BES_BUSY);
+    CHECK(answer == BES_OK && (!is_new || (made[0] == node && made[1] == node + 1)));
+    return number;
+}
 
 static void *writer(void *arg)
 {
-    bes_pass *pass = arg;
-    uint64_t node = 0;
-    uint32_t answer;
-    for (int i = 0; i < WRITES; i++) {
-        do
-            answer = bes_new_node(pass, &node);
-        while (answer == BES_FULL || answer == BES_BUSY);
-        CHECK(answer == BES_OK);
-        do
-            answer = bes_set_text(pass, node, "MAIL:from", i % 2 ? "ann" : "bob");
-        while (answer == BES_FULL || answer == BES_BUSY);
-        CHECK(answer == BES_OK);
-    }
+    static const struct timespec rest = {0, 1000000};
+    user *it = arg;
+    bool ann[PAIRS];
+    uint64_t written, number = 0;
+    bes_attribute told;
+    uint8_t from[3];
+    memset(ann, true, sizeof ann);
+    do {
+        uint64_t pair = it->rounds++ * 37 % PAIRS, node = it->first + 2 * pair;
+        ann[pair] = !ann[pair];
+        written = write_pair(&it->pass, node, false, ann[pair]);
+        if (it->rounds % 16 != 0)
+            continue;
+        /* A pin has all that its pass wrote. Then a rest: the journal keeps every write. */
+        CHECK(bes_pin(&it->pass, &number) == BES_OK && number >= written);
+        CHECK(bes_read(&it->pass, node + 1, "MAIL:from", &told, from, 3) == BES_OK && told.length == 3);
+        CHECK(memcmp(from, ann[pair] ? "bob" : "ann", 3) == 0);
+        CHECK(bes_unpin(&it->pass) == BES_OK);
+        nanosleep(&rest, NULL);
+    } while (!is_over());
     return NULL;
 }
 
 static void *reader(void *arg)
 {
-    bes_pass *pass = arg;
-    bes_prepared ann = BES_PREPARED_INIT;
+    user *it = arg;
+    bes_prepared prepared = BES_PREPARED_INIT;
     bes_updates updates = {0, 0};
-    uint64_t seen = 0, last = 0, number = 0, count = 0, again = 0, nodes[WRITES], same[WRITES];
-    CHECK(bes_prepare_text("MAIL:from==\"ann\"", &ann) == BES_OK);
-    for (int round = 0; round < rounds; round++) {
-        CHECK(bes_pin(pass, &number) == BES_OK && number >= seen);
+    uint64_t seen = 0, number = 0, count = 0, again = 0, nodes[NODES], same[NODES];
+    CHECK(bes_prepare_text("MAIL:from==\"ann\"", &prepared) == BES_OK);
+    do {
+        CHECK(bes_pin(&it->pass, &number) == BES_OK && number >= seen);
         seen = number;
-        CHECK(bes_find(pass, "MAIL:from==\"ann\"", nodes, WRITES, &count) == BES_OK);
-        CHECK(bes_find(pass, "MAIL:from==\"ann\"", same, WRITES, &again) == BES_OK);
-        CHECK(count == again && count >= last && count <= WRITES && memcmp(nodes, same, count * sizeof *nodes) == 0);
-        CHECK(bes_refresh(pass, &ann, &updates) == BES_OK && updates.created == count - last && updates.removed == 0);
-        last = count;
-        CHECK(bes_unpin(pass) == BES_OK);
-    }
-    CHECK(bes_release(&ann) == BES_OK);
+        CHECK(bes_find(&it->pass, "MAIL:from==\"ann\"", nodes, NODES, &count) == BES_OK && count == NODES / 2);
+        for (uint64_t i = 0; i < count; i++)
+            CHECK((nodes[i] - 1) / 2 == i);
+        CHECK(bes_refresh(&it->pass, &prepared, &updates) == BES_OK);
+        CHECK(updates.created == updates.removed + (it->rounds == 0 ? count : 0));
+        CHECK(bes_query_prepared(&it->pass, &prepared, same, NODES, &again) == BES_OK && again == count);
+        CHECK(memcmp(nodes, same, count * sizeof *nodes) == 0);
+        CHECK(bes_unpin(&it->pass) == BES_OK);
+        it->rounds++;
+    } while (!is_over());
+    CHECK(bes_release(&prepared) == BES_OK);
     return NULL;
 }
 
 static void threads(void)
 {
-    bes_pass passes[4] = {BES_PASS_INIT, BES_PASS_INIT, BES_PASS_INIT, BES_PASS_INIT};
+    static user users[4];
     pthread_t running[4];
-    uint64_t number = 0, count = 0, nodes[WRITES];
-    CHECK(bes_open(2048, 4, 10000, &passes[0]) == BES_OK);
+    uint64_t number = 0, count = 0, length = 0, lines = 0;
+    uint8_t *text;
+    CHECK(bes_open(4096, 4, 10000000, &users[0].pass) == BES_OK);
     for (int i = 1; i < 4; i++)
-        CHECK(bes_another(&passes[0], &passes[i]) == BES_OK);
-    CHECK(bes_make_index(&passes[0], "MAIL:from", BES_STRING_TYPE) == BES_OK);
+        CHECK(bes_another(&users[0].pass, &users[i].pass) == BES_OK);
+    CHECK(bes_make_index(&users[0].pass, "MAIL:from", BES_STRING_TYPE) == BES_OK);
+    for (uint64_t node = 1; node <= NODES; node += 2)
+        CHECK(write_pair(&users[0].pass, node, true, true) == 1 + (node + 1) / 2);
+    users[0].first = 1;
+    users[1].first = 1 + NODES / 2;
+    CHECK(clock_gettime(CLOCK_MONOTONIC, &end) == 0);
+    end.tv_sec += (time_t)seconds;
+    end.tv_nsec += (long)((seconds - (double)(time_t)seconds) * 1e9);
+    if (end.tv_nsec >= 1000000000)
+        end.tv_sec++, end.tv_nsec -= 1000000000;
     for (int i = 0; i < 4; i++)
-        CHECK(pthread_create(&running[i], NULL, i < 2 ? writer : reader, &passes[i]) == 0);
+        CHECK(pthread_create(&running[i], NULL, i < 2 ? writer : reader, &users[i]) == 0);
     for (int i = 0; i < 4; i++)
         CHECK(pthread_join(running[i], NULL) == 0);
-    CHECK(bes_close(&passes[0]) == BES_OK && bes_close(&passes[1]) == BES_OK && bes_close(&passes[2]) == BES_OK);
-    CHECK(bes_pin(&passes[3], &number) == BES_OK && number == 1 + 4 * WRITES);
-    CHECK(bes_find(&passes[3], "MAIL:from==\"ann\"", nodes, WRITES, &count) == BES_OK && count == WRITES);
-    CHECK(bes_close(&passes[3]) == BES_OK);
+    CHECK(bes_close(&users[0].pass) == BES_OK && bes_close(&users[1].pass) == BES_OK && bes_close(&users[2].pass) == BES_OK);
+    CHECK(bes_pin(&users[3].pass, &number) == BES_OK);
+    CHECK(number == 1 + NODES / 2 + users[0].rounds + users[1].rounds);
+    /* The journal has a line for each write. */
+    CHECK(bes_journal(&users[3].pass, (uint8_t *)"", 0, &length) == BES_OK && (text = malloc(length)) != NULL);
+    CHECK(bes_journal(&users[3].pass, text, length, &count) == BES_OK && count == length);
+    for (uint64_t i = 0; i < length; i++)
+        lines += text[i] == '\n';
+    CHECK(lines == number);
+    free(text);
+    CHECK(bes_close(&users[3].pass) == BES_OK);
+    printf("%llu writes and %llu versions in %g seconds\n", (unsigned long long)(users[0].rounds + users[1].rounds),
+           (unsigned long long)(users[2].rounds + users[3].rounds), seconds);
 }
 
 int main(int argc, char **argv)
 {
     if (argc > 1 && strcmp(argv[1], "short") == 0)
-        rounds = 20;
+        seconds = 0.5;
     closed_handle();
     closed_prepared();
     opening();
     wrong_writes();
+    most();
+    no_page_is_free();
     values();
     lists();
     queries();
+    no_queries();
     prepared_queries();
     journal();
     spent();
     threads();
-    puts("ok");
     return 0;
 }

@@ -11,7 +11,7 @@ trap 'rm -rf "$work"' EXIT
 run() {
     local what=$1 said
     shift
-    timeout 300 "$@" >"$work/said" || { echo "$what: failed" >&2; exit 1; }
+    timeout 300 "$@" >"$work/said" || { cat "$work/said" >&2; echo "$what: failed" >&2; exit 1; }
     said=$(cat "$work/said")
     echo "$what: ${said:-ok}"
 }
@@ -35,6 +35,14 @@ if [ -n "$has_cpp" ]; then
     run C++ "$work/plain"
 fi
 
+# The program and the library are of one version.
+program=../crates/bestore/out/bestore
+version=$(sed -n 's/^#define BES_VERSION "\(.*\)"$/\1/p' ../include/bestore.h)
+if [ -x $program ] && [ "$($program --version)" != "bestore $version" ]; then
+    echo "the header has the version $version, and the program $($program --version)" >&2
+    exit 1
+fi
+
 build() { cc -std=c11 "${warn[@]}" -I../include "$@" libbestore.a -lpthread; }
 
 build -O2 test.c -o "$work/test"
@@ -49,20 +57,38 @@ has() {
     echo "C, $1: skipped, cc has no such sanitizer"
     return 1
 }
+sanitized=
 if has address,undefined; then
+    sanitized=yes
     build -g -O1 -fsanitize=address,undefined test.c -o "$work/sanitized"
-    run "C, address,undefined" "$work/sanitized"
+    run "C, address,undefined" "$work/sanitized" short
 fi
 # The library's own steps, those of its lock among them, carry no marks for this sanitizer. So it is told to pass over what the
 # shared object does, and looks at the test's own memory alone.
 if has thread; then
     cc -std=c11 "${warn[@]}" -g -O1 -fsanitize=thread -I../include test.c -L. -lbestore -lpthread -o "$work/threads"
-    run "C, thread" env LD_LIBRARY_PATH=. TSAN_OPTIONS=ignore_noninstrumented_modules=1 "$work/threads"
+    run "C, thread" env LD_LIBRARY_PATH=. TSAN_OPTIONS=ignore_noninstrumented_modules=1 "$work/threads" short
 fi
 if command -v valgrind >/dev/null; then
     run "C, valgrind" valgrind -q --leak-check=full --error-exitcode=9 "$work/test" short
 else
     echo "C, valgrind: skipped, it isn't installed"
+fi
+
+# Requests for memory are refused where the linker lets them come by the test.
+wrap=(-Wl,--wrap=malloc,--wrap=realloc)
+if cc "${wrap[@]}" "$work/empty.c" -o "$work/empty" 2>/dev/null; then
+    build -g -O1 "${wrap[@]}" memory.c -o "$work/memory"
+    run "C, memory" "$work/memory"
+    if [ -n "$sanitized" ]; then
+        build -g -O1 -fsanitize=address,undefined "${wrap[@]}" memory.c -o "$work/memory-sanitized"
+        run "C, memory, address,undefined" "$work/memory-sanitized"
+    fi
+    if command -v valgrind >/dev/null; then
+        run "C, memory, valgrind" valgrind -q --leak-check=full --error-exitcode=9 "$work/memory"
+    fi
+else
+    echo "C, memory: skipped, the linker has no --wrap"
 fi
 
 build -O2 ../examples/c/mailbox.c -o "$work/mailbox"
@@ -82,8 +108,8 @@ fi
 
 if command -v python3 >/dev/null; then
     run Python env PYTHONDONTWRITEBYTECODE=1 BESTORE_LIBRARY="$PWD/libbestore.so" python3 -W error -m unittest discover -q -s ../python
-    if [ -x ../crates/bestore/out/bestore ]; then
-        run "the library and the program" env PYTHONDONTWRITEBYTECODE=1 BESTORE_LIBRARY="$PWD/libbestore.so" python3 -W error ../python/alike.py ../crates/bestore/out/bestore
+    if [ -x $program ]; then
+        run "the library and the program" env PYTHONDONTWRITEBYTECODE=1 BESTORE_LIBRARY="$PWD/libbestore.so" python3 -W error ../python/alike.py $program
     else
         echo "the library and the program: skipped, crates/bestore/out/bestore isn't built"
     fi

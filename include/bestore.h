@@ -178,7 +178,8 @@ typedef struct bes_counts {
 uint32_t bes_open(uint64_t pages, uint64_t passes, uint64_t commits, bes_pass *pass);
 
 /* Opens another handle, for a pass of the same store that has none yet. Ask it of the handle that bes_open opened: the
- * others answer BES_NO_PASS. BES_CLOSED, BES_OPEN (of other), BES_NO_PASS, BES_NO_MEMORY: no pass is lost. */
+ * others answer BES_NO_PASS. Takes constant time, and memory for the pass.
+ * BES_CLOSED, BES_OPEN (of other), BES_NO_PASS, BES_NO_MEMORY: no pass is lost. */
 uint32_t bes_another(bes_pass *pass, bes_pass *other);
 
 /* Moves what the handle holds into other, which has to be closed, and closes it: so a pass that one thread has done with can
@@ -187,7 +188,8 @@ uint32_t bes_another(bes_pass *pass, bes_pass *other);
 uint32_t bes_move(bes_pass *pass, bes_pass *other);
 
 /* Closes the handle, and gives its pin up. Its pass isn't used again: keep it by bes_move where another thread is to go on
- * with it. BES_CLOSED. */
+ * with it. Takes constant time; with the last handle of its store also the time to give back all pages and the journal.
+ * BES_CLOSED. */
 uint32_t bes_close(bes_pass *pass);
 
 /* Pins the current version, and puts out its number: how many writes it contains. Takes constant time.
@@ -198,7 +200,10 @@ uint32_t bes_pin(bes_pass *pass, uint64_t *number);
 uint32_t bes_unpin(bes_pass *pass);
 
 /* Writes 1 to 64 operations, all or none. Puts out the number of this write, and in made[i] the number of the node that
- * operation i made, or 0, as far as made has room. A pin stays where it is.
+ * operation i made, or 0, as far as made has room. A pin stays where it is. Takes memory for the operations and for their
+ * entry in the journal, and new pages on the way to each change of a tree; where none is free, or 256 or more were given up, also
+ * a look at each pass and work for each page that is free again. Where the answer is BES_BUSY it took one step on a shared word,
+ * and the memory for the operations.
  * BES_BUSY: another pass is writing, call again. BES_CLOSED, BES_BAD_COUNT, BES_NO_OPERATION, BES_BAD_PART, BES_NOT_UTF8,
  * BES_NAME_LENGTH, BES_DATA_LENGTH, BES_HAS_NUL, BES_NO_KIND, BES_NO_VALUE, BES_NO_MEMORY: nothing has happened. BES_NO_NODE
  * to BES_NOT_INDEXABLE: an operation is refused, and none is done. BES_COMMITS_SPENT, BES_FULL: there is no room. */
@@ -206,18 +211,22 @@ uint32_t bes_apply(bes_pass *pass, const bes_operation *operations, size_t opera
                    size_t bytes_count, uint64_t *made, size_t made_room, uint64_t *number);
 
 /* Writes as bes_apply does, and tries again while another pass is writing, so many times at most after the first. It doesn't
- * wait between two tries. With 0 retries it is bes_apply. BES_BUSY: so did each try find it, and nothing has happened. */
+ * wait between two tries. With 0 retries it is bes_apply. Takes what bes_apply does, and one step on a shared word for each try
+ * that finds another pass writing. BES_BUSY: so did each try find it, and nothing has happened. */
 uint32_t bes_apply_or_retry(bes_pass *pass, const bes_operation *operations, size_t operations_count, const uint8_t *bytes,
                             size_t bytes_count, uint32_t retries, uint64_t *made, size_t made_room, uint64_t *number);
 
 /* Asks a query in the pinned version. Puts out in count how many nodes meet it, and the first of them, ascending, as far as
- * nodes has room: where count is more than the room, the same query with more room answers the same.
+ * nodes has room: where count is more than the room, the same query with more room answers the same. Takes the time to parse
+ * the text, a descent of a tree for each comparison that is picked, and a walk over the range of keys that it leaves; where the
+ * range doesn't decide the query, look-ups for the other names at each key. Takes memory for the plan and the whole answer.
  * BES_CLOSED, BES_NOT_PINNED, BES_NOT_UTF8, BES_SYNTAX to BES_NOT_COVERED, BES_NO_MEMORY. */
 uint32_t bes_query(bes_pass *pass, const uint8_t *text, size_t text_length, uint64_t *nodes, size_t nodes_room,
                    uint64_t *count);
 
-/* Asks the query that items in reverse Polish order build, as bes_query does. BES_NO_ITEM, BES_BAD_PART, BES_NAME_LENGTH,
- * BES_HAS_NUL: an item is misspelt. BES_BAD_RPN, BES_BAD_PATTERN, BES_TOO_DEEP, BES_TOO_MANY: the items build no query. */
+/* Asks the query that items in reverse Polish order build, as bes_query does, and takes what that does; nothing is parsed.
+ * BES_NO_ITEM, BES_BAD_PART, BES_NOT_UTF8, BES_NAME_LENGTH, BES_HAS_NUL: an item is misspelt. BES_BAD_RPN, BES_BAD_PATTERN,
+ * BES_TOO_DEEP, BES_TOO_MANY: the items build no query. Other faults are those of bes_query. */
 uint32_t bes_query_items(bes_pass *pass, const bes_item *items, size_t items_count, const uint8_t *bytes, size_t bytes_count,
                          uint64_t *nodes, size_t nodes_room, uint64_t *count);
 
@@ -230,10 +239,11 @@ uint32_t bes_prepare(const uint8_t *text, size_t text_length, bes_prepared *prep
 uint32_t bes_prepare_items(const bes_item *items, size_t items_count, const uint8_t *bytes, size_t bytes_count,
                            bes_prepared *prepared);
 
-/* Closes the handle. BES_CLOSED. */
+/* Closes the handle, and gives its memory back: the query, and what its last refresh found. BES_CLOSED. */
 uint32_t bes_release(bes_prepared *prepared);
 
-/* Asks a prepared query in the pinned version, as bes_query does; nothing is parsed. What its last refresh found stays.
+/* Asks a prepared query in the pinned version, as bes_query does, and takes what that does; nothing is parsed. What its last
+ * refresh found stays.
  * BES_CLOSED (of either handle), BES_NOT_PINNED, BES_NOT_COVERED, BES_NO_MEMORY. */
 uint32_t bes_query_prepared(bes_pass *pass, bes_prepared *prepared, uint64_t *nodes, size_t nodes_room, uint64_t *count);
 
@@ -245,12 +255,13 @@ uint32_t bes_query_prepared(bes_pass *pass, bes_prepared *prepared, uint64_t *no
 uint32_t bes_refresh(bes_pass *pass, bes_prepared *prepared, bes_updates *updates);
 
 /* Puts out the nodes that came at the last refresh, and those that went, each ascending, as far as there is room. Needs no pin,
- * and answers the same until the next refresh. BES_CLOSED. */
+ * and answers the same until the next refresh. Takes the time to copy them. BES_CLOSED. */
 uint32_t bes_changes(bes_prepared *prepared, uint64_t *created, size_t created_room, uint64_t *removed, size_t removed_room);
 
 /* Says what the query of this text would be answered from in the pinned version: the comparisons that are picked, joined by
  * " || ", and a score, as in "size"<"0" score 3. Puts out in count how many bytes that text has (it has no zero byte behind it),
- * and its first bytes, as far as bytes has room. Faults are those of bes_query. */
+ * and its first bytes, as far as bytes has room. Takes the time to parse the query, and memory for the list of the indices and
+ * for the text; no node is looked at. Faults are those of bes_query. */
 uint32_t bes_explain(bes_pass *pass, const uint8_t *text, size_t text_length, uint8_t *bytes, size_t bytes_room, uint64_t *count);
 
 /* Reads a node's attribute in the pinned version: its type code, number and length, and its first bytes, as far as bytes
@@ -262,12 +273,14 @@ uint32_t bes_get(bes_pass *pass, uint64_t node, const uint8_t *name, size_t name
 
 /* Lists a node's attributes in the pinned version, by ascending names: as the operations that set them, with the bytes that
  * their names and values are parts of, as for bes_apply. Puts out how many operations and bytes there are, and of both as many
- * as there is room for: where there are more, the same call with more room answers the same.
+ * as there is room for: where there are more, the same call with more room answers the same. Takes a descent of a tree, a walk
+ * over the node's attributes, and memory for the list.
  * BES_CLOSED, BES_NOT_PINNED, BES_NO_NODE, BES_NO_MEMORY. */
 uint32_t bes_attributes(bes_pass *pass, uint64_t node, bes_counts *counts, bes_operation *operations, size_t operations_room,
                         uint8_t *bytes, size_t bytes_room);
 
 /* Lists the indices of the pinned version, by ascending names, as the operations that make them; else as bes_attributes.
+ * Takes a look at one page, and memory for the list.
  * BES_CLOSED, BES_NOT_PINNED, BES_NO_MEMORY. */
 uint32_t bes_indices(bes_pass *pass, bes_counts *counts, bes_operation *operations, size_t operations_room, uint8_t *bytes,
                      size_t bytes_room);
@@ -275,7 +288,8 @@ uint32_t bes_indices(bes_pass *pass, bes_counts *counts, bes_operation *operatio
 /* Tells the journal up to now, pinned or not: a line for each write, numbered from 1, with the pass that wrote it, its operations
  * and their answers, as in 2 by 0 set 1 "size" LONG 5 -> ok. Puts out in count how many bytes that text has (it has no zero byte
  * behind it), and its first bytes, as far as bytes has room. The journal only grows: what was told once stands at its beginning
- * for good. Writes of other passes are answered BES_BUSY while the text is made, which takes as long as the journal is.
+ * for good. Writes of other passes are answered BES_BUSY while the text is made, which takes as long as the journal is, and memory
+ * for all of it.
  * BES_BUSY: another pass is writing, call again. BES_CLOSED, BES_NO_MEMORY. */
 uint32_t bes_journal(bes_pass *pass, uint8_t *bytes, size_t bytes_room, uint64_t *count);
 

@@ -3,7 +3,8 @@
     python3 alike.py PROGRAM [LISTS [SEED]]
 
 PROGRAM is crates/bestore/out/bestore. Each list is a batch of 1 to 6 operations; behind it stand a query and what the store
-then has. What is wrong is printed with its script's line, and the status is 1.
+then has. The journals have to be the same too, and `bestore check` has to find the library's right. What is wrong is printed
+with its script's file, and the status is 1.
 """
 
 import os
@@ -34,6 +35,15 @@ def value_of(chance, kind):
     return number, str(number)
 
 
+def spelled(value):
+    """How a reply has a value, but for its kind."""
+    if isinstance(value, str):
+        return f'"{value}"'
+    if isinstance(value, bytes):
+        return f'"{value.hex()}"'
+    return str(value)
+
+
 def add(chance, batch, nodes):
     """Adds an operation to the batch, and answers its line in a script."""
     node, name, kind = chance.randrange(1, nodes + 3), chance.choice(NAMES), chance.choice(list(KINDS))
@@ -45,9 +55,9 @@ def add(chance, batch, nodes):
         batch.remove_node(node)
         return f"drop {node}"
     if what < 9:
-        value, spelled = value_of(chance, kind)
+        value, text = value_of(chance, kind)
         batch.set(node, name, value, kind)
-        return f"set {node} {name} {KINDS[kind]} {spelled}"
+        return f"set {node} {name} {KINDS[kind]} {text}"
     if what == 9:
         batch.unset(node, name)
         return f"unset {node} {name}"
@@ -93,46 +103,72 @@ def one_list(chance, store, nodes):
         try:
             attributes = version.attributes(node)
             replies.append(f"attrs {len(attributes)}")
-            replies += [f'"{name}" ' for name in attributes]
+            replies += [f'"{name}" ? {spelled(value)}' for name, value in attributes.items()]
         except bestore.Error as error:
             replies.append(refused(error))
     return lines, replies, nodes
 
 
 def script(chance, count):
-    """So many lists, on a store of their own."""
+    """So many lists, on a store of their own, and its journal."""
     lines, replies, nodes = [], [], 0
     with bestore.open(1024, 1, 1000000) as store:
         for _ in range(count):
             more, answers, nodes = one_list(chance, store, nodes)
             lines += more
             replies += answers
-    return lines, replies
+        return lines, replies, store.journal()
 
 
 def agrees(reply, said):
-    """Of a refusal the library tells the number alone, and of an attribute's line the name is compared here."""
-    if reply.startswith("refused ") or reply.endswith('" '):
-        return (said + " ").startswith(reply if reply.endswith(" ") else reply + " ")
+    """Of a refusal the library tells the number alone, and of an attribute not the kind, which the journal has."""
+    if reply.startswith("refused "):
+        return (said + " ").startswith(reply + " ")
+    name, has_value, value = reply.partition(" ? ")
+    if has_value:
+        return any(said == f"{name} {kind} {value}" for kind in KINDS.values())
     return reply == said
+
+
+def told(program, *words):
+    """What the program prints, also of what is wrong."""
+    return subprocess.run([program, *words], stdout=subprocess.PIPE, stderr=subprocess.STDOUT, check=False).stdout.decode()
+
+
+def file_of(text):
+    """A new file with this text."""
+    with tempfile.NamedTemporaryFile("w", encoding="utf-8", newline="", delete=False) as file:
+        file.write(text)
+    return file.name
+
+
+def compare(program, lines, replies, journal):
+    """What is wrong, if anything is, once the script has run."""
+    name, checked = file_of("\n".join(lines) + "\n"), file_of(journal)
+    said, _, rest = told(program, "run", "--journal", name).rpartition("\njournal ")
+    said = said.splitlines()
+    for place, (reply, answer) in enumerate(zip(replies, said)):
+        if not agrees(reply, answer):
+            return f"{name}: reply {place + 1} is {answer!r}, and over the library {reply!r}"
+    if len(replies) != len(said):
+        return f"{name}: {len(said)} replies, and over the library {len(replies)}"
+    if rest != f"{len(journal.splitlines())}\n{journal}replay ok\n":
+        return f"{name}: its journal is another than the library's, {checked}"
+    if told(program, "check", checked) != "replay ok\n":
+        return f"{checked}: `bestore check` finds the library's journal wrong"
+    os.unlink(name)
+    os.unlink(checked)
+    return None
 
 
 def main(program, count=10000, seed=1):
     chance, done = random.Random(seed), 0
     while done < count:
         size = min(LISTS_A_SCRIPT, count - done)
-        lines, replies = script(chance, size)
-        with tempfile.NamedTemporaryFile("w", suffix=".be", encoding="utf-8", delete=False) as file:
-            file.write("\n".join(lines) + "\n")
-        said = subprocess.run([program, "run", file.name], check=True, capture_output=True).stdout.decode().splitlines()
-        for place, (reply, answer) in enumerate(zip(replies, said)):
-            if not agrees(reply, answer):
-                print(f"{file.name}: reply {place + 1} is {answer!r}, and over the library {reply!r}")
-                return 1
-        if len(replies) != len(said):
-            print(f"{file.name}: {len(said)} replies, and over the library {len(replies)}")
+        wrong = compare(program, *script(chance, size))
+        if wrong:
+            print(wrong)
             return 1
-        os.unlink(file.name)
         done += size
     print(f"{done} lists alike")
     return 0

@@ -9,8 +9,8 @@
         with store.pin() as version:
             print(version.query('MAIL:from == "ann"'))
 
-A `Pass` is one user's place in a store. Each thread has one of its own, by `Pass.another`; a pass takes one call at a
-time. The shared object is looked for beside this file, in ../c, and where the system looks; BESTORE_LIBRARY names another.
+A `Pass` is one user's place in a store. Each thread has one of its own: the thread that opened the store makes it by
+`another`, before that thread starts, since a pass takes one call at a time. The shared object is looked for beside this file, in ../c, and where the system looks; BESTORE_LIBRARY names another.
 """
 
 import ctypes
@@ -193,9 +193,8 @@ def _items(items):
     return spelled, len(items), texts, len(texts)
 
 
-class Prepared:
-    """A query that is parsed once and kept, by `prepare` or `prepare_items`. `Version.query_prepared` asks it, and
-    `Version.refresh` tells what changed since it was refreshed last. It takes one call at a time."""
+class _Owner:
+    """What owns a handle, and gives it up by `close`: at the end of a `with`, or when it goes itself."""
 
     def __init__(self):
         self._handle = _Handle()
@@ -208,6 +207,11 @@ class Prepared:
 
     def __del__(self):
         self.close()
+
+
+class Prepared(_Owner):
+    """A query that is parsed once and kept, by `prepare` or `prepare_items`. `Version.query_prepared` asks it, and
+    `Version.refresh` tells what changed since it was refreshed last. It takes one call at a time."""
 
     def close(self):
         """Gives the query up, if it is still there."""
@@ -270,20 +274,8 @@ class Batch:
         return self._add(_REMOVE_INDEX, 0, name)
 
 
-class Pass:
+class Pass(_Owner):
     """One user's place in a store. `open` makes the first, and `another` the others."""
-
-    def __init__(self):
-        self._handle = _Handle()
-
-    def __enter__(self):
-        return self
-
-    def __exit__(self, *_):
-        self.close()
-
-    def __del__(self):
-        _library.bes_close(ctypes.byref(self._handle))
 
     def another(self):
         """A pass of the same store for another thread. Ask it of the pass that `open` answered."""

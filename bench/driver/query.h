@@ -23,7 +23,8 @@ struct query {
     void *prepared;
 };
 
-/* A query of a text, which it points into. Ends the process where the text is none. */
+/* A query of a text, which it points into. Ends the process where the text is none. A peer that parses texts by itself defines
+ * it anew, and fills `prepared` alone. */
 void parse(struct query *query, struct text text);
 
 bool number_holds(const struct comparison *comparison, int64_t number);

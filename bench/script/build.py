@@ -44,11 +44,12 @@ def has_library(peer):
 
 
 def build_peer(peer, folder):
-    if peer.library and not has_library(peer):
+    archive = os.path.join(REPOSITORY, peer.archive)
+    if not os.path.exists(archive) or peer.library and not has_library(peer):
         return None
     program = os.path.join(folder, peer.name)
     sources = glob.glob(f"{BENCH}/driver/*.c") + glob.glob(f"{BENCH}/peers/{peer.sources}")
-    libraries = [f"-l{peer.library}"] if peer.library else []
+    libraries = [archive] if peer.archive else [f"-l{peer.library}"] if peer.library else []
     compile_c(program, [*peer.flags, *sources, *libraries, "-lpthread"])
     return program
 

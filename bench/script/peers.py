@@ -14,16 +14,19 @@ class Peer:
     sources: str = ""
     flags: list = field(default_factory=list)
     library: str = ""
+    archive: str = ""
     package: str = ""
     has_threads: bool = True
     has_journal: bool = False
 
 
 PEERS = [
-    Peer("lmdb", "LMDB", "#1f77b4", "lmdb.c", [], "lmdb", "liblmdb-dev"),
-    Peer("sqlite", "SQLite, memory", "#bcbd22", "sqlite.c", [], "sqlite3", "libsqlite3-dev", has_threads=False),
-    Peer("sqlite-wal", "SQLite, WAL", "#ff7f0e", "sqlite.c", ["-DWAL"], "sqlite3", "libsqlite3-dev"),
+    Peer("lmdb", "LMDB", "#1f77b4", "lmdb.c", library="lmdb", package="liblmdb-dev"),
+    Peer("sqlite", "SQLite, memory", "#bcbd22", "sqlite.c", library="sqlite3", package="libsqlite3-dev", has_threads=False),
+    Peer("sqlite-wal", "SQLite, WAL", "#ff7f0e", "sqlite.c", ["-DWAL"], library="sqlite3", package="libsqlite3-dev"),
     Peer("model", "model in C", "#2ca02c", "model/*.c", has_journal=True),
+    Peer("library", "bestore, from C", "#9467bd", "bestore.c", archive="c/libbestore.a",
+         package="c/libbestore.a, which `make` in c/ builds", has_journal=True),
     Peer(OURS, "bestore", "#d62728", has_journal=True),
 ]
 TITLES = {peer.name: peer.title for peer in PEERS}

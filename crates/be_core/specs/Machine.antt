@@ -40,8 +40,14 @@ nowhere p = false
 abbrev pub zeros : ℕ → ℕ → ℕ
 zeros p i = 0
 
-abbrev pub InLimits : ℕ → ℕ → ℕ → Type 0
-InLimits pages passes commits = (0 < pages) × (pages ≤ 16384) × (0 < passes) × (passes ≤ 64) × (0 < commits) × (commits < 4294967296)
+-- how many pages, passes and commits there may be: of pages, so many at least
+pub record AreLimits (least pages passes commits : ℕ) : Type 0 where
+  pub some_pages : least ≤ pages
+  pub few_pages : pages ≤ 16384
+  pub some_pass : 0 < passes
+  pub few : passes ≤ 64
+  pub some_commit : 0 < commits
+  pub short : commits < 4294967296
 
 -- version 0 has the page 0 alone, with these words, and each other page is free
 abbrev pub first_state : ℕ → ℕ → ℕ → (ℕ → ℕ → ℕ) → World

@@ -176,7 +176,7 @@ impl State {
     ghost use Rattle.be_core.specs.Machine.{World, Allowed, after, MayLook, after_look, MayAnnounce, after_announce, MayLookAgain};
     ghost use Rattle.be_core.specs.Machine.{after_look_again, MayUnpin, after_unpin, MayLock, after_lock, MayUnlock, after_unlock, MayFill};
     ghost use Rattle.be_core.specs.Machine.{after_fill, MayRead, HasOpenWrite, MayScan, after_scan, MayPublish, after_publish, has, first_state};
-    ghost use Rattle.be_core.specs.Machine.{zeros, InLimits};
+    ghost use Rattle.be_core.specs.Machine.{zeros, AreLimits};
     ghost use Rattle.be_core.specs.Machine as machine;
     ghost use Rattle.be_core.specs.Laws.{LeavesNone};
     ghost use Rattle.be_core.specs.Shown.{shown, MakesStep, ShowsSound, Images, blank, as_holder, IsUnchanged, page_count};
@@ -186,10 +186,10 @@ impl State {
     pub fn new(alloc: Global, pages: u64, passes: u64, commits: u64) -> Result<State, Refusal>
         ensures first { IfOk result (λ s. shown s blank ≡ first_state pages passes commits zeros) }
         ensures size { IfOk result (λ s. page_count s ≡ pages) }
-        ensures within { IsOk result → InLimits pages passes commits }
+        ensures within { IsOk result → AreLimits 1 pages passes commits }
         ensures sound { IfOk result (λ s. ShowsSound s) }
-        ensures limits { (result ≡ Err Refusal.BadLimits) ↔ (¬ (InLimits pages passes commits)) }
-        ensures memory { InLimits pages passes commits → IsOkUnless result Refusal.OutOfMemory }
+        ensures limits { (result ≡ Err Refusal.BadLimits) ↔ (¬ (AreLimits 1 pages passes commits)) }
+        ensures memory { AreLimits 1 pages passes commits → IsOkUnless result Refusal.OutOfMemory }
     {
         if pages == 0 || pages > 16_384 {
             return Err(Refusal::BadLimits);

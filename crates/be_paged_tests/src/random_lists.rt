@@ -236,7 +236,7 @@ fn mix_of(sort: u64) -> Mix {
     }
 }
 
-/// 10,000 lists. Many are accepted, and many refused by each of 2 to 8 and by 11.
+/// 10,000 lists. Many are accepted, and many refused by the volume in each way, and for want of pages.
 #[test]
 fn random_lists(rt: HostRuntime) -> Result<(), Fail> {
     let mut random = Random {

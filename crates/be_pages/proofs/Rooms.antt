@@ -124,14 +124,14 @@ held_inside P p h = elim (cases_lt p (length P)) [
   | inr past ↦ absurd (false≢true (sym (ap is_held (standing_past P p past)) ∙ h))
 ]
 
-pub taken_inside : (P : List Place) (p : ℕ) → IsTrue (is_taken (standing_in P p)) → p < length P
-taken_inside P p h = elim (cases_lt p (length P)) [
+pub inside : (P : List Place) (p : ℕ) → IsTrue (is_taken (standing_in P p)) → p < length P
+inside P p h = elim (cases_lt p (length P)) [
   | inl lt ↦ lt
   | inr past ↦ absurd (false≢true (sym (ap is_taken (standing_past P p past)) ∙ h))
 ]
 
-pub taken_in_hand : (P : List Place) (p : ℕ) → IsTrue (is_taken (standing_in P p)) → IsTrue (is_in_hand (place_of P p))
-taken_in_hand P p h = taken_place (place_of P p) (sym (ap is_taken (standing_at P p (taken_inside P p h))) ∙ h)
+pub in_hand : (P : List Place) (p : ℕ) → IsTrue (is_taken (standing_in P p)) → IsTrue (is_in_hand (place_of P p))
+in_hand P p h = taken_place (place_of P p) (sym (ap is_taken (standing_at P p (inside P p h))) ∙ h)
 
 pub held_in_pool : (P : List Place) (p : ℕ) → IsTrue (is_held (standing_in P p)) → IsTrue (is_held_page (place_of P p))
 held_in_pool P p h = held_place (place_of P p) (sym (ap is_held (standing_at P p (held_inside P p h))) ∙ h)

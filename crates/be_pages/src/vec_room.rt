@@ -59,7 +59,7 @@ impl Room for VecRoom {
         }
     }
 
-    #[tactic(auto, using(crate::proofs::Rooms::stands_set, crate::proofs::Rooms::unretired_set, crate::proofs::Rooms::taken_in_hand, crate::proofs::Rooms::taken_inside))]
+    #[tactic(auto, using(crate::proofs::Rooms::stands_set, crate::proofs::Rooms::unretired_set, crate::proofs::Rooms::in_hand, crate::proofs::Rooms::inside))]
     fn fill(&mut self, page: u64, i: usize, word: u64) {
         self.words[page as usize * 512 + i] = word;
         self.pool.fill(page);

@@ -4,3 +4,4 @@ pub mod Texts
 pub mod Back
 pub mod Drawn
 pub mod Fronts
+pub mod Literal

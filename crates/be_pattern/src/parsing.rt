@@ -1,8 +1,9 @@
 //! Reading a pattern's text, letter by letter: a letter is a character, with a backslash before it or without.
-ghost use Rattle.std.specs.Prelude.{◌≡◌, ◌<◌, ◌≤◌, ◌-◌, ◌∷◌, ℕ, [], true, false, length, Ok, Some, None, IfOk, IfErr, IfSome, IfNone, MatchOption};
+ghost use Rattle.std.specs.Prelude.{◌≡◌, ◌<◌, ◌≤◌, ◌-◌, ◌∷◌, ℕ, [], map, true, false, length, Ok, Some, None, IfOk, IfErr, IfSome, IfNone, MatchOption};
 ghost use Rattle.std.specs.List.{list_any};
 ghost use Rattle.std.specs.Str.{chars};
-ghost use Rattle.be_pattern.specs.Match.{part_of, parts_of};
+ghost use Rattle.be_pattern.specs.Canonical.{is_special};
+ghost use Rattle.be_pattern.specs.Match.{Only, part_of, parts_of};
 ghost use Rattle.be_pattern.specs.Parse.{pattern, IsFault, is_plain, falls, are_members};
 ghost use Rattle.be_pattern.specs.Letters.{letters_in, ending_in, ending_of, letter_of, dashed, member_end, with_members, members_behind, set_behind, token_at};
 
@@ -10,6 +11,9 @@ use crate::matching::split_first_char;
 use crate::token::Token;
 use be_value::Refusal;
 use std::alloc::{AllocError, Global};
+
+/// For how many tokens memory is asked for before they are read.
+const MAX_ROOM: usize = 64;
 
 /// A character of a pattern's text.
 #[derive(Clone, Copy)]
@@ -72,6 +76,25 @@ fn behind_letters(text: &str) -> &str
     rest
 }
 
+/// Whether one of the bytes is a character that means more than itself without a backslash, or a `"`.
+fn has_special(bytes: &[u8]) -> bool
+    ensures { result ≡ list_any is_special bytes.now }
+{
+    bytes.iter().any(|b| *b == b'"' || *b == b'\\' || *b == b'*' || *b == b'?' || *b == b'[')
+}
+
+/// Whether it is seen from the bytes that each character of a text is a token of its own.
+pub(crate) fn is_literal(text: &str) -> bool
+    ensures { result ≡ true → pattern (chars text.now) ≡ Ok (map Only (chars text.now)) }
+{
+    !has_special(text.as_bytes())
+}
+
+/// For how many tokens of a text memory is asked for at once.
+pub(crate) fn room_for(text: &str) -> usize {
+    text.len().min(MAX_ROOM)
+}
+
 /// The tokens of a pattern's text.
 pub(crate) fn parse(alloc: Global, text: &str) -> Result<Vec<Token>, Refusal>
     ensures ok { IfOk result (λ v. pattern (chars text.now) ≡ Ok (parts_of v.items)) }
@@ -81,7 +104,7 @@ pub(crate) fn parse(alloc: Global, text: &str) -> Result<Vec<Token>, Refusal>
     if ending != 0 {
         return Err(Refusal::BadPattern(text.len() - ending));
     }
-    let mut tokens = Vec::new(alloc);
+    let mut tokens = Vec::with_capacity(alloc, room_for(text))?;
     let mut rest = text;
     'tokens: while let Some((letter, after)) = split_letter(rest) {
         let Some((token, behind)) = read_token(alloc, letter, after)? else {

@@ -41,13 +41,16 @@ impl Model for Pattern {
 impl Pattern {
     /// Reads a pattern. The place of a fault is in bytes: of the `[` of the first faulty set (one without its `]` or
     /// without members, or with a range that falls), or of a backslash with nothing behind it, which is looked for
-    /// first. It asks for memory a few times for each token.
+    /// first. It asks for memory a few times for each token at most.
     pub fn parse(alloc: Global, text: &str) -> Result<Pattern, Refusal>
         // The tokens are those that the text spells.
         ensures ok { IfOk result (λ p. pattern (chars text.now) ≡ Ok p) }
         // A bad pattern is told by the place of its fault, unless memory runs out.
         ensures err { IfErr result (IsFault (pattern (chars text.now)) (length text.now)) }
     {
+        if parsing::is_literal(text) {
+            return Ok(literal_pattern(alloc, text)?);
+        }
         Ok(pattern_of(alloc, parsing::parse(alloc, text)?)?)
     }
 
@@ -102,6 +105,20 @@ impl Pattern {
     {
         Ok(printing::canonical(alloc, &self.tokens)?)
     }
+}
+
+/// The pattern of a text whose characters are all literal.
+fn literal_pattern(alloc: Global, text: &str) -> Result<Pattern, AllocError>
+    ensures { IfOk result (λ p. p ≡ map Only (chars text.now)) }
+{
+    let tokens = push_literals(Vec::with_capacity(alloc, parsing::room_for(text))?, text)?;
+    let prefix = String::from_str(alloc, text)?;
+    Ok(Pattern {
+        tokens,
+        prefix,
+        is_plain: true,
+        is_prefix: true,
+    })
 }
 
 /// The pattern of these tokens.

@@ -1,125 +1,22 @@
 //! Worked examples, over a plain volume's source that writes down its calls.
 //!
-//! A volume is made by lines of a script, such as `set 1 n LONG 5`. What is asked of it stands in lines
-//! `COMMAND QUERY => REPLY`. The command `explain` asks what the query is answered from, and `query` for its nodes by these
-//! picks. Digits are a command too: the nodes by these picks, a digit for each. Behind the nodes stands of which indices a
-//! key was asked, the first letter of the name for each call, and for a range that is asked for whole, one for each key that
-//! lies in it and one for its end: `nodes 2 3 asks nnn`.
+//! A volume is made by lines of a script, such as `set 1 n LONG 5`; `6 times new` is six of them. What is asked of it stands
+//! in lines `COMMAND QUERY => REPLY`. The command `explain` asks what the query is answered from, and `query` for its nodes
+//! by these picks. Digits are a command too: the nodes by these picks, a digit for each. Behind the nodes stands of which
+//! indices a key was asked, the first letter of the name for each call, and for a range that is asked for whole, one for each
+//! key that lies in it and one for its end: `nodes 2 3 asks nnn`. The commands `keys` and `looks` count what is asked for
+//! where the source tells the kinds.
 
 ghost use Rattle.be_volume.specs.Volume.{State};
-ghost use Rattle.be_plan.specs.Sources.{IsVolume};
 
-use arrayvec::{ArrayString, ArrayVec};
+use crate::counting::{nodes_by, nodes_chosen};
 use be_language::{Request, read_line};
-use be_plan::{
-    Cover, Picks, Source, VolumeSource, choose, choose_from, covers, explain, run, volume_source,
-};
+use be_plan::{Cover, Picks, Source, choose, explain, volume_source};
 use be_query::{Query, parse};
-use be_value::{Kind, Name, Refusal, Value};
+use be_value::{Kind, Name, Refusal, word_of};
 use be_volume::Volume;
 use std::alloc::Global;
 use std::test::Fail;
-
-fn first_letter(name: &Name) -> char {
-    name.as_str().chars().next().unwrap_or('?')
-}
-
-/// Whether the key is above the bound, if there is one.
-fn is_past(high: Option<&[u8]>, key: &[u8]) -> bool {
-    match high {
-        Some(high) => key > high,
-        None => false,
-    }
-}
-
-/// How many keys of the index lie from `low` to `high`, up to 64, counted from key to key.
-pub(crate) fn keys_within(volume: &Volume, name: &Name, low: &[u8], high: Option<&[u8]>) -> usize {
-    let mut next = volume.next_key(name, low, false);
-    for count in 0..64 {
-        let Some(key) = &next else {
-            return count;
-        };
-        if is_past(high, key.as_slice()) {
-            return count;
-        }
-        next = volume.next_key(name, key.as_slice(), true);
-    }
-    64
-}
-
-/// Writes down a step for each of so many keys, and one for the end.
-fn write_steps(asked: &mut ArrayString<64>, name: &Name, keys: usize) {
-    for _ in 0..=keys {
-        let _full = asked.try_push(first_letter(name));
-    }
-}
-
-/// A volume's source that writes down of which index it is asked for a key, and counts the kinds and the ranges that it is asked for.
-#[derive(Drop)]
-struct Recording<'a> {
-    source: VolumeSource<'a>,
-    volume: &'a Volume,
-    asked: ArrayString<64>,
-    kinds: u64,
-    ranges: u64,
-}
-
-/// A source that has written nothing yet.
-fn start_recording(volume: &Volume) -> Recording<'_>
-    ensures { IsVolume result.source volume.now }
-{
-    Recording {
-        source: volume_source(volume),
-        volume,
-        asked: ArrayString::new(),
-        kinds: 0,
-        ranges: 0,
-    }
-}
-
-impl Source for Recording<'_> {
-    ghost use Rattle.be_volume.specs.Volume.{State};
-    ghost use Rattle.be_plan.specs.Sources.{IsVolume};
-
-    ghost Kept = { State };
-
-    ghost kept = { λ s. s.source };
-
-    ghost answers_for = { λ s volume. IsVolume s.source volume };
-
-    ghost sound = { λ s volume is. is.sound };
-
-    fn kind_of(&mut self, name: &Name) -> Option<Kind> {
-        self.kinds = self.kinds.wrapping_add(1);
-        self.source.kind_of(name)
-    }
-
-    fn next_key(&mut self, name: &Name, from: &[u8], after: bool) -> Option<ArrayVec<u8, 264>> {
-        let _full = self.asked.try_push(first_letter(name));
-        self.source.next_key(name, from, after)
-    }
-
-    fn nodes_within(
-        &mut self,
-        name: &Name,
-        low: &[u8],
-        high: Option<&[u8]>,
-        found: &mut Vec<u64>,
-    ) -> Result<(), Refusal> {
-        self.ranges = self.ranges.wrapping_add(1);
-        let keys = keys_within(self.volume, name, low, high);
-        write_steps(&mut self.asked, name, keys);
-        self.source.nodes_within(name, low, high, found)
-    }
-
-    fn has_key(&mut self, name: &Name, key: &[u8]) -> bool {
-        self.source.has_key(name, key)
-    }
-
-    fn value(&mut self, node: u64, name: &Name) -> Option<Value> {
-        self.source.value(node, name)
-    }
-}
 
 /// Does the operation of a line, which has to be accepted.
 fn write(alloc: Global, volume: &mut Volume, line: &str) -> Result<(), Refusal> {
@@ -134,13 +31,16 @@ fn write(alloc: Global, volume: &mut Volume, line: &str) -> Result<(), Refusal> 
     Ok(())
 }
 
-/// Makes a volume. A line that is refused memory is run again.
-fn volume_of(alloc: Global, lines: &str) -> Result<Volume, Refusal> {
+/// Makes a volume. An operation that is refused memory is done again.
+pub(crate) fn volume_of(alloc: Global, lines: &str) -> Result<Volume, Refusal> {
     let mut volume = Volume::new(alloc);
     for line in lines.lines() {
-        match write(alloc, &mut volume, line) {
-            Err(Refusal::OutOfMemory) => write(alloc, &mut volume, line)?,
-            done => done?,
+        let (times, line) = line.split_once(" times ").unwrap_or(("1", line));
+        for _ in 0..word_of(times.as_bytes()).unwrap_or(0) {
+            match write(alloc, &mut volume, line) {
+                Err(Refusal::OutOfMemory) => write(alloc, &mut volume, line)?,
+                done => done?,
+            }
         }
     }
     Ok(volume)
@@ -159,29 +59,46 @@ fn picks_of(alloc: Global, digits: &str) -> Result<Picks, Refusal> {
 fn nodes_text(alloc: Global, nodes: &[u64]) -> Result<String, Refusal> {
     let mut text = String::from_str(alloc, "nodes")?;
     for node in nodes {
-        text.push_str(" ")?;
-        text.push_str(node.to_string(alloc)?.as_str())?;
+        text.push_str(format!(in alloc; " {node}")?.as_str())?;
     }
     Ok(text)
 }
 
 /// The nodes by the cover, and what was asked for them.
 fn found(alloc: Global, volume: &Volume, query: &Query, cover: &Cover) -> Result<String, Refusal> {
-    let mut source = start_recording(volume);
-    if !covers(cover, query, &mut source) {
+    let Some((nodes, counts)) = nodes_by(alloc, volume, query, cover)? else {
         return Ok(String::from_str(alloc, "not covered")?);
-    }
-    let nodes = run(alloc, cover, query, &mut source)?;
+    };
     let mut text = nodes_text(alloc, &nodes)?;
     text.push_str(" asks ")?;
-    text.push_str(source.asked.as_str())?;
+    text.push_str(counts.asked.as_str())?;
     Ok(text)
+}
+
+/// What was asked for where the source tells the kinds: the keys of a range without its end, or the values and the keys that were searched for.
+fn counted(
+    alloc: Global,
+    volume: &Volume,
+    command: &str,
+    query: &Query,
+) -> Result<String, Refusal> {
+    let (_nodes, counts) = nodes_chosen(alloc, volume, query)?;
+    if command == "keys" {
+        let keys = (counts.asked.as_str().len() as u64).wrapping_sub(1);
+        return Ok(format!(in alloc; "{keys}")?);
+    }
+    let values = counts.values;
+    let searches = counts.searches;
+    Ok(format!(in alloc; "values {values} searches {searches}")?)
 }
 
 /// The answer to a command.
 fn answer(alloc: Global, volume: &Volume, command: &str, query: &Query) -> Result<String, Refusal> {
     if command == "explain" {
         return explain(alloc, query, &choose(alloc, query, &volume.indices()?)?);
+    }
+    if command == "keys" || command == "looks" {
+        return counted(alloc, volume, command, query);
     }
     let cover = if command == "query" {
         choose(alloc, query, &volume.indices()?)?
@@ -196,7 +113,7 @@ fn answer(alloc: Global, volume: &Volume, command: &str, query: &Query) -> Resul
 
 /// The reply to a request; refused with OutOfMemory alone.
 fn reply_to(alloc: Global, volume: &Volume, request: &str) -> Result<String, Refusal> {
-    let Some((command, text)) = request.split_once(' ') else {
+    let Some((command, text)) = request.split_once(" ") else {
         return Ok(String::new(alloc));
     };
     match answer(alloc, volume, command, &parse(alloc, text)?) {
@@ -207,7 +124,7 @@ fn reply_to(alloc: Global, volume: &Volume, request: &str) -> Result<String, Ref
 
 /// Fails unless each request has its reply. A request that is refused memory is made again: so each example passes with any one request for
 /// memory refused.
-fn replies(alloc: Global, volume: &Volume, lines: &str) -> Result<(), Fail> {
+pub(crate) fn replies(alloc: Global, volume: &Volume, lines: &str) -> Result<(), Fail> {
     for line in lines.lines() {
         let Some((request, expected)) = line.split_once(" => ") else {
             return Err(Fail::new("no reply"));
@@ -221,6 +138,11 @@ fn replies(alloc: Global, volume: &Volume, lines: &str) -> Result<(), Fail> {
         }
     }
     Ok(())
+}
+
+/// The same on a volume of these lines.
+pub(crate) fn replies_of(alloc: Global, lines: &str, requests: &str) -> Result<(), Fail> {
+    replies(alloc, &volume_of(alloc, lines)?, requests)
 }
 
 /// Each pick asks for keys of its own index alone.
@@ -247,7 +169,7 @@ query b==2 => nodes 1 2 asks bbb
 120 a==1 || b==2 || a==1 => nodes 1 2 asks aaaabbb
 0 a==1 || b==2 => not covered
 2 a==1 || b==2 => not covered";
-    replies(rt.alloc(), &volume_of(rt.alloc(), lines)?, requests)
+    replies_of(rt.alloc(), lines, requests)
 }
 
 #[test]
@@ -263,7 +185,7 @@ query !(a==1||b==3) => nodes asks aa
 explain !(a==2||b==3) => \"a\"!=\"2\" score 5
 explain b==2 => refused 17
 0 b==2 => not covered";
-    replies(rt.alloc(), &volume_of(rt.alloc(), lines)?, requests)
+    replies_of(rt.alloc(), lines, requests)
 }
 
 /// The cheapest side of an `&&`, the left one at a tie, and both sides of an `||`.
@@ -285,18 +207,13 @@ explain (a==1 || b==2) && t==\"x*\" => \"a\"==\"1\" || \"b\"==\"2\" score 2
 explain (a==1 || b>2) && t==\"x*\" => \"t\"==\"x*\" score 2
 explain a==1 && (b==2 || z==3) => \"a\"==\"1\" score 1
 explain z==1 && (b==2 || z==3) => refused 17";
-    replies(rt.alloc(), &volume_of(rt.alloc(), lines)?, requests)
+    replies_of(rt.alloc(), lines, requests)
 }
 
 /// Six nodes, where m is 7 less n.
 const NUMBERS: &str = "mkindex n LONG
 mkindex m LONG
-new
-new
-new
-new
-new
-new
+6 times new
 set 1 n LONG 1
 set 2 n LONG 2
 set 3 n LONG 3
@@ -328,7 +245,7 @@ fn bounds(rt: HostRuntime) -> Result<(), Fail> {
 01 n<2 || n>5 => nodes 1 6 asks nnnn
 01 n<4 || n<3 => nodes 1 2 3 asks nnnnnnn
 0 n>4 && n<2 => nodes asks n";
-    replies(rt.alloc(), &volume_of(rt.alloc(), NUMBERS)?, requests)
+    replies_of(rt.alloc(), NUMBERS, requests)
 }
 
 /// A number outside the kind of the index bounds a walk as well, and so does what spells no number.
@@ -347,7 +264,7 @@ fn bounds_outside_the_kind(rt: HostRuntime) -> Result<(), Fail> {
 0 n>-2147483649 && n<=2 => nodes 1 2 asks nnn
 0 n>=5 && n!=2147483648 => nodes 5 6 asks nnn
 0 n<=2147483647 && n>5 => nodes 6 asks nn";
-    replies(rt.alloc(), &volume_of(rt.alloc(), NUMBERS)?, requests)
+    replies_of(rt.alloc(), NUMBERS, requests)
 }
 
 /// The ranges of the other integer kinds.
@@ -372,19 +289,14 @@ set 1 w ULLG 5";
 0 w==-5 => nodes asks w
 0 w<=18446744073709551615 => nodes 1 asks ww
 0 w<=18446744073709551616 => nodes asks w";
-    replies(rt.alloc(), &volume_of(rt.alloc(), lines)?, requests)
+    replies_of(rt.alloc(), lines, requests)
 }
 
 /// Texts are bounded by their bytes, and patterns by their literal characters before the first wildcard.
 #[test]
 fn bounds_of_texts(rt: HostRuntime) -> Result<(), Fail> {
     let lines = "mkindex t CSTR
-new
-new
-new
-new
-new
-new
+6 times new
 set 1 t CSTR a
 set 2 t CSTR ab
 set 3 t CSTR abc
@@ -400,7 +312,7 @@ set 6 t CSTR é";
 0 t>=ab && t<b => nodes 2 3 4 asks tttt
 0 t==\"a*\" && t>ab => nodes 3 4 asks ttt
 1 t==\"a*\" && t>ab => nodes 3 4 asks ttt";
-    replies(rt.alloc(), &volume_of(rt.alloc(), lines)?, requests)
+    replies_of(rt.alloc(), lines, requests)
 }
 
 /// The kind that a source gives to an index.
@@ -449,9 +361,7 @@ fn gives_keys(volume: &Volume, index: &Name, other: &Name) -> bool {
 #[test]
 fn plan_source(rt: HostRuntime) -> Result<(), Fail> {
     let lines = "mkindex k CSTR
-new
-new
-new
+3 times new
 set 1 k CSTR x
 set 2 k CSTR x
 set 3 k CSTR x
@@ -465,55 +375,50 @@ new";
     Ok(())
 }
 
-/// The lines of a volume of texts of 255 bytes, and requests with longer ones.
-fn long_texts(alloc: Global) -> Result<(String, String), Refusal> {
-    let m = "m".repeat(alloc, 254)?;
-    let lines = format!(in alloc;
-        "mkindex t CSTR
-new
-new
-new
-new
-set 1 t CSTR a
-set 2 t CSTR {m}m
-set 3 t CSTR {m}n
-set 4 t CSTR z"
-    )?;
-    let requests = format!(in alloc;
-        "0 t>={m}mm => nodes 3 4 asks ttt
-0 t>{m}mm => nodes 3 4 asks ttt
-0 t<{m}mm => nodes 1 2 asks ttt
-0 t<={m}nn => nodes 1 2 3 asks tttt
-0 t=={m}m => nodes 2 asks tt
-0 t==\"{m}m*\" => nodes 2 asks tt
-0 t=={m}mm => nodes asks t
-0 t==\"{m}mm*\" => nodes asks t
-0 t==\"{m}{m}*\" => nodes asks t"
-    )?;
-    Ok((lines, requests))
+/// The text with 254 times m in place of each M.
+fn lengthened(alloc: Global, text: &str) -> Result<String, Refusal> {
+    Ok(text.replace(alloc, "M", "m".repeat(alloc, 254)?.as_str())?)
+}
+
+/// The same. A call that is refused memory is made again.
+fn with_long(alloc: Global, text: &str) -> Result<String, Refusal> {
+    match lengthened(alloc, text) {
+        Err(Refusal::OutOfMemory) => lengthened(alloc, text),
+        text => text,
+    }
 }
 
 /// A text longer than any value's bounds a walk by the bytes that a value may have, and a pattern of more literal bytes leaves out all keys.
 #[test]
 fn bounds_of_long_texts(rt: HostRuntime) -> Result<(), Fail> {
-    let alloc = rt.alloc();
-    let (lines, requests) = match long_texts(alloc) {
-        Err(Refusal::OutOfMemory) => long_texts(alloc)?,
-        texts => texts?,
-    };
-    replies(alloc, &volume_of(alloc, lines.as_str())?, requests.as_str())
+    let lines = "mkindex t CSTR
+4 times new
+set 1 t CSTR a
+set 2 t CSTR Mm
+set 3 t CSTR Mn
+set 4 t CSTR z";
+    let requests = "0 t>=Mmm => nodes 3 4 asks ttt
+0 t>Mmm => nodes 3 4 asks ttt
+0 t<Mmm => nodes 1 2 asks ttt
+0 t<=Mnn => nodes 1 2 3 asks tttt
+0 t==Mm => nodes 2 asks tt
+0 t==\"Mm*\" => nodes 2 asks tt
+0 t==Mmm => nodes asks t
+0 t==\"Mmm*\" => nodes asks t
+0 t==\"MM*\" => nodes asks t";
+    let lines = with_long(rt.alloc(), lines)?;
+    let requests = with_long(rt.alloc(), requests)?;
+    replies_of(rt.alloc(), lines.as_str(), requests.as_str())
 }
 
 /// The nodes by what is chosen, and the number of ranges asked for.
 fn chosen(alloc: Global, volume: &Volume, text: &str) -> Result<(Vec<u64>, u64), Refusal> {
     let query = parse(alloc, text)?;
     let cover = choose(alloc, &query, &volume.indices()?)?;
-    let mut source = start_recording(volume);
-    if !covers(&cover, &query, &mut source) {
-        return Err(Refusal::BadLimits);
+    match nodes_by(alloc, volume, &query, &cover)? {
+        Some((nodes, counts)) => Ok((nodes, counts.ranges)),
+        None => Err(Refusal::BadLimits),
     }
-    let nodes = run(alloc, &cover, &query, &mut source)?;
-    Ok((nodes, source.ranges))
 }
 
 /// The nodes of a scan.
@@ -539,20 +444,8 @@ fn decided(alloc: Global, volume: &Volume, text: &str, ranges: u64) -> Result<()
 }
 
 /// Texts around the fronts of patterns: of one, two and four bytes a character, with the least byte behind a front, and of 255 bytes.
-fn texts_by_front(alloc: Global) -> Result<String, Refusal> {
-    let long = "m".repeat(alloc, 254)?;
-    Ok(format!(in alloc;
-        "mkindex t CSTR
-new
-new
-new
-new
-new
-new
-new
-new
-new
-new
+const BY_FRONT: &str = "mkindex t CSTR
+10 times new
 set 1 t CSTR a
 set 2 t CSTR a\u{1}
 set 3 t CSTR ab
@@ -560,19 +453,12 @@ set 4 t CSTR aé
 set 5 t CSTR aéz
 set 6 t CSTR aè
 set 7 t CSTR \u{10ffff}
-set 8 t CSTR {long}m
-set 9 t CSTR {long}
-set 10 t CSTR b"
-    )?)
-}
+set 8 t CSTR Mm
+set 9 t CSTR M
+set 10 t CSTR b";
 
-/// A volume of texts around the fronts of patterns. A call that is refused memory is made again.
 fn volume_by_front(alloc: Global) -> Result<Volume, Refusal> {
-    let lines = match texts_by_front(alloc) {
-        Err(Refusal::OutOfMemory) => texts_by_front(alloc)?,
-        lines => lines?,
-    };
-    volume_of(alloc, lines.as_str())
+    volume_of(alloc, with_long(alloc, BY_FRONT)?.as_str())
 }
 
 /// Queries, and the number of ranges that each is answered by whole.
@@ -609,33 +495,21 @@ fn patterns_by_range(rt: HostRuntime) -> Result<(), Fail> {
     all_decided(rt.alloc(), &volume_by_front(rt.alloc())?)
 }
 
-/// A query by a front of so many bytes.
-fn front_of(alloc: Global, count: usize) -> Result<String, Refusal> {
-    let front = "m".repeat(alloc, count)?;
-    Ok(format!(in alloc; "t==\"{front}*\"")?)
-}
-
-/// Fails unless a front of so many bytes is answered by so many ranges. A call that is refused memory is made again.
-fn front_decided(alloc: Global, volume: &Volume, count: usize, ranges: u64) -> Result<(), Fail> {
-    let text = match front_of(alloc, count) {
-        Err(Refusal::OutOfMemory) => front_of(alloc, count)?,
-        text => text?,
-    };
-    decided(alloc, volume, text.as_str(), ranges)
-}
-
 /// The front of a pattern has up to 255 bytes, as a text has.
 #[test]
 fn longest_front(rt: HostRuntime) -> Result<(), Fail> {
     let volume = volume_by_front(rt.alloc())?;
-    front_decided(rt.alloc(), &volume, 255, 1)?;
-    front_decided(rt.alloc(), &volume, 256, 0)
+    for (text, ranges) in [("t==\"Mm*\"", 1), ("t==\"Mmm*\"", 0)] {
+        let text = with_long(rt.alloc(), text)?;
+        decided(rt.alloc(), &volume, text.as_str(), ranges)?;
+    }
+    Ok(())
 }
 
 /// 256 comparisons on the names of 32 indices, joined by `||`: i0==0, i1==1, .. i31==255.
 fn most_comparisons(alloc: Global) -> Result<String, Refusal> {
     let mut text = String::from_str(alloc, "i0==0")?;
-    for number in 1..256u32 {
+    for number in 1..256u64 {
         let index = number % 32;
         text.push_str(format!(in alloc; "||i{index}=={number}")?.as_str())?;
     }
@@ -645,32 +519,21 @@ fn most_comparisons(alloc: Global) -> Result<String, Refusal> {
 /// The lines of a volume with 32 indices, of which the first and the last hold a value that the query asks for last.
 fn most_indices(alloc: Global) -> Result<String, Refusal> {
     let mut lines = String::from_str(alloc, "new\nnew\nnew")?;
-    for index in 0..32u32 {
+    for index in 0..32u64 {
         lines.push_str(format!(in alloc; "\nmkindex i{index} LONG")?.as_str())?;
     }
     lines.push_str("\nset 1 i31 LONG 255\nset 2 i0 LONG 224\nset 3 i0 LONG 1")?;
     Ok(lines)
 }
 
-/// The nodes by what is chosen where the source tells the kinds, and the numbers of kinds and of ranges asked for.
-fn chosen_by_source(
-    alloc: Global,
-    volume: &Volume,
-    text: &str,
-) -> Result<(Vec<u64>, u64, u64), Refusal> {
-    let query = parse(alloc, text)?;
-    let mut source = start_recording(volume);
-    let cover = choose_from(alloc, &query, &mut source)?;
-    let nodes = run(alloc, &cover, &query, &mut source)?;
-    Ok((nodes, source.kinds, source.ranges))
-}
-
 /// Whether the largest query finds nodes 1 and 2, asking for the kind of each comparison's index once to choose and once to walk.
 fn asks_each_once(alloc: Global) -> Result<bool, Refusal> {
     let volume = volume_of(alloc, most_indices(alloc)?.as_str())?;
     let text = most_comparisons(alloc)?;
-    let (nodes, kinds, ranges) = chosen_by_source(alloc, &volume, text.as_str())?;
-    Ok(nodes.as_slice() == [1, 2].as_slice() && kinds == 512 && ranges == 256)
+    let query = parse(alloc, text.as_str())?;
+    let (nodes, counts) = nodes_chosen(alloc, &volume, &query)?;
+    let found = nodes.as_slice() == [1, 2].as_slice();
+    Ok(found && counts.kinds == 512 && counts.ranges == 256)
 }
 
 #[test]
@@ -686,8 +549,8 @@ fn largest_query(rt: HostRuntime) -> Result<(), Fail> {
 /// The lines of a volume whose values fall where its 300 nodes rise.
 fn falling_values(alloc: Global) -> Result<String, Refusal> {
     let mut lines = String::from_str(alloc, "mkindex n LONG")?;
-    for node in 1..301u32 {
-        let value = 1000 - node;
+    for node in 1..301u64 {
+        let value = 1000u64.wrapping_sub(node);
         lines.push_str(format!(in alloc; "\nnew\nset {node} n LONG {value}")?.as_str())?;
     }
     Ok(lines)

@@ -4,8 +4,10 @@
 //! and no tree that stands is gone over again.
 ghost use Rattle.std.specs.Prelude.{false, true, ℕ, ◌≡◌, MatchOption, IfNone, IfSome, [], ◌++◌, encode_utf8, string_bytes, Some, None};
 ghost use Rattle.std.specs.Prelude.{IfOk, IfErr, ◌<◌, ◌≤◌, ◌+◌, ◌^◌, length};
+ghost use Rattle.std.specs.Result.{is_ok};
 ghost use Rattle.std.specs.Str.{chars};
 ghost use Rattle.be_pattern.specs.Parse.{pattern};
+ghost use Rattle.be_value.specs.Name.{name_from};
 ghost use Rattle.be_query.specs.Building.{Operands, Operators, Values, Joints, fresh, turned, conjunction, disjunction, joined};
 ghost use Rattle.be_query.specs.Building.{ended_level, with_side, with_operand, State};
 ghost use Rattle.be_query.specs.Grammar.{Leaf, literal_of};
@@ -321,11 +323,28 @@ fn take_joint(
 fn read_name(alloc: Global, raw: &str) -> Result<Option<Name>, AllocError>
     ensures { IfOk result (λ o. MatchOption o (is_name raw.now ≡ false) (λ n. (n ≡ plain raw.now) × (is_name raw.now ≡ true))) }
 {
-    let text = unescape(alloc, raw)?;
-    match Name::new(&text) {
-        Ok(name) => Ok(Some(name)),
-        Err(_) => Ok(None),
+    if is_plain(raw) {
+        return Ok(name_of(raw));
     }
+    let text = unescape(alloc, raw)?;
+    Ok(name_of(&text))
+}
+
+/// The name that a text is, if it is one.
+fn name_of(text: &str) -> Option<Name>
+    ensures { MatchOption result (is_ok (name_from text.now) ≡ false) (λ n. (n ≡ text.now) × (is_ok (name_from text.now) ≡ true)) }
+{
+    match Name::new(text) {
+        Ok(name) => Some(name),
+        Err(_) => None,
+    }
+}
+
+/// Whether the text has no backslash.
+fn is_plain(raw: &str) -> bool
+    ensures { result ≡ true → plain raw.now ≡ raw.now }
+{
+    !raw.as_bytes().contains(&b'\\')
 }
 
 /// The first character that is meant, and the text behind it.
@@ -350,6 +369,9 @@ fn split_plain(text: &str) -> Option<(char, &str)>
 fn unescape(alloc: Global, raw: &str) -> Result<String, AllocError>
     ensures { IfOk result (λ s. string_bytes s ≡ plain raw.now) }
 {
+    if is_plain(raw) {
+        return String::from_str(alloc, raw);
+    }
     let mut text = String::with_capacity(alloc, raw.len())?;
     let mut rest = raw;
     'characters: while let Some((c, after)) = split_plain(rest) {

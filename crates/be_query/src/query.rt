@@ -58,8 +58,8 @@ impl Query {
 ///
 /// The text is read in one pass, in a loop, and no tree is gone over again: a `!` costs no more than any other token.
 /// Nothing recurses, whatever the text is, not even where a refusal drops the trees that stand by then. Memory is asked
-/// for by tokens: for the text of a name or a value, for a pattern's tokens, its front and each of its sets, for a
-/// comparison, and for each joint that ends.
+/// for by tokens: for the text of a name that has a backslash, for the text of a value, for a pattern's tokens, its front
+/// and each of its sets, for a comparison, and for each joint that ends.
 pub fn parse(alloc: Global, text: &str) -> Result<Query, Refusal>
     // A text without a fault is a sentence of the grammar, and this is its tree.
     ensures ok { IfOk result (λ q. (fault text.now ≡ None) × IsTextOf text.now q) }

@@ -20,7 +20,7 @@ use crate::{Limits, RunFault, run};
 use be_serving::serve;
 use be_value::word_of;
 use plain::PlainStore;
-use std::alloc::{AllocError, Global};
+use std::alloc::{AllocError, AllocGlobal, Global};
 use std::process::Abort;
 use std::str;
 use std::test::Fail;
@@ -148,17 +148,16 @@ fn run_by(
 
 /// Runs a script. True if it is replied to so, and false if it wanted memory, behind a front of these replies.
 fn replies_to(
-    rt: &impl Abort,
+    rt: &(impl Abort + AllocGlobal),
     by: By,
-    alloc: Global,
     script: &[u8],
     replies: &str,
     commits: u64,
 ) -> Result<bool, Fail>
     requires { commits < 2 ^ 32 }
 {
-    let mut written: Vec<u8> = Vec::new(alloc);
-    let result = run_by(by, alloc, script, &mut written, commits);
+    let mut written: Vec<u8> = Vec::new(rt.alloc());
+    let result = run_by(by, rt.alloc(), script, &mut written, commits);
     let written = str::from_utf8(&written)?;
     match result {
         Ok(()) if wants_memory(written, replies) => Ok(false),
@@ -177,8 +176,7 @@ fn replies_to(
 
 /// Fails unless the script has these replies, whatever serves it.
 fn check_bytes(
-    rt: &impl Abort,
-    alloc: Global,
+    rt: &(impl Abort + AllocGlobal),
     script: &[u8],
     replies: &str,
     commits: u64,
@@ -186,17 +184,17 @@ fn check_bytes(
     requires { commits < 2 ^ 32 }
 {
     for by in [By::SharedStore, By::PlainVolume] {
-        let first = replies_to(rt, by, alloc, script, replies, commits)?;
-        assert!(rt; first || replies_to(rt, by, alloc, script, replies, commits)?);
+        let first = replies_to(rt, by, script, replies, commits)?;
+        assert!(rt; first || replies_to(rt, by, script, replies, commits)?);
     }
     Ok(())
 }
 
 /// Fails unless each row's line has its reply.
-fn check(rt: &impl Abort, alloc: Global, rows: &str) -> Result<(), Fail> {
-    let (script, replies) = match script_of(alloc, rows) {
+fn check(rt: &(impl Abort + AllocGlobal), rows: &str) -> Result<(), Fail> {
+    let (script, replies) = match script_of(rt.alloc(), rows) {
         Ok(parts) => parts,
-        Err(_) => script_of(alloc, rows)?,
+        Err(_) => script_of(rt.alloc(), rows)?,
     };
-    check_bytes(rt, alloc, script.as_bytes(), &replies, LIMITS.commits)
+    check_bytes(rt, script.as_bytes(), &replies, LIMITS.commits)
 }

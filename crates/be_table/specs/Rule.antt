@@ -5,7 +5,7 @@ use lib.ListN.{get_elem?}
 use Rattle.atomic_table.specs.Table.{State}
 use Rattle.be_core.specs.declared.event.Phase.{Phase}
 use Rattle.be_core.specs.declared.event.Phase.TheVariants.{Idle, Looked, Announced, Pinned}
-use Rattle.be_core.specs.Machine.{World, Holder, Sound, InTime, has}
+use Rattle.be_core.specs.Machine.{World, Holder, Sound, InTime, has, AreLimits}
 use Rattle.be_journal.specs.declared.entries.Entry.{Entry}
 use Rattle.be_pages.specs.PagePool.{places}
 use Rattle.be_table.specs.declared.ledger.Ledger.{Ledger}
@@ -102,13 +102,8 @@ pub record ShowsBoard (b : Board) (s : State (Option Ledger) (List Knowledge)) :
 -- ## The second part: the journal's and the machine's invariants, and what each version spells
 
 -- limits that a table may have
-pub record IsWithin (limits : Limits) : Type 0 where
-  pub some_pages : 8 ≤ limits.pages
-  pub few_pages : limits.pages ≤ 16384
-  pub some_pass : 0 < limits.passes
-  pub few : limits.passes ≤ 64
-  pub some_commit : 0 < limits.commits
-  pub short : limits.commits < 4294967296
+abbrev pub IsWithin : Limits → Type 0
+IsWithin limits = AreLimits 8 limits.pages limits.passes limits.commits
 
 -- limits that no table may have
 abbrev pub AreBad : Limits → Type 0

@@ -4,7 +4,7 @@
 //! be_core, in which the machine's invariant holds. The functions here do nothing: their contracts say, over the
 //! definitions alone, which event of the machine each step is. Whatever state the table is in, a pass that may step can
 //! step; the state that the table shows before allows the event, and the one that it shows afterwards is the event's. A
-//! step whose word has no event leaves the machine as it was. The calls of the table are proved by these very laws.
+//! step whose word has no event leaves the machine as it was. The calls of the table are proved from the same lemmas.
 ghost use Rattle.std.specs.Prelude.{ℕ, List, Option};
 ghost use Rattle.be_table.specs.declared.ledger.Ledger.{Ledger};
 ghost use Rattle.be_table.specs.declared.limits.Limits.{Limits};

@@ -5,22 +5,4 @@
 #![tactic(auto)]
 
 #[cfg(test)]
-mod counting_look;
-#[cfg(test)]
-mod journal;
-#[cfg(test)]
-mod leaves;
-#[cfg(test)]
-mod machine;
-#[cfg(test)]
-mod pages;
-#[cfg(test)]
-mod pattern;
-#[cfg(test)]
-mod query;
-#[cfg(test)]
-mod tree;
-#[cfg(test)]
-mod value;
-#[cfg(test)]
-mod words;
+mod tests;

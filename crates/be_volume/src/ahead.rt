@@ -19,8 +19,8 @@ const MAX_ATTRIBUTES: usize = 64;
 
 const MAX_INDICES: usize = 32;
 
-/// The refusal, 2 to 8, of the first operation of the list that is refused, or none where all are accepted. It takes no
-/// memory and changes nothing: a caller asks it before the first change.
+/// The refusal, `NoNode` to `NotIndexable`, of the first operation of the list that is refused, or none where all are
+/// accepted. It takes no memory and changes nothing: a caller asks it before the first change.
 pub fn first_refusal<F: Facts>(facts: &mut F, ops: &[Op]) -> Option<Refusal>
     ghost volume: { State }
     requires answers { F.answers_for facts.old volume }

@@ -3,9 +3,10 @@ use crate::handle::{Attribute, Counts, Handle, PreparedHandle, UpdateCounts};
 use crate::owned::Owned;
 use crate::owned_query::OwnedQuery;
 use crate::{
-    bes_another, bes_apply, bes_apply_or_retry, bes_changes, bes_close, bes_explain, bes_get,
-    bes_indices, bes_journal, bes_move, bes_open, bes_pin, bes_prepare, bes_prepare_items,
-    bes_query, bes_query_prepared, bes_refresh, bes_release, bes_unpin,
+    bes_another, bes_apply, bes_apply_or_retry, bes_attributes, bes_changes, bes_close,
+    bes_explain, bes_get, bes_indices, bes_journal, bes_move, bes_open, bes_pin, bes_prepare,
+    bes_prepare_items, bes_query, bes_query_items, bes_query_prepared, bes_refresh, bes_release,
+    bes_unpin,
 };
 use be_session::{Operation, PredicateItem};
 use std::alloc::Global;
@@ -229,5 +230,92 @@ fn tells_its_journal(rt: HostRuntime) -> Result<(), Fail> {
     let answer = bes_journal(alloc, &mut mine, &mut bytes, &mut count);
     assert_eq!(rt; (answer, count), (0, 21));
     assert_eq!(rt; (bytes[0], bytes[20], bytes[21]), (49, 10, 9));
+    Ok(())
+}
+
+#[test]
+fn asks_by_items(rt: HostRuntime) -> Result<(), Fail> {
+    let alloc = rt.alloc();
+    let mut mine = closed(alloc);
+    let (mut number, mut count) = (0, 7);
+    let (mut made, mut nodes) = ([0; 1], [9; 2]);
+    let items = [item(0, 0), item(1, 1), item(4, 0)];
+    let answer = bes_query_items(alloc, &mut mine, &items, b"kv", &mut nodes, &mut count);
+    assert_eq!(rt; answer, 64);
+    assert_eq!(rt; bes_open(alloc, 64, 1, 10, &mut mine), 0);
+    let answer = bes_query_items(alloc, &mut mine, &items, b"kv", &mut nodes, &mut count);
+    assert_eq!(rt; (answer, count, nodes), (66, 7, [9, 9]));
+    let list = [spelled(4, 0), spelled(0, 0), spelled(2, 1)];
+    assert_eq!(rt;
+        bes_apply(alloc, &mut mine, &list, b"kv", &mut made, &mut number),
+        0
+    );
+    assert_eq!(rt; bes_pin(alloc, &mut mine, &mut number), 0);
+    let answer = bes_query_items(alloc, &mut mine, &items, b"k", &mut nodes, &mut count);
+    assert_eq!(rt; (answer, count, nodes), (74, 7, [9, 9]));
+    let answer = bes_query_items(alloc, &mut mine, &items, b"kv", &mut nodes, &mut count);
+    assert_eq!(rt; (answer, count, nodes), (0, 1, [1, 9]));
+    Ok(())
+}
+
+#[test]
+fn lists_attributes(rt: HostRuntime) -> Result<(), Fail> {
+    let alloc = rt.alloc();
+    let mut mine = closed(alloc);
+    let (mut number, mut made, mut bytes) = (0, [0; 2], [9; 1]);
+    let mut listed = [spelled(0, 0)];
+    let mut counts = Counts {
+        operations: 7,
+        bytes: 7,
+    };
+    assert_eq!(rt; bes_open(alloc, 64, 1, 10, &mut mine), 0);
+    let list = [spelled(0, 0), spelled(2, 1)];
+    assert_eq!(rt;
+        bes_apply(alloc, &mut mine, &list, b"kv", &mut made, &mut number),
+        0
+    );
+    let answer = bes_attributes(alloc, &mut mine, 1, &mut counts, &mut listed, &mut bytes);
+    assert_eq!(rt; answer, 66);
+    assert_eq!(rt; bes_pin(alloc, &mut mine, &mut number), 0);
+    let answer = bes_attributes(alloc, &mut mine, 2, &mut counts, &mut listed, &mut bytes);
+    assert_eq!(rt;
+        (answer, counts.operations, counts.bytes, bytes),
+        (2, 7, 7, [9])
+    );
+    // There is room for the name alone, and the value's byte is counted all the same.
+    let answer = bes_attributes(alloc, &mut mine, 1, &mut counts, &mut listed, &mut bytes);
+    assert_eq!(rt;
+        (answer, counts.operations, counts.bytes, bytes),
+        (0, 1, 2, [107])
+    );
+    assert_eq!(rt;
+        (listed[0].kind, listed[0].node, listed[0].value_length),
+        (2, 1, 1)
+    );
+    Ok(())
+}
+
+#[test]
+fn refuses_what_is_misspelt(rt: HostRuntime) -> Result<(), Fail> {
+    let alloc = rt.alloc();
+    let mut mine = closed(alloc);
+    let (mut number, mut made) = (7, [7; 1]);
+    assert_eq!(rt; bes_open(alloc, 64, 1, 10, &mut mine), 0);
+    let many = [spelled(0, 0); 65];
+    let answer = bes_apply(alloc, &mut mine, &many, b"kv", &mut made, &mut number);
+    assert_eq!(rt; (answer, number, made), (69, 7, [7]));
+    let list = [spelled(2, 1)];
+    assert_eq!(rt;
+        bes_apply(alloc, &mut mine, &list, b"k\xff", &mut made, &mut number),
+        70
+    );
+    let answer = bes_apply(alloc, &mut mine, &list, b"k", &mut made, &mut number);
+    assert_eq!(rt; (answer, number, made), (74, 7, [7]));
+    assert_eq!(rt;
+        bes_query(alloc, &mut mine, b"\xff", &mut made, &mut number),
+        70
+    );
+    assert_eq!(rt; bes_pin(alloc, &mut mine, &mut number), 0);
+    assert_eq!(rt; (number, made), (0, [7]));
     Ok(())
 }

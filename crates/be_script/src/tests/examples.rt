@@ -6,7 +6,6 @@ use std::test::Fail;
 fn index_made_later(rt: HostRuntime) -> Result<(), Fail> {
     check(
         &rt,
-        rt.alloc(),
         "
         new => node 1
         set 1 size LONG 5 => ok
@@ -19,7 +18,6 @@ fn index_made_later(rt: HostRuntime) -> Result<(), Fail> {
 fn set_moves_pair(rt: HostRuntime) -> Result<(), Fail> {
     check(
         &rt,
-        rt.alloc(),
         "
         new => node 1
         set 1 size LONG 5 => ok
@@ -37,7 +35,6 @@ fn set_moves_pair(rt: HostRuntime) -> Result<(), Fail> {
 fn equal_values(rt: HostRuntime) -> Result<(), Fail> {
     check(
         &rt,
-        rt.alloc(),
         "
         mkindex k CSTR => ok
         new => node 1
@@ -58,7 +55,6 @@ fn equal_values(rt: HostRuntime) -> Result<(), Fail> {
 fn integers(rt: HostRuntime) -> Result<(), Fail> {
     check(
         &rt,
-        rt.alloc(),
         "
         mkindex n LONG => ok
         new => node 1
@@ -84,7 +80,6 @@ fn integers(rt: HostRuntime) -> Result<(), Fail> {
 fn texts(rt: HostRuntime) -> Result<(), Fail> {
     check(
         &rt,
-        rt.alloc(),
         r#"
         mkindex t CSTR => ok
         new => node 1
@@ -106,7 +101,6 @@ fn texts(rt: HostRuntime) -> Result<(), Fail> {
 fn absent_attribute(rt: HostRuntime) -> Result<(), Fail> {
     check(
         &rt,
-        rt.alloc(),
         "
         mkindex size LONG => ok
         new => node 1
@@ -123,7 +117,6 @@ fn absent_attribute(rt: HostRuntime) -> Result<(), Fail> {
 fn patterns(rt: HostRuntime) -> Result<(), Fail> {
     check(
         &rt,
-        rt.alloc(),
         r#"
         mkindex name CSTR => ok
         new => node 1
@@ -148,7 +141,6 @@ fn patterns(rt: HostRuntime) -> Result<(), Fail> {
 fn faults(rt: HostRuntime) -> Result<(), Fail> {
     check(
         &rt,
-        rt.alloc(),
         r#"
         query name=="[a" => refused 13 BadPattern 7
         query (a==1 => refused 12 Syntax 5
@@ -162,7 +154,6 @@ fn faults(rt: HostRuntime) -> Result<(), Fail> {
 fn two_indices(rt: HostRuntime) -> Result<(), Fail> {
     check(
         &rt,
-        rt.alloc(),
         r#"
         new => node 1
         set 1 a LONG 1 => ok
@@ -182,7 +173,6 @@ fn two_indices(rt: HostRuntime) -> Result<(), Fail> {
 fn coverage(rt: HostRuntime) -> Result<(), Fail> {
     check(
         &rt,
-        rt.alloc(),
         r#"
         mkindex a LONG => ok
         new => node 1
@@ -200,7 +190,6 @@ fn coverage(rt: HostRuntime) -> Result<(), Fail> {
 fn refusals(rt: HostRuntime) -> Result<(), Fail> {
     check(
         &rt,
-        rt.alloc(),
         r#"
         new => node 1
         unset 1 a => refused 3 NoAttr
@@ -216,7 +205,6 @@ fn refusals(rt: HostRuntime) -> Result<(), Fail> {
 fn kind_change(rt: HostRuntime) -> Result<(), Fail> {
     check(
         &rt,
-        rt.alloc(),
         r#"
         mkindex k LONG => ok
         new => node 1
@@ -233,7 +221,6 @@ fn kind_change(rt: HostRuntime) -> Result<(), Fail> {
 fn index_removed(rt: HostRuntime) -> Result<(), Fail> {
     check(
         &rt,
-        rt.alloc(),
         "
         mkindex k LONG => ok
         new => node 1
@@ -249,7 +236,6 @@ fn index_removed(rt: HostRuntime) -> Result<(), Fail> {
 fn unsigned_values(rt: HostRuntime) -> Result<(), Fail> {
     check(
         &rt,
-        rt.alloc(),
         "
         mkindex u ULLG => ok
         new => node 1
@@ -275,7 +261,6 @@ fn unsigned_values(rt: HostRuntime) -> Result<(), Fail> {
 fn batches(rt: HostRuntime) -> Result<(), Fail> {
     check(
         &rt,
-        rt.alloc(),
         "
         mkindex k LONG => ok
         begin => ok
@@ -300,7 +285,6 @@ fn batches(rt: HostRuntime) -> Result<(), Fail> {
 fn live_query(rt: HostRuntime) -> Result<(), Fail> {
     check(
         &rt,
-        rt.alloc(),
         "
         mkindex k LONG => ok
         new => node 1
@@ -319,7 +303,6 @@ fn live_query(rt: HostRuntime) -> Result<(), Fail> {
 fn pins_in_scripts(rt: HostRuntime) -> Result<(), Fail> {
     check(
         &rt,
-        rt.alloc(),
         "
         sett 1 => bad line
         pin => pin 0
@@ -334,9 +317,9 @@ fn pins_in_scripts(rt: HostRuntime) -> Result<(), Fail> {
 
 #[test]
 fn script_bytes(rt: HostRuntime) -> Result<(), Fail> {
-    check_bytes(&rt, rt.alloc(), b"new", "node 1\n", 1)?;
-    check_bytes(&rt, rt.alloc(), b"\xff\n", "bad line\n", 1)?;
-    check_bytes(&rt, rt.alloc(), b"", "", 1)?;
+    check_bytes(&rt, b"new", "node 1\n", 1)?;
+    check_bytes(&rt, b"\xff\n", "bad line\n", 1)?;
+    check_bytes(&rt, b"", "", 1)?;
     let lines = b"#\xff\nnew\r\n\r\n# new\n \t\n\nnew\r";
-    check_bytes(&rt, rt.alloc(), lines, "bad line\nnode 1\nnode 2\n", 2)
+    check_bytes(&rt, lines, "bad line\nnode 1\nnode 2\n", 2)
 }

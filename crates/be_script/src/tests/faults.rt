@@ -175,5 +175,5 @@ fn refused_memory(rt: HostRuntime) -> Result<(), Fail> {
 /// Every command, with each request for memory refused in turn by the sweep.
 #[test]
 fn every_command(rt: HostRuntime) -> Result<(), Fail> {
-    super::check_bytes(&rt, rt.alloc(), SCRIPT.as_bytes(), REPLIES, LIMITS.commits)
+    super::check_bytes(&rt, SCRIPT.as_bytes(), REPLIES, LIMITS.commits)
 }

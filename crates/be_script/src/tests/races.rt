@@ -316,42 +316,70 @@ fn batches_at_once(rt: HostRuntime) -> Result<(), Fail> {
     Ok(())
 }
 
+/// How a race of an empty script and one of so many bytes ends, and whether anything was written; None where memory was wanted.
+fn race_of_length<R: Threads + Wait>(
+    rt: &R,
+    alloc: Global,
+    length: usize,
+) -> Option<(Result<bool, RunFault>, bool)> {
+    let mut written: Vec<u8> = Vec::new(alloc);
+    let (Ok(mut scripts), Ok(long)) = (scripts_of(alloc, &[""]), vec![in alloc; b'#'; length])
+    else {
+        return None;
+    };
+    if scripts.push(long).is_err() {
+        return None;
+    }
+    match race_on(rt, scripts, 64, &OpenGate, &mut written) {
+        Err(RunFault::Memory | RunFault::Write) => None,
+        ended => Some((ended, !written.is_empty())),
+    }
+}
+
 /// A script that is too long, behind one that is empty: nothing is written. A byte less, and it is run.
 #[test]
 fn longest_scripts(rt: HostRuntime) -> Result<(), Fail> {
-    let alloc = rt.alloc();
     for (length, fits) in [(1_048_577, false), (1_048_576, true)] {
-        let mut written: Vec<u8> = Vec::new(alloc);
-        let (Ok(mut scripts), Ok(long)) = (scripts_of(alloc, &[""]), vec![in alloc; b'#'; length])
-        else {
-            return Ok(());
+        let ended = match race_of_length(&rt, rt.alloc(), length) {
+            None => race_of_length(&rt, rt.alloc(), length),
+            ended => ended,
         };
-        if scripts.push(long).is_err() {
-            return Ok(());
-        }
-        match race_on(&rt, scripts, 64, &OpenGate, &mut written) {
-            Ok(legal) => assert!(rt; fits && legal),
-            Err(RunFault::TooLong) => assert!(rt; !fits && written.is_empty()),
-            Err(RunFault::Memory | RunFault::Write) => assert!(rt; fits),
-            Err(fault) => return Err(fault.into()),
+        match ended {
+            Some((Ok(legal), writes)) => assert!(rt; fits && legal && writes),
+            Some((Err(RunFault::TooLong), writes)) => assert!(rt; !fits && !writes),
+            Some((Err(fault), _)) => return Err(fault.into()),
+            None => return Err(Fail::new("out of memory")),
         }
     }
     Ok(())
 }
 
+/// How a race on so many pages ends, and whether anything was written; None where memory was wanted.
+fn race_on_pages<R: Threads + Wait>(
+    rt: &R,
+    alloc: Global,
+    pages: u64,
+) -> Option<(Result<bool, RunFault>, bool)> {
+    let mut written: Vec<u8> = Vec::new(alloc);
+    let Ok(scripts) = scripts_of(alloc, &["new\n", ""]) else {
+        return None;
+    };
+    match race_on(rt, scripts, pages, &OpenGate, &mut written) {
+        Err(RunFault::Memory | RunFault::Write) => None,
+        ended => Some((ended, !written.is_empty())),
+    }
+}
+
 /// A limit that is out of its range is told first, and nothing is written.
 #[test]
 fn limits_of_a_race(rt: HostRuntime) -> Result<(), Fail> {
-    let alloc = rt.alloc();
-    let mut written: Vec<u8> = Vec::new(alloc);
     for pages in [7, 16385] {
-        let Ok(scripts) = scripts_of(alloc, &["new\n", ""]) else {
-            return Ok(());
+        let ended = match race_on_pages(&rt, rt.alloc(), pages) {
+            None => race_on_pages(&rt, rt.alloc(), pages),
+            ended => ended,
         };
-        let result = race_on(&rt, scripts, pages, &OpenGate, &mut written);
-        assert!(rt; matches!(result, Err(RunFault::Limits)));
+        assert!(rt; matches!(ended, Some((Err(RunFault::Limits), false))));
     }
-    assert!(rt; written.is_empty());
     Ok(())
 }
 
@@ -432,9 +460,12 @@ fn fills<R: Threads + Wait>(rt: &R, alloc: Global, room: usize) -> Result<bool, 
 fn failing_writer_of_a_race(rt: HostRuntime) -> Result<(), Fail> {
     let alloc = rt.alloc();
     for room in 0..=OF_TWO.len() {
-        match fills(&rt, alloc, room) {
+        let ended = match fills(&rt, alloc, room) {
+            Err(RunFault::Memory) => fills(&rt, alloc, room),
+            ended => ended,
+        };
+        match ended {
             Ok(fills) => assert!(rt; fills, "at {room}"),
-            Err(RunFault::Memory) => {}
             Err(fault) => return Err(fault.into()),
         }
     }

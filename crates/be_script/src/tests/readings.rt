@@ -6,7 +6,6 @@ use std::test::Fail;
 fn lines(rt: HostRuntime) -> Result<(), Fail> {
     check(
         &rt,
-        rt.alloc(),
         "
         # A comment begins with the first character of its line.
         #new
@@ -39,7 +38,6 @@ fn lines(rt: HostRuntime) -> Result<(), Fail> {
 fn words(rt: HostRuntime) -> Result<(), Fail> {
     check(
         &rt,
-        rt.alloc(),
         r#"
         new => node 1
         mkindex k LONG => ok
@@ -80,7 +78,6 @@ fn words(rt: HostRuntime) -> Result<(), Fail> {
 fn counts(rt: HostRuntime) -> Result<(), Fail> {
     check(
         &rt,
-        rt.alloc(),
         "
         # A command that isn't known, or is written otherwise.
         sett 1 => bad line
@@ -118,7 +115,6 @@ fn counts(rt: HostRuntime) -> Result<(), Fail> {
 fn numbers(rt: HostRuntime) -> Result<(), Fail> {
     check(
         &rt,
-        rt.alloc(),
         r#"
         new => node 1
         # A node is 1 to 20 digits within 64 bits.
@@ -171,7 +167,6 @@ fn numbers(rt: HostRuntime) -> Result<(), Fail> {
 fn kinds(rt: HostRuntime) -> Result<(), Fail> {
     check(
         &rt,
-        rt.alloc(),
         r#"
         new => node 1
         # Seven kinds, by their words.
@@ -205,7 +200,6 @@ fn kinds(rt: HostRuntime) -> Result<(), Fail> {
 fn order_of_faults(rt: HostRuntime) -> Result<(), Fail> {
     check(
         &rt,
-        rt.alloc(),
         r#"
         new => node 1
         # All causes of a bad line go before a refusal.
@@ -246,7 +240,6 @@ fn order_of_faults(rt: HostRuntime) -> Result<(), Fail> {
 fn query_texts(rt: HostRuntime) -> Result<(), Fail> {
     check(
         &rt,
-        rt.alloc(),
         r#"
         new => node 1
         mkindex k LONG => ok
@@ -289,7 +282,6 @@ fn query_texts(rt: HostRuntime) -> Result<(), Fail> {
 fn comparisons(rt: HostRuntime) -> Result<(), Fail> {
     check(
         &rt,
-        rt.alloc(),
         r#"
         new => node 1
         new => node 2
@@ -325,7 +317,6 @@ fn comparisons(rt: HostRuntime) -> Result<(), Fail> {
 fn batches(rt: HostRuntime) -> Result<(), Fail> {
     check(
         &rt,
-        rt.alloc(),
         r#"
         new => node 1
         mkindex k LONG => ok
@@ -370,7 +361,6 @@ fn batches(rt: HostRuntime) -> Result<(), Fail> {
 fn pins(rt: HostRuntime) -> Result<(), Fail> {
     check(
         &rt,
-        rt.alloc(),
         r#"
         mkindex k LONG => ok
         new => node 1
@@ -426,7 +416,6 @@ fn pins(rt: HostRuntime) -> Result<(), Fail> {
 fn pins_and_batches(rt: HostRuntime) -> Result<(), Fail> {
     check(
         &rt,
-        rt.alloc(),
         r#"
         # Lines that pin don't see the batch, and leave it as it was.
         begin => ok
@@ -460,7 +449,6 @@ fn pins_and_batches(rt: HostRuntime) -> Result<(), Fail> {
 fn live_queries(rt: HostRuntime) -> Result<(), Fail> {
     check(
         &rt,
-        rt.alloc(),
         r#"
         refresh => no live query
         # What is asked rests on no index: that is told by each refresh.

@@ -1,0 +1,158 @@
+/* bestore through its library for C: what bestore.h costs beside the same calls in Rattle. A query's text is parsed by bestore
+ * and kept prepared; each write outside begin and commit is a write of one operation, and those between are one batch. */
+#include "../../include/bestore.h"
+
+#include <stdio.h>
+#include <stdlib.h>
+
+#include "../driver/peer.h"
+
+#define PASSES 64
+#define COMMITS 10000000
+
+struct pass {
+    _Alignas(64) bes_pass held;
+    bool is_open;
+    bes_batch batch;
+};
+
+struct store {
+    int count;
+    struct pass passes[PASSES];
+};
+
+static void must_do(uint32_t answer) {
+    if (answer == BES_OK) return;
+    fprintf(stderr, "bestore: %s\n", bes_strerror(answer));
+    exit(1);
+}
+
+/* What a write came to. Only these two refusals are expected. */
+static enum outcome outcome_of(uint32_t answer) {
+    if (answer == BES_BUSY) return BUSY;
+    if (answer == BES_FULL) return FULL;
+    must_do(answer);
+    return DONE;
+}
+
+struct store *store_open(uint64_t pages, int passes) {
+    struct store *store = aligned_alloc(64, sizeof *store);
+    memset(store, 0, sizeof *store);
+    store->count = passes;
+    must_do(bes_open(pages, passes, COMMITS, &store->passes[0].held));
+    for (int i = 1; i < passes; i++) must_do(bes_another(&store->passes[0].held, &store->passes[i].held));
+    return store;
+}
+
+struct pass *store_pass(struct store *store, int number) { return &store->passes[number]; }
+
+void store_close(struct store *store) {
+    for (int i = store->count; i-- > 0;) must_do(bes_close(&store->passes[i].held));
+    free(store);
+}
+
+/* Writes */
+
+static uint32_t kind_code(enum kind kind) { return kind == IS_NUMBER ? BES_INT64_TYPE : BES_STRING_TYPE; }
+
+/* An operation, whose name and value stand side by side in bytes. */
+static bes_operation operation_of(uint32_t kind, uint64_t node, size_t name_length) {
+    bes_operation it = {.kind = kind, .node = node, .name_length = name_length, .value_at = name_length};
+    return it;
+}
+
+static enum outcome apply(struct pass *pass, const bes_operation *it, const uint8_t *bytes, uint64_t *made) {
+    uint64_t number;
+    return outcome_of(bes_apply(&pass->held, it, 1, bytes, it->value_at + it->value_length, made, 1, &number));
+}
+
+enum outcome begin(struct pass *pass) {
+    bes_batch_clear(&pass->batch);
+    pass->is_open = true;
+    return DONE;
+}
+
+enum outcome commit(struct pass *pass) {
+    uint64_t made, number;
+    const bes_batch *it = &pass->batch;
+    pass->is_open = false;
+    return outcome_of(bes_apply(&pass->held, it->operations, it->count, it->bytes, it->used, &made, 0, &number));
+}
+
+enum outcome make_index(struct pass *pass, struct text name, enum kind kind) {
+    uint64_t made;
+    bes_operation it = operation_of(BES_MAKE_INDEX, 0, name.length);
+    it.code = kind_code(kind);
+    return apply(pass, &it, (const uint8_t *)name.bytes, &made);
+}
+
+enum outcome make_node(struct pass *pass, uint64_t *node) {
+    bes_operation it = operation_of(BES_NEW_NODE, 0, 0);
+    return apply(pass, &it, (const uint8_t *)"", node);
+}
+
+enum outcome drop_node(struct pass *pass, uint64_t node) {
+    uint64_t made;
+    bes_operation it = operation_of(BES_REMOVE_NODE, node, 0);
+    return apply(pass, &it, (const uint8_t *)"", &made);
+}
+
+static void name_of(char *to, struct text name) {
+    memcpy(to, name.bytes, name.length);
+    to[name.length] = 0;
+}
+
+enum outcome set(struct pass *pass, uint64_t node, struct text name, const struct value *value) {
+    uint64_t made;
+    if (pass->is_open) {
+        char called[64];
+        name_of(called, name);
+        must_do(bes_batch_add(&pass->batch, BES_SET, node, called, kind_code(value->kind), value->number, value->text.bytes,
+                              value->text.length));
+        return DONE;
+    }
+    uint8_t bytes[63 + 255];
+    bes_operation it = operation_of(BES_SET, node, name.length);
+    it.code = kind_code(value->kind);
+    it.number = value->number;
+    it.value_length = value->text.length;
+    memcpy(bytes, name.bytes, name.length);
+    memcpy(bytes + name.length, value->text.bytes, value->text.length);
+    return apply(pass, &it, bytes, &made);
+}
+
+/* Reads */
+
+void pin(struct pass *pass) {
+    uint64_t number;
+    must_do(bes_pin(&pass->held, &number));
+}
+
+void unpin(struct pass *pass) { must_do(bes_unpin(&pass->held)); }
+
+void parse(struct query *query, struct text text) {
+    bes_prepared *prepared = calloc(1, sizeof *prepared);
+    must_do(bes_prepare((const uint8_t *)text.bytes, text.length, prepared));
+    query->prepared = prepared;
+}
+
+size_t ask(struct pass *pass, struct query *query, uint64_t *nodes, size_t most) {
+    uint64_t count;
+    must_do(bes_query_prepared(&pass->held, query->prepared, nodes, most, &count));
+    return count;
+}
+
+void forget(struct query *query) {
+    must_do(bes_release(query->prepared));
+    free(query->prepared);
+}
+
+bool get_number(struct pass *pass, uint64_t node, struct text name, int64_t *number) {
+    uint8_t none[1];
+    bes_attribute found;
+    uint32_t answer = bes_get(&pass->held, node, (const uint8_t *)name.bytes, name.length, &found, none, 0);
+    if (answer == BES_NO_ATTRIBUTE) return false;
+    must_do(answer);
+    *number = (int64_t)found.number;
+    return true;
+}

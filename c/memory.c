@@ -1,0 +1,157 @@
+/* What calls answer where malloc refuses, and where they come in the middle of another call. Linked by -Wl,--wrap=malloc,--wrap=realloc,
+ * so that each request of the library comes by here. */
+#include "tests.h"
+
+void *__real_malloc(size_t size);
+void *__real_realloc(void *old, size_t size);
+void *__wrap_malloc(size_t size);
+void *__wrap_realloc(void *old, size_t size);
+
+static unsigned requests, refused; /* how many there were, and which of them is refused, counted from 1 */
+static void (*between)(void);      /* what is done at each request */
+
+static bool is_refused(void)
+{
+    void (*done)(void) = between;
+    if (done != NULL) {
+        between = NULL;
+        done();
+        between = done;
+    }
+    return ++requests == refused;
+}
+
+void *__wrap_malloc(size_t size)
+{
+    return is_refused() ? NULL : __real_malloc(size);
+}
+
+void *__wrap_realloc(void *old, size_t size)
+{
+    return is_refused() ? NULL : __real_realloc(old, size);
+}
+
+static bes_pass mine, theirs, opened;
+static bes_prepared by_text, by_items, kept;
+
+/* What calls put out. */
+typedef struct outs {
+    uint64_t number, count, nodes[4], more[4];
+    bes_updates updates;
+    bes_counts counts;
+    bes_attribute told;
+    bes_operation listed[4];
+    uint8_t bytes[64];
+} outs;
+
+static outs out, untouched;
+static view before;
+
+static const uint8_t query[] = "size<5 || name==ann", parts[] = "sizenameann";
+static const bes_item less[] = {{BES_ITEM_ATTRIBUTE, 0, 4, 0}, {BES_ITEM_UINT64, 0, 0, 5}, {BES_ITEM_LT, 0, 0, 0}};
+static const bes_operation list[] = {
+    {BES_NEW_NODE, 0, 0, 0, 0, 0, 0, 0}, {BES_SET, BES_STRING_TYPE, 1, 0, 4, 4, 8, 3}
+};
+
+static uint32_t call_open(void) { return bes_open(8, 1, 10, &opened); }
+static uint32_t call_another(void) { return bes_another(&mine, &theirs); }
+static uint32_t call_prepare(void) { return bes_prepare(query, sizeof query - 1, &by_text); }
+static uint32_t call_prepare_items(void) { return bes_prepare_items(less, 3, parts, 11, &by_items); }
+static uint32_t call_apply(void) { return bes_apply(&mine, list, 2, parts, 11, out.nodes, 4, &out.number); }
+static uint32_t call_retry(void) { return bes_apply_or_retry(&mine, list, 2, parts, 11, 3, out.nodes, 4, &out.number); }
+static uint32_t call_query(void) { return bes_query(&mine, query, sizeof query - 1, out.nodes, 4, &out.count); }
+static uint32_t call_items(void) { return bes_query_items(&mine, less, 3, parts, 11, out.nodes, 4, &out.count); }
+static uint32_t call_prepared(void) { return bes_query_prepared(&mine, &kept, out.nodes, 4, &out.count); }
+static uint32_t call_refresh(void) { return bes_refresh(&mine, &kept, &out.updates); }
+static uint32_t call_explain(void) { return bes_explain(&mine, query, sizeof query - 1, out.bytes, 64, &out.count); }
+static uint32_t call_attributes(void) { return bes_attributes(&mine, 1, &out.counts, out.listed, 4, out.bytes, 64); }
+static uint32_t call_indices(void) { return bes_indices(&mine, &out.counts, out.listed, 4, out.bytes, 64); }
+static uint32_t call_journal(void) { return bes_journal(&mine, out.bytes, 64, &out.count); }
+static uint32_t call_changes(void) { return bes_changes(&kept, out.nodes, 4, out.more, 4); }
+static uint32_t call_get(void) { return bes_read(&mine, 1, "size", &out.told, out.bytes, 64); }
+static uint32_t call_unpin(void) { return bes_unpin(&mine); }
+static uint32_t call_pin(void) { return bes_pin(&mine, &out.number); }
+static uint32_t call_move(void) { return bes_move(&mine, &opened) == BES_OK ? bes_move(&opened, &mine) : BES_OPEN; }
+
+/* Refuses each of the requests that a call makes, in turn: it does nothing then. At last it is made with memory for all. Answers
+ * how many requests it made. */
+static unsigned refuse_each(uint32_t (*call)(void))
+{
+    look(&mine, &before);
+    for (unsigned n = 1;; n++) {
+        uint32_t answer;
+        memset(&out, 7, sizeof out);
+        requests = 0;
+        refused = n;
+        answer = call();
+        refused = 0;
+        if (requests < n) {
+            CHECK(answer == BES_OK);
+            return requests;
+        }
+        CHECK(answer == BES_NO_MEMORY && memcmp(&out, &untouched, sizeof out) == 0 && is_as_it_was(&mine, &before));
+    }
+}
+
+static void refuse_all(void)
+{
+    uint32_t (*const with_requests[])(void) = {
+        call_another, call_prepare, call_prepare_items, call_query, call_items, call_prepared, call_explain, call_attributes,
+        call_indices, call_journal, call_apply, call_retry
+    };
+    uint32_t (*const without[])(void) = {call_changes, call_get, call_unpin, call_pin, call_move};
+    CHECK(bes_open(64, 2, 100, &mine) == BES_OK);
+    CHECK(bes_make_index(&mine, "size", BES_INT32_TYPE) == BES_OK && bes_make_index(&mine, "name", BES_STRING_TYPE) == BES_OK);
+    CHECK(bes_new_node(&mine, &out.number) == BES_OK && bes_set_int32(&mine, 1, "size", 1) == BES_OK);
+    CHECK(bes_prepare(query, sizeof query - 1, &kept) == BES_OK && bes_pin(&mine, &out.number) == BES_OK);
+    CHECK(refuse_each(call_open) > 0 && bes_close(&opened) == BES_OK);
+    CHECK(refuse_each(call_refresh) > 0 && out.updates.created == 1 && out.updates.removed == 0);
+    for (size_t i = 0; i < sizeof with_requests / sizeof *with_requests; i++)
+        CHECK(refuse_each(with_requests[i]) > 0);
+    CHECK(out.number == 6 && out.nodes[0] == 3);
+    for (size_t i = 0; i < sizeof without / sizeof *without; i++)
+        CHECK(refuse_each(without[i]) == 0);
+}
+
+static unsigned accepted, busy;
+
+/* What another pass is answered: its writes BES_BUSY where the first is writing, and its reads as ever. */
+static void go_between(void)
+{
+    uint64_t number = 7, count = 7, nodes[4];
+    uint8_t text[4];
+    uint32_t answer = bes_apply(&theirs, list, 2, parts, 11, nodes, 0, &number);
+    if (answer == BES_BUSY) {
+        CHECK(number == 7);
+        CHECK(bes_apply_or_retry(&theirs, list, 2, parts, 11, 3, nodes, 0, &number) == BES_BUSY && number == 7);
+        CHECK(bes_journal(&theirs, text, 4, &count) == BES_BUSY && count == 7);
+    }
+    accepted += answer == BES_OK;
+    busy += answer == BES_BUSY;
+    CHECK(bes_pin(&theirs, &number) == BES_OK && bes_query(&theirs, query, sizeof query - 1, nodes, 4, &count) == BES_OK);
+    CHECK(count == 1 && nodes[0] == 1 && bes_unpin(&theirs) == BES_OK);
+}
+
+/* The journal's text is made while its pass holds the lock. What a write asks for is asked in part before it takes the lock. */
+static void meet_busy(void)
+{
+    between = go_between;
+    CHECK(call_journal() == BES_OK);
+    CHECK(busy > 0 && accepted == 0);
+    busy = 0;
+    CHECK(call_apply() == BES_OK);
+    between = NULL;
+    CHECK(accepted + busy > 0 && out.number == 7 + accepted);
+    CHECK(bes_unpin(&mine) == BES_OK && bes_pin(&mine, &out.number) == BES_OK && out.number == 7 + accepted);
+}
+
+int main(void)
+{
+    memset(&untouched, 7, sizeof untouched);
+    refuse_all();
+    meet_busy();
+    CHECK(bes_release(&kept) == BES_OK && bes_release(&by_text) == BES_OK && bes_release(&by_items) == BES_OK);
+    CHECK(bes_close(&mine) == BES_OK && bes_close(&theirs) == BES_OK);
+    puts("ok");
+    return 0;
+}

@@ -1,0 +1,37 @@
+/* What the tests in C share. */
+#ifndef TESTS_H
+#define TESTS_H
+
+#include "bestore.h"
+#include <stdio.h>
+#include <stdlib.h>
+
+#define CHECK(e) do { if (!(e)) { fprintf(stderr, "%s:%d: %s\n", __FILE__, __LINE__, #e); exit(1); } } while (0)
+
+/* All that can be seen of a small store, and of a pass's pin. */
+typedef struct view {
+    uint32_t has_indices, has_node;
+    uint64_t length;
+    bes_counts indices, attributes;
+    bes_operation operations[2][64];
+    uint8_t bytes[2][64 * (63 + 255)], journal[1 << 16];
+} view;
+
+/* Looks at the store, and at node 1. */
+static inline void look(bes_pass *pass, view *seen)
+{
+    memset(seen, 0, sizeof *seen);
+    seen->has_indices = bes_indices(pass, &seen->indices, seen->operations[0], 64, seen->bytes[0], sizeof seen->bytes[0]);
+    seen->has_node = bes_attributes(pass, 1, &seen->attributes, seen->operations[1], 64, seen->bytes[1], sizeof seen->bytes[1]);
+    CHECK(bes_journal(pass, seen->journal, sizeof seen->journal, &seen->length) == BES_OK && seen->length <= sizeof seen->journal);
+}
+
+/* Looks again, and compares. */
+static inline bool is_as_it_was(bes_pass *pass, const view *before)
+{
+    static view after;
+    look(pass, &after);
+    return memcmp(before, &after, sizeof after) == 0;
+}
+
+#endif

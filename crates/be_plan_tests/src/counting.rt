@@ -1,0 +1,155 @@
+//! Queries answered from a plain volume by a source that writes down and counts what it is asked.
+
+ghost use Rattle.be_volume.specs.Volume.{State};
+ghost use Rattle.be_plan.specs.Sources.{IsVolume};
+
+use arrayvec::{ArrayString, ArrayVec};
+use be_plan::{Cover, Source, VolumeSource, choose_from, covers, run, volume_source};
+use be_query::Query;
+use be_value::{Kind, Name, Refusal, Value};
+use be_volume::Volume;
+use std::alloc::Global;
+
+fn first_letter(name: &Name) -> char {
+    name.as_str().chars().next().unwrap_or('?')
+}
+
+/// Whether the key is above the bound, if there is one.
+fn is_past(high: Option<&[u8]>, key: &[u8]) -> bool {
+    match high {
+        Some(high) => key > high,
+        None => false,
+    }
+}
+
+/// How many keys of the index lie from `low` to `high`, up to 64, counted from key to key.
+fn keys_within(volume: &Volume, name: &Name, low: &[u8], high: Option<&[u8]>) -> usize {
+    let mut next = volume.next_key(name, low, false);
+    for count in 0..64 {
+        let Some(key) = &next else {
+            return count;
+        };
+        if is_past(high, key.as_slice()) {
+            return count;
+        }
+        next = volume.next_key(name, key.as_slice(), true);
+    }
+    64
+}
+
+/// What a source was asked.
+#[derive(Drop)]
+pub(crate) struct Counts {
+    /// The first letter of an index for each key that was asked of it; of a range that was asked for whole, for each of its keys and for its end.
+    pub asked: ArrayString<64>,
+    pub kinds: u64,
+    pub ranges: u64,
+    pub values: u64,
+    /// How many keys were searched for.
+    pub searches: u64,
+}
+
+/// Writes down a step for each of so many keys, and one for the end.
+fn write_steps(counts: &mut Counts, name: &Name, keys: usize) {
+    for _ in 0..=keys {
+        let _full = counts.asked.try_push(first_letter(name));
+    }
+}
+
+/// A volume's source that writes down and counts what it is asked.
+#[derive(Drop)]
+struct Counting<'a> {
+    source: VolumeSource<'a>,
+    volume: &'a Volume,
+    counts: Counts,
+}
+
+/// A source that has counted nothing yet.
+fn start_counting(volume: &Volume) -> Counting<'_>
+    ensures { IsVolume result.source volume.now }
+{
+    Counting {
+        source: volume_source(volume),
+        volume,
+        counts: Counts {
+            asked: ArrayString::new(),
+            kinds: 0,
+            ranges: 0,
+            values: 0,
+            searches: 0,
+        },
+    }
+}
+
+impl Source for Counting<'_> {
+    ghost use Rattle.be_volume.specs.Volume.{State};
+    ghost use Rattle.be_plan.specs.Sources.{IsVolume};
+
+    ghost Kept = { State };
+
+    ghost kept = { λ s. s.source };
+
+    ghost answers_for = { λ s volume. IsVolume s.source volume };
+
+    ghost sound = { λ s volume is. is.sound };
+
+    fn kind_of(&mut self, name: &Name) -> Option<Kind> {
+        self.counts.kinds = self.counts.kinds.wrapping_add(1);
+        self.source.kind_of(name)
+    }
+
+    fn next_key(&mut self, name: &Name, from: &[u8], after: bool) -> Option<ArrayVec<u8, 264>> {
+        let _full = self.counts.asked.try_push(first_letter(name));
+        self.source.next_key(name, from, after)
+    }
+
+    fn nodes_within(
+        &mut self,
+        name: &Name,
+        low: &[u8],
+        high: Option<&[u8]>,
+        found: &mut Vec<u64>,
+    ) -> Result<(), Refusal> {
+        self.counts.ranges = self.counts.ranges.wrapping_add(1);
+        let keys = keys_within(self.volume, name, low, high);
+        write_steps(&mut self.counts, name, keys);
+        self.source.nodes_within(name, low, high, found)
+    }
+
+    fn has_key(&mut self, name: &Name, key: &[u8]) -> bool {
+        self.counts.searches = self.counts.searches.wrapping_add(1);
+        self.source.has_key(name, key)
+    }
+
+    fn value(&mut self, node: u64, name: &Name) -> Option<Value> {
+        self.counts.values = self.counts.values.wrapping_add(1);
+        self.source.value(node, name)
+    }
+}
+
+/// The nodes by a cover, and what was asked for them; none where it doesn't cover the query.
+pub(crate) fn nodes_by(
+    alloc: Global,
+    volume: &Volume,
+    query: &Query,
+    cover: &Cover,
+) -> Result<Option<(Vec<u64>, Counts)>, Refusal> {
+    let mut source = start_counting(volume);
+    if !covers(cover, query, &mut source) {
+        return Ok(None);
+    }
+    let nodes = run(alloc, cover, query, &mut source)?;
+    Ok(Some((nodes, source.counts)))
+}
+
+/// The nodes by what is chosen where the source tells the kinds, and what was asked to choose and to find them.
+pub(crate) fn nodes_chosen(
+    alloc: Global,
+    volume: &Volume,
+    query: &Query,
+) -> Result<(Vec<u64>, Counts), Refusal> {
+    let mut source = start_counting(volume);
+    let cover = choose_from(alloc, query, &mut source)?;
+    let nodes = run(alloc, &cover, query, &mut source)?;
+    Ok((nodes, source.counts))
+}

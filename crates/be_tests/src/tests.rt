@@ -1,0 +1,12 @@
+//! A file for each crate that is tested, or for each part of one.
+
+mod counting_look;
+mod journal;
+mod leaves;
+mod machine;
+mod pages;
+mod pattern;
+mod query;
+mod tree;
+mod value;
+mod words;
