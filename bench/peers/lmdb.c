@@ -8,7 +8,7 @@
 #include <unistd.h>
 
 #include "../driver/peer.h"
-#include "keys.h"
+#include "holds.h"
 
 #define INDICES 32
 #define PASSES 64
@@ -242,15 +242,7 @@ static bool holds(struct pass *pass, const struct comparison *it, uint64_t node)
     uint8_t bytes[80];
     MDB_val key = catalog_key(bytes, node, it->name), value;
     if (mdb_get(pass->reading, pass->store->catalog, &key, &value)) return false;
-    const uint8_t *from = value.mv_data;
-    if (from[0] == IS_NUMBER) return number_holds(it, take_number(from + 1));
-    return text_holds(it, (struct text){(const char *)from + 1, value.mv_size - 1});
-}
-
-static bool all_hold(struct pass *pass, const struct query *query, uint64_t node) {
-    for (int i = 0; i < query->count; i++)
-        if (is_asked(query, i) && !holds(pass, &query->comparisons[i], node)) return false;
-    return true;
+    return value_holds(it, value.mv_data, value.mv_size);
 }
 
 size_t ask(struct pass *pass, struct query *query, uint64_t *nodes, size_t most) {

@@ -3,6 +3,7 @@
 #include <stdlib.h>
 #include <string.h>
 
+#include "../holds.h"
 #include "volume.h"
 
 #define LIST_MOST 64
@@ -163,13 +164,8 @@ void pin(struct pass *pass) {
 
 void unpin(struct pass *pass) { atomic_store(&pass->store->pool.words[ANNOUNCEMENT(pass->number)], 0); }
 
-static bool value_holds(const struct comparison *it, const uint8_t *stored, uint32_t length) {
-    if (stored[0] == IS_NUMBER) return number_holds(it, take_number(stored + 1));
-    return text_holds(it, (struct text){(const char *)stored + 1, length - 1});
-}
-
 /* An indexed name is seen through its index. */
-static bool holds(const struct pass *pass, const struct comparison *it, uint64_t node) {
+static bool holds(struct pass *pass, const struct comparison *it, uint64_t node) {
     const struct pool *pool = &pass->store->pool;
     uint8_t stored[VALUE_MOST], bytes[VALUE_MOST + 16];
     uint32_t length;
@@ -182,12 +178,6 @@ static bool holds(const struct pass *pass, const struct comparison *it, uint64_t
         if (!find(pool, index->root, &key, bytes, &none)) return false;
     }
     return value_holds(it, stored, length);
-}
-
-static bool all_hold(const struct pass *pass, const struct query *query, uint64_t node) {
-    for (int i = 0; i < query->count; i++)
-        if (is_asked(query, i) && !holds(pass, &query->comparisons[i], node)) return false;
-    return true;
 }
 
 size_t ask(struct pass *pass, struct query *query, uint64_t *nodes, size_t most) {

@@ -1,0 +1,21 @@
+/* What LMDB's adapter and the model share: whether a query is true of a node that a walk finds. */
+#ifndef HOLDS_H
+#define HOLDS_H
+#include "../driver/peer.h"
+#include "keys.h"
+
+/* Whether a comparison is true of a stored value: its kind, and then the number or the text. */
+static inline bool value_holds(const struct comparison *it, const uint8_t *stored, size_t length) {
+    if (stored[0] == IS_NUMBER) return number_holds(it, take_number(stored + 1));
+    return text_holds(it, (struct text){(const char *)stored + 1, length - 1});
+}
+
+/* Whether it is true of a node at the pin: each peer's own. */
+static bool holds(struct pass *pass, const struct comparison *it, uint64_t node);
+
+static inline bool all_hold(struct pass *pass, const struct query *query, uint64_t node) {
+    for (int i = 0; i < query->count; i++)
+        if (is_asked(query, i) && !holds(pass, &query->comparisons[i], node)) return false;
+    return true;
+}
+#endif
