@@ -6,7 +6,7 @@ use std::alloc::AllocGlobal;
 use std::io;
 use std::process::ExitCode;
 
-/// The nodes of letters from whom begins with an A, and the journal of the store.
+/// The nodes of the letters whose sender begins with an A, and the journal of the store.
 fn first_letters<R: AllocGlobal>(rt: &R) -> Result<(Vec<u64>, Journal), Refusal> {
     let limits = Limits {
         pages: 64,
