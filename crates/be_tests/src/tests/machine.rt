@@ -7,7 +7,6 @@ ghost use Rattle.be_core.specs.Shown.{page_count};
 use be_core::{Event, State};
 use be_value::{Refusal, word_of};
 use std::alloc::Global;
-use std::str::Split;
 use std::test::Fail;
 
 /// A new machine, at the second call where memory is refused at the first.
@@ -47,19 +46,19 @@ fn event_of(alloc: Global, word: &str, numbers: [u64; 4]) -> Result<Event, Refus
     }
 }
 
-/// The next of these words as a number, 0 where there is none.
-fn next_number(words: &mut Split<'_, char>) -> u64 {
-    word_of(words.next().unwrap_or("").as_bytes()).unwrap_or(0)
+/// The first of these words as a number, 0 where there is none, and the others.
+fn first_number(words: &str) -> (u64, &str) {
+    let (word, others) = words.split_once(" ").unwrap_or((words, ""));
+    (word_of(word.as_bytes()).unwrap_or(0), others)
 }
 
 /// The event of a line of words.
 fn event_in(alloc: Global, line: &str) -> Result<Event, Refusal> {
-    let mut words = line.split(' ');
-    let word = words.next().unwrap_or("");
-    let first = next_number(&mut words);
-    let second = next_number(&mut words);
-    let third = next_number(&mut words);
-    let fourth = next_number(&mut words);
+    let (word, numbers) = line.split_once(" ").unwrap_or((line, ""));
+    let (first, numbers) = first_number(numbers);
+    let (second, numbers) = first_number(numbers);
+    let (third, numbers) = first_number(numbers);
+    let (fourth, _) = first_number(numbers);
     event_of(alloc, word, [first, second, third, fourth])
 }
 

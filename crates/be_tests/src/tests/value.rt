@@ -2,7 +2,7 @@
 
 use super::lines::{repeated, replies, yes_or_no};
 use arrayvec::ArrayVec;
-use be_value::{Kind, Name, Refusal, Value, key_of, node_of, number_of, read_key, word_of};
+use be_value::{Kind, Name, Refusal, Value, key_of, node_of, number_of, read_key};
 use std::alloc::Global;
 use std::test::Fail;
 
@@ -131,12 +131,16 @@ pub(crate) fn is_raw(alloc: Global, request: &str) -> Result<String, Refusal> {
 
 /// The kind of a number: its letters, and whether an index takes it.
 pub(crate) fn kind_numbered(alloc: Global, text: &str) -> Result<String, Refusal> {
-    let Some(kind) = Kind::numbered(word_of(text.as_bytes()).unwrap_or(0) as u8) else {
+    let Ok(number) = u8::try_from(number_of(text).unwrap_or(0)) else {
+        return yes_or_no(alloc, false);
+    };
+    let Some(kind) = Kind::numbered(number) else {
         return yes_or_no(alloc, false);
     };
     let number = kind.number();
+    let letters = kind.code().to_be_bytes();
     let mut told = format!(in alloc; "{number} ")?;
-    for letter in kind.code().to_be_bytes() {
+    for letter in letters {
         told.push(char::from(letter))?;
     }
     if kind.indexable() {
