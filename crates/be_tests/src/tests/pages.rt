@@ -33,7 +33,7 @@ fn keeps_and_undoes(rt: HostRuntime) -> Result<(), Fail> {
 /// Takes each page once, and then one more. How many were free before each, in digits.
 fn take_all(alloc: Global) -> Result<(u64, Refusal), Refusal> {
     let mut room = room_of(alloc, 8)?;
-    let mut digits = 0;
+    let mut digits: u64 = 0;
     for taken in 0..8 {
         let _ = taken;
         digits = digits.wrapping_mul(10).wrapping_add(room.free());
