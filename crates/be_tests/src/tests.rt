@@ -2,7 +2,7 @@
 
 mod counting_look;
 mod journal;
-mod lines;
+mod leaves;
 mod machine;
 mod pages;
 mod pattern;
