@@ -259,7 +259,8 @@ ascii_word : (c : ℕ) → is_word_byte c ≡ true → c < 128
 ascii_word c h = grind (arith, nat_tests, h)
 
 word_escaped : (c : ℕ) → is_word_byte c ≡ true → escaped c ≡ c ∷ []
-word_escaped c h = rw (is_other c 34 h refl) (rw (is_other c 92 h refl) (rw (is_other c 10 h refl) (rw (is_other c 13 h refl) (encode_ascii c (ascii_word c h)))))
+word_escaped c h =
+    rw (is_other c 34 h refl) (rw (is_other c 92 h refl) (rw (is_other c 10 h refl) (rw (is_other c 13 h refl) (encode_ascii c (ascii_word c h)))))
 
 words_escaped : (xs : List ℕ) → list_all is_word_byte xs ≡ true → flat_map escaped xs ≡ xs
 words_escaped [] h = refl

@@ -155,7 +155,8 @@ found_from_j text result h = let found = found_behind true text result h in (fou
 found_from : (more : List ℕ) → (result : List ℕ) × (from_last_j true (106 ∷ more) ≡ Some result) × (length result ≤ length (106 ∷ more))
 found_from more = by (from_last_j false more) refl
   where
-    by : (o : Option (List ℕ)) → from_last_j false more ≡ o → (result : List ℕ) × (from_last_j true (106 ∷ more) ≡ Some result) × (length result ≤ length (106 ∷ more))
+    by : (o : Option (List ℕ)) → from_last_j false more ≡ o →
+        (result : List ℕ) × (from_last_j true (106 ∷ more) ≡ Some result) × (length result ≤ length (106 ∷ more))
     by None e = (106 ∷ more, ap (λ o. or_else o (Some (106 ∷ more))) e, omega arith)
     by (Some later) e =
         let found = found_behind false more later e in
@@ -165,7 +166,8 @@ found_at : (text rest : List ℕ) → IsFromJ text rest → (result : List ℕ) 
 found_at text rest h =
     let found = found_from h.1 in
     let is : text ≡ h.0 ++ 106 ∷ h.1 = h.3 ∙ ap (λ l. h.0 ++ l) h.4 in
-    let begins : from_last_j (start_behind true h.0) (106 ∷ h.1) ≡ Some found.0 = ap (λ b. from_last_j b (106 ∷ h.1)) (starts_behind_lines h.0 h.2) ∙ found.1 in (
+    let begins : from_last_j (start_behind true h.0) (106 ∷ h.1) ≡ Some found.0 =
+    ap (λ b. from_last_j b (106 ∷ h.1)) (starts_behind_lines h.0 h.2) ∙ found.1 in (
       found.0,
       ap (from_last_j true) is ∙ behind_front true h.0 (106 ∷ h.1) found.0 begins,
       omega (arith, found.2, ap length h.4),

@@ -46,7 +46,8 @@ fn behind_number(alloc: Global, number: u64, line: &[u8]) -> Result<&[u8], Alloc
 /// The texts of the pass, the operations and the answers in the line of the entry with this number.
 fn parts_of(alloc: Global, number: u64, line: &[u8]) -> Result<(&[u8], &[u8], &[u8]), AllocError>
     ensures { IfOk result (λ parts. (entry : AnyEntry) → history.IsWritten entry → line.now ≡ entry_line number entry →
-        (parts.0.now ≡ decimal entry.by) × (parts.1.now ≡ join_by op_text (codes "; ") entry.ops) × (parts.2.now ≡ join_by done_text (codes "; ") entry.dones)) }
+        (parts.0.now ≡ decimal entry.by) × (parts.1.now ≡ join_by op_text (codes "; ") entry.ops)
+        × (parts.2.now ≡ join_by done_text (codes "; ") entry.dones)) }
 {
     let rest = behind_number(alloc, number, line)?;
     let (by, rest) = split_around(b' ', rest);

@@ -17,7 +17,8 @@ pub enum Quoting {
 /// Where the byte behind this one stands.
 fn behind(quoting: Quoting, byte: u8) -> Quoting
     ensures outside { quoting ≡ Quoting.Outside → result ≡ (if nat_eq byte 34 then Quoting.Inside else Quoting.Outside) }
-    ensures inside { quoting ≡ Quoting.Inside → result ≡ (if nat_eq byte 92 then Quoting.Escaped else if nat_eq byte 34 then Quoting.Outside else Quoting.Inside) }
+    ensures inside { quoting ≡ Quoting.Inside → result ≡ (if nat_eq byte 92 then Quoting.Escaped
+        else if nat_eq byte 34 then Quoting.Outside else Quoting.Inside) }
     ensures escaped { quoting ≡ Quoting.Escaped → result ≡ Quoting.Inside }
 {
     match quoting {

@@ -27,4 +27,5 @@ returns-in_default-2-clause-whole c = λ entry w is.
 
 pub returns-in_default-3-clause-whole : goal.returns-in_default-3-clause-whole
 returns-in_default-3-clause-whole c = λ entry w is.
-    never_some entry.dones (ap (option_map (λ v. v.items)) (sym c.in_default-3.is) ∙ c.in_ok-dones.ensures entry.dones w.dones (c.in_ok-by.ensures entry w is).2)
+    never_some entry.dones (ap (option_map (λ v. v.items)) (sym c.in_default-3.is)
+    ∙ c.in_ok-dones.ensures entry.dones w.dones (c.in_ok-by.ensures entry w is).2)

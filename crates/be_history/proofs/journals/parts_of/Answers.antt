@@ -8,7 +8,8 @@ returns c = λ entry w is.
     let n = c.args.number in
     let pass = c.in_ok-rest.ensures (decimal entry.by ++ 32 ∷ behind_pass n entry w) is in
     let one = c.split_around.ensures.ends (decimal entry.by) (behind_pass n entry w) (pass_part n entry w) pass in
-    let two = c.split_around-2.ensures.ends (ops_of n entry w ++ codes " -") (32 ∷ behind_arrow n entry w) (before_arrow n entry w) (one.1 ∙ arrow_split n entry w) in
+    let two = c.split_around-2.ensures.ends (ops_of n entry w ++ codes " -") (32 ∷ behind_arrow n entry w)
+    (before_arrow n entry w) (one.1 ∙ arrow_split n entry w) in
     let arrow = c.skip.ensures ∙ ap (λ (l : List ℕ). drop 1 l) two.1 in
     let three = c.split_around-3.ensures.ends (dones_of n entry w) [] (answers_part n entry w) arrow in (
       one.0,

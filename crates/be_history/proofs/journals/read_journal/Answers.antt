@@ -1,7 +1,7 @@
-use Rattle.std.proofs.Common.{◌≡◌, ◌≤◌, ◌<◌, ◌+◌, ◌^◌, ◌++◌, ◌∷◌, [], List, All, length, length-append, Some, sym, ap, ◌∙◌, subst, arith}
+use Rattle.std.proofs.Common.{◌≡◌, ◌≤◌, ◌<◌, ◌+◌, ◌^◌, ◌∷◌, [], List, All, length, length-append, Some, sym, ap, ◌∙◌, subst, arith}
 use Rattle.std.proofs.lemmas.Bool.Decides.{nat_tests}
 use Rattle.std.proofs.lemmas.List.Elements.{All-push}
-use Rattle.be_journal.specs.Text.{entry_line, lines_from}
+use Rattle.be_journal.specs.Text.{entry_line}
 use Rattle.be_journal.specs.declared.entries.Entry.{Entry}
 use Rattle.be_history.specs.History.{IsWritten}
 use Rattle.be_history.proofs.ReadLemmas.{first_line_left, inside, less_lines_left, line_cut, lines_read, never_some, no_lines_left}

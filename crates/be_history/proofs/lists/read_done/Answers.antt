@@ -1,4 +1,4 @@
-use Rattle.std.proofs.Common.{sym, ap, ◌∙◌, drop}
+use Rattle.std.proofs.Common.{sym, ap, ◌∙◌}
 use Rattle.be_value.specs.Number.{word_in}
 use Rattle.be_history.proofs.Cuts.{done_in, done_of}
 use Rattle.be_history.proofs.LineLemmas.{done_read}

@@ -40,6 +40,7 @@ returns-then-is_empty c = λ dones are is.
     let rest = c.loop-rest.rest.now in
     let cut = joined_cut CanBeDone done_text rest c.split_around.result.0.now c.split_around.result.1.now (λ y h. done_part 59 refl refl y h)
     c.split_around.ensures.ends c.split_around.ensures.alone in
-    let first = first_left CanBeDone done_text c.args.text.now rest c.split_around.result.0.now _ c.loop-rest.dones.items some c.loop-rest.invariant cut dones are is in
+    let first = first_left CanBeDone done_text c.args.text.now rest c.split_around.result.0.now _ c.loop-rest.dones.items
+    some c.loop-rest.invariant cut dones are is in
     let none : length c.split_around.result.0.now ≡ 0 = grind (arith, nat_tests, c.if-is_empty.ensures) in
     absurd (omega (arith, done_long first.0 first.1, ap length first.2, none))

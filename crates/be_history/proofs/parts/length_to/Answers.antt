@@ -1,4 +1,4 @@
-use Rattle.std.proofs.Common.{◌≡◌, ◌+◌, length, true, false, sym, refl, ap, ◌∙◌, arith, zero-add}
+use Rattle.std.proofs.Common.{◌≡◌, ◌+◌, length, true, false, sym, ap, ◌∙◌, arith, zero-add}
 use Rattle.be_history.proofs.Cuts.{behind, is_end, length_to}
 use Rattle.be_history.proofs.PartLemmas.{behind_is, counted_all, counted_alone, counted_ends, counted_here, counted_on, is_end_is, none_of_length}
 use Rattle.be_history.proofs.parts.length_to.Goals as goal
@@ -42,9 +42,11 @@ loop-byte-preserved c =
 pub returns-clause-ends : goal.returns-clause-ends
 returns-clause-ends c =
     counted_ends c.args.end c.loop-byte.count c.args.text.now
-    (counted_all c.args.end c.loop-byte.count c.loop-byte.quoting c.args.text.now c.loop-byte.rest.now c.loop-byte.invariant.is (none_of_length c.loop-byte.rest.now c.in_default.ensures.cases))
+    (counted_all c.args.end c.loop-byte.count c.loop-byte.quoting c.args.text.now c.loop-byte.rest.now c.loop-byte.invariant.is
+    (none_of_length c.loop-byte.rest.now c.in_default.ensures.cases))
 
 pub returns-clause-alone : goal.returns-clause-alone
 returns-clause-alone c =
     counted_alone c.args.end c.loop-byte.count c.args.text.now
-    (counted_all c.args.end c.loop-byte.count c.loop-byte.quoting c.args.text.now c.loop-byte.rest.now c.loop-byte.invariant.is (none_of_length c.loop-byte.rest.now c.in_default.ensures.cases))
+    (counted_all c.args.end c.loop-byte.count c.loop-byte.quoting c.args.text.now c.loop-byte.rest.now c.loop-byte.invariant.is
+    (none_of_length c.loop-byte.rest.now c.in_default.ensures.cases))

@@ -7,13 +7,15 @@ use Rattle.be_history.proofs.told.journal_told.Goals as goal
 pub returns-in-Some-clause-reads : goal.returns-in-Some-clause-reads
 returns-in-Some-clause-reads c =
     let last : from_last_j true c.args.text.now ≡ Some c.in-Some.result.now =
-    one_from_last_j c.args.text.now (Some c.in-Some.result.now) (subst (λ o. IsFromLastJ c.args.text.now (option_map (λ t. t.now) o)) c.in-Some.is c.from_last_j.ensures) in
+    one_from_last_j c.args.text.now (Some c.in-Some.result.now)
+    (subst (λ o. IsFromLastJ c.args.text.now (option_map (λ t. t.now) o)) c.in-Some.is c.from_last_j.ensures) in
     some_reads c.read_result.result (λ v. v.items) c.args.text.now c.in-Some.result.now last c.read_result.ensures.reads
 
 pub returns-in-Some-clause-whole : goal.returns-in-Some-clause-whole
 returns-in-Some-clause-whole c =
     let last : from_last_j true c.args.text.now ≡ Some c.in-Some.result.now =
-    one_from_last_j c.args.text.now (Some c.in-Some.result.now) (subst (λ o. IsFromLastJ c.args.text.now (option_map (λ t. t.now) o)) c.in-Some.is c.from_last_j.ensures) in
+    one_from_last_j c.args.text.now (Some c.in-Some.result.now)
+    (subst (λ o. IsFromLastJ c.args.text.now (option_map (λ t. t.now) o)) c.in-Some.is c.from_last_j.ensures) in
     some_whole c.read_result.result (λ v. v.items) c.args.text.now c.in-Some.result.now last c.read_result.ensures.whole
 
 pub returns-in-None-clause-reads : goal.returns-in-None-clause-reads
