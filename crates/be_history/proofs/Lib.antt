@@ -1,4 +1,5 @@
 pub mod CheckLemmas
+pub mod Cuts
 pub mod LineLemmas
 pub mod NumberLemmas
 pub mod OpLemmas

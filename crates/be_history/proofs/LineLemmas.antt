@@ -22,9 +22,10 @@ use Rattle.be_volume.specs.declared.ops.Op.TheVariants.{New, Drop, Set, Unset, M
 use Rattle.be_journal.specs.declared.entries.Entry.{Entry}
 use Rattle.be_journal.specs.Text.{done_text, entry_line, hex, hex_digit, op_text, quoted, value_text}
 use Rattle.be_history.specs.History.{CanBeDone, CanBeOp, HasBytes, IsWritten}
-use Rattle.be_history.specs.Parts.{after, before, behind_by, behind_line, behind_number, by_part, done_in, dones_part, first_line, ops_part, without_last_two}
+use Rattle.be_history.specs.Parts.{IsPart}
+use Rattle.be_history.proofs.Cuts.{after, before, behind_by, behind_line, behind_number, by_part, done_in, dones_part, first_line, ops_part, without_last_two}
 use Rattle.be_history.proofs.NumberLemmas.{decimal_digits, word_of_decimal}
-use Rattle.be_history.proofs.PartLemmas.{IsPart, both_parts, hex_part, is_word_byte, no_part, part_before, part_whole, quoted_part, unlike, words_part}
+use Rattle.be_history.proofs.PartLemmas.{both_parts, bytes_part, hex_part, is_word_byte, no_part, part_before, part_whole, quoted_part, unlike, words_part}
 
 digit_word : (c : ℕ) → is_ascii_digit c ≡ true → is_word_byte c ≡ true
 digit_word c h = grind (arith, nat_tests, h)
@@ -117,7 +118,7 @@ pub done_read : (done : Done) → CanBeDone done → done_in (done_text done) �
 done_read (Node node) h = rw (word_of_decimal node h) refl
 done_read Nothing h = refl
 
-take_length : (xs : List ℕ) → take (length xs) xs ≡ xs
+pub take_length : (xs : List ℕ) → take (length xs) xs ≡ xs
 take_length xs = take_all (length xs) xs (omega arith)
 
 drop_length : (xs : List ℕ) → drop (length xs) xs ≡ []
@@ -131,19 +132,19 @@ pub drop_front : (xs ys : List ℕ) → drop (length xs) (xs ++ ys) ≡ ys
 drop_front [] ys = refl
 drop_front (x ∷ xs) ys = drop_front xs ys
 
-drop_one_more : (xs ys : List ℕ) (c : ℕ) → drop (length xs + 1) (xs ++ c ∷ ys) ≡ ys
+pub drop_one_more : (xs ys : List ℕ) (c : ℕ) → drop (length xs + 1) (xs ++ c ∷ ys) ≡ ys
 drop_one_more [] ys c = refl
 drop_one_more (x ∷ xs) ys c =
     let one : length (x ∷ xs) + 1 ≡ suc (length xs + 1) = omega arith in
     ap (λ n. drop n (x ∷ (xs ++ c ∷ ys))) one ∙ drop_one_more xs ys c
 
-take_one_more : (xs ys : List ℕ) (c : ℕ) → take (length xs + 1) (xs ++ c ∷ ys) ≡ xs ++ c ∷ []
+pub take_one_more : (xs ys : List ℕ) (c : ℕ) → take (length xs + 1) (xs ++ c ∷ ys) ≡ xs ++ c ∷ []
 take_one_more [] ys c = refl
 take_one_more (x ∷ xs) ys c =
     let one : length (x ∷ xs) + 1 ≡ suc (length xs + 1) = omega arith in
     ap (λ n. take n (x ∷ (xs ++ c ∷ ys))) one ∙ ap (λ l. x ∷ l) (take_one_more xs ys c)
 
-drop_past : (xs : List ℕ) → drop (length xs + 1) xs ≡ []
+pub drop_past : (xs : List ℕ) → drop (length xs + 1) xs ≡ []
 drop_past [] = refl
 drop_past (x ∷ xs) =
     let one : length (x ∷ xs) + 1 ≡ suc (length xs + 1) = omega arith in
@@ -193,9 +194,7 @@ pub digits_part : (end : ℕ) (ds : List ℕ) → is_ascii_digit end ≡ false �
 digits_part end [] g h = no_part end
 digits_part end (d ∷ ds) g h =
     let p = and_parts (is_ascii_digit d) (all_ascii_digits ds) h in
-    both_parts end (d ∷ []) ds
-    (record { quiet = (differs d end p.0 g, tt); back = rw (differs d 34 p.0 refl) refl; line = rw (differs d 10 p.0 refl) refl })
-    (digits_part end ds g p.1)
+    both_parts end (d ∷ []) ds (bytes_part end (d ∷ []) (rw (differs d end p.0 g) (rw (differs d 34 p.0 refl) refl))) (digits_part end ds g p.1)
 
 -- the first line of a text
 pub first_taken : (xs ys : List ℕ) → IsPart 10 xs → first_line (xs ++ 10 ∷ ys) ≡ xs ++ 10 ∷ []
@@ -203,16 +202,16 @@ first_taken xs ys h = ap (λ n. take (n + 1) (xs ++ 10 ∷ ys)) (part_before 10 
 
 -- The parts of an entry's line.
 module _ (number : ℕ) (entry : Entry) (w : IsWritten entry) where
-  abbrev ops_of : List ℕ
+  abbrev pub ops_of : List ℕ
   ops_of = join_by op_text (codes "; ") entry.ops
 
-  abbrev dones_of : List ℕ
+  abbrev pub dones_of : List ℕ
   dones_of = join_by done_text (codes "; ") entry.dones
 
-  abbrev behind_arrow : List ℕ
+  abbrev pub behind_arrow : List ℕ
   behind_arrow = dones_of ++ codes "\n"
 
-  abbrev behind_pass : List ℕ
+  abbrev pub behind_pass : List ℕ
   behind_pass = ops_of ++ (codes " -> " ++ behind_arrow)
 
   number_taken : behind_number number (entry_line number entry) ≡ decimal entry.by ++ 32 ∷ behind_pass
@@ -220,7 +219,7 @@ module _ (number : ℕ) (entry : Entry) (w : IsWritten entry) where
       ap (drop (length (decimal number ++ codes " by "))) (sym (append_assoc (decimal number) (codes " by ") (decimal entry.by ++ 32 ∷ behind_pass)))
       ∙ drop_front (decimal number ++ codes " by ") (decimal entry.by ++ 32 ∷ behind_pass)
 
-  pass_part : IsPart 32 (decimal entry.by)
+  pub pass_part : IsPart 32 (decimal entry.by)
   pass_part = digits_part 32 (decimal entry.by) refl (decimal_digits entry.by w.by)
 
   pub by_read : by_part number (entry_line number entry) ≡ decimal entry.by
@@ -229,16 +228,16 @@ module _ (number : ℕ) (entry : Entry) (w : IsWritten entry) where
   by_taken : behind_by number (entry_line number entry) ≡ behind_pass
   by_taken = ap (after 32) number_taken ∙ after_end 32 (decimal entry.by) behind_pass pass_part
 
-  before_arrow : IsPart 62 (ops_of ++ codes " -")
+  pub before_arrow : IsPart 62 (ops_of ++ codes " -")
   before_arrow = both_parts 62 ops_of (codes " -")
-      (list_part 62 CanBeOp op_text refl refl (λ op h. op_part 62 refl refl op h) (record { quiet = (refl, (refl, tt)); back = refl; line = refl })
+      (list_part 62 CanBeOp op_text refl refl (λ op h. op_part 62 refl refl op h) (bytes_part 62 (codes "; ") refl)
       entry.ops w.ops)
       (words_part 62 (codes " -") refl refl)
 
-  arrow_split : behind_pass ≡ (ops_of ++ codes " -") ++ 62 ∷ 32 ∷ behind_arrow
+  pub arrow_split : behind_pass ≡ (ops_of ++ codes " -") ++ 62 ∷ 32 ∷ behind_arrow
   arrow_split = sym (append_assoc ops_of (codes " -") (62 ∷ 32 ∷ behind_arrow))
 
-  less_two : (xs : List ℕ) → without_last_two (xs ++ codes " -") ≡ xs
+  pub less_two : (xs : List ℕ) → without_last_two (xs ++ codes " -") ≡ xs
   less_two xs =
       let exact : length (xs ++ codes " -") - 2 ≡ length xs = omega (arith, length-append xs (codes " -")) in
       ap (λ n. take n (xs ++ codes " -")) exact ∙ take_front xs (codes " -")
@@ -247,9 +246,9 @@ module _ (number : ℕ) (entry : Entry) (w : IsWritten entry) where
   ops_read = ap (λ l. without_last_two (before 62 l)) (by_taken ∙ arrow_split)
       ∙ (ap without_last_two (before_end 62 (ops_of ++ codes " -") (32 ∷ behind_arrow) before_arrow) ∙ less_two ops_of)
 
-  answers_part : IsPart 10 dones_of
+  pub answers_part : IsPart 10 dones_of
   answers_part = list_part 10 CanBeDone done_text refl refl (λ done h. done_part 10 refl refl done h)
-      (record { quiet = (refl, (refl, tt)); back = refl; line = refl }) entry.dones w.dones
+      (bytes_part 10 (codes "; ") refl) entry.dones w.dones
 
   pub dones_read : dones_part number (entry_line number entry) ≡ join_by done_text (codes "; ") entry.dones
   dones_read = ap (λ l. before 10 (drop 1 (after 62 l))) (by_taken ∙ arrow_split)
@@ -272,9 +271,9 @@ module _ (number : ℕ) (entry : Entry) (w : IsWritten entry) where
       (both_parts 10 (decimal entry.by) _ (digits_part 10 (decimal entry.by) refl (decimal_digits entry.by w.by))
       (both_parts 10 (codes " ") _ (words_part 10 (codes " ") refl refl)
       (both_parts 10 ops_of _
-      (list_part 10 CanBeOp op_text refl refl (λ op k. op_part 10 refl refl op k) (record { quiet = (refl, (refl, tt)); back = refl; line = refl })
+      (list_part 10 CanBeOp op_text refl refl (λ op k. op_part 10 refl refl op k) (bytes_part 10 (codes "; ") refl)
       entry.ops w.ops)
-      (both_parts 10 (codes " -> ") dones_of (record { quiet = (refl, (refl, (refl, (refl, tt)))); back = refl; line = refl }) answers_part)))))
+      (both_parts 10 (codes " -> ") dones_of (bytes_part 10 (codes " -> ") refl) answers_part)))))
 
   -- the first line of a text that begins with this one, and what follows it
   pub line_first : number < 2 ^ 64 → (more : List ℕ) → first_line (entry_line number entry ++ more) ≡ entry_line number entry

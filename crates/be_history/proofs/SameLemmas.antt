@@ -9,10 +9,10 @@ use Rattle.be_language.specs.Request.{asked, write}
 use Rattle.be_volume.specs.declared.ops.Done.{Done}
 use Rattle.be_volume.specs.declared.ops.Op.{Op}
 use Rattle.be_history.specs.History.{CanBeDone, CanBeOp, IsWritten, entry_of}
-use Rattle.be_history.specs.Parts.{after, before, behind_line, by_part, done_in, dones_part, first_line, ops_part}
+use Rattle.be_history.specs.Parts.{IsPart}
+use Rattle.be_history.proofs.Cuts.{after, before, behind_line, by_part, done_in, dones_part, first_line, ops_part}
 use Rattle.be_history.proofs.LineLemmas.{by_read, done_part, done_read, dones_read, first_joined, line_behind, line_first, op_part, ops_read, rest_joined}
 use Rattle.be_history.proofs.OpLemmas.{op_asked}
-use Rattle.be_history.proofs.PartLemmas.{IsPart}
 use Rattle.be_history.proofs.ReadLemmas.{done_long, entry_line_long, entry_made, inside, op_long}
 
 written : (x y : Op) → write (Ok x) ≡ write (Ok y) → x ≡ y

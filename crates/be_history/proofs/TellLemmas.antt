@@ -1,8 +1,8 @@
 -- Where the journal stands in what was printed.
-use Rattle.std.proofs.Common.{◌≡◌, ◌⊎◌, inl, inr, ⊎_elim, ℕ, ◌+◌, ◌-◌, ◌^◌, ◌<◌, ◌≤◌, Bool, true, false, not, ◌&&◌, List, [], ◌∷◌, ◌++◌, length, length-append, take, nat_eq, All, IfOk, IfSome, Some, None, if◌then◌else◌, codes, refl, sym, ap, ◌∙◌, append_assoc, arith}
+use Rattle.std.proofs.Common.{◌≡◌, ◌⊎◌, inl, inr, ⊎_elim, ℕ, ◌+◌, ◌-◌, ◌^◌, ◌<◌, ◌≤◌, Bool, true, false, not, ◌&&◌, List, [], ◌∷◌, ◌++◌, length, length-append, take, drop, nat_eq, All, IfOk, IfSome, Some, None, if◌then◌else◌, codes, refl, sym, ap, ◌∙◌, append_assoc, arith}
 use Rattle.std.proofs.lemmas.Bool.{and_parts}
 use Rattle.std.proofs.lemmas.Fmt.{decimal_nonempty}
-use Rattle.std.proofs.lemmas.List.{append-nil, take-append-drop}
+use Rattle.std.proofs.lemmas.List.{append-nil}
 use Rattle.std.proofs.lemmas.List.Elements.{All-head, All-tail}
 use Rattle.std.proofs.lemmas.Option.{IfSome_then}
 use Rattle.std.proofs.lemmas.Result.{IfOk-weaker}
@@ -15,14 +15,25 @@ use Rattle.std.specs.declared.option.Option.{Option}
 use Rattle.std.specs.declared.result.Result.{Result}
 use Rattle.be_journal.specs.Text.{entry_line, lines_from, result_text}
 use Rattle.be_journal.specs.declared.entries.Entry.{Entry}
-use Rattle.be_history.specs.Finding.{AreLines, Tells, from_last_j, head, or_else}
+use Rattle.be_history.specs.Finding.{AreLines, IsFromJ, IsFromLastJ, Tells, head}
 use Rattle.be_history.specs.History.{AreWritten, IsWritten}
-use Rattle.be_history.specs.Parts.{behind_line, first_line, length_to}
-use Rattle.be_history.specs.declared.parts.Quoting.TheVariants.{Outside}
-use Rattle.be_history.proofs.LineLemmas.{after_end, body, body_line, body_part, differs, digits_part, first_taken, take_front}
+use Rattle.be_history.specs.Parts.{IsPart}
+use Rattle.be_history.proofs.Cuts.{behind_line, first_line}
+use Rattle.be_history.proofs.LineLemmas.{after_end, body, body_line, body_part, differs, digits_part, drop_front, first_taken, take_front}
 use Rattle.be_history.proofs.NumberLemmas.{decimal_digits}
-use Rattle.be_history.proofs.PartLemmas.{IsPart, both_parts, in_line, same_byte, words_part}
+use Rattle.be_history.proofs.PartLemmas.{both_parts, in_line, part_line, same_byte, words_part}
 use Rattle.be_history.proofs.ReadLemmas.{inside, never_some}
+use Rattle.be_history.proofs.SameLemmas.{same_lines}
+
+-- the first of the two that is some
+abbrev pub or_else : Option (List ℕ) → Option (List ℕ) → Option (List ℕ)
+or_else (Some text) other = Some text
+or_else None other = other
+
+-- the text from its last line on that begins with `j`; whether a line starts at its front
+abbrev pub from_last_j : Bool → List ℕ → Option (List ℕ)
+from_last_j start [] = None
+from_last_j start (c ∷ text) = or_else (from_last_j (nat_eq c 10) text) (if start && nat_eq c 106 then Some (c ∷ text) else None)
 
 none_else : (o : Option (List ℕ)) → or_else o None ≡ o
 none_else None = refl
@@ -67,7 +78,7 @@ lines_passed n (e ∷ es) rest h few =
     append_assoc (entry_line n e) (lines_from (n + 1) es) rest ∙ (ap (λ l. l ++ more) (body_line n e w) ∙ append_assoc (body n e w) (10 ∷ []) more) in
     let part = body_part n e w small in
     ap (from_last_j true) split
-    ∙ (numbered_passed (decimal n) _ more (decimal_digits n small) (decimal_nonempty n small) part.line
+    ∙ (numbered_passed (decimal n) _ more (decimal_digits n small) (decimal_nonempty n small) (part_line _ part)
     ∙ lines_passed (n + 1) es rest (All-tail IsWritten e es h) fewer)
 
 -- no line of a journal's text begins with `j`
@@ -84,7 +95,7 @@ result_is_last es are =
     let none : from_last_j false ((codes "ournal " ++ (decimal n ++ 10 ∷ [])) ++ lines) ≡ None =
     along (codes "ournal ") ((decimal n ++ 10 ∷ []) ++ lines) refl
     ∙ (ap (from_last_j false) (append_assoc (decimal n) (10 ∷ []) lines)
-    ∙ (along (decimal n) (10 ∷ lines) digits.line ∙ (none_else (from_last_j true lines)
+    ∙ (along (decimal n) (10 ∷ lines) (part_line (decimal n) digits) ∙ (none_else (from_last_j true lines)
     ∙ lines_passed 1 es (codes "replay ok\n") are.0 (omega (arith, are.1))))) in
     ap (λ o. or_else o (Some (result_text es))) none
 
@@ -117,28 +128,83 @@ are_lines (c ∷ text) h = inr (last_byte true c text h)
 
 -- where it was found
 abbrev IsBehind : Bool → List ℕ → List ℕ → Type 0
-IsBehind start text result = (front : List ℕ) × (start_behind start front ≡ true) × (text ≡ front ++ result)
+IsBehind start text result = (front : List ℕ) × (more : List ℕ) × (start_behind start front ≡ true) × (text ≡ front ++ result) × (result ≡ 106 ∷ more)
 
 found_here : (start : Bool) (c : ℕ) (text result : List ℕ) → (b : Bool) → (start && nat_eq c 106) ≡ b →
     (if b then Some (c ∷ text) else None) ≡ Some result → IsBehind start (c ∷ text) result
-found_here start c text result true e h = ([], (and_parts start (nat_eq c 106) e).0, inside (c ∷ text) result h)
+found_here start c text result true e h =
+    let p = and_parts start (nat_eq c 106) e in
+    let is = inside (c ∷ text) result h in
+    ([], text, p.0, is, sym is ∙ ap (λ d. d ∷ text) (same_byte c 106 p.1))
 found_here start c text result false e h = never_some result h
 
 found_in : (start : Bool) (c : ℕ) (text result : List ℕ) (o : Option (List ℕ)) → o ≡ from_last_j (nat_eq c 10) text →
     (from_last_j (nat_eq c 10) text ≡ Some result → IsBehind (nat_eq c 10) text result) →
     or_else o (if start && nat_eq c 106 then Some (c ∷ text) else None) ≡ Some result → IsBehind start (c ∷ text) result
 found_in start c text result None e again h = found_here start c text result (start && nat_eq c 106) refl h
-found_in start c text result (Some later) e again h = let more = again (sym e ∙ h) in (c ∷ more.0, more.1, ap (λ l. c ∷ l) more.2)
+found_in start c text result (Some later) e again h = let more = again (sym e ∙ h) in (c ∷ more.0, more.1, more.2, ap (λ l. c ∷ l) more.3, more.4)
 
 found_behind : (start : Bool) (text result : List ℕ) → from_last_j start text ≡ Some result → IsBehind start text result
 found_behind start [] result h = never_some result h
 found_behind start (c ∷ text) result h = found_in start c text result (from_last_j (nat_eq c 10) text) refl (found_behind (nat_eq c 10) text result) h
 
+found_from_j : (text result : List ℕ) → from_last_j true text ≡ Some result → IsFromJ text result
+found_from_j text result h = let found = found_behind true text result h in (found.0, found.1, are_lines found.0 found.2, found.3, found.4)
+
+-- a line that begins so is found, or one behind it
+found_from : (more : List ℕ) → (result : List ℕ) × (from_last_j true (106 ∷ more) ≡ Some result) × (length result ≤ length (106 ∷ more))
+found_from more = by (from_last_j false more) refl
+  where
+    by : (o : Option (List ℕ)) → from_last_j false more ≡ o →
+        (result : List ℕ) × (from_last_j true (106 ∷ more) ≡ Some result) × (length result ≤ length (106 ∷ more))
+    by None e = (106 ∷ more, ap (λ o. or_else o (Some (106 ∷ more))) e, omega arith)
+    by (Some later) e =
+        let found = found_behind false more later e in
+        (later, ap (λ o. or_else o (Some (106 ∷ more))) e, omega (arith, ap length found.3, length-append found.0 later))
+
+found_at : (text rest : List ℕ) → IsFromJ text rest → (result : List ℕ) × (from_last_j true text ≡ Some result) × (length result ≤ length rest)
+found_at text rest h =
+    let found = found_from h.1 in
+    let is : text ≡ h.0 ++ 106 ∷ h.1 = h.3 ∙ ap (λ l. h.0 ++ l) h.4 in
+    let begins : from_last_j (start_behind true h.0) (106 ∷ h.1) ≡ Some found.0 =
+    ap (λ b. from_last_j b (106 ∷ h.1)) (starts_behind_lines h.0 h.2) ∙ found.1 in (
+      found.0,
+      ap (from_last_j true) is ∙ behind_front true h.0 (106 ∷ h.1) found.0 begins,
+      omega (arith, found.2, ap length h.4),
+    )
+
+-- what the function gives is from the last such line, and nothing else is
+pub is_from_last_j : (text : List ℕ) (o : Option (List ℕ)) → from_last_j true text ≡ o → IsFromLastJ text o
+is_from_last_j text None e = λ rest h. let found = found_at text rest h in never_some found.0 (sym e ∙ found.1)
+is_from_last_j text (Some last) e = (
+  found_from_j text last e,
+  λ rest h. let found = found_at text rest h in
+      let same : last ≡ found.0 = inside last found.0 (sym e ∙ found.1) in omega (arith, found.2, ap length same),
+)
+
+-- ends of a text that are as long as one another are the same
+same_ends : (f g r s : List ℕ) → f ++ r ≡ g ++ s → length r ≡ length s → r ≡ s
+same_ends f g r s h long =
+    let place : length f ≡ length g = omega (arith, long, ap length h, length-append f r, length-append g s) in
+    sym (drop_front f r) ∙ (ap (λ n. drop n (f ++ r)) place ∙ (ap (λ l. drop (length g) l) h ∙ drop_front g s))
+
+pub one_from_last_j : (text : List ℕ) (o : Option (List ℕ)) → IsFromLastJ text o → from_last_j true text ≡ o
+one_from_last_j text None h = by (from_last_j true text) refl
+  where
+    by : (o : Option (List ℕ)) → from_last_j true text ≡ o → from_last_j true text ≡ None
+    by None e = e
+    by (Some last) e = absurd (h last (found_from_j text last e))
+one_from_last_j text (Some last) h =
+    let found = found_at text last h.0 in
+    let other = found_from_j text found.0 found.1 in
+    let long : length last ≡ length found.0 = omega (arith, found.2, h.1 found.0 other) in
+    found.1 ∙ ap (λ l. Some l) (same_ends other.0 h.0.0 found.0 last (sym other.3 ∙ h.0.3) (sym long))
+
 -- what begins with the last such line is the end of the text
 pub tells_result : (text result : List ℕ) (es : List Entry) → from_last_j true text ≡ Some result → result ≡ result_text es → Tells text es
 tells_result text result es h is =
-    let found = found_behind true text result h in
-    inr (found.0, are_lines found.0 found.1, found.2 ∙ ap (λ l. found.0 ++ l) is)
+    let found = found_from_j text result h in
+    inr (found.0, found.2, found.3 ∙ ap (λ l. found.0 ++ l) is)
 
 -- and where a text tells entries it is their result, or there is none and the text is theirs
 tells_last : (text : List ℕ) (es : List Entry) → AreWritten es → Tells text es →
@@ -191,9 +257,11 @@ module _ {X E : Type 0} (r : Result (Option X) E) (items : X → List Entry) (te
 
 -- The lines of a race's result.
 
-pub result_read : (text : List ℕ) (es : List Entry) → AreWritten es → text ≡ result_text es →
-    (first_line text ≡ head (length es)) × (behind_line text ≡ lines_from 1 es ++ codes "replay ok\n")
-result_read text es are is =
+-- its first line, and what follows that, where a text is cut at its first LF
+pub result_cut : (text first behind : List ℕ) →
+    ((line more : List ℕ) → IsPart 10 line → text ≡ line ++ 10 ∷ more → (first ≡ line ++ 10 ∷ []) × (behind ≡ more)) → (es : List Entry) → AreWritten es →
+    text ≡ result_text es → (first ≡ head (length es)) × (behind ≡ lines_from 1 es ++ codes "replay ok\n")
+result_cut text first behind cut es are is =
     let n = length es in
     let small : n < 2 ^ 64 = omega (arith, are.1) in
     let lines = lines_from 1 es ++ codes "replay ok\n" in
@@ -201,13 +269,14 @@ result_read text es are is =
     let part : IsPart 10 front = both_parts 10 (codes "journal ") (decimal n) (words_part 10 (codes "journal ") refl refl)
     (digits_part 10 (decimal n) refl (decimal_digits n small)) in
     let split : text ≡ front ++ 10 ∷ lines = is ∙ ap (λ l. codes "journal " ++ l) (append_assoc (decimal n) (10 ∷ []) lines) in
-    (ap first_line split ∙ first_taken front lines part, ap behind_line split ∙ after_end 10 front lines part)
+    let parted = cut front lines part split in
+    (parted.0, parted.1)
 
-pub result_made : (text lines : List ℕ) (es : List Entry) → first_line text ≡ head (length es) → behind_line text ≡ lines ++ codes "replay ok\n" →
-    lines ≡ lines_from 1 es → text ≡ result_text es
-result_made text lines es first behind is =
-    sym (take-append-drop (length_to 10 Outside text + 1) text)
-    ∙ (ap (λ l. l ++ behind_line text) first ∙ (ap (λ l. head (length es) ++ l) behind ∙ ap (λ l. head (length es) ++ (l ++ codes "replay ok\n")) is))
+pub result_made : (text first behind lines : List ℕ) (es : List Entry) → first ++ behind ≡ text → first ≡ head (length es) →
+    behind ≡ lines ++ codes "replay ok\n" → lines ≡ lines_from 1 es → text ≡ result_text es
+result_made text first behind lines es whole of_first of_behind is =
+    sym whole
+    ∙ (ap (λ l. l ++ behind) of_first ∙ (ap (λ l. head (length es) ++ l) of_behind ∙ ap (λ l. head (length es) ++ (l ++ codes "replay ok\n")) is))
 
 same_front : (rest lines : List ℕ) → rest ≡ lines ++ codes "replay ok\n" → take (length rest - 10) rest ≡ lines
 same_front rest lines is =
@@ -218,3 +287,30 @@ same_front rest lines is =
 -- one text stands before the last line
 pub one_front : (rest lines others : List ℕ) → rest ≡ lines ++ codes "replay ok\n" → rest ≡ others ++ codes "replay ok\n" → lines ≡ others
 one_front rest lines others h g = sym (same_front rest lines h) ∙ same_front rest others g
+
+-- No text tells two journals.
+
+one_text : (es os : List Entry) → AreWritten es → AreWritten os → lines_from 1 es ≡ lines_from 1 os → es ≡ os
+one_text es os are were same = same_lines 1 es os are.0 were.0 (omega (arith, are.1)) same
+
+abbrev result_behind : List Entry → List ℕ
+result_behind es = lines_from 1 es ++ codes "replay ok\n"
+
+one_result : (es os : List Entry) → AreWritten es → AreWritten os → result_text es ≡ result_text os → es ≡ os
+one_result es os are were same =
+    let text = result_text es in
+    let cut : (line more : List ℕ) → IsPart 10 line → text ≡ line ++ 10 ∷ more → (first_line text ≡ line ++ 10 ∷ []) × (behind_line text ≡ more) =
+    λ line more part h. (ap first_line h ∙ first_taken line more part, ap behind_line h ∙ after_end 10 line more part) in
+    let here = result_cut text (first_line text) (behind_line text) cut es are refl in
+    let there = result_cut text (first_line text) (behind_line text) cut os were same in
+    one_text es os are were (one_front (behind_line text) (lines_from 1 es) (lines_from 1 os) here.1 there.1)
+
+pub one_journal : (text : List ℕ) (es os : List Entry) → AreWritten es → AreWritten os → Tells text es → Tells text os → es ≡ os
+one_journal text es os are were tells told = by (tells_last text es are tells) (tells_last text os were told)
+  where
+    by : ((from_last_j true text ≡ None) × (text ≡ lines_from 1 es)) ⊎ (from_last_j true text ≡ Some (result_text es)) →
+        ((from_last_j true text ≡ None) × (text ≡ lines_from 1 os)) ⊎ (from_last_j true text ≡ Some (result_text os)) → es ≡ os
+    by (inl h) (inl g) = one_text es os are were (sym h.1 ∙ g.1)
+    by (inl h) (inr g) = never_some (result_text os) (sym h.0 ∙ g)
+    by (inr h) (inl g) = never_some (result_text es) (sym g.0 ∙ h)
+    by (inr h) (inr g) = one_result es os are were (inside (result_text es) (result_text os) (sym h ∙ g))

@@ -1,5 +1,5 @@
 -- Which journal a text tells, and what the check of it finds.
-use Rattle.std.specs.Prelude.{◌≡◌, ◌⊎◌, ℕ, ◌+◌, ◌<◌, ◌^◌, Bool, All, List, [], ◌∷◌, ◌++◌, length, get_or, nat_eq, ◌&&◌, if◌then◌else◌, Some, None, codes}
+use Rattle.std.specs.Prelude.{◌≡◌, ◌⊎◌, ℕ, ◌+◌, ◌<◌, ◌≤◌, ◌^◌, All, List, [], ◌∷◌, ◌++◌, length, get_or, Some, None, codes}
 use Rattle.std.specs.Fmt.{decimal}
 use Rattle.std.specs.String.{string_bytes}
 use Rattle.std.specs.declared.option.Option.{Option}
@@ -22,15 +22,14 @@ head count = codes "journal " ++ (decimal count ++ codes "\n")
 abbrev pub Tells : List ℕ → List Entry → Type 0
 Tells text entries = (text ≡ lines_from 1 entries) ⊎ ((front : List ℕ) × AreLines front × (text ≡ front ++ result_text entries))
 
--- the first of the two that is some
-abbrev pub or_else : Option (List ℕ) → Option (List ℕ) → Option (List ℕ)
-or_else (Some text) other = Some text
-or_else None other = other
+-- this is the rest of the text from a line on that begins with `j`
+abbrev pub IsFromJ : List ℕ → List ℕ → Type 0
+IsFromJ text rest = (front : List ℕ) × (more : List ℕ) × AreLines front × (text ≡ front ++ rest) × (rest ≡ 106 ∷ more)
 
--- the text from its last line on that begins with `j`; whether a line starts at its front
-abbrev pub from_last_j : Bool → List ℕ → Option (List ℕ)
-from_last_j start [] = None
-from_last_j start (c ∷ text) = or_else (from_last_j (nat_eq c 10) text) (if start && nat_eq c 106 then Some (c ∷ text) else None)
+-- the same of the last such line; none where no line begins so
+abbrev pub IsFromLastJ : List ℕ → Option (List ℕ) → Type 0
+IsFromLastJ text None = (rest : List ℕ) → IsFromJ text rest → ⊥
+IsFromLastJ text (Some last) = IsFromJ text last × ((rest : List ℕ) → IsFromJ text rest → length last ≤ length rest)
 
 -- entries of which each has its operations and answers, and fewer than 2^32 of them
 abbrev pub AreChecked : List Entry → Type 0

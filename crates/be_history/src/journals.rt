@@ -1,8 +1,10 @@
 //! A journal that is read back from its text.
-ghost use Rattle.std.specs.Prelude.{◌≡◌, ◌≤◌, ◌<◌, List, Some, IfOk, IfSome, length};
+ghost use Rattle.std.specs.Prelude.{◌≡◌, ◌≤◌, ◌<◌, ◌++◌, ◌∷◌, [], ℕ, List, Some, IfOk, IfSome, codes, length};
+ghost use Rattle.std.specs.Fmt.{decimal};
+ghost use Rattle.std.specs.List.{join_by};
 ghost use Rattle.std.specs.Option.{option_map};
 ghost use Rattle.be_journal.specs.Journal.{IsEntry};
-ghost use Rattle.be_journal.specs.Text.{entry_line, lines_from};
+ghost use Rattle.be_journal.specs.Text.{done_text, entry_line, lines_from, op_text};
 ghost use Rattle.be_journal.specs.declared.entries.Entry.{Entry as AnyEntry};
 ghost use Rattle.be_history.specs.History as history;
 ghost use Rattle.be_history.specs.Parts as spec;
@@ -35,7 +37,7 @@ fn entry_of(by: u64, ops: Vec<Op>, dones: Vec<Done>) -> Option<Entry>
 
 /// What follows `N by ` in the line of the entry N.
 fn behind_number(alloc: Global, number: u64, line: &[u8]) -> Result<&[u8], AllocError>
-    ensures { IfOk result (λ rest. rest.now ≡ spec.behind_number number line.now) }
+    ensures { IfOk result (λ rest. (more : List ℕ) → line.now ≡ decimal number ++ (codes " by " ++ more) → rest.now ≡ more) }
 {
     let head = format!(in alloc; "{number} by ")?;
     Ok(skip(head.len(), line))
@@ -43,9 +45,9 @@ fn behind_number(alloc: Global, number: u64, line: &[u8]) -> Result<&[u8], Alloc
 
 /// The texts of the pass, the operations and the answers in the line of the entry with this number.
 fn parts_of(alloc: Global, number: u64, line: &[u8]) -> Result<(&[u8], &[u8], &[u8]), AllocError>
-    ensures by { IfOk result (λ parts. parts.0.now ≡ spec.by_part number line.now) }
-    ensures ops { IfOk result (λ parts. parts.1.now ≡ spec.ops_part number line.now) }
-    ensures dones { IfOk result (λ parts. parts.2.now ≡ spec.dones_part number line.now) }
+    ensures { IfOk result (λ parts. (entry : AnyEntry) → history.IsWritten entry → line.now ≡ entry_line number entry →
+        (parts.0.now ≡ decimal entry.by) × (parts.1.now ≡ join_by op_text (codes "; ") entry.ops)
+        × (parts.2.now ≡ join_by done_text (codes "; ") entry.dones)) }
 {
     let rest = behind_number(alloc, number, line)?;
     let (by, rest) = split_around(b' ', rest);
@@ -91,8 +93,8 @@ fn read_entry(alloc: Global, number: u64, line: &[u8]) -> Result<Option<Entry>, 
 
 /// The first line with its LF, and what follows it. A last line may lack its LF.
 pub(crate) fn first_line(text: &[u8]) -> (&[u8], &[u8])
-    ensures line { result.0.now ≡ spec.first_line text.now }
-    ensures rest { result.1.now ≡ spec.behind_line text.now }
+    ensures whole { result.0.now ++ result.1.now ≡ text.now }
+    ensures first { (line more : List ℕ) → spec.IsPart 10 line → text.now ≡ line ++ 10 ∷ more → (result.0.now ≡ line ++ 10 ∷ []) × (result.1.now ≡ more) }
     ensures shorter { 1 ≤ length text.now → length result.1.now < length text.now }
 {
     let end = split_around(b'\n', text).0.len();

@@ -1,9 +1,10 @@
 //! Laws of the definitions. Each does nothing; its contract is the law.
-ghost use Rattle.std.specs.Prelude.{◌≡◌, List, Ok};
+ghost use Rattle.std.specs.Prelude.{◌≡◌, ℕ, List, Ok};
 ghost use Rattle.be_journal.specs.Text.{lines_from, op_text};
 ghost use Rattle.be_journal.specs.declared.entries.Entry.{Entry as AnyEntry};
 ghost use Rattle.be_language.specs.Request.{asked, write};
 ghost use Rattle.be_volume.specs.declared.ops.Op.{Op as AnyOp};
+ghost use Rattle.be_history.specs.Finding.{Tells};
 ghost use Rattle.be_history.specs.History.{AreWritten, CanBeOp};
 
 /// What is printed of an operation is a script's line that asks for it.
@@ -14,4 +15,10 @@ pub fn printed_op_asks_for_it()
 /// No two journals have one text.
 pub fn texts_differ()
     ensures { (entries others : List AnyEntry) → AreWritten entries → AreWritten others → lines_from 1 entries ≡ lines_from 1 others → entries ≡ others }
+{}
+
+/// No text tells two journals.
+pub fn text_tells_one()
+    ensures { (text : List ℕ) (entries others : List AnyEntry) → AreWritten entries → AreWritten others → Tells text entries → Tells text others →
+        entries ≡ others }
 {}

@@ -33,7 +33,7 @@ fn read_op(alloc: Global, text: &[u8]) -> Result<Option<Op>, AllocError>
 
 /// The answer that a text tells: the number behind `node `, if there is one.
 fn read_done(text: &[u8]) -> Done
-    ensures { result ≡ spec.done_in text.now }
+    ensures { (done : AnyDone) → history.CanBeDone done → text.now ≡ done_text done → result ≡ done }
 {
     match word_of(skip(5, text)) {
         Some(node) => Done::Node(node),

@@ -2,7 +2,7 @@
 //!
 //! The parts of a line are parted by single bytes: a blank, `>`, `;` and the LF. A name or a text in quotes may have each of
 //! them too, so a part ends at the first such byte outside quotes.
-ghost use Rattle.std.specs.Prelude.{◌≡◌, ◌≤◌, ◌-◌, drop, take, length};
+ghost use Rattle.std.specs.Prelude.{◌≡◌, ◌≤◌, ◌<◌, ◌-◌, ◌↔◌, ◌++◌, ◌∷◌, [], ℕ, List, true, drop, take, length, nat_eq, if◌then◌else◌};
 ghost use Rattle.be_history.specs.Parts as spec;
 
 /// Whether a byte stands in quotes.
@@ -16,7 +16,10 @@ pub enum Quoting {
 
 /// Where the byte behind this one stands.
 fn behind(quoting: Quoting, byte: u8) -> Quoting
-    ensures { result ≡ spec.behind quoting byte }
+    ensures outside { quoting ≡ Quoting.Outside → result ≡ (if nat_eq byte 34 then Quoting.Inside else Quoting.Outside) }
+    ensures inside { quoting ≡ Quoting.Inside → result ≡ (if nat_eq byte 92 then Quoting.Escaped
+        else if nat_eq byte 34 then Quoting.Outside else Quoting.Inside) }
+    ensures escaped { quoting ≡ Quoting.Escaped → result ≡ Quoting.Inside }
 {
     match quoting {
         Quoting::Outside => {
@@ -41,7 +44,7 @@ fn behind(quoting: Quoting, byte: u8) -> Quoting
 
 /// Whether this byte ends a part.
 fn is_end(end: u8, quoting: Quoting, byte: u8) -> bool
-    ensures { result ≡ spec.is_end end quoting byte }
+    ensures { (result ≡ true) ↔ ((quoting ≡ Quoting.Outside) × (byte ≡ end)) }
 {
     match quoting {
         Quoting::Outside => byte == end,
@@ -51,7 +54,8 @@ fn is_end(end: u8, quoting: Quoting, byte: u8) -> bool
 
 /// How many bytes stand before the first `end` outside quotes; all where there is none.
 fn length_to(end: u8, text: &[u8]) -> usize
-    ensures is { result ≡ spec.length_to end Quoting.Outside text.now }
+    ensures ends { (part more : List ℕ) → spec.IsPart end part → text.now ≡ part ++ end ∷ more → result ≡ length part }
+    ensures alone { spec.IsPart end text.now → result ≡ length text.now }
     ensures within { result ≤ length text.now }
 {
     let mut count = 0;
@@ -81,9 +85,10 @@ pub fn skip(count: usize, text: &[u8]) -> &[u8]
 
 /// What stands before the first `end` outside quotes, and what follows that `end`; all and nothing where there is none.
 pub fn split_around(end: u8, text: &[u8]) -> (&[u8], &[u8])
-    ensures part { result.0.now ≡ spec.before end text.now }
+    ensures ends { (part more : List ℕ) → spec.IsPart end part → text.now ≡ part ++ end ∷ more → (result.0.now ≡ part) × (result.1.now ≡ more) }
+    ensures alone { spec.IsPart end text.now → (result.0.now ≡ text.now) × (result.1.now ≡ []) }
     ensures within { length result.0.now ≤ length text.now }
-    ensures rest { result.1.now ≡ spec.after end text.now }
+    ensures shorter { 1 ≤ length text.now → length result.1.now < length text.now }
 {
     let count = length_to(end, text);
     (text.split_at(count).0, skip(count + 1, text))

@@ -18,7 +18,7 @@ const LAST_LINE: &[u8] = b"replay ok\n";
 
 /// The text from its last line on that begins with `j`. None where no line does.
 fn from_last_j(text: &[u8]) -> Option<&[u8]>
-    ensures { option_map (λ t. t.now) result ≡ spec.from_last_j true text.now }
+    ensures { spec.IsFromLastJ text.now (option_map (λ t. t.now) result) }
 {
     let mut found = None;
     let mut is_start = true;

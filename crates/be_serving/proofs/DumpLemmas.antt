@@ -9,7 +9,7 @@ use Rattle.be_history.specs.Dump.{by_only_pass, dump, op_line, write_lines}
 use Rattle.be_history.specs.History.{AreWritten, CanBeOp, IsWritten}
 use Rattle.be_history.proofs.LineLemmas.{op_part}
 use Rattle.be_history.proofs.OpLemmas.{op_asked}
-use Rattle.be_history.proofs.PartLemmas.{in_line}
+use Rattle.be_history.proofs.PartLemmas.{in_line, part_line}
 use Rattle.be_journal.specs.Journal.{Agrees, IsLegal, replay}
 use Rattle.be_journal.specs.Text.{op_text}
 use Rattle.be_journal.specs.declared.entries.Entry.{Entry}
@@ -38,7 +38,7 @@ one_more s after last line more out request reply inside is serves next =
 
 -- the line of an operation is within one line
 op_inside : (op : Op) → CanBeOp op → list_all in_line (op_text op) ≡ true
-op_inside op can = (op_part 10 refl refl op can).line
+op_inside op can = part_line (op_text op) (op_part 10 refl refl op can)
 
 -- the first of several operations' lines
 op_first : (op : Op) (ops : List Op) (more : List ℕ) → flat_map op_line (op ∷ ops) ++ more ≡ op_text op ++ 10 ∷ (flat_map op_line ops ++ more)

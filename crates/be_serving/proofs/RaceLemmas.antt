@@ -20,9 +20,9 @@ use Rattle.be_serving.specs.Own.{IsPartOf, operations, write_ops}
 use Rattle.std.specs.declared.option.Option.{Option}
 use Rattle.std.specs.Io.KnownBytes.{Appends}
 use Rattle.be_serving.specs.Output.{IsOutputTo}
-use Rattle.be_serving.specs.Run.{Wrote}
+use Rattle.be_serving.specs.Run.{IsFrontOf, Wrote}
 use Rattle.be_serving.specs.Served.{known}
-use Rattle.be_serving.proofs.RunLemmas.{written_both}
+use Rattle.be_serving.proofs.RunLemmas.{none_written, written_both}
 use Rattle.be_serving.specs.Race.{HaveServed, AreRepliesOf, IsOutcome, IsReplied, pass_line, replies_text}
 
 -- what is so of each element, and of one more at its place, is so of all
@@ -165,10 +165,21 @@ own_of store k (s ∷ ss) (p ∷ ps) log h keeps (suc n) below =
     let e : (k + 1) + n ≡ k + suc n = omega arith in
     subst (λ m. IsPartOf (operations (by_pass m log)) (write_ops (slice_index_or ss n []))) e (own_of store (k + 1) ss ps log h.1 keeps.2 n (omega (arith, below)))
 
--- the journal's length, its lines and the result of its check are written one after the other
-pub result_written : (a b c d : Option (List ℕ)) (log : List Entry) (head text last : List ℕ) → head ≡ codes "journal " ++ (decimal (length log) ++ codes "\n") → text ≡ lines_from 1 log →
-    last ≡ codes "replay ok\n" → Appends a b head → Appends b c text → Appends c d last → Appends a d (result_text log)
-result_written a b c d log head text last of_head of_text of_last first second third =
-    let is : head ++ (text ++ last) ≡ result_text log = ap (λ h. h ++ (text ++ last)) of_head
-    ∙ ap (λ t. (codes "journal " ++ (decimal (length log) ++ codes "\n")) ++ t) (ap (λ t. t ++ last) of_text ∙ ap (λ l. lines_from 1 log ++ l) of_last) in
-    subst (Appends a d) is (written_both a b d head (text ++ last) first (written_both b c d text last second third))
+-- the journal's length, its lines and the result of its check, one after the other
+pub result_is : (log : List Entry) (head text last : List ℕ) → head ≡ codes "journal " ++ (decimal (length log) ++ codes "\n") → text ≡ lines_from 1 log →
+    last ≡ codes "replay ok\n" → head ++ (text ++ last) ≡ result_text log
+result_is log head text last of_head of_text of_last =
+    ap (λ h. h ++ (text ++ last)) of_head
+    ∙ ap (λ t. (codes "journal " ++ (decimal (length log) ++ codes "\n")) ++ t) (ap (λ t. t ++ last) of_text ∙ ap (λ l. lines_from 1 log ++ l) of_last)
+
+-- nothing of a text was written
+pub none_of_text : (bytes : List ℕ) (known : Option (List ℕ)) → Wrote known known (IsFrontOf bytes)
+none_of_text bytes known = record { out = []; appended = none_written known; is = (bytes, refl) }
+
+-- the first part of a text was written, and a front of the next
+pub next_in_part : (a b c : Option (List ℕ)) (first next rest whole : List ℕ) → whole ≡ first ++ (next ++ rest) → Appends a b first → Wrote b c (IsFrontOf next) → Wrote a c (IsFrontOf whole)
+next_in_part a b c first next rest whole is written w = record {
+  out = first ++ w.out;
+  appended = written_both a b c first w.out written w.appended;
+  is = (w.is.0 ++ rest, is ∙ (ap (λ l. first ++ (l ++ rest)) w.is.1 ∙ (ap (λ l. first ++ l) (append_assoc w.out w.is.0 rest) ∙ sym (append_assoc first w.out (w.is.0 ++ rest)))));
+}

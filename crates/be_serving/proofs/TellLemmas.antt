@@ -1,5 +1,5 @@
 -- Runs that tell their journal.
-use Rattle.std.proofs.Common.{◌≡◌, ◌≤◌, ◌^◌, ℕ, Bool, true, List, ◌++◌, length, IfOk, IfErr, IfSome, ap, ◌∙◌, subst}
+use Rattle.std.proofs.Common.{◌≡◌, ◌≤◌, ◌^◌, ℕ, Bool, true, List, [], ◌++◌, length, IfOk, IfErr, IfSome, OnErr, Some, None, inl, inr, refl, sym, ap, ◌∙◌, subst, append_assoc, append-nil}
 use Rattle.std.specs.declared.option.Option.{Option}
 use Rattle.std.specs.declared.result.Result.{Result}
 use Rattle.std.specs.declared.result.Result.TheVariants.{Ok, Err}
@@ -9,14 +9,14 @@ use Rattle.be_journal.specs.Text.{result_text}
 use Rattle.be_journal.specs.declared.entries.Entry.{Entry}
 use Rattle.be_table.specs.Rule.{entries}
 use Rattle.be_table.specs.declared.pass.Knowledge.{Knowledge}
-use Rattle.be_serving.specs.Output.{IsOutputTo}
-use Rattle.be_serving.specs.Run.{Wrote, IsEarly, IsLate, ReadFault, ReadsAll}
+use Rattle.be_serving.specs.Output.{IsFrontOfOutput, IsOutputTo}
+use Rattle.be_serving.specs.Run.{Wrote, IsEarly, IsFrontOf, IsLate, ReadFault, ReadsAll}
 use Rattle.be_serving.specs.Served.{known}
 use Rattle.be_serving.specs.Store.{Store, start}
-use Rattle.be_serving.specs.Telling.{IsToldRun, StopsTelling}
+use Rattle.be_serving.specs.Telling.{IsToldInPart, IsToldRun, StopsTelling}
 use Rattle.be_serving.specs.declared.faults.RunFault.{RunFault}
 use Rattle.be_serving.specs.declared.faults.RunFault.TheVariants.{Limits, Read, TooLong, Write, Memory}
-use Rattle.be_serving.proofs.RunLemmas.{all_read, left_by, written_both}
+use Rattle.be_serving.proofs.RunLemmas.{all_read, left_by, none_answered, written_both}
 
 -- the replies, and behind them the journal that they leave
 pub told_run : (limit : ℕ) (script : List ℕ) (first after c : Knowledge) (log : List Entry) (old mid new : Option (List ℕ)) → known first ≡ start limit → c ≡ after → log ≡ entries c.seen →
@@ -41,19 +41,66 @@ pub told_of_reader : {E : Type 0} (r : Result Bool E) (limit : ℕ) (input left 
 told_of_reader (Ok legal) limit input left old new bytes h w = (w.0, all_read input left bytes (λ script. Wrote old new (IsToldRun limit script)) h w.1)
 told_of_reader (Err e) limit input left old new bytes h w = tt
 
--- a late fault may leave a part written
-pub stops_late : {A : Type 0} (r : Result A RunFault) (input old new : Option (List ℕ)) → IfErr r IsLate → IfErr r (λ e. StopsTelling e input old new)
-stops_late (Ok x) input old new l = tt
-stops_late (Err Limits) input old new l = absurd l
-stops_late (Err Read) input old new l = absurd l
-stops_late (Err TooLong) input old new l = absurd l
-stops_late (Err Write) input old new l = tt
-stops_late (Err Memory) input old new l = tt
+-- a front of the replies was written
+pub told_replies : (limit : ℕ) (script : List ℕ) (store : Store) (old new : Option (List ℕ)) → store ≡ start limit → Wrote old new (IsFrontOfOutput store script) →
+    Wrote old new (IsToldInPart limit script)
+told_replies limit script store old new begun w = record {
+  out = w.out;
+  appended = w.appended;
+  is = inl (subst (λ (s : Store). IsFrontOfOutput s script w.out) begun w.is);
+}
+
+-- all the replies were written
+pub told_all_replies : (limit : ℕ) (script : List ℕ) (store last : Store) (old new : Option (List ℕ)) → store ≡ start limit → Wrote old new (IsOutputTo store script last) →
+    Wrote old new (IsToldInPart limit script)
+told_all_replies limit script store last old new begun w = told_replies limit script store old new begun (record {
+  out = w.out;
+  appended = w.appended;
+  is = ([], (last, subst (IsOutputTo store script last) (sym (append-nil w.out)) w.is));
+})
+
+-- nothing was written
+pub nothing_told : (limit : ℕ) (script : List ℕ) (held : Option (List ℕ)) → Wrote held held (IsToldInPart limit script)
+nothing_told limit script held = told_replies limit script (start limit) held held refl (none_answered (start limit) script held)
+
+nothing_told_if : (limit : ℕ) (input held : Option (List ℕ)) → IfSome input (λ script. Wrote held held (IsToldInPart limit script))
+nothing_told_if limit None held = tt
+nothing_told_if limit (Some script) held = nothing_told limit script held
+
+-- all the replies were written, and behind them a front of the journal that they leave
+pub told_in_part : (limit : ℕ) (script : List ℕ) (first after c : Knowledge) (log : List Entry) (old mid new : Option (List ℕ)) → known first ≡ start limit → c ≡ after → log ≡ entries c.seen →
+    IsLegal log → Wrote old mid (IsOutputTo (known first) script (known after)) → Wrote mid new (IsFrontOf (result_text log)) → Wrote old new (IsToldInPart limit script)
+told_in_part limit script first after c log old mid new begun ended all legal w more =
+    let same : log ≡ entries after.seen = all ∙ ap (λ (k : Knowledge). entries k.seen) ended in
+    record {
+      out = w.out ++ more.out;
+      appended = written_both old mid new w.out more.out w.appended more.appended;
+      is = inr (
+        more.is.0,
+        record {
+          last = known after;
+          replies = w.out;
+          output = subst (λ (s : Store). IsOutputTo s script (known after) w.out) begun w.is;
+          legal = subst IsLegal same legal;
+          is = append_assoc w.out more.out more.is.0 ∙ (ap (λ l. w.out ++ l) (sym more.is.1) ∙ ap (λ l. w.out ++ result_text l) same);
+        },
+      );
+    }
+
+-- a late fault leaves a part of the whole
+pub stops_late : {A : Type 0} (r : Result A RunFault) (limit : ℕ) (input left old new : Option (List ℕ)) (bytes : List ℕ) → IfErr r IsLate → ReadsAll input left bytes →
+    OnErr r (Wrote old new (IsToldInPart limit bytes)) → IfErr r (λ e. StopsTelling limit e input old new)
+stops_late (Ok x) limit input left old new bytes l h w = tt
+stops_late (Err Limits) limit input left old new bytes l h w = absurd l
+stops_late (Err Read) limit input left old new bytes l h w = absurd l
+stops_late (Err TooLong) limit input left old new bytes l h w = absurd l
+stops_late (Err Write) limit input left old new bytes l h w = all_read input left bytes (λ script. Wrote old new (IsToldInPart limit script)) h w
+stops_late (Err Memory) limit input left old new bytes l h w = all_read input left bytes (λ script. Wrote old new (IsToldInPart limit script)) h w
 
 -- a fault of the reading leaves nothing written
-pub stops_early : (e : RunFault) (store : Store) (input left held : Option (List ℕ)) → ReadFault e input left → StopsTelling e input held held
-stops_early Limits store input left held h = absurd h
-stops_early Read store input left held h = left_by Read store input left held h
-stops_early TooLong store input left held h = left_by TooLong store input left held h
-stops_early Write store input left held h = tt
-stops_early Memory store input left held h = tt
+pub stops_early : (e : RunFault) (limit : ℕ) (input left held : Option (List ℕ)) → ReadFault e input left → StopsTelling limit e input held held
+stops_early Limits limit input left held h = absurd h
+stops_early Read limit input left held h = left_by Read (start limit) input left held h
+stops_early TooLong limit input left held h = left_by TooLong (start limit) input left held h
+stops_early Write limit input left held h = absurd h
+stops_early Memory limit input left held h = nothing_told_if limit input held

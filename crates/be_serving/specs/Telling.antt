@@ -1,5 +1,5 @@
 -- What a run writes that tells its journal, and what the script of a journal is answered.
-use Rattle.std.specs.Prelude.{◌≡◌, ℕ, ◌+◌, ◌<◌, ◌^◌, List, [], ◌∷◌, ◌++◌, codes, flat_map, length, map, nat_lt, if◌then◌else◌, IfSome, None}
+use Rattle.std.specs.Prelude.{◌≡◌, ◌⊎◌, ℕ, ◌+◌, ◌<◌, ◌^◌, List, [], ◌∷◌, ◌++◌, codes, flat_map, length, map, nat_lt, if◌then◌else◌, IfSome, None}
 use Rattle.std.specs.Io.KnownBytes.{Keeps}
 use Rattle.std.specs.declared.option.Option.{Option}
 use Rattle.be_history.specs.Dump.{by_only_pass}
@@ -8,7 +8,8 @@ use Rattle.be_journal.specs.Text.{result_text}
 use Rattle.be_journal.specs.declared.entries.Entry.{Entry}
 use Rattle.be_language.specs.Reply.{Reply, ok, queued, committed, text_of}
 use Rattle.be_volume.specs.declared.ops.Op.{Op}
-use Rattle.be_serving.specs.Output.{IsOutputTo, done_reply}
+use Rattle.be_serving.specs.Output.{IsFrontOfOutput, IsOutputTo, done_reply}
+use Rattle.be_serving.specs.Run.{Wrote}
 use Rattle.be_serving.specs.Store.{Store, start}
 use Rattle.be_serving.specs.declared.faults.RunFault.{RunFault}
 use Rattle.be_serving.specs.declared.faults.RunFault.TheVariants.{Limits, Read, TooLong, Write, Memory}
@@ -21,13 +22,17 @@ pub record IsToldRun (limit : ℕ) (script out : List ℕ) : Type 0 where
   pub legal : IsLegal last.journal
   pub is : out ≡ replies ++ result_text last.journal
 
--- What a fault leaves: nothing was written where the limits or the script are at fault.
-abbrev pub StopsTelling : RunFault → Option (List ℕ) → Option (List ℕ) → Option (List ℕ) → Type 0
-StopsTelling Limits input old new = Keeps old new
-StopsTelling Read input old new = Keeps old new
-StopsTelling TooLong input old new = Keeps old new × IfSome input (λ script. 2 ^ 20 < length script)
-StopsTelling Write input old new = Unit {0}
-StopsTelling Memory input old new = Unit {0}
+-- the text is a front of the replies to the script, or all of them and a front of the journal behind them
+abbrev pub IsToldInPart : ℕ → List ℕ → List ℕ → Type 0
+IsToldInPart limit script front = IsFrontOfOutput (start limit) script front ⊎ ((rest : List ℕ) × IsToldRun limit script (front ++ rest))
+
+-- What a fault leaves: where the limits or the script are at fault, nothing was written; else a part of the whole, from its front on.
+abbrev pub StopsTelling : ℕ → RunFault → Option (List ℕ) → Option (List ℕ) → Option (List ℕ) → Type 0
+StopsTelling limit Limits input old new = Keeps old new
+StopsTelling limit Read input old new = Keeps old new
+StopsTelling limit TooLong input old new = Keeps old new × IfSome input (λ script. 2 ^ 20 < length script)
+StopsTelling limit Write input old new = IfSome input (λ script. Wrote old new (IsToldInPart limit script))
+StopsTelling limit Memory input old new = IfSome input (λ script. Wrote old new (IsToldInPart limit script))
 
 -- a store of one pass with these writes, by its pass
 abbrev pub made : ℕ → List Entry → Store

@@ -8,13 +8,13 @@
 //! some of those that the script asks for, and replies that the script may get where others write, of what the pass has
 //! seen. So every pass is there when the store is closed, what the journal has of a pass is what its script asked for, and
 //! each script was replied from that journal.
-ghost use Rattle.std.specs.Prelude.{◌≡◌, ◌≤◌, ◌<◌, ℕ, ◌^◌, ◌↔◌, true, false, length, vec_len, map, IfOk, IfErr, OnOk, Ok, Err, get_or, nat_lt};
+ghost use Rattle.std.specs.Prelude.{◌≡◌, ◌≤◌, ◌<◌, ℕ, ◌^◌, ◌++◌, ◌↔◌, true, false, length, vec_len, map, IfOk, IfErr, OnOk, OnErr, Ok, Err, get_or, nat_lt};
 ghost use Rattle.std.specs.Io.KnownBytes.{Appends};
 ghost use Rattle.std.specs.List.{list_any};
 ghost use Rattle.be_journal.specs.Journal.{IsLegal};
 ghost use Rattle.be_journal.specs.Text.{result_text};
 ghost use Rattle.be_serving.specs.Race.{IsOutcome, AreRepliesOf, HaveServed, IsNew, IsRace, Stops, pass_line, replies_text};
-ghost use Rattle.be_serving.specs.Run.{Wrote, IsLate};
+ghost use Rattle.be_serving.specs.Run.{Wrote, IsFrontOf, IsLate};
 ghost use Rattle.be_store.specs.Passes.{IsPassOf};
 ghost use Rattle.std.specs.String.{string_bytes};
 ghost use Rattle.be_table.specs.Rule.{AreBad, IsWithin};
@@ -205,6 +205,22 @@ fn put_replies<W: Write>(alloc: Global, writer: &mut W, replies: &[Vec<u8>]) -> 
     Ok(())
 }
 
+/// Writes three texts, one behind the other. After a fault a front of them all was written.
+fn put_parts<W: Write>(
+    writer: &mut W,
+    first: &[u8],
+    second: &[u8],
+    third: &[u8],
+) -> Result<(), RunFault>
+    ensures ok { OnOk result (Appends (W.contents writer.old) (W.contents writer.new) (first.now ++ (second.now ++ third.now))) }
+    ensures err { OnErr result (Wrote (W.contents writer.old) (W.contents writer.new) (IsFrontOf (first.now ++ (second.now ++ third.now)))) }
+    ensures late { IfErr result IsLate }
+{
+    put(writer, first)?;
+    put(writer, second)?;
+    put(writer, third)
+}
+
 /// Writes how many entries the journal has, their text, and the result of its check, which it answers.
 pub(crate) fn put_result<W: Write>(
     alloc: Global,
@@ -213,6 +229,7 @@ pub(crate) fn put_result<W: Write>(
 ) -> Result<bool, RunFault>
     requires { IsLegal journal.now.entries }
     ensures ok { IfOk result (λ legal. (legal ≡ true) × Appends (W.contents writer.old) (W.contents writer.new) (result_text journal.now.entries)) }
+    ensures err { OnErr result (Wrote (W.contents writer.old) (W.contents writer.new) (IsFrontOf (result_text journal.now.entries))) }
     ensures late { IfErr result IsLate }
 {
     let count = journal.len();
@@ -223,10 +240,8 @@ pub(crate) fn put_result<W: Write>(
     ) else {
         return Err(RunFault::Memory);
     };
-    put(writer, head.as_bytes())?;
-    put(writer, text.as_bytes())?;
     let last = if legal { "replay ok\n" } else { "replay bad\n" };
-    put(writer, last.as_bytes())?;
+    put_parts(writer, head.as_bytes(), text.as_bytes(), last.as_bytes())?;
     Ok(legal)
 }
 

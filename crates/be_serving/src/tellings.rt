@@ -1,8 +1,8 @@
 //! Runs that tell their journal.
-ghost use Rattle.std.specs.Prelude.{◌≡◌, ◌≤◌, ◌^◌, ◌↔◌, ◌∷◌, [], true, length, IfOk, IfErr, OnOk, IfSome, Err};
+ghost use Rattle.std.specs.Prelude.{◌≡◌, ◌≤◌, ◌^◌, ◌↔◌, ◌∷◌, [], true, length, IfOk, IfErr, OnOk, OnErr, IfSome, Err};
 ghost use Rattle.be_journal.specs.Journal.{IsLegal};
 ghost use Rattle.be_serving.specs.Run as spec;
-ghost use Rattle.be_serving.specs.Telling.{IsToldRun, StopsTelling};
+ghost use Rattle.be_serving.specs.Telling.{IsToldInPart, IsToldRun, StopsTelling};
 ghost use Rattle.be_store.specs.Passes.{IsPassOf};
 ghost use Rattle.be_table.specs.Rule.{AreBad, IsWithin, entries};
 
@@ -52,6 +52,7 @@ fn run_on_new<W: Write>(
     requires { IsWithin limits }
     ensures told { IfOk result (λ legal. (legal ≡ true)
         × spec.Wrote (W.contents writer.old) (W.contents writer.new) (IsToldRun limits.commits script.now)) }
+    ensures err { OnErr result (spec.Wrote (W.contents writer.old) (W.contents writer.new) (IsToldInPart limits.commits script.now)) }
     ensures late { IfErr result spec.IsLate }
 {
     let Ok((store, pass)) = open_for_one(alloc, limits) else {
@@ -68,8 +69,8 @@ fn run_on_new<W: Write>(
 /// journal's text, and `replay ok`. It says whether the journal is legal. It is: false is never answered.
 ///
 /// The script is read before the store is opened. The journal is that which the replies leave: each accepted write of the
-/// script, in its order. Faults are those of `run`; `Write` and `Memory` may leave a part of the whole written, and any other
-/// fault leaves nothing.
+/// script, in its order. Faults are those of `run`; `Write` and `Memory` leave a front of the replies written, or all of them
+/// and a front of what stands behind them, and any other fault leaves nothing.
 pub fn run_and_tell<R: Read, W: Write>(
     alloc: Global,
     reader: &mut R,
@@ -81,7 +82,7 @@ pub fn run_and_tell<R: Read, W: Write>(
     ensures told { IfOk result (λ legal. (legal ≡ true) × IfSome (R.remaining reader.old) (λ script.
         spec.Wrote (W.contents writer.old) (W.contents writer.new) (IsToldRun limits.commits script))) }
     ensures fits { OnOk result (IfSome (R.remaining reader.old) (λ script. length script ≤ 2 ^ 20)) }
-    ensures fault { IfErr result (λ e. StopsTelling e (R.remaining reader.old) (W.contents writer.old) (W.contents writer.new)) }
+    ensures fault { IfErr result (λ e. StopsTelling limits.commits e (R.remaining reader.old) (W.contents writer.old) (W.contents writer.new)) }
     ensures taken { IfErr result (λ e. spec.HasReadScript e (R.remaining reader.old) (R.remaining reader.new)) }
 {
     if !limits.are_within() {

@@ -1,6 +1,6 @@
 use Rattle.std.proofs.Common.{◌≡◌, ◌+◌, length}
-use Rattle.be_history.specs.Parts.{length_to}
 use Rattle.be_history.specs.declared.parts.Quoting.TheVariants.{Outside}
+use Rattle.be_history.proofs.Cuts.{length_to}
 use Rattle.be_history.proofs.parts.length_to.Given as goal
 
 abbrev pub invariant-loop-byte : goal.invariant-loop-byte

@@ -1,6 +1,6 @@
 use Rattle.std.proofs.Common.{◌≡◌, true, length}
 use Rattle.std.specs.Option.{option_map}
-use Rattle.be_history.specs.Finding.{from_last_j, or_else}
+use Rattle.be_history.proofs.TellLemmas.{from_last_j, or_else}
 use Rattle.be_history.proofs.told.from_last_j.Given as goal
 
 abbrev pub invariant-loop-byte : goal.invariant-loop-byte

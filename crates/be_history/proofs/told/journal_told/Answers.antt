@@ -1,17 +1,21 @@
-use Rattle.std.proofs.Common.{◌≡◌, true, Some, None, sym, ap, ◌∙◌}
+use Rattle.std.proofs.Common.{◌≡◌, true, Some, None, subst}
 use Rattle.std.specs.Option.{option_map}
-use Rattle.be_history.specs.Finding.{from_last_j}
-use Rattle.be_history.proofs.TellLemmas.{none_reads, none_whole, some_reads, some_whole}
+use Rattle.be_history.specs.Finding.{IsFromLastJ}
+use Rattle.be_history.proofs.TellLemmas.{from_last_j, none_reads, none_whole, one_from_last_j, some_reads, some_whole}
 use Rattle.be_history.proofs.told.journal_told.Goals as goal
 
 pub returns-in-Some-clause-reads : goal.returns-in-Some-clause-reads
 returns-in-Some-clause-reads c =
-    let last : from_last_j true c.args.text.now ≡ Some c.in-Some.result.now = sym c.from_last_j.ensures ∙ ap (option_map (λ t. t.now)) c.in-Some.is in
+    let last : from_last_j true c.args.text.now ≡ Some c.in-Some.result.now =
+    one_from_last_j c.args.text.now (Some c.in-Some.result.now)
+    (subst (λ o. IsFromLastJ c.args.text.now (option_map (λ t. t.now) o)) c.in-Some.is c.from_last_j.ensures) in
     some_reads c.read_result.result (λ v. v.items) c.args.text.now c.in-Some.result.now last c.read_result.ensures.reads
 
 pub returns-in-Some-clause-whole : goal.returns-in-Some-clause-whole
 returns-in-Some-clause-whole c =
-    let last : from_last_j true c.args.text.now ≡ Some c.in-Some.result.now = sym c.from_last_j.ensures ∙ ap (option_map (λ t. t.now)) c.in-Some.is in
+    let last : from_last_j true c.args.text.now ≡ Some c.in-Some.result.now =
+    one_from_last_j c.args.text.now (Some c.in-Some.result.now)
+    (subst (λ o. IsFromLastJ c.args.text.now (option_map (λ t. t.now) o)) c.in-Some.is c.from_last_j.ensures) in
     some_whole c.read_result.result (λ v. v.items) c.args.text.now c.in-Some.result.now last c.read_result.ensures.whole
 
 pub returns-in-None-clause-reads : goal.returns-in-None-clause-reads
@@ -19,5 +23,6 @@ returns-in-None-clause-reads c = none_reads c.read_journal.result (λ v. v.items
 
 pub returns-in-None-clause-whole : goal.returns-in-None-clause-whole
 returns-in-None-clause-whole c =
-    let none : from_last_j true c.args.text.now ≡ None = sym c.from_last_j.ensures ∙ ap (option_map (λ t. t.now)) c.in-None.is in
+    let none : from_last_j true c.args.text.now ≡ None =
+    one_from_last_j c.args.text.now None (subst (λ o. IsFromLastJ c.args.text.now (option_map (λ t. t.now) o)) c.in-None.is c.from_last_j.ensures) in
     none_whole c.read_journal.result (λ v. v.items) c.args.text.now none c.read_journal.ensures.whole

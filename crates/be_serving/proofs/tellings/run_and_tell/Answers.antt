@@ -1,8 +1,7 @@
 use Rattle.std.proofs.Common.{List, ℕ, ap, ◌∙◌, refl, rules, subst, arith}
-use Rattle.std.specs.Prelude.{Err, IfOk, ◌≡◌, true}
+use Rattle.std.specs.Prelude.{Err, IfOk, OnErr, ◌≡◌, true}
 use Rattle.be_serving.specs.Run.{Wrote, IsEarly, IsLate}
-use Rattle.be_serving.specs.Store.{start}
-use Rattle.be_serving.specs.Telling.{IsToldRun}
+use Rattle.be_serving.specs.Telling.{IsToldInPart, IsToldRun}
 use Rattle.be_serving.specs.declared.faults.RunFault.TheVariants.{Limits}
 use Rattle.be_serving.proofs.LimitLemmas.{no_fault, not_by}
 use Rattle.be_serving.proofs.ReadLemmas.{none_read, read_by, read_late, whole_fits}
@@ -39,11 +38,16 @@ returns-in-Ok-clause-fits g c =
     (omega (arith, c.in-Ok.ensures.fits, c.in-Ok.script.ok.0))
 
 pub returns-in-Ok-clause-fault : goal.returns-in-Ok-clause-fault
-returns-in-Ok-clause-fault g c = stops_late c.run_on_new.result (g.R.Read.remaining c.args.reader.now) (g.W.Write.contents c.args.writer.now) (g.W.Write.contents c.run_on_new.new.writer) c.run_on_new.ensures.late
+returns-in-Ok-clause-fault g c =
+    let old = g.W.Write.contents c.args.writer.now in
+    let new = g.W.Write.contents c.run_on_new.new.writer in
+    stops_late c.run_on_new.result c.args.limits.commits (g.R.Read.remaining c.args.reader.now) (g.R.Read.remaining c.read_script.new.reader) old new c.in-Ok.script.items
+    c.run_on_new.ensures.late c.in-Ok.ensures.ok
+    (subst (λ (script : List ℕ). OnErr c.run_on_new.result (Wrote old new (IsToldInPart c.args.limits.commits script))) c.deref.ensures.value c.run_on_new.ensures.err)
 
 pub returns-in-Err-clause-fault : goal.returns-in-Err-clause-fault
 returns-in-Err-clause-fault g c =
-    stops_early c.in-Err.fault (start c.args.limits.commits) (g.R.Read.remaining c.args.reader.now) (g.R.Read.remaining c.read_script.new.reader) (g.W.Write.contents c.args.writer.now) c.in-Err.ensures.err
+    stops_early c.in-Err.fault c.args.limits.commits (g.R.Read.remaining c.args.reader.now) (g.R.Read.remaining c.read_script.new.reader) (g.W.Write.contents c.args.writer.now) c.in-Err.ensures.err
 
 pub returns-in-Ok-clause-taken : goal.returns-in-Ok-clause-taken
 returns-in-Ok-clause-taken g c =
