@@ -151,6 +151,8 @@ int main(void)
     refuse_all();
     meet_busy();
     CHECK(bes_release(&kept) == BES_OK && bes_release(&by_text) == BES_OK && bes_release(&by_items) == BES_OK);
+    /* A pass that was given back isn't lost where there is no memory for its handle. */
+    CHECK(bes_close(&theirs) == BES_OK && refuse_each(call_another) > 0);
     CHECK(bes_close(&mine) == BES_OK && bes_close(&theirs) == BES_OK);
     puts("ok");
     return 0;

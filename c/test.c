@@ -26,6 +26,7 @@ static void closed_handle(void)
     CHECK(bes_unpin(&pass) == BES_CLOSED);
     CHECK(bes_close(&pass) == BES_CLOSED);
     CHECK(bes_another(&pass, &other) == BES_CLOSED);
+    CHECK(bes_meet(&pass, &number) == BES_CLOSED && number == 7);
     CHECK(bes_move(&pass, &other) == BES_CLOSED);
     CHECK(bes_explain(&pass, (const uint8_t *)"a==1", 4, bytes, 2, &number) == BES_CLOSED && number == 7 && bytes[0] == 7);
     CHECK(bes_apply(&pass, &op, 1, bytes, 0, nodes, 2, &number) == BES_CLOSED && nodes[0] == 7);
@@ -80,6 +81,35 @@ static void opening(void)
     CHECK(bes_close(&mine) == BES_OK && bes_close(&mine) == BES_CLOSED);
     CHECK(bes_close(&theirs) == BES_OK);
     CHECK(bes_close(&third) == BES_CLOSED);
+}
+
+/* Passes that were given back are handed out by any handle of their store, unpinned; those that wait with one, by it alone. */
+static void giving_back(void)
+{
+    bes_pass mine = BES_PASS_INIT, theirs = BES_PASS_INIT, third = BES_PASS_INIT, fourth = BES_PASS_INIT;
+    uint64_t number = 7;
+    CHECK(bes_open(8, 3, 10, &mine) == BES_OK && bes_another(&mine, &theirs) == BES_OK);
+    CHECK(bes_another(&theirs, &third) == BES_NO_PASS);
+    CHECK(bes_pin(&mine, &number) == BES_OK && bes_close(&mine) == BES_OK);
+    CHECK(bes_another(&theirs, &third) == BES_OK && bes_another(&third, &mine) == BES_OK);
+    CHECK(bes_another(&theirs, &fourth) == BES_NO_PASS && bes_another(&mine, &fourth) == BES_NO_PASS);
+    CHECK(bes_pin(&mine, &number) == BES_OK && bes_pin(&third, &number) == BES_OK && number == 0);
+    CHECK(bes_close(&third) == BES_OK && bes_close(&mine) == BES_OK && bes_close(&theirs) == BES_OK);
+}
+
+/* A pass that was given back tells one what another has seen. */
+static void meeting(void)
+{
+    bes_pass mine = BES_PASS_INIT, theirs = BES_PASS_INIT, third = BES_PASS_INIT;
+    uint64_t number = 7, node = 0;
+    CHECK(bes_open(64, 3, 10, &mine) == BES_OK && bes_another(&mine, &theirs) == BES_OK);
+    CHECK(bes_another(&mine, &third) == BES_OK && bes_meet(&mine, &number) == BES_NO_PASS && number == 7);
+    CHECK(bes_close(&third) == BES_OK && bes_meet(&theirs, &number) == BES_OK && number == 0);
+    CHECK(bes_new_node(&mine, &node) == BES_OK && bes_pin(&theirs, &number) == BES_OK && number == 1);
+    CHECK(bes_unpin(&theirs) == BES_OK && bes_new_node(&mine, &node) == BES_OK);
+    CHECK(bes_meet(&mine, &number) == BES_OK && number == 2);
+    CHECK(bes_meet(&theirs, &number) == BES_OK && number == 2);
+    CHECK(bes_close(&mine) == BES_OK && bes_close(&theirs) == BES_OK);
 }
 
 static uint32_t wrong(bes_pass *pass, bes_operation op, size_t count, size_t size)
@@ -590,6 +620,42 @@ static void threads(void)
            (unsigned long long)(users[2].rounds + users[3].rounds), seconds);
 }
 
+/* Takes the pass that no thread has, writes through it and gives it back, and so on. Answers how many writes that were. */
+static void *taker(void *arg)
+{
+    user *it = arg;
+    bes_pass taken = BES_PASS_INIT;
+    for (int64_t i = 0; i < 5000; i++) {
+        uint32_t answer = bes_another(&it->pass, &taken);
+        if (answer == BES_NO_PASS)
+            continue;
+        CHECK(answer == BES_OK && bes_set_int64(&taken, 1, "n", i) == BES_OK && bes_close(&taken) == BES_OK);
+        it->rounds++;
+    }
+    return NULL;
+}
+
+/* Four threads take one pass in turn, each once another has given it back. */
+static void takers(void)
+{
+    static user users[4];
+    pthread_t running[4];
+    bes_pass taken = BES_PASS_INIT;
+    uint64_t number = 0, node = 0;
+    CHECK(bes_open(64, 5, 100000, &users[0].pass) == BES_OK && bes_new_node(&users[0].pass, &node) == BES_OK);
+    for (int i = 1; i < 4; i++)
+        CHECK(bes_another(&users[0].pass, &users[i].pass) == BES_OK);
+    CHECK(bes_another(&users[0].pass, &taken) == BES_OK && bes_close(&taken) == BES_OK);
+    for (int i = 0; i < 4; i++)
+        CHECK(pthread_create(&running[i], NULL, taker, &users[i]) == 0);
+    for (int i = 0; i < 4; i++)
+        CHECK(pthread_join(running[i], NULL) == 0);
+    CHECK(bes_pin(&users[0].pass, &number) == BES_OK);
+    CHECK(number == 1 + users[0].rounds + users[1].rounds + users[2].rounds + users[3].rounds);
+    for (int i = 0; i < 4; i++)
+        CHECK(bes_close(&users[i].pass) == BES_OK);
+}
+
 int main(int argc, char **argv)
 {
     if (argc > 1 && strcmp(argv[1], "short") == 0)
@@ -597,6 +663,8 @@ int main(int argc, char **argv)
     closed_handle();
     closed_prepared();
     opening();
+    giving_back();
+    meeting();
     wrong_writes();
     most();
     no_page_is_free();
@@ -608,5 +676,6 @@ int main(int argc, char **argv)
     journal();
     spent();
     threads();
+    takers();
     return 0;
 }

@@ -80,7 +80,7 @@ enum {
     BES_OPEN = 65,            /* the handle that was to be opened is open */
     BES_NOT_PINNED = 66,      /* the call reads, and the pass isn't pinned */
     BES_PINNED = 67,          /* the pass is pinned already */
-    BES_NO_PASS = 68,         /* each pass of the store is in use */
+    BES_NO_PASS = 68,         /* each pass of the store is in use, or waits with another handle */
     BES_BAD_COUNT = 69,       /* a write of no operation, or of more than 64 */
     BES_NOT_UTF8 = 70,        /* bytes that should be a text are no UTF-8 */
     BES_NO_OPERATION = 71,    /* the number of an operation is none */
@@ -177,8 +177,9 @@ typedef struct bes_counts {
  * BES_OPEN, BES_BAD_LIMITS, BES_NO_MEMORY. */
 uint32_t bes_open(uint64_t pages, uint64_t passes, uint64_t commits, bes_pass *pass);
 
-/* Opens another handle, for a pass of the same store that has none yet. Ask it of the handle that bes_open opened: the
- * others answer BES_NO_PASS. Takes constant time, and memory for the pass.
+/* Opens another handle, for another pass of the same store: the last of those that nobody has used, which wait with the handle
+ * that bes_open opened; where none waits with this handle, one that bes_close gave back, in whatever thread: with all that it
+ * has seen, and its number in the journal. Takes constant time, in the second case a look at each pass, and memory.
  * BES_CLOSED, BES_OPEN (of other), BES_NO_PASS, BES_NO_MEMORY: no pass is lost. */
 uint32_t bes_another(bes_pass *pass, bes_pass *other);
 
@@ -187,10 +188,17 @@ uint32_t bes_another(bes_pass *pass, bes_pass *other);
  * BES_CLOSED, BES_OPEN (of other): both are as they were. */
 uint32_t bes_move(bes_pass *pass, bes_pass *other);
 
-/* Closes the handle, and gives its pin up. Its pass isn't used again: keep it by bes_move where another thread is to go on
- * with it. Takes constant time; with the last handle of its store also the time to give back all pages and the journal.
+/* Closes the handle, and gives its pin up. Its pass goes back to the store, and those that wait with it too: bes_another hands
+ * them out again, asked of any handle of the store in any thread. bes_move keeps the pin. Takes constant time, and a step for
+ * each pass that waits; with the last handle of its store also the time to give back all pages and the journal.
  * BES_CLOSED. */
 uint32_t bes_close(bes_pass *pass);
+
+/* The pass meets one that bes_close gave back: both have then seen what either had, so much of the journal as is put out. A pass
+ * that waits so carries what one thread has seen to another, where each meets it in turn. Takes three steps, and a look at
+ * each pass.
+ * BES_CLOSED, BES_NO_PASS: none is there, or another thread is at it. */
+uint32_t bes_meet(bes_pass *pass, uint64_t *seen);
 
 /* Pins the current version, and puts out its number: how many writes it contains. Takes constant time.
  * BES_CLOSED, BES_PINNED. */

@@ -10,7 +10,8 @@
             print(version.query('MAIL:from == "ann"'))
 
 A `Pass` is one user's place in a store. Each thread has one of its own: the thread that opened the store makes it by
-`another`, before that thread starts, since a pass takes one call at a time. The shared object is looked for beside this file, in ../c, and where the system looks; BESTORE_LIBRARY names another.
+`another`, before that thread starts, since a pass takes one call at a time. The shared object is looked for beside this file,
+in ../c, and where the system looks; BESTORE_LIBRARY names another.
 """
 
 import ctypes
@@ -91,6 +92,7 @@ def _load():
     library.bes_another.argtypes = [handle, handle]
     library.bes_move.argtypes = [handle, handle]
     library.bes_close.argtypes = [handle]
+    library.bes_meet.argtypes = [handle, words]
     library.bes_pin.argtypes = [handle, words]
     library.bes_unpin.argtypes = [handle]
     library.bes_apply.argtypes = [handle, ctypes.POINTER(_Operation), size, text, size, words, size, words]
@@ -110,8 +112,8 @@ def _load():
     library.bes_refresh.argtypes = [handle, handle, ctypes.POINTER(_Updates)]
     library.bes_changes.argtypes = [handle, words, size, words, size]
     library.bes_journal.argtypes = [handle, text, size, words]
-    for call in ("open", "another", "move", "close", "pin", "unpin", "apply", "apply_or_retry", "query", "query_items", "explain",
-                 "get", "attributes", "indices", "prepare", "prepare_items", "release", "query_prepared", "refresh", "changes",
+    for call in ("open", "another", "move", "close", "meet", "pin", "unpin", "apply", "apply_or_retry", "query", "query_items",
+                 "explain", "get", "attributes", "indices", "prepare", "prepare_items", "release", "query_prepared", "refresh", "changes",
                  "journal"):
         getattr(library, "bes_" + call).restype = ctypes.c_uint32
     return library
@@ -278,14 +280,22 @@ class Pass(_Owner):
     """One user's place in a store. `open` makes the first, and `another` the others."""
 
     def another(self):
-        """A pass of the same store for another thread. Ask it of the pass that `open` answered."""
+        """A pass of the same store for another thread. Those that nobody has used wait with the pass that `open` answered; one
+        that was closed is given by each pass of the store."""
         other = Pass()
         _check(_library.bes_another(ctypes.byref(self._handle), ctypes.byref(other._handle)))
         return other
 
     def close(self):
-        """Closes the pass, if it is open. The store goes with its last pass."""
+        """Closes the pass, if it is open, and gives it back: `another` may give it out again. The store goes with its last pass."""
         _library.bes_close(ctypes.byref(self._handle))
+
+    def meet(self):
+        """Meets a pass that was closed: both have then seen what either had. Answers how much of the journal that is. An `Error`
+        of 68 where none is there, or another thread is at it."""
+        seen = ctypes.c_uint64()
+        _check(_library.bes_meet(ctypes.byref(self._handle), ctypes.byref(seen)))
+        return seen.value
 
     def apply(self, batch, tries=1_000_000):
         """Applies a batch, all or none, with so many tries at most while another pass is writing (one at least). Answers the

@@ -123,12 +123,23 @@ class PreparedQueries(unittest.TestCase):
             self.assertEqual(fault.exception.number, 64)
 
 
+class Passes(unittest.TestCase):
+    def test_closed_is_given_again(self):
+        with bestore.open(64, 3, 100) as store, store.another() as other:
+            store.another().close()
+            store.make_index("k", bestore.STRING)
+            self.assertEqual((store.meet(), other.meet()), (1, 1))
+            with other.another() as third:
+                third.new_node()
+                self.assertTrue(store.journal().endswith("2 by 0 new -> 1\n"), store.journal())
+
+
 class WrongUse(unittest.TestCase):
     def test_numbers(self):
         store = bestore.open(64, 1, 100)
         version = store.pin()
         for number, call in [
-            (67, store.pin), (68, store.another), (69, lambda: store.apply(bestore.Batch())),
+            (67, store.pin), (68, store.another), (68, store.meet), (69, lambda: store.apply(bestore.Batch())),
             (12, lambda: version.query("k <")), (17, lambda: version.query("k == 1")), (18, lambda: version.get(1, "")),
         ]:
             with self.assertRaises(bestore.Error) as fault:

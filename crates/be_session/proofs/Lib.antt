@@ -4,3 +4,4 @@ pub mod Built
 pub mod Spelt
 pub mod Covers
 pub mod Same
+pub mod Crosses

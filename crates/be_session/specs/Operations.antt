@@ -26,15 +26,15 @@ AreMeant (o ∷ os) bytes [] = ⊥
 AreMeant (o ∷ os) bytes (op ∷ ops) = IsMeantBy o bytes op × AreMeant os bytes ops
 
 -- both parts of this one lie within so many bytes
-abbrev pub IsWithin : Operation → ℕ → Type 0
-IsWithin o n = (o.name_at + o.name_length ≤ n) × (o.value_at + o.value_length ≤ n)
+abbrev pub ArePartsWithin : Operation → ℕ → Type 0
+ArePartsWithin o n = (o.name_at + o.name_length ≤ n) × (o.value_at + o.value_length ≤ n)
 
 -- these are a spelling of the operations: they mean them, and each part lies within the bytes
 abbrev pub AreSpelled : List Operation → List ℕ → List Op → Type 0
 AreSpelled [] bytes [] = Unit {0}
 AreSpelled [] bytes (op ∷ ops) = ⊥
 AreSpelled (o ∷ os) bytes [] = ⊥
-AreSpelled (o ∷ os) bytes (op ∷ ops) = (IsWithin o (length bytes) × IsMeantBy o bytes op) × AreSpelled os bytes ops
+AreSpelled (o ∷ os) bytes (op ∷ ops) = (ArePartsWithin o (length bytes) × IsMeantBy o bytes op) × AreSpelled os bytes ops
 
 -- the operation that sets this attribute of the node
 abbrev pub sets : ℕ → (List ℕ × Value) → Op

@@ -5,8 +5,12 @@ use Rattle.std.specs.declared.result.Result.{Result}
 use Rattle.be_query.specs.Faults.{fault}
 use Rattle.be_query.specs.View.{IsMemory}
 use Rattle.be_store.specs.History.{IsLastReason, IsReason, Learns}
-use Rattle.be_table.specs.Place.{Opened}
+use Rattle.be_store.specs.Passes.{IsPassOf}
+use Rattle.be_table.specs.History.{StartsWith}
+use Rattle.be_table.specs.Place.{Opened, SeatFacts}
 use Rattle.be_table.specs.Rule.{IsWithin, newcomer}
+use Rattle.be_table.specs.Seats.{pinned_number}
+use Rattle.be_table.specs.Steps.{longer, met}
 use Rattle.be_table.specs.declared.limits.Limits.{Limits}
 use Rattle.be_table.specs.declared.pass.Knowledge.{Knowledge}
 use Rattle.be_value.specs.declared.refusals.Refusal.{Refusal}
@@ -28,6 +32,28 @@ pub record IsOpened (limits : Limits) (s : Sitting) : Type 0 where
   pub limits_are : s.store.limits ≡ limits
   pub count : s.spare + 1 ≡ limits.passes
   pub unused : s.knows ≡ newcomer limits (s.spare + 1) s.spare
+
+-- what a pass of this store knows that isn't pinned
+abbrev pub IsUnpinnedAt : Opened → Knowledge → Type 0
+IsUnpinnedAt store a = (a.limits ≡ store.limits) × (pinned_number a.phase ≡ None)
+
+-- a pass of this store that isn't pinned
+abbrev pub IsUnpinnedOf : Opened → SeatFacts → Type 0
+IsUnpinnedOf store pass = IsPassOf store pass × (pinned_number pass.knows.phase ≡ None)
+
+-- The pass of a further session knows this: it is the last of those that wait here, which has seen and written nothing; or none
+-- waits, and it was given back, and isn't pinned.
+abbrev pub IsHandedOut : Sitting → Sitting → Knowledge → Type 0
+IsHandedOut s t a =
+    ((s.spare ≡ t.spare + 1) × (a ≡ newcomer s.store.limits (t.spare + 1) t.spare))
+    ⊎ ((s.spare ≡ 0) × (t.spare ≡ 0) × IsUnpinnedAt s.store a)
+
+-- A pass has met another one of its store that isn't pinned: it has then seen what either had, of two beginnings of one journal
+-- the longer, which is so long.
+abbrev pub HasMet : Opened → Knowledge → Knowledge → ℕ → Type 0
+HasMet store a c n =
+    (b : Knowledge) × IsUnpinnedAt store b × StartsWith (longer a.seen b.seen) a.seen × StartsWith (longer a.seen b.seen) b.seen
+    × (c ≡ met a (longer a.seen b.seen)) × (n ≡ length (longer a.seen b.seen))
 
 -- why a write did nothing, and what it left: the store's own refusal, or a count that isn't 1 to 64
 abbrev pub IsHeldBack : Knowledge → Knowledge → List Op → Fault → Type 0

@@ -23,22 +23,7 @@ pub struct PredicateItem {
     pub number: u64,
 }
 
-fn joining_item(kind: u32) -> Result<Item, Fault>
-    requires { 9 < kind }
-    ensures ok { IfOk result (λ item. (number : ℕ) (bytes : List ℕ) → IsItemMeant kind number bytes (item_of item)) }
-    ensures err { IfErr result (λ e. (e ≡ NoItem) × (15 < kind)) }
-{
-    match kind {
-        10 => Ok(Item::Contains),
-        11 => Ok(Item::BeginsWith),
-        12 => Ok(Item::EndsWith),
-        13 => Ok(Item::And),
-        14 => Ok(Item::Or),
-        15 => Ok(Item::Not),
-        _ => Err(Fault::NoItem),
-    }
-}
-
+/// An item that does something with those before it.
 fn working_item(kind: u32) -> Result<Item, Fault>
     requires { 3 < kind }
     ensures ok { IfOk result (λ item. (number : ℕ) (bytes : List ℕ) → IsItemMeant kind number bytes (item_of item)) }
@@ -51,7 +36,13 @@ fn working_item(kind: u32) -> Result<Item, Fault>
         7 => Ok(Item::Le),
         8 => Ok(Item::Gt),
         9 => Ok(Item::Ge),
-        _ => joining_item(kind),
+        10 => Ok(Item::Contains),
+        11 => Ok(Item::BeginsWith),
+        12 => Ok(Item::EndsWith),
+        13 => Ok(Item::And),
+        14 => Ok(Item::Or),
+        15 => Ok(Item::Not),
+        _ => Err(Fault::NoItem),
     }
 }
 

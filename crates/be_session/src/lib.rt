@@ -13,6 +13,7 @@ mod passes;
 mod preparing;
 mod retrying;
 mod session;
+mod shared;
 mod spellings;
 
 pub use faults::Fault;
@@ -20,5 +21,5 @@ pub use items::{PredicateItem, query_of_items};
 pub use lists::{Operation, operations};
 pub use meanings::{kind_of_code, name, operation, spelled, value};
 pub use preparing::{Prepared, prepare, prepare_items};
-pub use session::{Session, may_move, query_of};
+pub use session::{Session, may_move, query_of, sent};
 pub use spellings::{Spelling, attributes_spelled, indices_spelled};

@@ -1,7 +1,8 @@
 //! A pass with its share of the store, and its calls.
 ghost use Rattle.std.specs.Prelude.{◌≡◌, ◌⊎◌, ◌≤◌, ◌+◌, ℕ, Ok, IfOk, IfErr, length, string_bytes, vec_len};
 ghost use Rattle.be_session.specs.Explained.{explained_in};
-ghost use Rattle.be_session.specs.Sitting.{AtPin, IsHeldBack, IsHeldBackAtLast, IsNoQuery, IsOpened, IsUnrefreshed, Tells};
+ghost use Rattle.be_session.specs.Sitting.{AtPin, HasMet, IsHandedOut, IsHeldBack, IsHeldBackAtLast, IsNoQuery};
+ghost use Rattle.be_session.specs.Sitting.{IsOpened, IsUnpinnedAt, IsUnrefreshed, Tells};
 ghost use Rattle.be_session.specs.declared.faults.Fault.TheVariants.{AlreadyPinned, NoPass, NotPinned, Refused};
 ghost use Rattle.be_journal.specs.Journal.{IsLegal};
 ghost use Rattle.be_query.specs.Grammar.{IsTextOf};
@@ -21,6 +22,7 @@ use crate::Fault;
 use crate::explaining::cover_text;
 use crate::passes::{put_last, take_last};
 use crate::retrying::apply_or_retry;
+use crate::shared::Shared;
 use be_store::laws::seen_is_legal;
 use be_store::{
     ArrayVec, Done, Kind, Limits, Live, Name, Op, Pass, Query, Refusal, Store, Updates, Value,
@@ -33,7 +35,7 @@ use std::sync::Arc;
 /// A pass, with the store that it is a pass of, and those passes that wait for a session of their own.
 #[derive(Drop)]
 pub struct Session {
-    store: Arc<Store, Global>,
+    shared: Arc<Shared, Global>,
     pass: Pass,
     spare: Vec<Pass>,
 }
@@ -47,9 +49,9 @@ impl Model for Session {
     ghost use Rattle.be_store.specs.Passes.{IsPassOf};
     ghost use Rattle.be_table.specs.Works.{AreNew};
 
-    ghost view = { λ s. record { store = s.store.value; knows = s.pass.knows; spare = vec_len s.spare } };
+    ghost view = { λ s. record { store = s.shared.value; knows = s.pass.knows; spare = vec_len s.spare } };
 
-    ghost invariant = { λ s. IsPassOf s.store.value s.pass × AreNew s.store.value 0 s.spare.items };
+    ghost invariant = { λ s. IsPassOf s.shared.value s.pass × AreNew s.shared.value 0 s.spare.items };
 }
 
 /// A session of a store that nobody shares yet, with the passes that are left over.
@@ -66,8 +68,15 @@ fn seated(
     ensures ok { IfOk result (λ s. IsOpened limits s) }
     ensures err { IfErr result (λ e. (why : AnyRefusal) × (e ≡ Refused why) × IsUnopened limits why) }
 {
-    match Arc::new(alloc, store) {
-        Ok(store) => Ok(Session { store, pass, spare }),
+    let Ok(shared) = Shared::new(alloc, store, limits.passes) else {
+        return Err(Fault::Refused(Refusal::OutOfMemory));
+    };
+    match Arc::new(alloc, shared) {
+        Ok(shared) => Ok(Session {
+            shared,
+            pass,
+            spare,
+        }),
         Err(_) => Err(Fault::Refused(Refusal::OutOfMemory)),
     }
 }
@@ -78,11 +87,56 @@ fn pass_of(session: Session) -> Pass
     ensures knows { result.knows ≡ session.knows }
 {
     let Session {
-        store: _store,
+        shared: _shared,
         pass,
         spare: _spare,
     } = session;
     pass
+}
+
+/// A session with a pass that was given back, in a box. NoPass where none is there, and OutOfMemory: the pass is given back again.
+fn of_returned(alloc: Global, shared: Arc<Shared, Global>) -> Result<Box<Session, Global>, Fault>
+    ensures session { IfOk result (λ s. (s.value.store ≡ shared.value) × (s.value.spare ≡ 0)) }
+    ensures pass { IfOk result (λ s. IsUnpinnedAt shared.value s.value.knows) }
+    ensures err { IfErr result (λ e. (e ≡ NoPass) ⊎ (e ≡ Refused OutOfMemory)) }
+{
+    let Some(pass) = shared.take_returned() else {
+        return Err(Fault::NoPass);
+    };
+    let session = Session {
+        shared,
+        pass,
+        spare: Vec::new(alloc),
+    };
+    match Box::new(alloc, session) {
+        Ok(session) => Ok(session),
+        Err(AllocFailed { value }) => {
+            value.close();
+            Err(Fault::Refused(Refusal::OutOfMemory))
+        }
+    }
+}
+
+/// A session with a pass that nobody has used, in a box. Where memory is refused the pass comes back.
+fn of_unused(
+    alloc: Global,
+    shared: Arc<Shared, Global>,
+    pass: Pass,
+) -> Result<Box<Session, Global>, Pass>
+    requires { IsPassOf shared.value pass }
+    ensures session { IfOk result (λ s. (s.value.store ≡ shared.value) × (s.value.spare ≡ 0)) }
+    ensures knows { IfOk result (λ s. s.value.knows ≡ pass.knows) }
+    ensures err { IfErr result (λ p. IsPassOf shared.value p × (p.knows ≡ pass.knows)) }
+{
+    let session = Session {
+        shared,
+        pass,
+        spare: Vec::new(alloc),
+    };
+    match Box::new(alloc, session) {
+        Ok(session) => Ok(session),
+        Err(AllocFailed { value }) => Err(pass_of(value)),
+    }
 }
 
 impl Session {
@@ -104,35 +158,59 @@ impl Session {
         seated(alloc, limits, store, pass, passes)
     }
 
-    /// A session of the same store, with the last pass that waits, in a box. NoPass where none waits, and OutOfMemory: it
-    /// goes on waiting then.
+    /// A session of the same store, in a box: with the last pass that waits here, or where none does, with one that was given
+    /// back by `close`, in whatever thread. NoPass where there is none of either, and OutOfMemory: the pass stays where it was.
     ///
-    /// It is asked of the session that opened the store: with the others no pass waits.
+    /// Passes that nobody has used wait with the session that opened the store. A pass that was given back has seen what it
+    /// had seen, and its own writes stand in the journal under its number.
     pub fn another(&mut self, alloc: Global) -> Result<Box<Session, Global>, Fault>
         ensures same { (self.new.store ≡ self.old.store) × (self.new.knows ≡ self.old.knows) }
         ensures session { IfOk result (λ s. (s.value.store ≡ self.old.store) × (s.value.spare ≡ 0)) }
-        ensures unused { IfOk result (λ s. s.value.knows ≡ newcomer self.old.store.limits (self.new.spare + 1) self.new.spare) }
-        ensures spare { IfOk result (λ s. self.old.spare ≡ self.new.spare + 1) }
+        ensures pass { IfOk result (λ s. IsHandedOut self.old self.new s.value.knows) }
         ensures err { IfErr result (λ e. (self.new ≡ self.old) × ((e ≡ Refused OutOfMemory) ⊎ ((e ≡ NoPass) × (self.old.spare ≡ 0)))) }
     {
-        let Ok(store) = Arc::try_clone(&self.store) else {
+        let Ok(shared) = Arc::try_clone(&self.shared) else {
             return Err(Fault::Refused(Refusal::OutOfMemory));
         };
-        let Some(pass) = take_last(&self.store, &mut self.spare) else {
-            return Err(Fault::NoPass);
+        let Some(pass) = take_last(self.shared.store(), &mut self.spare) else {
+            return of_returned(alloc, shared);
         };
-        let session = Session {
-            store,
-            pass,
-            spare: Vec::new(alloc),
-        };
-        match Box::new(alloc, session) {
+        match of_unused(alloc, shared, pass) {
             Ok(session) => Ok(session),
-            Err(AllocFailed { value }) => {
-                put_last(&self.store, &mut self.spare, pass_of(value));
+            Err(pass) => {
+                put_last(self.shared.store(), &mut self.spare, pass);
                 Err(Fault::Refused(Refusal::OutOfMemory))
             }
         }
+    }
+
+    /// Gives the pass back, and its pin up, with the passes that wait here: `another` of each session of the store may hand
+    /// them out. A session that is dropped loses them. The store goes with its last session. It waits for nobody.
+    pub fn close(self) {
+        let Session {
+            shared,
+            pass,
+            spare,
+        } = self;
+        shared.give_back(pass);
+        shared.give_back_all(spare);
+    }
+
+    /// Meets a pass that was given back: both have then seen what either had. Answers how much that is. NoPass where none is there,
+    /// or another thread is at it.
+    ///
+    /// So such a pass carries what one session has seen to another, where each meets it in turn.
+    pub fn meet(&mut self) -> Result<u64, Fault>
+        ensures store { (self.new.store ≡ self.old.store) × (self.new.spare ≡ self.old.spare) }
+        ensures ok { IfOk result (λ n. HasMet self.old.store self.old.knows self.new.knows n) }
+        ensures err { IfErr result (λ e. (self.new ≡ self.old) × (e ≡ NoPass)) }
+    {
+        let Some(mut other) = self.shared.take_returned() else {
+            return Err(Fault::NoPass);
+        };
+        let length = self.shared.store().meet(&mut self.pass, &mut other);
+        self.shared.give_back(other);
+        Ok(length)
     }
 
     /// Pins the version that is current, and answers its number: how many writes it has.
@@ -144,7 +222,7 @@ impl Session {
         if self.pass.pinned().is_some() {
             return Err(Fault::AlreadyPinned);
         }
-        Ok(self.store.pin(&mut self.pass))
+        Ok(self.shared.store().pin(&mut self.pass))
     }
 
     /// Gives the pin up.
@@ -156,7 +234,7 @@ impl Session {
         let Some(_) = self.pass.pinned() else {
             return Err(Fault::NotPinned);
         };
-        self.store.unpin(&mut self.pass);
+        self.shared.store().unpin(&mut self.pass);
         Ok(())
     }
 
@@ -171,7 +249,7 @@ impl Session {
         if ops.is_empty() || ops.len() > 64 {
             return Err(Fault::BadCount);
         }
-        Ok(self.store.apply(&mut self.pass, ops)?)
+        Ok(self.shared.store().apply(&mut self.pass, ops)?)
     }
 
     /// Writes as `apply` does, and tries again while another pass is writing, so many times at most after the first. It doesn't
@@ -189,7 +267,7 @@ impl Session {
         if ops.is_empty() || 64 < ops.len() {
             return Err(Fault::BadCount);
         }
-        Ok(apply_or_retry(&self.store, &mut self.pass, ops, retries)?)
+        Ok(apply_or_retry(self.shared.store(), &mut self.pass, ops, retries)?)
     }
 
     /// The text of the journal up to now, which is legal: as the store's own `journal_text`. It needs no pin.
@@ -200,8 +278,8 @@ impl Session {
         ensures text { IfOk result (λ text. string_bytes text ≡ text_seen self.new.knows) }
         ensures err { IfErr result (λ e. (why : AnyRefusal) × (e ≡ Refused why) × IsUntold self.old.knows self.new.knows why) }
     {
-        let answer = self.store.journal_text(&mut self.pass);
-        seen_is_legal(&self.store, &self.pass);
+        let answer = self.shared.store().journal_text(&mut self.pass);
+        seen_is_legal(self.shared.store(), &self.pass);
         Ok(answer?)
     }
 
@@ -215,7 +293,8 @@ impl Session {
         let Some(_) = self.pass.pinned() else {
             return Err(Fault::NotPinned);
         };
-        Ok(self.store.query(alloc, &mut self.pass, query)?.nodes)
+        let store = self.shared.store();
+        Ok(store.query(alloc, &mut self.pass, query)?.nodes)
     }
 
     /// Asks a live query in the pinned version, and tells which nodes came and which went since its last refresh. A fault
@@ -231,7 +310,7 @@ impl Session {
         let Some(_) = self.pass.pinned() else {
             return Err(Fault::NotPinned);
         };
-        Ok(live.refresh(&self.store, &mut self.pass)?)
+        Ok(live.refresh(self.shared.store(), &mut self.pass)?)
     }
 
     /// What a query would be answered from in the pinned version: the comparisons that are picked, in canonical form and joined
@@ -244,7 +323,7 @@ impl Session {
         let Some(_) = self.pass.pinned() else {
             return Err(Fault::NotPinned);
         };
-        let indices = match self.store.indices(alloc, &mut self.pass) {
+        let indices = match self.shared.store().indices(alloc, &mut self.pass) {
             Ok(indices) => indices,
             Err(_) => return Err(Fault::Refused(Refusal::OutOfMemory)),
         };
@@ -260,7 +339,7 @@ impl Session {
         let Some(_) = self.pass.pinned() else {
             return Err(Fault::NotPinned);
         };
-        Ok(self.store.get(&mut self.pass, node, name))
+        Ok(self.shared.store().get(&mut self.pass, node, name))
     }
 
     /// A node's attributes in the pinned version, by ascending bytes of their names.
@@ -273,7 +352,7 @@ impl Session {
         let Some(_) = self.pass.pinned() else {
             return Err(Fault::NotPinned);
         };
-        Ok(self.store.attrs(alloc, &mut self.pass, node)?)
+        Ok(self.shared.store().attrs(alloc, &mut self.pass, node)?)
     }
 
     /// The names and kinds of the pinned version's indices, by ascending bytes of the names.
@@ -285,7 +364,7 @@ impl Session {
         let Some(_) = self.pass.pinned() else {
             return Err(Fault::NotPinned);
         };
-        Ok(self.store.indices(alloc, &mut self.pass)?)
+        Ok(self.shared.store().indices(alloc, &mut self.pass)?)
     }
 }
 
@@ -301,7 +380,7 @@ pub fn query_of(alloc: Global, text: &[u8]) -> Result<Query, Fault>
 }
 
 /// The same value. It compiles only where values of the type may go to another thread.
-fn sent<T: Send>(value: T) -> T
+pub fn sent<T: Send>(value: T) -> T
     ensures { result ≡ value }
 {
     value

@@ -1,6 +1,6 @@
 //! Attributes and indices as other languages are told of them: as the operations that would make them.
 ghost use Rattle.std.specs.Prelude.{◌≡◌, ◌++◌, ℕ, List, IfOk, IfErr, length, map};
-ghost use Rattle.be_session.specs.Operations.{AreSpelled, IsMeantBy, IsWithin, makes, sets};
+ghost use Rattle.be_session.specs.Operations.{AreSpelled, IsMeantBy, ArePartsWithin, makes, sets};
 ghost use Rattle.be_session.specs.declared.faults.Fault.TheVariants.{Refused};
 ghost use Rattle.be_value.specs.declared.refusals.Refusal.TheVariants.{OutOfMemory};
 
@@ -37,7 +37,7 @@ fn spell_attribute(
     value: &Value,
 ) -> Result<Operation, Fault>
     ensures more { IfOk result (λ o. (more : List ℕ) × (bytes.new.items ≡ bytes.old.items ++ more)) }
-    ensures meant { IfOk result (λ o. IsWithin o (length bytes.new.items) × IsMeantBy o bytes.new.items (sets node (name.now, value.now))) }
+    ensures meant { IfOk result (λ o. ArePartsWithin o (length bytes.new.items) × IsMeantBy o bytes.new.items (sets node (name.now, value.now))) }
     ensures err { IfErr result (λ e. e ≡ Refused OutOfMemory) }
 {
     let (code, number, data) = spelled(value);
@@ -57,7 +57,7 @@ fn spell_attribute(
 
 fn spell_index(bytes: &mut Vec<u8>, name: &Name, kind: Kind) -> Result<Operation, Fault>
     ensures more { IfOk result (λ o. (more : List ℕ) × (bytes.new.items ≡ bytes.old.items ++ more)) }
-    ensures meant { IfOk result (λ o. IsWithin o (length bytes.new.items) × IsMeantBy o bytes.new.items (makes (name.now, kind))) }
+    ensures meant { IfOk result (λ o. ArePartsWithin o (length bytes.new.items) × IsMeantBy o bytes.new.items (makes (name.now, kind))) }
     ensures err { IfErr result (λ e. e ≡ Refused OutOfMemory) }
 {
     let (name_at, name_length) = append(bytes, name.as_str().as_bytes())?;

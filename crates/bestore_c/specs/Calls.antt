@@ -9,14 +9,14 @@ use Rattle.be_session.specs.Meaning.{IsNoName, IsValueMeant}
 use Rattle.be_session.specs.Operations.{AreMeant, AreSpelled, IsMisspelt}
 use Rattle.be_session.specs.Explained.{explained_in}
 use Rattle.be_session.specs.Prepared.{IsUnasked, PreparedQuery}
-use Rattle.be_session.specs.Sitting.{IsNoQuery, IsOpened, IsUnrefreshed, Sitting}
+use Rattle.be_session.specs.Sitting.{IsHandedOut, IsNoQuery, IsOpened, IsUnrefreshed, Sitting}
 use Rattle.be_session.specs.declared.faults.Fault.{Fault}
 use Rattle.be_session.specs.declared.items.PredicateItem.{PredicateItem}
 use Rattle.be_session.specs.declared.lists.Operation.{Operation}
 use Rattle.be_store.specs.History.{Accepts, IsUntold, Learns, text_seen}
 use Rattle.be_store.specs.Live.{Refreshes}
 use Rattle.be_store.specs.Passes.{HasRead, IsPinnedTo, volume_pinned}
-use Rattle.be_table.specs.Rule.{IsWithin, entries, newcomer}
+use Rattle.be_table.specs.Rule.{IsWithin, entries}
 use Rattle.be_table.specs.Seats.{pinned_number}
 use Rattle.be_table.specs.Works.{IsUnopened}
 use Rattle.be_table.specs.declared.limits.Limits.{Limits}
@@ -54,13 +54,12 @@ Opens limits (Some s) None code = ⊥
 Opens limits None (Some t) code = (code ≡ 0) × IsOpened limits t
 Opens limits None None code = ((code ≡ 10) × IsWithin limits) ⊎ ((why : Refusal) × (code ≡ refusal_number why) × IsUnopened limits why)
 
--- A second handle: one that is open stays as it was, and the answer is 65; a closed one gets a session of the same store with
--- the last pass that waits, which has seen and written nothing; 68 where none waits, and 10 where memory was refused.
+-- A second handle: one that is open stays as it was, and the answer is 65; a closed one gets a session of the same store, with
+-- which none waits, and with a pass that is handed out; 68 where none waits, and 10 where memory was refused.
 abbrev pub Gives : Sitting → Sitting → Option Sitting → Option Sitting → ℕ → Type 0
 Gives s t (Some o) (Some p) code = (code ≡ 65) × (p ≡ o) × (t ≡ s)
 Gives s t (Some o) None code = ⊥
-Gives s t None (Some p) code =
-    (code ≡ 0) × (p.store ≡ s.store) × (p.spare ≡ 0) × (p.knows ≡ newcomer s.store.limits (t.spare + 1) t.spare) × (t.knows ≡ s.knows) × (s.spare ≡ t.spare + 1)
+Gives s t None (Some p) code = (code ≡ 0) × (p.store ≡ s.store) × (p.spare ≡ 0) × IsHandedOut s t p.knows × (t.knows ≡ s.knows)
 Gives s t None None code = (t ≡ s) × ((code ≡ 10) ⊎ ((code ≡ 68) × (s.spare ≡ 0)))
 
 -- A second handle, of one that may be closed: then both are as they were, and the answer is 64.

@@ -4,6 +4,7 @@ ghost use Rattle.bestore_c.specs.Owned.{holds};
 
 use crate::owned::Owned;
 use crate::owned_query::OwnedQuery;
+use be_session::sent;
 
 /// What C holds for one pass: closed, or open with a session. Zero bytes are a closed one.
 #[repr(C)]
@@ -21,6 +22,13 @@ pub struct PreparedHandle {
     pub live: bool,
     pub owned: OwnedQuery,
     ghost full: { live ≡ holds owned.value },
+}
+
+/// A law of the handle: it may go to another thread, with what it holds. It does nothing.
+pub fn may_move(pass: Handle) -> Handle
+    ensures { result ≡ pass }
+{
+    sent(pass)
 }
 
 /// What C is told of a value: its type code, its length in bytes, and the number that it is, or 0. A signed number is in two's

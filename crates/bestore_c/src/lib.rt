@@ -8,7 +8,7 @@ ghost use Rattle.std.specs.Prelude.{◌≡◌, ◌⊎◌, ◌+◌, None, Ok};
 ghost use Rattle.be_query.specs.Grammar.{IsTextOf};
 ghost use Rattle.be_session.specs.Items.{IsBuilt, IsUnbuilt};
 ghost use Rattle.be_session.specs.Operations.{makes, sets};
-ghost use Rattle.be_session.specs.Sitting.{IsHeldBack, IsHeldBackAtLast, IsNoQuery};
+ghost use Rattle.be_session.specs.Sitting.{HasMet, IsHeldBack, IsHeldBackAtLast, IsNoQuery};
 ghost use Rattle.be_store.specs.History.{Pins};
 ghost use Rattle.be_store.specs.Passes.{HasRead, volume_pinned};
 ghost use Rattle.be_table.specs.Seats.{pinned_number};
@@ -134,7 +134,7 @@ pub extern "C" fn bes_move(alloc: Global, pass: &mut Handle, other: &mut Handle)
     DONE
 }
 
-/// Closes the handle. A pin is given up, and the store goes with its last handle.
+/// Closes the handle. Its pass goes back to the store with the pin given up, and the store goes with its last handle.
 #[unsafe(no_mangle)]
 pub extern "C" fn bes_close(alloc: Global, pass: &mut Handle) -> u32
     ensures closed { pass.new.owned.value ≡ None }
@@ -143,12 +143,32 @@ pub extern "C" fn bes_close(alloc: Global, pass: &mut Handle) -> u32
     if !pass.live {
         return CLOSED;
     }
-    let mut session = mem::replace(&mut pass.owned, Owned::none(alloc)).into_box();
+    let session = mem::replace(&mut pass.owned, Owned::none(alloc)).into_box();
     pass.live = false;
-    // The pin of a pass that is gone would keep its pages for good.
-    let _ = session.unpin();
-    drop(session);
+    Box::into_inner(session).close();
     DONE
+}
+
+/// Meets a pass that was given back: both have then seen what either had. Puts out how much that is.
+#[unsafe(no_mangle)]
+pub extern "C" fn bes_meet(alloc: Global, pass: &mut Handle, seen: &mut u64) -> u32
+    ensures pass { Calls pass.old.owned.value pass.new.owned.value result
+        (λ s t. ((result ≡ 0) × HasMet s.store s.knows t.knows seen.new) ⊎ ((result ≡ 68) × (t ≡ s))) }
+    ensures kept { (result ≡ 0) ⊎ (seen.new ≡ seen.old) }
+{
+    if !pass.live {
+        return CLOSED;
+    }
+    let mut session = mem::replace(&mut pass.owned, Owned::none(alloc)).into_box();
+    let answer = session.meet();
+    pass.owned = Owned::of(session);
+    match answer {
+        Ok(n) => {
+            *seen = n;
+            DONE
+        }
+        Err(fault) => fault.code(),
+    }
 }
 
 /// Pins the current version, and puts out its number.

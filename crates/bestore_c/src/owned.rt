@@ -24,6 +24,8 @@ impl Model for Owned {
     ghost also_owns = { λ p. may_own (ghosts.dealloc_token p.alloc) the_row p.at p.value };
 }
 
+unsafe impl Send for Owned {}
+
 impl Owned {
     pub fn none(alloc: Global) -> Owned
         ensures { result.value ≡ None }
