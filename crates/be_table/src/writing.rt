@@ -3,7 +3,7 @@
 //! A write takes pages, fills them, gives pages up, and publishes. Until it publishes, nothing of it can be seen by
 //! others, and `unlock` undoes it. It is never let go of but by `unlock`, since it has no `Drop`: so the ledger always
 //! comes back.
-ghost use Rattle.std.specs.Prelude.{◌≡◌, ◌≤◌, All, suc, ◌+◌, ◌*◌, ◌^◌, ◌<◌, true, false, [], ◌∷◌, length, count_by, None, MatchResult, ℕ, ◌↔◌};
+ghost use Rattle.std.specs.Prelude.{◌≡◌, ◌≤◌, All, suc, ◌+◌, ◌*◌, ◌^◌, ◌<◌, true, false, [], ◌∷◌, length, count_by, None, MatchResult, ℕ};
 ghost use Rattle.std.specs.Prelude.{map, slice_index, IsTrue, List, IfOk, IfErr, IfSome, IfNone, ◌≢◌, Ok, string_bytes};
 ghost use Rattle.be_volume.specs.Sound.{IsOperation};
 ghost use Rattle.be_pages.specs.declared.room.Standing.TheVariants.{Taken, Filled as Full};
@@ -182,7 +182,8 @@ impl<'a> Writing<'a> {
     /// Whether a scan pays though pages may be free: 256 or more pages are retired beyond those that the last whole scan
     /// had to leave for readers. No step.
     pub fn is_scan_due(&self) -> bool
-        ensures { IsTrue result ↔ self.now.left + 256 ≤ count_by is_retired self.now.knows.places }
+        ensures due { result ≡ true → self.now.left + 256 ≤ count_by is_retired self.now.knows.places }
+        ensures not_yet { result ≡ false → count_by is_retired self.now.knows.places < self.now.left + 256 }
     {
         self.ledger.pool.retired().saturating_sub(self.ledger.left) >= EARLY
     }
