@@ -277,6 +277,39 @@ fn refusal_of_lock(table: &VersionTable, pass: &mut Seat) -> Option<Refusal>
     }
 }
 
+/// Whether a table with these limits is refused for them.
+fn has_bad_limits(alloc: Global, pages: u64, passes: u64, commits: u64) -> bool {
+    let limits = Limits {
+        pages,
+        passes,
+        commits,
+    };
+    matches!(open(alloc, limits), Err(Refusal::BadLimits))
+}
+
+#[test]
+fn open_limits(rt: HostRuntime) -> Result<(), Fail> {
+    let outside = [
+        (7, 1, 1),
+        (16385, 1, 1),
+        (8, 0, 1),
+        (8, 65, 1),
+        (8, 1, 0),
+        (8, 1, 4_294_967_296),
+    ];
+    for (pages, passes, commits) in outside {
+        assert!(rt; has_bad_limits(rt.alloc(), pages, passes, commits));
+    }
+    let least = Limits {
+        pages: 8,
+        passes: 1,
+        commits: 1,
+    };
+    let (_, seats) = opened(rt.alloc(), least)?;
+    assert_eq!(rt; seats.len(), 1);
+    Ok(())
+}
+
 #[test]
 fn busy(rt: HostRuntime) -> Result<(), Fail> {
     let (table, first, mut second) = for_two(rt.alloc(), 64)?;
