@@ -57,5 +57,5 @@ added_within s name l low h high none nodes before Wanted is_low is_high empty o
     let H : Option (List ℕ) → Type 0 = λ b. HasOnly s name low b none nodes in
     let all : HasOnly s name low high none nodes = subst H is_high (subst L is_low only) in
     let by : Contains nodes n × Wanted n → Contains before n ⊎ (IsNodeWithin s name low high n × Wanted n) = λ is.
-    elim (all n is.0) [ inl no ↦ absurd (nothing_in none n empty no) | inr w ↦ inr (w, is.1) ] in
+    elim (all n is.0) [ inl before_all ↦ absurd (nothing_in none n empty before_all) | inr w ↦ inr (w, is.1) ] in
     elim there [ inl old ↦ inl old | inr is ↦ by is ]

@@ -5,7 +5,7 @@ use Rattle.std.specs.Option.{option_map_or}
 use Rattle.std.specs.declared.option.Option.{Option}
 use Rattle.std.specs.declared.option.Option.TheVariants.{None}
 use Rattle.be_value.specs.declared.values.Value.{Value}
-use Rattle.be_query.specs.Grammar.{Formula, Leaf, And, Or, comparisons}
+use Rattle.be_query.specs.Grammar.{Formula, Or, comparisons}
 use Rattle.be_volume.specs.Query.{sat}
 use Rattle.be_volume.specs.Volume.{State}
 use Rattle.be_plan.specs.Cover.{Comparison, leaves, rests_on}
@@ -22,7 +22,7 @@ whole_under f = record {
   places = λ i h. let e : 0 + i ≡ i = omega arith in ap (slice_get (leaves f)) e;
   allows = λ pick name v lo hi h. h;
   tells = λ s node h. h;
-  alone = λ no. refl;
+  alone = λ none. refl;
 }
 
 -- what an "or" allows, by its sides
@@ -33,7 +33,7 @@ by_sides pick from a b name v h = h
 
 -- a part of an "or" is no whole that is none
 side_alone : (whole a b part : Formula) → (is_or whole ≡ false → Or a b ≡ whole) → is_or whole ≡ false → part ≡ whole
-side_alone whole a b part alone no = let e : true ≡ false = ap is_or (alone no) ∙ no in cc
+side_alone whole a b part alone none = let e : true ≡ false = ap is_or (alone none) ∙ none in cc
 
 pub left_under : (whole : Formula) (from : ℕ) (a b : Formula) → IsUnderOr whole from (Or a b) → IsUnderOr whole from a
 left_under whole from a b u = record {

@@ -1,9 +1,10 @@
-use Rattle.std.proofs.Common.{◌≡◌, ◌⊎◌, ◌<◌, ℕ, List, [], true, length, slice_index, refl, sym, ap, ◌∙◌, subst, inl, inr, arith}
+use Rattle.std.proofs.Common.{◌≡◌, ◌⊎◌, ◌<◌, ℕ, List, true, length, slice_index, refl, sym, ◌∙◌, subst, inl, inr, arith}
 use Rattle.std.specs.List.{Contains}
 use Rattle.std.specs.Option.{option_copied}
 use Rattle.std.specs.declared.option.Option.{Option}
 use Rattle.std.proofs.lemmas.List.Elements.{Contains-get_or}
 use borrow.Author.Count.{below_more}
+use Rattle.std.proofs.lemmas.List.{get_or_read}
 use Rattle.be_query.specs.View.{formula}
 use Rattle.be_volume.specs.Query.{sat}
 use Rattle.be_plan.specs.Narrow.{high_of}
@@ -32,7 +33,9 @@ loop-i-preserved g c =
     let inv = c.loop-i.invariant in
     let found = c.add_if_true.new.found.items in
     let here : i < length nodes = omega (arith, c.loop-i-test.true) in
+    let at : c.index.result.now ≡ slice_index nodes i = get_or_read nodes i _ here c.index.ensures 0 in
     let Q : ℕ → Type 0 = λ k. sat g.volume f (slice_index nodes k) ≡ true → Contains found (slice_index nodes k) in
+    let R : ℕ → Type 0 = λ m. sat g.volume f m ≡ true → Contains found m in
     let P : ℕ → Type 0 = λ m. Contains nodes m in
     record {
       stays = c.add_if_true.ensures.stays ∙ inv.stays;
@@ -40,9 +43,9 @@ loop-i-preserved g c =
       keeps = λ n h. c.add_if_true.ensures.keeps n (inv.keeps n h);
       only = λ n h. elim (c.add_if_true.ensures.only n h) [
         | inl old ↦ inv.only n old
-        | inr is ↦ inr (subst P is.0 (Contains-get_or nodes i 0 here), is.1)
+        | inr is ↦ inr (subst P is.0 (subst P (sym at) (Contains-get_or nodes i 0 here)), is.1)
       ];
-      has = below_more Q i (λ k lt holds. c.add_if_true.ensures.keeps (slice_index nodes k) (inv.has k lt holds)) c.in_ok-add_if_true.ensures.has;
+      has = below_more Q i (λ k lt holds. c.add_if_true.ensures.keeps (slice_index nodes k) (inv.has k lt holds)) (subst R at c.in_ok-add_if_true.ensures.has);
     }
 
 pub returns-in_err-add_if_true-clause-keeps : goal.returns-in_err-add_if_true-clause-keeps
@@ -53,10 +56,11 @@ returns-in_err-add_if_true-clause-only g c = λ n h.
     let f = formula c.args.tree.now in
     let nodes = c.nodes_within.new.found.items in
     let here : c.loop-i.i < length nodes = omega (arith, c.loop-i-test.true) in
+    let at : c.index.result.now ≡ slice_index nodes c.loop-i.i = get_or_read nodes c.loop-i.i _ here c.index.ensures 0 in
     let P : ℕ → Type 0 = λ m. Contains nodes m in
     let there : Contains c.args.found.now.items n ⊎ (Contains nodes n × (sat g.volume f n ≡ true)) = elim (c.add_if_true.ensures.only n h) [
       | inl old ↦ c.loop-i.invariant.only n old
-      | inr is ↦ inr (subst P is.0 (Contains-get_or nodes c.loop-i.i 0 here), is.1)
+      | inr is ↦ inr (subst P is.0 (subst P (sym at) (Contains-get_or nodes c.loop-i.i 0 here)), is.1)
     ] in
     added_within g.volume c.args.name.now _ c.args.range.now.low.items _ (high_of c.args.range.now) _ nodes c.args.found.now.items (λ m. sat g.volume f m ≡ true)
     c.low.ensures c.high.ensures c.in_ok-nodes.ensures.items (c.nodes_within.ensures.only g.volume c.requires.1) n there
