@@ -66,10 +66,10 @@ fn removals(alloc: Global) -> Result<Journal, Refusal> {
     Ok(journal)
 }
 
-/// So many nodes that were made.
-fn nodes(alloc: Global, count: u64) -> Result<Journal, Refusal> {
-    let mut journal = Journal::new(alloc, count);
-    for node in 1..=count {
+/// 1,100 nodes that were made.
+fn nodes(alloc: Global) -> Result<Journal, Refusal> {
+    let mut journal = Journal::new(alloc, 1_100);
+    for node in 1..=1_100 {
         push(alloc, &mut journal, Op::New, Done::Node(node))?;
     }
     Ok(journal)
@@ -84,7 +84,7 @@ fn example(alloc: Global, name: &str) -> Result<Journal, Refusal> {
         "batches" => batches(alloc),
         "values" => values(alloc),
         "removals" => removals(alloc),
-        "long" => nodes(alloc, 1_100),
+        "long" => nodes(alloc),
         _ => Ok(Journal::new(alloc, 1)),
     }
 }
