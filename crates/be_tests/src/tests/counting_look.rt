@@ -112,7 +112,7 @@ fn steps<L: Look>(look: &mut L, root: u64, count: u64) -> bool
 
 /// How many words are read of a hundred pairs by look-ups, by ranges and by a cursor's steps, and how many pages are free once
 /// they are cleared; nothing where one of them isn't found.
-fn read_counts(alloc: Global) -> Result<Option<[u64; 4]>, Refusal> {
+fn read_counts(alloc: Global) -> Result<Option<(u64, u64, u64, u64)>, Refusal> {
     let mut room = room_of(alloc, 64)?;
     let root = filled(&mut room, 100)?;
     let mut look = Counting {
@@ -133,13 +133,13 @@ fn read_counts(alloc: Global) -> Result<Option<[u64; 4]>, Refusal> {
     let stepped = look.reads.wrapping_sub(found).wrapping_sub(ranged);
     let mut room = look.look;
     clear(&mut room, root);
-    Ok(Some([found, ranged, stepped, room.free()]))
+    Ok(Some((found, ranged, stepped, room.free())))
 }
 
 /// A hundred pairs stand in two levels: some forty words a look-up, one word a step and the pair's own.
 #[test]
 fn counting_look(rt: HostRuntime) -> Result<(), Fail> {
-    let Some([found, ranged, stepped, free]) = read_counts(rt.alloc())? else {
+    let Some((found, ranged, stepped, free)) = read_counts(rt.alloc())? else {
         return Err(Fail::new("a pair isn't found"));
     };
     assert!(rt; found < 201 * 50);
