@@ -110,41 +110,25 @@ fn steps<L: Look>(look: &mut L, root: u64, count: u64) -> bool
     cursor.next_key(look).is_none()
 }
 
-/// How many words are read of a hundred pairs by look-ups, by ranges and by a cursor's steps, and how many pages are free once
-/// they are cleared; nothing where one of them isn't found.
-fn read_counts(alloc: Global) -> Result<Option<(u64, u64, u64, u64)>, Refusal> {
-    let mut room = room_of(alloc, 64)?;
+/// A hundred pairs stand in two levels: some forty words a look-up, one word a step and the pair's own.
+#[test]
+fn counting_look(rt: HostRuntime) -> Result<(), Fail> {
+    let mut room = room_of(rt.alloc(), 64)?;
     let root = filled(&mut room, 100)?;
     let mut look = Counting {
         look: room,
         reads: 0,
     };
-    if !finds(&mut look, root, 100) {
-        return Ok(None);
-    }
+    assert!(rt; finds(&mut look, root, 100));
     let found = look.reads;
-    if !ranges(&mut look, root, 100) {
-        return Ok(None);
-    }
-    let ranged = look.reads.wrapping_sub(found);
-    if !steps(&mut look, root, 100) {
-        return Ok(None);
-    }
-    let stepped = look.reads.wrapping_sub(found).wrapping_sub(ranged);
+    assert!(rt; found < 201 * 50);
+    assert!(rt; ranges(&mut look, root, 100));
+    let ranged = look.reads;
+    assert!(rt; ranged < found + 101 * 50);
+    assert!(rt; steps(&mut look, root, 100));
+    assert!(rt; look.reads < ranged + 101 * 8);
     let mut room = look.look;
     clear(&mut room, root);
-    Ok(Some((found, ranged, stepped, room.free())))
-}
-
-/// A hundred pairs stand in two levels: some forty words a look-up, one word a step and the pair's own.
-#[test]
-fn counting_look(rt: HostRuntime) -> Result<(), Fail> {
-    let Some((found, ranged, stepped, free)) = read_counts(rt.alloc())? else {
-        return Err(Fail::new("a pair isn't found"));
-    };
-    assert!(rt; found < 201 * 50);
-    assert!(rt; ranged < 101 * 50);
-    assert!(rt; stepped < 101 * 8);
-    assert_eq!(rt; free, 64);
+    assert_eq!(rt; room.free(), 64);
     Ok(())
 }
