@@ -8,18 +8,19 @@ ghost use Rattle.std.specs.List.{range_with_len};
 ghost use Rattle.be_volume.specs.Maps.{name_cmp};
 ghost use Rattle.be_pages.specs.Pages.{IsUnchanged, is_readable};
 ghost use Rattle.be_paged.specs.Entry.{Entry as AnyEntry};
-ghost use Rattle.be_paged.specs.Page.{contents_of, entry_at, IsEntry, IsGapAt, IsNamedAt, IsVersionPage};
+ghost use Rattle.be_paged.specs.Page.{contents_of, entry_at, kind_numbered, IsEntry, IsGapAt, IsNamedAt, IsVersionPage};
 
-use crate::entry::{kind_numbered, word_from};
+use crate::entry::word_from;
 use be_pages::Look;
-use be_value::{Kind, Name};
+use be_value::Name;
 use std::cmp::Ordering;
 
-/// An index of a version page: its number among them, its kind and the root of its tree.
+/// An index of a version page: its number among them, the number of its kind and the root of its tree. All are whole words: a kind of one byte would
+/// leave a gap behind it, and that is copied in halves which overlap, so that each copy waits for a store.
 #[derive(Clone, Copy)]
 pub(crate) struct FoundIndex {
     pub(crate) place: usize,
-    pub(crate) kind: Kind,
+    pub(crate) kind_number: u64,
     pub(crate) root: u64,
 }
 
@@ -28,7 +29,9 @@ pub(crate) fn find_index<L: Look>(look: &mut L, page: u64, name: &Name) -> Optio
     requires readable { IsTrue (is_readable (L.standing look.old page)) }
     requires page { IsVersionPage (L.words look.old page) }
     ensures found { IfSome result (λ at. IsNamedAt (contents_of (L.words look.new page)).entries name.now at.place) }
-    ensures kind { IfSome result (λ at. (d : AnyEntry) → at.kind ≡ (slice_index_or (contents_of (L.words look.new page)).entries at.place d).kind) }
+    ensures number { IfSome result (λ at. (1 ≤ at.kind_number) × (at.kind_number ≤ 7)) }
+    ensures kind { IfSome result (λ at. (d : AnyEntry) → kind_numbered at.kind_number
+        ≡ (slice_index_or (contents_of (L.words look.new page)).entries at.place d).kind) }
     ensures root { IfSome result (λ at. (d : AnyEntry) → at.root ≡ (slice_index_or (contents_of (L.words look.new page)).entries at.place d).root) }
     ensures absent { IfNone result ((i : ℕ) × IsGapAt (contents_of (L.words look.new page)).entries name.now i) }
     ensures unchanged { IsUnchanged L.kept L.standing L.words look.old look.new }
@@ -78,15 +81,16 @@ fn index_at<L: Look>(look: &mut L, page: u64, i: usize) -> FoundIndex
     requires page { IsVersionPage (L.words look.old page) }
     requires in_range { i < L.words look.old page 1 }
     ensures place { result.place ≡ i }
-    ensures kind { (d : AnyEntry) → result.kind ≡ (slice_index_or (contents_of (L.words look.old page)).entries i d).kind }
+    ensures number { (1 ≤ result.kind_number) × (result.kind_number ≤ 7) }
+    ensures kind { (d : AnyEntry) → kind_numbered result.kind_number ≡ (slice_index_or (contents_of (L.words look.old page)).entries i d).kind }
     ensures root { (d : AnyEntry) → result.root ≡ (slice_index_or (contents_of (L.words look.old page)).entries i d).root }
     ensures unchanged { IsUnchanged L.kept L.standing L.words look.old look.new }
 {
-    let kind = kind_numbered(look.word(page, 13 + 11 * i));
+    let kind_number = look.word(page, 13 + 11 * i);
     let root = look.word(page, 14 + 11 * i);
     FoundIndex {
         place: i,
-        kind,
+        kind_number,
         root,
     }
 }

@@ -14,6 +14,7 @@ ghost use Rattle.be_paged.specs.Source.{StandsBehind};
 ghost use Rattle.be_paged.specs.Version.{IsVersion};
 ghost use Rattle.be_paged.specs.Entry.{Entry as AnyEntry};
 
+use crate::entry::kind_numbered;
 use crate::on_page::{FoundIndex, find_index};
 use crate::reading::get;
 use arrayvec::ArrayVec;
@@ -97,7 +98,7 @@ impl<L: Look> Source for PagedSource<L> {
 
     fn kind_of(&mut self, name: &Name) -> Option<Kind> {
         match find_index(&mut self.look, self.page, name) {
-            Some(index) => Some(index.kind),
+            Some(index) => Some(kind_numbered(index.kind_number)),
             None => None,
         }
     }

@@ -17,7 +17,7 @@ returns-in-Some-clause-answer g c = λ volume of.
     let w = g.L.Look.words c.find_index.new.look in
     let since = c.in-Some.ensures.unchanged in
     let version = version_since (g.L.Look.standing self.look) (g.L.Look.standing c.find_index.new.look) (g.L.Look.words self.look) w self.page volume since.standing since.words of.version in
-    ap (λ (k : Kind). Some k) (c.in-Some.ensures.kind nowhere)
+    ap (λ (k : Kind). Some k) (c.kind_numbered.ensures ∙ c.in-Some.ensures.kind nowhere)
     ∙ kind_found w (contents_of (w self.page)).entries volume.indices c.args.name.now c.in-Some.index.place nowhere version.spells.indices c.in-Some.ensures.found
 
 pub returns-in-None-clause-answer : goal.returns-in-None-clause-answer
