@@ -17,8 +17,8 @@ pub(crate) fn expect(holds: bool, text: &str) -> Result<(), Fail> {
     if holds { Ok(()) } else { Err(Fail::new(text)) }
 }
 
-/// Fails unless both forms give this attribute: `NODE NAME` stand in the text.
-fn expect_attribute(both: &mut Both, text: &str, expected: &str) -> Result<(), Fail> {
+/// Whether both forms give this attribute: `NODE NAME` stand in the text.
+fn gives_attribute(both: &mut Both, text: &str, expected: &str) -> Result<bool, Fail> {
     let Some((node, name)) = text.split_once(" ") else {
         return Err(Fail::new(text));
     };
@@ -26,106 +26,116 @@ fn expect_attribute(both: &mut Both, text: &str, expected: &str) -> Result<(), F
         return Err(Fail::new(text));
     };
     let value = both.get(node, &Name::new(name)?)?;
-    expect(is_attribute(&value, expected), text)
+    Ok(is_attribute(&value, expected))
 }
 
-/// Fails unless both forms give these attributes.
-fn expect_attributes(
+/// Whether both forms give these attributes.
+fn gives_attributes(
     alloc: Global,
     both: &mut Both,
     node: &str,
     expected: &str,
-) -> Result<(), Fail> {
+) -> Result<bool, Fail> {
     let Some(number) = read_number(node) else {
         return Err(Fail::new(node));
     };
     let list = both.attrs(alloc, number)?;
-    expect(is_list(&list, expected), node)
+    Ok(is_list(&list, expected))
 }
 
-/// Fails unless both forms give these indices.
-fn expect_indices(alloc: Global, both: &mut Both, expected: &str) -> Result<(), Fail> {
+/// Whether both forms give these indices.
+fn gives_indices(alloc: Global, both: &mut Both, expected: &str) -> Result<bool, Fail> {
     let list = both.indices(alloc)?;
-    expect(are_indices(&list, expected), "other indices")
+    Ok(are_indices(&list, expected))
 }
 
-/// Fails unless both forms give this answer to a query.
-fn expect_nodes(
+/// Whether both forms give this answer to a query.
+fn gives_nodes(
     alloc: Global,
     both: Both,
     text: &str,
     pick: Option<usize>,
     expected: &str,
-) -> Result<Both, Fail> {
+) -> Result<(Both, bool), Fail> {
     let query = read_query(alloc, text)?;
     let (both, answer) = both.query(alloc, &query, pick)?;
-    expect(is_answer(&answer, expected), text)?;
-    Ok(both)
+    let holds = is_answer(&answer, expected);
+    Ok((both, holds))
 }
 
-/// The same of a query by one pick, whose place stands before it in the text.
-fn expect_picked(alloc: Global, both: Both, text: &str, expected: &str) -> Result<Both, Fail> {
+/// A pick's place, and the query behind it.
+fn read_pick(text: &str) -> Result<(usize, &str), Fail> {
     let Some((place, query)) = text.split_once(" ") else {
         return Err(Fail::new(text));
     };
     let Some(place) = read_number(place) else {
         return Err(Fail::new(text));
     };
-    expect_nodes(alloc, both, query, Some(usize::try_from(place)?), expected)
+    Ok((usize::try_from(place)?, query))
 }
 
-/// Fails unless both forms give this reply to a list of operations.
-fn expect_write(alloc: Global, both: Both, request: &str, expected: &str) -> Result<Both, Fail> {
+/// Whether both forms give this reply to a list of operations.
+fn gives_written(
+    alloc: Global,
+    both: Both,
+    request: &str,
+    expected: &str,
+) -> Result<(Both, bool), Fail> {
     let ops = read_ops(alloc, request)?;
     let (both, answer) = both.write(&ops)?;
-    expect(is_written(&answer, expected), request)?;
-    Ok(both)
+    let holds = is_written(&answer, expected);
+    Ok((both, holds))
 }
 
-/// Fails unless both forms give this reply to a list, to a query or, the room alone, of how many pages are free.
-fn reply_moved(alloc: Global, both: Both, request: &str, expected: &str) -> Result<Both, Fail> {
+/// Whether both forms give this reply to a list, to a query or, the room alone, of how many pages are free.
+fn reply_moved(
+    alloc: Global,
+    both: Both,
+    request: &str,
+    expected: &str,
+) -> Result<(Both, bool), Fail> {
     if let Some(text) = request.strip_prefix("query ") {
-        return expect_nodes(alloc, both, text, None, expected);
+        return gives_nodes(alloc, both, text, None, expected);
     }
     if let Some(text) = request.strip_prefix("pick ") {
-        return expect_picked(alloc, both, text, expected);
+        let (place, query) = read_pick(text)?;
+        return gives_nodes(alloc, both, query, Some(place), expected);
     }
     if request == "free" {
-        expect(
-            is_number(both.room.free(), expected),
-            "another number of pages is free",
-        )?;
-        return Ok(both);
+        let holds = is_number(both.room.free(), expected);
+        return Ok((both, holds));
     }
-    expect_write(alloc, both, request, expected)
+    gives_written(alloc, both, request, expected)
 }
 
-/// Fails unless both forms give this reply.
-fn reply(alloc: Global, both: Both, request: &str, expected: &str) -> Result<Both, Fail> {
+/// Whether both forms give this reply.
+fn reply(alloc: Global, both: Both, request: &str, expected: &str) -> Result<(Both, bool), Fail> {
     let mut both = both;
     if let Some(text) = request.strip_prefix("get ") {
-        expect_attribute(&mut both, text, expected)?;
-        return Ok(both);
+        let holds = gives_attribute(&mut both, text, expected)?;
+        return Ok((both, holds));
     }
     if let Some(node) = request.strip_prefix("attrs ") {
-        expect_attributes(alloc, &mut both, node, expected)?;
-        return Ok(both);
+        let holds = gives_attributes(alloc, &mut both, node, expected)?;
+        return Ok((both, holds));
     }
     if request == "indices" {
-        expect_indices(alloc, &mut both, expected)?;
-        return Ok(both);
+        let holds = gives_indices(alloc, &mut both, expected)?;
+        return Ok((both, holds));
     }
     reply_moved(alloc, both, request, expected)
 }
 
-/// Does the requests, and gives what stands then.
+/// Does the requests, and gives what stands then. Fails with the line at which a form gives another reply.
 pub(crate) fn run_lines(alloc: Global, both: Both, lines: &str) -> Result<Both, Fail> {
     let mut both = both;
     for line in lines.lines() {
         let Some((request, expected)) = line.split_once(" => ") else {
             return Err(Fail::new("no reply"));
         };
-        both = reply(alloc, both, request, expected)?;
+        let (next, holds) = reply(alloc, both, request, expected)?;
+        both = next;
+        expect(holds, line)?;
     }
     Ok(both)
 }
