@@ -219,10 +219,12 @@ fn take_operand<'a>(
             context.depth += 1;
             Ok(Stage::Operand)
         }
-        Token::Text(raw) => match read_name(alloc, raw)? {
-            Some(_) => Ok(Stage::Operator(raw)),
-            None => Err(Refusal::Syntax(at)),
-        },
+        Token::Text(raw) => {
+            if !spells_name(alloc, raw)? {
+                return Err(Refusal::Syntax(at));
+            }
+            Ok(Stage::Operator(raw))
+        }
         Token::Close | Token::Both | Token::Either | Token::Compares(_) => Err(Refusal::Syntax(at)),
     }
 }
@@ -317,6 +319,27 @@ fn take_joint<'a>(
             Ok(Stage::Joint(tree))
         }
         Token::Open | Token::Bang | Token::Compares(_) | Token::Text(_) => Err(Refusal::Syntax(at)),
+    }
+}
+
+/// Whether a text spells a name.
+fn spells_name(alloc: Global, raw: &str) -> Result<bool, AllocError>
+    ensures { IfOk result (λ b. b ≡ is_name raw.now) }
+{
+    if is_plain(raw) {
+        return Ok(can_name(raw));
+    }
+    let text = unescape(alloc, raw)?;
+    Ok(can_name(&text))
+}
+
+/// Whether a text is a name.
+fn can_name(text: &str) -> bool
+    ensures { result ≡ is_ok (name_from text.now) }
+{
+    match Name::new(text) {
+        Ok(_) => true,
+        Err(_) => false,
     }
 }
 
