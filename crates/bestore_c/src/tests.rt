@@ -4,9 +4,9 @@ use crate::owned::Owned;
 use crate::owned_query::OwnedQuery;
 use crate::{
     bes_another, bes_apply, bes_apply_or_retry, bes_attributes, bes_changes, bes_close,
-    bes_explain, bes_get, bes_indices, bes_journal, bes_move, bes_open, bes_pin, bes_prepare,
-    bes_prepare_items, bes_query, bes_query_items, bes_query_prepared, bes_refresh, bes_release,
-    bes_unpin,
+    bes_explain, bes_get, bes_indices, bes_journal, bes_meet, bes_move, bes_open, bes_pin,
+    bes_prepare, bes_prepare_items, bes_query, bes_query_items, bes_query_prepared, bes_refresh,
+    bes_release, bes_unpin,
 };
 use be_session::{Operation, PredicateItem};
 use std::alloc::Global;
@@ -105,6 +105,25 @@ fn reads_and_closes(rt: HostRuntime) -> Result<(), Fail> {
     assert_eq!(rt; bes_unpin(alloc, &mut mine), 0);
     assert_eq!(rt; bes_close(alloc, &mut mine), 0);
     assert_eq!(rt; bes_close(alloc, &mut mine), 64);
+    Ok(())
+}
+
+#[test]
+fn gives_back_and_meets(rt: HostRuntime) -> Result<(), Fail> {
+    let alloc = rt.alloc();
+    let mut mine = closed(alloc);
+    let mut theirs = closed(alloc);
+    let (mut number, mut made) = (7, [0; 1]);
+    assert_eq!(rt; bes_open(alloc, 64, 2, 10, &mut mine), 0);
+    assert_eq!(rt; bes_meet(alloc, &mut mine, &mut number), 68);
+    assert_eq!(rt; bes_another(alloc, &mut mine, &mut theirs), 0);
+    let list = [spelled(0, 0)];
+    let answer = bes_apply(alloc, &mut theirs, &list, b"kv", &mut made, &mut number);
+    assert_eq!(rt; (answer, number), (0, 1));
+    assert_eq!(rt; bes_close(alloc, &mut theirs), 0);
+    assert_eq!(rt; bes_meet(alloc, &mut mine, &mut number), 0);
+    assert_eq!(rt; bes_another(alloc, &mut mine, &mut theirs), 0);
+    assert_eq!(rt; bes_pin(alloc, &mut theirs, &mut number), 0);
     Ok(())
 }
 
