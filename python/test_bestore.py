@@ -131,7 +131,7 @@ class Passes(unittest.TestCase):
             self.assertEqual((store.meet(), other.meet()), (1, 1))
             with other.another() as third:
                 third.new_node()
-                self.assertTrue(store.journal().endswith("2 by 0 new -> 1\n"), store.journal())
+                self.assertTrue(store.journal().endswith("2 by 0 new -> node 1\n"), store.journal())
 
 
 class WrongUse(unittest.TestCase):
