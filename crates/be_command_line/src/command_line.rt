@@ -24,6 +24,24 @@ const JOURNAL: &str = "journal";
 /// The arguments of `race`.
 const SCRIPT: &str = "SCRIPT";
 
+/// An option that takes a number between these two, and is the default where it isn't given.
+fn number_option<'a>(
+    alloc: Global,
+    name: &'a str,
+    help: &'a str,
+    least: i64,
+    most: i64,
+    default: &'a str,
+) -> Arg<'a> {
+    Arg::new(alloc, name)
+        .long(name)
+        .value_name("N")
+        .help(help)
+        .action(ArgAction::Set)
+        .value_parser(value_parser!(u64).range(least..=most))
+        .default_value(default)
+}
+
 /// A command that takes the limits of a store, and its files.
 fn command<'a>(
     alloc: Global,
@@ -31,20 +49,22 @@ fn command<'a>(
     about: &'a str,
     files: Arg<'a>,
 ) -> Result<Command<'a>, AllocError> {
-    let pages = Arg::new(alloc, "pages")
-        .long("pages")
-        .value_name("N")
-        .help("Pages of 4096 bytes, 8 to 16384")
-        .action(ArgAction::Set)
-        .value_parser(value_parser!(u64).range(8..=16384))
-        .default_value("1024");
-    let commits = Arg::new(alloc, "commits")
-        .long("commits")
-        .value_name("N")
-        .help("The most accepted writes, 1 to 4294967295")
-        .action(ArgAction::Set)
-        .value_parser(value_parser!(u64).range(1..=4294967295))
-        .default_value("1000000");
+    let pages = number_option(
+        alloc,
+        "pages",
+        "Pages of 4096 bytes, 8 to 16384",
+        8,
+        16384,
+        "1024",
+    );
+    let commits = number_option(
+        alloc,
+        "commits",
+        "The most accepted writes, 1 to 4294967295",
+        1,
+        4294967295,
+        "1000000",
+    );
     Command::new(alloc, name)
         .about(about)
         .arg(pages)?

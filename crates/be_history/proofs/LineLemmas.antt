@@ -21,8 +21,8 @@ use Rattle.be_volume.specs.declared.ops.Op.{Op}
 use Rattle.be_volume.specs.declared.ops.Op.TheVariants.{New, Drop, Set, Unset, MkIndex, RmIndex}
 use Rattle.be_journal.specs.declared.entries.Entry.{Entry}
 use Rattle.be_journal.specs.Text.{done_text, entry_line, hex, hex_digit, op_text, quoted, value_text}
-use Rattle.be_history.specs.History.{CanBeDone, CanBeOp, HasBytes, IsWritten}
-use Rattle.be_history.specs.Parts.{IsPart}
+use Rattle.be_history.specs.History.{CanBeDone, CanBeOp, HasBytes, CanBeEntry}
+use Rattle.be_history.specs.Parts.{IsLinePart}
 use Rattle.be_history.proofs.Cuts.{after, before, behind_by, behind_line, behind_number, by_part, done_in, dones_part, first_line, ops_part, without_last_two}
 use Rattle.be_history.proofs.NumberLemmas.{decimal_digits, word_of_decimal}
 use Rattle.be_history.proofs.PartLemmas.{both_parts, bytes_part, hex_part, is_word_byte, no_part, part_before, part_whole, quoted_part, unlike, words_part}
@@ -55,10 +55,10 @@ differs d end h g = unlike is_ascii_digit d end h g
 
 -- Parts of a line, for an end that is no byte of words and no quote.
 module _ (end : ℕ) (g : is_word_byte end ≡ false) (other : nat_eq 34 end ≡ false) where
-  decimal_part : (n : ℕ) → n < 2 ^ 64 → IsPart end (decimal n)
+  decimal_part : (n : ℕ) → n < 2 ^ 64 → IsLinePart end (decimal n)
   decimal_part n h = words_part end (decimal n) g (digits_words (decimal n) (decimal_digits n h))
 
-  kind_part : (k : Kind) → IsPart end (kind_name k)
+  kind_part : (k : Kind) → IsLinePart end (kind_name k)
   kind_part kinds.Cstr = words_part end (kind_name kinds.Cstr) g refl
   kind_part kinds.Long = words_part end (kind_name kinds.Long) g refl
   kind_part kinds.Llng = words_part end (kind_name kinds.Llng) g refl
@@ -67,10 +67,10 @@ module _ (end : ℕ) (g : is_word_byte end ≡ false) (other : nat_eq 34 end ≡
   kind_part kinds.Ulng = words_part end (kind_name kinds.Ulng) g refl
   kind_part kinds.Ullg = words_part end (kind_name kinds.Ullg) g refl
 
-  blank_part : (text : List ℕ) → IsPart end text → IsPart end (codes " " ++ text)
+  blank_part : (text : List ℕ) → IsLinePart end text → IsLinePart end (codes " " ++ text)
   blank_part text h = both_parts end (codes " ") text (words_part end (codes " ") g refl) h
 
-  value_part : (v : Value) → IsValue v → HasBytes v → IsPart end (value_text v)
+  value_part : (v : Value) → IsValue v → HasBytes v → IsLinePart end (value_text v)
   value_part (Cstr text) is bytes = quoted_part end text other
   value_part (Long (pos n)) is bytes = decimal_part n (omega (arith, is))
   value_part (Long (negsuc n)) is bytes = both_parts end (45 ∷ []) (decimal (suc n)) (words_part end (45 ∷ []) g refl)
@@ -83,7 +83,7 @@ module _ (end : ℕ) (g : is_word_byte end ≡ false) (other : nat_eq 34 end ≡
   value_part (Ulng n) is bytes = decimal_part n (omega (arith, is))
   value_part (Ullg n) is bytes = decimal_part n is
 
-  pub op_part : (op : Op) → CanBeOp op → IsPart end (op_text op)
+  pub op_part : (op : Op) → CanBeOp op → IsLinePart end (op_text op)
   op_part New h = words_part end (codes "new") g refl
   op_part (Drop node) h = both_parts end (codes "drop ") (decimal node) (words_part end (codes "drop ") g refl) (decimal_part node h.1)
   op_part (Set node name value) h =
@@ -99,17 +99,17 @@ module _ (end : ℕ) (g : is_word_byte end ≡ false) (other : nat_eq 34 end ≡
       (both_parts end (quoted name) _ (quoted_part end name other) (blank_part (kind_name kind) (kind_part kind)))
   op_part (RmIndex name) h = both_parts end (codes "rmindex ") (quoted name) (words_part end (codes "rmindex ") g refl) (quoted_part end name other)
 
-  pub done_part : (done : Done) → CanBeDone done → IsPart end (done_text done)
+  pub done_part : (done : Done) → CanBeDone done → IsLinePart end (done_text done)
   done_part (Node node) h = both_parts end (codes "node ") (decimal node) (words_part end (codes "node ") g refl) (decimal_part node h)
   done_part Nothing h = words_part end (codes "ok") g refl
 
   -- What is joined by `; ` is a part of what ends otherwise.
-  pub joined_part : {X : Type 0} (P : X → Type 0) (text_of : X → List ℕ) → ((x : X) → P x → IsPart end (text_of x)) → IsPart end (codes "; ") →
+  pub joined_part : {X : Type 0} (P : X → Type 0) (text_of : X → List ℕ) → ((x : X) → P x → IsLinePart end (text_of x)) → IsLinePart end (codes "; ") →
       (xs : List X) → All P xs →
-      IsPart end (flat_map (λ y. codes "; " ++ text_of y) xs)
+      IsLinePart end (flat_map (λ y. codes "; " ++ text_of y) xs)
   joined_part P text_of each parted [] h = no_part end
   joined_part P text_of each parted (x ∷ xs) h =
-      subst (λ (l : List ℕ). IsPart end l) (sym (flat_map-cons (λ y. codes "; " ++ text_of y) x xs))
+      subst (λ (l : List ℕ). IsLinePart end l) (sym (flat_map-cons (λ y. codes "; " ++ text_of y) x xs))
       (both_parts end (codes "; " ++ text_of x) _ (both_parts end (codes "; ") (text_of x) parted (each x (All-head P x xs h)))
       (joined_part P text_of each parted xs (All-tail P x xs h)))
 
@@ -151,21 +151,21 @@ drop_past (x ∷ xs) =
     ap (λ n. drop n (x ∷ xs)) one ∙ drop_past xs
 
 -- what stands before an end that follows a part, and behind it
-pub before_end : (end : ℕ) (xs ys : List ℕ) → IsPart end xs → before end (xs ++ end ∷ ys) ≡ xs
+pub before_end : (end : ℕ) (xs ys : List ℕ) → IsLinePart end xs → before end (xs ++ end ∷ ys) ≡ xs
 before_end end xs ys h = ap (λ n. take n (xs ++ end ∷ ys)) (part_before end xs ys h) ∙ take_front xs (end ∷ ys)
 
-pub after_end : (end : ℕ) (xs ys : List ℕ) → IsPart end xs → after end (xs ++ end ∷ ys) ≡ ys
+pub after_end : (end : ℕ) (xs ys : List ℕ) → IsLinePart end xs → after end (xs ++ end ∷ ys) ≡ ys
 after_end end xs ys h = ap (λ n. drop (n + 1) (xs ++ end ∷ ys)) (part_before end xs ys h) ∙ drop_one_more xs ys end
 
 -- and of a part alone
-pub before_none : (end : ℕ) (xs : List ℕ) → IsPart end xs → before end xs ≡ xs
+pub before_none : (end : ℕ) (xs : List ℕ) → IsLinePart end xs → before end xs ≡ xs
 before_none end xs h = ap (λ n. take n xs) (part_whole end xs h) ∙ take_length xs
 
-pub after_none : (end : ℕ) (xs : List ℕ) → IsPart end xs → after end xs ≡ []
+pub after_none : (end : ℕ) (xs : List ℕ) → IsLinePart end xs → after end xs ≡ []
 after_none end xs h = ap (λ n. drop (n + 1) xs) (part_whole end xs h) ∙ drop_past xs
 
 -- the first of what is joined by `; `
-pub first_joined : {X : Type 0} (text_of : X → List ℕ) (x : X) (xs : List X) → IsPart 59 (text_of x) →
+pub first_joined : {X : Type 0} (text_of : X → List ℕ) (x : X) (xs : List X) → IsLinePart 59 (text_of x) →
     before 59 (join_by text_of (codes "; ") (x ∷ xs)) ≡ text_of x
 first_joined text_of x [] h = ap (before 59) (append-nil (text_of x)) ∙ before_none 59 (text_of x) h
 first_joined text_of x (y ∷ ys) h =
@@ -173,7 +173,7 @@ first_joined text_of x (y ∷ ys) h =
     ap (λ l. before 59 (text_of x ++ l)) (flat_map-cons (λ z. codes "; " ++ text_of z) y ys) ∙ before_end 59 (text_of x) (32 ∷ (text_of y ++ more)) h
 
 -- and the others
-pub rest_joined : {X : Type 0} (text_of : X → List ℕ) (x : X) (xs : List X) → IsPart 59 (text_of x) →
+pub rest_joined : {X : Type 0} (text_of : X → List ℕ) (x : X) (xs : List X) → IsLinePart 59 (text_of x) →
     drop 1 (after 59 (join_by text_of (codes "; ") (x ∷ xs))) ≡ join_by text_of (codes "; ") xs
 rest_joined text_of x [] h = ap (λ l. drop 1 (after 59 l)) (append-nil (text_of x)) ∙ ap (drop 1) (after_none 59 (text_of x) h)
 rest_joined text_of x (y ∷ ys) h =
@@ -183,25 +183,25 @@ rest_joined text_of x (y ∷ ys) h =
 
 -- what is joined by `; ` is a part of what ends otherwise
 pub list_part : {X : Type 0} (end : ℕ) (P : X → Type 0) (text_of : X → List ℕ) → is_word_byte end ≡ false → nat_eq 34 end ≡ false →
-    ((x : X) → P x → IsPart end (text_of x)) → IsPart end (codes "; ") → (xs : List X) → All P xs →
-    IsPart end (join_by text_of (codes "; ") xs)
+    ((x : X) → P x → IsLinePart end (text_of x)) → IsLinePart end (codes "; ") → (xs : List X) → All P xs →
+    IsLinePart end (join_by text_of (codes "; ") xs)
 list_part end P text_of g other each parted [] h = no_part end
 list_part end P text_of g other each parted (x ∷ xs) h =
     both_parts end (text_of x) _ (each x (All-head P x xs h)) (joined_part end g other P text_of each parted xs (All-tail P x xs h))
 
 -- digits alone end before a blank too
-pub digits_part : (end : ℕ) (ds : List ℕ) → is_ascii_digit end ≡ false → all_ascii_digits ds ≡ true → IsPart end ds
+pub digits_part : (end : ℕ) (ds : List ℕ) → is_ascii_digit end ≡ false → all_ascii_digits ds ≡ true → IsLinePart end ds
 digits_part end [] g h = no_part end
 digits_part end (d ∷ ds) g h =
     let p = and_parts (is_ascii_digit d) (all_ascii_digits ds) h in
     both_parts end (d ∷ []) ds (bytes_part end (d ∷ []) (rw (differs d end p.0 g) (rw (differs d 34 p.0 refl) refl))) (digits_part end ds g p.1)
 
 -- the first line of a text
-pub first_taken : (xs ys : List ℕ) → IsPart 10 xs → first_line (xs ++ 10 ∷ ys) ≡ xs ++ 10 ∷ []
+pub first_taken : (xs ys : List ℕ) → IsLinePart 10 xs → first_line (xs ++ 10 ∷ ys) ≡ xs ++ 10 ∷ []
 first_taken xs ys h = ap (λ n. take (n + 1) (xs ++ 10 ∷ ys)) (part_before 10 xs ys h) ∙ take_one_more xs ys 10
 
 -- The parts of an entry's line.
-module _ (number : ℕ) (entry : Entry) (w : IsWritten entry) where
+module _ (number : ℕ) (entry : Entry) (w : CanBeEntry entry) where
   abbrev pub ops_of : List ℕ
   ops_of = join_by op_text (codes "; ") entry.ops
 
@@ -219,7 +219,7 @@ module _ (number : ℕ) (entry : Entry) (w : IsWritten entry) where
       ap (drop (length (decimal number ++ codes " by "))) (sym (append_assoc (decimal number) (codes " by ") (decimal entry.by ++ 32 ∷ behind_pass)))
       ∙ drop_front (decimal number ++ codes " by ") (decimal entry.by ++ 32 ∷ behind_pass)
 
-  pub pass_part : IsPart 32 (decimal entry.by)
+  pub pass_part : IsLinePart 32 (decimal entry.by)
   pass_part = digits_part 32 (decimal entry.by) refl (decimal_digits entry.by w.by)
 
   pub by_read : by_part number (entry_line number entry) ≡ decimal entry.by
@@ -228,7 +228,7 @@ module _ (number : ℕ) (entry : Entry) (w : IsWritten entry) where
   by_taken : behind_by number (entry_line number entry) ≡ behind_pass
   by_taken = ap (after 32) number_taken ∙ after_end 32 (decimal entry.by) behind_pass pass_part
 
-  pub before_arrow : IsPart 62 (ops_of ++ codes " -")
+  pub before_arrow : IsLinePart 62 (ops_of ++ codes " -")
   before_arrow = both_parts 62 ops_of (codes " -")
       (list_part 62 CanBeOp op_text refl refl (λ op h. op_part 62 refl refl op h) (bytes_part 62 (codes "; ") refl)
       entry.ops w.ops)
@@ -246,7 +246,7 @@ module _ (number : ℕ) (entry : Entry) (w : IsWritten entry) where
   ops_read = ap (λ l. without_last_two (before 62 l)) (by_taken ∙ arrow_split)
       ∙ (ap without_last_two (before_end 62 (ops_of ++ codes " -") (32 ∷ behind_arrow) before_arrow) ∙ less_two ops_of)
 
-  pub answers_part : IsPart 10 dones_of
+  pub answers_part : IsLinePart 10 dones_of
   answers_part = list_part 10 CanBeDone done_text refl refl (λ done h. done_part 10 refl refl done h)
       (bytes_part 10 (codes "; ") refl) entry.dones w.dones
 
@@ -264,7 +264,7 @@ module _ (number : ℕ) (entry : Entry) (w : IsWritten entry) where
       sym (append_assoc (decimal number) _ (10 ∷ []) ∙ ap (λ l. decimal number ++ (codes " by " ++ l)) (append_assoc (decimal entry.by) _ (10 ∷ [])
       ∙ ap (λ l. decimal entry.by ++ (codes " " ++ l)) (append_assoc ops_of _ (10 ∷ []) ∙ ap (λ l. ops_of ++ l) a)))
 
-  pub body_part : number < 2 ^ 64 → IsPart 10 body
+  pub body_part : number < 2 ^ 64 → IsLinePart 10 body
   body_part h =
       both_parts 10 (decimal number) _ (digits_part 10 (decimal number) refl (decimal_digits number h))
       (both_parts 10 (codes " by ") _ (words_part 10 (codes " by ") refl refl)

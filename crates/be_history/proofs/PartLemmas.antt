@@ -12,7 +12,7 @@ use Rattle.std.specs.Char.{encode_utf8}
 use Rattle.std.specs.List.{list_all, flat_map}
 use Rattle.std.specs.Str.{chars}
 use Rattle.be_journal.specs.Text.{escaped, quoted}
-use Rattle.be_history.specs.Parts.{IsApart, IsPart, Piece, byte, in_quotes, piece_text}
+use Rattle.be_history.specs.Parts.{IsApart, IsLinePart, Piece, byte, in_quotes, piece_text}
 use Rattle.be_history.specs.declared.parts.Quoting.{Quoting}
 use Rattle.be_history.specs.declared.parts.Quoting.TheVariants.{Outside, Inside, Escaped}
 use Rattle.be_history.proofs.Cuts.{behind, is_end, length_to}
@@ -187,11 +187,11 @@ pieces_closed end (piece ∷ pieces) h =
     (both_closed end (piece_text piece) (flat_map piece_text pieces) (piece_closed end piece (All-head (IsApart end) piece pieces h))
     (pieces_closed end pieces (All-tail (IsApart end) piece pieces h)))
 
-part_closed : (end : ℕ) (text : List ℕ) → IsPart end text → IsClosed end text
+part_closed : (end : ℕ) (text : List ℕ) → IsLinePart end text → IsClosed end text
 part_closed end text h = subst (λ (l : List ℕ). IsClosed end l) (sym h.is) (pieces_closed end h.pieces h.apart)
 
 -- a part ends before the end that follows it
-pub part_before : (end : ℕ) (xs ys : List ℕ) → IsPart end xs → length_to end Outside (xs ++ end ∷ ys) ≡ length xs
+pub part_before : (end : ℕ) (xs ys : List ℕ) → IsLinePart end xs → length_to end Outside (xs ++ end ∷ ys) ≡ length xs
 part_before end xs ys part =
     let h = part_closed end xs part in
     let here : nat_eq end end ≡ true = grind (arith, nat_tests) in
@@ -201,7 +201,7 @@ part_before end xs ys part =
     ∙ (ap (λ n. length xs + n) stops ∙ sum))
 
 -- and with the text
-pub part_whole : (end : ℕ) (xs : List ℕ) → IsPart end xs → length_to end Outside xs ≡ length xs
+pub part_whole : (end : ℕ) (xs : List ℕ) → IsLinePart end xs → length_to end Outside xs ≡ length xs
 part_whole end xs part =
     let h = part_closed end xs part in
     let sum : length xs + 0 ≡ length xs = omega arith in
@@ -209,17 +209,17 @@ part_whole end xs part =
 
 -- The parts of lines.
 
-pub no_part : (end : ℕ) → IsPart end []
+pub no_part : (end : ℕ) → IsLinePart end []
 no_part end = record { pieces = []; apart = All-nil (IsApart end); is = refl }
 
-pub both_parts : (end : ℕ) (xs ys : List ℕ) → IsPart end xs → IsPart end ys → IsPart end (xs ++ ys)
+pub both_parts : (end : ℕ) (xs ys : List ℕ) → IsLinePart end xs → IsLinePart end ys → IsLinePart end (xs ++ ys)
 both_parts end xs ys h g = record {
   pieces = h.pieces ++ g.pieces;
   apart = All-append (IsApart end) h.pieces g.pieces h.apart g.apart;
   is = ap (λ l. l ++ ys) h.is ∙ (ap (λ l. flat_map piece_text h.pieces ++ l) g.is ∙ sym (flat_map-append piece_text h.pieces g.pieces));
 }
 
-one_piece : (end : ℕ) (piece : Piece) → IsApart end piece → IsPart end (piece_text piece)
+one_piece : (end : ℕ) (piece : Piece) → IsApart end piece → IsLinePart end (piece_text piece)
 one_piece end piece h = record {
   pieces = piece ∷ [];
   apart = All-cons (IsApart end) piece [] h (All-nil (IsApart end));
@@ -234,7 +234,7 @@ not_so false h = refl
 not_so true h = cc
 
 -- bytes without quotes
-pub bytes_part : (end : ℕ) (xs : List ℕ) → list_all (is_apart_byte end) xs ≡ true → IsPart end xs
+pub bytes_part : (end : ℕ) (xs : List ℕ) → list_all (is_apart_byte end) xs ≡ true → IsLinePart end xs
 bytes_part end [] h = no_part end
 bytes_part end (x ∷ xs) h =
     let p = and_parts (is_apart_byte end x) (list_all (is_apart_byte end) xs) h in
@@ -243,7 +243,7 @@ bytes_part end (x ∷ xs) h =
     (one_piece end (byte x) (other_byte x end (not_so (nat_eq x end) q.0), other_byte x 34 (not_so (nat_eq x 34) q.1))) (bytes_part end xs p.1)
 
 -- words without quotes
-pub words_part : (end : ℕ) (xs : List ℕ) → is_word_byte end ≡ false → list_all is_word_byte xs ≡ true → IsPart end xs
+pub words_part : (end : ℕ) (xs : List ℕ) → is_word_byte end ≡ false → list_all is_word_byte xs ≡ true → IsLinePart end xs
 words_part end [] g h = no_part end
 words_part end (x ∷ xs) g h =
     let p = and_parts (is_word_byte x) (list_all is_word_byte xs) h in
@@ -251,7 +251,7 @@ words_part end (x ∷ xs) g h =
     (one_piece end (byte x) (other_byte x end (is_other x end p.0 g), other_byte x 34 (is_other x 34 p.0 refl))) (words_part end xs g p.1)
 
 -- a name or a text in quotes
-pub quoted_part : (end : ℕ) (text : List ℕ) → nat_eq 34 end ≡ false → IsPart end (quoted text)
+pub quoted_part : (end : ℕ) (text : List ℕ) → nat_eq 34 end ≡ false → IsLinePart end (quoted text)
 quoted_part end text other = one_piece end (in_quotes (chars text)) (other_byte 34 end other)
 
 -- letters and digits are printed in quotes as they are
@@ -269,9 +269,9 @@ words_escaped (x ∷ xs) h =
     flat_map-cons escaped x xs ∙ (ap (λ l. l ++ flat_map escaped xs) (word_escaped x p.0) ∙ ap (λ l. x ∷ l) (words_escaped xs p.1))
 
 -- raw bytes in quotes
-pub hex_part : (end : ℕ) (digits : List ℕ) → nat_eq 34 end ≡ false → list_all is_word_byte digits ≡ true → IsPart end (34 ∷ (digits ++ 34 ∷ []))
+pub hex_part : (end : ℕ) (digits : List ℕ) → nat_eq 34 end ≡ false → list_all is_word_byte digits ≡ true → IsLinePart end (34 ∷ (digits ++ 34 ∷ []))
 hex_part end digits other h =
-    subst (λ (l : List ℕ). IsPart end (34 ∷ (l ++ 34 ∷ []))) (words_escaped digits h) (one_piece end (in_quotes digits) (other_byte 34 end other))
+    subst (λ (l : List ℕ). IsLinePart end (34 ∷ (l ++ 34 ∷ []))) (words_escaped digits h) (one_piece end (in_quotes digits) (other_byte 34 end other))
 
 -- A part that ends with an LF is within a line.
 
@@ -286,7 +286,7 @@ pieces_line (piece ∷ pieces) h =
     ∙ both_in_line (piece_text piece) (flat_map piece_text pieces) (piece_line piece (All-head (IsApart 10) piece pieces h))
     (pieces_line pieces (All-tail (IsApart 10) piece pieces h))
 
-pub part_line : (text : List ℕ) → IsPart 10 text → list_all in_line text ≡ true
+pub part_line : (text : List ℕ) → IsLinePart 10 text → list_all in_line text ≡ true
 part_line text h = ap (list_all in_line) h.is ∙ pieces_line h.pieces h.apart
 
 -- How the code steps over a text.
@@ -328,9 +328,9 @@ pub counted_on : (end : ℕ) (quoting : Quoting) (rest more : List ℕ) (c : ℕ
 counted_on end quoting rest more c is here = ap (length_to end quoting) is ∙ rw here refl
 
 -- the count of bytes before the first end
-pub counted_ends : (end count : ℕ) (text : List ℕ) → count ≡ length_to end Outside text → (part more : List ℕ) → IsPart end part → text ≡ part ++ end ∷ more →
+pub counted_ends : (end count : ℕ) (text : List ℕ) → count ≡ length_to end Outside text → (part more : List ℕ) → IsLinePart end part → text ≡ part ++ end ∷ more →
     count ≡ length part
 counted_ends end count text is part more h e = is ∙ (ap (length_to end Outside) e ∙ part_before end part more h)
 
-pub counted_alone : (end count : ℕ) (text : List ℕ) → count ≡ length_to end Outside text → IsPart end text → count ≡ length text
+pub counted_alone : (end count : ℕ) (text : List ℕ) → count ≡ length_to end Outside text → IsLinePart end text → count ≡ length text
 counted_alone end count text is h = is ∙ part_whole end text h

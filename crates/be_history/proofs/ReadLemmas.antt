@@ -13,8 +13,8 @@ use Rattle.be_volume.specs.declared.ops.Done.{Done}
 use Rattle.be_volume.specs.declared.ops.Done.TheVariants.{Node, Unit as Nothing}
 use Rattle.be_volume.specs.declared.ops.Op.{Op}
 use Rattle.be_volume.specs.declared.ops.Op.TheVariants.{New, Drop, Set, Unset, MkIndex, RmIndex}
-use Rattle.be_history.specs.History.{AreWritten, CanBeDone, CanBeOp, IsWritten, entry_of}
-use Rattle.be_history.specs.Parts.{IsPart}
+use Rattle.be_history.specs.History.{CanBeJournal, CanBeDone, CanBeOp, CanBeEntry, entry_of}
+use Rattle.be_history.specs.Parts.{IsLinePart}
 use Rattle.be_history.proofs.LineLemmas.{body, body_line, body_part}
 
 pub inside : {X : Type 0} (x y : X) → Some x ≡ Some y → x ≡ y
@@ -38,12 +38,12 @@ pub all_left : {X : Type 0} (P : X → Type 0) (text_of : X → List ℕ) (text 
 all_left P text_of text xs are is = (xs, refl, is)
 
 -- The first element's text and that of the others, where what is joined by `; ` is cut at its first end.
-pub joined_cut : {X : Type 0} (P : X → Type 0) (text_of : X → List ℕ) (rest part behind : List ℕ) → ((y : X) → P y → IsPart 59 (text_of y)) →
-    ((xs more : List ℕ) → IsPart 59 xs → rest ≡ xs ++ 59 ∷ more → (part ≡ xs) × (behind ≡ more)) → (IsPart 59 rest → (part ≡ rest) × (behind ≡ [])) →
+pub joined_cut : {X : Type 0} (P : X → Type 0) (text_of : X → List ℕ) (rest part behind : List ℕ) → ((y : X) → P y → IsLinePart 59 (text_of y)) →
+    ((xs more : List ℕ) → IsLinePart 59 xs → rest ≡ xs ++ 59 ∷ more → (part ≡ xs) × (behind ≡ more)) → (IsLinePart 59 rest → (part ≡ rest) × (behind ≡ [])) →
     (y : X) (more : List X) → P y → rest ≡ join_by text_of (codes "; ") (y ∷ more) → (part ≡ text_of y) × (drop 1 behind ≡ join_by text_of (codes "; ") more)
 joined_cut P text_of rest part behind each ends alone y [] can now =
     let is : rest ≡ text_of y = now ∙ append-nil (text_of y) in
-    let cut = alone (subst (λ (l : List ℕ). IsPart 59 l) (sym is) (each y can)) in
+    let cut = alone (subst (λ (l : List ℕ). IsLinePart 59 l) (sym is) (each y can)) in
     (cut.0 ∙ is, ap (λ l. drop 1 l) cut.1)
 joined_cut P text_of rest part behind each ends alone y (z ∷ zs) can now =
     let more = flat_map (λ x. codes "; " ++ text_of x) zs in
@@ -101,7 +101,7 @@ none_left {X} P text_of text rest read long none left xs are is = let h = left x
 -- The same of a journal: the entries that were read, and the text of the others.
 abbrev pub AreLeft : List ℕ → List Entry → List ℕ → Type 0
 AreLeft text read rest =
-    (entries : List Entry) → AreWritten entries → text ≡ lines_from 1 entries →
+    (entries : List Entry) → CanBeJournal entries → text ≡ lines_from 1 entries →
     (more : List Entry) × (entries ≡ read ++ more) × (rest ≡ lines_from (1 + length read) more)
 
 pub all_lines_left : (text : List ℕ) → AreLeft text [] text
@@ -110,11 +110,11 @@ all_lines_left text entries are is = (entries, refl, is)
 -- that the line of the first entry, and the text of the others, are these
 abbrev pub IsLineCut : ℕ → List ℕ → List ℕ → List ℕ → Type 0
 IsLineCut number rest first rest' =
-    (e : Entry) (more : List ℕ) → IsWritten e → rest ≡ entry_line number e ++ more → (first ≡ entry_line number e) × (rest' ≡ more)
+    (e : Entry) (more : List ℕ) → CanBeEntry e → rest ≡ entry_line number e ++ more → (first ≡ entry_line number e) × (rest' ≡ more)
 
 -- so they are where the text is cut at its first LF
 pub line_cut : (number : ℕ) (rest first rest' : List ℕ) → number < 2 ^ 64 →
-    ((line more : List ℕ) → IsPart 10 line → rest ≡ line ++ 10 ∷ more → (first ≡ line ++ 10 ∷ []) × (rest' ≡ more)) → IsLineCut number rest first rest'
+    ((line more : List ℕ) → IsLinePart 10 line → rest ≡ line ++ 10 ∷ more → (first ≡ line ++ 10 ∷ []) × (rest' ≡ more)) → IsLineCut number rest first rest'
 line_cut number rest first rest' small cut e more w now =
     let whole : rest ≡ body number e w ++ 10 ∷ more = now ∙ (ap (λ l. l ++ more) (body_line number e w) ∙ append_assoc (body number e w) (10 ∷ []) more) in
     let parted = cut (body number e w) more (body_part number e w small) whole in
@@ -122,7 +122,7 @@ line_cut number rest first rest' small cut e more w now =
 
 -- an entry more
 pub less_lines_left : (text rest first rest' : List ℕ) (read read' : List Entry) (entry : Entry) → 1 ≤ length rest → AreLeft text read rest →
-    IsLineCut (1 + length read) rest first rest' → ((e : Entry) → IsWritten e → first ≡ entry_line (1 + length read) e → entry ≡ e) →
+    IsLineCut (1 + length read) rest first rest' → ((e : Entry) → CanBeEntry e → first ≡ entry_line (1 + length read) e → entry ≡ e) →
     read' ≡ read ++ entry ∷ [] → AreLeft text read' rest'
 less_lines_left text rest first rest' read read' entry some left cut exact read_is entries are is = let h = left entries are is in by h.0 h.1 h.2
   where
@@ -136,7 +136,7 @@ less_lines_left text rest first rest' read read' entry some left cut exact read_
         (more : List Entry) × (entries ≡ read' ++ more) × (rest' ≡ lines_from (1 + length read') more)
     by [] same last = absurd (omega (arith, some, ap length last))
     by (e ∷ more) same now =
-        let can : IsWritten e = All-head IsWritten e more (all_right IsWritten read (e ∷ more) (subst (All IsWritten) same are.0)) in
+        let can : CanBeEntry e = All-head CanBeEntry e more (all_right CanBeEntry read (e ∷ more) (subst (All CanBeEntry) same are.0)) in
         let parted = cut e (lines_from (n + 1) more) can now in
         let here : entry ≡ e = exact e can parted.0 in (
           more,
@@ -146,17 +146,17 @@ less_lines_left text rest first rest' read read' entry some left cut exact read_
 
 -- what is left begins with the line of such an entry
 pub first_line_left : (text rest first rest' : List ℕ) (read : List Entry) → 1 ≤ length rest → AreLeft text read rest →
-    IsLineCut (1 + length read) rest first rest' → (entries : List Entry) → AreWritten entries → text ≡ lines_from 1 entries →
-    (entry : Entry) × IsWritten entry × (first ≡ entry_line (1 + length read) entry)
+    IsLineCut (1 + length read) rest first rest' → (entries : List Entry) → CanBeJournal entries → text ≡ lines_from 1 entries →
+    (entry : Entry) × CanBeEntry entry × (first ≡ entry_line (1 + length read) entry)
 first_line_left text rest first rest' read some left cut entries are is = let h = left entries are is in by h.0 h.1 h.2
   where
     n : ℕ
     n = 1 + length read
 
-    by : (more : List Entry) → entries ≡ read ++ more → rest ≡ lines_from n more → (entry : Entry) × IsWritten entry × (first ≡ entry_line n entry)
+    by : (more : List Entry) → entries ≡ read ++ more → rest ≡ lines_from n more → (entry : Entry) × CanBeEntry entry × (first ≡ entry_line n entry)
     by [] same last = absurd (omega (arith, some, ap length last))
     by (e ∷ more) same now =
-        let can : IsWritten e = All-head IsWritten e more (all_right IsWritten read (e ∷ more) (subst (All IsWritten) same are.0)) in
+        let can : CanBeEntry e = All-head CanBeEntry e more (all_right CanBeEntry read (e ∷ more) (subst (All CanBeEntry) same are.0)) in
         (e, can, (cut e (lines_from (n + 1) more) can now).0)
 
 -- a line has its LF at least
@@ -167,7 +167,7 @@ entry_line_long n e = let long = length-append (decimal n) (codes " by " ++ behi
     behind_by = decimal e.by ++ (codes " " ++ (join_by op_text (codes "; ") e.ops ++ (codes " -> " ++ (join_by done_text (codes "; ") e.dones ++ codes "\n"))))
 
 -- no line is left
-pub no_lines_left : (text rest : List ℕ) (read : List Entry) → length rest ≡ 0 → AreLeft text read rest → (entries : List Entry) → AreWritten entries →
+pub no_lines_left : (text rest : List ℕ) (read : List Entry) → length rest ≡ 0 → AreLeft text read rest → (entries : List Entry) → CanBeJournal entries →
     text ≡ lines_from 1 entries → read ≡ entries
 no_lines_left text rest read none left entries are is = let h = left entries are is in by h.0 h.1 h.2
   where
@@ -201,7 +201,7 @@ done_long (Node node) h = omega arith
 done_long Nothing h = omega arith
 
 -- the lists of an entry are those of one
-pub entry_made : (entry : Entry) → IsWritten entry → entry_of entry.by entry.ops entry.dones ≡ Some entry
+pub entry_made : (entry : Entry) → CanBeEntry entry → entry_of entry.by entry.ops entry.dones ≡ Some entry
 entry_made entry w =
     let some : nat_le 1 (length entry.ops) ≡ true = grind (arith, nat_tests, w.is.0) in
     let few : nat_le (length entry.ops) 64 ≡ true = grind (arith, nat_tests, w.is.1) in

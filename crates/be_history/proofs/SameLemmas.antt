@@ -8,8 +8,8 @@ use Rattle.be_journal.specs.declared.entries.Entry.{Entry}
 use Rattle.be_language.specs.Request.{asked, write}
 use Rattle.be_volume.specs.declared.ops.Done.{Done}
 use Rattle.be_volume.specs.declared.ops.Op.{Op}
-use Rattle.be_history.specs.History.{CanBeDone, CanBeOp, IsWritten, entry_of}
-use Rattle.be_history.specs.Parts.{IsPart}
+use Rattle.be_history.specs.History.{CanBeDone, CanBeOp, CanBeEntry, entry_of}
+use Rattle.be_history.specs.Parts.{IsLinePart}
 use Rattle.be_history.proofs.Cuts.{after, before, behind_line, by_part, done_in, dones_part, first_line, ops_part}
 use Rattle.be_history.proofs.LineLemmas.{by_read, done_part, done_read, dones_read, first_joined, line_behind, line_first, op_part, ops_read, rest_joined}
 use Rattle.be_history.proofs.OpLemmas.{op_asked}
@@ -25,7 +25,7 @@ same_done : (x y : Done) → CanBeDone x → CanBeDone y → done_text x ≡ don
 same_done x y h g e = sym (done_read x h) ∙ (ap done_in e ∙ done_read y g)
 
 -- what is joined by `; `
-same_lists : {X : Type 0} (P : X → Type 0) (text_of : X → List ℕ) → ((x : X) → P x → IsPart 59 (text_of x)) → ((x : X) → P x → 1 ≤ length (text_of x)) →
+same_lists : {X : Type 0} (P : X → Type 0) (text_of : X → List ℕ) → ((x : X) → P x → IsLinePart 59 (text_of x)) → ((x : X) → P x → 1 ≤ length (text_of x)) →
     ((x y : X) → P x → P y → text_of x ≡ text_of y → x ≡ y) → (xs ys : List X) → All P xs → All P ys →
     join_by text_of (codes "; ") xs ≡ join_by text_of (codes "; ") ys → xs ≡ ys
 same_lists P text_of each long same [] [] h g e = refl
@@ -42,7 +42,7 @@ same_lists P text_of each long same (x ∷ xs) (y ∷ ys) h g e =
     ap (λ z. z ∷ xs) (same x y can may first) ∙ ap (λ l. y ∷ l) (same_lists P text_of each long same xs ys (All-tail P x xs h) (All-tail P y ys g) rest)
 
 -- the line of an entry
-same_entry : (n : ℕ) (e o : Entry) → IsWritten e → IsWritten o → entry_line n e ≡ entry_line n o → e ≡ o
+same_entry : (n : ℕ) (e o : Entry) → CanBeEntry e → CanBeEntry o → entry_line n e ≡ entry_line n o → e ≡ o
 same_entry n e o w v h =
     let by : e.by ≡ o.by = decimal_injective e.by o.by w.by v.by (sym (by_read n e w) ∙ (ap (by_part n) h ∙ by_read n o v)) in
     let ops : e.ops ≡ o.ops =
@@ -55,13 +55,13 @@ same_entry n e o w v h =
     ∙ (ap (λ l. entry_of o.by o.ops l) dones ∙ entry_made o v))))
 
 -- the text of a journal
-pub same_lines : (n : ℕ) (es os : List Entry) → All IsWritten es → All IsWritten os → n + length es ≤ 2 ^ 64 → lines_from n es ≡ lines_from n os → es ≡ os
+pub same_lines : (n : ℕ) (es os : List Entry) → All CanBeEntry es → All CanBeEntry os → n + length es ≤ 2 ^ 64 → lines_from n es ≡ lines_from n os → es ≡ os
 same_lines n [] [] h g few e = refl
 same_lines n [] (o ∷ os) h g few e = absurd (omega (arith, entry_line_long n o, ap length e, length-append (entry_line n o) (lines_from (n + 1) os)))
 same_lines n (i ∷ es) [] h g few e = absurd (omega (arith, entry_line_long n i, ap length e, length-append (entry_line n i) (lines_from (n + 1) es)))
 same_lines n (i ∷ es) (o ∷ os) h g few e =
-    let w = All-head IsWritten i es h in
-    let v = All-head IsWritten o os g in
+    let w = All-head CanBeEntry i es h in
+    let v = All-head CanBeEntry o os g in
     let small : n < 2 ^ 64 = omega (arith, few) in
     let fewer : n + 1 + length es ≤ 2 ^ 64 = omega (arith, few) in
     let first : entry_line n i ≡ entry_line n o = sym (line_first n i w small (lines_from (n + 1) es))
@@ -69,4 +69,4 @@ same_lines n (i ∷ es) (o ∷ os) h g few e =
     let rest : lines_from (n + 1) es ≡ lines_from (n + 1) os = sym (line_behind n i w small (lines_from (n + 1) es))
     ∙ (ap behind_line e ∙ line_behind n o v small (lines_from (n + 1) os)) in
     ap (λ z. z ∷ es) (same_entry n i o w v first) ∙ ap (λ l. o ∷ l)
-    (same_lines (n + 1) es os (All-tail IsWritten i es h) (All-tail IsWritten o os g) fewer rest)
+    (same_lines (n + 1) es os (All-tail CanBeEntry i es h) (All-tail CanBeEntry o os g) fewer rest)

@@ -15,9 +15,9 @@ use Rattle.std.specs.declared.option.Option.{Option}
 use Rattle.std.specs.declared.result.Result.{Result}
 use Rattle.be_journal.specs.Text.{entry_line, lines_from, result_text}
 use Rattle.be_journal.specs.declared.entries.Entry.{Entry}
-use Rattle.be_history.specs.Finding.{AreLines, IsFromJ, IsFromLastJ, Tells, head}
-use Rattle.be_history.specs.History.{AreWritten, IsWritten}
-use Rattle.be_history.specs.Parts.{IsPart}
+use Rattle.be_history.specs.Finding.{AreLines, IsFromJ, IsFromLastJ, TextTells, head}
+use Rattle.be_history.specs.History.{CanBeJournal, CanBeEntry}
+use Rattle.be_history.specs.Parts.{IsLinePart}
 use Rattle.be_history.proofs.Cuts.{behind_line, first_line}
 use Rattle.be_history.proofs.LineLemmas.{after_end, body, body_line, body_part, differs, digits_part, drop_front, first_taken, take_front}
 use Rattle.be_history.proofs.NumberLemmas.{decimal_digits}
@@ -66,11 +66,11 @@ numbered_passed [] more rest digits some h = absurd (omega (arith, some))
 numbered_passed (d ∷ ds) more rest digits some h = line_passed d (ds ++ more) rest
     (differs d 106 (and_parts (is_ascii_digit d) (all_ascii_digits ds) digits).0 refl) h
 
-lines_passed : (n : ℕ) (es : List Entry) (rest : List ℕ) → All IsWritten es → n + length es ≤ 2 ^ 64 →
+lines_passed : (n : ℕ) (es : List Entry) (rest : List ℕ) → All CanBeEntry es → n + length es ≤ 2 ^ 64 →
     from_last_j true (lines_from n es ++ rest) ≡ from_last_j true rest
 lines_passed n [] rest h few = refl
 lines_passed n (e ∷ es) rest h few =
-    let w = All-head IsWritten e es h in
+    let w = All-head CanBeEntry e es h in
     let small : n < 2 ^ 64 = omega (arith, few) in
     let fewer : n + 1 + length es ≤ 2 ^ 64 = omega (arith, few) in
     let more = lines_from (n + 1) es ++ rest in
@@ -79,14 +79,14 @@ lines_passed n (e ∷ es) rest h few =
     let part = body_part n e w small in
     ap (from_last_j true) split
     ∙ (numbered_passed (decimal n) _ more (decimal_digits n small) (decimal_nonempty n small) (part_line _ part)
-    ∙ lines_passed (n + 1) es rest (All-tail IsWritten e es h) fewer)
+    ∙ lines_passed (n + 1) es rest (All-tail CanBeEntry e es h) fewer)
 
 -- no line of a journal's text begins with `j`
-pub none_in_lines : (es : List Entry) → AreWritten es → from_last_j true (lines_from 1 es) ≡ None
+pub none_in_lines : (es : List Entry) → CanBeJournal es → from_last_j true (lines_from 1 es) ≡ None
 none_in_lines es are = ap (from_last_j true) (sym (append-nil (lines_from 1 es))) ∙ lines_passed 1 es [] are.0 (omega (arith, are.1))
 
 -- the result of a race begins with its last such line
-result_is_last : (es : List Entry) → AreWritten es → from_last_j true (result_text es) ≡ Some (result_text es)
+result_is_last : (es : List Entry) → CanBeJournal es → from_last_j true (result_text es) ≡ Some (result_text es)
 result_is_last es are =
     let n = length es in
     let small : n < 2 ^ 64 = omega (arith, are.1) in
@@ -201,13 +201,13 @@ one_from_last_j text (Some last) h =
     found.1 ∙ ap (λ l. Some l) (same_ends other.0 h.0.0 found.0 last (sym other.3 ∙ h.0.3) (sym long))
 
 -- what begins with the last such line is the end of the text
-pub tells_result : (text result : List ℕ) (es : List Entry) → from_last_j true text ≡ Some result → result ≡ result_text es → Tells text es
+pub tells_result : (text result : List ℕ) (es : List Entry) → from_last_j true text ≡ Some result → result ≡ result_text es → TextTells text es
 tells_result text result es h is =
     let found = found_from_j text result h in
     inr (found.0, found.2, found.3 ∙ ap (λ l. found.0 ++ l) is)
 
 -- and where a text tells entries it is their result, or there is none and the text is theirs
-tells_last : (text : List ℕ) (es : List Entry) → AreWritten es → Tells text es →
+tells_last : (text : List ℕ) (es : List Entry) → CanBeJournal es → TextTells text es →
     ((from_last_j true text ≡ None) × (text ≡ lines_from 1 es)) ⊎ (from_last_j true text ≡ Some (result_text es))
 tells_last text es are (inl is) = inl (ap (from_last_j true) is ∙ none_in_lines es are, is)
 tells_last text es are (inr told) =
@@ -215,58 +215,58 @@ tells_last text es are (inr told) =
     ∙ behind_front true told.0 (result_text es) (result_text es)
     (ap (λ b. from_last_j b (result_text es)) (starts_behind_lines told.0 told.1) ∙ result_is_last es are))
 
-pub some_told : (text result : List ℕ) (es : List Entry) → AreWritten es → Tells text es → from_last_j true text ≡ Some result → result ≡ result_text es
+pub some_told : (text result : List ℕ) (es : List Entry) → CanBeJournal es → TextTells text es → from_last_j true text ≡ Some result → result ≡ result_text es
 some_told text result es are tells h =
     ⊎_elim (λ none. never_some result (sym none.0 ∙ h)) (λ is. inside result (result_text es) (sym h ∙ is)) (tells_last text es are tells)
 
-pub none_told : (text : List ℕ) (es : List Entry) → AreWritten es → Tells text es → from_last_j true text ≡ None → text ≡ lines_from 1 es
+pub none_told : (text : List ℕ) (es : List Entry) → CanBeJournal es → TextTells text es → from_last_j true text ≡ None → text ≡ lines_from 1 es
 none_told text es are tells h = ⊎_elim (λ none. none.1) (λ is. never_some (result_text es) (sym h ∙ is)) (tells_last text es are tells)
 
 -- What is read of the text from its last such line on, and of a text that has none: the entries that the text tells.
 module _ {X E : Type 0} (r : Result (Option X) E) (items : X → List Entry) (text : List ℕ) where
   pub some_reads : (last : List ℕ) → from_last_j true text ≡ Some last →
-      IfOk r (λ read. IfSome read (λ x. AreWritten (items x) × (last ≡ result_text (items x)))) →
-      IfOk r (λ read. IfSome read (λ x. AreWritten (items x) × Tells text (items x)))
+      IfOk r (λ read. IfSome read (λ x. CanBeJournal (items x) × (last ≡ result_text (items x)))) →
+      IfOk r (λ read. IfSome read (λ x. CanBeJournal (items x) × TextTells text (items x)))
   some_reads last h k =
-      IfOk-weaker r (λ read. IfSome read (λ x. AreWritten (items x) × (last ≡ result_text (items x))))
-      (λ read. IfSome read (λ x. AreWritten (items x) × Tells text (items x)))
+      IfOk-weaker r (λ read. IfSome read (λ x. CanBeJournal (items x) × (last ≡ result_text (items x))))
+      (λ read. IfSome read (λ x. CanBeJournal (items x) × TextTells text (items x)))
       (λ read are. IfSome_then read are (λ x is. (is.0, tells_result text last (items x) h is.1))) k
 
   pub some_whole : (last : List ℕ) → from_last_j true text ≡ Some last →
-      IfOk r (λ read. (es : List Entry) → AreWritten es → last ≡ result_text es → option_map items read ≡ Some es) →
-      IfOk r (λ read. (es : List Entry) → AreWritten es → Tells text es → option_map items read ≡ Some es)
+      IfOk r (λ read. (es : List Entry) → CanBeJournal es → last ≡ result_text es → option_map items read ≡ Some es) →
+      IfOk r (λ read. (es : List Entry) → CanBeJournal es → TextTells text es → option_map items read ≡ Some es)
   some_whole last h k =
-      IfOk-weaker r (λ read. (es : List Entry) → AreWritten es → last ≡ result_text es → option_map items read ≡ Some es)
-      (λ read. (es : List Entry) → AreWritten es → Tells text es → option_map items read ≡ Some es)
+      IfOk-weaker r (λ read. (es : List Entry) → CanBeJournal es → last ≡ result_text es → option_map items read ≡ Some es)
+      (λ read. (es : List Entry) → CanBeJournal es → TextTells text es → option_map items read ≡ Some es)
       (λ read whole es are tells. whole es are (some_told text last es are tells h)) k
 
-  pub none_reads : IfOk r (λ read. IfSome read (λ x. AreWritten (items x) × (text ≡ lines_from 1 (items x)))) →
-      IfOk r (λ read. IfSome read (λ x. AreWritten (items x) × Tells text (items x)))
+  pub none_reads : IfOk r (λ read. IfSome read (λ x. CanBeJournal (items x) × (text ≡ lines_from 1 (items x)))) →
+      IfOk r (λ read. IfSome read (λ x. CanBeJournal (items x) × TextTells text (items x)))
   none_reads k =
-      IfOk-weaker r (λ read. IfSome read (λ x. AreWritten (items x) × (text ≡ lines_from 1 (items x))))
-      (λ read. IfSome read (λ x. AreWritten (items x) × Tells text (items x)))
+      IfOk-weaker r (λ read. IfSome read (λ x. CanBeJournal (items x) × (text ≡ lines_from 1 (items x))))
+      (λ read. IfSome read (λ x. CanBeJournal (items x) × TextTells text (items x)))
       (λ read are. IfSome_then read are (λ x is. (is.0, inl is.1))) k
 
-  pub none_whole : from_last_j true text ≡ None → IfOk r (λ read. (es : List Entry) → AreWritten es → text ≡ lines_from 1 es →
+  pub none_whole : from_last_j true text ≡ None → IfOk r (λ read. (es : List Entry) → CanBeJournal es → text ≡ lines_from 1 es →
       option_map items read ≡ Some es) →
-      IfOk r (λ read. (es : List Entry) → AreWritten es → Tells text es → option_map items read ≡ Some es)
+      IfOk r (λ read. (es : List Entry) → CanBeJournal es → TextTells text es → option_map items read ≡ Some es)
   none_whole h k =
-      IfOk-weaker r (λ read. (es : List Entry) → AreWritten es → text ≡ lines_from 1 es → option_map items read ≡ Some es)
-      (λ read. (es : List Entry) → AreWritten es → Tells text es → option_map items read ≡ Some es)
+      IfOk-weaker r (λ read. (es : List Entry) → CanBeJournal es → text ≡ lines_from 1 es → option_map items read ≡ Some es)
+      (λ read. (es : List Entry) → CanBeJournal es → TextTells text es → option_map items read ≡ Some es)
       (λ read whole es are tells. whole es are (none_told text es are tells h)) k
 
 -- The lines of a race's result.
 
 -- its first line, and what follows that, where a text is cut at its first LF
 pub result_cut : (text first behind : List ℕ) →
-    ((line more : List ℕ) → IsPart 10 line → text ≡ line ++ 10 ∷ more → (first ≡ line ++ 10 ∷ []) × (behind ≡ more)) → (es : List Entry) → AreWritten es →
+    ((line more : List ℕ) → IsLinePart 10 line → text ≡ line ++ 10 ∷ more → (first ≡ line ++ 10 ∷ []) × (behind ≡ more)) → (es : List Entry) → CanBeJournal es →
     text ≡ result_text es → (first ≡ head (length es)) × (behind ≡ lines_from 1 es ++ codes "replay ok\n")
 result_cut text first behind cut es are is =
     let n = length es in
     let small : n < 2 ^ 64 = omega (arith, are.1) in
     let lines = lines_from 1 es ++ codes "replay ok\n" in
     let front = codes "journal " ++ decimal n in
-    let part : IsPart 10 front = both_parts 10 (codes "journal ") (decimal n) (words_part 10 (codes "journal ") refl refl)
+    let part : IsLinePart 10 front = both_parts 10 (codes "journal ") (decimal n) (words_part 10 (codes "journal ") refl refl)
     (digits_part 10 (decimal n) refl (decimal_digits n small)) in
     let split : text ≡ front ++ 10 ∷ lines = is ∙ ap (λ l. codes "journal " ++ l) (append_assoc (decimal n) (10 ∷ []) lines) in
     let parted = cut front lines part split in
@@ -290,22 +290,22 @@ one_front rest lines others h g = sym (same_front rest lines h) ∙ same_front r
 
 -- No text tells two journals.
 
-one_text : (es os : List Entry) → AreWritten es → AreWritten os → lines_from 1 es ≡ lines_from 1 os → es ≡ os
+one_text : (es os : List Entry) → CanBeJournal es → CanBeJournal os → lines_from 1 es ≡ lines_from 1 os → es ≡ os
 one_text es os are were same = same_lines 1 es os are.0 were.0 (omega (arith, are.1)) same
 
 abbrev result_behind : List Entry → List ℕ
 result_behind es = lines_from 1 es ++ codes "replay ok\n"
 
-one_result : (es os : List Entry) → AreWritten es → AreWritten os → result_text es ≡ result_text os → es ≡ os
+one_result : (es os : List Entry) → CanBeJournal es → CanBeJournal os → result_text es ≡ result_text os → es ≡ os
 one_result es os are were same =
     let text = result_text es in
-    let cut : (line more : List ℕ) → IsPart 10 line → text ≡ line ++ 10 ∷ more → (first_line text ≡ line ++ 10 ∷ []) × (behind_line text ≡ more) =
+    let cut : (line more : List ℕ) → IsLinePart 10 line → text ≡ line ++ 10 ∷ more → (first_line text ≡ line ++ 10 ∷ []) × (behind_line text ≡ more) =
     λ line more part h. (ap first_line h ∙ first_taken line more part, ap behind_line h ∙ after_end 10 line more part) in
     let here = result_cut text (first_line text) (behind_line text) cut es are refl in
     let there = result_cut text (first_line text) (behind_line text) cut os were same in
     one_text es os are were (one_front (behind_line text) (lines_from 1 es) (lines_from 1 os) here.1 there.1)
 
-pub one_journal : (text : List ℕ) (es os : List Entry) → AreWritten es → AreWritten os → Tells text es → Tells text os → es ≡ os
+pub one_journal : (text : List ℕ) (es os : List Entry) → CanBeJournal es → CanBeJournal os → TextTells text es → TextTells text os → es ≡ os
 one_journal text es os are were tells told = by (tells_last text es are tells) (tells_last text os were told)
   where
     by : ((from_last_j true text ≡ None) × (text ≡ lines_from 1 es)) ⊎ (from_last_j true text ≡ Some (result_text es)) →

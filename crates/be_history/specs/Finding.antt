@@ -6,7 +6,7 @@ use Rattle.std.specs.declared.option.Option.{Option}
 use Rattle.be_journal.specs.Journal.{IsEntry, IsFirstWrong}
 use Rattle.be_journal.specs.Text.{entry_line, lines_from, result_text}
 use Rattle.be_journal.specs.declared.entries.Entry.{Entry}
-use Rattle.be_history.specs.History.{AreWritten}
+use Rattle.be_history.specs.History.{CanBeJournal}
 use Rattle.be_history.specs.declared.checks.Finding.{Finding}
 use Rattle.be_history.specs.declared.checks.Finding.TheVariants as findings
 
@@ -19,8 +19,8 @@ abbrev pub head : ℕ → List ℕ
 head count = codes "journal " ++ (decimal count ++ codes "\n")
 
 -- A text tells the journal whose text it is, or that which stands as the result of a race behind its other lines.
-abbrev pub Tells : List ℕ → List Entry → Type 0
-Tells text entries = (text ≡ lines_from 1 entries) ⊎ ((front : List ℕ) × AreLines front × (text ≡ front ++ result_text entries))
+abbrev pub TextTells : List ℕ → List Entry → Type 0
+TextTells text entries = (text ≡ lines_from 1 entries) ⊎ ((front : List ℕ) × AreLines front × (text ≡ front ++ result_text entries))
 
 -- this is the rest of the text from a line on that begins with `j`
 abbrev pub IsFromJ : List ℕ → List ℕ → Type 0
@@ -54,6 +54,6 @@ IsFound entries (wrong line) = (i : ℕ) × (entry : Entry) × IsFirstWrong entr
 
 -- what the check of a text finds
 abbrev pub IsFinding : List ℕ → Found → Type 0
-IsFinding text no_journal = (entries : List Entry) → AreWritten entries → Tells text entries → ⊥
-IsFinding text right = (entries : List Entry) × AreWritten entries × Tells text entries × IsFound entries right
-IsFinding text (wrong line) = (entries : List Entry) × AreWritten entries × Tells text entries × IsFound entries (wrong line)
+IsFinding text no_journal = (entries : List Entry) → CanBeJournal entries → TextTells text entries → ⊥
+IsFinding text right = (entries : List Entry) × CanBeJournal entries × TextTells text entries × IsFound entries right
+IsFinding text (wrong line) = (entries : List Entry) × CanBeJournal entries × TextTells text entries × IsFound entries (wrong line)

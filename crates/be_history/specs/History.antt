@@ -40,15 +40,15 @@ CanBeDone (Node node) = node < 2 ^ 64
 CanBeDone Nothing = ⊤
 
 -- an entry of the program: 1 to 64 operations, an answer for each, and the number of a pass
-pub record IsWritten (entry : Entry) : Type 0 where
+pub record CanBeEntry (entry : Entry) : Type 0 where
   pub by : entry.by < 2 ^ 64
   pub is : IsEntry entry
   pub ops : All CanBeOp entry.ops
   pub dones : All CanBeDone entry.dones
 
 -- entries of a journal, which has fewer than 2^32
-abbrev pub AreWritten : List Entry → Type 0
-AreWritten entries = All IsWritten entries × (length entries < 2 ^ 32)
+abbrev pub CanBeJournal : List Entry → Type 0
+CanBeJournal entries = All CanBeEntry entries × (length entries < 2 ^ 32)
 
 -- the entry of these lists, where they have 1 to 64 operations, and an answer for each
 abbrev pub entry_of : ℕ → List Op → List Done → Option Entry

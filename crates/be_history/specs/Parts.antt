@@ -21,7 +21,7 @@ IsApart end (byte c) = (c ≢ end) × (c ≢ 34)
 IsApart end (in_quotes characters) = 34 ≢ end
 
 -- a part of a line: bytes and quotes, with no end outside quotes
-pub record IsPart (end : ℕ) (text : List ℕ) : Type 0 where
+pub record IsLinePart (end : ℕ) (text : List ℕ) : Type 0 where
   pub pieces : List Piece
   pub apart : All (IsApart end) pieces
   pub is : text ≡ flat_map piece_text pieces

@@ -4,8 +4,8 @@ ghost use Rattle.be_journal.specs.Text.{lines_from, op_text};
 ghost use Rattle.be_journal.specs.declared.entries.Entry.{Entry as AnyEntry};
 ghost use Rattle.be_language.specs.Request.{asked, write};
 ghost use Rattle.be_volume.specs.declared.ops.Op.{Op as AnyOp};
-ghost use Rattle.be_history.specs.Finding.{Tells};
-ghost use Rattle.be_history.specs.History.{AreWritten, CanBeOp};
+ghost use Rattle.be_history.specs.Finding.{TextTells};
+ghost use Rattle.be_history.specs.History.{CanBeJournal, CanBeOp};
 
 /// What is printed of an operation is a script's line that asks for it.
 pub fn printed_op_asks_for_it()
@@ -14,11 +14,11 @@ pub fn printed_op_asks_for_it()
 
 /// No two journals have one text.
 pub fn texts_differ()
-    ensures { (entries others : List AnyEntry) → AreWritten entries → AreWritten others → lines_from 1 entries ≡ lines_from 1 others → entries ≡ others }
+    ensures { (entries others : List AnyEntry) → CanBeJournal entries → CanBeJournal others → lines_from 1 entries ≡ lines_from 1 others → entries ≡ others }
 {}
 
 /// No text tells two journals.
 pub fn text_tells_one()
-    ensures { (text : List ℕ) (entries others : List AnyEntry) → AreWritten entries → AreWritten others → Tells text entries → Tells text others →
+    ensures { (text : List ℕ) (entries others : List AnyEntry) → CanBeJournal entries → CanBeJournal others → TextTells text entries → TextTells text others →
         entries ≡ others }
 {}

@@ -54,8 +54,8 @@ fn is_end(end: u8, quoting: Quoting, byte: u8) -> bool
 
 /// How many bytes stand before the first `end` outside quotes; all where there is none.
 fn length_to(end: u8, text: &[u8]) -> usize
-    ensures ends { (part more : List ℕ) → spec.IsPart end part → text.now ≡ part ++ end ∷ more → result ≡ length part }
-    ensures alone { spec.IsPart end text.now → result ≡ length text.now }
+    ensures ends { (part more : List ℕ) → spec.IsLinePart end part → text.now ≡ part ++ end ∷ more → result ≡ length part }
+    ensures alone { spec.IsLinePart end text.now → result ≡ length text.now }
     ensures within { result ≤ length text.now }
 {
     let mut count = 0;
@@ -85,8 +85,8 @@ pub fn skip(count: usize, text: &[u8]) -> &[u8]
 
 /// What stands before the first `end` outside quotes, and what follows that `end`; all and nothing where there is none.
 pub fn split_around(end: u8, text: &[u8]) -> (&[u8], &[u8])
-    ensures ends { (part more : List ℕ) → spec.IsPart end part → text.now ≡ part ++ end ∷ more → (result.0.now ≡ part) × (result.1.now ≡ more) }
-    ensures alone { spec.IsPart end text.now → (result.0.now ≡ text.now) × (result.1.now ≡ []) }
+    ensures ends { (part more : List ℕ) → spec.IsLinePart end part → text.now ≡ part ++ end ∷ more → (result.0.now ≡ part) × (result.1.now ≡ more) }
+    ensures alone { spec.IsLinePart end text.now → (result.0.now ≡ text.now) × (result.1.now ≡ []) }
     ensures within { length result.0.now ≤ length text.now }
     ensures shorter { 1 ≤ length text.now → length result.1.now < length text.now }
 {

@@ -7,7 +7,7 @@ ghost use Rattle.std.specs.Option.{option_map};
 ghost use Rattle.be_journal.specs.Text.{result_text};
 ghost use Rattle.be_journal.specs.declared.entries.Entry.{Entry as AnyEntry};
 ghost use Rattle.be_history.specs.Finding as spec;
-ghost use Rattle.be_history.specs.History.{AreWritten};
+ghost use Rattle.be_history.specs.History.{CanBeJournal};
 
 use crate::journals::{first_line, read_journal};
 use be_journal::Entry;
@@ -50,8 +50,8 @@ fn before_last(text: &[u8]) -> Option<&[u8]>
 
 /// The entries of a text that ends a race: `journal N`, the journal's text, and `replay ok`.
 fn read_result(alloc: Global, text: &[u8]) -> Result<Option<Vec<Entry>>, AllocError>
-    ensures reads { IfOk result (λ read. IfSome read (λ entries. AreWritten entries.items × (text.now ≡ result_text entries.items))) }
-    ensures whole { IfOk result (λ read. (entries : List AnyEntry) → AreWritten entries → text.now ≡ result_text entries →
+    ensures reads { IfOk result (λ read. IfSome read (λ entries. CanBeJournal entries.items × (text.now ≡ result_text entries.items))) }
+    ensures whole { IfOk result (λ read. (entries : List AnyEntry) → CanBeJournal entries → text.now ≡ result_text entries →
         option_map (λ v. v.items) read ≡ Some entries) }
 {
     let (head, rest) = first_line(text);
@@ -73,8 +73,8 @@ fn read_result(alloc: Global, text: &[u8]) -> Result<Option<Vec<Entry>>, AllocEr
 ///
 /// It is exact: what it gives is told by this text, and what the text tells it gives. So no text tells two journals.
 pub fn journal_told(alloc: Global, text: &[u8]) -> Result<Option<Vec<Entry>>, AllocError>
-    ensures reads { IfOk result (λ read. IfSome read (λ entries. AreWritten entries.items × spec.Tells text.now entries.items)) }
-    ensures whole { IfOk result (λ read. (entries : List AnyEntry) → AreWritten entries → spec.Tells text.now entries →
+    ensures reads { IfOk result (λ read. IfSome read (λ entries. CanBeJournal entries.items × spec.TextTells text.now entries.items)) }
+    ensures whole { IfOk result (λ read. (entries : List AnyEntry) → CanBeJournal entries → spec.TextTells text.now entries →
         option_map (λ v. v.items) read ≡ Some entries) }
 {
     match from_last_j(text) {

@@ -2,7 +2,8 @@
 //!
 //! A walk over an index asks for one key after the other. So the source keeps a cursor of the tree that it walked last, and
 //! the place of the item whose key it gave last: where the next key is asked from that very key, it goes on from there and
-//! makes no descent. The nodes of a range are read leaf by leaf, and no key is unpacked.
+//! makes no descent. The nodes of a range are read leaf by leaf, and no key is unpacked. A query asks for the same index again and again, so the
+//! source keeps the place of the one that it found last.
 ghost use Rattle.std.specs.Prelude.{◌≡◌, ◌<◌, ℕ, true, length, slice_index_or};
 ghost use Rattle.be_pages.specs.Pages.{IsUnchanged};
 ghost use Rattle.be_tree.specs.Cursor.{IsCursor, remaining};
@@ -30,6 +31,7 @@ const NOWHERE: usize = 32;
 pub struct PagedSource<L> {
     look: L,
     page: u64,
+    recent: usize,
     cursor: Cursor,
     place: usize,
     last: (u64, usize),
@@ -45,6 +47,7 @@ pub fn source<L: Look>(look: L, version_page: u64) -> PagedSource<L>
     PagedSource {
         look,
         page: version_page,
+        recent: NOWHERE,
         cursor: Cursor::new(),
         place: NOWHERE,
         last: (0, 0),
@@ -96,14 +99,14 @@ impl<L: Look> Source for PagedSource<L> {
     ghost sound = { λ s volume is. is.version.sound };
 
     fn kind_of(&mut self, name: &Name) -> Option<Kind> {
-        match find_index(&mut self.look, self.page, name) {
+        match find_index(&mut self.look, self.page, name, &mut self.recent) {
             Some(index) => Some(index.kind),
             None => None,
         }
     }
 
     fn next_key(&mut self, name: &Name, from: &[u8], after: bool) -> Option<ArrayVec<u8, 264>> {
-        let Some(index) = find_index(&mut self.look, self.page, name) else {
+        let Some(index) = find_index(&mut self.look, self.page, name, &mut self.recent) else {
             return None;
         };
         self.walk_to(index, from, after);
@@ -121,7 +124,7 @@ impl<L: Look> Source for PagedSource<L> {
         high: Option<&[u8]>,
         found: &mut Vec<u64>,
     ) -> Result<(), Refusal> {
-        let Some(index) = find_index(&mut self.look, self.page, name) else {
+        let Some(index) = find_index(&mut self.look, self.page, name, &mut self.recent) else {
             return Ok(());
         };
         numbers_within(&mut self.look, index.root, low, high, found)?;
@@ -129,7 +132,7 @@ impl<L: Look> Source for PagedSource<L> {
     }
 
     fn has_key(&mut self, name: &Name, key: &[u8]) -> bool {
-        match find_index(&mut self.look, self.page, name) {
+        match find_index(&mut self.look, self.page, name, &mut self.recent) {
             Some(index) => has_key(&mut self.look, index.root, key),
             None => false,
         }

@@ -6,7 +6,7 @@ ghost use Rattle.be_pages.specs.Pages.{IsUnchanged};
 ghost use Rattle.be_volume.specs.Volume.{State};
 ghost use Rattle.be_paged.specs.Version.{IsVersion};
 
-use crate::same::same_nodes;
+use crate::same::same_lists;
 use be_paged::{attrs, indices, source};
 use be_pages::{Look, VecRoom};
 use be_plan::{Cover, Picks, Source, choose, covers, run};
@@ -126,7 +126,7 @@ pub(crate) fn query_both<L: Look + Drop>(
     ensures unchanged { IfOk result (λ r. IsUnchanged L.kept L.standing L.words look r.0) }
 {
     let (look, answer) = asked_pages(alloc, plain, look, page, query, pick);
-    if !same_nodes(&answer, &asked_plain(plain, query)) {
+    if !same_lists(&answer, &asked_plain(plain, query)) {
         return Err(Fail::new("the forms answer the query otherwise"));
     }
     Ok((look, answer))

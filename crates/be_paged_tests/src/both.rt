@@ -2,7 +2,7 @@
 //!
 //! That the pages spell the plain volume is kept by the type, so a test that goes from one call to the next states nothing.
 use crate::asking::{attrs_pages, attrs_plain, indices_pages, indices_plain, query_both};
-use crate::same::{same_indices, same_lists, same_option};
+use crate::same::same_lists;
 use crate::test_looks::Counting;
 use crate::writing::{accepts, apply_pages, refuses, room_of};
 use arrayvec::ArrayVec;
@@ -51,7 +51,8 @@ fn agreed_indices(
     plain: Result<Vec<(Name, Kind)>, Refusal>,
 ) -> Result<Vec<(Name, Kind)>, Fail> {
     let list = list?;
-    let same = same_indices(&list, &plain?);
+    let plain = plain?;
+    let same = list.as_slice() == plain.as_slice();
     agreed(same, list, "the forms have other indices")
 }
 
@@ -122,7 +123,7 @@ impl Both {
     /// The attribute.
     pub(crate) fn get(&mut self, node: u64, name: &Name) -> Result<Option<Value>, Fail> {
         let value = get(&mut self.room, self.page, node, name);
-        let same = same_option(&value, &self.plain.get(node, name));
+        let same = value == self.plain.get(node, name);
         agreed(same, value, "the forms have another attribute")
     }
 

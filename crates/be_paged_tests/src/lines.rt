@@ -1,5 +1,4 @@
 //! Requests and replies of tests, as text. Several operations make one list, with `;` between them, and so do their replies.
-use crate::same::same_value;
 use arrayvec::ArrayVec;
 use be_language::{Request, read_line};
 use be_value::{Kind, Name, Refusal, Value, number_of, word_of};
@@ -105,7 +104,7 @@ fn is_value(value: &Value, expected: &str) -> bool {
         return false;
     };
     match read_value(kind, word) {
-        Some(other) => same_value(value, &other),
+        Some(other) => *value == other,
         None => false,
     }
 }

@@ -1,8 +1,9 @@
 //! Random lists of operations on both forms of a volume.
 use crate::asking::read_query;
 use crate::both::Both;
+use crate::sizes::numbered;
 use arrayvec::ArrayVec;
-use be_value::{Kind, Name, Refusal, Value};
+use be_value::{Kind, Refusal, Value};
 use be_volume::{Done, Op};
 use std::alloc::{AllocError, Global};
 use std::test::Fail;
@@ -34,12 +35,6 @@ struct Mix {
     pages: u64,
 }
 
-/// One of 256 names of two letters, from `aa` on.
-fn name_of(number: u64) -> Option<Name> {
-    let letters = [b'a' + (number / 16 % 16) as u8, b'a' + (number % 16) as u8];
-    Name::new(str::from_utf8(&letters).ok()?).ok()
-}
-
 fn random_value(random: &mut Random) -> Option<Value> {
     if random.below(4) > 0 {
         return Some(Value::int32((random.below(8) % 8) as i32 - 4));
@@ -65,7 +60,7 @@ fn random_op(random: &mut Random, mix: &Mix, next: u64) -> Option<Op> {
         return Some(Op::New);
     }
     let node = next.wrapping_sub(1 + random.below(mix.nodes) % 256);
-    let name = name_of(random.below(mix.names))?;
+    let name = numbered((random.below(mix.names) % 256) as u8).ok()?;
     match random.below(16) {
         0 | 1 if random.below(mix.news) == 0 => Some(Op::New),
         2 if random.below(mix.news) == 0 && random.below(mix.news) == 0 => Some(Op::Drop(node)),
@@ -152,9 +147,7 @@ fn random_attributes(
     both: &mut Both,
 ) -> Result<(), Fail> {
     let node = both.plain.next().wrapping_sub(random.below(mix.nodes));
-    let Some(name) = name_of(random.below(mix.names)) else {
-        return Err(Fail::new("no name"));
-    };
+    let name = numbered((random.below(mix.names) % 256) as u8)?;
     let _value = both.get(node, &name)?;
     let _attributes = both.attrs(alloc, node)?;
     Ok(())

@@ -7,8 +7,8 @@ use std::alloc::Global;
 use std::str;
 use std::test::Fail;
 
-/// One of 256 names of two letters.
-fn numbered(number: u8) -> Result<Name, Refusal> {
+/// One of 256 names of two letters, from `aa` on.
+pub(crate) fn numbered(number: u8) -> Result<Name, Refusal> {
     let letters = [b'a' + number / 16, b'a' + number % 16];
     Name::new(str::from_utf8(&letters).unwrap_or(""))
 }

@@ -1,13 +1,16 @@
 -- A text without a special character spells its characters.
-use Rattle.std.proofs.Common.{◌≡◌, ℕ, ◌<◌, true, false, List, [], ◌∷◌, ◌++◌, ◌||◌, map, Ok, refl, sym, ap, ◌∙◌, arith, IsUtf8}
-use Rattle.std.specs.Prelude.{encode_utf8, encode_utf8_all}
+use Rattle.std.proofs.Common.{◌≡◌, ℕ, ◌<◌, true, false, List, [], ◌∷◌, ◌++◌, ◌||◌, ◌&&◌, map, Ok, refl, sym, ap, ◌∙◌, arith, IsUtf8}
+use Rattle.std.specs.Prelude.{encode_utf8, encode_utf8_all, nat_eq}
+use Rattle.std.specs.Cmp.Lexicographic.{pointwise}
 use Rattle.std.specs.List.{list_any}
 use Rattle.std.specs.Str.{chars}
 use Rattle.std.proofs.Math.Logic.{⊎_elim}
 use Rattle.std.proofs.lemmas.Bool.{cond-false, cases_Bool, or_parts, or_cases, eqb-true}
+use Rattle.std.proofs.lemmas.Bool.Decides.{same_from_decides, Decides-like, Decides-eqb}
 use Rattle.std.proofs.lemmas.List.Folds.{list_any-append}
+use Rattle.std.proofs.lemmas.Slice.Eq.{slice_eq-Decides}
 use Rattle.std.proofs.lemmas.Str.{encode_ascii, encodes-chars}
-use Rattle.be_pattern.specs.Match.{Only}
+use Rattle.be_pattern.specs.Match.{Only, matches}
 use Rattle.be_pattern.specs.Parse.{pattern}
 use Rattle.be_pattern.specs.Canonical.{is_special, is_plain, is_prefix, literal_prefix, canonical, are_formed}
 use Rattle.be_pattern.proofs.Back.{canonical_read}
@@ -61,3 +64,18 @@ own_front (c ∷ cs) = ap (λ l. c ∷ l) (own_front cs)
 
 pub front_text : (text : List ℕ) → IsUtf8 text → encode_utf8_all (literal_prefix (map Only (chars text))) ≡ text
 front_text text u = ap encode_utf8_all (own_front (chars text)) ∙ encodes-chars text u
+
+-- A literal text matches itself alone.
+
+own_matches : (cs ds : List ℕ) → matches (map Only cs) ds ≡ pointwise nat_eq ds cs
+own_matches [] [] = refl
+own_matches [] (d ∷ ds) = refl
+own_matches (c ∷ cs) [] = refl
+own_matches (c ∷ cs) (d ∷ ds) = ap (λ b. nat_eq d c && b) (own_matches cs ds)
+
+pub text_matches : (text other : List ℕ) → IsUtf8 text → IsUtf8 other → pointwise nat_eq other text ≡ matches (map Only (chars text)) (chars other)
+text_matches text other u v =
+    let bytes = slice_eq-Decides Decides-eqb other text (pointwise nat_eq other text) refl in
+    let same = slice_eq-Decides Decides-eqb (chars other) (chars text) (pointwise nat_eq (chars other) (chars text)) refl in
+    let read = Decides-like (pointwise nat_eq (chars other) (chars text)) (λ e. sym (encodes-chars other v) ∙ ap encode_utf8_all e ∙ encodes-chars text u) (λ e. ap chars e) same in
+    same_from_decides _ _ bytes read ∙ sym (own_matches (chars text) (chars other))

@@ -91,7 +91,7 @@ pub(crate) fn is_literal(text: &str) -> bool
 }
 
 /// For how many tokens of a text memory is asked for at once.
-pub(crate) fn room_for(text: &str) -> usize {
+fn room_for(text: &str) -> usize {
     text.len().min(MAX_ROOM)
 }
 

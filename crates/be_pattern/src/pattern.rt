@@ -3,7 +3,7 @@ ghost use Rattle.std.specs.Prelude.{◌≡◌, ◌++◌, ℕ, List, [], true, ma
 ghost use Rattle.std.specs.Str.{chars};
 ghost use Rattle.be_value.specs.declared.refusals.Refusal.TheVariants.{OutOfMemory};
 ghost use Rattle.be_pattern.specs.Canonical.{around, run_if, canonical, is_plain, is_prefix, literal_prefix};
-ghost use Rattle.be_pattern.specs.Match.{Only, matches, parts_of};
+ghost use Rattle.be_pattern.specs.Match.{Only, kept_parts, matches, parts_of};
 ghost use Rattle.be_pattern.specs.Parse.{pattern, IsFault};
 
 use crate::matching::split_first_char;
@@ -16,7 +16,8 @@ use std::marker::Model;
 /// A pattern over characters. A contract sees its tokens, without where they lie in memory.
 #[derive(Debug, Drop)]
 pub struct Pattern {
-    tokens: Vec<Token>,
+    /// The tokens. A text that is seen to be literal has none: its characters, which are its prefix, stand for them.
+    tokens: Option<Vec<Token>>,
     /// The literal characters before the first wildcard.
     prefix: String,
     /// Whether there is no wildcard.
@@ -28,14 +29,16 @@ pub struct Pattern {
 impl Model for Pattern {
     ghost use Rattle.std.specs.Prelude.{◌≡◌, List, string_bytes, encode_utf8_all};
     ghost use Rattle.be_pattern.specs.Canonical.{is_plain as no_wildcard, is_prefix as only_front, literal_prefix};
-    ghost use Rattle.be_pattern.specs.Match.{Part, parts_of};
+    ghost use Rattle.std.specs.Str.{chars};
+    ghost use Rattle.be_pattern.specs.Match.{Part, kept_parts};
 
     ghost Value = { List Part };
 
-    ghost view = { λ p. parts_of p.tokens.items };
+    ghost view = { λ p. kept_parts (chars (string_bytes p.prefix)) p.tokens };
 
-    ghost invariant = { λ p. (string_bytes p.prefix ≡ encode_utf8_all (literal_prefix (parts_of p.tokens.items)))
-        × (p.is_plain ≡ no_wildcard (parts_of p.tokens.items)) × (p.is_prefix ≡ only_front (parts_of p.tokens.items)) };
+    ghost invariant = { λ p. let parts = kept_parts (chars (string_bytes p.prefix)) p.tokens in
+        (string_bytes p.prefix ≡ encode_utf8_all (literal_prefix parts))
+        × (p.is_plain ≡ no_wildcard parts) × (p.is_prefix ≡ only_front parts) };
 }
 
 impl Pattern {
@@ -70,7 +73,10 @@ impl Pattern {
     pub fn matches(&self, text: &str) -> bool
         ensures { result ≡ matches self.now (chars text.now) }
     {
-        matching::matches(&self.tokens, text)
+        match &self.tokens {
+            Some(tokens) => matching::matches(tokens, text),
+            None => text == self.prefix.as_str(),
+        }
     }
 
     /// Whether there is no wildcard, so that the pattern matches one text alone.
@@ -103,7 +109,13 @@ impl Pattern {
         ensures ok { IfOk result (λ s. string_bytes s ≡ encode_utf8_all (canonical self.now)) }
         ensures err { IfErr result (λ e. e ≡ OutOfMemory) }
     {
-        Ok(printing::canonical(alloc, &self.tokens)?)
+        match &self.tokens {
+            Some(tokens) => Ok(printing::canonical(alloc, tokens)?),
+            None => {
+                let tokens = push_literals(Vec::new(alloc), &self.prefix)?;
+                Ok(printing::canonical(alloc, &tokens)?)
+            }
+        }
     }
 }
 
@@ -111,10 +123,9 @@ impl Pattern {
 fn literal_pattern(alloc: Global, text: &str) -> Result<Pattern, AllocError>
     ensures { IfOk result (λ p. p ≡ map Only (chars text.now)) }
 {
-    let tokens = push_literals(Vec::with_capacity(alloc, parsing::room_for(text))?, text)?;
     let prefix = String::from_str(alloc, text)?;
     Ok(Pattern {
-        tokens,
+        tokens: None,
         prefix,
         is_plain: true,
         is_prefix: true,
@@ -129,7 +140,7 @@ fn pattern_of(alloc: Global, tokens: Vec<Token>) -> Result<Pattern, AllocError>
     let is_plain = printing::is_plain(&tokens);
     let is_prefix = printing::is_prefix(&tokens);
     Ok(Pattern {
-        tokens,
+        tokens: Some(tokens),
         prefix,
         is_plain,
         is_prefix,

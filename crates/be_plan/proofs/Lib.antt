@@ -6,6 +6,7 @@ pub mod Ends
 pub mod Fronts
 pub mod Integers
 pub mod Listed
+pub mod Leaving
 pub mod LongTexts
 pub mod Marked
 pub mod Parts

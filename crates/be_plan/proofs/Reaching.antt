@@ -1,5 +1,5 @@
 -- Which nodes a walk for a pick reaches.
-use Rattle.std.proofs.Common.{◌≡◌, ℕ, true, List, refl, sym, ap, ◌∙◌, subst, Some, None}
+use Rattle.std.proofs.Common.{◌≡◌, ◌⊎◌, ℕ, true, List, [], refl, sym, ap, ◌∙◌, subst, inl, inr, Some, None}
 use Rattle.std.proofs.lemmas.Option.{same_Some}
 use Rattle.std.specs.List.{Contains}
 use Rattle.std.specs.Option.{option_map}
@@ -20,7 +20,8 @@ use Rattle.be_volume.specs.declared.maps.Index.{Index}
 use Rattle.be_volume.specs.Sound.{IsSound, IsPaired}
 use Rattle.be_volume.specs.Reading.{attribute, index_kind}
 use Rattle.be_plan.specs.Narrow.{Allows, IsPair, Within}
-use Rattle.be_plan.specs.Walk.{HasWithin, HasReached}
+use Rattle.be_plan.specs.Walk.{HasWithin, HasReached, HasOnly, IsNodeWithin}
+use Rattle.be_plan.proofs.Marked.{nothing_in}
 
 pub on_ok : {A E : Type 0} {P Q : Type 0} (r : Result A E) → (P → Q) → OnOk r P → OnOk r Q
 on_ok (Ok x) f h = f h
@@ -46,3 +47,15 @@ has_reached s f pick c kind low high found sound there is_kind range within = λ
         let kinds : index.kind ≡ kind = same_Some index.kind kind (sym (ap (λ i. option_map (λ (i : Index). i.kind) i) some) ∙ is_kind) in
         within (key value node) (record { index = index; node = node; value = value; there = some; paired = paired; is = refl })
         (range value node (record { is_value = p.is_value; kind_is = p.kind_is ∙ kinds; node_fits = p.node_fits }) allows) sat_n
+
+-- what was there before or is one of the nodes with a key in a range, and wanted, was there before or has such a key
+pub added_within : (s : State) (name l low : List ℕ) (h high : Option (List ℕ)) (none nodes before : List ℕ) (Wanted : ℕ → Type 0) →
+    l ≡ low → h ≡ high → none ≡ [] → HasOnly s name l h none nodes → (n : ℕ) →
+    Contains before n ⊎ (Contains nodes n × Wanted n) → Contains before n ⊎ (IsNodeWithin s name low high n × Wanted n)
+added_within s name l low h high none nodes before Wanted is_low is_high empty only n there =
+    let L : List ℕ → Type 0 = λ b. HasOnly s name b h none nodes in
+    let H : Option (List ℕ) → Type 0 = λ b. HasOnly s name low b none nodes in
+    let all : HasOnly s name low high none nodes = subst H is_high (subst L is_low only) in
+    let by : Contains nodes n × Wanted n → Contains before n ⊎ (IsNodeWithin s name low high n × Wanted n) = λ is.
+    elim (all n is.0) [ inl before_all ↦ absurd (nothing_in none n empty before_all) | inr w ↦ inr (w, is.1) ] in
+    elim there [ inl old ↦ inl old | inr is ↦ by is ]

@@ -1,9 +1,8 @@
 -- What a comparison sees of a node, by the keys of an index.
-use Rattle.std.proofs.Common.{◌≡◌, ◌<◌, ◌^◌, ℕ, IsTrue, List, refl, sym, ap, ◌∙◌, subst, false, true, Some, None}
+use Rattle.std.proofs.Common.{◌≡◌, ◌<◌, ◌^◌, ℕ, IsTrue, List, refl, sym, ap, ◌∙◌, subst, Some, None}
 use Rattle.std.specs.Option.{option_map, IfSome, IfNone}
 use Rattle.std.proofs.lemmas.Option.{same_Some}
 use Rattle.std.specs.FinMap as map
-use Rattle.std.specs.Ordering.{is_lt}
 use Rattle.std.specs.declared.option.Option.{Option}
 use Rattle.be_value.specs.Key.{key, value_key, IsValue}
 use Rattle.be_value.specs.Value.{kind_of, is_indexable}
@@ -11,14 +10,13 @@ use Rattle.be_value.specs.declared.values.Kind.{Kind}
 use Rattle.be_value.specs.declared.values.Value.{Value}
 use Rattle.be_value.proofs.KeyOrder.{same_node}
 use Rattle.be_query.specs.Grammar.{Formula}
-use Rattle.be_volume.specs.Maps.{name_cmp}
 use Rattle.be_volume.specs.Query.{sat, sees, seen_in}
 use Rattle.be_volume.specs.Volume.{State}
 use Rattle.be_volume.specs.declared.maps.Index.{Index}
 use Rattle.be_volume.specs.Keys.{IsKey}
 use Rattle.be_volume.specs.Sound.{IsSound, IsPaired}
 use Rattle.be_volume.specs.Reading.{attribute, index_kind}
-use Rattle.be_plan.specs.Narrow.{Decides, IsPair, Within, is_above}
+use Rattle.be_plan.specs.Narrow.{Leaves, IsPair, Within, rest_true}
 
 -- a key ends with one node alone
 pub key_node : (v w : Value) (m n : ℕ) → m < 2 ^ 64 → n < 2 ^ 64 → key v m ≡ key w n → m ≡ n
@@ -100,11 +98,10 @@ module _ (s : State) (sound : IsSound s) (name bytes : List ℕ) (k : IsKey s na
   pub own_node : (value : Value) (node : ℕ) → node < 2 ^ 64 → bytes ≡ key value node → k.node ≡ node
   own_node value node fits e = key_node k.value value k.node node paired.node_fits fits (sym k.is ∙ e)
 
-  -- where the range decides a formula, it is true of the node of a key in the range
-  pub decided_key : (f : Formula) (low : List ℕ) (high : Option (List ℕ)) → Decides f name kind low high →
-      is_lt (name_cmp bytes low) ≡ false → is_above high bytes ≡ false → sat s f k.node ≡ true
-  decided_key f low high decides from to =
+  -- of the node of a key in the range the formula is true where what is left to ask is
+  pub left_key : (f : Formula) (low : List ℕ) (high : Option (List ℕ)) (rest : Option Formula) → Leaves f name kind low high rest →
+      Within low high bytes → sat s f k.node ≡ rest_true s rest k.node
+  left_key f low high rest leaves within =
       let pair : IsPair kind k.value k.node = record { is_value = paired.is_value; kind_is = paired.kind_is ∙ kinds; node_fits = paired.node_fits } in
       let P : List ℕ → Type 0 = Within low high in
-      decides s k.value k.node pair (subst P k.is (record { from_low = from; to_high = to }))
-      (ap (λ i. seen_in i (attribute s k.node name) k.node) k.there ∙ k.paired)
+      leaves s k.value k.node pair (subst P k.is within) (ap (λ i. seen_in i (attribute s k.node name) k.node) k.there ∙ k.paired)

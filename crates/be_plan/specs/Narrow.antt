@@ -1,5 +1,6 @@
 -- Which values and keys a walk over an index has to pass.
 use Rattle.std.specs.Prelude.{◌≡◌, ◌<◌, ◌≤◌, ◌+◌, ◌-◌, ◌^◌, ℕ, ℤ, pos, ◌≤ℤ◌, Bool, true, false, List, [], ◌∷◌, ◌++◌, Some, None, IsTrue, if◌then◌else◌}
+use Rattle.std.specs.Option.{option_map_or}
 use Rattle.std.specs.Ordering.{is_lt, is_gt}
 use Rattle.std.specs.declared.option.Option.{Option}
 use Rattle.be_value.specs.Key.{key, IsValue}
@@ -77,10 +78,14 @@ IsBetween least greatest (Cstr text) = ⊥
 IsBetween least greatest (Mims text) = ⊥
 IsBetween least greatest (Rawt bytes) = ⊥
 
--- The keys of a range from `low` to `high` decide the formula: whatever the volume, it is true of each node that has one of them in the index of that name.
-abbrev pub Decides : Formula → List ℕ → Kind → List ℕ → Option (List ℕ) → Type 0
-Decides f name kind low high =
-    (s : State) (value : Value) (node : ℕ) → IsPair kind value node → Within low high (key value node) → sees s node name ≡ Some value → sat s f node ≡ true
+-- what is left to ask is true of the node; where nothing is left, it is
+abbrev pub rest_true : State → Option Formula → ℕ → Bool
+rest_true s rest node = option_map_or (λ f. sat s f node) rest true
+
+-- Of nodes that have keys from `low` to `high` in the index of that name the formula is true where what is left to ask is, whatever the volume.
+abbrev pub Leaves : Formula → List ℕ → Kind → List ℕ → Option (List ℕ) → Option Formula → Type 0
+Leaves f name kind low high rest =
+    (s : State) (value : Value) (node : ℕ) → IsPair kind value node → Within low high (key value node) → sees s node name ≡ Some value → sat s f node ≡ rest_true s rest node
 
 -- what is above the byte behind a pattern's literal characters
 abbrev pub limit : Bool → ℕ

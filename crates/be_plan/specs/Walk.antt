@@ -1,10 +1,11 @@
 -- What a walk over an index collects.
-use Rattle.std.specs.Prelude.{◌≡◌, ◌⊎◌, ℕ, Bool, true, false, List, Some, slice_get}
+use Rattle.std.specs.Prelude.{◌≡◌, ◌⊎◌, ◌||◌, ℕ, Bool, true, false, List, Some, nat_eq, slice_get}
+use Rattle.std.specs.Cmp.Lexicographic.{pointwise}
 use Rattle.std.specs.List.{Contains}
 use Rattle.std.specs.Ordering.{is_lt}
 use Rattle.std.specs.declared.option.Option.{Option}
 use Rattle.be_value.specs.declared.values.Value.{Value}
-use Rattle.be_query.specs.Grammar.{Formula}
+use Rattle.be_query.specs.Grammar.{Formula, Leaf, And, Or}
 use Rattle.be_plan.specs.Cover.{Comparison, leaves}
 use Rattle.be_volume.specs.Maps.{name_cmp}
 use Rattle.be_volume.specs.Query.{sat, sees}
@@ -12,6 +13,12 @@ use Rattle.be_volume.specs.Volume.{State}
 use Rattle.be_volume.specs.Keys.{IsKey, IsNextKey}
 use Rattle.be_volume.specs.PairKeys.{is_from}
 use Rattle.be_plan.specs.Narrow.{Within, Allows}
+
+-- a comparison of the formula is on this name
+abbrev pub asks : Formula → List ℕ → Bool
+asks (Leaf own op literal) name = pointwise nat_eq own name
+asks (And a b) name = asks a name || asks b name
+asks (Or a b) name = asks a name || asks b name
 
 -- the formula is true of each of the nodes
 abbrev pub AllSatisfy : State → Formula → List ℕ → Type 0

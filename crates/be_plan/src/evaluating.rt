@@ -8,6 +8,7 @@ ghost use Rattle.be_query.specs.View.{formula, literal};
 ghost use Rattle.be_volume.specs.Query.{sees, sat};
 ghost use Rattle.be_volume.specs.Reading.{attribute};
 ghost use Rattle.be_volume.specs.Volume.{State};
+ghost use Rattle.be_plan.specs.Walk.{asks};
 
 use crate::Source;
 use be_query::{Comparison, Tree};
@@ -77,5 +78,30 @@ pub(crate) fn satisfies<S: Source>(
         Tree::Or(a, b) => {
             satisfies(source, a, name, value, node) || satisfies(source, b, name, value, node)
         }
+    }
+}
+
+/// Whether the tree is true of the node, where the source is asked for each comparison.
+pub(crate) fn is_true<S: Source>(source: &mut S, tree: &Tree, node: u64) -> bool
+    requires { (volume : State) × S.answers_for source.old volume }
+    ensures answer { (volume : State) → S.answers_for source.old volume → result ≡ sat volume (formula tree.now) node }
+    ensures stays { S.kept source.new ≡ S.kept source.old }
+    ensures answers { (volume : State) → S.answers_for source.old volume → S.answers_for source.new volume }
+    ensures still { (volume : State) × S.answers_for source.new volume }
+{
+    match tree {
+        Tree::Leaf(comparison) => is_seen_true(source, comparison, node),
+        Tree::And(a, b) => is_true(source, a, node) && is_true(source, b, node),
+        Tree::Or(a, b) => is_true(source, a, node) || is_true(source, b, node),
+    }
+}
+
+/// Whether a comparison of the tree is on this name.
+pub(crate) fn asks(tree: &Tree, name: &Name) -> bool
+    ensures { result ≡ asks (formula tree.now) name.now }
+{
+    match tree {
+        Tree::Leaf(comparison) => comparison.name == *name,
+        Tree::And(a, b) | Tree::Or(a, b) => asks(a, name) || asks(b, name),
     }
 }

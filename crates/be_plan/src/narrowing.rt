@@ -10,7 +10,8 @@
 //!
 //! What narrows a range tells whether that leaves no value of which the comparison, or the whole query, is false. Then the node of each key is
 //! an answer, and nothing is asked of it. A pattern is decided where it says no more than how a text begins.
-ghost use Rattle.std.specs.Prelude.{◌≡◌, ◌<◌, ◌≤◌, ◌+◌, ◌^◌, ℕ, ℤ, ◌≤ℤ◌, true, false, List, [], ◌∷◌, ◌++◌, Some, IfSome, IfOk, IfErr, IsUtf8, length};
+ghost use Rattle.std.specs.Prelude.{◌≡◌, ◌<◌, ◌≤◌, ◌+◌, ◌^◌, ℕ, ℤ, ◌≤ℤ◌, true, false, List, [], ◌∷◌, ◌++◌, ◌&&◌, Some, None, IfSome, IfOk, IfErr, IsUtf8, length};
+ghost use Rattle.std.specs.Option.{option_copied, option_map};
 ghost use Rattle.std.specs.Str.{chars};
 ghost use Rattle.be_pattern.specs.Match.{matches};
 ghost use Rattle.be_pattern.specs.Canonical.{is_plain};
@@ -21,8 +22,9 @@ ghost use Rattle.be_value.specs.declared.values.Value.{Value as AnyValue};
 ghost use Rattle.be_query.specs.Grammar.{comparisons, Exact};
 ghost use Rattle.be_query.specs.View.{formula, literal};
 ghost use Rattle.be_volume.specs.Maps.{name_cmp};
-ghost use Rattle.be_volume.specs.Query.{holds, holds_of_number, is_true_of, literal_number};
-ghost use Rattle.be_plan.specs.Narrow.{IsIn, IsBetween, IsPair, StandsFor, HasEnds, Allows, Decides, high_of, limit};
+ghost use Rattle.be_volume.specs.Query.{holds, holds_of_number, is_true_of, literal_number, sat};
+ghost use Rattle.be_volume.specs.Volume.{State};
+ghost use Rattle.be_plan.specs.Narrow.{IsIn, IsBetween, IsPair, StandsFor, HasEnds, Allows, Leaves, high_of, limit, rest_true};
 
 use crate::ranges::Range;
 use be_pattern::Pattern;
@@ -304,61 +306,100 @@ fn narrow(range: &mut Range, comparison: &Comparison, kind: Kind) -> bool
     }
 }
 
+/// What is left to ask of an `&&`, where this is left of its sides.
+fn rest_of_both<'a>(
+    tree: &'a Tree,
+    left: Option<&'a Tree>,
+    right: Option<&'a Tree>,
+) -> Option<&'a Tree>
+    ensures { (s : State) (node : ℕ) →
+        sat s (formula tree.now) node ≡ (rest_true s (option_map formula (option_copied left.entry)) node && rest_true s (option_map formula (option_copied right.entry)) node) →
+        sat s (formula tree.now) node ≡ rest_true s (option_map formula (option_copied result)) node }
+{
+    match (left, right) {
+        (None, right) => right,
+        (left, None) => left,
+        _ => Some(tree),
+    }
+}
+
+/// What is left to ask of an `||`, where this is left of one side: nothing, where nothing is.
+pub(crate) fn rest_of_or<'a>(tree: &'a Tree, rest: Option<&'a Tree>) -> Option<&'a Tree>
+    ensures { (s : State) (node : ℕ) → (option_map formula (option_copied rest.entry) ≡ None → sat s (formula tree.now) node ≡ true) →
+        sat s (formula tree.now) node ≡ rest_true s (option_map formula (option_copied result)) node }
+{
+    match rest {
+        Some(_) => Some(tree),
+        None => None,
+    }
+}
+
 /// Leaves out keys of values that a node can't have at this name where the part is true of it. An `||` leaves out none, since neither of its
-/// sides need be true. Whether what is left decides that the part is true.
-fn narrow_beside(range: &mut Range, tree: &Tree, name: &Name, kind: Kind) -> bool
+/// sides need be true. What is left to ask of the nodes of the other keys, none where the range decides the part.
+fn narrow_beside<'a>(range: &mut Range, tree: &'a Tree, name: &Name, kind: Kind) -> Option<&'a Tree>
     ensures within { (k : List ℕ) → IsIn range.new k → IsIn range.old k }
     ensures keeps { (pick at : ℕ) (v : AnyValue) (n : ℕ) → IsPair kind v n → Allows pick at (formula tree.now) name.now v →
         IsIn range.old (key_bytes v n) → IsIn range.new (key_bytes v n) }
-    ensures decides { result ≡ true → Decides (formula tree.now) name.now kind range.new.low.items (high_of range.new) }
+    ensures leaves { Leaves (formula tree.now) name.now kind range.new.low.items (high_of range.new) (option_map formula (option_copied result)) }
 {
     match tree {
-        Tree::Leaf(comparison) => comparison.name == *name && narrow(range, comparison, kind),
+        Tree::Leaf(comparison) => {
+            let decided = comparison.name == *name && narrow(range, comparison, kind);
+            if decided { None } else { Some(tree) }
+        }
         Tree::And(a, b) => {
             let left = narrow_beside(range, a, name, kind);
-            narrow_beside(range, b, name, kind) && left
+            let right = narrow_beside(range, b, name, kind);
+            rest_of_both(tree, left, right)
         }
-        Tree::Or(_, _) => false,
+        Tree::Or(_, _) => Some(tree),
     }
 }
 
 /// Leaves out keys of values that a node can't have at this name where the part, whose first comparison has the place `at`, is true of it by
-/// way of the pick. Whether that decides that the part is true; an `||` is decided by the side of the pick. Where the part ends before the
-/// pick, the range stays, and the answer is the place behind the part.
-pub(crate) fn narrow_all(
+/// way of the pick. What is left to ask of the nodes of the other keys; an `||` is decided by the side of the pick. Where the part ends before
+/// the pick, the range stays, and the answer is the place behind the part.
+pub(crate) fn narrow_all<'a>(
     range: &mut Range,
-    tree: &Tree,
+    tree: &'a Tree,
     at: usize,
     pick: usize,
     name: &Name,
     kind: Kind,
-) -> Result<bool, usize>
+) -> Result<Option<&'a Tree>, usize>
     requires few { at + comparisons (formula tree.now) ≤ 256 }
     requires from { at ≤ pick }
     ensures within { (k : List ℕ) → IsIn range.new k → IsIn range.old k }
     ensures keeps { (v : AnyValue) (n : ℕ) → IsPair kind v n → Allows pick at (formula tree.now) name.now v →
         IsIn range.old (key_bytes v n) → IsIn range.new (key_bytes v n) }
-    ensures decides { IfOk result (λ decided. decided ≡ true → Decides (formula tree.now) name.now kind range.new.low.items (high_of range.new)) }
+    ensures leaves { IfOk result (λ rest. Leaves (formula tree.now) name.now kind range.new.low.items (high_of range.new) (option_map formula (option_copied rest))) }
     ensures inside { IfOk result (λ _. pick < at + comparisons (formula tree.now)) }
     ensures behind { IfErr result (λ end. (end ≡ at + comparisons (formula tree.now)) × (end ≤ pick) × (range.new ≡ range.old)) }
 {
     match tree {
-        Tree::Leaf(comparison) => {
+        Tree::Leaf(_) => {
             if at < pick {
                 return Err(at + 1);
             }
-            Ok(comparison.name == *name && narrow(range, comparison, kind))
+            Ok(narrow_beside(range, tree, name, kind))
         }
         Tree::And(a, b) => match narrow_all(range, a, at, pick, name, kind) {
-            Ok(decided) => Ok(narrow_beside(range, b, name, kind) && decided),
+            Ok(left) => {
+                let right = narrow_beside(range, b, name, kind);
+                Ok(rest_of_both(tree, left, right))
+            }
             Err(middle) => {
-                let decided = narrow_all(range, b, middle, pick, name, kind)?;
-                Ok(narrow_beside(range, a, name, kind) && decided)
+                let right = narrow_all(range, b, middle, pick, name, kind)?;
+                let left = narrow_beside(range, a, name, kind);
+                Ok(rest_of_both(tree, left, right))
             }
         },
         Tree::Or(a, b) => match narrow_all(range, a, at, pick, name, kind) {
-            Ok(decided) => Ok(decided),
-            Err(middle) => narrow_all(range, b, middle, pick, name, kind),
+            Ok(rest) => Ok(rest_of_or(tree, rest)),
+            Err(middle) => {
+                let rest = narrow_all(range, b, middle, pick, name, kind)?;
+                Ok(rest_of_or(tree, rest))
+            }
         },
     }
 }

@@ -3,84 +3,88 @@
 //! What lies on the other side of an `||` says nothing of a pick, so a walk for it looks at its own part only. A query of many parts leans to
 //! the left: its last part is the right side of its first joint, and what is left of that joint begins with the same comparison. So where the
 //! picks are taken from the last to the first, each looks on from where the one before it was found, and all of them pass the joints once.
-ghost use Rattle.std.specs.Prelude.{◌≡◌, ◌≤◌};
-ghost use Rattle.be_query.specs.Grammar.{comparisons};
+ghost use Rattle.std.specs.Prelude.{◌≡◌, ◌≤◌, ◌<◌, ◌+◌};
+ghost use Rattle.be_query.specs.Grammar.{Formula, comparisons};
 ghost use Rattle.be_query.specs.View.{formula};
-ghost use Rattle.be_plan.specs.Spine.{IsUnderOr, cut_to, front_for, last_side, last_from};
+ghost use Rattle.be_plan.specs.Spine.{IsUnderOr, StandsIn};
 
 use crate::choosing::count;
 use be_query::Tree;
 
-/// How many comparisons the query has, as the first front to look in.
-pub(crate) fn whole_front(tree: &Tree) -> usize
-    requires { comparisons (formula tree.now) ≤ 256 }
-    ensures count { result ≡ comparisons (formula tree.now) }
-    ensures few { result ≤ 256 }
-    ensures under { IsUnderOr (formula tree.now) 0 (formula tree.now) }
-{
-    count(tree)
+/// A part of a query that begins with its first comparison, the number of its comparisons, and its last side: the right one of an `||`, else the
+/// part itself, which begins at the place `from`.
+#[derive(Clone, Copy)]
+pub(crate) struct Front<'a> {
+    pub(crate) tree: &'a Tree,
+    pub(crate) end: usize,
+    pub(crate) side: &'a Tree,
+    pub(crate) from: usize,
 }
 
-/// The front without the last sides of its joints `||` that begin behind the pick, and how many comparisons that has.
-fn cut_to(front: &Tree, end: usize, pick: usize) -> (&Tree, usize)
-    requires end { end ≡ comparisons (formula front.now) }
-    requires few { end ≤ 256 }
-    ensures front { formula result.0.now ≡ cut_to pick end (formula front.now) }
-    ensures end { result.1 ≡ comparisons (formula result.0.now) }
-    ensures few { result.1 ≤ 256 }
+/// The whole query, as the first front to look in.
+pub(crate) fn whole_front(tree: &Tree) -> Front<'_>
+    requires { comparisons (formula tree.now) ≤ 256 }
+    ensures end { result.end ≡ comparisons (formula result.tree.now) }
+    ensures few { result.end ≤ 256 }
+    ensures under { IsUnderOr (formula tree.now) 0 (formula result.tree.now) }
 {
-    match front {
+    Front {
+        tree,
+        end: count(tree),
+        side: tree,
+        from: 0,
+    }
+}
+
+/// Of a front of so many comparisons what is left where the last sides that begin behind the pick are cut off: so the pick stands in its last side.
+fn cut_behind(tree: &Tree, end: usize, pick: usize) -> Front<'_>
+    requires end { end ≡ comparisons (formula tree.now) }
+    requires few { end ≤ 256 }
+    requires within { pick < end }
+    ensures under { (whole : Formula) → IsUnderOr whole 0 (formula tree.now) → IsUnderOr whole 0 (formula result.tree.now) }
+    ensures end { result.end ≡ comparisons (formula result.tree.now) }
+    ensures few { result.end ≤ 256 }
+    ensures stands { (whole : Formula) → IsUnderOr whole 0 (formula tree.now) → StandsIn whole pick result.from (formula result.side.now) }
+    ensures side { result.from + comparisons (formula result.side.now) ≡ result.end }
+{
+    match tree {
         Tree::Or(a, b) => {
             let from = end - count(b);
             if pick < from {
-                cut_to(a, from, pick)
-            } else {
-                (front, end)
+                return cut_behind(a, from, pick);
+            }
+            Front {
+                tree,
+                end,
+                side: b,
+                from,
             }
         }
-        _ => (front, end),
+        _ => Front {
+            tree,
+            end,
+            side: tree,
+            from: 0,
+        },
     }
 }
 
-/// The part of the query from its first comparison on at whose end the pick's part stands, and how many comparisons it has. It is looked for
-/// in the front, and in the whole where the pick is behind that.
-pub(crate) fn front_for<'a>(
-    whole: &'a Tree,
-    front: &'a Tree,
-    end: usize,
-    pick: usize,
-) -> (&'a Tree, usize)
-    requires end { end ≡ comparisons (formula front.now) }
-    requires few { end ≤ 256 }
+/// The front in whose last side the pick stands. It is looked for in the front before, and in the whole where the pick is behind that.
+pub(crate) fn front_for<'a>(whole: &'a Tree, before: &Front<'a>, pick: usize) -> Front<'a>
+    requires end { before.now.end ≡ comparisons (formula before.now.tree.now) }
+    requires few { before.now.end ≤ 256 }
     requires whole { comparisons (formula whole.now) ≤ 256 }
-    ensures front { formula result.0.now ≡ front_for pick (formula whole.now) end (formula front.now) }
-    ensures end { result.1 ≡ comparisons (formula result.0.now) }
-    ensures few { result.1 ≤ 256 }
+    requires under { IsUnderOr (formula whole.now) 0 (formula before.now.tree.now) }
+    requires within { pick < comparisons (formula whole.now) }
+    ensures under { IsUnderOr (formula whole.now) 0 (formula result.tree.now) }
+    ensures end { result.end ≡ comparisons (formula result.tree.now) }
+    ensures few { result.end ≤ 256 }
+    ensures stands { StandsIn (formula whole.now) pick result.from (formula result.side.now) }
+    ensures side { result.from + comparisons (formula result.side.now) ≡ result.end }
 {
-    if pick < end {
-        cut_to(front, end, pick)
+    if pick < before.end {
+        cut_behind(before.tree, before.end, pick)
     } else {
-        cut_to(whole, count(whole), pick)
-    }
-}
-
-/// A part, and the place of its first comparison.
-fn placed(part: &Tree, from: usize) -> (&Tree, usize)
-    ensures part { result.0.now ≡ part.now }
-    ensures from { result.1 ≡ from }
-{
-    (part, from)
-}
-
-/// The last side of the front, and the place of its first comparison: the right one of an `||`, else the front itself.
-pub(crate) fn last_side(front: &Tree, end: usize) -> (&Tree, usize)
-    requires end { end ≡ comparisons (formula front.now) }
-    requires few { end ≤ 256 }
-    ensures part { formula result.0.now ≡ last_side (formula front.now) }
-    ensures from { result.1 ≡ last_from end (formula front.now) }
-{
-    match front {
-        Tree::Or(_, b) => placed(b, end - count(b)),
-        _ => placed(front, 0),
+        cut_behind(whole, count(whole), pick)
     }
 }

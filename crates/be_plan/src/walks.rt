@@ -1,9 +1,11 @@
 //! Walks over indices.
 //!
 //! A walk collects the nodes of the keys in a range of which the query is true. Where the range decides the query, all of them are answers,
-//! and the source gives them by one call. Elsewhere the walk goes from key to key by `next_key`, from the range's low end to the first key
-//! above its high end, and asks the query of each node. It asks for one key more than it passes.
-ghost use Rattle.std.specs.Prelude.{◌≡◌, ◌<◌, ◌^◌, ℕ, true, Some, OnOk, IfErr};
+//! and the source gives them by one call. Where it decides all that is said of the index's name, the source gives them too, and is asked the
+//! rest of each. Elsewhere the walk goes from key to key by `next_key`, from the range's low end to the first key above its high end, and asks
+//! the query of each node. It asks for one key more than it passes.
+ghost use Rattle.std.specs.Prelude.{◌≡◌, ◌⊎◌, ◌<◌, ◌^◌, ℕ, true, Some, OnOk, IfErr};
+ghost use Rattle.std.specs.Option.{option_copied, option_map};
 ghost use Rattle.std.specs.List.{Contains};
 ghost use Rattle.be_value.specs.Key.{key as key_bytes};
 ghost use Rattle.be_value.specs.declared.refusals.Refusal.TheVariants.{OutOfMemory};
@@ -13,14 +15,18 @@ ghost use Rattle.be_volume.specs.Keys.{IsKey};
 ghost use Rattle.be_volume.specs.Query.{sat};
 ghost use Rattle.be_volume.specs.Reading.{index_kind};
 ghost use Rattle.be_volume.specs.Volume.{State};
-ghost use Rattle.be_plan.specs.Narrow.{Decides, high_of};
-ghost use Rattle.be_plan.specs.Walk.{AllSatisfy, Keeps, HasWithin};
+ghost use Rattle.be_plan.specs.Narrow.{Leaves, high_of};
+ghost use Rattle.be_plan.specs.Walk.{AllSatisfy, IsNodeWithin, Keeps, HasWithin};
 
 use crate::Source;
-use crate::evaluating::satisfies;
+use crate::evaluating::{asks, is_true, satisfies};
 use crate::ranges::Range;
 use be_query::Tree;
 use be_value::{Kind, Name, Refusal, read_key};
+use std::alloc::Global;
+
+/// For so many nodes there is room from the start: for few hits the list doesn't grow.
+pub(crate) const ROOM: usize = 16;
 
 /// Adds the node of a key of the index of that name and kind, if the tree is true of it.
 fn visit<S: Source>(
@@ -85,20 +91,72 @@ fn visit_all<S: Source>(
     Ok(())
 }
 
-/// Adds the nodes of the keys in the range of which the tree is true. Where the range decides that, the source gives them by one call.
+/// Adds the node, if the tree is true of it, where the source is asked for each comparison.
+fn add_if_true<S: Source>(
+    source: &mut S,
+    tree: &Tree,
+    node: u64,
+    found: &mut Vec<u64>,
+) -> Result<(), Refusal>
+    ghost volume: { State }
+    requires answers { S.answers_for source.old volume }
+    ensures stays { S.kept source.new ≡ S.kept source.old }
+    ensures answers { S.answers_for source.new volume }
+    ensures memory { IfErr result (λ e. e ≡ OutOfMemory) }
+    ensures keeps { Keeps found.old.items found.new.items }
+    ensures only { (n : ℕ) → Contains found.new.items n → Contains found.old.items n ⊎ ((node ≡ n) × (sat volume (formula tree.now) n ≡ true)) }
+    ensures has { OnOk result (sat volume (formula tree.now) node ≡ true → Contains found.new.items node) }
+{
+    if is_true(source, tree, node) {
+        found.push(node)?;
+    }
+    Ok(())
+}
+
+/// Adds the nodes of the keys in the range of which the tree is true. The source gives the nodes by one call, and is asked of each.
+fn ask_each<S: Source>(
+    alloc: Global,
+    source: &mut S,
+    tree: &Tree,
+    name: &Name,
+    range: &Range,
+    found: &mut Vec<u64>,
+) -> Result<(), Refusal>
+    ghost volume: { State }
+    requires answers { S.answers_for source.old volume }
+    ensures stays { S.kept source.new ≡ S.kept source.old }
+    ensures answers { S.answers_for source.new volume }
+    ensures memory { IfErr result (λ e. e ≡ OutOfMemory) }
+    ensures keeps { Keeps found.old.items found.new.items }
+    ensures only { (n : ℕ) → Contains found.new.items n →
+        Contains found.old.items n ⊎ (IsNodeWithin volume name.now range.now.low.items (high_of range.now) n × (sat volume (formula tree.now) n ≡ true)) }
+    ensures has { OnOk result (HasWithin volume (formula tree.now) name.now range.now.low.items
+        (high_of range.now) found.new.items) }
+{
+    let mut nodes = Vec::with_capacity(alloc, ROOM)?;
+    source.nodes_within(name, range.low(), range.high(), &mut nodes)?;
+    for i in 0..nodes.len() {
+        add_if_true(source, tree, nodes[i], found)?;
+    }
+    Ok(())
+}
+
+/// Adds the nodes of the keys in the range of which the tree is true, where this is left to ask of them: nothing, where the range decides the
+/// tree. Where no comparison on the index's name is left, a key tells no more than its node.
 pub(crate) fn walk<S: Source>(
+    alloc: Global,
     source: &mut S,
     tree: &Tree,
     name: &Name,
     kind: Kind,
     range: &Range,
-    decided: bool,
+    rest: Option<&Tree>,
     found: &mut Vec<u64>,
 ) -> Result<(), Refusal>
     ghost volume: { State }
     requires answers { S.answers_for source.old volume }
     requires kind { index_kind volume name.now ≡ Some kind }
-    requires decided { decided ≡ true → Decides (formula tree.now) name.now kind range.now.low.items (high_of range.now) }
+    requires leaves { Leaves (formula tree.now) name.now kind range.now.low.items (high_of range.now) (option_map formula (option_copied rest)) }
     ensures stays { S.kept source.new ≡ S.kept source.old }
     ensures answers { S.answers_for source.new volume }
     ensures memory { IfErr result (λ e. e ≡ OutOfMemory) }
@@ -108,9 +166,12 @@ pub(crate) fn walk<S: Source>(
     ensures has { OnOk result (HasWithin volume (formula tree.now) name.now range.now.low.items
         (high_of range.now) found.new.items) }
 {
-    if decided {
-        source.nodes_within(name, range.low(), range.high(), found)
-    } else {
+    let Some(rest) = rest else {
+        return source.nodes_within(name, range.low(), range.high(), found);
+    };
+    if asks(rest, name) {
         visit_all(source, tree, name, kind, range, found)
+    } else {
+        ask_each(alloc, source, rest, name, range, found)
     }
 }

@@ -7,69 +7,37 @@
 use crate::tests::{replies, replies_of, volume_of};
 use be_value::Refusal;
 use be_volume::Volume;
-use std::alloc::Global;
+use std::alloc::{AllocError, Global};
 use std::test::Fail;
 
-/// The lines of a volume with an index k of a kind, which has these values of nodes 1, 2, ..
-fn lines_of_values(alloc: Global, kind: &str, words: &[&str]) -> Result<String, Refusal> {
-    let mut lines = format!(in alloc; "mkindex k {kind}")?;
-    let mut node: u64 = 0;
-    for word in words {
-        node = node.wrapping_add(1);
-        lines.push_str(format!(in alloc; "\nnew\nset {node} k {kind} {word}")?.as_str())?;
-    }
-    Ok(lines)
-}
-
-/// A volume with these values. A call that is refused memory is made again.
-fn volume_of_values(alloc: Global, kind: &str, words: &[&str]) -> Result<Volume, Refusal> {
-    let lines = match lines_of_values(alloc, kind, words) {
-        Err(Refusal::OutOfMemory) => lines_of_values(alloc, kind, words)?,
-        lines => lines?,
+/// A volume with an index k of a kind, of which nodes 1, 2, .. have so many values.
+fn volume_of_values(
+    alloc: Global,
+    kind: &str,
+    count: u64,
+    values: &str,
+) -> Result<Volume, Refusal> {
+    let lines = match lines_of_values(alloc, kind, count, values) {
+        Err(_) => lines_of_values(alloc, kind, count, values)?,
+        Ok(lines) => lines,
     };
     volume_of(alloc, lines.as_str())
 }
 
-/// Seven values of each kind in rising order, with the least and the greatest, and both sides of 0 or of the middle.
-const LONGS: [&str; 7] = [
-    "-2147483648",
-    "-2147483647",
-    "-1",
-    "0",
-    "1",
-    "2147483646",
-    "2147483647",
-];
+fn lines_of_values(
+    alloc: Global,
+    kind: &str,
+    count: u64,
+    values: &str,
+) -> Result<String, AllocError> {
+    format!(in alloc; "mkindex k {kind}\n{count} times new\neach k {kind} {values}")
+}
 
-const LLNGS: [&str; 7] = [
-    "-9223372036854775808",
-    "-9223372036854775807",
-    "-1",
-    "0",
-    "1",
-    "9223372036854775806",
-    "9223372036854775807",
-];
-
-const ULNGS: [&str; 7] = [
-    "0",
-    "1",
-    "2147483647",
-    "2147483648",
-    "2147483649",
-    "4294967294",
-    "4294967295",
-];
-
-const ULLGS: [&str; 7] = [
-    "0",
-    "1",
-    "9223372036854775807",
-    "9223372036854775808",
-    "9223372036854775809",
-    "18446744073709551614",
-    "18446744073709551615",
-];
+/// Of each kind seven values in rising order, with the least and the greatest, and both sides of 0 or of the middle.
+const SEVENS: &str = "LONG -2147483648 -2147483647 -1 0 1 2147483646 2147483647
+LLNG -9223372036854775808 -9223372036854775807 -1 0 1 9223372036854775806 9223372036854775807
+ULNG 0 1 2147483647 2147483648 2147483649 4294967294 4294967295
+ULLG 0 1 9223372036854775807 9223372036854775808 9223372036854775809 18446744073709551614 18446744073709551615";
 
 /// How many of seven values are so to the one at a place, by the place's values below it and above it.
 const OPERATORS: [(&str, [u64; 7]); 5] = [
@@ -99,46 +67,27 @@ fn exact_at(alloc: Global, volume: &Volume, word: &str, place: usize) -> Result<
 }
 
 /// Fails unless each range of a comparison with one of the values leaves out what it can.
-fn exact(alloc: Global, kind: &str, words: [&str; 7]) -> Result<(), Fail> {
-    let volume = volume_of_values(alloc, kind, &words)?;
-    for place in 0..7 {
-        exact_at(alloc, &volume, words[place], place)?;
+fn exact(alloc: Global, kind: &str, values: &str) -> Result<(), Fail> {
+    let volume = volume_of_values(alloc, kind, 7, values)?;
+    let mut place: usize = 0;
+    for word in values.split(' ') {
+        exact_at(alloc, &volume, word, place)?;
+        place = place.wrapping_add(1);
     }
     Ok(())
 }
 
 #[test]
-fn long_ranges_are_exact(rt: HostRuntime) -> Result<(), Fail> {
-    exact(rt.alloc(), "LONG", LONGS)
-}
-
-#[test]
-fn llng_ranges_are_exact(rt: HostRuntime) -> Result<(), Fail> {
-    exact(rt.alloc(), "LLNG", LLNGS)
-}
-
-#[test]
-fn ulng_ranges_are_exact(rt: HostRuntime) -> Result<(), Fail> {
-    exact(rt.alloc(), "ULNG", ULNGS)
-}
-
-#[test]
-fn ullg_ranges_are_exact(rt: HostRuntime) -> Result<(), Fail> {
-    exact(rt.alloc(), "ULLG", ULLGS)
+fn integer_ranges_are_exact(rt: HostRuntime) -> Result<(), Fail> {
+    for line in SEVENS.lines() {
+        let (kind, values) = line.split_once(" ").unwrap_or((line, ""));
+        exact(rt.alloc(), kind, values)?;
+    }
+    Ok(())
 }
 
 /// Texts in rising order: below a front, the front itself, those that begin with it, and above them.
-const TEXTS: [&str; 9] = [
-    "\"\"",
-    "a",
-    "a\u{1}",
-    "ab",
-    "aé",
-    "aéz",
-    "b",
-    "\u{10ffff}",
-    "\u{10ffff}z",
-];
+const TEXTS: &str = "\"\" a a\u{1} ab aé aéz b \u{10ffff} \u{10ffff}z";
 
 /// Patterns, and how many of the texts begin with what stands before the first wildcard, or are the text where none stands.
 const FRONTS: &str = "keys k==\"*\" => 9
@@ -156,21 +105,17 @@ keys k==c => 0";
 
 #[test]
 fn front_ranges_are_exact(rt: HostRuntime) -> Result<(), Fail> {
-    let volume = volume_of_values(rt.alloc(), "CSTR", &TEXTS)?;
+    let volume = volume_of_values(rt.alloc(), "CSTR", 9, TEXTS)?;
     replies(rt.alloc(), &volume, FRONTS)
 }
 
-/// The lines of a volume with five nodes, which have their number at k, p and q. Of these k and q have an index.
-fn lines_of_three(alloc: Global) -> Result<String, Refusal> {
-    let mut lines = String::from_str(alloc, "mkindex k ULLG\nmkindex q ULLG")?;
-    for node in 1..=5u64 {
-        lines.push_str("\nnew")?;
-        for name in ["k", "p", "q"] {
-            lines.push_str(format!(in alloc; "\nset {node} {name} ULLG {node}")?.as_str())?;
-        }
-    }
-    Ok(lines)
-}
+/// A volume with five nodes, which have their number at k, p and q. Of these k and q have an index.
+const FIVE: &str = "mkindex k ULLG
+mkindex q ULLG
+5 times new
+each k ULLG 1 2 3 4 5
+each p ULLG 1 2 3 4 5
+each q ULLG 1 2 3 4 5";
 
 /// Of a node that a walk finds, the key tells the value at the picked name. At other names it is asked for, and where the comparison is true of
 /// it, and the name has an index, that is searched.
@@ -182,9 +127,5 @@ looks k!=3&&q!=2&&p==1 => values 7 searches 3";
 
 #[test]
 fn looks_are_exact(rt: HostRuntime) -> Result<(), Fail> {
-    let lines = match lines_of_three(rt.alloc()) {
-        Err(Refusal::OutOfMemory) => lines_of_three(rt.alloc())?,
-        lines => lines?,
-    };
-    replies_of(rt.alloc(), lines.as_str(), LOOKS)
+    replies_of(rt.alloc(), FIVE, LOOKS)
 }

@@ -1,6 +1,7 @@
 //! Worked examples, over a plain volume's source that writes down its calls.
 //!
-//! A volume is made by lines of a script, such as `set 1 n LONG 5`; `6 times new` is six of them. What is asked of it stands
+//! A volume is made by lines of a script, such as `set 1 n LONG 5`; `6 times new` is six of them, and `each n LONG 5 7` sets
+//! the attribute of nodes 1, 2, .. to one of these values each. What is asked of it stands
 //! in lines `COMMAND QUERY => REPLY`. The command `explain` asks what the query is answered from, and `query` for its nodes
 //! by these picks. Digits are a command too: the nodes by these picks, a digit for each. Behind the nodes stands of which
 //! indices a key was asked, the first letter of the name for each call, and for a range that is asked for whole, one for each
@@ -13,6 +14,7 @@ use crate::counting::{nodes_by, nodes_chosen};
 use be_language::{Request, read_line};
 use be_plan::{Cover, Picks, Source, choose, explain, volume_source};
 use be_query::{Query, parse};
+use be_testing::{Answers, check_lines};
 use be_value::{Kind, Name, Refusal, word_of};
 use be_volume::Volume;
 use std::alloc::Global;
@@ -31,16 +33,56 @@ fn write(alloc: Global, volume: &mut Volume, line: &str) -> Result<(), Refusal> 
     Ok(())
 }
 
-/// Makes a volume. An operation that is refused memory is done again.
+/// Does the operation of a line, again where it is refused memory.
+fn write_line(alloc: Global, volume: &mut Volume, line: &str) -> Result<(), Refusal> {
+    match write(alloc, volume, line) {
+        Err(Refusal::OutOfMemory) => write(alloc, volume, line),
+        done => done,
+    }
+}
+
+/// Sets an attribute of a node to a value.
+fn set_one(
+    alloc: Global,
+    volume: &mut Volume,
+    node: u64,
+    attribute: &str,
+    value: &str,
+) -> Result<(), Refusal> {
+    let line = match format!(in alloc; "set {node} {attribute} {value}") {
+        Err(_) => format!(in alloc; "set {node} {attribute} {value}")?,
+        Ok(line) => line,
+    };
+    write_line(alloc, volume, line.as_str())
+}
+
+/// Sets an attribute of nodes 1, 2, .. to a value each. Its name and its kind stand before these.
+fn set_each(alloc: Global, volume: &mut Volume, words: &str) -> Result<(), Refusal> {
+    let (name, words) = words.split_once(" ").unwrap_or((words, ""));
+    let (kind, values) = words.split_once(" ").unwrap_or((words, ""));
+    let attribute = match format!(in alloc; "{name} {kind}") {
+        Err(_) => format!(in alloc; "{name} {kind}")?,
+        Ok(attribute) => attribute,
+    };
+    let mut node: u64 = 0;
+    for value in values.split(' ') {
+        node = node.wrapping_add(1);
+        set_one(alloc, volume, node, attribute.as_str(), value)?;
+    }
+    Ok(())
+}
+
+/// Makes a volume.
 pub(crate) fn volume_of(alloc: Global, lines: &str) -> Result<Volume, Refusal> {
     let mut volume = Volume::new(alloc);
     for line in lines.lines() {
+        if let Some(words) = line.strip_prefix("each ") {
+            set_each(alloc, &mut volume, words)?;
+            continue;
+        }
         let (times, line) = line.split_once(" times ").unwrap_or(("1", line));
         for _ in 0..word_of(times.as_bytes()).unwrap_or(0) {
-            match write(alloc, &mut volume, line) {
-                Err(Refusal::OutOfMemory) => write(alloc, &mut volume, line)?,
-                done => done?,
-            }
+            write_line(alloc, &mut volume, line)?;
         }
     }
     Ok(volume)
@@ -111,33 +153,25 @@ fn answer(alloc: Global, volume: &Volume, command: &str, query: &Query) -> Resul
     found(alloc, volume, query, &cover)
 }
 
-/// The reply to a request; refused with OutOfMemory alone.
-fn reply_to(alloc: Global, volume: &Volume, request: &str) -> Result<String, Refusal> {
-    let Some((command, text)) = request.split_once(" ") else {
-        return Ok(String::new(alloc));
-    };
-    match answer(alloc, volume, command, &parse(alloc, text)?) {
-        Err(Refusal::NotCovered) => Ok(String::from_str(alloc, "refused 17")?),
-        reply => reply,
+/// A volume that answers requests.
+#[derive(Drop)]
+struct Asked<'a> {
+    volume: &'a Volume,
+}
+
+impl Answers for Asked<'_> {
+    fn reply(&mut self, alloc: Global, request: &str) -> Result<String, Refusal> {
+        let (command, text) = request.split_once(" ").unwrap_or((request, ""));
+        match answer(alloc, self.volume, command, &parse(alloc, text)?) {
+            Err(Refusal::NotCovered) => Ok(String::from_str(alloc, "refused 17")?),
+            reply => reply,
+        }
     }
 }
 
-/// Fails unless each request has its reply. A request that is refused memory is made again: so each example passes with any one request for
-/// memory refused.
+/// Fails unless each request has its reply.
 pub(crate) fn replies(alloc: Global, volume: &Volume, lines: &str) -> Result<(), Fail> {
-    for line in lines.lines() {
-        let Some((request, expected)) = line.split_once(" => ") else {
-            return Err(Fail::new("no reply"));
-        };
-        let reply = match reply_to(alloc, volume, request) {
-            Err(Refusal::OutOfMemory) => reply_to(alloc, volume, request)?,
-            reply => reply?,
-        };
-        if reply.as_str() != expected {
-            return Err(Fail::new(line));
-        }
-    }
-    Ok(())
+    check_lines(alloc, &mut Asked { volume }, lines)
 }
 
 /// The same on a volume of these lines.
@@ -214,18 +248,8 @@ explain z==1 && (b==2 || z==3) => refused 17";
 const NUMBERS: &str = "mkindex n LONG
 mkindex m LONG
 6 times new
-set 1 n LONG 1
-set 2 n LONG 2
-set 3 n LONG 3
-set 4 n LONG 4
-set 5 n LONG 5
-set 6 n LONG 6
-set 1 m LONG 6
-set 2 m LONG 5
-set 3 m LONG 4
-set 4 m LONG 3
-set 5 m LONG 2
-set 6 m LONG 1";
+each n LONG 1 2 3 4 5 6
+each m LONG 6 5 4 3 2 1";
 
 /// A walk is bounded by what stands beside its pick under `&&`, and by nothing under an `||` that the pick isn't in.
 #[test]
@@ -297,12 +321,7 @@ set 1 w ULLG 5";
 fn bounds_of_texts(rt: HostRuntime) -> Result<(), Fail> {
     let lines = "mkindex t CSTR
 6 times new
-set 1 t CSTR a
-set 2 t CSTR ab
-set 3 t CSTR abc
-set 4 t CSTR ac
-set 5 t CSTR b
-set 6 t CSTR é";
+each t CSTR a ab abc ac b é";
     let requests = "0 t==ab => nodes 2 asks tt
 0 t==\"ab*\" => nodes 2 3 asks ttt
 0 t==\"a?\" => nodes 2 4 asks ttttt
@@ -362,9 +381,7 @@ fn gives_keys(volume: &Volume, index: &Name, other: &Name) -> bool {
 fn plan_source(rt: HostRuntime) -> Result<(), Fail> {
     let lines = "mkindex k CSTR
 3 times new
-set 1 k CSTR x
-set 2 k CSTR x
-set 3 k CSTR x
+each k CSTR x x x
 drop 2
 new";
     let k = Name::new("k")?;
@@ -393,10 +410,7 @@ fn with_long(alloc: Global, text: &str) -> Result<String, Refusal> {
 fn bounds_of_long_texts(rt: HostRuntime) -> Result<(), Fail> {
     let lines = "mkindex t CSTR
 4 times new
-set 1 t CSTR a
-set 2 t CSTR Mm
-set 3 t CSTR Mn
-set 4 t CSTR z";
+each t CSTR a Mm Mn z";
     let requests = "0 t>=Mmm => nodes 3 4 asks ttt
 0 t>Mmm => nodes 3 4 asks ttt
 0 t<Mmm => nodes 1 2 asks ttt
@@ -446,16 +460,7 @@ fn decided(alloc: Global, volume: &Volume, text: &str, ranges: u64) -> Result<()
 /// Texts around the fronts of patterns: of one, two and four bytes a character, with the least byte behind a front, and of 255 bytes.
 const BY_FRONT: &str = "mkindex t CSTR
 10 times new
-set 1 t CSTR a
-set 2 t CSTR a\u{1}
-set 3 t CSTR ab
-set 4 t CSTR aé
-set 5 t CSTR aéz
-set 6 t CSTR aè
-set 7 t CSTR \u{10ffff}
-set 8 t CSTR Mm
-set 9 t CSTR M
-set 10 t CSTR b";
+each t CSTR a a\u{1} ab aé aéz aè \u{10ffff} Mm M b";
 
 fn volume_by_front(alloc: Global) -> Result<Volume, Refusal> {
     volume_of(alloc, with_long(alloc, BY_FRONT)?.as_str())

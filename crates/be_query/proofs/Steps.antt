@@ -1,13 +1,13 @@
 -- What one token changes.
-use Rattle.std.proofs.Common.{◌≡◌, ℕ, ◌+◌, ◌-◌, ◌<◌, ◌≤◌, zero, suc, Some, None, List, [], ◌∷◌, ◌++◌, length, map, reverse, refl, sym, ap, ◌∙◌, arith, cond}
+use Rattle.std.proofs.Common.{◌≡◌, ℕ, ◌+◌, ◌-◌, ◌<◌, ◌≤◌, Bool, true, false, zero, suc, Some, None, List, [], ◌∷◌, ◌++◌, length, map, reverse, refl, sym, ap, ◌∙◌, arith, cond}
 use Rattle.std.proofs.lemmas.Bool.{lt-leb}
 use Rattle.be_value.specs.declared.refusals.Refusal.{Refusal}
 use Rattle.be_value.specs.declared.refusals.Refusal.TheVariants.{Syntax, BadPattern, TooMany}
 use Rattle.be_query.specs.declared.tree.Cmp.{Cmp}
-use Rattle.be_query.specs.Grammar.{Formula, Leaf, literal_of}
+use Rattle.be_query.specs.Grammar.{Formula, Leaf, Literal, literal_of}
 use Rattle.be_query.specs.Tokens.{Token, Close, Text}
 use Rattle.be_query.specs.Reading.{Awaited, Value, Joint, Mark, Paren, ended, next}
-use Rattle.be_query.specs.Building.{Level, Stage, Values, Joints, State, turned, conjunction, ended_level, with_side, joined, close, build_at, awaited_at, negations_on, outer_marks, marks_of, view_of, IsSettledAt}
+use Rattle.be_query.specs.Building.{Level, Stage, Values, Joints, State, turned, turned_operator, conjunction, ended_level, with_side, joined, close, build_at, awaited_at, negations_on, outer_marks, marks_of, view_of, IsSettledAt}
 use Rattle.be_query.specs.Lexing.{Placed, Whole}
 use Rattle.be_query.specs.Faults.{first_fault, own_fault, counted, bad_pattern, value_fault, ends}
 use Rattle.be_query.proofs.Trees.{seen, build_seen}
@@ -49,6 +49,10 @@ pub own_stops : (place : Awaited) (marks : List Mark) (n len : ℕ) (x : Placed)
     → x.lexeme ≡ Whole t → next place marks t ≡ Some s → own_fault place marks n x.start t ≡ Some e
     → first_fault place marks n len (x ∷ xs) ≡ Some e
 own_stops place marks n len x t xs s e l k h = rw l (rw k (rw h refl))
+
+pub turned_leaf : (negated : Bool) (name : List ℕ) (op : Cmp) (value : Literal) → Leaf name (turned_operator negated op) value ≡ turned negated (Leaf name op value)
+turned_leaf false name op value = refl
+turned_leaf true name op value = refl
 
 pub value_built : (name : List ℕ) (op : Cmp) (raw : List ℕ) (t : Token) (level after : Level) (outer : List Level) (leaf tree : Formula)
     → t ≡ Text raw → leaf ≡ turned level.operand_negated (Leaf name op (literal_of op raw)) → tree ≡ joined (conjunction level.negated) level.and_left leaf → after ≡ ended_level level

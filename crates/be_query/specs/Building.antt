@@ -2,7 +2,7 @@
 use Rattle.std.specs.Prelude.{◌≡◌, ℕ, zero, suc, Bool, true, false, Option, Some, None, List, [], ◌∷◌, not, if◌then◌else◌}
 use Rattle.be_query.specs.declared.tree.Cmp.{Cmp}
 use Rattle.be_query.specs.Tokens.{Token, Open, Close, Bang, Both, Either, Compares, Text, plain, is_name}
-use Rattle.be_query.specs.Grammar.{Formula, Leaf, And, Or, complement, literal_of}
+use Rattle.be_query.specs.Grammar.{Formula, Leaf, And, Or, complement, opposite, literal_of}
 use Rattle.be_query.specs.Reading.{Awaited, Operand, Operator, Value, Joint, Mark, Paren, Negation}
 
 -- What waits for its right end inside one pair of parentheses: the left sides of `||` and `&&`, and the number of `!`.
@@ -40,14 +40,18 @@ abbrev pub turned : Bool → Formula → Formula
 turned false t = t
 turned true t = complement t
 
+-- the operator of a comparison there
+abbrev pub turned_operator : Bool → Cmp → Cmp
+turned_operator false op = op
+turned_operator true op = opposite op
+
 -- what `&&` joins its sides to there, and `||`
 abbrev pub conjunction : Bool → Formula → Formula → Formula
 conjunction false l r = And l r
 conjunction true l r = Or l r
 
 abbrev pub disjunction : Bool → Formula → Formula → Formula
-disjunction false l r = Or l r
-disjunction true l r = And l r
+disjunction negated = conjunction (not negated)
 
 abbrev pub joined : (Formula → Formula → Formula) → Option Formula → Formula → Formula
 joined join None t = t

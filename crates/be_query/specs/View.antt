@@ -1,6 +1,6 @@
 -- The values of the code, as the definitions see them. Of these only `formula`, `literal` and `IsMemory` stand in public contracts.
 use Rattle.std.specs.Prelude.{◌≡◌, ◌⊎◌, ◌<◌, ◌≤◌, ◌-◌, ℕ, Bool, true, if◌then◌else◌, ◌||◌, ◌==◌, ◌+◌, Option, Some, None, List, [], ◌∷◌, string_bytes, map, reverse, length, drop, IsUtf8, false}
-use Rattle.be_value.specs.Name.{has_nul}
+use Rattle.be_value.specs.Name.{name_from, has_nul}
 use Rattle.std.specs.Prelude.{get_or}
 use Rattle.be_value.specs.declared.refusals.Refusal.{Refusal}
 use Rattle.be_value.specs.declared.refusals.Refusal.TheVariants.{OutOfMemory}
@@ -16,7 +16,8 @@ use Rattle.be_query.specs.declared.parser.Context as code_context
 use Rattle.be_query.specs.declared.parser.Parser as code_parser
 use Rattle.be_query.specs.declared.printing.Place as code_place
 use Rattle.be_query.specs.Printing.{or_text, and_text, operand_text}
-use Rattle.be_query.specs.Tokens.{Token, Open, Close, Bang, Both, Either, Compares, Text}
+use Rattle.std.specs.Result.{is_ok}
+use Rattle.be_query.specs.Tokens.{Token, Open, Close, Bang, Both, Either, Compares, Text, plain}
 use Rattle.be_query.specs.Grammar.{Formula, Leaf, And, Or, Literal, Wild, Exact}
 use Rattle.be_query.specs.Building.{Level, Stage, Operands, Operators, Values, Joints, State, IsSettledAt, marks_of, awaited_at, build_at}
 use Rattle.be_query.specs.Lexing.{Placed, Lexeme, Whole, Broken, Odd, Separator, Takes, front, is_sign}
@@ -40,8 +41,8 @@ level_of l = record { negated = l.negated; operand_negated = l.operand_negated; 
 
 abbrev pub stage_of : code_stage.Stage → Stage
 stage_of code_stage.TheVariants.Operand = Operands
-stage_of (code_stage.TheVariants.Operator name) = Operators name
-stage_of (code_stage.TheVariants.Value name op) = Values name op
+stage_of (code_stage.TheVariants.Operator raw) = Operators (plain raw.now)
+stage_of (code_stage.TheVariants.Value raw op) = Values (plain raw.now) op
 stage_of (code_stage.TheVariants.Joint tree) = Joints (formula tree.value)
 
 abbrev pub token_of : code_token.Token → Token
@@ -90,8 +91,16 @@ state_of stage c = record { stage = stage; level = level_of c.level; outer = out
 abbrev pub parser_state : code_parser.Parser → State
 parser_state p = state_of (stage_of p.stage) p.context
 
--- the counts are right
+-- what waits for an operator or a value is a name
+abbrev pub IsNamed : Stage → Type 0
+IsNamed Operands = Unit {0}
+IsNamed (Operators name) = is_ok (name_from name) ≡ true
+IsNamed (Values name op) = is_ok (name_from name) ≡ true
+IsNamed (Joints t) = Unit {0}
+
+-- the counts are right, and so is the name
 pub record IsCounted (stage : Stage) (c : code_context.Context) : Type 0 where
+  pub named : IsNamed stage
   pub settled : IsSettledAt stage (level_of c.level)
   pub deep : c.depth ≡ length (marks_of (level_of c.level) (outer_of c))
   pub shallow : c.depth ≤ 64

@@ -8,9 +8,9 @@ ghost use Rattle.std.specs.Result.{is_ok};
 ghost use Rattle.std.specs.Str.{chars};
 ghost use Rattle.be_pattern.specs.Parse.{pattern};
 ghost use Rattle.be_value.specs.Name.{name_from};
-ghost use Rattle.be_query.specs.Building.{Operands, Operators, Values, Joints, fresh, turned, conjunction, disjunction, joined};
+ghost use Rattle.be_query.specs.Building.{Operands, Operators, Values, Joints, fresh, turned_operator, conjunction, joined};
 ghost use Rattle.be_query.specs.Building.{ended_level, with_side, with_operand, State};
-ghost use Rattle.be_query.specs.Grammar.{Leaf, literal_of};
+ghost use Rattle.be_query.specs.Grammar.{literal_of};
 ghost use Rattle.be_query.specs.Faults.{bad_pattern};
 ghost use Rattle.be_query.specs.Tokens.{is_name, plain};
 ghost use Rattle.be_query.specs.View.{IsMemory, text_len, literal, formula, level_of, side_of, stage_of, token_of, IsCounted, TakesToken, Refuses};
@@ -44,12 +44,13 @@ pub(crate) struct Level {
     negations: usize,
 }
 
-/// What may come next, with the comparison or the tree before it.
+/// What may come next, with the comparison or the tree before it. A name is as the text has it: it is small to move, and
+/// is made once its comparison is.
 #[derive(Drop)]
-pub(crate) enum Stage {
+pub(crate) enum Stage<'a> {
     Operand,
-    Operator(Name),
-    Value(Name, Cmp),
+    Operator(&'a str),
+    Value(&'a str, Cmp),
     Joint(Box<Tree>),
 }
 
@@ -66,8 +67,8 @@ pub(crate) struct Context {
 
 /// A query that was read up to a token.
 #[derive(Drop)]
-pub(crate) struct Parser {
-    stage: Stage,
+pub(crate) struct Parser<'a> {
+    stage: Stage<'a>,
     context: Context,
 }
 
@@ -86,14 +87,14 @@ impl Level {
     }
 }
 
-impl Parser {
+impl<'a> Parser<'a> {
     ghost use Rattle.be_query.specs.Building.{start, tree_at};
     ghost use Rattle.be_query.specs.Faults.{broken_at, ends};
     ghost use Rattle.be_query.specs.Building.{awaited_at, marks_of};
     ghost use Rattle.be_query.specs.View.{outer_of, parser_state};
 
     /// At the start of a text.
-    pub(crate) fn new(alloc: Global) -> Parser
+    pub(crate) fn new(alloc: Global) -> Parser<'a>
         ensures counted { IsCounted (stage_of result.stage) result.context }
         ensures start { parser_state result ≡ start }
         ensures none { result.context.comparisons ≡ 0 }
@@ -116,7 +117,7 @@ impl Parser {
         alloc: Global,
         at: usize,
         start: usize,
-        token: Token,
+        token: Token<'a>,
     ) -> Result<(), Refusal>
         requires counted { IsCounted (stage_of self.now.stage) self.now.context }
         requires fits { start + text_len (token_of token) < 2 ^ 64 }
@@ -158,12 +159,12 @@ impl Parser {
     }
 
     /// The tree at the end of a text of so many bytes.
-    pub(crate) fn finish(self, alloc: Global, len: usize) -> Result<Tree, Refusal>
+    pub(crate) fn finish(self, alloc: Global, len: usize) -> Result<Box<Tree>, Refusal>
         requires { IsCounted (stage_of self.stage) self.context }
-        ensures ok { IfOk result (λ t. tree_at (stage_of self.stage) (level_of self.context.level) (outer_of self.context) ≡ Some (formula t)) }
-        ensures ends { IfOk result (λ t. ends (awaited_at (stage_of self.stage)) (marks_of (level_of self.context.level) (outer_of self.context)) len ≡ None) }
+        ensures ok { IfOk result (λ t. tree_at (stage_of self.entry.stage) (level_of self.entry.context.level) (outer_of self.entry.context) ≡ Some (formula t.value)) }
+        ensures ends { IfOk result (λ t. ends (awaited_at (stage_of self.entry.stage)) (marks_of (level_of self.entry.context.level) (outer_of self.entry.context)) len ≡ None) }
         ensures err { IfErr result (λ e. IsMemory e
-            (ends (awaited_at (stage_of self.stage)) (marks_of (level_of self.context.level) (outer_of self.context)) len ≡ Some e)) }
+            (ends (awaited_at (stage_of self.entry.stage)) (marks_of (level_of self.entry.context.level) (outer_of self.entry.context)) len ≡ Some e)) }
     {
         let Parser { stage, context } = self;
         let Context {
@@ -178,8 +179,7 @@ impl Parser {
                 if !outer.is_empty() {
                     return Err(Refusal::Syntax(len));
                 }
-                let tree = end_side(alloc, &mut level, tree)?;
-                Ok(Box::into_inner(tree))
+                Ok(end_side(alloc, &mut level, tree)?)
             }
             Stage::Operand => Err(Refusal::Syntax(len)),
             Stage::Operator(_) => Err(Refusal::Syntax(len)),
@@ -189,12 +189,12 @@ impl Parser {
 }
 
 /// Takes a token where an operand begins.
-fn take_operand(
+fn take_operand<'a>(
     alloc: Global,
     context: &mut Context,
     at: usize,
-    token: Token,
-) -> Result<Stage, Refusal>
+    token: Token<'a>,
+) -> Result<Stage<'a>, Refusal>
     requires { IsCounted Operands context.now }
     ensures ok { IfOk result (λ s. (start : ℕ) → TakesToken Operands context.old at start (token_of token.entry) s context.new) }
     ensures err { IfErr result (λ e. (start : ℕ) → Refuses Operands context.old at start (token_of token.entry) e) }
@@ -220,7 +220,7 @@ fn take_operand(
             Ok(Stage::Operand)
         }
         Token::Text(raw) => match read_name(alloc, raw)? {
-            Some(name) => Ok(Stage::Operator(name)),
+            Some(_) => Ok(Stage::Operator(raw)),
             None => Err(Refusal::Syntax(at)),
         },
         Token::Close | Token::Both | Token::Either | Token::Compares(_) => Err(Refusal::Syntax(at)),
@@ -228,36 +228,36 @@ fn take_operand(
 }
 
 /// Takes a token where an operator must stand.
-fn take_operator(
-    name: Name,
+fn take_operator<'a>(
+    raw: &'a str,
     context: &mut Context,
     at: usize,
-    token: Token,
-) -> Result<Stage, Refusal>
-    requires { IsCounted (Operators name) context.now }
-    ensures ok { IfOk result (λ s. (start : ℕ) → TakesToken (Operators name) context.old at start (token_of token.entry) s context.new) }
-    ensures err { IfErr result (λ e. (start : ℕ) → Refuses (Operators name) context.old at start (token_of token.entry) e) }
+    token: Token<'a>,
+) -> Result<Stage<'a>, Refusal>
+    requires { IsCounted (Operators (plain raw.now)) context.now }
+    ensures ok { IfOk result (λ s. (start : ℕ) → TakesToken (Operators (plain raw.now)) context.old at start (token_of token.entry) s context.new) }
+    ensures err { IfErr result (λ e. (start : ℕ) → Refuses (Operators (plain raw.now)) context.old at start (token_of token.entry) e) }
 {
     match token {
-        Token::Compares(op) => Ok(Stage::Value(name, op)),
+        Token::Compares(op) => Ok(Stage::Value(raw, op)),
         _ => Err(Refusal::Syntax(at)),
     }
 }
 
 /// Takes a token where a value must stand, whose text begins at a place.
-fn take_value(
+fn take_value<'a>(
     alloc: Global,
-    name: Name,
+    name: &'a str,
     op: Cmp,
     context: &mut Context,
     at: usize,
     start: usize,
-    token: Token,
-) -> Result<Stage, Refusal>
-    requires counted { IsCounted (Values name op) context.now }
+    token: Token<'a>,
+) -> Result<Stage<'a>, Refusal>
+    requires counted { IsCounted (Values (plain name.now) op) context.now }
     requires fits { start + text_len (token_of token) < 2 ^ 64 }
-    ensures ok { IfOk result (λ s. TakesToken (Values name op) context.old at start (token_of token.entry) s context.new) }
-    ensures err { IfErr result (Refuses (Values name op) context.old at start (token_of token.entry)) }
+    ensures ok { IfOk result (λ s. TakesToken (Values (plain name.now) op) context.old at start (token_of token.entry) s context.new) }
+    ensures err { IfErr result (Refuses (Values (plain name.now) op) context.old at start (token_of token.entry)) }
 {
     let Token::Text(raw) = token else {
         return Err(Refusal::Syntax(at));
@@ -270,12 +270,13 @@ fn take_value(
     if context.comparisons >= MAX_COMPARISONS {
         return Err(Refusal::TooMany);
     }
+    let made = read_name(alloc, name)?;
+    let Some(name) = made else {
+        return Err(Refusal::Syntax(at));
+    };
     let ended = context.level.negations;
-    let comparison = Comparison { name, op, literal };
-    let leaf = Box::new(
-        alloc,
-        turned_leaf(context.level.operand_negated, comparison),
-    )?;
+    let op = turned_operator(context.level.operand_negated, op);
+    let leaf = Box::new(alloc, Tree::Leaf(Comparison { name, op, literal }))?;
     let tree = end_operand(alloc, &mut context.level, leaf)?;
     context.depth -= ended;
     context.comparisons += 1;
@@ -283,13 +284,13 @@ fn take_value(
 }
 
 /// Takes a token behind an operand.
-fn take_joint(
+fn take_joint<'a>(
     alloc: Global,
     tree: Box<Tree>,
     context: &mut Context,
     at: usize,
-    token: Token,
-) -> Result<Stage, Refusal>
+    token: Token<'a>,
+) -> Result<Stage<'a>, Refusal>
     requires { IsCounted (Joints (formula tree.value)) context.now }
     ensures ok { IfOk result (λ s. (start : ℕ) → TakesToken (Joints (formula tree.value)) context.old at start (token_of token.entry) s context.new) }
     ensures err { IfErr result (λ e. (start : ℕ) → Refuses (Joints (formula tree.value)) context.old at start (token_of token.entry) e) }
@@ -413,35 +414,11 @@ pub(crate) fn read_literal(
     }
 }
 
-/// A comparison, or its complement inside an odd number of `!`.
-fn turned_leaf(negated: bool, comparison: Comparison) -> Tree
-    ensures { formula result ≡ turned negated (Leaf comparison.name comparison.op (literal comparison.literal)) }
+/// A comparison's operator, or inside an odd number of `!` that of its complement.
+fn turned_operator(negated: bool, op: Cmp) -> Cmp
+    ensures { result ≡ turned_operator negated op }
 {
-    let Comparison { name, op, literal } = comparison;
-    let op = if negated { op.opposite() } else { op };
-    Tree::Leaf(Comparison { name, op, literal })
-}
-
-/// What `&&` makes of its sides, which inside an odd number of `!` are complements.
-fn conjunction(negated: bool, left: Box<Tree>, right: Box<Tree>) -> Tree
-    ensures { formula result ≡ conjunction negated (formula left.value) (formula right.value) }
-{
-    if negated {
-        Tree::Or(left, right)
-    } else {
-        Tree::And(left, right)
-    }
-}
-
-/// What `||` makes of them.
-fn disjunction(negated: bool, left: Box<Tree>, right: Box<Tree>) -> Tree
-    ensures { formula result ≡ disjunction negated (formula left.value) (formula right.value) }
-{
-    if negated {
-        Tree::And(left, right)
-    } else {
-        Tree::Or(left, right)
-    }
+    if negated { op.opposite() } else { op }
 }
 
 /// An operand has ended, and its `!` and its `&&` with it.
@@ -458,7 +435,7 @@ fn end_operand(
     level.operand_negated = level.negated;
     match level.and_left.take() {
         None => Ok(operand),
-        Some(left) => Ok(Box::new(alloc, conjunction(level.negated, left, operand))?),
+        Some(left) => Ok(Box::new(alloc, Tree::joined(level.negated, left, operand))?),
     }
 }
 
@@ -469,6 +446,6 @@ fn end_side(alloc: Global, level: &mut Level, side: Box<Tree>) -> Result<Box<Tre
 {
     match level.or_left.take() {
         None => Ok(side),
-        Some(left) => Ok(Box::new(alloc, disjunction(level.negated, left, side))?),
+        Some(left) => Ok(Box::new(alloc, Tree::joined(!level.negated, left, side))?),
     }
 }

@@ -20,7 +20,7 @@ const MAX_LEN: usize = 4096;
 /// tree, without where it lies in memory.
 #[derive(Drop)]
 pub struct Query {
-    pub(crate) tree: Tree,
+    pub(crate) tree: Box<Tree>,
 }
 
 impl Model for Query {
@@ -34,9 +34,9 @@ impl Model for Query {
 
     ghost coded = { coded_formula };
 
-    ghost view = { λ q. formula q.tree };
+    ghost view = { λ q. formula q.tree.value };
 
-    ghost invariant = { λ q. (comparisons (formula q.tree) ≤ 256) × IsKept (formula q.tree) };
+    ghost invariant = { λ q. (comparisons (formula q.tree.value) ≤ 256) × IsKept (formula q.tree.value) };
 }
 
 impl Query {
@@ -58,8 +58,8 @@ impl Query {
 ///
 /// The text is read in one pass, in a loop, and no tree is gone over again: a `!` costs no more than any other token.
 /// Nothing recurses, whatever the text is, not even where a refusal drops the trees that stand by then. Memory is asked
-/// for by tokens: for the text of a name that has a backslash, for the text of a value, for a pattern's tokens, its front
-/// and each of its sets, for a comparison, and for each joint that ends.
+/// for by tokens: twice for the text of a name that has a backslash, for the text of a value, for the tokens and each of the
+/// sets of a pattern that has a character of its notation, for a comparison, and for each joint that ends.
 pub fn parse(alloc: Global, text: &str) -> Result<Query, Refusal>
     // A text without a fault is a sentence of the grammar, and this is its tree.
     ensures ok { IfOk result (λ q. (fault text.now ≡ None) × IsTextOf text.now q) }

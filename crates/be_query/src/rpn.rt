@@ -1,7 +1,8 @@
 //! Queries from items in reverse Polish order, which are worked on a stack (after `BQuery` of the Be Book).
 ghost use Rattle.std.specs.Prelude.{◌≡◌, ◌≤◌, ℕ, ◌∷◌, Ok, Err, Some, None, IfOk, IfErr, MatchOption, map, string_bytes};
+ghost use Rattle.be_query.specs.Building.{conjunction};
 ghost use Rattle.be_query.specs.Faults.{bad_pattern};
-ghost use Rattle.be_query.specs.Grammar.{And, Or, Leaf};
+ghost use Rattle.be_query.specs.Grammar.{Leaf};
 ghost use Rattle.be_query.specs.Rpn.{Number, Attribute, Value, Whole, top_value, top_attribute, top_tree, top_comparison, top_trees};
 ghost use Rattle.be_query.specs.Rpn.{counts, given_literal, compares, surrounds, joins, complements, work, shallow, one_tree, rpn};
 ghost use Rattle.be_query.specs.Rpn.{thing_of, things_of, stack_of, item_of, ItemClean};
@@ -75,9 +76,10 @@ pub fn from_rpn(alloc: Global, items: &[Item]) -> Result<Query, Refusal>
     };
     'items: for (at, item) in items.iter().enumerate() {
         know_item(item);
-        stack = take_item(alloc, stack, at, item)?;
+        take_item(alloc, &mut stack, at, item)?;
     }
-    let tree = finish(stack, items.len())?;
+    let whole = finish(&mut stack, items.len())?;
+    let tree = Box::new(alloc, whole)?;
     Ok(Query { tree })
 }
 
@@ -119,45 +121,38 @@ fn know_uint(n: u64)
 }
 
 /// The tree at the end of so many items.
-fn finish(stack: Stack, len: usize) -> Result<Tree, Refusal>
-    ensures ok { IfOk result (λ t. one_tree len (stack_of stack).1 ≡ Ok (formula t)) }
-    ensures err { IfErr result (λ e. one_tree len (stack_of stack).1 ≡ Err e) }
+fn finish(stack: &mut Stack, len: usize) -> Result<Tree, Refusal>
+    ensures ok { IfOk result (λ t. one_tree len (stack_of stack.old).1 ≡ Ok (formula t)) }
+    ensures err { IfErr result (λ e. one_tree len (stack_of stack.old).1 ≡ Err e) }
 {
-    let Stack {
-        things,
-        comparisons,
-    } = stack;
-    let _comparisons = comparisons;
-    match pop_tree(things) {
-        None => Err(Refusal::BadRpn(len)),
-        Some((tree, rest)) => {
-            if rest.is_empty() {
-                return Ok(tree);
-            }
-            Err(Refusal::BadRpn(len))
-        }
+    let Some(tree) = pop_tree(&mut stack.things) else {
+        return Err(Refusal::BadRpn(len));
+    };
+    if stack.things.is_empty() {
+        return Ok(tree);
     }
+    Err(Refusal::BadRpn(len))
 }
 
-/// The stack behind an item, if it is not too high.
-fn take_item(alloc: Global, stack: Stack, at: usize, item: &Item) -> Result<Stack, Refusal>
-    ensures ok { IfOk result (λ s. shallow (work at (stack_of stack).0 (stack_of stack).1 (item_of item.now)) ≡ Ok (stack_of s)) }
-    ensures err { IfErr result (λ e. IsMemory e (shallow (work at (stack_of stack).0 (stack_of stack).1 (item_of item.now)) ≡ Err e)) }
+/// Works an item, and sees that the stack is not too high behind it.
+fn take_item(alloc: Global, stack: &mut Stack, at: usize, item: &Item) -> Result<(), Refusal>
+    ensures ok { IfOk result (λ _. shallow (work at (stack_of stack.old).0 (stack_of stack.old).1 (item_of item.now)) ≡ Ok (stack_of stack.new)) }
+    ensures err { IfErr result (λ e. IsMemory e (shallow (work at (stack_of stack.old).0 (stack_of stack.old).1 (item_of item.now)) ≡ Err e)) }
 {
-    let stack = match work(alloc, stack, at, item) {
-        Ok(stack) => stack,
+    match work(alloc, stack, at, item) {
+        Ok(()) => {}
         Err(refusal) => return Err(refusal),
-    };
+    }
     if stack.things.len() > MAX_THINGS {
         return Err(Refusal::TooDeep);
     }
-    Ok(stack)
+    Ok(())
 }
 
-/// The stack behind an item.
-fn work(alloc: Global, stack: Stack, at: usize, item: &Item) -> Result<Stack, Refusal>
-    ensures ok { IfOk result (λ s. work at (stack_of stack).0 (stack_of stack).1 (item_of item.now) ≡ Ok (stack_of s)) }
-    ensures err { IfErr result (λ e. IsMemory e (work at (stack_of stack).0 (stack_of stack).1 (item_of item.now) ≡ Err e)) }
+/// Works an item on the stack.
+fn work(alloc: Global, stack: &mut Stack, at: usize, item: &Item) -> Result<(), Refusal>
+    ensures ok { IfOk result (λ _. work at (stack_of stack.old).0 (stack_of stack.old).1 (item_of item.now) ≡ Ok (stack_of stack.new)) }
+    ensures err { IfErr result (λ e. IsMemory e (work at (stack_of stack.old).0 (stack_of stack.old).1 (item_of item.now) ≡ Err e)) }
 {
     match item {
         Item::Attr(name) => push(stack, Thing::Attribute(name.copy())),
@@ -178,57 +173,9 @@ fn work(alloc: Global, stack: Stack, at: usize, item: &Item) -> Result<Stack, Re
         Item::Contains => surround(alloc, stack, at, true, true),
         Item::BeginsWith => surround(alloc, stack, at, false, true),
         Item::EndsWith => surround(alloc, stack, at, true, false),
-        Item::And => {
-            let Stack {
-                things,
-                comparisons,
-            } = stack;
-            let Some((left, right, things)) = pop_trees(things) else {
-                return Err(Refusal::BadRpn(at));
-            };
-            let tree = Tree::And(Box::new(alloc, left)?, Box::new(alloc, right)?);
-            push(
-                Stack {
-                    things,
-                    comparisons,
-                },
-                Thing::Whole(tree),
-            )
-        }
-        Item::Or => {
-            let Stack {
-                things,
-                comparisons,
-            } = stack;
-            let Some((left, right, things)) = pop_trees(things) else {
-                return Err(Refusal::BadRpn(at));
-            };
-            let tree = Tree::Or(Box::new(alloc, left)?, Box::new(alloc, right)?);
-            push(
-                Stack {
-                    things,
-                    comparisons,
-                },
-                Thing::Whole(tree),
-            )
-        }
-        Item::Not => {
-            let Stack {
-                things,
-                comparisons,
-            } = stack;
-            let Some((tree, things)) = pop_tree(things) else {
-                return Err(Refusal::BadRpn(at));
-            };
-            let tree = tree.complement(alloc)?;
-            push(
-                Stack {
-                    things,
-                    comparisons,
-                },
-                Thing::Whole(tree),
-            )
-        }
+        Item::And => join(alloc, stack, at, false),
+        Item::Or => join(alloc, stack, at, true),
+        Item::Not => turn(alloc, stack, at),
     }
 }
 
@@ -239,66 +186,43 @@ fn has_nul(text: &str) -> bool
     text.as_bytes().contains(&0)
 }
 
-/// The stack with a thing more.
-fn push(stack: Stack, thing: Thing) -> Result<Stack, Refusal>
-    ensures ok { IfOk result (λ s. stack_of s ≡ ((stack_of stack).0, thing_of thing ∷ (stack_of stack).1)) }
+/// Lays a thing on the stack.
+fn push(stack: &mut Stack, thing: Thing) -> Result<(), Refusal>
+    ensures ok { IfOk result (λ _. stack_of stack.new ≡ ((stack_of stack.old).0, thing_of thing ∷ (stack_of stack.old).1)) }
     ensures err { IfErr result (λ e. e ≡ Refusal.OutOfMemory) }
 {
-    let Stack {
-        mut things,
-        comparisons,
-    } = stack;
-    things.push(thing)?;
-    Ok(Stack {
-        things,
-        comparisons,
-    })
+    stack.things.push(thing)?;
+    Ok(())
 }
 
-/// The stack with one comparison more.
-fn push_comparison(stack: Stack, comparison: Comparison) -> Result<Stack, Refusal>
-    ensures ok { IfOk result (λ s. counts (stack_of stack).0 (Leaf comparison.name comparison.op (literal comparison.literal)) (stack_of stack).1
-        ≡ Ok (stack_of s)) }
+/// Lays one comparison more on the stack.
+fn push_comparison(stack: &mut Stack, comparison: Comparison) -> Result<(), Refusal>
+    ensures ok { IfOk result (λ _. counts (stack_of stack.old).0 (Leaf comparison.name comparison.op (literal comparison.literal)) (stack_of stack.old).1
+        ≡ Ok (stack_of stack.new)) }
     ensures err { IfErr result (λ e. IsMemory e
-        (counts (stack_of stack).0 (Leaf comparison.name comparison.op (literal comparison.literal)) (stack_of stack).1 ≡ Err e)) }
+        (counts (stack_of stack.old).0 (Leaf comparison.name comparison.op (literal comparison.literal)) (stack_of stack.old).1 ≡ Err e)) }
 {
-    let Stack {
-        mut things,
-        comparisons,
-    } = stack;
-    if comparisons >= MAX_COMPARISONS {
+    if stack.comparisons >= MAX_COMPARISONS {
         return Err(Refusal::TooMany);
     }
-    things.push(Thing::Whole(Tree::Leaf(comparison)))?;
-    Ok(Stack {
-        things,
-        comparisons: comparisons + 1,
-    })
+    push(stack, Thing::Whole(Tree::Leaf(comparison)))?;
+    stack.comparisons += 1;
+    Ok(())
 }
 
-/// The stack behind a comparison.
-fn compare(alloc: Global, stack: Stack, at: usize, op: Cmp) -> Result<Stack, Refusal>
-    ensures ok { IfOk result (λ s. compares at (stack_of stack).0 op (top_comparison (stack_of stack).1) ≡ Ok (stack_of s)) }
-    ensures err { IfErr result (λ e. IsMemory e (compares at (stack_of stack).0 op (top_comparison (stack_of stack).1) ≡ Err e)) }
+/// Compares the attribute with the value above it.
+fn compare(alloc: Global, stack: &mut Stack, at: usize, op: Cmp) -> Result<(), Refusal>
+    ensures ok { IfOk result (λ _. compares at (stack_of stack.old).0 op (top_comparison (stack_of stack.old).1) ≡ Ok (stack_of stack.new)) }
+    ensures err { IfErr result (λ e. IsMemory e (compares at (stack_of stack.old).0 op (top_comparison (stack_of stack.old).1) ≡ Err e)) }
 {
-    let Stack {
-        things,
-        comparisons,
-    } = stack;
-    let Some((name, text, things)) = pop_comparison(things) else {
+    let Some((name, text)) = pop_comparison(&mut stack.things) else {
         return Err(Refusal::BadRpn(at));
     };
     let literal = match given_literal(alloc, op, text)? {
         Ok(literal) => literal,
         Err(_) => return Err(Refusal::BadPattern(at)),
     };
-    push_comparison(
-        Stack {
-            things,
-            comparisons,
-        },
-        Comparison { name, op, literal },
-    )
+    push_comparison(stack, Comparison { name, op, literal })
 }
 
 /// What a text is compared as: a pattern, or where it is faulty as one; by an order operator the text as it is.
@@ -312,106 +236,101 @@ fn given_literal(alloc: Global, op: Cmp, text: String) -> Result<Result<Literal,
     }
 }
 
-/// The stack behind a comparison with a literal text that may have a `*` before it and behind it.
+/// Compares the attribute with the literal text above it, which may have a `*` before it and behind it.
 fn surround(
     alloc: Global,
-    stack: Stack,
+    stack: &mut Stack,
     at: usize,
     before: bool,
     behind: bool,
-) -> Result<Stack, Refusal>
-    ensures ok { IfOk result (λ s. surrounds at (stack_of stack).0 before behind (top_comparison (stack_of stack).1) ≡ Ok (stack_of s)) }
-    ensures err { IfErr result (λ e. IsMemory e (surrounds at (stack_of stack).0 before behind (top_comparison (stack_of stack).1) ≡ Err e)) }
+) -> Result<(), Refusal>
+    ensures ok { IfOk result (λ _. surrounds at (stack_of stack.old).0 before behind (top_comparison (stack_of stack.old).1) ≡ Ok (stack_of stack.new)) }
+    ensures err { IfErr result (λ e. IsMemory e (surrounds at (stack_of stack.old).0 before behind (top_comparison (stack_of stack.old).1) ≡ Err e)) }
 {
-    let Stack {
-        things,
-        comparisons,
-    } = stack;
-    let Some((name, text, things)) = pop_comparison(things) else {
+    let Some((name, text)) = pop_comparison(&mut stack.things) else {
         return Err(Refusal::BadRpn(at));
     };
     let literal = Literal::Pattern(Pattern::around(alloc, before, &text, behind)?);
-    push_comparison(
-        Stack {
-            things,
-            comparisons,
-        },
-        Comparison {
-            name,
-            op: Cmp::Eq,
-            literal,
-        },
-    )
+    let op = Cmp::Eq;
+    push_comparison(stack, Comparison { name, op, literal })
 }
 
-/// The value on the top, and what is below it.
-fn pop_value(mut things: Vec<Thing>) -> Option<(String, Vec<Thing>)>
-    ensures { MatchOption result (top_value (things_of things.items) ≡ None)
-        (λ p. top_value (things_of things.items) ≡ Some (string_bytes p.0, things_of p.1.items)) }
+/// Joins the two trees on the top, by `||` or by `&&`.
+fn join(alloc: Global, stack: &mut Stack, at: usize, either: bool) -> Result<(), Refusal>
+    ensures ok { IfOk result (λ _. joins at (stack_of stack.old).0 (conjunction either) (top_trees (stack_of stack.old).1) ≡ Ok (stack_of stack.new)) }
+    ensures err { IfErr result (λ e. IsMemory e (joins at (stack_of stack.old).0 (conjunction either) (top_trees (stack_of stack.old).1) ≡ Err e)) }
 {
-    let Some(thing) = things.pop() else {
-        return None;
+    let Some((left, right)) = pop_trees(&mut stack.things) else {
+        return Err(Refusal::BadRpn(at));
     };
-    match thing {
-        Thing::Value(text) => Some((text, things)),
+    let tree = Tree::joined(either, Box::new(alloc, left)?, Box::new(alloc, right)?);
+    push(stack, Thing::Whole(tree))
+}
+
+/// Turns the tree on the top into its complement.
+fn turn(alloc: Global, stack: &mut Stack, at: usize) -> Result<(), Refusal>
+    ensures ok { IfOk result (λ _. complements at (stack_of stack.old).0 (top_tree (stack_of stack.old).1) ≡ Ok (stack_of stack.new)) }
+    ensures err { IfErr result (λ e. IsMemory e (complements at (stack_of stack.old).0 (top_tree (stack_of stack.old).1) ≡ Err e)) }
+{
+    let Some(tree) = pop_tree(&mut stack.things) else {
+        return Err(Refusal::BadRpn(at));
+    };
+    let tree = tree.complement(alloc)?;
+    push(stack, Thing::Whole(tree))
+}
+
+/// Takes the value off the top.
+fn pop_value(things: &mut Vec<Thing>) -> Option<String>
+    ensures { MatchOption result (top_value (things_of things.old.items) ≡ None)
+        (λ text. top_value (things_of things.old.items) ≡ Some (string_bytes text, things_of things.new.items)) }
+{
+    match things.pop()? {
+        Thing::Value(text) => Some(text),
         Thing::Attribute(_) => None,
         Thing::Whole(_) => None,
     }
 }
 
-/// The attribute on the top, and what is below it.
-fn pop_attribute(mut things: Vec<Thing>) -> Option<(Name, Vec<Thing>)>
-    ensures { MatchOption result (top_attribute (things_of things.items) ≡ None)
-        (λ p. top_attribute (things_of things.items) ≡ Some (p.0, things_of p.1.items)) }
+/// Takes the attribute off the top.
+fn pop_attribute(things: &mut Vec<Thing>) -> Option<Name>
+    ensures { MatchOption result (top_attribute (things_of things.old.items) ≡ None)
+        (λ name. top_attribute (things_of things.old.items) ≡ Some (name, things_of things.new.items)) }
 {
-    let Some(thing) = things.pop() else {
-        return None;
-    };
-    match thing {
-        Thing::Attribute(name) => Some((name, things)),
+    match things.pop()? {
+        Thing::Attribute(name) => Some(name),
         Thing::Value(_) => None,
         Thing::Whole(_) => None,
     }
 }
 
-/// The tree on the top, and what is below it.
-fn pop_tree(mut things: Vec<Thing>) -> Option<(Tree, Vec<Thing>)>
-    ensures { MatchOption result (top_tree (things_of things.items) ≡ None) (λ p. top_tree (things_of things.items) ≡ Some (formula p.0, things_of p.1.items)) }
+/// Takes the tree off the top.
+fn pop_tree(things: &mut Vec<Thing>) -> Option<Tree>
+    ensures { MatchOption result (top_tree (things_of things.old.items) ≡ None)
+        (λ tree. top_tree (things_of things.old.items) ≡ Some (formula tree, things_of things.new.items)) }
 {
-    let Some(thing) = things.pop() else {
-        return None;
-    };
-    match thing {
-        Thing::Whole(tree) => Some((tree, things)),
+    match things.pop()? {
+        Thing::Whole(tree) => Some(tree),
         Thing::Attribute(_) => None,
         Thing::Value(_) => None,
     }
 }
 
-/// The value on the top and the attribute below it, and what is below both.
-fn pop_comparison(things: Vec<Thing>) -> Option<(Name, String, Vec<Thing>)>
-    ensures { MatchOption result (top_comparison (things_of things.items) ≡ None)
-        (λ p. top_comparison (things_of things.items) ≡ Some (p.0, string_bytes p.1, things_of p.2.items)) }
+/// Takes the value off the top, and the attribute below it.
+fn pop_comparison(things: &mut Vec<Thing>) -> Option<(Name, String)>
+    ensures { MatchOption result (top_comparison (things_of things.old.items) ≡ None)
+        (λ p. top_comparison (things_of things.old.items) ≡ Some (p.0, string_bytes p.1, things_of things.new.items)) }
 {
-    let Some((text, things)) = pop_value(things) else {
-        return None;
-    };
-    let Some((name, things)) = pop_attribute(things) else {
-        return None;
-    };
-    Some((name, text, things))
+    let text = pop_value(things)?;
+    let name = pop_attribute(things)?;
+    Some((name, text))
 }
 
-/// The two trees on the top, the lower one first, and what is below both.
-fn pop_trees(things: Vec<Thing>) -> Option<(Tree, Tree, Vec<Thing>)>
-    ensures { MatchOption result (top_trees (things_of things.items) ≡ None)
-        (λ p. top_trees (things_of things.items) ≡ Some (formula p.0, formula p.1, things_of p.2.items)) }
+/// Takes the two trees off the top, the lower one first.
+fn pop_trees(things: &mut Vec<Thing>) -> Option<(Tree, Tree)>
+    ensures { MatchOption result (top_trees (things_of things.old.items) ≡ None)
+        (λ p. top_trees (things_of things.old.items) ≡ Some (formula p.0, formula p.1, things_of things.new.items)) }
 {
-    let Some((right, things)) = pop_tree(things) else {
-        return None;
-    };
-    let Some((left, things)) = pop_tree(things) else {
-        return None;
-    };
-    Some((left, right, things))
+    let right = pop_tree(things)?;
+    let left = pop_tree(things)?;
+    Some((left, right))
 }

@@ -124,6 +124,19 @@ fn turn_sides(left: &mut Box<Tree>, right: &mut Box<Tree>) -> bool
 }
 
 impl Tree {
+    ghost use Rattle.be_query.specs.Building.{conjunction};
+
+    /// Two sides joined by `||`, or by `&&`.
+    pub(crate) fn joined(either: bool, left: Box<Tree>, right: Box<Tree>) -> Tree
+        ensures { formula result ≡ conjunction either (formula left.value) (formula right.value) }
+    {
+        if either {
+            Tree::Or(left, right)
+        } else {
+            Tree::And(left, right)
+        }
+    }
+
     /// Lets a comparison go.
     fn end(self)
         requires { IsLeaf (formula self) }

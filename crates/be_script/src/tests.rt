@@ -78,32 +78,42 @@ fn push_part(text: &mut String, written: &str) -> Result<(), AllocError> {
     Ok(())
 }
 
-/// Appends the line of a row to a script, and its reply, in which ` / ` parts lines, to the replies. A row without ` => `
-/// is a line without a reply.
-fn push_row(script: &mut String, replies: &mut String, row: &str) -> Result<(), AllocError> {
-    let Some((line, reply)) = row.split_once(" => ") else {
-        push_part(script, row)?;
-        return script.push('\n');
-    };
-    push_part(script, line)?;
-    script.push('\n')?;
-    for line in reply.split(" / ") {
-        push_part(replies, line)?;
-        replies.push('\n')?;
+/// Appends what one side of a row stands for, in which ` / ` parts lines.
+fn push_lines(text: &mut String, written: &str) -> Result<(), AllocError> {
+    for line in written.split(" / ") {
+        push_part(text, line)?;
+        text.push('\n')?;
     }
     Ok(())
 }
 
-/// The script of some rows, and its replies. Spaces before a row don't count.
-fn script_of(alloc: Global, rows: &str) -> Result<(String, String), AllocError> {
-    let mut script = String::new(alloc);
-    let mut replies = String::new(alloc);
+/// Appends the lines of a row to a script, and their replies to the replies. A row without ` => ` is a line without a reply.
+fn push_row(script: &mut String, replies: &mut String, row: &str) -> Result<(), AllocError> {
+    let Some((lines, reply)) = row.split_once(" => ") else {
+        push_part(script, row)?;
+        return script.push('\n');
+    };
+    push_lines(script, lines)?;
+    push_lines(replies, reply)
+}
+
+/// Appends some rows. Spaces before a row don't count.
+fn push_rows(script: &mut String, replies: &mut String, rows: &str) -> Result<(), AllocError> {
     for row in rows.lines() {
         let row = row.trim_start_matches(' ');
         if !row.is_empty() {
-            push_row(&mut script, &mut replies, row)?;
+            push_row(script, replies, row)?;
         }
     }
+    Ok(())
+}
+
+/// The script of an example's rows and of those behind it, and its replies.
+fn script_of(alloc: Global, example: &str, rows: &str) -> Result<(String, String), AllocError> {
+    let mut script = String::new(alloc);
+    let mut replies = String::new(alloc);
+    push_rows(&mut script, &mut replies, example)?;
+    push_rows(&mut script, &mut replies, rows)?;
     Ok((script, replies))
 }
 
@@ -190,11 +200,16 @@ fn check_bytes(
     Ok(())
 }
 
-/// Fails unless each row's line has its reply.
-fn check(rt: &(impl Abort + AllocGlobal), rows: &str) -> Result<(), Fail> {
-    let (script, replies) = match script_of(rt.alloc(), rows) {
+/// Fails unless each line of an example's rows and of those behind it has its reply.
+fn check_behind(rt: &(impl Abort + AllocGlobal), example: &str, rows: &str) -> Result<(), Fail> {
+    let (script, replies) = match script_of(rt.alloc(), example, rows) {
         Ok(parts) => parts,
-        Err(_) => script_of(rt.alloc(), rows)?,
+        Err(_) => script_of(rt.alloc(), example, rows)?,
     };
     check_bytes(rt, script.as_bytes(), &replies, LIMITS.commits)
+}
+
+/// Fails unless each line of these rows has its reply.
+fn check(rt: &(impl Abort + AllocGlobal), rows: &str) -> Result<(), Fail> {
+    check_behind(rt, "", rows)
 }

@@ -5,7 +5,7 @@ use Rattle.std.specs.Str.{is_utf8, chars}
 use Rattle.be_language.specs.Reply.{none}
 use Rattle.be_language.specs.Request.{Request, silent, asked}
 use Rattle.be_serving.specs.Output.{Session, Serves, IsOutputTo}
-use Rattle.be_serving.specs.Run.{Wrote, Completes}
+use Rattle.be_serving.specs.Run.{Wrote, HasReplied}
 use Rattle.be_serving.specs.Store.{Store}
 use Rattle.be_serving.proofs.ReplyLemmas.{serves_at_once}
 use Rattle.be_serving.proofs.RunLemmas.{finish, none_written}
@@ -16,7 +16,7 @@ unfolding is_utf8 chars
 nothing_asked = refl
 
 -- nothing is left behind the last LF
-pub finish_empty : (store : Store) (script left : List ℕ) (s : Session) (old new : Option (List ℕ)) → length left ≡ 0 → Wrote old new (Completes store script s left) →
+pub finish_empty : (store : Store) (script left : List ℕ) (s : Session) (old new : Option (List ℕ)) → length left ≡ 0 → Wrote old new (HasReplied store script s left) →
     Wrote old new (IsOutputTo store script s.store)
 finish_empty store script [] s old new empty w =
     finish store script [] s s old new new refl w (record {

@@ -12,4 +12,5 @@ pub mod RaceLemmas
 pub mod ReadLemmas
 pub mod ReplyLemmas
 pub mod RunLemmas
+pub mod ScanLemmas
 pub mod TellLemmas

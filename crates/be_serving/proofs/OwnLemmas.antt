@@ -26,7 +26,7 @@ use Rattle.be_language.specs.Reply.{Reply, queued as queued_word, full_batch}
 use Rattle.be_language.specs.Request.{Request, silent, malformed, write, query, explain, get, attrs, indices, pin, unpin, live, refresh, begin, commit, abort, asked, lines_of}
 use Rattle.be_serving.specs.Run.{Wrote}
 use Rattle.be_serving.specs.Served.{known}
-use Rattle.be_serving.specs.Store.{Pin, Store, Joins, entered, viewed, written, written_by}
+use Rattle.be_serving.specs.Store.{PinnedVolume, Store, Joins, entered, viewed, written, written_by}
 use Rattle.be_serving.proofs.JoinLemmas.{nobody_joins, none_own}
 use Rattle.be_serving.proofs.PartLemmas.{part_itself, part_both, part_front, part_on}
 
@@ -152,11 +152,11 @@ aborting_adds : (s : Session) (b : Option (List Op)) → Adds s (aborting s b).1
 aborting_adds s None = nothing_added s []
 aborting_adds s (Some ops) = queue_lost s []
 
-pinning_adds : (s : Session) (p : Option Pin) → Adds s (pinning s p).1 []
+pinning_adds : (s : Session) (p : Option PinnedVolume) → Adds s (pinning s p).1 []
 pinning_adds s None = record { pass = refl; passes = refl; part = part_front (mine s) [] }
 pinning_adds s (Some p) = nothing_added s []
 
-unpinning_adds : (s : Session) (p : Option Pin) → Adds s (unpinning s p).1 []
+unpinning_adds : (s : Session) (p : Option PinnedVolume) → Adds s (unpinning s p).1 []
 unpinning_adds s None = nothing_added s []
 unpinning_adds s (Some p) = record { pass = refl; passes = refl; part = part_front (mine s) [] }
 

@@ -31,13 +31,13 @@ use Rattle.be_store.specs.History.{Accepts, Learns, IsLastReason, Pins}
 use Rattle.be_store.specs.Passes.{IsPinnedTo, IsSettled, volume_seen}
 use Rattle.be_store.proofs.Applied.{entries_append, nothing_more}
 use Rattle.be_serving.specs.Served.{known, pin_at}
-use Rattle.be_serving.specs.Store.{Pin, Store, Joins, Meanwhile, IsBusy, IsWant, MayWrite, pinned, entered, written, written_by}
+use Rattle.be_serving.specs.Store.{PinnedVolume, Store, Joins, Meanwhile, IsBusy, IsWant, MayWrite, pinned, entered, written, written_by}
 
 -- the pin of a pass, by the entries that it has seen and its phase
-abbrev pin_of : List Entry → Phase → Option Pin
-pin_of es phase = option_map {T = ℕ} {U = Pin} (λ n. record { number = n; volume = replay (take n es) }) (pinned_number phase)
+abbrev pin_of : List Entry → Phase → Option PinnedVolume
+pin_of es phase = option_map {T = ℕ} {U = PinnedVolume} (λ n. record { number = n; volume = replay (take n es) }) (pinned_number phase)
 
-abbrev some_pin : Pin → Option Pin
+abbrev some_pin : PinnedVolume → Option PinnedVolume
 some_pin p = Some p
 
 -- a pin stays where more is seen
@@ -110,7 +110,7 @@ written_with_room s ops volume dones h = let t : nat_lt (length s.journal) s.lim
 -- the least that a pass finds at most, and finds where it is the only one, as the version that is read
 least_shown : (passes : ℕ) (seen : List Commit) (phase : Phase) (least : ℕ) → IsSettled passes phase → InTime (length seen) phase
     → (least ≤ least_found (length seen) (announce_word phase)) × (passes ≡ 1 → least ≡ least_found (length seen) (announce_word phase))
-    → let shown = option_map_or (λ (p : Pin). p.number) (pin_of (entries seen) phase) (length (entries seen)) in (least ≤ shown) × (passes ≡ 1 → least ≡ shown)
+    → let shown = option_map_or (λ (p : PinnedVolume). p.number) (pin_of (entries seen) phase) (length (entries seen)) in (least ≤ shown) × (passes ≡ 1 → least ≡ shown)
 least_shown passes seen Idle least settled time own = (omega (arith, seen_count seen, own.0), λ one. own.1 one ∙ sym (seen_count seen))
 least_shown passes seen (Looked x) least settled time own = absurd settled
 least_shown passes seen (Announced x) least settled time own = absurd settled

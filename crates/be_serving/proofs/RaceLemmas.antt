@@ -23,7 +23,7 @@ use Rattle.be_serving.specs.Output.{IsOutputTo}
 use Rattle.be_serving.specs.Run.{IsFrontOf, Wrote}
 use Rattle.be_serving.specs.Served.{known}
 use Rattle.be_serving.proofs.RunLemmas.{none_written, written_both}
-use Rattle.be_serving.specs.Race.{HaveServed, AreRepliesOf, IsOutcome, IsReplied, pass_line, replies_text}
+use Rattle.be_serving.specs.Race.{HaveServed, AreRepliesOf, IsOutcome, IsRace, IsRaceInPart, IsReplied, pass_line, replies_text}
 
 -- what is so of each element, and of one more at its place, is so of all
 pub each_pushed : {X : Type 0} (P : ℕ → X → Type 0) (xs : List X) (x : X) → ((k : ℕ) (d : X) → k < length xs → P k (get_or xs k d)) → P (length xs) x →
@@ -104,6 +104,18 @@ pub same_end : {V E : Type 0} (items : V → List ℕ) (store store' : Opened) (
 same_end items store store' k k' script script' o of_store of_number of_script end =
     subst (λ s. EndsAs s items k' script' o) of_store (subst (λ n. EndsAs store items n script' o) of_number (subst (λ v. EndsAs store items k v o) of_script end))
 
+-- nothing of a text was written
+pub none_of_text : (bytes : List ℕ) (known : Option (List ℕ)) → Wrote known known (IsFrontOf bytes)
+none_of_text bytes known = record { out = []; appended = none_written known; is = (bytes, refl) }
+
+-- the first part of a text was written, and a front of the next
+pub next_in_part : (a b c : Option (List ℕ)) (first next rest whole : List ℕ) → whole ≡ first ++ (next ++ rest) → Appends a b first → Wrote b c (IsFrontOf next) → Wrote a c (IsFrontOf whole)
+next_in_part a b c first next rest whole is written w = record {
+  out = first ++ w.out;
+  appended = written_both a b c first w.out written w.appended;
+  is = (w.is.0 ++ rest, is ∙ (ap (λ l. first ++ (l ++ rest)) w.is.1 ∙ (ap (λ l. first ++ l) (append_assoc w.out w.is.0 rest) ∙ sym (append_assoc first w.out (w.is.0 ++ rest)))));
+}
+
 -- the text of the replies from a place on is that of the replies there, and of those behind it
 next_at : {V : Type 0} (items : V → List ℕ) (n k : ℕ) (texts : List V) (t : V) → k < length texts → t ≡ get_or texts k t →
     replies_text n (drop k (map items texts)) ≡ (pass_line n ++ items t) ++ replies_text (n + 1) (drop (suc k) (map items texts))
@@ -133,6 +145,35 @@ module _ {V : Type 0} (items : V → List ℕ) (texts : List V) (k : ℕ) (old m
         appended = written_both old mid new w.out (line ++ text) w.appended (written_both mid near new line text first second);
         is = subst (λ m. replies_text 0 (map items texts) ≡ (w.out ++ (line ++ text)) ++ replies_text (k + 1) (drop m (map items texts))) (sym (add-one k)) (next ∙ split);
       }
+
+  -- those before are a front
+  pub replies_before : Wrote old mid (IsFrontOf (replies_text 0 (map items texts)))
+  replies_before = record { out = w.out; appended = w.appended; is = (replies_text k (drop k (map items texts)), w.is) }
+
+  -- the next pass's line, its replies, and those behind it
+  next_parts : (t : V) (line text : List ℕ) → k < length texts → t ≡ get_or texts k t → line ≡ pass_line k → text ≡ items t →
+      replies_text 0 (map items texts) ≡ w.out ++ (line ++ (text ++ replies_text (k + 1) (drop (suc k) (map items texts))))
+  next_parts t line text below at of_line of_text =
+      let rest = replies_text (k + 1) (drop (suc k) (map items texts)) in
+      w.is
+      ∙ (ap (λ z. w.out ++ z) (next_at items k k texts t below at)
+      ∙ (ap (λ z. w.out ++ z) (append_assoc (pass_line k) (items t) rest)
+      ∙ (ap (λ l. w.out ++ (l ++ (items t ++ rest))) (sym of_line) ∙ ap (λ u. w.out ++ (line ++ (u ++ rest))) (sym of_text))))
+
+  -- a front of the next pass's line behind them
+  pub line_in_part : (new : Option (List ℕ)) (t : V) (line : List ℕ) → k < length texts → t ≡ get_or texts k t → line ≡ pass_line k → Wrote mid new (IsFrontOf line) →
+      Wrote old new (IsFrontOf (replies_text 0 (map items texts)))
+  line_in_part new t line below at of_line front =
+      next_in_part old mid new w.out line (items t ++ replies_text (k + 1) (drop (suc k) (map items texts))) (replies_text 0 (map items texts))
+      (next_parts t line (items t) below at of_line refl) w.appended front
+
+  -- that line, and a front of its replies
+  pub text_in_part : (near new : Option (List ℕ)) (t : V) (line text : List ℕ) → k < length texts → t ≡ get_or texts k t → line ≡ pass_line k → text ≡ items t →
+      Appends mid near line → Wrote near new (IsFrontOf text) → Wrote old new (IsFrontOf (replies_text 0 (map items texts)))
+  text_in_part near new t line text below at of_line of_text first front =
+      let rest = replies_text (k + 1) (drop (suc k) (map items texts)) in
+      next_in_part old near new (w.out ++ line) text rest (replies_text 0 (map items texts))
+      (next_parts t line text below at of_line of_text ∙ sym (append_assoc w.out line (text ++ rest))) (written_both old mid near w.out line w.appended first) front
 
   -- all replies are written
   pub replies_all : length texts ≤ k → Appends old mid (replies_text 0 (map items texts))
@@ -172,14 +213,15 @@ result_is log head text last of_head of_text of_last =
     ap (λ h. h ++ (text ++ last)) of_head
     ∙ ap (λ t. (codes "journal " ++ (decimal (length log) ++ codes "\n")) ++ t) (ap (λ t. t ++ last) of_text ∙ ap (λ l. lines_from 1 log ++ l) of_last)
 
--- nothing of a text was written
-pub none_of_text : (bytes : List ℕ) (known : Option (List ℕ)) → Wrote known known (IsFrontOf bytes)
-none_of_text bytes known = record { out = []; appended = none_written known; is = (bytes, refl) }
+-- a race of which nothing was written
+pub nothing_raced : (limits : Limits) (scripts : List (List ℕ)) (held : Option (List ℕ)) → Wrote held held (IsRaceInPart limits scripts)
+nothing_raced limits scripts held = record { out = []; appended = none_written held; is = inl refl }
 
--- the first part of a text was written, and a front of the next
-pub next_in_part : (a b c : Option (List ℕ)) (first next rest whole : List ℕ) → whole ≡ first ++ (next ++ rest) → Appends a b first → Wrote b c (IsFrontOf next) → Wrote a c (IsFrontOf whole)
-next_in_part a b c first next rest whole is written w = record {
-  out = first ++ w.out;
-  appended = written_both a b c first w.out written w.appended;
-  is = (w.is.0 ++ rest, is ∙ (ap (λ l. first ++ (l ++ rest)) w.is.1 ∙ (ap (λ l. first ++ l) (append_assoc w.out w.is.0 rest) ∙ sym (append_assoc first w.out (w.is.0 ++ rest)))));
+-- a race of which a front was written
+pub raced_in_part : (limits : Limits) (scripts : List (List ℕ)) (whole : List ℕ) (old new : Option (List ℕ)) → IsRace limits scripts whole → Wrote old new (IsFrontOf whole) →
+    Wrote old new (IsRaceInPart limits scripts)
+raced_in_part limits scripts whole old new race w = record {
+  out = w.out;
+  appended = w.appended;
+  is = inr (w.is.0, subst (IsRace limits scripts) w.is.1 race);
 }

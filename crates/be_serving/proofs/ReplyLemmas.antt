@@ -9,7 +9,7 @@ use Rattle.be_volume.specs.declared.ops.Op.{Op}
 use Rattle.be_serving.specs.Output.{Session, IsHeldUp, Replies, Serves, commit_reply, done_reply, pinning, with_store, write_reply}
 use Rattle.be_language.specs.Reply.{Reply, already_pinned, committed, empty_batch, pinned_at, refused}
 use Rattle.be_language.specs.Request.{Request, write, pin, commit}
-use Rattle.be_serving.specs.Store.{Pin, Store, Joins, Meanwhile, IsBusy, IsWant, MayWrite, pinned, written}
+use Rattle.be_serving.specs.Store.{PinnedVolume, Store, Joins, Meanwhile, IsBusy, IsWant, MayWrite, pinned, written}
 use Rattle.be_serving.specs.View.{unbatched, batched}
 use Rattle.be_serving.proofs.JoinLemmas.{joins_itself}
 
@@ -29,7 +29,7 @@ of_both P b b' c c' e e' h = subst (λ x. P x b') (sym e) (subst (λ y. P c y) (
 pub pinned_already : (s : Session) → true ≡ is_some s.store.pin → Replies s pin already_pinned s
 pinned_already s h = by s.store.pin h
   where
-    by : (p : Option Pin) → true ≡ is_some p → pinning s p ≡ (already_pinned, s)
+    by : (p : Option PinnedVolume) → true ≡ is_some p → pinning s p ≡ (already_pinned, s)
     by None g = cc
     by (Some p) g = refl
 
@@ -43,7 +43,7 @@ pinned_now old new batch l n none m = record {
       ∙ (λ i. (pinned_at (sym m.is.1 i), record { store = sym m.is.0 i; batch = batch; live = l }));
 }
 
-pub no_pin : (p : Option Pin) → false ≡ is_some p → p ≡ None
+pub no_pin : (p : Option PinnedVolume) → false ≡ is_some p → p ≡ None
 no_pin None h = refl
 no_pin (Some p) h = cc
 
@@ -53,11 +53,12 @@ commit_empty store [] l h = inl refl
 commit_empty store (op ∷ ops) l h = absurd (omega (arith, h))
 
 -- a refusal that comes in place of an accepted write is no memory, or holds the write up
-held_up : (s : Store) (ops : List Op) (e : Refusal) → (IsWant s e × IsOk (written s ops)) ⊎ IsBusy s e → (refused e ≡ refused OutOfMemory) ⊎ IsHeldUp s ops (refused e)
+held_up : (s : Store) (ops : List Op) (e : Refusal) → (IsWant s e × IsOk (written s ops)) ⊎ IsBusy s e →
+    ((refused e ≡ refused OutOfMemory) × IsOk (written s ops)) ⊎ IsHeldUp s ops (refused e)
 held_up s ops e (inl h) = by h.0
   where
-    by : IsWant s e → (refused e ≡ refused OutOfMemory) ⊎ IsHeldUp s ops (refused e)
-    by (inl none) = inl (ap refused none)
+    by : IsWant s e → ((refused e ≡ refused OutOfMemory) × IsOk (written s ops)) ⊎ IsHeldUp s ops (refused e)
+    by (inl none) = inl (ap refused none, h.1)
     by (inr full) = inr (inl (full.0, ap refused full.1, full.2, h.1))
 held_up s ops e (inr h) = inr (inr (h.0, ap refused h.1, h.2))
 

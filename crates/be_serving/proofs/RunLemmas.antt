@@ -1,8 +1,9 @@
 -- How the parts of a run join.
-use Rattle.std.proofs.Common.{◌≡◌, ℕ, ◌<◌, ◌≤◌, ◌+◌, ◌^◌, Bool, true, false, cond, not, nat_lt, take, drop, position, IfSome, OnOk, OnErr, length-append, List, [], ◌∷◌, ◌++◌, length, refl, sym, ap, ◌∙◌, subst, append_assoc, arith, inl, inr, Some, None}
+use Rattle.std.proofs.Common.{◌≡◌, ℕ, IfErr, ◌<◌, ◌≤◌, ◌+◌, ◌^◌, Bool, true, false, cond, not, nat_lt, take, drop, position, IfSome, OnOk, OnErr, length-append, List, [], ◌∷◌, ◌++◌, length, refl, sym, ap, ◌∙◌, subst, append_assoc, arith, inl, inr, Some, None}
 use Rattle.std.specs.declared.option.Option.{Option}
 use Rattle.std.specs.Io.KnownBytes.{Appends, Consumes, Keeps}
 use Rattle.std.specs.List.{position_or_len, onto_first}
+use Rattle.std.specs.Result.{IsErrAnd}
 use Rattle.std.proofs.lemmas.List.Splits.{slice_split_first}
 use Rattle.std.proofs.lemmas.Bool.Decides.{nat_tests}
 use Rattle.std.specs.declared.result.Result.{Result}
@@ -10,14 +11,14 @@ use Rattle.std.specs.declared.result.Result.TheVariants.{Ok, Err}
 use Rattle.be_value.specs.declared.refusals.Refusal.TheVariants.{OutOfMemory}
 use Rattle.be_serving.specs.declared.faults.RunFault.{RunFault}
 use Rattle.be_serving.specs.declared.faults.RunFault.TheVariants.{Limits, Read, TooLong, Write, Memory}
-use Rattle.be_serving.specs.Store.{Store, start}
+use Rattle.be_serving.specs.Store.{Store, start, viewed}
 use Rattle.be_language.specs.Request.{Request, silent, malformed, write, query, explain, get, attrs, indices, pin, unpin, live, refresh, begin, commit, abort, asked, lines_of}
-use Rattle.be_language.specs.Reply.{Reply, none, refused, text_of}
-use Rattle.be_serving.specs.Output.{Session, Replies, Serves, Answered, Outputs, IsOutputTo, IsFrontOfOutput, unwritten, opening, pinning}
+use Rattle.be_language.specs.Reply.{Reply, bad_line, none, refused, text_of}
+use Rattle.be_serving.specs.Output.{Session, Replies, Serves, Answered, Outputs, IsOutputTo, IsFrontOfOutput, aborting, beginning, committing, got, opening, pinning, refreshing, taken, unpinning}
 use Rattle.be_serving.proofs.ReplyLemmas.{serves_at_once}
 use Rattle.be_table.specs.Versions.{CanSpellEach}
 use Rattle.be_table.specs.declared.limits.Limits.{Limits as StoreLimits}
-use Rattle.be_serving.specs.Run.{Wrote, IsRun, IsFrontOf, IsFrontOfAnswer, Completes, Leaves, ReadFault, ReadsAll, IsLate, IsOther, is_line_end}
+use Rattle.be_serving.specs.Run.{Wrote, IsRun, IsFrontOf, IsFrontOfAnswer, AreFirstReplies, HasReplied, RunLeaves, ReadFault, ReadsAll, IsLate, IsNotLimits, is_line_end}
 
 append_nothing : {A : Type 0} (xs : List A) → xs ++ [] ≡ xs
 append_nothing [] = refl
@@ -53,38 +54,39 @@ more_written old mid new bytes left front left' w a e = record {
 -- a reply that any request may get, and the session after it
 abbrev some_reply : Session → Request → Reply × Session
 some_reply s silent = (none, s)
-some_reply s malformed = (refused OutOfMemory, s)
-some_reply s (write op) = (refused OutOfMemory, s)
+some_reply s malformed = (bad_line, s)
+some_reply s (write (Ok op)) = taken s s.batch op
+some_reply s (write (Err e)) = (refused e, s)
 some_reply s (query text) = (refused OutOfMemory, s)
 some_reply s (explain text) = (refused OutOfMemory, s)
-some_reply s (get n name) = (refused OutOfMemory, s)
+some_reply s (get n name) = (got (viewed s.store) n name, s)
 some_reply s (attrs n) = (refused OutOfMemory, s)
 some_reply s indices = (refused OutOfMemory, s)
 some_reply s pin = pinning s s.store.pin
-some_reply s unpin = (refused OutOfMemory, s)
+some_reply s unpin = unpinning s s.store.pin
 some_reply s (live text) = (refused OutOfMemory, s)
-some_reply s refresh = (refused OutOfMemory, s)
-some_reply s begin = (refused OutOfMemory, s)
-some_reply s commit = (refused OutOfMemory, unwritten s commit)
-some_reply s abort = (refused OutOfMemory, s)
+some_reply s refresh = refreshing s s.live
+some_reply s begin = beginning s s.batch
+some_reply s commit = committing s s.batch
+some_reply s abort = aborting s s.batch
 
 may_reply : (s : Session) (request : Request) → Replies s request (some_reply s request).0 (some_reply s request).1
 may_reply s silent = refl
-may_reply s malformed = inr (refl, inl refl)
-may_reply s (write (Ok op)) = inr (refl, inl refl)
-may_reply s (write (Err e)) = inr (refl, inl refl)
-may_reply s (query text) = inr (refl, inl refl)
-may_reply s (explain text) = inr (refl, inl refl)
-may_reply s (get n name) = inr (refl, inl refl)
-may_reply s (attrs n) = inr (refl, inl refl)
-may_reply s indices = inr (refl, inl refl)
+may_reply s malformed = inl refl
+may_reply s (write (Ok op)) = inl refl
+may_reply s (write (Err e)) = inl refl
+may_reply s (query text) = inr (refl, inl (refl, tt))
+may_reply s (explain text) = inr (refl, inl (refl, tt))
+may_reply s (get n name) = inl refl
+may_reply s (attrs n) = inr (refl, inl (refl, tt))
+may_reply s indices = inr (refl, inl (refl, tt))
 may_reply s pin = refl
-may_reply s unpin = inr (refl, inl refl)
-may_reply s (live text) = inr (refl, inl refl)
-may_reply s refresh = inr (refl, inl refl)
-may_reply s begin = inr (refl, inl refl)
-may_reply s commit = inr (refl, inl refl)
-may_reply s abort = inr (refl, inl refl)
+may_reply s unpin = inl refl
+may_reply s (live text) = inr (refl, inl (refl, tt))
+may_reply s refresh = inl refl
+may_reply s begin = inl refl
+may_reply s commit = inl refl
+may_reply s abort = inl refl
 
 -- the session after some answer to a line, and its text
 abbrev after_some : Session → List ℕ → Session
@@ -106,34 +108,62 @@ some_output s (line ∷ lines) =
     let text = some_text s line in
     (next.0, text ++ next.1, (after, text, next.1, some_answer s line, next.2, refl))
 
+-- lines, and then those behind them
+outputs_both : (s mid last : Session) (lines behind : List (List ℕ)) (out more : List ℕ) → Outputs s lines mid out → Outputs mid behind last more → Outputs s (lines ++ behind) last (out ++ more)
+outputs_both s mid last [] behind out more h g =
+    subst (λ (text : List ℕ). Outputs s behind last (text ++ more)) (sym h.1) (subst (λ (z : Session). Outputs z behind last more) h.0 g)
+outputs_both s mid last (line ∷ lines) behind out more h g =
+    (h.0, h.1, h.2 ++ more, h.3, outputs_both h.0 mid last lines behind h.2 more h.4 g, ap (λ text. text ++ more) h.5 ∙ append_assoc h.1 h.2 more)
+
+-- what was replied, and an output of the lines left, is one of the script
+completed : (store : Store) (script left : List ℕ) (s last : Session) (out more : List ℕ) → HasReplied store script s left out → Outputs s (lines_of left) last more →
+    Outputs (opening store) (lines_of script) last (out ++ more)
+completed store script left s last out more r h =
+    subst (λ (lines : List (List ℕ)). Outputs (opening store) lines last (out ++ more)) (sym r.is) (outputs_both (opening store) s last r.lines (lines_of left) out more r.output h)
+
+-- what was replied so far is the replies to the first lines
+pub first_replies : (store : Store) (script left : List ℕ) (s : Session) (old new : Option (List ℕ)) → Wrote old new (HasReplied store script s left) → Wrote old new (AreFirstReplies store script)
+first_replies store script left s old new w = record {
+  out = w.out;
+  appended = w.appended;
+  is = record { lines = w.is.lines; rest = lines_of left; is = w.is.is; last = s; output = w.is.output };
+}
+
 -- a line more is answered
 pub advance : (store : Store) (script left line left' : List ℕ) (s s' : Session) (old mid new : Option (List ℕ)) → lines_of left ≡ line ∷ lines_of left' →
-    Wrote old mid (Completes store script s left) → Wrote mid new (Answered s line s') → Wrote old new (Completes store script s' left')
+    Wrote old mid (HasReplied store script s left) → Wrote mid new (Answered s line s') → Wrote old new (HasReplied store script s' left')
 advance store script left line left' s s' old mid new e w r = record {
   out = w.out ++ r.out;
   appended = written_both old mid new w.out r.out w.appended r.appended;
-  is = λ last more outputs. subst (Outputs (opening store) (lines_of script) last) (sym (append_assoc w.out r.out more))
-      (w.is last (r.out ++ more) (subst (λ (lines : List (List ℕ)). Outputs s lines last (r.out ++ more)) (sym e) (s', r.out, more, r.is, outputs, refl)));
+  is = record {
+    lines = w.is.lines ++ line ∷ [];
+    is = w.is.is ∙ (ap (λ behind. w.is.lines ++ behind) e ∙ sym (append_assoc w.is.lines (line ∷ []) (lines_of left')));
+    output = outputs_both (opening store) s s' w.is.lines (line ∷ []) w.out r.out w.is.output (s', r.out, [], r.is, (refl, refl), sym (append_nothing r.out));
+  };
 }
 
 -- the last line is answered
 pub finish : (store : Store) (script left : List ℕ) (s s' : Session) (old mid new : Option (List ℕ)) → lines_of left ≡ left ∷ [] →
-    Wrote old mid (Completes store script s left) → Wrote mid new (Answered s left s') → Wrote old new (IsOutputTo store script s'.store)
+    Wrote old mid (HasReplied store script s left) → Wrote mid new (Answered s left s') → Wrote old new (IsOutputTo store script s'.store)
 finish store script left s s' old mid new e w r = record {
   out = w.out ++ r.out;
   appended = written_both old mid new w.out r.out w.appended r.appended;
-  is = (s', w.is s' r.out (subst (λ (lines : List (List ℕ)). Outputs s lines s' r.out) (sym e) (s', r.out, [], r.is, (refl, refl), sym (append_nothing r.out))), refl);
+  is = (
+    s',
+    completed store script left s s' w.out r.out w.is (subst (λ (lines : List (List ℕ)). Outputs s lines s' r.out) (sym e) (s', r.out, [], r.is, (refl, refl), sym (append_nothing r.out))),
+    refl,
+  );
 }
 
 -- a fault in the middle of a reply
 pub stop : (store : Store) (script left line : List ℕ) (lines : List (List ℕ)) (s : Session) (old mid new : Option (List ℕ)) → lines_of left ≡ line ∷ lines →
-    Wrote old mid (Completes store script s left) → Wrote mid new (IsFrontOfAnswer s line) → Wrote old new (IsFrontOfOutput store script)
+    Wrote old mid (HasReplied store script s left) → Wrote mid new (IsFrontOfAnswer s line) → Wrote old new (IsFrontOfOutput store script)
 stop store script left line lines s old mid new e w r =
     let next = some_output r.is.0 lines in
     let rest = r.is.1 ++ next.1 in
     let whole : Outputs s (line ∷ lines) next.0 ((r.out ++ r.is.1) ++ next.1) = (r.is.0, r.out ++ r.is.1, next.1, r.is.2, next.2, refl) in
     let output : Outputs (opening store) (lines_of script) next.0 (w.out ++ (r.out ++ rest)) =
-    w.is next.0 (r.out ++ rest) (subst (λ (ls : List (List ℕ)). Outputs s ls next.0 (r.out ++ rest)) (sym e)
+    completed store script left s next.0 w.out (r.out ++ rest) w.is (subst (λ (ls : List (List ℕ)). Outputs s ls next.0 (r.out ++ rest)) (sym e)
     (subst (Outputs s (line ∷ lines) next.0) (append_assoc r.out r.is.1 next.1) whole)) in
     record {
       out = w.out ++ r.out;
@@ -170,11 +200,11 @@ front_of_reply s s' line text request reply old new e r t w = record {
 }
 
 -- a script of which nothing was answered yet
-pub nothing_yet : (store : Store) (script : List ℕ) (s : Session) (known : Option (List ℕ)) → s ≡ opening store → Wrote known known (Completes store script s script)
+pub nothing_yet : (store : Store) (script : List ℕ) (s : Session) (known : Option (List ℕ)) → s ≡ opening store → Wrote known known (HasReplied store script s script)
 nothing_yet store script s known e = record {
   out = [];
   appended = none_written known;
-  is = λ last more outputs. subst (λ (z : Session). Outputs z (lines_of script) last more) e outputs;
+  is = record { lines = []; is = refl; output = (e, refl) };
 }
 
 pub on_ok : {T E P Q : Type 0} (r : Result T E) → (P → Q) → OnOk r P → OnOk r Q
@@ -198,12 +228,16 @@ too_long None new bytes h l = tt
 too_long (Some xs) None bytes h l = absurd h
 too_long (Some xs) (Some ys) bytes h l = omega (arith, ap length h, length-append bytes ys, l)
 
-pub none_answered_if : (store : Store) (input known : Option (List ℕ)) → IfSome input (λ script. Wrote known known (IsFrontOfOutput store script))
+pub none_answered_if : (store : Store) (input known : Option (List ℕ)) → IfSome input (λ script. Wrote known known (AreFirstReplies store script))
 none_answered_if store None known = tt
-none_answered_if store (Some script) known = none_answered store script known
+none_answered_if store (Some script) known = record {
+  out = [];
+  appended = none_written known;
+  is = record { lines = []; rest = lines_of script; is = refl; last = opening store; output = (refl, refl) };
+}
 
 -- what a fault of the reading leaves
-pub left_by : (e : RunFault) (store : Store) (old new known : Option (List ℕ)) → ReadFault e old new → Leaves e store old known known
+pub left_by : (e : RunFault) (store : Store) (old new known : Option (List ℕ)) → ReadFault e old new → RunLeaves e store old known known
 left_by Limits store old new known h = absurd h
 left_by Read store old new known h = keeps known
 left_by TooLong store old new known h = (keeps known, too_long old new h.0 h.1 h.2)
@@ -216,12 +250,33 @@ all_read (Some xs) None bytes P h p = absurd h.0
 all_read (Some xs) (Some ys) bytes P h p = subst P (sym (h.0 ∙ ap (λ z. bytes ++ z) h.1 ∙ append_nothing bytes)) p
 
 -- what a fault after the reading leaves
-pub left_late : (e : RunFault) (store : Store) (input left old new : Option (List ℕ)) (bytes : List ℕ) → IsLate e → ReadsAll input left bytes → Wrote old new (IsFrontOfOutput store bytes) → Leaves e store input old new
-left_late Limits store input left old new bytes l h w = absurd l
-left_late Read store input left old new bytes l h w = absurd l
-left_late TooLong store input left old new bytes l h w = absurd l
-left_late Write store input left old new bytes l h w = all_read input left bytes (λ script. Wrote old new (IsFrontOfOutput store script)) h w
-left_late Memory store input left old new bytes l h w = all_read input left bytes (λ script. Wrote old new (IsFrontOfOutput store script)) h w
+pub left_late : {T : Type 0} (r : Result T RunFault) (store : Store) (input left old new : Option (List ℕ)) (bytes : List ℕ) → IfErr r IsLate → ReadsAll input left bytes →
+    OnErr r (Wrote old new (IsFrontOfOutput store bytes)) → IfErr r (λ e. e ≡ Memory → Wrote old new (AreFirstReplies store bytes)) → IfErr r (λ e. RunLeaves e store input old new)
+left_late (Ok x) store input left old new bytes l h w whole = tt
+left_late (Err Limits) store input left old new bytes l h w whole = absurd l
+left_late (Err Read) store input left old new bytes l h w whole = absurd l
+left_late (Err TooLong) store input left old new bytes l h w whole = absurd l
+left_late (Err Write) store input left old new bytes l h w whole = all_read input left bytes (λ script. Wrote old new (IsFrontOfOutput store script)) h w
+left_late (Err Memory) store input left old new bytes l h w whole = all_read input left bytes (λ script. Wrote old new (AreFirstReplies store script)) h (whole refl)
+
+-- a fault that is Write is not Memory
+pub is_not_memory : {T : Type 0} (r : Result T RunFault) (P : Type 0) → IfErr r (λ e. e ≡ Write) → IfErr r (λ e. e ≡ Memory → P)
+is_not_memory (Ok x) P h = tt
+is_not_memory (Err e) P h = λ is. absurd (let both : Write ≡ Memory = sym h ∙ is in cc)
+
+-- where a line found no memory, nothing more was written
+pub none_further : (e : RunFault) (store : Store) (script left : List ℕ) (s : Session) (old mid new : Option (List ℕ)) → Wrote old mid (HasReplied store script s left) →
+    (e ≡ Memory → new ≡ mid) → e ≡ Memory → Wrote old new (AreFirstReplies store script)
+none_further e store script left s old mid new w same is = subst (λ (held : Option (List ℕ)). Wrote old held (AreFirstReplies store script)) (sym (same is)) (first_replies store script left s old mid w)
+
+pub each_err : {T E : Type 0} {P Q : E → Type 0} (r : Result T E) → ((e : E) → P e → Q e) → IfErr r P → IfErr r Q
+each_err (Ok x) f p = tt
+each_err (Err e) f p = f e p
+
+-- a fault that is passed on
+pub passed_up : {T E : Type 0} (r : Result T E) (e : E) (P : E → Type 0) → IsErrAnd r (λ y. y ≡ e) → P e → IfErr r P
+passed_up (Ok x) e P is p = tt
+passed_up (Err y) e P is p = subst P (sym is) p
 
 pub whole_output : (store store' : Store) (input left old new : Option (List ℕ)) (bytes : List ℕ) → ReadsAll input left bytes → Wrote old new (IsOutputTo store bytes store') →
     IfSome input (λ script. Wrote old new (IsOutputTo store script store'))
@@ -237,14 +292,14 @@ run_output limits (Some script) old new first last is volumes w = record {
   is = record { last = last; output = subst (λ (s : Store). IsOutputTo s script last w.out) is w.is; volumes = volumes };
 }
 
-pub late_is_other : (e : RunFault) → IsLate e → IsOther e
+pub late_is_other : (e : RunFault) → IsLate e → IsNotLimits e
 late_is_other Limits h = absurd h
 late_is_other Read h = tt
 late_is_other TooLong h = tt
 late_is_other Write h = tt
 late_is_other Memory h = tt
 
-pub read_is_other : (e : RunFault) (old new : Option (List ℕ)) → ReadFault e old new → IsOther e
+pub read_is_other : (e : RunFault) (old new : Option (List ℕ)) → ReadFault e old new → IsNotLimits e
 read_is_other Limits old new h = absurd h
 read_is_other Read old new h = tt
 read_is_other TooLong old new h = tt

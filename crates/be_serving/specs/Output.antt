@@ -1,5 +1,5 @@
 -- What a script may be answered.
-use Rattle.std.specs.Prelude.{◌≡◌, ◌⊎◌, ℕ, List, [], ◌∷◌, ◌++◌, Some, None, IsOk, length, nat_lt, if◌then◌else◌}
+use Rattle.std.specs.Prelude.{◌≡◌, ◌⊎◌, ℕ, ◌<◌, List, [], ◌∷◌, ◌++◌, Some, None, IsOk, IsSome, length, nat_lt, if◌then◌else◌}
 use Rattle.std.specs.declared.option.Option.{Option}
 use Rattle.std.specs.declared.result.Result.{Result}
 use Rattle.std.specs.declared.result.Result.TheVariants.{Ok, Err}
@@ -19,7 +19,7 @@ use Rattle.be_volume.specs.declared.ops.Done.TheVariants.{Node, Unit as Nothing}
 use Rattle.be_volume.specs.declared.ops.Op.{Op}
 use Rattle.be_language.specs.Reply.{Reply, none, bad_line, ok, node, nodes, value, attributes, kinds, cover, pinned_at, already_pinned, not_pinned, updates, no_live_query, queued, full_batch, empty_batch, already_begun, not_begun, committed, refused, text_of}
 use Rattle.be_language.specs.Request.{Request, silent, malformed, write, query, explain, get, attrs, indices, pin, unpin, live, refresh, begin, commit, abort, asked, lines_of}
-use Rattle.be_serving.specs.Store.{Pin, Store, Meanwhile, IsLeastOf, IsOther, viewed, pinned, unpinned, written}
+use Rattle.be_serving.specs.Store.{PinnedVolume, Store, Meanwhile, IsLeastOf, IsOther, viewed, pinned, unpinned, written}
 
 -- a script under way: its store, the operations of its batch where one is open, and its live query where it has one
 pub record Session : Type 0 where
@@ -77,11 +77,11 @@ aborting s None = (not_begun, s)
 aborting s (Some ops) = (ok, with_batch s None)
 
 -- A pin names the version after all writes so far, by their count.
-abbrev pub pinning : Session → Option Pin → Reply × Session
+abbrev pub pinning : Session → Option PinnedVolume → Reply × Session
 pinning s None = (pinned_at (length s.store.journal), with_store s (pinned s.store))
 pinning s (Some p) = (already_pinned, s)
 
-abbrev pub unpinning : Session → Option Pin → Reply × Session
+abbrev pub unpinning : Session → Option PinnedVolume → Reply × Session
 unpinning s None = (not_pinned, s)
 unpinning s (Some p) = (ok, with_store s (unpinned s.store))
 
@@ -151,9 +151,39 @@ IsHeldUpAt s None (write (Ok op)) reply = IsHeldUp s.store (op ∷ []) reply
 IsHeldUpAt s (Some (op ∷ ops)) commit reply = IsHeldUp s.store (op ∷ ops) reply
 IsHeldUpAt s batch request reply = ⊥
 
--- There was no memory, or a write was held up; nothing was written.
+-- An operation takes memory where it is written and should be accepted, and where an open batch has room for it.
+abbrev pub OpTakesMemory : Session → Option (List Op) → Op → Type 0
+OpTakesMemory s None op = IsOk (written s.store (op ∷ []))
+OpTakesMemory s (Some ops) op = length ops < 64
+
+-- A commit does where its batch should be accepted.
+abbrev pub CommitTakesMemory : Session → Option (List Op) → Type 0
+CommitTakesMemory s None = ⊥
+CommitTakesMemory s (Some []) = ⊥
+CommitTakesMemory s (Some (op ∷ ops)) = IsOk (written s.store (op ∷ ops))
+
+-- the lines that take memory: those, and the ones that read a query or list what they find
+abbrev pub TakesMemory : Session → Request → Type 0
+TakesMemory s silent = ⊥
+TakesMemory s malformed = ⊥
+TakesMemory s (write (Ok op)) = OpTakesMemory s s.batch op
+TakesMemory s (write (Err e)) = ⊥
+TakesMemory s (query text) = Unit {0}
+TakesMemory s (explain text) = Unit {0}
+TakesMemory s (get n name) = ⊥
+TakesMemory s (attrs n) = Unit {0}
+TakesMemory s indices = Unit {0}
+TakesMemory s pin = ⊥
+TakesMemory s unpin = ⊥
+TakesMemory s (live text) = Unit {0}
+TakesMemory s refresh = IsSome s.live
+TakesMemory s begin = ⊥
+TakesMemory s commit = CommitTakesMemory s s.batch
+TakesMemory s abort = ⊥
+
+-- There was no memory for a line that takes some, or a write was held up; nothing was written.
 abbrev pub IsWanting : Session → Request → Reply → Session → Type 0
-IsWanting s request reply after = (after ≡ unwritten s request) × ((reply ≡ refused OutOfMemory) ⊎ IsHeldUpAt s s.batch request reply)
+IsWanting s request reply after = (after ≡ unwritten s request) × (((reply ≡ refused OutOfMemory) × TakesMemory s request) ⊎ IsHeldUpAt s s.batch request reply)
 
 -- exactly this reply, and this session after it
 abbrev pub Gives : Reply × Session → Reply → Session → Type 0

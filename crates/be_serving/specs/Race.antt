@@ -1,5 +1,5 @@
 -- What a race gives: what its passes have served, and what it writes.
-use Rattle.std.specs.Prelude.{◌≡◌, ℕ, ◌+◌, ◌<◌, List, [], ◌∷◌, ◌++◌, None, false, length, map, slice_index_or, codes}
+use Rattle.std.specs.Prelude.{◌≡◌, ◌⊎◌, ℕ, ◌+◌, ◌<◌, List, [], ◌∷◌, ◌++◌, None, false, length, map, slice_index_or, codes}
 use Rattle.std.specs.Fmt.{decimal}
 use Rattle.std.specs.Io.KnownBytes.{Keeps}
 use Rattle.std.specs.declared.option.Option.{Option}
@@ -18,6 +18,7 @@ use Rattle.be_table.specs.declared.pass.Knowledge.{Knowledge}
 use Rattle.be_store.specs.Passes.{IsPassOf}
 use Rattle.be_serving.specs.Output.{IsOutputTo}
 use Rattle.be_serving.specs.Own.{IsPartOf, operations, write_ops}
+use Rattle.be_serving.specs.Run.{Wrote}
 use Rattle.be_serving.specs.Served.{known}
 use Rattle.be_serving.specs.Store.{Store}
 use Rattle.be_serving.specs.declared.faults.RunFault.{RunFault}
@@ -91,10 +92,15 @@ pub record IsRace (limits : StoreLimits) (scripts : List (List ℕ)) (out : List
   pub own : (k : ℕ) → k < length scripts → IsPartOf (operations (by_pass k journal)) (write_ops (slice_index_or scripts k []))
   pub volumes : CanSpellEach limits.pages journal
 
--- What a fault leaves: where the limits or a script's length are at fault, nothing was written.
-abbrev pub Stops : RunFault → Option (List ℕ) → Option (List ℕ) → Type 0
-Stops Limits old new = Keeps old new
-Stops Read old new = ⊥
-Stops TooLong old new = Keeps old new
-Stops Write old new = Unit {0}
-Stops Memory old new = Unit {0}
+-- the text is nothing, or a front of what a race of these scripts writes
+abbrev pub IsRaceInPart : StoreLimits → List (List ℕ) → List ℕ → Type 0
+IsRaceInPart limits scripts front = (front ≡ []) ⊎ ((rest : List ℕ) × IsRace limits scripts (front ++ rest))
+
+-- What a fault leaves: where the limits or a script's length are at fault, nothing was written; else a part of the whole, from
+-- its front on.
+abbrev pub RaceLeaves : StoreLimits → List (List ℕ) → RunFault → Option (List ℕ) → Option (List ℕ) → Type 0
+RaceLeaves limits scripts Limits old new = Keeps old new
+RaceLeaves limits scripts Read old new = ⊥
+RaceLeaves limits scripts TooLong old new = Keeps old new
+RaceLeaves limits scripts Write old new = Wrote old new (IsRaceInPart limits scripts)
+RaceLeaves limits scripts Memory old new = Wrote old new (IsRaceInPart limits scripts)

@@ -58,13 +58,22 @@ abbrev pub HasReadScript : RunFault → Option (List ℕ) → Option (List ℕ) 
 HasReadScript TooLong old new = ReadsMany old new
 HasReadScript e old new = ReadsFew old new
 
--- What a fault leaves. Where the script was not read whole or was too long, nothing was written; else the front of an output.
-abbrev pub Leaves : RunFault → Store → Option (List ℕ) → Option (List ℕ) → Option (List ℕ) → Type 0
-Leaves Limits store input old new = Keeps old new
-Leaves Read store input old new = Keeps old new
-Leaves TooLong store input old new = Keeps old new × IfSome input (λ script. 2 ^ 20 < length script)
-Leaves Write store input old new = IfSome input (λ script. Wrote old new (IsFrontOfOutput store script))
-Leaves Memory store input old new = IfSome input (λ script. Wrote old new (IsFrontOfOutput store script))
+-- the text is the replies to the first lines of a script, each of them whole
+pub record AreFirstReplies (store : Store) (script out : List ℕ) : Type 0 where
+  pub lines : List (List ℕ)
+  pub rest : List (List ℕ)
+  pub is : lines_of script ≡ lines ++ rest
+  pub last : Session
+  pub output : Outputs (opening store) lines last out
+
+-- What a fault leaves. Where the script was not read whole or was too long, nothing was written; after a failed write the front
+-- of an output; and for want of memory the replies to the first lines.
+abbrev pub RunLeaves : RunFault → Store → Option (List ℕ) → Option (List ℕ) → Option (List ℕ) → Type 0
+RunLeaves Limits store input old new = Keeps old new
+RunLeaves Read store input old new = Keeps old new
+RunLeaves TooLong store input old new = Keeps old new × IfSome input (λ script. 2 ^ 20 < length script)
+RunLeaves Write store input old new = IfSome input (λ script. Wrote old new (IsFrontOfOutput store script))
+RunLeaves Memory store input old new = IfSome input (λ script. Wrote old new (AreFirstReplies store script))
 
 -- a fault of the reading
 abbrev pub IsEarly : RunFault → Type 0
@@ -83,13 +92,15 @@ IsLate Write = Unit {0}
 IsLate Memory = Unit {0}
 
 -- a fault other than a limit out of range
-abbrev pub IsOther : RunFault → Type 0
-IsOther Limits = ⊥
-IsOther Read = Unit {0}
-IsOther TooLong = Unit {0}
-IsOther Write = Unit {0}
-IsOther Memory = Unit {0}
+abbrev pub IsNotLimits : RunFault → Type 0
+IsNotLimits Limits = ⊥
+IsNotLimits Read = Unit {0}
+IsNotLimits TooLong = Unit {0}
+IsNotLimits Write = Unit {0}
+IsNotLimits Memory = Unit {0}
 
--- what is written, and any output of the lines left, is an output of the script
-abbrev pub Completes : Store → List ℕ → Session → List ℕ → List ℕ → Type 0
-Completes store script s left out = (last : Session) (more : List ℕ) → Outputs s (lines_of left) last more → Outputs (opening store) (lines_of script) last (out ++ more)
+-- The text is the replies to the lines of a script up to those of what is left, and leaves this session.
+pub record HasReplied (store : Store) (script : List ℕ) (s : Session) (left out : List ℕ) : Type 0 where
+  pub lines : List (List ℕ)
+  pub is : lines_of script ≡ lines ++ lines_of left
+  pub output : Outputs (opening store) lines s out

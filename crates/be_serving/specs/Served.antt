@@ -8,7 +8,7 @@ use Rattle.be_table.specs.Rule.{entries}
 use Rattle.be_table.specs.Seats.{pinned_number}
 use Rattle.be_store.specs.History.{IsLastReason}
 use Rattle.be_store.specs.Passes.{volume_seen}
-use Rattle.be_serving.specs.Store.{Pin, Store}
+use Rattle.be_serving.specs.Store.{PinnedVolume, Store}
 use Rattle.be_value.specs.declared.refusals.Refusal.{Refusal}
 use Rattle.be_volume.specs.declared.ops.Op.{Op}
 
@@ -22,7 +22,7 @@ abbrev pub seat_of : Seated → Opened × ℕ
 seat_of s = (s.store, s.knows.number)
 
 -- the version after the first n writes that the pass has seen
-abbrev pub pin_at : Knowledge → ℕ → Pin
+abbrev pub pin_at : Knowledge → ℕ → PinnedVolume
 pin_at a n = record { number = n; volume = replay (take n (entries a.seen)) }
 
 -- the store as the pass sees it: what it has seen is what was written

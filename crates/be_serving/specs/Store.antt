@@ -15,7 +15,7 @@ use Rattle.be_journal.specs.declared.entries.Entry.{Entry}
 use Rattle.be_journal.specs.Journal.{coded_entry}
 
 -- a pinned version: how many writes were accepted before it, and its volume
-pub record Pin : Type 0 where
+pub record PinnedVolume : Type 0 where
   pub number : ℕ
   pub volume : State
 
@@ -27,9 +27,9 @@ pub record Store : Type 0 where
   pub limit : ℕ
   pub passes : ℕ
   pub pass : ℕ
-  pub pin : Option Pin
+  pub pin : Option PinnedVolume
 
-abbrev pub coded_pin : Coded Pin
+abbrev pub coded_pin : Coded PinnedVolume
 coded_pin = code_by _ (coded× coded_ℕ coded_state) (λ p. (p.number, p.volume)) (λ q. record { number = q.0; volume = q.1 }) (λ _. refl)
 
 abbrev pub coded_store : Coded Store
@@ -59,7 +59,7 @@ pub record Meanwhile (old : Store) (P : Store → Type 0) : Type 0 where
 
 -- the volume that is read: the pinned one, or else that after all writes
 abbrev pub viewed : Store → State
-viewed s = option_map_or (λ (p : Pin). p.volume) s.pin s.volume
+viewed s = option_map_or (λ (p : PinnedVolume). p.volume) s.pin s.volume
 
 -- the store with the version after all writes pinned
 abbrev pub pinned : Store → Store
@@ -83,7 +83,7 @@ written s ops = written_by s ops (steps s.volume ops)
 
 -- which version is read, by how many writes were accepted before it: the pinned one, or else that after all writes
 abbrev pub viewed_number : Store → ℕ
-viewed_number s = option_map_or (λ (p : Pin). p.number) s.pin (length s.journal)
+viewed_number s = option_map_or (λ (p : PinnedVolume). p.number) s.pin (length s.journal)
 
 -- The least that a full store tells is no later than the version that is read; and where no other pass reads, it is that version.
 abbrev pub IsLeastOf : Store → ℕ → Type 0

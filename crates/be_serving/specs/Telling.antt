@@ -1,12 +1,14 @@
 -- What a run writes that tells its journal, and what the script of a journal is answered.
-use Rattle.std.specs.Prelude.{◌≡◌, ◌⊎◌, ℕ, ◌+◌, ◌<◌, ◌^◌, List, [], ◌∷◌, ◌++◌, codes, flat_map, length, map, nat_lt, if◌then◌else◌, IfSome, None}
+use Rattle.std.specs.Prelude.{◌≡◌, ◌⊎◌, ℕ, ◌+◌, ◌<◌, ◌^◌, List, [], ◌∷◌, ◌++◌, flat_map, length, map, nat_lt, if◌then◌else◌, IfSome, None}
 use Rattle.std.specs.Io.KnownBytes.{Keeps}
 use Rattle.std.specs.declared.option.Option.{Option}
 use Rattle.be_history.specs.Dump.{by_only_pass}
 use Rattle.be_journal.specs.Journal.{IsLegal, replay}
 use Rattle.be_journal.specs.Text.{result_text}
 use Rattle.be_journal.specs.declared.entries.Entry.{Entry}
-use Rattle.be_language.specs.Reply.{Reply, ok, queued, committed, text_of}
+use Rattle.be_language.specs.Reply.{ok, queued, committed, text_of}
+use Rattle.be_table.specs.Versions.{CanSpellEach}
+use Rattle.be_table.specs.declared.limits.Limits.{Limits as StoreLimits}
 use Rattle.be_volume.specs.declared.ops.Op.{Op}
 use Rattle.be_serving.specs.Output.{IsFrontOfOutput, IsOutputTo, done_reply}
 use Rattle.be_serving.specs.Run.{Wrote}
@@ -14,25 +16,27 @@ use Rattle.be_serving.specs.Store.{Store, start}
 use Rattle.be_serving.specs.declared.faults.RunFault.{RunFault}
 use Rattle.be_serving.specs.declared.faults.RunFault.TheVariants.{Limits, Read, TooLong, Write, Memory}
 
--- The replies are an output of the script, and behind them stands the journal of the store that this output leaves.
-pub record IsToldRun (limit : ℕ) (script out : List ℕ) : Type 0 where
+-- The replies are an output of the script, and behind them stands the journal of the store that this output leaves. After each
+-- of its writes the volume is one that as many pages as the limits say can spell.
+pub record IsToldRun (limits : StoreLimits) (script out : List ℕ) : Type 0 where
   pub last : Store
   pub replies : List ℕ
-  pub output : IsOutputTo (start limit) script last replies
+  pub output : IsOutputTo (start limits.commits) script last replies
   pub legal : IsLegal last.journal
+  pub volumes : CanSpellEach limits.pages last.journal
   pub is : out ≡ replies ++ result_text last.journal
 
 -- the text is a front of the replies to the script, or all of them and a front of the journal behind them
-abbrev pub IsToldInPart : ℕ → List ℕ → List ℕ → Type 0
-IsToldInPart limit script front = IsFrontOfOutput (start limit) script front ⊎ ((rest : List ℕ) × IsToldRun limit script (front ++ rest))
+abbrev pub IsToldInPart : StoreLimits → List ℕ → List ℕ → Type 0
+IsToldInPart limits script front = IsFrontOfOutput (start limits.commits) script front ⊎ ((rest : List ℕ) × IsToldRun limits script (front ++ rest))
 
 -- What a fault leaves: where the limits or the script are at fault, nothing was written; else a part of the whole, from its front on.
-abbrev pub StopsTelling : ℕ → RunFault → Option (List ℕ) → Option (List ℕ) → Option (List ℕ) → Type 0
-StopsTelling limit Limits input old new = Keeps old new
-StopsTelling limit Read input old new = Keeps old new
-StopsTelling limit TooLong input old new = Keeps old new × IfSome input (λ script. 2 ^ 20 < length script)
-StopsTelling limit Write input old new = IfSome input (λ script. Wrote old new (IsToldInPart limit script))
-StopsTelling limit Memory input old new = IfSome input (λ script. Wrote old new (IsToldInPart limit script))
+abbrev pub TellingLeaves : StoreLimits → RunFault → Option (List ℕ) → Option (List ℕ) → Option (List ℕ) → Type 0
+TellingLeaves limits Limits input old new = Keeps old new
+TellingLeaves limits Read input old new = Keeps old new
+TellingLeaves limits TooLong input old new = Keeps old new × IfSome input (λ script. 2 ^ 20 < length script)
+TellingLeaves limits Write input old new = IfSome input (λ script. Wrote old new (IsToldInPart limits script))
+TellingLeaves limits Memory input old new = IfSome input (λ script. Wrote old new (IsToldInPart limits script))
 
 -- a store of one pass with these writes, by its pass
 abbrev pub made : ℕ → List Entry → Store

@@ -1,7 +1,7 @@
 //! Laws of the definitions. Each does nothing; its contract is the law.
 ghost use Rattle.std.specs.Prelude.{◌≡◌, ◌≤◌, ℕ, List, length};
 ghost use Rattle.be_history.specs.Dump.{dump};
-ghost use Rattle.be_history.specs.History.{AreWritten};
+ghost use Rattle.be_history.specs.History.{CanBeJournal};
 ghost use Rattle.be_journal.specs.Journal.{IsLegal};
 ghost use Rattle.be_journal.specs.declared.entries.Entry.{Entry as AnyEntry};
 ghost use Rattle.be_serving.specs.Output.{IsOutputTo, Session, Replies, Serves};
@@ -25,6 +25,6 @@ pub fn answered_alone()
 /// The script of a journal makes it again: a run of it, where memory and pages are there, has the same journal but for the
 /// numbers of passes, and the same volume.
 pub fn dump_makes_journal()
-    ensures { (limit : ℕ) (entries : List AnyEntry) → AreWritten entries → IsLegal entries → length entries ≤ limit →
+    ensures { (limit : ℕ) (entries : List AnyEntry) → CanBeJournal entries → IsLegal entries → length entries ≤ limit →
         IsOutputTo (start limit) (dump entries) (made limit entries) (dump_output 1 entries) }
 {}

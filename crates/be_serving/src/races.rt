@@ -1,8 +1,8 @@
 //! Races: several scripts at once on one shared store, each on a thread of its own.
 //!
 //! Script k is served from pass k of the store, and its replies are kept. Nobody waits for the lock inside the store, so
-//! scripts meet there alone, and what each writes takes its place in one journal. Once all threads have ended the replies
-//! are written, script by script; then the store is closed, and its journal and the result of the journal's check follow.
+//! scripts meet there alone, and what each writes takes its place in one journal. Once all threads have ended the store is
+//! closed. Then the replies are written, script by script, and behind them the journal and the result of its check.
 //!
 //! A thread promises what it gives back ([`Served`]): a pass of the store, with the script's number, whose own writes are
 //! some of those that the script asks for, and replies that the script may get where others write, of what the pass has
@@ -13,7 +13,7 @@ ghost use Rattle.std.specs.Io.KnownBytes.{Appends};
 ghost use Rattle.std.specs.List.{list_any};
 ghost use Rattle.be_journal.specs.Journal.{IsLegal};
 ghost use Rattle.be_journal.specs.Text.{result_text};
-ghost use Rattle.be_serving.specs.Race.{IsOutcome, AreRepliesOf, HaveServed, IsNew, IsRace, Stops, pass_line, replies_text};
+ghost use Rattle.be_serving.specs.Race.{IsOutcome, AreRepliesOf, HaveServed, IsNew, IsRace, RaceLeaves, pass_line, replies_text};
 ghost use Rattle.be_serving.specs.Run.{Wrote, IsFrontOf, IsLate};
 ghost use Rattle.be_store.specs.Passes.{IsPassOf};
 ghost use Rattle.std.specs.String.{string_bytes};
@@ -190,9 +190,10 @@ fn line_of(alloc: Global, pass: usize) -> Result<String, AllocError>
     format!(in alloc; "pass {pass}\n")
 }
 
-/// Writes each pass's line and its replies.
+/// Writes each pass's line and its replies. After a fault a front of them all was written.
 fn put_replies<W: Write>(alloc: Global, writer: &mut W, replies: &[Vec<u8>]) -> Result<(), RunFault>
     ensures ok { OnOk result (Appends (W.contents writer.old) (W.contents writer.new) (replies_text 0 (map (λ t. t.items) replies.now))) }
+    ensures err { OnErr result (Wrote (W.contents writer.old) (W.contents writer.new) (IsFrontOf (replies_text 0 (map (λ t. t.items) replies.now)))) }
     ensures late { IfErr result IsLate }
 {
     for (pass, text) in replies.iter().enumerate() {
@@ -245,27 +246,44 @@ pub(crate) fn put_result<W: Write>(
     Ok(legal)
 }
 
-/// Races scripts of which none is too long, on a store of its own within its limits.
-fn race_within<R: Threads + Wait, G: Gate + Sync, W: Write>(
+/// Writes each pass's line and its replies, and behind them what tells the journal; and answers the result of its check. After
+/// a fault a front of them all was written.
+fn put_race<W: Write>(
+    alloc: Global,
+    writer: &mut W,
+    replies: &[Vec<u8>],
+    journal: &Journal,
+) -> Result<bool, RunFault>
+    requires { IsLegal journal.now.entries }
+    ensures ok { IfOk result (λ legal. (legal ≡ true) × Appends (W.contents writer.old) (W.contents writer.new)
+        (replies_text 0 (map (λ t. t.items) replies.now) ++ result_text journal.now.entries)) }
+    ensures err { OnErr result (Wrote (W.contents writer.old) (W.contents writer.new)
+        (IsFrontOf (replies_text 0 (map (λ t. t.items) replies.now) ++ result_text journal.now.entries))) }
+    ensures late { IfErr result IsLate }
+{
+    put_replies(alloc, writer, replies)?;
+    put_result(alloc, writer, journal)
+}
+
+/// Serves the scripts at once on a store of its own, which is closed then: the replies to each, and the journal.
+fn serve_on_new<R: Threads + Wait, G: Gate + Sync>(
     rt: &R,
     alloc: Global,
     scripts: Vec<Vec<u8>>,
     limits: Limits,
     gate: &G,
-    writer: &mut W,
-) -> Result<bool, RunFault>
-    requires scripts { (2 ≤ vec_len scripts) × (vec_len scripts ≤ 4) }
-    requires passes { limits.passes ≡ vec_len scripts }
-    ensures ok { IfOk result (λ legal. (legal ≡ true)
-        × Wrote (W.contents writer.old) (W.contents writer.new) (IsRace limits (map (λ s. s.items) scripts.items))) }
-    ensures late { IfErr result IsLate }
+) -> Result<(Vec<Vec<u8>>, Journal), RunFault>
+    requires { limits.passes ≡ vec_len scripts }
+    ensures raced { IfOk result (λ r. IsRace limits (map (λ s. s.items) scripts.items)
+        (replies_text 0 (map (λ t. t.items) r.0.items) ++ result_text r.1.entries)) }
+    ensures legal { IfOk result (λ r. IsLegal r.1.entries) }
+    ensures fault { IfErr result (λ e. e ≡ RunFault.Memory) }
 {
     let Ok((store, passes)) = Store::open(alloc, limits) else {
         return Err(RunFault::Memory);
     };
     let (passes, replies) = serve_at_once(rt, alloc, &store, passes, &scripts, gate)?;
-    put_replies(alloc, writer, &replies)?;
-    put_result(alloc, writer, &store.close(passes))
+    Ok((replies, store.close(passes)))
 }
 
 /// Races two to four scripts against one another on an empty store, which has the pages and commits of the limits and a
@@ -276,8 +294,8 @@ fn race_within<R: Threads + Wait, G: Gate + Sync, W: Write>(
 /// tried again, 10,000,000 times at most in all, and its refusal is the reply then. It returns once all threads have ended. The
 /// replies are written behind a line `pass K` for each pass; then `journal N`, the journal's text, and `replay ok`. The
 /// journal is of the store that replied: it begins with what each pass has seen, and has its writes just as they were
-/// answered. Memory where memory or a thread is missing; the replies may be written then. Any error of a write, and a write
-/// of no bytes, is Write.
+/// answered. Memory where memory or a thread is missing. Any error of a write, and a write of no bytes, is Write. Both leave
+/// nothing written, or a front of what a race of these scripts writes.
 pub fn race<R: Threads + Wait, G: Gate + Sync, W: Write>(
     rt: &R,
     alloc: Global,
@@ -292,7 +310,7 @@ pub fn race<R: Threads + Wait, G: Gate + Sync, W: Write>(
     ensures long { (result ≡ Err RunFault.TooLong) ↔ (IsWithin limits × (list_any (λ s. nat_lt (2 ^ 20) (vec_len s)) scripts.items ≡ true)) }
     ensures ok { IfOk result (λ legal. (legal ≡ true)
         × Wrote (W.contents writer.old) (W.contents writer.new) (IsRace limits (map (λ s. s.items) scripts.items))) }
-    ensures fault { IfErr result (λ e. Stops e (W.contents writer.old) (W.contents writer.new)) }
+    ensures fault { IfErr result (λ e. RaceLeaves limits (map (λ s. s.items) scripts.items) e (W.contents writer.old) (W.contents writer.new)) }
 {
     if !limits.are_within() {
         return Err(RunFault::Limits);
@@ -300,5 +318,8 @@ pub fn race<R: Threads + Wait, G: Gate + Sync, W: Write>(
     if is_some_too_long(&scripts) {
         return Err(RunFault::TooLong);
     }
-    race_within(rt, alloc, scripts, limits, gate, writer)
+    match serve_on_new(rt, alloc, scripts, limits, gate) {
+        Ok((replies, journal)) => put_race(alloc, writer, &replies, &journal),
+        Err(fault) => Err(fault),
+    }
 }

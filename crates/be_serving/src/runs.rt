@@ -1,10 +1,10 @@
 //! Whole runs: the bytes of a script in, the replies out.
 //!
 //! A script is read whole before its first line is run, so a script that can't be read or is too long writes nothing.
-//! Then each line is run, its reply is made as a text, and the text is written: a fault leaves the front of an output.
-ghost use Rattle.std.specs.Prelude.{◌≡◌, ◌<◌, ◌≤◌, ◌+◌, ◌*◌, ◌^◌, ◌↔◌, ◌++◌, ◌∷◌, [], List, ℕ, length, vec_len, position};
-ghost use Rattle.std.specs.Prelude.{false, IfOk, OnOk, IfErr, IfSome, OnErr, IfNone, Err};
-ghost use Rattle.std.specs.Io.KnownBytes.{Appends, Consumes, IsAtEnd, Keeps};
+//! Then each line is run, its reply is made as a text, and the text is written: a fault leaves the front of an output, which
+//! ends behind a whole reply where no write has failed.
+ghost use Rattle.std.specs.Prelude.{◌≡◌, ◌<◌, ◌≤◌, ◌^◌, ◌↔◌, ◌∷◌, [], length, vec_len, position, IfOk, OnOk, IfErr, IfSome, OnErr, IfNone, Err};
+ghost use Rattle.std.specs.Io.KnownBytes.{Appends};
 ghost use Rattle.be_journal.specs.Journal.{by_pass};
 ghost use Rattle.be_serving.specs.Output as outputs;
 ghost use Rattle.be_serving.specs.Own.{IsPartOf, operations, write_ops};
@@ -49,7 +49,7 @@ pub fn put<W: Write>(writer: &mut W, bytes: &[u8]) -> Result<(), RunFault>
     Ok(())
 }
 
-/// Runs a line, and then writes its reply.
+/// Runs a line, and then writes its reply. Nothing of it was written where memory is missing.
 fn run_line<S: Server, W: Write>(
     alloc: Global,
     server: &mut S,
@@ -62,6 +62,7 @@ fn run_line<S: Server, W: Write>(
         (outputs.Answered (session (S.shows server.old) client.old) line.now (session (S.shows server.new) client.new))) }
     ensures err { OnErr result (spec.Wrote (W.contents writer.old) (W.contents writer.new)
         (spec.IsFrontOfAnswer (session (S.shows server.old) client.old) line.now)) }
+    ensures whole { IfErr result (λ e. e ≡ RunFault.Memory → W.contents writer.new ≡ W.contents writer.old) }
     ensures late { IfErr result spec.IsLate }
     ensures stays { S.kept server.new ≡ S.kept server.old }
     ensures few { length (queued_ops client.new) ≤ 64 }
@@ -107,6 +108,8 @@ pub(crate) fn run_lines<S: Server, G: Gate, W: Write>(
     ensures ok { OnOk result (spec.Wrote (W.contents writer.old) (W.contents writer.new)
         (outputs.IsOutputTo (S.shows server.old) script.now (S.shows server.new))) }
     ensures err { OnErr result (spec.Wrote (W.contents writer.old) (W.contents writer.new) (outputs.IsFrontOfOutput (S.shows server.old) script.now)) }
+    ensures whole { IfErr result (λ e. e ≡ RunFault.Memory →
+        spec.Wrote (W.contents writer.old) (W.contents writer.new) (spec.AreFirstReplies (S.shows server.old) script.now)) }
     ensures late { IfErr result spec.IsLate }
     ensures stays { S.kept server.new ≡ S.kept server.old }
 {
@@ -198,10 +201,10 @@ pub fn serve<S: Server, R: Read, W: Write>(
     ensures output { OnOk result (IfSome (R.remaining reader.old) (λ script.
         spec.Wrote (W.contents writer.old) (W.contents writer.new) (outputs.IsOutputTo (S.shows server.old) script (S.shows server.new)))) }
     ensures stays { S.kept server.new ≡ S.kept server.old }
-    ensures fault { IfErr result (λ e. spec.Leaves e (S.shows server.old) (R.remaining reader.old) (W.contents writer.old) (W.contents writer.new)) }
+    ensures fault { IfErr result (λ e. spec.RunLeaves e (S.shows server.old) (R.remaining reader.old) (W.contents writer.old) (W.contents writer.new)) }
     ensures fits { OnOk result (IfSome (R.remaining reader.old) (λ script. length script ≤ 2 ^ 20)) }
     ensures taken { IfErr result (λ e. spec.HasReadScript e (R.remaining reader.old) (R.remaining reader.new)) }
-    ensures other { IfErr result spec.IsOther }
+    ensures other { IfErr result spec.IsNotLimits }
 {
     match read_script(alloc, reader) {
         Ok(script) => run_lines(alloc, server, 0, &OpenGate, &script, writer),
@@ -215,8 +218,8 @@ pub fn serve<S: Server, R: Read, W: Write>(
 /// before its first line is run; any error of a read is `Read`. Each line is run before its reply is written; any error of
 /// a write, and a write of no bytes, is `Write`. `TooLong` comes where more than 1,048,576 bytes were read, and no other
 /// fault comes then. Where the reader's bytes and the writer's are known, as those of a slice
-/// and a vector are, what is written is an output of the script; after `Write` and `Memory` it is the front of one, and
-/// after any other fault nothing was written.
+/// and a vector are, what is written is an output of the script. After `Write` it is the front of one, after `Memory` the
+/// replies to the script's first lines, each of them whole, and after any other fault nothing was written.
 pub fn run<R: Read, W: Write>(
     alloc: Global,
     reader: &mut R,
@@ -228,7 +231,7 @@ pub fn run<R: Read, W: Write>(
     ensures output { OnOk result (IfSome (R.remaining reader.old) (λ script.
         spec.Wrote (W.contents writer.old) (W.contents writer.new) (spec.IsRun limits script))) }
     ensures fits { OnOk result (IfSome (R.remaining reader.old) (λ script. length script ≤ 2 ^ 20)) }
-    ensures fault { IfErr result (λ e. spec.Leaves e (start limits.commits) (R.remaining reader.old) (W.contents writer.old) (W.contents writer.new)) }
+    ensures fault { IfErr result (λ e. spec.RunLeaves e (start limits.commits) (R.remaining reader.old) (W.contents writer.old) (W.contents writer.new)) }
     ensures taken { IfErr result (λ e. spec.HasReadScript e (R.remaining reader.old) (R.remaining reader.new)) }
 {
     if !limits.are_within() {

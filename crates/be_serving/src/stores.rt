@@ -4,7 +4,7 @@
 //! journal, the volume that it stands for, the limit on its entries, and the pinned version. Other passes may write
 //! between two calls, and a call is answered from the store as they left it. What runs scripts is proved over that trait,
 //! so it holds for whatever serves. [`PassServer`] is a shared store with one of its passes.
-ghost use Rattle.std.specs.Prelude.{◌≡◌, ◌≤◌, ◌<◌, ◌^◌, List, Ok, None, IsSome, is_some, true, length, IfOk, IfErr, MatchResult, if◌then◌else◌};
+ghost use Rattle.std.specs.Prelude.{◌≡◌, ◌≤◌, List, Ok, None, IsSome, is_some, length, IfOk, IfErr, if◌then◌else◌};
 ghost use Rattle.be_store.specs.History.{IsLastReason};
 ghost use Rattle.be_store.specs.Passes.{IsPassOf};
 ghost use Rattle.be_value.specs.Refusal.{Answers};

@@ -2,9 +2,10 @@
 ghost use Rattle.std.specs.Prelude.{◌≡◌, ◌≤◌, ◌^◌, ◌↔◌, ◌∷◌, [], true, length, IfOk, IfErr, OnOk, OnErr, IfSome, Err};
 ghost use Rattle.be_journal.specs.Journal.{IsLegal};
 ghost use Rattle.be_serving.specs.Run as spec;
-ghost use Rattle.be_serving.specs.Telling.{IsToldInPart, IsToldRun, StopsTelling};
+ghost use Rattle.be_serving.specs.Telling.{IsToldInPart, IsToldRun, TellingLeaves};
 ghost use Rattle.be_store.specs.Passes.{IsPassOf};
 ghost use Rattle.be_table.specs.Rule.{AreBad, IsWithin, entries};
+ghost use Rattle.be_table.specs.Versions.{CanSpellEach};
 
 use crate::gates::OpenGate;
 use crate::races::put_result;
@@ -35,6 +36,7 @@ fn close_alone(alloc: Global, store: be_store::Store, pass: Pass) -> Result<Jour
     requires one { store.limits.passes ≡ 1 }
     ensures all { IfOk result (λ journal. journal.entries ≡ entries pass.knows.seen) }
     ensures legal { IfOk result (λ journal. IsLegal journal.entries) }
+    ensures volumes { IfOk result (λ journal. CanSpellEach store.limits.pages journal.entries) }
     ensures fault { IfErr result (λ e. e ≡ RunFault.Memory) }
 {
     alone(&store, &pass);
@@ -51,8 +53,8 @@ fn run_on_new<W: Write>(
 ) -> Result<bool, RunFault>
     requires { IsWithin limits }
     ensures told { IfOk result (λ legal. (legal ≡ true)
-        × spec.Wrote (W.contents writer.old) (W.contents writer.new) (IsToldRun limits.commits script.now)) }
-    ensures err { OnErr result (spec.Wrote (W.contents writer.old) (W.contents writer.new) (IsToldInPart limits.commits script.now)) }
+        × spec.Wrote (W.contents writer.old) (W.contents writer.new) (IsToldRun limits script.now)) }
+    ensures err { OnErr result (spec.Wrote (W.contents writer.old) (W.contents writer.new) (IsToldInPart limits script.now)) }
     ensures late { IfErr result spec.IsLate }
 {
     let Ok((store, pass)) = open_for_one(alloc, limits) else {
@@ -69,8 +71,9 @@ fn run_on_new<W: Write>(
 /// journal's text, and `replay ok`. It says whether the journal is legal. It is: false is never answered.
 ///
 /// The script is read before the store is opened. The journal is that which the replies leave: each accepted write of the
-/// script, in its order. Faults are those of `run`; `Write` and `Memory` leave a front of the replies written, or all of them
-/// and a front of what stands behind them, and any other fault leaves nothing.
+/// script, in its order; after each of them the volume is one that as many pages as the limits say can spell. Faults are those
+/// of `run`; `Write` and `Memory` leave a front of the replies written, or all of them and a front of what stands behind them,
+/// and any other fault leaves nothing.
 pub fn run_and_tell<R: Read, W: Write>(
     alloc: Global,
     reader: &mut R,
@@ -80,9 +83,9 @@ pub fn run_and_tell<R: Read, W: Write>(
     ensures limits { (result ≡ Err RunFault.Limits) ↔ AreBad limits }
     ensures unread { result ≡ Err RunFault.Limits → reader.new ≡ reader.old }
     ensures told { IfOk result (λ legal. (legal ≡ true) × IfSome (R.remaining reader.old) (λ script.
-        spec.Wrote (W.contents writer.old) (W.contents writer.new) (IsToldRun limits.commits script))) }
+        spec.Wrote (W.contents writer.old) (W.contents writer.new) (IsToldRun limits script))) }
     ensures fits { OnOk result (IfSome (R.remaining reader.old) (λ script. length script ≤ 2 ^ 20)) }
-    ensures fault { IfErr result (λ e. StopsTelling limits.commits e (R.remaining reader.old) (W.contents writer.old) (W.contents writer.new)) }
+    ensures fault { IfErr result (λ e. TellingLeaves limits e (R.remaining reader.old) (W.contents writer.old) (W.contents writer.new)) }
     ensures taken { IfErr result (λ e. spec.HasReadScript e (R.remaining reader.old) (R.remaining reader.new)) }
 {
     if !limits.are_within() {

@@ -9,7 +9,7 @@ use Rattle.std.specs.declared.result.Result.{Result}
 use Rattle.std.specs.declared.result.Result.TheVariants.{Ok, Err}
 use Rattle.be_serving.specs.Run.{is_line_end}
 use Rattle.be_serving.proofs.RunLemmas.{read_both}
-use Rattle.be_shell.specs.Bytes.{HasTaken, Hears, Moves}
+use Rattle.be_shell.specs.Bytes.{HasTaken, Hears, ChangesBytes}
 use Rattle.be_shell.specs.Conversation.{Event, short_line, long_line, hears, ends, says, flushes, fails}
 
 -- nothing was taken
@@ -100,7 +100,7 @@ line_left old mid new kept event h g last empty short long = by (nat_lt 65536 (l
         subst (λ (e : Event). Hears old new e) (sym (empty none)) (subst (λ (z : List ℕ). Consumes old new z) nothing all, last)
 
 -- what was heard leaves the writer alone
-pub hears_moves : (left left' told : Option (List ℕ)) (event : Event) → Hears left left' event → Moves left left' told told event
+pub hears_moves : (left left' told : Option (List ℕ)) (event : Event) → Hears left left' event → ChangesBytes left left' told told event
 hears_moves left left' told (hears line) h = (h, refl)
 hears_moves left left' told ends h = (h, refl)
 hears_moves left left' told (says bytes) h = absurd h

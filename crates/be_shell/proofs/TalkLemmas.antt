@@ -6,7 +6,7 @@ use Rattle.std.specs.declared.result.Result.TheVariants.{Ok, Err}
 use Rattle.be_language.specs.Reply.{none}
 use Rattle.be_language.specs.Request.{Request, silent}
 use Rattle.be_serving.specs.Output.{Session, Outputs, Serves}
-use Rattle.be_serving.specs.Run.{IsOther}
+use Rattle.be_serving.specs.Run.{IsNotLimits}
 use Rattle.be_serving.specs.declared.faults.RunFault.{RunFault}
 use Rattle.be_serving.specs.declared.faults.RunFault.TheVariants.{Limits, Read, TooLong, Write, Memory}
 use Rattle.be_serving.proofs.EndLemmas.{nothing_asked}
@@ -95,7 +95,7 @@ module _ {P : Type 0} (does : P → Event → P → Type 0) where
       subst (λ (z : RunFault). BrokeBehind does z s line p q) (sym h.0)
       (h.1, (line, after, said', h.1, subst (λ (z : List ℕ). RepliedTo s line after z) (sym same) r, h.2, refl), h.3)
 
-pub broken_is_other : (e : RunFault) (s : Session) (events : List Event) → IsBroken e s events → IsOther e
+pub broken_is_other : (e : RunFault) (s : Session) (events : List Event) → IsBroken e s events → IsNotLimits e
 broken_is_other Limits s events h = absurd h
 broken_is_other Read s events h = tt
 broken_is_other TooLong s events h = tt

@@ -46,16 +46,16 @@ Hears old new flushes = ⊥
 Hears old new fails = ⊥
 
 -- what an event makes of what is left to hear and of what was said
-abbrev pub Moves : Option (List ℕ) → Option (List ℕ) → Option (List ℕ) → Option (List ℕ) → Event → Type 0
-Moves left left' told told' (hears line) = TakesLine left left' line × (told' ≡ told)
-Moves left left' told told' ends = (Consumes left left' [] × IsAtEnd left') × (told' ≡ told)
-Moves left left' told told' (says bytes) = (left' ≡ left) × Appends told told' bytes
-Moves left left' told told' flushes = (left' ≡ left) × Keeps told told'
-Moves left left' told told' fails = Keeps told told'
+abbrev pub ChangesBytes : Option (List ℕ) → Option (List ℕ) → Option (List ℕ) → Option (List ℕ) → Event → Type 0
+ChangesBytes left left' told told' (hears line) = TakesLine left left' line × (told' ≡ told)
+ChangesBytes left left' told told' ends = (Consumes left left' [] × IsAtEnd left') × (told' ≡ told)
+ChangesBytes left left' told told' (says bytes) = (left' ≡ left) × Appends told told' bytes
+ChangesBytes left left' told told' flushes = (left' ≡ left) × Keeps told told'
+ChangesBytes left left' told told' fails = Keeps told told'
 
 -- the same of a reader and a writer
 abbrev pub ends_do : {R W : Type 0} → (R → Option (List ℕ)) → (W → Option (List ℕ)) → Ends R W → Event → Ends R W → Type 0
-ends_do remaining contents old event new = Moves (remaining old.reader) (remaining new.reader) (contents old.writer) (contents new.writer) event
+ends_do remaining contents old event new = ChangesBytes (remaining old.reader) (remaining new.reader) (contents old.writer) (contents new.writer) event
 
 -- the bytes that are left to be heard and those that were said, as a peer of their own
 pub record Known : Type 0 where
@@ -66,7 +66,7 @@ abbrev pub knows : List ℕ → List ℕ → Known
 knows left told = record { left = Some left; told = Some told }
 
 abbrev pub known_do : Known → Event → Known → Type 0
-known_do old event new = Moves old.left new.left old.told new.told event
+known_do old event new = ChangesBytes old.left new.left old.told new.told event
 
 -- no line is long
 abbrev pub AreShort : List (List ℕ) → Type 0

@@ -120,8 +120,8 @@ IsUnopened Memory = Unit {0}
 
 -- What a fault leaves of two conversations, one behind the other: there was no store for them; or the first was broken off,
 -- and the second peer was left alone; or the second was.
-abbrev pub Stops : {P Q : Type 0} → (P → Event → P → Type 0) → (Q → Event → Q → Type 0) → RunFault → Session → P → P → Q → Q → Type 0
-Stops first second e s p p' q q' =
+abbrev pub ShellLeaves : {P Q : Type 0} → (P → Event → P → Type 0) → (Q → Event → Q → Type 0) → RunFault → Session → P → P → Q → Q → Type 0
+ShellLeaves first second e s p p' q q' =
     (IsUnopened e × (p' ≡ p) × (q' ≡ q)) ⊎ (BrokeOff first e s p p' × (q' ≡ q)) ⊎ ((mid : Session) × TalkedTo first s p mid p' × BrokeOff second e mid q q')
 
 -- all that is said by events

@@ -2,7 +2,7 @@
 ghost use Rattle.std.specs.Prelude.{◌≡◌, ◌≤◌, ℕ, List, [], ◌∷◌, length, IfOk, IfErr, OnOk};
 ghost use Rattle.std.specs.String.{string_bytes};
 ghost use Rattle.be_language.specs.View.{request_of};
-ghost use Rattle.be_serving.specs.Run.{IsOther};
+ghost use Rattle.be_serving.specs.Run.{IsNotLimits};
 ghost use Rattle.be_serving.specs.View.{session, queued_ops};
 ghost use Rattle.be_shell.specs.Conversation as spec;
 
@@ -116,7 +116,7 @@ pub fn converse<S: Server, P: Peer>(
     ensures talked { OnOk result (spec.TalkedTo P.does (session (S.shows server.old) client.old) peer.old
         (session (S.shows server.new) client.new) peer.new) }
     ensures broke { IfErr result (λ e. spec.BrokeOff P.does e (session (S.shows server.old) client.old) peer.old peer.new) }
-    ensures other { IfErr result IsOther }
+    ensures other { IfErr result IsNotLimits }
     ensures stays { S.kept server.new ≡ S.kept server.old }
     ensures few { length (queued_ops client.new) ≤ 64 }
 {

@@ -5,7 +5,6 @@ use Rattle.be_core.specs.declared.event.Phase.{Phase}
 use Rattle.be_core.specs.declared.event.Phase.TheVariants.{Idle, Looked, Announced, Pinned}
 use Rattle.be_journal.specs.declared.entries.Entry.{Entry}
 use Rattle.be_journal.specs.Journal.{by_pass, replay, Agrees}
-use Rattle.be_journal.proofs.LegalLemmas.{replay_push}
 use Rattle.be_table.specs.declared.pass.Commit.{Commit}
 use Rattle.be_table.specs.declared.pass.Knowledge.{Knowledge}
 use Rattle.be_table.specs.History.{AllBelow, StartsWith}
@@ -71,8 +70,9 @@ none_between xs (y ∷ ys) d e same = absurd (
     let l : length ((xs ++ y ∷ ys) ++ d ∷ []) ≡ length (xs ++ e ∷ []) = ap length same in
     let m = length-append (xs ++ y ∷ ys) (d ∷ []) in let n = length-append xs (y ∷ ys) in let o = length-append xs (e ∷ []) in omega arith)
 
-pub writes_next : (a c : Knowledge) (ops : List Op) (n : ℕ) (dones : List Done) → IsAlone a → IsAlone c → Accepts a c ops n dones → WritesNext a c ops n dones
-writes_next a c ops n dones alone then h =
+-- the law of be_journal that one more entry is one more write
+pub writes_next : ((log : List Entry) (entry : Entry) → replay (log ++ entry ∷ []) ≡ after (replay log) entry.ops) → (a c : Knowledge) (ops : List Op) (n : ℕ) (dones : List Done) → IsAlone a → IsAlone c → Accepts a c ops n dones → WritesNext a c ops n dones
+writes_next pushed a c ops n dones alone then h =
     let e = entry_of a ops dones in
     let seen : entries c.seen ≡ entries a.seen ++ e ∷ [] = written c then ∙ (h.mine ∙ ap (λ l. l ++ e ∷ []) (sym (written a alone))) in
     let shown : entries c.seen ≡ (entries a.seen ++ entries h.others) ++ h.commit.entry ∷ [] =
@@ -80,7 +80,7 @@ writes_next a c ops n dones alone then h =
     let none : entries h.others ≡ [] = none_between (entries a.seen) (entries h.others) h.commit.entry e (sym shown ∙ seen) in
     let before : entries (a.seen ++ h.others) ≡ entries a.seen = entries_append a.seen h.others ∙ (ap (λ l. entries a.seen ++ l) none ∙ append-nil (entries a.seen)) in
     let agrees : Agrees (volume_seen a) e = subst (λ l. Agrees (replay l) e) before h.answered in
-    let made : volume_seen c ≡ agrees.0 = ap replay seen ∙ (replay_push (entries a.seen) e ∙ ap (reached (volume_seen a)) agrees.1) in
+    let made : volume_seen c ≡ agrees.0 = ap replay seen ∙ (pushed (entries a.seen) e ∙ ap (reached (volume_seen a)) agrees.1) in
     let long : length (entries c.seen) ≡ length (entries a.seen ++ e ∷ []) = ap length seen in
     let ended = length-append (entries a.seen) (e ∷ []) in
     let there = length-map c.seen (λ (x : Commit). x.entry) in

@@ -1,4 +1,4 @@
--- Answers to queries rise, and what is told of two of them.
+-- A search in a rising list, and what is told of two answers to a query.
 use Rattle.std.proofs.Common.{◌≡◌, ◌<◌, ◌≤◌, ◌+◌, ℕ, suc, zero, Bool, true, false, List, [], ◌∷◌, ◌++◌, length, slice_index, filter, refl, sym, ap, ◌∙◌, subst, inl, inr, arith}
 use Rattle.std.specs.Prelude.{Result, Ok, Err, IfOk, MatchResult, if◌then◌else◌, get_or, is_ok, ◌==◌}
 use Rattle.std.specs.Ordering.{nat_cmp}
@@ -9,38 +9,11 @@ use Rattle.std.proofs.lemmas.List.Folds.{list_any-from_Any, list_any_none}
 use Rattle.std.proofs.lemmas.List.Sorted.{searched}
 use Rattle.std.proofs.lemmas.Map.Keys.{non_decreasing_from_sorted, sorted_from_strictly_increasing}
 use Rattle.std.specs.List.Sorted.{IsStrictlyIncreasing, IsBinarySearchResult}
-use Rattle.std.specs.FinMap as map
-use Rattle.std.proofs.lemmas.List.Kept.{IsStrictlyIncreasing-filter}
-use Rattle.be_plan.proofs.Rising.{Rises, rises_keys, in_by_place}
 use Rattle.std.proofs.lemmas.List.Elements.{filter-append}
 use Rattle.std.specs.Prelude.{not}
 use Rattle.be_store.specs.Live.{LiveQuery, Refreshes, is_in, without}
-use Rattle.be_query.specs.Grammar.{Formula}
-use Rattle.be_value.specs.declared.refusals.Refusal.{Refusal}
-use Rattle.be_value.specs.declared.refusals.Refusal.TheVariants.{NotCovered}
-use Rattle.be_volume.specs.Query.{covered, sat, scan}
+use Rattle.be_volume.specs.Query.{scan}
 use Rattle.be_volume.specs.Volume.{State}
-
-rising : (xs : List ℕ) → Rises xs → IsStrictlyIncreasing xs
-rising [] r k lt = absurd (omega (arith, lt))
-rising (x ∷ []) r k lt = absurd (omega (arith, lt))
-rising (x ∷ y ∷ ys) r zero lt = r.0 y (in_by_place (y ∷ ys) y (0, omega arith, refl))
-rising (x ∷ y ∷ ys) r (suc k) lt =
-    let e : suc (k + 1) ≡ suc k + 1 = omega arith in
-    subst (λ n. slice_index (y ∷ ys) k < slice_index (x ∷ y ∷ ys) n) e (rising (y ∷ ys) r.1 k (omega (arith, lt)))
-
-list_of : List ℕ → Result (List ℕ) Refusal → List ℕ
-list_of d (Ok xs) = xs
-list_of d (Err e) = d
-
--- the answer to a query rises
-pub scan_rises : (s : State) (f : Formula) (nodes : List ℕ) → scan s f ≡ Ok nodes → IsStrictlyIncreasing nodes
-unfolding list_of
-scan_rises s f nodes h = by (covered s f) h
-  where
-    by : (b : Bool) → (if b then Ok (filter (sat s f) (map.keys s.nodes)) else Err NotCovered) ≡ Ok nodes → IsStrictlyIncreasing nodes
-    by true e = subst IsStrictlyIncreasing (ap (list_of nodes) e) (IsStrictlyIncreasing-filter (sat s f) (map.keys s.nodes) (rising (map.keys s.nodes) (rises_keys s.nodes)))
-    by false e = absurd cc
 
 held_at : (xs : List ℕ) (n i : ℕ) → i < length xs → get_or xs i 0 ≡ n → is_in xs n ≡ true
 held_at xs n i lt is = list_any-from_Any (λ m. m == n) xs (i, n, lt, get_or_default xs i n 0 lt ∙ is, eq-eqb n n refl)

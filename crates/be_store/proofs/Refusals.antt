@@ -9,7 +9,6 @@ use Rattle.be_volume.specs.Volume.{State, advance, step, steps}
 use Rattle.be_volume.specs.declared.ops.Done.{Done}
 use Rattle.be_volume.specs.declared.ops.Op.{Op}
 use Rattle.be_volume.specs.declared.ops.Op.TheVariants.{New, Set, MkIndex, Drop, Unset, RmIndex}
-use Rattle.be_volume.proofs.StepLemmas.{not_both}
 
 -- one of 2 to 8
 abbrev pub IsOfVolume : Refusal → Type 0
@@ -29,7 +28,7 @@ first true r e rest is after h = subst IsOfVolume (one_refusal r e h) is
 first false r e rest is after h = after h
 
 accepted : {A : Type 0} (x : A) (e : Refusal) → ◌≡◌ {A = Result A Refusal} (Ok x) (Err e) → IsOfVolume e
-accepted x e h = absurd (not_both e x (sym h))
+accepted x e h = absurd cc
 
 step_refuses : (s : State) (op : Op) (e : Refusal) → step s op ≡ Err e → IsOfVolume e
 step_refuses s New e h = accepted _ e h

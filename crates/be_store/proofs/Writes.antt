@@ -16,6 +16,7 @@ use Rattle.be_table.specs.Rule.{entries, page_at, reach_at}
 use Rattle.be_table.specs.Steps.{commit_of, entry_of, publishes}
 use Rattle.be_table.specs.Versions.{at_start, SpellsVolume}
 use Rattle.be_table.specs.Works.{HasNoRoom, MakesScan, TakesLock}
+use Rattle.be_table.proofs.Standings.{swept_in}
 use Rattle.be_volume.specs.Volume.{State, steps}
 use Rattle.be_volume.specs.declared.ops.Done.{Done}
 use Rattle.be_volume.specs.declared.ops.Op.{Op}
@@ -34,26 +35,6 @@ current_spelt k page t is = subst (λ p. SpellsVolume (reach_at k.seen (length k
 -- a pass that has just taken the lock begins a write
 pub begins_locked : (a k : Knowledge) → TakesLock a k → Begins k
 begins_locked a k t = record { unpublished = ap (λ (x : Knowledge). x.published) t.same; begun = t.begun; spelt = t.spelt }
-
-swept_standing : (l : ℕ) (x : Place) → standing_at (swept_place l x) ≡ standing_at x
-swept_standing l Free = refl
-swept_standing l Reserved = refl
-swept_standing l Filled = refl
-swept_standing l Current = refl
-swept_standing l GivenUp = refl
-swept_standing l (Retired r) = by (nat_lt r l)
-  where
-    by : (b : Bool) → standing_at (if b then Free else Retired r) ≡ standing_at (Retired r)
-    by true = refl
-    by false = refl
-
-swept_in : (l : ℕ) (places : List Place) (q : ℕ) → standing_in (map (swept_place l) places) q ≡ standing_in places q
-swept_in l places q = ap (λ s. if nat_lt q 16384 then s else Nowhere) (by places q)
-  where
-    by : (xs : List Place) (k : ℕ) → standing_at (slice_index_or (map (swept_place l) xs) k Free) ≡ standing_at (slice_index_or xs k Free)
-    by [] k = refl
-    by (x ∷ xs) zero = swept_standing l x
-    by (x ∷ xs) (suc k) = by xs k
 
 -- a scan frees only pages that stand nowhere
 pub begins_scanned : (old new : Work) (least : ℕ) → MakesScan old new least → Begins old.knows → Begins new.knows

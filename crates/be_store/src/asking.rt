@@ -1,5 +1,6 @@
 //! Queries on a version, over any reader of its pages.
-ghost use Rattle.std.specs.Prelude.{◌≡◌};
+ghost use Rattle.std.specs.Prelude.{◌≡◌, IfOk};
+ghost use Rattle.std.specs.List.Sorted.{IsStrictlyIncreasing};
 ghost use Rattle.be_paged.specs.Version.{IsVersion};
 ghost use Rattle.be_value.specs.Refusal.{Answers};
 ghost use Rattle.be_volume.specs.Query.{scan};
@@ -17,6 +18,7 @@ fn nodes_of<S: Source>(alloc: Global, query: &Query, source: &mut S) -> Result<V
     ghost volume: { State }
     requires { S.answers_for source.old volume }
     ensures answer { Answers (λ nodes. nodes.items) result (scan volume query.now) }
+    ensures rising { IfOk result (λ nodes. IsStrictlyIncreasing nodes.items) }
     ensures stays { S.kept source.new ≡ S.kept source.old }
 {
     let cover = choose_from(alloc, query, source)?;
@@ -33,6 +35,7 @@ pub(crate) fn ask<L: Look>(
     ghost volume: { State }
     requires version { IsVersion (L.standing look) (L.words look) version_page volume }
     ensures answer { Answers (λ nodes. nodes.items) result.1 (scan volume query.now) }
+    ensures rising { IfOk result.1 (λ nodes. IsStrictlyIncreasing nodes.items) }
     ensures kept { L.kept result.0 ≡ L.kept look }
 {
     let mut source = source(look, version_page);

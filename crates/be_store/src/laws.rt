@@ -17,6 +17,7 @@ ghost use Rattle.be_volume.specs.declared.ops.Done.{Done};
 ghost use Rattle.be_volume.specs.declared.ops.Op.{Op};
 
 use crate::{Pass, Store};
+use be_journal::replay_push;
 
 /// What a pass has seen is a legal journal, of entries by passes of the store, and its own writes are just the entries
 /// by its number. The store's pages can spell the volume after each entry.
@@ -52,7 +53,9 @@ pub fn alone(store: &Store, pass: &Pass)
 /// An accepted write of the only pass is the next entry after what it had seen: the volume steps from there.
 pub fn alone_writes_next()
     ensures { (a c : Knowledge) (ops : List Op) (n : ℕ) (dones : List Done) → IsAlone a → IsAlone c → Accepts a c ops n dones → WritesNext a c ops n dones }
-{}
+{
+    replay_push();
+}
 
 /// A refused write of the only pass shows it nothing, and is never refused by Busy.
 pub fn alone_refused()

@@ -5,7 +5,7 @@ ghost use Rattle.be_store.specs.History.{Accepts, Learns, IsReason, IsLastReason
 
 use crate::answers::Answer;
 use crate::asking::ask;
-use crate::tries::was_busy;
+use crate::tries::{stand_back, was_busy};
 use crate::writing::write;
 use crate::{Limits, Pass};
 use arrayvec::ArrayVec;
@@ -17,7 +17,6 @@ use be_value::{Kind, Name, Refusal, Value};
 use be_volume::{Done, Op};
 use std::alloc::Global;
 use std::marker::Model;
-use std::thread;
 
 /// A shared store. A pass is used with the store that made it.
 #[derive(Drop)]
@@ -34,6 +33,7 @@ impl Model for Store {
 }
 
 impl Store {
+    ghost use Rattle.std.specs.List.Sorted.{IsStrictlyIncreasing};
     ghost use Rattle.be_journal.specs.Journal.{IsLegal};
     ghost use Rattle.be_table.specs.History.{StartsWith, AllBelow};
     ghost use Rattle.be_paged.specs.Version.{IsVersion};
@@ -120,7 +120,8 @@ impl Store {
     }
 
     /// Writes as `apply` does, and tries again while another pass holds the lock, so many times at most in all. Before
-    /// each further try another thread may run. Busy then names the pass that the last try found.
+    /// each further try other threads may run, the longer the more tries were in vain. Busy then names the pass that the
+    /// last try found.
     pub fn apply_or_retry(
         &self,
         pass: &mut Pass,
@@ -134,12 +135,12 @@ impl Store {
         ensures accepted { IfOk result (λ r. Accepts pass.old.knows pass.new.knows ops.now r.0 r.1.items) }
         ensures refused { IfErr result (λ e. Learns pass.old.knows pass.new.knows × IsLastReason tries pass.old.knows pass.new.knows ops.now e) }
     {
-        for _made in 1..tries {
+        for made in 1..tries {
             let answer = self.apply(pass, ops);
             if !was_busy(&answer) {
                 return answer;
             }
-            thread::yield_now();
+            stand_back(made);
         }
         self.apply(pass, ops)
     }
@@ -185,6 +186,7 @@ impl Store {
         requires pinned { (n : ℕ) × IsPinnedTo pass.old.knows n }
         ensures pass { IsPassOf self.now pass.new × HasRead pass.old.knows pass.new.knows }
         ensures nodes { Answers (λ a. a.nodes.items) result (scan (volume_pinned pass.old.knows) query.now) }
+        ensures rising { IfOk result (λ a. IsStrictlyIncreasing a.nodes.items) }
         ensures pin { IfOk result (λ a. IsPinnedTo pass.old.knows a.pin) }
     {
         let Some(pin) = pass.pinned() else {

@@ -14,14 +14,25 @@ use be_store::{
     Answer, ArrayVec, Done, Journal, Kind, Limits, Live, Name, Op, Pass, Query, Refusal, Store,
     Updates, Value, parse,
 };
+use be_testing::{is_legal, numbered, pair_of};
 use std::alloc::{AllocError, Global};
+use std::thread;
 use std::thread::Threads;
-use std::{str, thread};
 
 /// A store with these limits and its passes, at the second call where memory is refused at the first.
-pub(crate) fn opened(alloc: Global, limits: Limits) -> Result<(Store, Vec<Pass>), Refusal>
-    ensures { IfOk result (λ r. (r.0.limits ≡ limits) × (length r.1.items ≡ limits.passes) × AreNew r.0 0 r.1.items) }
+pub(crate) fn opened(
+    alloc: Global,
+    pages: u64,
+    passes: u64,
+    commits: u64,
+) -> Result<(Store, Vec<Pass>), Refusal>
+    ensures { IfOk result (λ r. (r.0.limits.passes ≡ passes) × (length r.1.items ≡ passes) × AreNew r.0 0 r.1.items) }
 {
+    let limits = Limits {
+        pages,
+        passes,
+        commits,
+    };
     match Store::open(alloc, limits) {
         Err(Refusal::OutOfMemory) => Store::open(alloc, limits),
         answer => answer,
@@ -38,12 +49,7 @@ pub(crate) fn for_two(
     ensures first { IfOk result (λ r. IsPassOf r.0 r.1 × (r.1.knows.number ≡ 0)) }
     ensures second { IfOk result (λ r. IsPassOf r.0 r.2 × (r.2.knows.number ≡ 1)) }
 {
-    let limits = Limits {
-        pages,
-        passes: 2,
-        commits,
-    };
-    let (store, mut passes) = opened(alloc, limits)?;
+    let (store, mut passes) = opened(alloc, pages, 2, commits)?;
     let Some(second) = passes.pop() else {
         unreachable!()
     };
@@ -58,24 +64,18 @@ pub(crate) fn for_one(alloc: Global, pages: u64, commits: u64) -> Result<(Store,
     ensures store { IfOk result (λ r. r.0.limits.passes ≡ 1) }
     ensures pass { IfOk result (λ r. IsPassOf r.0 r.1 × (r.1.knows.number ≡ 0)) }
 {
-    let limits = Limits {
-        pages,
-        passes: 1,
-        commits,
-    };
-    let (store, mut passes) = opened(alloc, limits)?;
+    let (store, mut passes) = opened(alloc, pages, 1, commits)?;
     let Some(pass) = passes.pop() else {
         unreachable!()
     };
     Ok((store, pass))
 }
 
+/// The answer to a write: its number and those of its operations, or why it was refused.
+type Written = Result<(u64, ArrayVec<Done, 64>), Refusal>;
+
 /// A write of a list, at the second call where memory is refused at the first.
-fn write_list(
-    store: &Store,
-    pass: &mut Pass,
-    ops: &[Op],
-) -> Result<(u64, ArrayVec<Done, 64>), Refusal>
+fn write_list(store: &Store, pass: &mut Pass, ops: &[Op]) -> Written
     requires pass { IsPassOf store.now pass.old }
     requires count { (1 ≤ length ops.now) × (length ops.now ≤ 64) }
     ensures pass { IsPassOf store.now pass.new }
@@ -242,12 +242,11 @@ pub(crate) fn value_of(store: &Store, pass: &mut Pass, name: &Name) -> Option<Va
     store.get(pass, 1, name)
 }
 
+/// Names, each with its value or its kind.
+type Listed<T> = Result<Vec<(Name, T)>, Refusal>;
+
 /// Node 1's attributes at the pin, at the second call where memory is refused at the first.
-fn attrs_pinned(
-    store: &Store,
-    alloc: Global,
-    pass: &mut Pass,
-) -> Result<Vec<(Name, Value)>, Refusal>
+fn attrs_pinned(store: &Store, alloc: Global, pass: &mut Pass) -> Listed<Value>
     requires pass { IsPassOf store.now pass.old }
     requires pinned { (n : ℕ) × IsPinnedTo pass.old.knows n }
     ensures { IsPassOf store.now pass.new }
@@ -270,11 +269,7 @@ pub(crate) fn count_attrs(store: &Store, alloc: Global, pass: &mut Pass) -> Resu
 }
 
 /// The indices at the pin, at the second call where memory is refused at the first.
-fn indices_pinned(
-    store: &Store,
-    alloc: Global,
-    pass: &mut Pass,
-) -> Result<Vec<(Name, Kind)>, Refusal>
+fn indices_pinned(store: &Store, alloc: Global, pass: &mut Pass) -> Listed<Kind>
     requires pass { IsPassOf store.now pass.old }
     requires pinned { (n : ℕ) × IsPinnedTo pass.old.knows n }
     ensures pass { IsPassOf store.now pass.new }
@@ -296,16 +291,6 @@ pub(crate) fn count_indices(store: &Store, alloc: Global, pass: &mut Pass) -> Re
         return Err(Refusal::BadLimits);
     }
     Ok(indices_pinned(store, alloc, pass)?.len())
-}
-
-/// Whether a store with these limits is refused for them.
-pub(crate) fn has_bad_limits(alloc: Global, pages: u64, passes: u64, commits: u64) -> bool {
-    let limits = Limits {
-        pages,
-        passes,
-        commits,
-    };
-    matches!(opened(alloc, limits), Err(Refusal::BadLimits))
 }
 
 /// What changed since the last refresh, at the current version.
@@ -338,6 +323,25 @@ pub(crate) fn refreshes(
     }
 }
 
+/// Sets the attribute of node 1 to one more number. The first that found no page, if this one is answered as it should be:
+/// accepted where there is none before it, and else refused by Full. BadLimits where it is answered otherwise.
+fn set_next(
+    store: &Store,
+    pass: &mut Pass,
+    name: &Name,
+    number: i32,
+    first: Option<i32>,
+) -> Result<Option<i32>, Refusal>
+    requires { IsPassOf store.now pass.old }
+    ensures { IsPassOf store.now pass.new }
+{
+    match set(store, pass, name, number) {
+        Ok(_) if first.is_none() => Ok(None),
+        Err(Refusal::Full(3)) => Ok(first.or(Some(number))),
+        _ => Err(Refusal::BadLimits),
+    }
+}
+
 /// Sets the attribute of node 1 to 1 to 500, while the other pass is pinned at 3 and finds node 1 where it is 0. The
 /// first value that found no page, if each after it found none either and the answers are as they should be.
 fn fill_pool(
@@ -352,11 +356,7 @@ fn fill_pool(
 {
     let mut first = None;
     for i in 1..=500 {
-        match set(store, writer, name, i) {
-            Ok(_) if first.is_none() => {}
-            Err(Refusal::Full(3)) => first = first.or(Some(i)),
-            _ => return None,
-        }
+        first = set_next(store, writer, name, i, first).ok()?;
         if !finds(store, alloc, reader, "k==0", 3, &[1]) {
             return None;
         }
@@ -364,20 +364,32 @@ fn fill_pool(
     first
 }
 
+/// A store for two passes: the first has made node 1 and an index of the name by its first three writes, and the other is
+/// pinned since. BadLimits where they weren't just these.
+pub(crate) fn with_zero(
+    alloc: Global,
+    pages: u64,
+    name: &Name,
+) -> Result<(Store, Pass, Pass), Refusal>
+    ensures { IfOk result (λ r. IsPassOf r.0 r.1 × IsPassOf r.0 r.2) }
+{
+    let (store, mut writer, mut reader) = for_two(alloc, pages, 1000)?;
+    let three = index_zero(&store, &mut writer, name)?;
+    if three != 3 || pin(&store, &mut reader) != 3 {
+        return Err(Refusal::BadLimits);
+    }
+    Ok((store, writer, reader))
+}
+
 /// The first value that found no page in a pool of so many, which the pinned version outlives; the write that follows
 /// the pin is accepted.
 pub(crate) fn first_full(alloc: Global, pages: u64) -> Result<i32, Refusal> {
-    let (store, mut a, mut b) = for_two(alloc, pages, 1000)?;
     let name = Name::new("k")?;
-    let three = index_zero(&store, &mut a, &name)?;
-    let pinned = pin(&store, &mut b);
+    let (store, mut a, mut b) = with_zero(alloc, pages, &name)?;
     let first = fill_pool(&store, alloc, &mut a, &mut b, &name);
     unpin(&store, &mut b);
     set(&store, &mut a, &name, 0)?;
-    match first {
-        Some(first) if three == 3 && pinned == 3 => Ok(first),
-        _ => Err(Refusal::BadLimits),
-    }
+    first.ok_or(Refusal::BadLimits)
 }
 
 /// Sets the attribute of node 1 to 1 to this. The last write's number.
@@ -459,14 +471,6 @@ pub(crate) fn closed(alloc: Global, store: Store, pass: Pass) -> Result<(u64, bo
     Ok((journal.len(), is_legal(&journal)?))
 }
 
-/// Whether the journal is legal, at the second call where memory is refused at the first.
-pub(crate) fn is_legal(journal: &Journal) -> Result<bool, Refusal> {
-    match journal.check() {
-        Err(Refusal::OutOfMemory) => journal.check(),
-        answer => answer,
-    }
-}
-
 /// Sets the attribute of node 1 to 1 to 500. The first value that found no page, if each after it found none either.
 pub(crate) fn fill_alone(store: &Store, writer: &mut Pass, name: &Name) -> Option<i32>
     requires { IsPassOf store.now writer.old }
@@ -474,35 +478,22 @@ pub(crate) fn fill_alone(store: &Store, writer: &mut Pass, name: &Name) -> Optio
 {
     let mut first = None;
     for i in 1..=500 {
-        match set(store, writer, name, i) {
-            Ok(_) if first.is_none() => {}
-            Err(Refusal::Full(3)) => first = first.or(Some(i)),
-            _ => return None,
-        }
+        first = set_next(store, writer, name, i, first).ok()?;
     }
     first
 }
 
-/// Whether, at the current version, the attribute of node 1 is this number, and `k==0` finds node 1 just where it is 0.
-pub(crate) fn reads_number(
-    store: &Store,
-    alloc: Global,
-    pass: &mut Pass,
-    name: &Name,
-    number: i32,
-) -> bool
+/// Whether, at the current version, the attribute `k` of node 1 is this number, and `k==0` finds node 1 just where it is 0.
+pub(crate) fn reads_number(store: &Store, alloc: Global, pass: &mut Pass, number: i32) -> bool
     requires { IsPassOf store.now pass.old }
     ensures { IsPassOf store.now pass.new }
 {
+    let Ok(name) = Name::new("k") else {
+        return false;
+    };
     let nodes: &[u64] = if number == 0 { &[1] } else { &[] };
     finds_now(store, alloc, pass, "k==0", nodes)
-        && matches!(value_of(store, pass, name), Some(Value::Long(n)) if n == number)
-}
-
-/// One of 256 names of two letters.
-fn numbered(number: u8) -> Result<Name, Refusal> {
-    let letters = [b'a' + number / 16, b'a' + number % 16];
-    Name::new(str::from_utf8(&letters).unwrap_or(""))
+        && matches!(value_of(store, pass, &name), Some(Value::Long(n)) if n == number)
 }
 
 /// Sets 64 attributes of node 1.
@@ -547,7 +538,7 @@ pub(crate) fn write_64(
     pass: &mut Pass,
     name: &Name,
     drops: bool,
-) -> Result<(u64, ArrayVec<Done, 64>), Refusal>
+) -> Written
     requires { IsPassOf store.now pass.old }
     ensures { IsPassOf store.now pass.new }
 {
@@ -638,26 +629,6 @@ pub(crate) fn journal_of(
     requires first { IsPassOf store first × (first.knows.number ≡ 0) }
     requires second { IsPassOf store second × (second.knows.number ≡ 1) }
 {
-    let mut passes = match Vec::with_capacity(alloc, 2) {
-        Err(_) => Vec::with_capacity(alloc, 2)?,
-        Ok(passes) => passes,
-    };
-    passes.push_reserved(first);
-    passes.push_reserved(second);
+    let passes = pair_of(alloc, first, second)?;
     Ok(store.close(passes))
-}
-
-/// How many entries are by the pass, if each entry's answer is the node of its number.
-pub(crate) fn count_by(journal: &Journal, pass: u64) -> u64 {
-    let mut count: u64 = 0;
-    for i in 0..journal.len() {
-        let entry = journal.get(i);
-        if entry.dones.as_slice() != [Done::Node(i + 1)].as_slice() {
-            return 0;
-        }
-        if entry.by == pass {
-            count = count.saturating_add(1);
-        }
-    }
-    count
 }

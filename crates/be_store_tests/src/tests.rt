@@ -3,35 +3,24 @@
 //! A test is a store, and then a call a line with its answer. What they call stands in `calls`.
 
 use crate::calls::{
-    closed, count_attrs, count_by, count_indices, drops_no_node, fill_alone, finds, finds_now,
-    first_full, for_one, for_two, has_bad_limits, index_most, index_zero, is_legal, journal_of,
-    make_both, make_nodes, opened, parsed, pin, reads_bare, reads_number, refreshes, set, set_many,
-    set_most, value_of, write, write_64, writes, writes_64,
+    closed, count_attrs, count_indices, drops_no_node, fill_alone, finds, finds_now, first_full,
+    for_one, for_two, index_most, index_zero, journal_of, make_both, make_nodes, opened, parsed,
+    pin, reads_bare, reads_number, refreshes, set, set_many, set_most, value_of, with_zero, write,
+    write_64, writes, writes_64,
 };
-use be_store::{Done, Kind, Limits, Live, Name, Op, Refusal, Value};
+use be_store::{Done, Kind, Live, Name, Op, Refusal, Value};
+use be_testing::{OUTSIDE_LIMITS, has_hundred_by_each};
 use std::test::Fail;
 
 /// Limits that are out of range, and the least and the greatest ones.
 #[test]
 fn open_limits(rt: HostRuntime) -> Result<(), Fail> {
-    let outside = [
-        (7, 1, 1),
-        (16385, 1, 1),
-        (8, 0, 1),
-        (8, 65, 1),
-        (8, 1, 0),
-        (8, 1, 4_294_967_296),
-    ];
-    for (pages, passes, commits) in outside {
-        assert!(rt; has_bad_limits(rt.alloc(), pages, passes, commits));
+    for (pages, passes, commits) in OUTSIDE_LIMITS {
+        let refused = opened(rt.alloc(), pages, passes, commits);
+        assert!(rt; matches!(refused, Err(Refusal::BadLimits)));
     }
     for (pages, passes, commits) in [(8, 1, 1), (16384, 64, 4_294_967_295)] {
-        let limits = Limits {
-            pages,
-            passes,
-            commits,
-        };
-        let (_, dealt) = opened(rt.alloc(), limits)?;
+        let (_, dealt) = opened(rt.alloc(), pages, passes, commits)?;
         assert_eq!(rt; dealt.len() as u64, passes);
     }
     Ok(())
@@ -193,14 +182,12 @@ fn pages_reused(rt: HostRuntime) -> Result<(), Fail> {
 /// A pass that is dropped while it is pinned keeps its pages for good, and the other one reads on.
 #[test]
 fn dropped_pass(rt: HostRuntime) -> Result<(), Fail> {
-    let (store, mut a, mut b) = for_two(rt.alloc(), 64, 1000)?;
     let name = Name::new("k")?;
-    assert_eq!(rt; index_zero(&store, &mut a, &name)?, 3);
-    assert_eq!(rt; pin(&store, &mut b), 3);
+    let (store, mut a, b) = with_zero(rt.alloc(), 64, &name)?;
     drop(b);
     let first = fill_alone(&store, &mut a, &name).unwrap_or(500);
     assert!(rt; first < 64);
-    assert!(rt; reads_number(&store, rt.alloc(), &mut a, &name, first.saturating_sub(1)));
+    assert!(rt; reads_number(&store, rt.alloc(), &mut a, first.saturating_sub(1)));
     Ok(())
 }
 
@@ -211,8 +198,6 @@ fn two_writers(rt: HostRuntime) -> Result<(), Fail> {
     let (first, second) = make_both(&rt, &store, first, second);
     assert!(rt; first.1 && second.1);
     let journal = journal_of(rt.alloc(), store, first.0, second.0)?;
-    assert_eq!(rt; journal.len(), 200);
-    assert_eq!(rt; (count_by(&journal, 0), count_by(&journal, 1)), (100, 100));
-    assert!(rt; is_legal(&journal)?);
+    assert!(rt; has_hundred_by_each(&journal)?);
     Ok(())
 }

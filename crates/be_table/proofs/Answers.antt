@@ -9,7 +9,7 @@ use Rattle.be_volume.specs.Volume.{State, empty, advance, step, steps}
 use Rattle.be_volume.specs.declared.ops.Done.{Done}
 use Rattle.be_volume.specs.declared.ops.Op.{Op}
 use Rattle.be_volume.proofs.FactLemmas.{steps_bound}
-use Rattle.be_volume.proofs.StepLemmas.{refused_stays, not_both}
+use Rattle.be_volume.proofs.StepLemmas.{refused_stays}
 use Rattle.be_journal.specs.Journal.{replay, Agrees, HasOperations}
 use Rattle.be_journal.specs.declared.entries.Entry.{Entry}
 use Rattle.be_table.specs.History.{IsHistory}
@@ -26,7 +26,7 @@ steps_count s t old dones (op ∷ ops) e = by (step s op) e (λ x. steps_count x
   where
     by : (r : Result (State × Done) Refusal) → fold advance (result_map_both (λ answer. (answer.0, old ++ answer.1 ∷ [])) (λ f. f) r) ops ≡ Ok (t, dones) →
         ((x : State × Done) → fold advance (Ok (x.0, old ++ x.1 ∷ [])) ops ≡ Ok (t, dones) → length dones ≡ length (old ++ x.1 ∷ []) + length ops) → length dones ≡ length old + length (op ∷ ops)
-    by (Err f) h rest = absurd (not_both f (t, dones) (sym (refused_stays f ops) ∙ h))
+    by (Err f) h rest = absurd (let none = sym (refused_stays f ops) ∙ h in cc)
     by (Ok x) h rest = omega (arith, rest x h, length-append old (x.1 ∷ []))
 
 pub answers_each : (s : State) (e : Entry) → Agrees s e → length e.dones ≡ length e.ops

@@ -12,7 +12,7 @@ use Rattle.atomic_table.specs.Table.{Me}
 use Rattle.be_table.specs.declared.ledger.Ledger.{Ledger}
 use Rattle.be_table.specs.Rule.{announce_word, pass_of}
 use Rattle.be_pages.specs.Place.{swept_place, is_in_hand}
-use Rattle.be_table.specs.Steps.{scans, scans_on, scans_out, scans_all, scan_from, least_found, IsLeastAnnounced, least_then, pages_from, IsPart, IsOwnLeast, IsOwnPart, own_least, LeavesNone}
+use Rattle.be_table.specs.Steps.{scans, scans_on, scans_out, scans_all, scan_from, least_found, IsLeastAnnounced, least_then, pages_from, IsPart, IsOwnLeast, own_least, LeavesNone}
 
 pub scans_all-push : (a : Knowledge) (ns : List ℕ) (n : ℕ) → scans_all a (ns ++ n ∷ []) ≡ scans (scans_all a ns) n
 scans_all-push a [] n = refl
@@ -53,6 +53,13 @@ least_lower l (suc n) = omega arith
 least_mono : (l c n : ℕ) → l ≤ c → least_found l n ≤ least_found c n
 least_mono l c zero h = h
 least_mono l c (suc n) h = omega arith
+
+-- what the first j announcements say of the least of the current number and the pass's own
+pub record IsOwnPart (a : Knowledge) (j least : ℕ) : Type 0 where
+  pub current : least ≤ length a.seen
+  pub none : j ≡ 0 → least ≡ length a.seen
+  pub own : a.number < j → least ≤ own_least a
+  pub first : j ≡ 1 → a.number ≡ 0 → least ≡ own_least a
 
 -- what no announcement says of the pass's own
 pub own_none : (a : Knowledge) (l : ℕ) → l ≡ length a.seen → IsOwnPart a 0 l

@@ -1,6 +1,6 @@
 -- Where the pages of a ledger stand.
-use Rattle.std.proofs.Common.{◌≡◌, ℕ, ◌+◌, ◌<◌, ◌≤◌, List, length, map, Bool, true, false, nat_lt, if◌then◌else◌, refl, sym, ap, ◌∙◌, inl, inr, arith}
-use Rattle.std.specs.Prelude.{slice_index_or}
+use Rattle.std.proofs.Common.{◌≡◌, ℕ, zero, suc, [], ◌∷◌, Ok, Err, ◌+◌, ◌<◌, ◌≤◌, List, length, map, Bool, true, false, nat_lt, if◌then◌else◌, refl, sym, ap, ◌∙◌, inl, inr, arith}
+use Rattle.std.specs.Prelude.{Result, IfErr, OnErr, slice_index_or}
 use Rattle.std.proofs.lemmas.Bool.{cases_lt}
 use Rattle.std.proofs.lemmas.List.{get_or_default, get_or_past}
 use borrow.Author.Tests.{lt-ltb, le-ltb}
@@ -8,10 +8,14 @@ use Rattle.be_core.specs.Machine.{World, Sound, bit, places}
 use Rattle.be_pages.specs.declared.room.Standing.TheVariants.{Free as Nowhere, Filled as Full}
 use Rattle.be_pages.specs.declared.page_pool.Place.{Place}
 use Rattle.be_pages.specs.declared.page_pool.Place.TheVariants.{Free, Reserved, Filled, Current, GivenUp, Retired}
-use Rattle.be_pages.specs.Place.{place_of, undone_place}
+use Rattle.be_pages.specs.Place.{place_of, swept_place, undone_place}
+use Rattle.be_pages.specs.Refusal.{IsFullOf}
 use Rattle.be_table.specs.Ledger.{ShowsPlaces, shows_free, shows_taken, is_current, retired_with}
-use Rattle.be_table.specs.Reading.{standing_at, standing_in}
+use Rattle.be_table.specs.Place.{Work}
+use Rattle.be_table.specs.Reading.{standing_at, standing_in, standing_of}
 use Rattle.be_table.specs.Versions.{at_start}
+use Rattle.be_table.specs.Works.{FindsNone}
+use Rattle.be_value.specs.declared.refusals.Refusal.{Refusal}
 use Rattle.be_table.proofs.Ledgers.{place-map}
 
 -- the sets of a page that has this place
@@ -93,3 +97,30 @@ filled_place xs q is = elim (cases_lt q (length xs)) [
     by_place Current false e = absurd (cc)
     by_place GivenUp false e = absurd (cc)
     by_place (Retired r) false e = absurd (cc)
+
+-- a page that a scan frees stood nowhere before, and stands nowhere then
+swept_standing : (l : ℕ) (x : Place) → standing_at (swept_place l x) ≡ standing_at x
+swept_standing l Free = refl
+swept_standing l Reserved = refl
+swept_standing l Filled = refl
+swept_standing l Current = refl
+swept_standing l GivenUp = refl
+swept_standing l (Retired r) = by (nat_lt r l)
+  where
+    by : (b : Bool) → standing_at (if b then Free else Retired r) ≡ standing_at (Retired r)
+    by true = refl
+    by false = refl
+
+pub swept_in : (l : ℕ) (xs : List Place) (q : ℕ) → standing_in (map (swept_place l) xs) q ≡ standing_in xs q
+swept_in l xs q = ap (λ s. if nat_lt q 16384 then s else Nowhere) (by xs q)
+  where
+    by : (xs : List Place) (k : ℕ) → standing_at (slice_index_or (map (swept_place l) xs) k Free) ≡ standing_at (slice_index_or xs k Free)
+    by [] k = refl
+    by (x ∷ xs) zero = swept_standing l x
+    by (x ∷ xs) (suc k) = by xs k
+
+-- where no page was found, each stands where it stood
+pub full_stands : {X : Type 0} (r : Result X Refusal) (old new : Work) → IfErr r (IsFullOf (FindsNone old new)) → OnErr r (standing_of new ≡ standing_of old)
+full_stands (Ok x) old new h = tt
+full_stands (Err e) old new h =
+    let stands : (q : ℕ) → standing_of new q ≡ standing_of old q = λ q. ap (λ ps. standing_in ps q) h.2.scan.places ∙ swept_in h.0 old.knows.places q in λ k q. stands q k

@@ -282,13 +282,6 @@ own_least a = least_found (length a.seen) (announce_word a.phase)
 abbrev pub IsOwnLeast : Knowledge → ℕ → Type 0
 IsOwnLeast a least = (least ≤ own_least a) × (a.limits.passes ≡ 1 → least ≡ own_least a)
 
--- what the first j announcements say of it
-pub record IsOwnPart (a : Knowledge) (j least : ℕ) : Type 0 where
-  pub current : least ≤ length a.seen
-  pub none : j ≡ 0 → least ≡ length a.seen
-  pub own : a.number < j → least ≤ own_least a
-  pub first : j ≡ 1 → a.number ≡ 0 → least ≡ own_least a
-
 -- no page was retired with a number above that of the current version
 abbrev pub IsNewest : Knowledge → Type 0
 IsNewest a = (q : ℕ) → number_of a.places q ≤ length a.seen

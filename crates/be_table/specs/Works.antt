@@ -1,5 +1,5 @@
 -- What is true of each table and of each open write, and what calls promise.
-use Rattle.std.specs.Prelude.{◌≡◌, ◌≢◌, ◌⊎◌, ◌≤◌, ℕ, ◌+◌, ◌<◌, false, List, [], ◌∷◌, length, map, IsTrue}
+use Rattle.std.specs.Prelude.{◌≡◌, ◌≢◌, ◌⊎◌, ◌≤◌, ℕ, ◌+◌, ◌<◌, false, List, [], ◌∷◌, length, map, count_by, IsTrue}
 use Rattle.atomic_table.specs.Seated.{TableId}
 use Rattle.be_journal.specs.declared.entries.Entry.{Entry}
 use Rattle.be_table.specs.declared.limits.Limits.{Limits}
@@ -10,7 +10,7 @@ use Rattle.be_value.specs.declared.refusals.Refusal.{Refusal}
 use Rattle.be_value.specs.declared.refusals.Refusal.TheVariants.{Busy, CommitsSpent, OutOfMemory, BadLimits}
 use Rattle.be_table.specs.History.{StartsWith}
 use Rattle.be_pages.specs.declared.page_pool.Place.TheVariants.{Free}
-use Rattle.be_pages.specs.Place.{undone_place, swept_place, place_of, is_in_hand}
+use Rattle.be_pages.specs.Place.{undone_place, swept_place, place_of, is_in_hand, is_retired}
 use Rattle.be_table.specs.Place.{SeatFacts, Opened, Work}
 use Rattle.be_table.specs.Reading.{standing_in, word_in}
 use Rattle.be_table.specs.Versions.{at_start, SpellsVolume}
@@ -70,13 +70,14 @@ HasNoRoom r a = ((r ≡ CommitsSpent) × (length a.seen ≡ a.limits.commits)) �
 
 -- the write has made a whole scan, with this least
 pub record MakesScan (old new : Work) (least : ℕ) : Type 0 where
-  pub by : (found : List ℕ) × (length found ≡ old.knows.limits.passes) × (new ≡ record old { knows = scans_all old.knows found }) × IsLeastAnnounced (length old.knows.seen) found least
+  pub by : (found : List ℕ) × (length found ≡ old.knows.limits.passes) × (new.knows ≡ scans_all old.knows found) × IsLeastAnnounced (length old.knows.seen) found least
   pub least_is : new.knows.least ≡ least
   pub own : IsOwnLeast old.knows least
   pub places : new.knows.places ≡ map (swept_place least) old.knows.places
   pub held : new.knows.held ≡ pages_from is_in_hand 0 old.knows.places
   pub leaves : LeavesNone new.knows
-  pub same : new ≡ record old { knows = record old.knows { scanned = 0; least = least; places = new.knows.places; held = new.knows.held; steps = new.knows.steps } }
+  pub left : new.left ≡ count_by is_retired new.knows.places
+  pub same : new ≡ record old { knows = record old.knows { scanned = 0; least = least; places = new.knows.places; held = new.knows.held; steps = new.knows.steps }; left = new.left }
 
 -- no page is free
 abbrev pub HasNoFree : Work → Type 0

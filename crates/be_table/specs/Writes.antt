@@ -7,7 +7,7 @@ use Rattle.be_table.specs.Seats.{pin_of}
 use Rattle.be_table.specs.Steps.{IsPass}
 
 abbrev pub work_of : Inside → Work
-work_of w = record { table = w.table.now; knows = pass_of w.base.me.0; reserved = w.reserved }
+work_of w = record { table = w.table.now; knows = pass_of w.base.me.0; reserved = w.reserved; left = w.ledger.left }
 
 -- the seat is at the table with the slot, and the ledger has what the pass has seen
 pub record IsOpen (w : Inside) : Type 0 where

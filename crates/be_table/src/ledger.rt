@@ -29,7 +29,7 @@ impl Ledger {
     pub fn reserve(&mut self, count: usize) -> Result<(), Refusal>
         requires { (1 ≤ count) × (count ≤ 64) }
         ensures journal { Grows self.old.journal (with_room self.old.journal count) result self.new.journal }
-        ensures others { (self.new.page ≡ self.old.page) × (self.new.pool ≡ self.old.pool) }
+        ensures others { (self.new.page ≡ self.old.page) × (self.new.pool ≡ self.old.pool) × (self.new.left ≡ self.old.left) }
     {
         self.journal.reserve(count)
     }
@@ -59,6 +59,7 @@ impl Ledger {
         requires newest { (q : ℕ) → number_of (places self.old.pool) q ≤ length self.old.journal.entries }
         ensures journal { self.new.journal ≡ extended self.old.journal (record { by = by; ops = ops.now; dones = dones.now }) }
         ensures page { self.new.page ≡ page }
+        ensures left { self.new.left ≡ self.old.left }
         ensures places { places self.new.pool ≡ map (published_place (length self.old.journal.entries)) (places self.old.pool) }
     {
         let version = self.journal.len();

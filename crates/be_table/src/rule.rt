@@ -130,7 +130,7 @@ impl Play<Option<Ledger>, View> for GiveUp {
 }
 
 /// The entry and the version page that a publishing step tells. Each call picks them.
-pub(crate) trait Announced {
+pub(crate) trait NextVersion {
     ghost use Rattle.std.specs.Prelude.{ℕ};
     ghost use Rattle.be_journal.specs.declared.entries.Entry.{Entry};
 
@@ -139,7 +139,7 @@ pub(crate) trait Announced {
     ghost page: { ℕ };
 }
 
-impl Announced for Brand {
+impl NextVersion for Brand {
     ghost entry = { record { by = 0; ops = []; dones = [] } };
 
     ghost page = { 0 };
@@ -149,6 +149,6 @@ pub(crate) struct Publish<E> {
     marker: PhantomData<E>,
 }
 
-impl<E: Announced> Play<Option<Ledger>, View> for Publish<E> {
+impl<E: NextVersion> Play<Option<Ledger>, View> for Publish<E> {
     ghost then = { Published E.entry E.page };
 }

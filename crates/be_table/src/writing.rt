@@ -15,9 +15,10 @@ ghost use Rattle.be_table.specs.Steps.{takes_page, gives_up, scans, scans_out, s
 
 use crate::ledger::Ledger;
 use crate::marks::Marks;
-use crate::rule::{Announced, Fill, FoundFill, GiveUp, OwnWord, Publish, Scan, TakePage, Unlock};
+use crate::rule::{Fill, FoundFill, GiveUp, NextVersion, OwnWord, Publish, Scan, TakePage, Unlock};
 use crate::seat::{Base, Seat};
 use crate::table::{ANNOUNCE, CURRENT, LOCK, PAGES, VersionTable};
+use be_journal::replay_push;
 use be_pages::Place;
 use be_value::Refusal;
 use be_volume::{Done, Op};
@@ -178,10 +179,11 @@ impl<'a> Writing<'a> {
         }
     }
 
-    /// Whether a scan pays though pages may be free: 256 or more pages were retired since the last whole scan, beyond
-    /// those that it had to leave for readers. No step.
+    /// Whether a scan pays though pages may be free: 256 or more pages are retired beyond those that the last whole scan
+    /// had to leave for readers. No step.
     pub fn is_scan_due(&self) -> bool
-        ensures { IsTrue result → 256 ≤ count_by is_retired self.now.knows.places }
+        ensures due { result ≡ true → self.now.left + 256 ≤ count_by is_retired self.now.knows.places }
+        ensures not_yet { result ≡ false → count_by is_retired self.now.knows.places < self.now.left + 256 }
     {
         self.ledger.pool.retired().saturating_sub(self.ledger.left) >= EARLY
     }
@@ -236,11 +238,12 @@ impl<'a> Writing<'a> {
         ensures result { result ≡ length self.new.knows.seen }
     {
         all_valid(ops);
+        replay_push();
         self.is_filled(page);
         let number = self.marks.number;
         let version = self.ledger.journal.len() + 1;
         let word = (version << 32) + page;
-        announce::<Brand>(self.table, &mut self.base, number, ops, dones, page, word);
+        store_version::<Brand>(self.table, &mut self.base, number, ops, dones, page, word);
         self.ledger.append(number, ops, dones, page);
         self.reserved = 0;
         version
@@ -276,8 +279,8 @@ fn all_valid(ops: &[Op])
     }
 }
 
-/// The one step at which the write takes effect.
-fn announce<E: Announced>(
+/// The store to CURRENT, the one step at which the write takes effect.
+fn store_version<E: NextVersion>(
     table: &VersionTable,
     base: &mut Base,
     by: u64,

@@ -14,17 +14,16 @@ ghost use Rattle.be_table.specs.Rule.{newcomer};
 ghost use Rattle.be_table.specs.Works.{AreNew, IsSeatOf, TakesLock};
 
 use arrayvec::ArrayVec;
-use be_journal::Journal;
 use be_paged::{apply, first_page, get, source};
 use be_pages::Look;
 use be_plan::Source;
 use be_table::{Limits, Seat, VersionTable, Writing};
+use be_testing::{OUTSIDE_LIMITS, has_hundred_by_each, pair_of};
 use be_value::{Kind, Name, Refusal, Value};
 use be_volume::{Done, Op};
 use std::alloc::Global;
 use std::test::Fail;
 use std::thread;
-use std::thread::Threads;
 
 /// A table with these limits and its seats. Version 0 spells the empty volume.
 fn open(alloc: Global, limits: Limits) -> Result<(VersionTable, Vec<Seat>), Refusal>
@@ -43,18 +42,25 @@ fn opened(alloc: Global, limits: Limits) -> Result<(VersionTable, Vec<Seat>), Re
     }
 }
 
+/// A table of so many pages and for so many passes, with its seats.
+fn for_some(alloc: Global, pages: u64, passes: u64) -> Result<(VersionTable, Vec<Seat>), Refusal>
+    ensures { IfOk result (λ r. (r.0.limits.passes ≡ passes) × (length r.1.items ≡ passes) × AreNew r.0 0 r.1.items) }
+{
+    let limits = Limits {
+        pages,
+        passes,
+        commits: 1000,
+    };
+    opened(alloc, limits)
+}
+
 /// A table for two passes, and their seats.
 fn for_two(alloc: Global, pages: u64) -> Result<(VersionTable, Seat, Seat), Refusal>
     ensures table { IfOk result (λ r. r.0.limits.passes ≡ 2) }
     ensures first { IfOk result (λ r. IsSeatOf r.0 r.1 × (r.1.knows ≡ newcomer r.0.limits 1 0)) }
     ensures second { IfOk result (λ r. IsSeatOf r.0 r.2 × (r.2.knows ≡ newcomer r.0.limits 2 1)) }
 {
-    let limits = Limits {
-        pages,
-        passes: 2,
-        commits: 1000,
-    };
-    let (table, mut seats) = opened(alloc, limits)?;
+    let (table, mut seats) = for_some(alloc, pages, 2)?;
     let Some(second) = seats.pop() else {
         unreachable!()
     };
@@ -205,10 +211,8 @@ fn read(table: &VersionTable, pass: &mut Seat) -> u64
 
 /// The same word through a reader of pages.
 fn look_at(table: &VersionTable, pass: Seat) -> (Seat, u64)
-    requires seat { IsSeatOf table.now pass }
-    requires pinned { (x : ℕ) × (n : ℕ) × (pass.knows.phase ≡ Pinned x n) }
-    ensures seat { IsSeatOf table.now result.0 }
-    ensures pinned { (x : ℕ) × (n : ℕ) × (result.0.knows.phase ≡ Pinned x n) }
+    requires { IsSeatOf table.now pass × ((x : ℕ) × (n : ℕ) × (pass.knows.phase ≡ Pinned x n)) }
+    ensures { IsSeatOf table.now result.0 × ((x : ℕ) × (n : ℕ) × (result.0.knows.phase ≡ Pinned x n)) }
 {
     let page = pass.version_page();
     let mut look = table.pinned_look(pass);
@@ -289,15 +293,7 @@ fn has_bad_limits(alloc: Global, pages: u64, passes: u64, commits: u64) -> bool 
 
 #[test]
 fn open_limits(rt: HostRuntime) -> Result<(), Fail> {
-    let outside = [
-        (7, 1, 1),
-        (16385, 1, 1),
-        (8, 0, 1),
-        (8, 65, 1),
-        (8, 1, 0),
-        (8, 1, 4_294_967_296),
-    ];
-    for (pages, passes, commits) in outside {
+    for (pages, passes, commits) in OUTSIDE_LIMITS {
         assert!(rt; has_bad_limits(rt.alloc(), pages, passes, commits));
     }
     let least = Limits {
@@ -327,12 +323,7 @@ fn busy(rt: HostRuntime) -> Result<(), Fail> {
 fn for_three(alloc: Global) -> Result<(VersionTable, Seat, Seat, Seat), Refusal>
     ensures { IfOk result (λ r. IsSeatOf r.0 r.1 × IsSeatOf r.0 r.2 × IsSeatOf r.0 r.3) }
 {
-    let limits = Limits {
-        pages: 64,
-        passes: 3,
-        commits: 10,
-    };
-    let (table, mut seats) = opened(alloc, limits)?;
+    let (table, mut seats) = for_some(alloc, 64, 3)?;
     let Some(third) = seats.pop() else {
         unreachable!()
     };
@@ -508,70 +499,16 @@ fn enter_hundred(table: &VersionTable, mut pass: Seat) -> (Seat, bool)
 }
 
 /// Two passes enter a hundred nodes each, each on a thread of its own.
-fn enter_both<R: Threads + Sync>(
-    rt: &R,
-    table: &VersionTable,
-    first: Seat,
-    second: Seat,
-) -> ((Seat, bool), (Seat, bool))
-    requires { IsSeatOf table.now first × IsSeatOf table.now second }
-    ensures first { IsSeatOf table.now result.0.0 × (result.0.0.knows.number ≡ first.knows.number) }
-    ensures second { IsSeatOf table.now result.1.0 × (result.1.0.knows.number ≡ second.knows.number) }
-{
-    thread::join(
-        rt,
-        || enter_hundred(table, first),
-        || enter_hundred(table, second),
-    )
-}
-
-/// The journal of a table for two passes.
-fn journal_of(
-    alloc: Global,
-    table: VersionTable,
-    first: Seat,
-    second: Seat,
-) -> Result<Journal, Refusal>
-    requires two { table.limits.passes ≡ 2 }
-    requires first { IsSeatOf table first × (first.knows.number ≡ 0) }
-    requires second { IsSeatOf table second × (second.knows.number ≡ 1) }
-{
-    let mut seats = match Vec::with_capacity(alloc, 2) {
-        Err(_) => Vec::with_capacity(alloc, 2)?,
-        Ok(seats) => seats,
-    };
-    seats.push_reserved(first);
-    seats.push_reserved(second);
-    Ok(table.close(seats))
-}
-
-/// How many entries are by the pass.
-fn count_by(journal: &Journal, pass: u64) -> u64 {
-    let mut count: u64 = 0;
-    for i in 0..journal.len() {
-        if journal.get(i).by == pass {
-            count = count.saturating_add(1);
-        }
-    }
-    count
-}
-
-/// Whether the journal is legal, at the second call where memory is refused at the first.
-fn is_legal(journal: &Journal) -> Result<bool, Refusal> {
-    match journal.check() {
-        Err(Refusal::OutOfMemory) => journal.check(),
-        answer => answer,
-    }
-}
-
 #[test]
 fn two_writers(rt: HostRuntime) -> Result<(), Fail> {
     let (table, first, second) = for_two(rt.alloc(), 64)?;
-    let (first, second) = enter_both(&rt, &table, first, second);
+    let (first, second) = thread::join(
+        &rt,
+        || enter_hundred(&table, first),
+        || enter_hundred(&table, second),
+    );
     assert!(rt; first.1 && second.1);
-    let journal = journal_of(rt.alloc(), table, first.0, second.0)?;
-    assert_eq!(rt; journal.len(), 200);
-    assert_eq!(rt; (count_by(&journal, 0), count_by(&journal, 1)), (100, 100));
-    assert!(rt; is_legal(&journal)?);
+    let seats = pair_of(rt.alloc(), first.0, second.0)?;
+    assert!(rt; has_hundred_by_each(&table.close(seats))?);
     Ok(())
 }

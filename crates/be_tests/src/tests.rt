@@ -2,7 +2,7 @@
 
 mod counting_look;
 mod journal;
-mod leaves;
+mod lines;
 mod machine;
 mod pages;
 mod pattern;

@@ -28,7 +28,7 @@ names_exact = slice_cmp-IsAntisymmetric nat_cmp-IsAntisymmetric
 pub names_total : IsTotalOrder name_cmp
 names_total = nat_list_cmp_total
 
-flip : (a b : List ℕ) (r : Ordering) → name_cmp a b ≡ r → name_cmp b a ≡ ordering_reverse r
+pub flip : (a b : List ℕ) (r : Ordering) → name_cmp a b ≡ r → name_cmp b a ≡ ordering_reverse r
 flip a b r e = names_total.antisymm b a ∙ ap ordering_reverse e
 
 pub entries_len : (w : ℕ → ℕ → ℕ) (es : List Entry) (is : List (List ℕ × Index)) → AreEntriesOf w es is → length es ≡ length is
@@ -143,6 +143,24 @@ kind_found w es m name i d h at =
 
 pub kind_absent : (w : ℕ → ℕ → ℕ) (es : List Entry) (m : Indices) (name : List ℕ) (i : ℕ) → AreEntriesOf w es (fin.entries m) → IsGapAt es name i → None ≡ option_map (λ (index : Index). index.kind) (fin.get m name)
 kind_absent w es m name i h at = ap (option_map (λ (index : Index). index.kind)) (sym (fin.get-entries m name ∙ gap_none w es (fin.entries m) name i h (fin.entries_sorted m) at))
+
+-- the names of the entries ascend
+abbrev pub NamesRise : List Entry → Type 0
+NamesRise es = (i j : ℕ) (d : Entry) → i < j → j < length es → name_cmp (get_or es i d).name (get_or es j d).name ≡ Less
+
+each_above : (w : ℕ → ℕ → ℕ) (es : List Entry) (is : List (List ℕ × Index)) (name : List ℕ) → AreEntriesOf w es is → T (below_all name_cmp name is) → (j : ℕ) (d : Entry) → j < length es → name_cmp name (get_or es j d).name ≡ Less
+each_above w [] is name h below j d lt = absurd (omega (arith, lt))
+each_above w (e ∷ es) [] name h below j d lt = absurd h
+each_above w (e ∷ es) (x ∷ is) name h below zero d lt = ap (name_cmp name) h.0.name_is ∙ less (name_cmp name x.0) (first _ _ below)
+each_above w (e ∷ es) (x ∷ is) name h below (suc j) d lt = each_above w es is name h.1 (second _ _ below) j d (omega (arith, lt))
+
+pub names_rise : (w : ℕ → ℕ → ℕ) (es : List Entry) (is : List (List ℕ × Index)) → AreEntriesOf w es is → T (is_sorted name_cmp is) → NamesRise es
+names_rise w [] is h sorted i j d lt within = absurd (omega (arith, within))
+names_rise w (e ∷ es) [] h sorted i j d lt within = absurd h
+names_rise w (e ∷ es) (x ∷ is) h sorted i zero d lt within = absurd (omega (arith, lt))
+names_rise w (e ∷ es) (x ∷ is) h sorted zero (suc j) d lt within =
+    ap (λ n. name_cmp n (get_or es j d).name) h.0.name_is ∙ each_above w es is x.0 h.1 (first _ _ sorted) j d (omega (arith, within))
+names_rise w (e ∷ es) (x ∷ is) h sorted (suc i) (suc j) d lt within = names_rise w es is h.1 (second _ _ sorted) i j d (omega (arith, lt)) (omega (arith, within))
 
 -- the names and kinds of the entries are those of the indices
 abbrev pub listed_entry : Entry → List ℕ × Kind

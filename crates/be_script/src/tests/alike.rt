@@ -5,6 +5,28 @@ use super::{By, LIMITS, run_by};
 use std::alloc::{AllocError, Global};
 use std::test::Fail;
 
+const NAMES: &str = r#"a
+k
+"a name""#;
+
+const VALUES: &str = r#"LONG -7
+LONG 5
+CSTR x.c
+CSTR ""
+ULLG 18446744073709551615
+RAWT 00ff
+LONG x
+LONG 6"#;
+
+const QUERIES: &str = r#"k==5
+k!=5 || a>=-7
+a=="*.[ch]"
+!(a<6) && "a name"!=x
+k>=-7
+"a name"==*
+k==[
+k<18446744073709551615"#;
+
 /// Pseudo-random numbers, the same at each run.
 #[derive(Drop)]
 struct Dice {
@@ -23,44 +45,18 @@ impl Dice {
         (self.state >> 33) % sides
     }
 
-    fn name(&mut self) -> &'static str {
-        match self.roll(3) {
-            0 => "a",
-            1 => "k",
-            _ => "\"a name\"",
-        }
-    }
-
-    fn kind_and_value(&mut self) -> &'static str {
-        match self.roll(8) {
-            0 => "LONG -7",
-            1 => "LONG 5",
-            2 => "CSTR x.c",
-            3 => "CSTR \"\"",
-            4 => "ULLG 18446744073709551615",
-            5 => "RAWT 00ff",
-            6 => "LONG x",
-            _ => "LONG 6",
-        }
-    }
-
-    fn query(&mut self) -> &'static str {
-        match self.roll(8) {
-            0 => "k==5",
-            1 => "k!=5 || a>=-7",
-            2 => "a==\"*.[ch]\"",
-            3 => "!(a<6) && \"a name\"!=x",
-            4 => "k>=-7",
-            5 => "\"a name\"==*",
-            6 => "k==[",
-            _ => "k<18446744073709551615",
-        }
+    /// One of so many lines.
+    fn one_of(&mut self, lines: &'static str, count: u64) -> &'static str
+        requires { 0 < count }
+    {
+        let place = self.roll(count) as usize;
+        lines.lines().nth(place).unwrap_or("")
     }
 }
 
 /// A line of one word, or of one word and a query.
 fn short_line(alloc: Global, dice: &mut Dice) -> Result<String, AllocError> {
-    let query = dice.query();
+    let query = dice.one_of(QUERIES, 8);
     match dice.roll(14) {
         0 | 1 => String::from_str(alloc, "pin"),
         2 | 3 => String::from_str(alloc, "unpin"),
@@ -78,7 +74,7 @@ fn short_line(alloc: Global, dice: &mut Dice) -> Result<String, AllocError> {
 /// A line that names a node, an attribute or an index.
 fn long_line(alloc: Global, dice: &mut Dice) -> Result<String, AllocError> {
     let node = dice.roll(12);
-    let name = dice.name();
+    let name = dice.one_of(NAMES, 3);
     match dice.roll(14) {
         0 | 1 => String::from_str(alloc, "new"),
         2 => format!(in alloc; "drop {node}"),
@@ -89,7 +85,7 @@ fn long_line(alloc: Global, dice: &mut Dice) -> Result<String, AllocError> {
         7 => format!(in alloc; "get {node} {name}"),
         8 => format!(in alloc; "attrs {node}"),
         _ => {
-            let value = dice.kind_and_value();
+            let value = dice.one_of(VALUES, 8);
             format!(in alloc; "set {node} {name} {value}")
         }
     }

@@ -1,140 +1,25 @@
 //! Worked examples.
-use super::{check, check_bytes};
+use super::{check, check_behind, check_bytes};
+use be_testing::{COVERAGE, EXAMPLES, TEXTS, TWO_INDICES};
 use std::test::Fail;
 
+/// The examples that other forms of a volume answer alike.
 #[test]
-fn index_made_later(rt: HostRuntime) -> Result<(), Fail> {
-    check(
-        &rt,
-        "
-        new => node 1
-        set 1 size LONG 5 => ok
-        mkindex size LONG => ok
-        query size==5 => nodes",
-    )
+fn shared_examples(rt: HostRuntime) -> Result<(), Fail> {
+    for rows in EXAMPLES {
+        check(&rt, rows)?;
+    }
+    Ok(())
 }
 
+/// What only a script asks, behind three of these.
 #[test]
-fn set_moves_pair(rt: HostRuntime) -> Result<(), Fail> {
-    check(
-        &rt,
-        "
-        new => node 1
-        set 1 size LONG 5 => ok
-        mkindex size LONG => ok
-        query size==5 => nodes
-        set 1 size LONG 5 => ok
-        query size==5 => nodes 1
-        set 1 size LONG 6 => ok
-        query size==5 => nodes
-        query size>=5 => nodes 1",
-    )
-}
-
-#[test]
-fn equal_values(rt: HostRuntime) -> Result<(), Fail> {
-    check(
-        &rt,
-        "
-        mkindex k CSTR => ok
-        new => node 1
-        new => node 2
-        new => node 3
-        set 1 k CSTR x => ok
-        set 2 k CSTR x => ok
-        set 3 k CSTR x => ok
-        query k==x => nodes 1 2 3
-        drop 2 => ok
-        query k==x => nodes 1 3
-        get 2 k => none
-        new => node 4",
-    )
-}
-
-#[test]
-fn integers(rt: HostRuntime) -> Result<(), Fail> {
-    check(
-        &rt,
-        "
-        mkindex n LONG => ok
-        new => node 1
-        new => node 2
-        new => node 3
-        new => node 4
-        set 1 n LONG 0 => ok
-        set 2 n LONG -1 => ok
-        set 3 n LONG 2147483647 => ok
-        set 4 n LONG -2147483648 => ok
-        query n<0 => nodes 2 4
-        query n>=-2147483648 => nodes 1 2 3 4
-        query n>2147483646 => nodes 3
-        query n==-0 => nodes 1
-        query n!=0 => nodes 2 3 4
-        query n!=abc => nodes
-        query n<99999999999999999999 => nodes
-        set 1 n LONG 2147483648 => bad line",
-    )
-}
-
-#[test]
-fn texts(rt: HostRuntime) -> Result<(), Fail> {
-    check(
-        &rt,
-        r#"
-        mkindex t CSTR => ok
-        new => node 1
-        new => node 2
-        new => node 3
-        new => node 4
-        set 1 t CSTR a => ok
-        set 2 t CSTR ab => ok
-        set 3 t CSTR "" => ok
-        set 4 t CSTR {255*x} => ok
-        query t<ab => nodes 1 3
-        query t<="" => nodes 3
-        query t>a => nodes 2 4
-        set 1 t CSTR {256*x} => refused 19 DataLength"#,
-    )
-}
-
-#[test]
-fn absent_attribute(rt: HostRuntime) -> Result<(), Fail> {
-    check(
-        &rt,
-        "
-        mkindex size LONG => ok
-        new => node 1
-        new => node 2
-        set 1 size LONG 7 => ok
-        query !(size<5) => nodes 1
-        query !(size>=5) => nodes
-        query size!=7 => nodes
-        query size!=8 => nodes 1",
-    )
-}
-
-#[test]
-fn patterns(rt: HostRuntime) -> Result<(), Fail> {
-    check(
-        &rt,
-        r#"
-        mkindex name CSTR => ok
-        new => node 1
-        new => node 2
-        new => node 3
-        new => node 4
-        set 1 name CSTR x.c => ok
-        set 2 name CSTR x.C => ok
-        set 3 name CSTR é => ok
-        set 4 name CSTR xh => ok
-        query name="*[ch]" => nodes 1 4
-        query name==? => nodes 3
-        query name=="x.[a-d]" => nodes 1
-        query name=="x.[^a-d]" => nodes 2
-        query name=="x.\*" => nodes
-        query name<"x.[a-d]" => nodes 2
-        query ((name=="*[cC]")&&(name!="b*")) => nodes 1 2"#,
-    )
+fn behind_examples(rt: HostRuntime) -> Result<(), Fail> {
+    check_behind(&rt, TEXTS, "set 1 t CSTR {256*x} => refused 19 DataLength")?;
+    let explained = r#"explain a==1 && b==2 => "a"=="1" score 1"#;
+    check_behind(&rt, TWO_INDICES, explained)?;
+    let explained = r#"explain !(a==2||b==3) => "a"!="2" score 5"#;
+    check_behind(&rt, COVERAGE, explained)
 }
 
 #[test]
@@ -147,113 +32,6 @@ fn faults(rt: HostRuntime) -> Result<(), Fail> {
         query a==1 b => refused 12 Syntax 5
         query a==1 & b==2 => refused 12 Syntax 5
         query => refused 12 Syntax 0"#,
-    )
-}
-
-#[test]
-fn two_indices(rt: HostRuntime) -> Result<(), Fail> {
-    check(
-        &rt,
-        r#"
-        new => node 1
-        set 1 a LONG 1 => ok
-        mkindex a LONG => ok
-        mkindex b LONG => ok
-        new => node 2
-        set 1 b LONG 2 => ok
-        set 2 a LONG 1 => ok
-        set 2 b LONG 2 => ok
-        query a==1 && b==2 => nodes 2
-        explain a==1 && b==2 => "a"=="1" score 1
-        query b==2 => nodes 1 2"#,
-    )
-}
-
-#[test]
-fn coverage(rt: HostRuntime) -> Result<(), Fail> {
-    check(
-        &rt,
-        r#"
-        mkindex a LONG => ok
-        new => node 1
-        set 1 a LONG 1 => ok
-        set 1 b LONG 2 => ok
-        query a==1||b==2 => refused 17 NotCovered
-        query a==1&&b==2 => nodes 1
-        query b==2 => refused 17 NotCovered
-        query !(a==1||b==3) => nodes
-        explain !(a==2||b==3) => "a"!="2" score 5"#,
-    )
-}
-
-#[test]
-fn refusals(rt: HostRuntime) -> Result<(), Fail> {
-    check(
-        &rt,
-        r#"
-        new => node 1
-        unset 1 a => refused 3 NoAttr
-        unset 1 "" => refused 18 NameLength
-        mkindex r RAWT => refused 8 NotIndexable
-        rmindex r => refused 6 NoSuchIndex
-        mkindex r CSTR => ok
-        mkindex r CSTR => refused 5 IndexExists"#,
-    )
-}
-
-#[test]
-fn kind_change(rt: HostRuntime) -> Result<(), Fail> {
-    check(
-        &rt,
-        r#"
-        mkindex k LONG => ok
-        new => node 1
-        set 1 k LONG 5 => ok
-        set 1 k CSTR 5 => ok
-        query k==5 => nodes
-        get 1 k => CSTR "5"
-        attrs 1 => attrs 1 / "k" CSTR "5"
-        indices => indices 1 / "k" LONG"#,
-    )
-}
-
-#[test]
-fn index_removed(rt: HostRuntime) -> Result<(), Fail> {
-    check(
-        &rt,
-        "
-        mkindex k LONG => ok
-        new => node 1
-        set 1 k LONG 5 => ok
-        rmindex k => ok
-        query k==5 => refused 17 NotCovered
-        mkindex k LONG => ok
-        query k==5 => nodes",
-    )
-}
-
-#[test]
-fn unsigned_values(rt: HostRuntime) -> Result<(), Fail> {
-    check(
-        &rt,
-        "
-        mkindex u ULLG => ok
-        new => node 1
-        new => node 2
-        set 1 u ULLG 18446744073709551615 => ok
-        set 2 u ULLG 0 => ok
-        query u>9223372036854775807 => nodes 1
-        query u>-1 => nodes 1 2
-        query u==18446744073709551616 => nodes
-        set 1 u ULLG 18446744073709551616 => bad line
-        set 2 u ULNG -1 => bad line
-        set 1 u ULNG 4294967295 => ok
-        query u>=0 => nodes 2
-        get 1 u => ULNG 4294967295
-        mkindex n LONG => ok
-        set 1 n LONG 5 => ok
-        query n<9223372036854775808 => nodes 1
-        query n==00000000000000000005 => nodes 1",
     )
 }
 

@@ -316,13 +316,25 @@ fn batches_at_once(rt: HostRuntime) -> Result<(), Fail> {
     Ok(())
 }
 
-/// How a race of an empty script and one of so many bytes ends, and whether anything was written; None where memory was wanted.
+/// How a race of these scripts on so many pages ends, and whether anything was written; None where memory was wanted.
+fn end_of<R: Threads + Wait>(
+    rt: &R,
+    scripts: Vec<Vec<u8>>,
+    pages: u64,
+) -> Option<(Result<bool, RunFault>, bool)> {
+    let mut written: Vec<u8> = Vec::new(*scripts.allocator());
+    match race_on(rt, scripts, pages, &OpenGate, &mut written) {
+        Err(RunFault::Memory | RunFault::Write) => None,
+        ended => Some((ended, !written.is_empty())),
+    }
+}
+
+/// The same of an empty script and one of so many bytes.
 fn race_of_length<R: Threads + Wait>(
     rt: &R,
     alloc: Global,
     length: usize,
 ) -> Option<(Result<bool, RunFault>, bool)> {
-    let mut written: Vec<u8> = Vec::new(alloc);
     let (Ok(mut scripts), Ok(long)) = (scripts_of(alloc, &[""]), vec![in alloc; b'#'; length])
     else {
         return None;
@@ -330,10 +342,7 @@ fn race_of_length<R: Threads + Wait>(
     if scripts.push(long).is_err() {
         return None;
     }
-    match race_on(rt, scripts, 64, &OpenGate, &mut written) {
-        Err(RunFault::Memory | RunFault::Write) => None,
-        ended => Some((ended, !written.is_empty())),
-    }
+    end_of(rt, scripts, 64)
 }
 
 /// A script that is too long, behind one that is empty: nothing is written. A byte less, and it is run.
@@ -354,20 +363,13 @@ fn longest_scripts(rt: HostRuntime) -> Result<(), Fail> {
     Ok(())
 }
 
-/// How a race on so many pages ends, and whether anything was written; None where memory was wanted.
+/// The same of two short scripts, on so many pages.
 fn race_on_pages<R: Threads + Wait>(
     rt: &R,
     alloc: Global,
     pages: u64,
 ) -> Option<(Result<bool, RunFault>, bool)> {
-    let mut written: Vec<u8> = Vec::new(alloc);
-    let Ok(scripts) = scripts_of(alloc, &["new\n", ""]) else {
-        return None;
-    };
-    match race_on(rt, scripts, pages, &OpenGate, &mut written) {
-        Err(RunFault::Memory | RunFault::Write) => None,
-        ended => Some((ended, !written.is_empty())),
-    }
+    end_of(rt, scripts_of(alloc, &["new\n", ""]).ok()?, pages)
 }
 
 /// A limit that is out of its range is told first, and nothing is written.

@@ -5,36 +5,11 @@ ghost use Rattle.be_pages.specs.Pages.{IsUnchanged};
 ghost use Rattle.be_tree.specs.Tree.{IsTree};
 
 use be_pages::{Look, Room, VecRoom};
+use be_testing::Counting;
 use be_tree::{Cursor, clear, find, has_key, insert, range};
 use be_value::Refusal;
 use std::alloc::Global;
 use std::test::Fail;
-
-/// A reader that counts its calls. Its facts are those of the reader that it owns.
-#[derive(Drop)]
-struct Counting<L> {
-    look: L,
-    reads: u64,
-}
-
-impl<L: Look> Look for Counting<L> {
-    ghost Kept = { L.Kept };
-
-    ghost kept = { λ c. L.kept c.look };
-
-    ghost is_open = { L.is_open };
-
-    ghost standing = { λ c. L.standing c.look };
-
-    ghost words = { λ c. L.words c.look };
-
-    ghost pages_small = { λ c q some. L.pages_small c.look q some };
-
-    fn word(&mut self, page: u64, i: usize) -> u64 {
-        self.reads = self.reads.wrapping_add(1);
-        self.look.word(page, i)
-    }
-}
 
 /// A room, at the second call where memory is refused at the first.
 pub(crate) fn room_of(alloc: Global, pages: u64) -> Result<VecRoom, Refusal>

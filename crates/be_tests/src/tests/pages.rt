@@ -4,45 +4,67 @@
 use super::counting_look::room_of;
 use be_pages::{Look, Room, VecRoom};
 use be_value::Refusal;
+use std::alloc::Global;
 use std::test::Fail;
 
-#[test]
-fn keeps_and_undoes(rt: HostRuntime) -> Result<(), Fail> {
-    let mut room = room_of(rt.alloc(), 8)?;
+/// How many pages are free after one was taken and filled, with the word in it, after that write was kept and nothing undone,
+/// and after the next write was undone.
+fn free_when_kept(alloc: Global) -> Result<[u64; 4], Refusal> {
+    let mut room = room_of(alloc, 8)?;
     let page = room.take()?;
     room.fill(page, 3, 9);
-    assert_eq!(rt; room.free(), 7);
-    assert_eq!(rt; room.word(page, 3), 9);
+    let taken = room.free();
+    let word = room.word(page, 3);
     room.keep();
     room.undo();
-    assert_eq!(rt; room.free(), 7);
+    let kept = room.free();
     let second = room.take()?;
     room.fill(second, 0, 1);
     room.undo();
-    assert_eq!(rt; room.free(), 7);
+    Ok([taken, word, kept, room.free()])
+}
+
+#[test]
+fn keeps_and_undoes(rt: HostRuntime) -> Result<(), Fail> {
+    assert!(rt; matches!(free_when_kept(rt.alloc())?, [7, 9, 7, 7]));
     Ok(())
+}
+
+/// Takes each page once, and then one more. How many were free before each, in digits.
+fn take_all(alloc: Global) -> Result<(u64, Refusal), Refusal> {
+    let mut room = room_of(alloc, 8)?;
+    let mut digits: u64 = 0;
+    for taken in 0..8 {
+        let _ = taken;
+        digits = digits.wrapping_mul(10).wrapping_add(room.free());
+        let _page = room.take()?;
+    }
+    match room.take() {
+        Ok(_) => Ok((digits, Refusal::NoNode)),
+        Err(refusal) => Ok((digits, refusal)),
+    }
 }
 
 /// Each page is taken once; then the room is full.
 #[test]
 fn full_room(rt: HostRuntime) -> Result<(), Fail> {
-    let mut room = room_of(rt.alloc(), 8)?;
-    for taken in 0..8 {
-        assert_eq!(rt; room.free(), 8 - taken);
-        let _page = room.take()?;
-    }
-    assert_eq!(rt; room.take(), Err(Refusal::Full(0)));
+    assert!(rt; matches!(take_all(rt.alloc())?, (87654321, Refusal::Full(0))));
     Ok(())
+}
+
+/// How many pages are free once a page that was taken is given up, and whether it is the next one taken.
+fn take_again(alloc: Global) -> Result<(u64, bool), Refusal> {
+    let mut room = room_of(alloc, 8)?;
+    let page = room.take()?;
+    room.give_up(page);
+    let free = room.free();
+    Ok((free, room.take()? == page))
 }
 
 /// A page that was taken and given up within one write is free at once, and is the next one taken.
 #[test]
 fn page_given_up(rt: HostRuntime) -> Result<(), Fail> {
-    let mut room = room_of(rt.alloc(), 8)?;
-    let page = room.take()?;
-    room.give_up(page);
-    assert_eq!(rt; room.free(), 8);
-    assert_eq!(rt; room.take(), Ok(page));
+    assert!(rt; matches!(take_again(rt.alloc())?, (8, true)));
     Ok(())
 }
 

@@ -1,178 +1,130 @@
-//! Worked examples. Each call that asks for memory is made again where it was refused, so that the tests also pass
-//! where any one request for memory is refused.
+//! Worked examples of patterns.
 
+use super::lines::{replies, yes_or_no};
 use be_pattern::Pattern;
 use be_value::Refusal;
-
-fn read(rt: &HostRuntime, text: &str) -> Result<Pattern, Refusal> {
-    match Pattern::parse(rt.alloc(), text) {
-        Err(Refusal::OutOfMemory) => Pattern::parse(rt.alloc(), text),
-        answer => answer,
-    }
-}
+use std::alloc::Global;
+use std::test::Fail;
 
 /// The canonical text of a pattern.
-pub(crate) fn canonical(rt: &HostRuntime, pattern: &Pattern) -> Result<String, Refusal> {
-    match pattern.canonical(rt.alloc()) {
-        Err(Refusal::OutOfMemory) => pattern.canonical(rt.alloc()),
-        text => text,
-    }
+pub(crate) fn canonical(alloc: Global, text: &str) -> Result<String, Refusal> {
+    Pattern::parse(alloc, text)?.canonical(alloc)
 }
 
-/// Whether this is the canonical text of what was made.
-fn has_text(rt: &HostRuntime, answer: Result<Pattern, Refusal>, want: &str) -> bool {
-    let Ok(pattern) = answer else {
-        return false;
+/// Whether a pattern matches the text behind it.
+pub(crate) fn matches(alloc: Global, request: &str) -> Result<String, Refusal> {
+    let (pattern, text) = request.split_once(" ").unwrap_or((request, ""));
+    yes_or_no(alloc, Pattern::parse(alloc, pattern)?.matches(text))
+}
+
+/// The prefix of a pattern, in quotes, and whether it is plain.
+pub(crate) fn prefix(alloc: Global, text: &str) -> Result<String, Refusal> {
+    let pattern = Pattern::parse(alloc, text)?;
+    let prefix = pattern.prefix();
+    let word = if pattern.is_plain() { " plain" } else { "" };
+    Ok(format!(in alloc; "\"{prefix}\"{word}")?)
+}
+
+pub(crate) fn is_decided_by_prefix(alloc: Global, text: &str) -> Result<String, Refusal> {
+    yes_or_no(alloc, Pattern::parse(alloc, text)?.is_prefix())
+}
+
+/// The canonical text of a literal text with `*` round it, where a `.` stands before or behind it.
+pub(crate) fn around(alloc: Global, text: &str) -> Result<String, Refusal> {
+    let (before, text) = match text.strip_prefix(".") {
+        Some(text) => (true, text),
+        None => (false, text),
     };
-    match canonical(rt, &pattern) {
-        Ok(text) => text.as_str() == want,
-        Err(_) => false,
-    }
+    let (behind, text) = match text.strip_suffix(".") {
+        Some(text) => (true, text),
+        None => (false, text),
+    };
+    Pattern::around(alloc, before, text, behind)?.canonical(alloc)
 }
 
-fn is_canonical(rt: &HostRuntime, text: &str, want: &str) -> bool {
-    has_text(rt, read(rt, text), want)
-}
-
-fn fault(rt: &HostRuntime, text: &str) -> Option<Refusal> {
-    match read(rt, text) {
-        Ok(_) => None,
-        Err(refusal) => Some(refusal),
-    }
-}
-
-fn is_matched(rt: &HostRuntime, pattern: &str, text: &str) -> bool {
-    match read(rt, pattern) {
-        Ok(pattern) => pattern.matches(text),
-        Err(_) => false,
-    }
-}
-
-fn has_prefix(rt: &HostRuntime, text: &str, prefix: &str, plain: bool) -> bool {
-    match read(rt, text) {
-        Ok(pattern) => pattern.prefix() == prefix && pattern.is_plain() == plain,
-        Err(_) => false,
-    }
-}
-
-/// Example `patterns`, and the readings of sets.
+/// Example `patterns`, and the readings of sets. An empty pattern and an empty text are no letters.
 #[test]
-fn patterns(rt: HostRuntime) {
-    for (pattern, text, want) in [
-        ("*[ch]", "x.c", true),
-        ("*[ch]", "x.C", false),
-        ("*[ch]", "é", false),
-        ("*[ch]", "xh", true),
-        ("?", "é", true),
-        ("?", "xh", false),
-        ("x.[a-d]", "x.c", true),
-        ("x.[a-d]", "x.C", false),
-        ("x.[^a-d]", "x.c", false),
-        ("x.[^a-d]", "x.C", true),
-        ("x.\\*", "x.c", false),
-        ("x.\\*", "x.*", true),
-        ("*a*b*aa", "xxaxxbxabxaa", true),
-        ("*a*b*aa", "xxaxxbxabxab", false),
-        ("", "", true),
-        ("", "a", false),
-        ("*", "", true),
-        ("a]", "a]", true),
-        ("[a-b-c]", "-", true),
-        ("[-a]", "-", true),
-        ("[a-]", "-", true),
-        ("[--a]", "Z", true),
-        ("[a^]", "^", true),
-        ("[\\]]", "]", true),
-        ("[α-ω]", "λ", true),
-        ("a\0", "a\0", true),
-    ] {
-        assert_eq!(rt; is_matched(&rt, pattern, text), want, "{pattern} at {text}");
-    }
+fn patterns(rt: HostRuntime) -> Result<(), Fail> {
+    let lines = "matches *[ch] x.c => yes
+matches *[ch] x.C => no
+matches *[ch] é => no
+matches *[ch] xh => yes
+matches ? é => yes
+matches ? xh => no
+matches x.[a-d] x.c => yes
+matches x.[a-d] x.C => no
+matches x.[^a-d] x.c => no
+matches x.[^a-d] x.C => yes
+matches x.\\* x.c => no
+matches x.\\* x.* => yes
+matches *a*b*aa xxaxxbxabxaa => yes
+matches *a*b*aa xxaxxbxabxab => no
+matches   => yes
+matches  a => no
+matches *  => yes
+matches a] a] => yes
+matches [a-b-c] - => yes
+matches [-a] - => yes
+matches [a-] - => yes
+matches [--a] Z => yes
+matches [a^] ^ => yes
+matches [\\]] ] => yes
+matches [α-ω] λ => yes
+matches a\0 a\0 => yes";
+    replies(rt.alloc(), lines)
+}
+
+/// Each canonical text is its own.
+#[test]
+fn canonical_texts(rt: HostRuntime) -> Result<(), Fail> {
+    let lines = "pattern a\\** => a\\**
+pattern [a-b-c] => [a-b\\-c]
+pattern [a-b\\-c] => [a-b\\-c]
+pattern [--a] => [\\--a]
+pattern [\\--a] => [\\--a]
+pattern [^a-a] => [^a]
+pattern [^a] => [^a]
+pattern [a^]]\\x => [a\\^]]x
+pattern [a\\^]]x => [a\\^]]x
+pattern \"[\"]\\? => \\\"[\\\"]\\?
+pattern \\\"[\\\"]\\? => \\\"[\\\"]\\?
+pattern [ba] => [ba]";
+    replies(rt.alloc(), lines)
 }
 
 #[test]
-fn canonical_texts(rt: HostRuntime) {
-    for (text, want) in [
-        ("a\\**", "a\\**"),
-        ("[a-b-c]", "[a-b\\-c]"),
-        ("[--a]", "[\\--a]"),
-        ("[^a-a]", "[^a]"),
-        ("[a^]]\\x", "[a\\^]]x"),
-        ("\"[\"]\\?", "\\\"[\\\"]\\?"),
-        ("[ba]", "[ba]"),
-    ] {
-        assert!(rt; is_canonical(&rt, text, want), "at {text}");
-        assert!(rt; is_canonical(&rt, want, want), "back at {want}");
-    }
+fn faults(rt: HostRuntime) -> Result<(), Fail> {
+    let lines = "pattern é[a => refused 13 BadPattern 2
+pattern [z-a]\\ => refused 13 BadPattern 5
+pattern x[]a] => refused 13 BadPattern 1
+pattern [^]] => refused 13 BadPattern 0
+pattern [a--] => refused 13 BadPattern 0
+pattern [a][b => refused 13 BadPattern 3
+pattern [a-] => [a\\-]";
+    replies(rt.alloc(), lines)
 }
 
+/// Prefixes, which patterns their prefix decides, and literal texts with `*` round them.
 #[test]
-fn faults(rt: HostRuntime) {
-    for (text, want) in [
-        ("é[a", Some(Refusal::BadPattern(2))),
-        ("[z-a]\\", Some(Refusal::BadPattern(5))),
-        ("x[]a]", Some(Refusal::BadPattern(1))),
-        ("[^]]", Some(Refusal::BadPattern(0))),
-        ("[a--]", Some(Refusal::BadPattern(0))),
-        ("[a][b", Some(Refusal::BadPattern(3))),
-        ("[a-]", None),
-    ] {
-        assert_eq!(rt; fault(&rt, text), want, "at {text}");
-    }
-}
-
-#[test]
-fn prefixes(rt: HostRuntime) {
-    for (text, prefix, plain) in [
-        ("\\*éx*y", "*éx", false),
-        ("[5]", "", false),
-        ("a]\\-5", "a]-5", true),
-        ("", "", true),
-    ] {
-        assert!(rt; has_prefix(&rt, text, prefix, plain), "at {text}");
-    }
-}
-
-fn is_decided_by_prefix(rt: &HostRuntime, text: &str) -> bool {
-    match read(rt, text) {
-        Ok(pattern) => pattern.is_prefix(),
-        Err(_) => false,
-    }
-}
-
-/// Patterns that their prefix decides, and others.
-#[test]
-fn decided_by_prefix(rt: HostRuntime) {
-    for (text, want) in [
-        ("", true),
-        ("*", true),
-        ("é", true),
-        ("é*", true),
-        ("a\\*", true),
-        ("**", false),
-        ("*a", false),
-        ("a*b", false),
-        ("a?", false),
-        ("a[b]", false),
-        ("[b]*", false),
-    ] {
-        assert_eq!(rt; is_decided_by_prefix(&rt, text), want, "at {text}");
-    }
-}
-
-/// A literal text with `*` round it.
-#[test]
-fn literal_texts(rt: HostRuntime) {
-    for (before, behind, want) in [
-        (false, false, "a\\*"),
-        (false, true, "a\\**"),
-        (true, false, "*a\\*"),
-        (true, true, "*a\\**"),
-    ] {
-        let pattern = match Pattern::around(rt.alloc(), before, "a*", behind) {
-            Err(Refusal::OutOfMemory) => Pattern::around(rt.alloc(), before, "a*", behind),
-            answer => answer,
-        };
-        assert!(rt; has_text(&rt, pattern, want), "at {want}");
-    }
+fn prefixes(rt: HostRuntime) -> Result<(), Fail> {
+    let lines = "prefix \\*éx*y => \"*éx\"
+prefix [5] => \"\"
+prefix a]\\-5 => \"a]-5\" plain
+prefix  => \"\" plain
+decided  => yes
+decided * => yes
+decided é => yes
+decided é* => yes
+decided a\\* => yes
+decided ** => no
+decided *a => no
+decided a*b => no
+decided a? => no
+decided a[b] => no
+decided [b]* => no
+around a* => a\\*
+around a*. => a\\**
+around .a* => *a\\*
+around .a*. => *a\\**";
+    replies(rt.alloc(), lines)
 }

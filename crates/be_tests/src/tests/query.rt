@@ -1,324 +1,209 @@
-//! Worked examples. Each call that asks for memory is made again where it was refused, so that the tests also pass
-//! where any one request for memory is refused.
+//! Worked examples of queries and predicates.
 
-use super::leaves::pattern_text;
-use super::value::refusal;
-use be_query::{Item, Literal, Query, Tree, from_rpn, parse, print, print_comparison};
+use super::lines::{repeated, replies, yes_or_no};
+use be_query::{Comparison, Item, Literal, Query, Tree, from_rpn, parse, print, print_comparison};
 use be_value::{Name, Refusal, number_of};
+use std::alloc::Global;
+use std::test::Fail;
 
-/// What a text spells.
-fn read(rt: &HostRuntime, text: &str) -> Result<Query, Refusal> {
-    match parse(rt.alloc(), text) {
-        Err(Refusal::OutOfMemory) => parse(rt.alloc(), text),
-        answer => answer,
+/// The canonical text of a text's query, which spells the same query.
+pub(crate) fn printed_twice(alloc: Global, text: &str) -> Result<String, Refusal> {
+    let once = print(alloc, &parse(alloc, text)?)?;
+    let twice = print(alloc, &parse(alloc, once.as_str())?)?;
+    if twice.as_str() == once.as_str() {
+        Ok(once)
+    } else {
+        Err(Refusal::NotCovered)
     }
 }
 
-/// What items build.
-fn built(rt: &HostRuntime, items: &[Item]) -> Result<Query, Refusal> {
-    match from_rpn(rt.alloc(), items) {
-        Err(Refusal::OutOfMemory) => from_rpn(rt.alloc(), items),
-        answer => answer,
-    }
-}
-
-/// The canonical text of an answer, or its refusal.
-fn printed(rt: &HostRuntime, answer: Result<Query, Refusal>) -> Result<String, Refusal> {
-    let query = answer?;
-    match print(rt.alloc(), &query) {
-        Err(Refusal::OutOfMemory) => print(rt.alloc(), &query),
-        text => text,
-    }
-}
-
-/// The canonical text of an answer's one comparison, or its refusal.
-fn printed_leaf(rt: &HostRuntime, answer: Result<Query, Refusal>) -> Result<String, Refusal> {
-    let query = answer?;
-    match query.tree() {
-        Tree::Leaf(comparison) => match print_comparison(rt.alloc(), comparison) {
-            Err(Refusal::OutOfMemory) => print_comparison(rt.alloc(), comparison),
-            text => text,
-        },
+/// The one comparison of a tree.
+fn leaf(tree: &Tree) -> Result<&Comparison, Refusal> {
+    match tree {
+        Tree::Leaf(comparison) => Ok(comparison),
         _ => Err(Refusal::NotCovered),
     }
 }
 
-/// The canonical text of the pattern in an answer's one comparison, or the refusal.
-fn canonical_leaf(rt: &HostRuntime, answer: Result<Query, Refusal>) -> Result<String, Refusal> {
-    let query = answer?;
-    pattern_text(rt, query.tree())
-}
-
-fn is_text(answer: Result<String, Refusal>, want: &str) -> bool {
-    match answer {
-        Ok(text) => text.as_str() == want,
-        Err(_) => false,
+/// The canonical text of a comparison's pattern.
+fn pattern_of(alloc: Global, comparison: &Comparison) -> Result<String, Refusal> {
+    match &comparison.literal {
+        Literal::Pattern(pattern) => pattern.canonical(alloc),
+        Literal::Text(_) => Err(Refusal::NotCovered),
     }
 }
 
-fn append(text: &mut String, piece: &str) {
-    if text.push_str(piece).is_err() {
-        let _ = text.push_str(piece);
+/// The canonical text of the pattern on the right of a query's `&&`.
+pub(crate) fn right_pattern(alloc: Global, text: &str) -> Result<String, Refusal> {
+    let query = parse(alloc, text)?;
+    match query.tree() {
+        Tree::And(_, right) => pattern_of(alloc, leaf(right)?),
+        _ => Err(Refusal::NotCovered),
     }
 }
 
-fn add(items: &mut Vec<Item>, item: Item) {
-    if let Err(failed) = items.push(item) {
-        let _ = items.push(failed.value);
+/// Whether the pattern of a query's one comparison matches the text behind it.
+pub(crate) fn leaf_matches(alloc: Global, request: &str) -> Result<String, Refusal> {
+    let (query, text) = request.split_once(" ").unwrap_or((request, ""));
+    let query = parse(alloc, query)?;
+    match &leaf(query.tree())?.literal {
+        Literal::Pattern(pattern) => yes_or_no(alloc, pattern.matches(text)),
+        Literal::Text(_) => Err(Refusal::NotCovered),
     }
 }
 
-/// A text so many times, then another, and a third so many times.
-fn repeated(rt: &HostRuntime, front: &str, count: usize, middle: &str, back: &str) -> String {
-    let mut text = String::new(rt.alloc());
-    for i in 0..count {
-        let _ = i;
-        append(&mut text, front);
-    }
-    append(&mut text, middle);
-    for i in 0..count {
-        let _ = i;
-        append(&mut text, back);
-    }
-    text
+/// The canonical text of a query of pieces that are repeated.
+pub(crate) fn printed_times(alloc: Global, request: &str) -> Result<String, Refusal> {
+    let text = repeated(alloc, request)?;
+    print(alloc, &parse(alloc, text.as_str())?)
+}
+
+/// Whether such a query is read.
+pub(crate) fn read_times(alloc: Global, request: &str) -> Result<String, Refusal> {
+    let text = repeated(alloc, request)?;
+    let _query = parse(alloc, text.as_str())?;
+    yes_or_no(alloc, true)
 }
 
 /// Example `faults`, and each reading of a text that has a fault.
 #[test]
-fn faults(rt: HostRuntime) {
-    for (text, want) in [
-        ("name==\"[a\"", Refusal::BadPattern(7)),
-        ("(a==1", Refusal::Syntax(5)),
-        ("a==1 b", Refusal::Syntax(5)),
-        ("a==1 & b==2", Refusal::Syntax(5)),
-        ("", Refusal::Syntax(0)),
-        ("a==1 &&  ", Refusal::Syntax(9)),
-        ("\"a", Refusal::Syntax(2)),
-        ("\"\"==1", Refusal::Syntax(0)),
-        ("a==[\0", Refusal::BadPattern(3)),
-        ("a==\"[z-a", Refusal::Syntax(8)),
-        ("a==\"x\0", Refusal::Syntax(5)),
-        ("a==\"x\0\"", Refusal::Syntax(5)),
-        ("a==x\0", Refusal::Syntax(4)),
-        ("a==1 \"b", Refusal::Syntax(5)),
-        ("a==1 b\\", Refusal::Syntax(5)),
-        ("a==1 \"b\0\"", Refusal::Syntax(5)),
-        ("a==b\\", Refusal::Syntax(5)),
-        ("a==é[z-a]", Refusal::BadPattern(5)),
-        ("a=!b", Refusal::Syntax(2)),
-        ("a==b|c==d", Refusal::Syntax(4)),
-    ] {
-        assert_eq!(rt; refusal(read(&rt, text)), Some(want), "at {text}");
-    }
-    let long = repeated(&rt, "x", 64, "", "");
-    let name = long.as_str();
-    for (behind, want) in [
-        ("==1", Refusal::Syntax(0)),
-        ("\0", Refusal::Syntax(0)),
-        ("\\\0", Refusal::Syntax(65)),
-    ] {
-        let text = repeated(&rt, name, 1, behind, "");
-        assert_eq!(rt;
-            refusal(read(&rt, &text)),
-            Some(want),
-            "behind a long name {behind}"
-        );
-    }
-    assert_eq!(rt;
-        refusal(read(&rt, &repeated(&rt, "\"", 1, name, ""))),
-        Some(Refusal::Syntax(65))
-    );
+fn faults(rt: HostRuntime) -> Result<(), Fail> {
+    let lines = "query name==\"[a\" => refused 13 BadPattern 7
+query (a==1 => refused 12 Syntax 5
+query a==1 b => refused 12 Syntax 5
+query a==1 & b==2 => refused 12 Syntax 5
+query  => refused 12 Syntax 0
+query a==1 &&   => refused 12 Syntax 9
+query \"a => refused 12 Syntax 2
+query \"\"==1 => refused 12 Syntax 0
+query a==[\0 => refused 13 BadPattern 3
+query a==\"[z-a => refused 12 Syntax 8
+query a==\"x\0 => refused 12 Syntax 5
+query a==\"x\0\" => refused 12 Syntax 5
+query a==x\0 => refused 12 Syntax 4
+query a==1 \"b => refused 12 Syntax 5
+query a==1 b\\ => refused 12 Syntax 5
+query a==1 \"b\0\" => refused 12 Syntax 5
+query a==b\\ => refused 12 Syntax 5
+query a==é[z-a] => refused 13 BadPattern 5
+query a=!b => refused 12 Syntax 2
+query a==b|c==d => refused 12 Syntax 4
+read 64 x;==1 => refused 12 Syntax 0
+read 64 x;\0 => refused 12 Syntax 0
+read 64 x;\\\0 => refused 12 Syntax 65
+read 64 ;\";x => refused 12 Syntax 65";
+    replies(rt.alloc(), lines)
 }
 
 /// Example `hostile_queries`.
 #[test]
-fn hostile_queries(rt: HostRuntime) {
-    for (text, want) in [
-        ("a==\"", Refusal::Syntax(4)),
-        ("a==1\\", Refusal::Syntax(5)),
-        ("a==\0", Refusal::Syntax(3)),
-        ("a==1 || [", Refusal::Syntax(9)),
-        ("a==[z-a]", Refusal::BadPattern(3)),
-        ("a==[]", Refusal::BadPattern(3)),
-        ("a==[^]", Refusal::BadPattern(3)),
-    ] {
-        assert_eq!(rt; refusal(read(&rt, text)), Some(want), "at {text}");
-    }
-    assert_eq!(rt;
-        refusal(read(&rt, &repeated(&rt, "(", 4096, "", ""))),
-        Some(Refusal::TooDeep)
-    );
-    assert_eq!(rt;
-        refusal(read(&rt, &repeated(&rt, "(", 64, "", ""))),
-        Some(Refusal::Syntax(64))
-    );
-    assert!(rt;
-        is_text(
-            printed(&rt, read(&rt, &repeated(&rt, "!", 64, "a==1", ""))),
-            "\"a\"==\"1\""
-        )
-    );
-    assert_eq!(rt;
-        refusal(read(&rt, &repeated(&rt, "!", 65, "a==1", ""))),
-        Some(Refusal::TooDeep)
-    );
+fn hostile_queries(rt: HostRuntime) -> Result<(), Fail> {
+    let lines = "query a==\" => refused 12 Syntax 4
+query a==1\\ => refused 12 Syntax 5
+query a==\0 => refused 12 Syntax 3
+query a==1 || [ => refused 12 Syntax 9
+query a==[z-a] => refused 13 BadPattern 3
+query a==[] => refused 13 BadPattern 3
+query a==[^] => refused 13 BadPattern 3
+read 4096 ( => refused 15 TooDeep
+read 64 ( => refused 12 Syntax 64
+times 64 !;a==1 => \"a\"==\"1\"
+read 65 !;a==1 => refused 15 TooDeep";
+    replies(rt.alloc(), lines)
 }
 
-/// Example `query_limits`, and one step before each limit.
+/// Example `query_limits`, and one step before each limit. A `!` is open until its operand ends.
 #[test]
-fn query_limits(rt: HostRuntime) {
-    for (front, count, middle, back, want) in [
-        ("x", 4097, "", "", Some(Refusal::TooLong)),
-        ("x", 4096, "", "", Some(Refusal::Syntax(0))),
-        (" ", 4092, "a==1", "", None),
-        (" ", 4093, "a==1", "", Some(Refusal::TooLong)),
-        ("(", 64, "a==1", ")", None),
-        ("(", 65, "a==1", ")", Some(Refusal::TooDeep)),
-        ("(!", 32, "a==1", ")", None),
-        ("(!", 32, "!a==1", ")", Some(Refusal::TooDeep)),
-        ("a==1||", 255, "a==1", "", None),
-        ("a==1||", 256, "a==1", "", Some(Refusal::TooMany)),
-        ("a==1||", 256, "a==[", "", Some(Refusal::BadPattern(1539))),
-        ("a==1||", 256, "a==1\0", "", Some(Refusal::TooMany)),
-        ("", 4092, "a==1", " ", None),
-        ("", 4093, "a==1", " ", Some(Refusal::TooLong)),
-        ("(", 64, "a==1(", "", Some(Refusal::Syntax(68))),
-        // A `!` is open until its operand ends.
-        ("!a==1&&", 70, "a==1", "", None),
-        ("!(a==1)&&", 70, "a==1", "", None),
-    ] {
-        let text = repeated(&rt, front, count, middle, back);
-        assert_eq!(rt; refusal(read(&rt, &text)), want, "at {count} times {front}");
-    }
+fn query_limits(rt: HostRuntime) -> Result<(), Fail> {
+    let lines = "read 4097 x => refused 14 TooLong
+read 4096 x => refused 12 Syntax 0
+read 4092  ;a==1 => yes
+read 4093  ;a==1 => refused 14 TooLong
+read 64 (;a==1;) => yes
+read 65 (;a==1;) => refused 15 TooDeep
+read 32 (!;a==1;) => yes
+read 32 (!;!a==1;) => refused 15 TooDeep
+read 255 a==1||;a==1 => yes
+read 256 a==1||;a==1 => refused 16 TooMany
+read 256 a==1||;a==[ => refused 13 BadPattern 1539
+read 256 a==1||;a==1\0 => refused 16 TooMany
+read 4092 ;a==1;  => yes
+read 4093 ;a==1;  => refused 14 TooLong
+read 64 (;a==1( => refused 12 Syntax 68
+read 70 !a==1&&;a==1 => yes
+read 70 !(a==1)&&;a==1 => yes";
+    replies(rt.alloc(), lines)
 }
 
 /// A refusal gives up what was built: a tree that leans to the left, levels that wait, a tree that leans to the right.
 #[test]
-fn trees_given_up(rt: HostRuntime) {
-    for (front, count, back, want) in [
-        ("a==1||", 255, "", 1535),
-        ("(a==1&&", 64, "", 453),
-        ("(a==1&&", 64, ")", 517),
-        ("(a==1||a==1&&", 64, ")", 901),
-        ("!(a==1||a==1&&", 32, ")", 485),
-    ] {
-        let mut text = repeated(&rt, front, count, "a==1", back);
-        append(&mut text, " b");
-        assert_eq!(rt;
-            refusal(read(&rt, &text)),
-            Some(Refusal::Syntax(want)),
-            "at {count} times {front}"
-        );
-    }
+fn trees_given_up(rt: HostRuntime) -> Result<(), Fail> {
+    let lines = "read 255 a==1||;a==1;; b => refused 12 Syntax 1535
+read 64 (a==1&&;a==1;; b => refused 12 Syntax 453
+read 64 (a==1&&;a==1;); b => refused 12 Syntax 517
+read 64 (a==1||a==1&&;a==1;); b => refused 12 Syntax 901
+read 32 !(a==1||a==1&&;a==1;); b => refused 12 Syntax 485";
+    replies(rt.alloc(), lines)
 }
 
 /// Example `printing`, and each reading of a text that has a tree.
 #[test]
-fn printing(rt: HostRuntime) {
-    for (text, want) in [
-        (
-            "a=1||!(b<2&&c='x*')",
-            "\"a\"==\"1\" || (\"b\">=\"2\" || \"c\"!=\"x*\")",
-        ),
-        (
-            "((name==\"*[cC]\")&&(name!=\"b*\"))",
-            "\"name\"==\"*[cC]\" && \"name\"!=\"b*\"",
-        ),
-        (
-            "a=1&&b=2&&c=3||d=4||e=5",
-            "\"a\"==\"1\" && \"b\"==\"2\" && \"c\"==\"3\" || \"d\"==\"4\" || \"e\"==\"5\"",
-        ),
-        (
-            "a=1||(b=2||c=3)",
-            "\"a\"==\"1\" || (\"b\"==\"2\" || \"c\"==\"3\")",
-        ),
-        (
-            "(a=1||b=2)&&c=3&&(d=4&&e=5)",
-            "(\"a\"==\"1\" || \"b\"==\"2\") && \"c\"==\"3\" && (\"d\"==\"4\" && \"e\"==\"5\")",
-        ),
-        ("\\(x==1", "\"(x\"==\"1\""),
-        ("a==[^a-a\\-\\]]\\]?", "\"a\"==\"[^a\\-\\]]]?\""),
-        (
-            "a==[--a]&&b==[a-b-c]",
-            "\"a\"==\"[\\--a]\" && \"b\"==\"[a-b\\-c]\"",
-        ),
-        ("'x\"\\\\'<'\\*\"'", "\"x\\\"\\\\\"<\"*\\\"\""),
-        ("!!!(a>1||b<=2)", "\"a\"<=\"1\" && \"b\">\"2\""),
-        ("!!(a=1&&b=2)", "\"a\"==\"1\" && \"b\"==\"2\""),
-        (
-            "!(a=1&&!(b=2||c=3))",
-            "\"a\"!=\"1\" || (\"b\"==\"2\" || \"c\"==\"3\")",
-        ),
-        (
-            "!(!a=1||b=2)&&!c<3",
-            "\"a\"==\"1\" && \"b\"!=\"2\" && \"c\">=\"3\"",
-        ),
-        ("\ta\n!=\r\"\" ", "\"a\"!=\"\""),
-    ] {
-        assert!(rt; is_text(printed(&rt, read(&rt, text)), want), "at {text}");
-        assert!(rt;
-            is_text(printed(&rt, read(&rt, want)), want),
-            "back at {want}"
-        );
-    }
+fn printing(rt: HostRuntime) -> Result<(), Fail> {
+    let lines = "query a=1||!(b<2&&c='x*') => \"a\"==\"1\" || (\"b\">=\"2\" || \"c\"!=\"x*\")
+query ((name==\"*[cC]\")&&(name!=\"b*\")) => \"name\"==\"*[cC]\" && \"name\"!=\"b*\"
+query a=1&&b=2&&c=3||d=4||e=5 => \"a\"==\"1\" && \"b\"==\"2\" && \"c\"==\"3\" || \"d\"==\"4\" || \"e\"==\"5\"
+query a=1||(b=2||c=3) => \"a\"==\"1\" || (\"b\"==\"2\" || \"c\"==\"3\")
+query (a=1||b=2)&&c=3&&(d=4&&e=5) => (\"a\"==\"1\" || \"b\"==\"2\") && \"c\"==\"3\" && (\"d\"==\"4\" && \"e\"==\"5\")
+query \\(x==1 => \"(x\"==\"1\"
+query a==[^a-a\\-\\]]\\]? => \"a\"==\"[^a\\-\\]]]?\"
+query a==[--a]&&b==[a-b-c] => \"a\"==\"[\\--a]\" && \"b\"==\"[a-b\\-c]\"
+query 'x\"\\\\'<'\\*\"' => \"x\\\"\\\\\"<\"*\\\"\"
+query !!!(a>1||b<=2) => \"a\"<=\"1\" && \"b\">\"2\"
+query !!(a=1&&b=2) => \"a\"==\"1\" && \"b\"==\"2\"
+query !(a=1&&!(b=2||c=3)) => \"a\"!=\"1\" || (\"b\"==\"2\" || \"c\"==\"3\")
+query !(!a=1||b=2)&&!c<3 => \"a\"==\"1\" && \"b\"!=\"2\" && \"c\">=\"3\"
+right a==\"x*\" && b==\"[a-b-c]*\" => [a-b\\-c]*
+right a==\"*\" && b==y => y";
+    replies(rt.alloc(), lines)
 }
 
-/// Whether the one comparison of a query, a pattern, matches a text.
-fn is_matched(rt: &HostRuntime, query: &str, text: &str) -> bool {
-    match read(rt, query) {
-        Ok(query) => match query.tree() {
-            Tree::Leaf(comparison) => match &comparison.literal {
-                Literal::Pattern(pattern) => pattern.matches(text),
-                Literal::Text(_) => false,
-            },
-            _ => false,
-        },
-        Err(_) => false,
-    }
+/// A line feed separates tokens too.
+#[test]
+fn line_feeds(rt: HostRuntime) -> Result<(), Fail> {
+    let printed = match printed_twice(rt.alloc(), "\ta\n!=\r\"\" ") {
+        Err(Refusal::OutOfMemory) => printed_twice(rt.alloc(), "\ta\n!=\r\"\" ")?,
+        answer => answer?,
+    };
+    assert_eq!(rt; printed.as_str(), "\"a\"!=\"\"");
+    Ok(())
 }
 
 /// Example `patterns`, where it compares with patterns.
 #[test]
-fn patterns(rt: HostRuntime) {
-    for (query, text, want) in [
-        ("name=\"*[ch]\"", "x.c", true),
-        ("name=\"*[ch]\"", "x.C", false),
-        ("name=\"*[ch]\"", "xh", true),
-        ("name==?", "é", true),
-        ("name==\"x.[a-d]\"", "x.c", true),
-        ("name==\"x.[a-d]\"", "x.C", false),
-        ("name==\"x.[^a-d]\"", "x.c", false),
-        ("name==\"x.[^a-d]\"", "x.C", true),
-        ("name==\"x.\\*\"", "x.c", false),
-    ] {
-        assert_eq!(rt; is_matched(&rt, query, text), want, "{query} at {text}");
-    }
-}
-
-fn named(text: &str) -> Item {
-    match Name::new(text) {
-        Ok(name) => Item::Attr(name),
-        Err(_) => Item::Not,
-    }
-}
-
-fn texted(rt: &HostRuntime, text: &str) -> Item {
-    let mut s = String::new(rt.alloc());
-    append(&mut s, text);
-    Item::Text(s)
+fn patterns(rt: HostRuntime) -> Result<(), Fail> {
+    let lines = "leaf name=\"*[ch]\" x.c => yes
+leaf name=\"*[ch]\" x.C => no
+leaf name=\"*[ch]\" xh => yes
+leaf name==? é => yes
+leaf name==\"x.[a-d]\" x.c => yes
+leaf name==\"x.[a-d]\" x.C => no
+leaf name==\"x.[^a-d]\" x.c => no
+leaf name==\"x.[^a-d]\" x.C => yes
+leaf name==\"x.\\*\" x.c => no";
+    replies(rt.alloc(), lines)
 }
 
 /// The item of a word: a text behind a `'`, an operator, a number, or else a name.
-fn item_of(rt: &HostRuntime, word: &str) -> Item {
+fn item_of(alloc: Global, word: &str) -> Result<Item, Refusal> {
     if let Some(text) = word.strip_prefix("'") {
-        return texted(rt, text);
+        return Ok(Item::Text(String::from_str(alloc, text)?));
     }
     if let Some(number) = number_of(word) {
-        return numbered(number);
+        return Ok(numbered(number));
     }
     match operator_of(word) {
-        Some(item) => item,
-        None => named(word),
+        Some(item) => Ok(item),
+        None => Ok(Item::Attr(Name::new(word)?)),
     }
 }
 
@@ -351,176 +236,93 @@ fn operator_of(word: &str) -> Option<Item> {
 }
 
 /// The items of a line of words, none of an empty one.
-fn items_of(rt: &HostRuntime, line: &str) -> Vec<Item> {
-    let mut items = Vec::new(rt.alloc());
+fn items_of(alloc: Global, line: &str) -> Result<Vec<Item>, Refusal> {
+    let mut items = Vec::new(alloc);
     if line.is_empty() {
-        return items;
+        return Ok(items);
     }
     for word in line.split(' ') {
-        add(&mut items, item_of(rt, word));
+        items.push(item_of(alloc, word)?)?;
     }
-    items
+    Ok(items)
 }
 
 /// What the items of a line build.
-fn built_of(rt: &HostRuntime, line: &str) -> Result<Query, Refusal> {
-    let items = items_of(rt, line);
-    built(rt, &items)
+fn built(alloc: Global, line: &str) -> Result<Query, Refusal> {
+    let items = items_of(alloc, line)?;
+    from_rpn(alloc, &items)
 }
 
-/// Examples `predicates` and `unsigned_keys`, and each reading of a predicate that is built.
-#[test]
-fn predicates(rt: HostRuntime) {
-    for (line, want) in [
-        ("size 5 < !", "\"size\">=\"5\""),
-        ("name 'a* begins", "\"name\"==\"a\\**\""),
-        (
-            "n 18446744073709551615 <=",
-            "\"n\"<=\"18446744073709551615\"",
-        ),
-        (
-            "n -9223372036854775808 ends",
-            "\"n\"==\"*-9223372036854775808\"",
-        ),
-        ("n ' contains", "\"n\"==\"**\""),
-        (
-            "a 1 == b 2 != && c 3 >= || !",
-            "(\"a\"!=\"1\" || \"b\"==\"2\") && \"c\"<\"3\"",
-        ),
-    ] {
-        assert!(rt;
-            is_text(printed(&rt, built_of(&rt, line)), want),
-            "at {line}"
-        );
-    }
+pub(crate) fn printed_items(alloc: Global, line: &str) -> Result<String, Refusal> {
+    print(alloc, &built(alloc, line)?)
 }
 
-/// Example `predicates`: the one comparison of a query has the query's text.
-#[test]
-fn comparisons_of_predicates(rt: HostRuntime) {
-    for (line, want) in [
-        ("size 5 < !", "\"size\">=\"5\""),
-        ("name 'a* begins", "\"name\"==\"a\\**\""),
-    ] {
-        assert!(rt;
-            is_text(printed_leaf(&rt, built_of(&rt, line)), want),
-            "at {line}"
-        );
-    }
+pub(crate) fn printed_comparison(alloc: Global, line: &str) -> Result<String, Refusal> {
+    let query = built(alloc, line)?;
+    print_comparison(alloc, leaf(query.tree())?)
 }
 
-/// Example `predicates`, the pattern of its second leaf.
-#[test]
-fn pattern_of_predicate(rt: HostRuntime) {
-    assert!(rt;
-        is_text(
-            canonical_leaf(&rt, built_of(&rt, "name 'a* begins")),
-            "a\\**"
-        )
-    );
+pub(crate) fn printed_literal(alloc: Global, line: &str) -> Result<String, Refusal> {
+    let query = built(alloc, line)?;
+    pattern_of(alloc, leaf(query.tree())?)
 }
 
-/// An order operator takes its text as it is, a pattern's operator as a pattern.
+/// Whether the items of a line of pieces that are repeated build a query.
+pub(crate) fn built_times(alloc: Global, request: &str) -> Result<String, Refusal> {
+    let line = repeated(alloc, request)?;
+    let _query = built(alloc, line.as_str())?;
+    yes_or_no(alloc, true)
+}
+
+/// The canonical text of what such items build, read back.
+pub(crate) fn reread_times(alloc: Global, request: &str) -> Result<String, Refusal> {
+    let line = repeated(alloc, request)?;
+    let text = print(alloc, &built(alloc, line.as_str())?)?;
+    print(alloc, &parse(alloc, text.as_str())?)
+}
+
+/// Examples `predicates` and `unsigned_keys`, and each reading of a predicate that is built. The one comparison of a query has
+/// the query's text. An order operator takes its text as it is, a pattern's operator as a pattern.
 #[test]
-fn texts_of_predicates(rt: HostRuntime) {
-    for (line, want) in [
-        ("n 'a\\b <", "\"n\"<\"a\\\\b\""),
-        ("n 'a\\b <=", "\"n\"<=\"a\\\\b\""),
-        ("n 'a\\b >", "\"n\">\"a\\\\b\""),
-        ("n 'a\\b >=", "\"n\">=\"a\\\\b\""),
-        ("n 'a\\b ==", "\"n\"==\"ab\""),
-    ] {
-        assert!(rt;
-            is_text(printed(&rt, built_of(&rt, line)), want),
-            "at {want}"
-        );
-    }
+fn predicates(rt: HostRuntime) -> Result<(), Fail> {
+    let lines = "items size 5 < ! => \"size\">=\"5\"
+items name 'a* begins => \"name\"==\"a\\**\"
+items n 18446744073709551615 <= => \"n\"<=\"18446744073709551615\"
+items n -9223372036854775808 ends => \"n\"==\"*-9223372036854775808\"
+items n ' contains => \"n\"==\"**\"
+items a 1 == b 2 != && c 3 >= || ! => (\"a\"!=\"1\" || \"b\"==\"2\") && \"c\"<\"3\"
+items n 'a\\b < => \"n\"<\"a\\\\b\"
+items n 'a\\b <= => \"n\"<=\"a\\\\b\"
+items n 'a\\b > => \"n\">\"a\\\\b\"
+items n 'a\\b >= => \"n\">=\"a\\\\b\"
+items n 'a\\b == => \"n\"==\"ab\"
+comparison size 5 < ! => \"size\">=\"5\"
+comparison name 'a* begins => \"name\"==\"a\\**\"
+literal name 'a* begins => a\\**";
+    replies(rt.alloc(), lines)
 }
 
 /// Example `predicates`, and the order of the refusals of a predicate.
 #[test]
-fn refused_predicates(rt: HostRuntime) {
-    for (line, want) in [
-        ("a", Refusal::BadRpn(1)),
-        ("&&", Refusal::BadRpn(0)),
-        ("", Refusal::BadRpn(0)),
-        ("1 a ==", Refusal::BadRpn(2)),
-        ("a '[z-a] ==", Refusal::BadPattern(2)),
-        ("a 'x\0 ==", Refusal::BadRpn(1)),
-        ("a 1 == b 1 ==", Refusal::BadRpn(6)),
-    ] {
-        assert_eq!(rt; refusal(built_of(&rt, line)), Some(want), "at {line}");
-    }
+fn refused_predicates(rt: HostRuntime) -> Result<(), Fail> {
+    let lines = "items a => refused 22 BadRpn 1
+items && => refused 22 BadRpn 0
+items  => refused 22 BadRpn 0
+items 1 a == => refused 22 BadRpn 2
+items a '[z-a] == => refused 13 BadPattern 2
+items a 'x\0 == => refused 22 BadRpn 1
+items a 1 == b 1 == => refused 22 BadRpn 6";
+    replies(rt.alloc(), lines)
 }
 
-/// Adds a comparison.
-fn add_comparison(items: &mut Vec<Item>) {
-    add(items, named("a"));
-    add(items, Item::Int(1));
-    add(items, Item::Eq);
-}
-
-/// Adds a comparison and the item that joins it to the tree below.
-fn add_joined(items: &mut Vec<Item>, joint: Item) {
-    add_comparison(items);
-    add(items, joint);
-}
-
-/// A tree of so many joints of each kind in turn.
-fn nested(rt: &HostRuntime, count: usize) -> Vec<Item> {
-    let mut items = Vec::new(rt.alloc());
-    add_comparison(&mut items);
-    for i in 0..count {
-        let _ = i;
-        add_joined(&mut items, Item::Or);
-        add_joined(&mut items, Item::And);
-    }
-    items
-}
-
-/// Items may build a tree whose canonical text has more parentheses than `parse` takes.
+/// 64 things may stand on the stack, and 256 comparisons be built. Items may build a tree whose canonical text has more
+/// parentheses than `parse` takes.
 #[test]
-fn deep_predicate(rt: HostRuntime) {
-    let back = match printed(&rt, built(&rt, &nested(&rt, 65))) {
-        Ok(text) => read(&rt, &text),
-        Err(refusal) => Err(refusal),
-    };
-    assert_eq!(rt; refusal(back), Some(Refusal::TooDeep));
-}
-
-/// So many names, one above the other.
-fn stacked(rt: &HostRuntime, count: usize) -> Vec<Item> {
-    let mut items = Vec::new(rt.alloc());
-    for i in 0..count {
-        let _ = i;
-        add(&mut items, named("a"));
-    }
-    items
-}
-
-/// Comparisons, the first so many of them joined by `||`.
-fn compared(rt: &HostRuntime, joined: usize, alone: usize) -> Vec<Item> {
-    let mut items = Vec::new(rt.alloc());
-    for i in 0..joined {
-        add_comparison(&mut items);
-        if i > 0 {
-            add(&mut items, Item::Or);
-        }
-    }
-    for i in 0..alone {
-        let _ = i;
-        add_comparison(&mut items);
-    }
-    items
-}
-
-/// 64 things may stand on the stack, and 256 comparisons be built.
-#[test]
-fn predicate_limits(rt: HostRuntime) {
-    for (count, want) in [(64, Refusal::BadRpn(64)), (65, Refusal::TooDeep)] {
-        assert_eq!(rt; refusal(built(&rt, &stacked(&rt, count))), Some(want));
-    }
-    for (alone, want) in [(0, None), (1, Some(Refusal::TooMany))] {
-        assert_eq!(rt; refusal(built(&rt, &compared(&rt, 256, alone))), want);
-    }
+fn predicate_limits(rt: HostRuntime) -> Result<(), Fail> {
+    let lines = "build 63 ;a; a => refused 22 BadRpn 64
+build 64 ;a; a => refused 15 TooDeep
+build 255 ;a 1 ==; a 1 == || => yes
+build 255 ;a 1 ==; a 1 == ||; a 1 == => refused 16 TooMany
+reread 65 ;a 1 ==; a 1 == || a 1 == && => refused 15 TooDeep";
+    replies(rt.alloc(), lines)
 }

@@ -1,19 +1,10 @@
 //! Vectors from outside: keys as bytes, numbers as texts, and the limits of names and values.
 
+use super::lines::{repeated, replies, yes_or_no};
 use arrayvec::ArrayVec;
 use be_value::{Kind, Name, Refusal, Value, key_of, node_of, number_of, read_key};
+use std::alloc::Global;
 use std::test::Fail;
-
-/// A text of so many times this letter. A push is made once more where it found no memory.
-fn repeated(rt: &HostRuntime, letter: char, count: usize) -> Result<String, Fail> {
-    let mut text = String::new(rt.alloc());
-    for _ in 0..count {
-        if text.push(letter).is_err() {
-            text.push(letter)?;
-        }
-    }
-    Ok(text)
-}
 
 /// Whether these bytes are read as the pair.
 fn reads_as(bytes: &[u8], value: &Value, node: u64) -> bool {
@@ -70,11 +61,11 @@ fn wide_keys_are_these_bytes(rt: HostRuntime) {
     assert!(rt; starts_key([0, 0, 0, 0, 0, 0, 0, 5], &Value::uint64(5)));
 }
 
-#[test]
-fn longest_key(rt: HostRuntime) -> Result<(), Fail> {
-    let longest = Value::text(&repeated(&rt, 'x', 255)?)?;
-    assert_eq!(rt; key_bytes(&longest, 1).len(), 264);
-    Ok(())
+/// How many bytes the key of a long text has.
+pub(crate) fn key_length(alloc: Global, request: &str) -> Result<String, Refusal> {
+    let value = Value::text(repeated(alloc, request)?.as_str())?;
+    let length = key_bytes(&value, 1).len();
+    Ok(format!(in alloc; "{length}")?)
 }
 
 /// Bytes that are the key of no pair, and kinds that no index has.
@@ -85,92 +76,100 @@ fn keys_of_no_pair(rt: HostRuntime) {
     assert!(rt; read_key(Kind::Rawt, b"\0\0\0\0\0\0\0\x01").is_none());
 }
 
+/// The number that a text spells.
+pub(crate) fn number_spelt(alloc: Global, text: &str) -> Result<String, Refusal> {
+    match number_of(text) {
+        Some(number) => Ok(format!(in alloc; "{number}")?),
+        None => yes_or_no(alloc, false),
+    }
+}
+
 #[test]
 fn texts_spell_numbers(rt: HostRuntime) -> Result<(), Fail> {
-    let spelt = [
-        ("0", Some(0)),
-        ("-0", Some(0)),
-        ("00000000000000000005", Some(5)),
-        ("18446744073709551615", Some(18_446_744_073_709_551_615)),
-        ("18446744073709551616", None),
-        ("-9223372036854775808", Some(-9_223_372_036_854_775_808)),
-        ("-9223372036854775809", None),
-        ("000000000000000000005", None),
-        ("", None),
-        ("-", None),
-        ("+5", None),
-        ("5 ", None),
-        ("abc", None),
-    ];
-    for (text, number) in spelt {
-        assert_eq!(rt; number_of(text), number, "at {text}");
-    }
-    Ok(())
+    let lines = "number 0 => 0
+number -0 => 0
+number 00000000000000000005 => 5
+number 18446744073709551615 => 18446744073709551615
+number 18446744073709551616 => no
+number -9223372036854775808 => -9223372036854775808
+number -9223372036854775809 => no
+number 000000000000000000005 => no
+number  => no
+number - => no
+number +5 => no
+number 5  => no
+number abc => no";
+    replies(rt.alloc(), lines)
 }
 
-/// Why a call was refused, if it was.
-pub(crate) fn refusal<T: Drop>(answer: Result<T, Refusal>) -> Option<Refusal> {
-    match answer {
-        Ok(_) => None,
-        Err(refusal) => Some(refusal),
+/// Whether a name is made of a text of pieces that are repeated, and is that text.
+pub(crate) fn is_name(alloc: Global, request: &str) -> Result<String, Refusal> {
+    let text = repeated(alloc, request)?;
+    let name = Name::new(text.as_str())?;
+    yes_or_no(alloc, name.as_str() == text.as_str())
+}
+
+/// Whether such a text is a value.
+pub(crate) fn is_text(alloc: Global, request: &str) -> Result<String, Refusal> {
+    let text = repeated(alloc, request)?;
+    match Value::text(text.as_str())? {
+        Value::Cstr(made) => yes_or_no(alloc, made.as_str() == text.as_str()),
+        _ => yes_or_no(alloc, false),
     }
 }
 
-#[test]
-fn names_have_limits(rt: HostRuntime) -> Result<(), Fail> {
-    let longest = repeated(&rt, 'x', 63)?;
-    assert_eq!(rt; Name::new(&longest)?.as_str(), longest.as_str());
-    let too_long = repeated(&rt, '\0', 64)?;
-    for (text, want) in [
-        ("", Refusal::NameLength),
-        (too_long.as_str(), Refusal::NameLength),
-        ("a\0", Refusal::HasNul),
-    ] {
-        assert_eq!(rt; refusal(Name::new(text)), Some(want));
-    }
-    Ok(())
+pub(crate) fn is_mime(alloc: Global, request: &str) -> Result<String, Refusal> {
+    let made = Value::mime(repeated(alloc, request)?.as_str())?;
+    yes_or_no(alloc, made.kind() == Kind::Mims)
 }
 
-#[test]
-fn texts_have_limits(rt: HostRuntime) -> Result<(), Fail> {
-    let Value::Cstr(longest) = Value::text(&repeated(&rt, 'x', 255)?)? else {
-        return Err(Fail::from("another kind"));
+/// Whether the bytes of such a text are a raw value.
+pub(crate) fn is_raw(alloc: Global, request: &str) -> Result<String, Refusal> {
+    let made = Value::raw(repeated(alloc, request)?.as_bytes())?;
+    yes_or_no(alloc, made.kind() == Kind::Rawt)
+}
+
+/// The kind of a number: its letters, and whether an index takes it.
+pub(crate) fn kind_numbered(alloc: Global, text: &str) -> Result<String, Refusal> {
+    let Ok(number) = u8::try_from(number_of(text).unwrap_or(0)) else {
+        return yes_or_no(alloc, false);
     };
-    assert_eq!(rt; longest.as_str().len(), 255);
-    let too_long = repeated(&rt, '\0', 256)?;
-    assert_eq!(rt; refusal(Value::mime(&too_long)), Some(Refusal::DataLength));
-    assert_eq!(rt; refusal(Value::text("\0")), Some(Refusal::HasNul));
-    Ok(())
-}
-
-#[test]
-fn raw_values_have_limits(rt: HostRuntime) -> Result<(), Fail> {
-    assert_eq!(rt; Value::raw(&[0; 255])?.kind(), Kind::Rawt);
-    assert_eq!(rt; refusal(Value::raw(&[0; 256])), Some(Refusal::DataLength));
-    Ok(())
-}
-
-/// Whether the kind has this code, in letters from the last, and this number.
-fn is_kind(kind: Kind, letters: [u8; 4], number: u8) -> bool {
-    kind.code() == u32::from_le_bytes(letters)
-        && kind.number() == number
-        && Kind::numbered(number) == Some(kind)
-}
-
-#[test]
-fn kinds_are_those_of_the_be_book(rt: HostRuntime) {
-    for (kind, letters, number, indexable) in [
-        (Kind::Cstr, b"RTSC", 1, true),
-        (Kind::Long, b"GNOL", 2, true),
-        (Kind::Llng, b"GNLL", 3, true),
-        (Kind::Mims, b"SMIM", 4, false),
-        (Kind::Rawt, b"TWAR", 5, false),
-        (Kind::Ulng, b"GNLU", 6, true),
-        (Kind::Ullg, b"GLLU", 7, true),
-    ] {
-        assert!(rt; is_kind(kind, *letters, number));
-        assert_eq!(rt; kind.indexable(), indexable);
+    let Some(kind) = Kind::numbered(number) else {
+        return yes_or_no(alloc, false);
+    };
+    let number = kind.number();
+    let letters = kind.code().to_be_bytes();
+    let mut told = format!(in alloc; "{number} ")?;
+    for letter in letters {
+        told.push(char::from(letter))?;
     }
-    assert_eq!(rt; Kind::numbered(0), None);
-    assert_eq!(rt; Kind::numbered(8), None);
+    if kind.indexable() {
+        told.push_str(" indexable")?;
+    }
+    Ok(told)
+}
+
+/// Limits of names and values, and the kinds of the Be Book.
+#[test]
+fn names_and_values_have_limits(rt: HostRuntime) -> Result<(), Fail> {
+    let lines = "name 63 x => yes
+name 0 x => refused 18 NameLength
+name 64 \0 => refused 18 NameLength
+name 1 a\0 => refused 20 HasNul
+text 255 x => yes
+mime 256 \0 => refused 19 DataLength
+text 1 \0 => refused 20 HasNul
+raw 255 \0 => yes
+raw 256 \0 => refused 19 DataLength
+key 255 x => 264
+kind 1 => 1 CSTR indexable
+kind 2 => 2 LONG indexable
+kind 3 => 3 LLNG indexable
+kind 4 => 4 MIMS
+kind 5 => 5 RAWT
+kind 6 => 6 ULNG indexable
+kind 7 => 7 ULLG indexable
+kind 0 => no
+kind 8 => no";
+    replies(rt.alloc(), lines)
 }

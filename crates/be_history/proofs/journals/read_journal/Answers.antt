@@ -3,7 +3,7 @@ use Rattle.std.proofs.lemmas.Bool.Decides.{nat_tests}
 use Rattle.std.proofs.lemmas.List.Elements.{All-push}
 use Rattle.be_journal.specs.Text.{entry_line}
 use Rattle.be_journal.specs.declared.entries.Entry.{Entry}
-use Rattle.be_history.specs.History.{IsWritten}
+use Rattle.be_history.specs.History.{CanBeEntry}
 use Rattle.be_history.proofs.ReadLemmas.{first_line_left, inside, less_lines_left, line_cut, lines_read, never_some, no_lines_left}
 use Rattle.be_history.proofs.journals.read_journal.Goals as goal
 
@@ -25,7 +25,7 @@ loop-rest-preserved c =
     record {
       number = omega (arith, i.number, long);
       short = omega (arith, i.short, shorter, long);
-      written = subst (λ (es : List Entry). All IsWritten es) (sym pushed) (All-push IsWritten read entry i.written is.0);
+      written = subst (λ (es : List Entry). All CanBeEntry es) (sym pushed) (All-push CanBeEntry read entry i.written is.0);
       reads = lines_read text rest first behind read c.push.new.self.items entry i.reads c.first_line.ensures.whole line pushed;
       left = less_lines_left text rest first behind read c.push.new.self.items entry some i.left
           (line_cut (1 + length read) rest first behind (omega (arith, i.number, c.loop-rest.auto.number-fits)) c.first_line.ensures.first)

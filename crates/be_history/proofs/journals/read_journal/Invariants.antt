@@ -1,6 +1,6 @@
 use Rattle.std.proofs.Common.{◌≡◌, ◌≤◌, ◌+◌, ◌++◌, All, length}
 use Rattle.be_journal.specs.Text.{lines_from}
-use Rattle.be_history.specs.History.{IsWritten}
+use Rattle.be_history.specs.History.{CanBeEntry}
 use Rattle.be_history.proofs.ReadLemmas.{AreLeft}
 use Rattle.be_history.proofs.journals.read_journal.Given as goal
 
@@ -8,7 +8,7 @@ abbrev pub invariant-loop-rest : goal.invariant-loop-rest
 invariant-loop-rest l = record {
   number : l.number ≡ 1 + length l.entries.items;
   short : length l.entries.items + length l.rest ≤ length l.fn.text;
-  written : All IsWritten l.entries.items;
+  written : All CanBeEntry l.entries.items;
   reads : lines_from 1 l.entries.items ++ l.rest ≡ l.fn.text;
   left : AreLeft l.fn.text l.entries.items l.rest;
 }

@@ -13,8 +13,8 @@ invariant-loop-i g l = record {
   stays : g.S.Source.kept l.source ≡ g.S.Source.kept l.initial.source;
   answers : g.S.Source.answers_for l.source g.volume;
   satisfy : AllSatisfy g.volume (formula l.tree) l.found.items;
-  end : l.end ≡ comparisons (formula l.front);
-  few : l.end ≤ 256;
-  under : IsUnderOr (formula l.tree) 0 (formula l.front);
+  end : l.front.end ≡ comparisons (formula l.front.tree.now);
+  few : l.front.end ≤ 256;
+  under : IsUnderOr (formula l.tree) 0 (formula l.front.tree.now);
   reached : (k : ℕ) → k < l.i → HasReached g.volume (formula l.tree) (slice_index l.picks (length l.picks - 1 - k)) l.found.items;
 }

@@ -18,7 +18,7 @@ walk-requires g c κs within = (
     c.kind_of.ensures.answers g.volume c.requires.1.1.1.0,
     (
       sym (c.in-Some-kind_of.ensures.answer g.volume c.requires.1.1.1.0),
-      λ yes s v n p inside seen. c.requires.1.1.1.1.1.under.tells s n (c.in-Ok.ensures.decides yes s v n p inside seen),
+      λ s v n p inside seen. c.rest_of_whole-rest.ensures c.args.from (formula c.args.part.now) s n c.requires.1.1.1.1.1.under (c.in-Ok.ensures.leaves s v n p inside seen),
     ),
   ),
 )

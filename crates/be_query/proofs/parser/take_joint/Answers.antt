@@ -20,7 +20,7 @@ returns-in_ok-tree-in-Close-clause-ok c start =
     let built = close_built _ _ (level_of c.args.context.now.level) _ _ (outer_of c.args.context.now) _ _ _ t o s.tree k.tree k.level in
     let deep = deep_closed (level_of c.args.context.now.level) _ _ (outer_of c.args.context.now) _ c.args.context.now.depth c.requires.settled o c.requires.deep k.level in
     record {
-      counted = record { settled = ap (λ l. l.negations) k.level; deep = deep; shallow = omega arith; few = omega arith };
+      counted = record { named = tt; settled = ap (λ l. l.negations) k.level; deep = deep; shallow = omega arith; few = omega arith };
       built = built;
       faults = λ len xs. built_on (Joints (formula c.args.tree.value)) (level_of c.args.context.now.level) (outer_of c.args.context.now) c.args.context.now.comparisons len (record { at = c.args.at; start = start; lexeme = Whole (token_of c.args.token) }) (token_of c.args.token) xs _ c.requires.settled refl built (close_fault (token_of c.args.token) (marks_of (level_of c.args.context.now.level) (outer_of c.args.context.now)) c.args.context.now.comparisons start t);
     }

@@ -2,8 +2,9 @@ use Rattle.std.proofs.Common.{◌≡◌, arith, ap, ◌∙◌, refl, inr}
 use Rattle.be_query.specs.Building.{Values, marks_of, turned}
 use Rattle.be_query.specs.Grammar.{Leaf}
 use Rattle.be_query.specs.Lexing.{Whole}
+use Rattle.be_query.specs.Tokens.{plain}
 use Rattle.be_query.specs.View.{level_of, outer_of, token_of, formula, literal}
-use Rattle.be_query.proofs.Steps.{negations_within, built_on, value_built, deep_ended, good_value, value_refused}
+use Rattle.be_query.proofs.Steps.{negations_within, turned_leaf, built_on, value_built, deep_ended, good_value, value_refused}
 use Rattle.be_query.proofs.parser.take_value.Goals as goal
 
 pub overflow_sub-context : goal.overflow_sub-context
@@ -18,12 +19,15 @@ returns-clause-ok c =
     let k = c.in_ok-tree.ensures in
     let t = ap token_of c.in-Text.is in
     let level = level_of c.args.context.now.level in
-    let leaf : formula c.in_ok-leaf.leaf.value ≡ turned level.operand_negated (Leaf c.args.name c.args.op (literal c.in-Ok.literal)) = ap formula c.in_ok-leaf.ensures.ok ∙ c.turned_leaf.ensures in
-    let kept = leaf ∙ ap (λ v. turned level.operand_negated (Leaf c.args.name c.args.op v)) h.0 in
-    let built = value_built c.args.name c.args.op _ _ level _ (outer_of c.args.context.now) _ _ t kept k.tree k.level in
+    let name = plain c.args.name.now in
+    let made = rw c.in-Some.is at c.in_ok-made.ensures in
+    let leaf : formula c.in_ok-leaf.leaf.value ≡ turned level.operand_negated (Leaf name c.args.op (literal c.in-Ok.literal)) =
+    ap formula c.in_ok-leaf.ensures.ok ∙ (λ i. Leaf (made.0 i) (c.turned_operator-op.ensures i) (literal c.in-Ok.literal)) ∙ turned_leaf level.operand_negated name c.args.op (literal c.in-Ok.literal) in
+    let kept = leaf ∙ ap (λ v. turned level.operand_negated (Leaf name c.args.op v)) h.0 in
+    let built = value_built name c.args.op _ _ level _ (outer_of c.args.context.now) _ _ t kept k.tree k.level in
     let deep = deep_ended (level_of c.args.context.now.level) _ (outer_of c.args.context.now) c.args.context.now.depth c.requires.counted.deep k.level in
     record {
-      counted = record { settled = ap (λ l. l.negations) k.level; deep = deep; shallow = omega arith; few = omega arith };
+      counted = record { named = tt; settled = ap (λ l. l.negations) k.level; deep = deep; shallow = omega arith; few = omega arith };
       built = built;
-      faults = λ len xs. built_on (Values c.args.name c.args.op) (level_of c.args.context.now.level) (outer_of c.args.context.now) c.args.context.now.comparisons len (record { at = c.args.at; start = c.args.start; lexeme = Whole (token_of c.args.token) }) (token_of c.args.token) xs _ c.requires.counted.settled refl built (good_value c.args.op c.in-Text.raw.now (token_of c.args.token) (marks_of (level_of c.args.context.now.level) (outer_of c.args.context.now)) c.args.context.now.comparisons c.args.start t h.1 (omega arith));
+      faults = λ len xs. built_on (Values name c.args.op) (level_of c.args.context.now.level) (outer_of c.args.context.now) c.args.context.now.comparisons len (record { at = c.args.at; start = c.args.start; lexeme = Whole (token_of c.args.token) }) (token_of c.args.token) xs _ c.requires.counted.settled refl built (good_value c.args.op c.in-Text.raw.now (token_of c.args.token) (marks_of (level_of c.args.context.now.level) (outer_of c.args.context.now)) c.args.context.now.comparisons c.args.start t h.1 (omega arith));
     }

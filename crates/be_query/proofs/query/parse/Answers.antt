@@ -42,10 +42,10 @@ invariant_of-result c =
     let fin = c.in_ok-tree.ensures in
     let empty : length c.lexemes.rest.now ≡ 0 = grind (arith, c.lexemes-test.ensures) in
     let none = no_lexemes (length c.args.text.now - length c.lexemes.rest.now) c.lexemes.rest.now empty in (
-      few_spelt c.args.text.now (formula c.in_ok-tree.tree)
+      few_spelt c.args.text.now (formula c.in_ok-tree.tree.value)
           (fault_within c.args.text.now (omega arith) ∙ sym i.faults ∙ ap (fault_in (stage_of c.lexemes.parser.stage) c.lexemes.parser.context (length c.args.text.now)) none ∙ fin.ends)
-          (built_spells (tokens c.args.text.now) (parser_state c.lexemes.parser) (formula c.in_ok-tree.tree) (sym i.built ∙ ap (λ l. build_from (Some (parser_state c.lexemes.parser)) (whole l)) none) fin.ok),
-      end_kept (parser_state c.lexemes.parser) (formula c.in_ok-tree.tree) i.kept fin.ok,
+          (built_spells (tokens c.args.text.now) (parser_state c.lexemes.parser) (formula c.in_ok-tree.tree.value) (sym i.built ∙ ap (λ l. build_from (Some (parser_state c.lexemes.parser)) (whole l)) none) fin.ok),
+      end_kept (parser_state c.lexemes.parser) (formula c.in_ok-tree.tree.value) i.kept fin.ok,
     )
 
 pub returns-clause-ok : goal.returns-clause-ok
@@ -56,5 +56,5 @@ returns-clause-ok c =
     let none = no_lexemes (length c.args.text.now - length c.lexemes.rest.now) c.lexemes.rest.now empty in
     let good = fault_within c.args.text.now (omega arith) ∙ sym i.faults ∙ ap (fault_in (stage_of c.lexemes.parser.stage) c.lexemes.parser.context (length c.args.text.now)) none ∙ fin.ends in (
       good,
-      (whole_text c.args.text.now good, built_spells (tokens c.args.text.now) (parser_state c.lexemes.parser) (formula c.in_ok-tree.tree) (sym i.built ∙ ap (λ l. build_from (Some (parser_state c.lexemes.parser)) (whole l)) none) fin.ok),
+      (whole_text c.args.text.now good, built_spells (tokens c.args.text.now) (parser_state c.lexemes.parser) (formula c.in_ok-tree.tree.value) (sym i.built ∙ ap (λ l. build_from (Some (parser_state c.lexemes.parser)) (whole l)) none) fin.ok),
     )

@@ -4,5 +4,5 @@ use Rattle.be_query.specs.View.{formula}
 use Rattle.be_query.proofs.Items.{many_things, some_things}
 use Rattle.be_query.proofs.rpn.finish.Goals as goal
 
-pub returns-else-is_empty-clause-err : goal.returns-else-is_empty-clause-err
-returns-else-is_empty-clause-err c = many_things c.args.len (things_of c.args.stack.things.items) (things_of c.in-Some.rest.items) (formula c.in-Some.tree) c.in-Some.ensures (some_things c.in-Some.rest.items (grind (arith, c.if-is_empty.ensures)))
+pub returns-clause-err : goal.returns-clause-err
+returns-clause-err c = many_things c.args.len (things_of c.args.stack.now.things.items) (things_of c.pop_tree.new.things.items) (formula c.in-Some.tree) c.in-Some.ensures (some_things c.pop_tree.new.things.items (grind (arith, c.if-is_empty.ensures)))

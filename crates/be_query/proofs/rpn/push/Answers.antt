@@ -5,4 +5,4 @@ use Rattle.be_query.proofs.rpn.push.Goals as goal
 
 pub returns-clause-ok : goal.returns-clause-ok
 returns-clause-ok c =
-    ap (λ things. (c.args.stack.comparisons, things)) (ap things_of c.in_ok-push.ensures.items ∙ one_more c.args.stack.things.items c.args.thing)
+    ap (λ things. (c.args.stack.now.comparisons, things)) (ap things_of c.in_ok-push.ensures.items ∙ one_more c.args.stack.now.things.items c.args.thing)

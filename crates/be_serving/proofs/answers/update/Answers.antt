@@ -1,6 +1,6 @@
 use Rattle.std.proofs.Common.{◌≡◌, Ok, ap, ◌∙◌, sym, inl}
 use Rattle.be_query.specs.Grammar.{Formula}
-use Rattle.be_store.proofs.Answering.{scan_rises}
+use Rattle.be_serving.proofs.ScanLemmas.{scan_rises}
 use Rattle.be_volume.specs.Query.{scan}
 use Rattle.be_serving.specs.Output.{updating}
 use Rattle.be_language.specs.Reply.{updates}

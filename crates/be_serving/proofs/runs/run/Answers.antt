@@ -1,6 +1,6 @@
 use Rattle.std.proofs.Common.{ap, ◌∙◌, refl, rules, subst}
 use Rattle.std.specs.Prelude.{Err, IfErr}
-use Rattle.be_serving.specs.Run.{IsOther, Leaves}
+use Rattle.be_serving.specs.Run.{IsNotLimits, RunLeaves}
 use Rattle.be_serving.specs.Served.{known}
 use Rattle.be_serving.specs.Store.{Store, start}
 use Rattle.be_serving.specs.declared.faults.RunFault.TheVariants.{Limits, Memory}
@@ -30,7 +30,7 @@ returns-clause-output g c =
 pub returns-clause-fault : goal.returns-clause-fault
 returns-clause-fault g c =
     subst (λ (s : Store). IfErr c.serve-ran.result (λ e.
-    Leaves e s (g.R.Read.remaining c.args.reader.now) (g.W.Write.contents c.args.writer.now) (g.W.Write.contents c.serve-ran.new.writer)))
+    RunLeaves e s (g.R.Read.remaining c.args.reader.now) (g.W.Write.contents c.args.writer.now) (g.W.Write.contents c.serve-ran.new.writer)))
     (ap known c.new-server.ensures.1 ∙ c.in-Ok.ensures.opened.1) c.serve-ran.ensures.fault
 
 pub open_for_one-requires : goal.open_for_one-requires
@@ -44,4 +44,4 @@ returns-in_default-clause-limits g c = no_fault c.args.limits (Err Memory) (c.ar
 
 pub returns-clause-limits : goal.returns-clause-limits
 returns-clause-limits g c =
-    no_fault c.args.limits c.serve-ran.result (c.are_within.ensures.within (search rules)) (not_by c.serve-ran.result IsOther Limits (λ never. never) c.serve-ran.ensures.other)
+    no_fault c.args.limits c.serve-ran.result (c.are_within.ensures.within (search rules)) (not_by c.serve-ran.result IsNotLimits Limits (λ never. never) c.serve-ran.ensures.other)

@@ -1,7 +1,7 @@
-use Rattle.std.proofs.Common.{◌∙◌}
+use Rattle.std.proofs.Common.{◌≡◌, ◌∙◌}
 use Rattle.be_language.specs.View.{request_of, reply_of}
 use Rattle.be_serving.specs.View.{session}
-use Rattle.be_serving.proofs.RunLemmas.{none_of_line, none_of_reply, front_of_reply, on_err}
+use Rattle.be_serving.proofs.RunLemmas.{none_of_line, none_of_reply, front_of_reply, is_not_memory, on_err}
 use Rattle.be_serving.proofs.runs.run_line.Goals as goal
 
 pub returns-in_default-clause-err : goal.returns-in_default-clause-err
@@ -18,3 +18,6 @@ returns-clause-err g c = on_err c.put.result (λ w.
     c.args.line.now c.as_bytes.result.now (request_of c.in-Ok.request) (reply_of c.answer-reply.result)
     (g.W.Write.contents c.args.writer.now) (g.W.Write.contents c.put.new.writer) c.in-Ok.ensures c.answer-reply.ensures.replies
     (c.as_bytes.ensures.value ∙ c.in-Ok-reply_text.ensures) w) c.put.ensures.err
+
+pub returns-clause-whole : goal.returns-clause-whole
+returns-clause-whole g c = is_not_memory c.put.result (g.W.Write.contents c.put.new.writer ≡ g.W.Write.contents c.args.writer.now) c.put.ensures.fault

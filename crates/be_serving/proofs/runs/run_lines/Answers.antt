@@ -3,7 +3,7 @@ use Rattle.std.proofs.lemmas.Bool.Decides.{nat_tests}
 use Rattle.be_language.specs.Request.{lines_of}
 use Rattle.be_serving.specs.View.{session}
 use Rattle.be_serving.proofs.EndLemmas.{finish_empty}
-use Rattle.be_serving.proofs.RunLemmas.{advance, finish, nothing_yet, stop, on_ok, on_err, always_err}
+use Rattle.be_serving.proofs.RunLemmas.{advance, each_err, finish, none_further, nothing_yet, passed_up, stop, on_ok, on_err, always_err}
 use Rattle.be_serving.proofs.runs.run_lines.Goals as goal
 
 pub loop-line-init : goal.loop-line-init
@@ -52,3 +52,14 @@ returns-clause-err g c = on_err c.run_line-ran-2.result (λ w.
     (session (g.S.Server.shows c.loop-line.server) c.loop-line.client)
     (g.W.Write.contents c.args.writer.now) (g.W.Write.contents c.loop-line.writer) (g.W.Write.contents c.run_line-ran-2.new.writer)
     c.in_default.ensures.last c.loop-line.invariant.so_far w) c.run_line-ran-2.ensures.err
+
+pub returns-in_err-ran-clause-whole : goal.returns-in_err-ran-clause-whole
+returns-in_err-ran-clause-whole g c =
+    passed_up c.from_residual.result c.in_err-ran.field-0.0 _ c.from_residual.ensures.1
+    (none_further c.in_err-ran.field-0.0 (g.S.Server.shows c.args.server.now) c.args.script.now c.loop-line.rest.now (session (g.S.Server.shows c.loop-line.server) c.loop-line.client)
+    (g.W.Write.contents c.args.writer.now) (g.W.Write.contents c.loop-line.writer) (g.W.Write.contents c.run_line-ran.new.writer) c.loop-line.invariant.so_far c.in_err-ran.ensures.whole)
+
+pub returns-clause-whole : goal.returns-clause-whole
+returns-clause-whole g c =
+    each_err c.run_line-ran-2.result (λ e. none_further e (g.S.Server.shows c.args.server.now) c.args.script.now c.loop-line.rest.now (session (g.S.Server.shows c.loop-line.server) c.loop-line.client)
+    (g.W.Write.contents c.args.writer.now) (g.W.Write.contents c.loop-line.writer) (g.W.Write.contents c.run_line-ran-2.new.writer) c.loop-line.invariant.so_far) c.run_line-ran-2.ensures.whole

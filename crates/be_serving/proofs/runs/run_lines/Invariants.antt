@@ -1,5 +1,5 @@
 use Rattle.std.proofs.Common.{◌≡◌, ◌≤◌, ◌+◌, length}
-use Rattle.be_serving.specs.Run.{Wrote, Completes}
+use Rattle.be_serving.specs.Run.{Wrote, HasReplied}
 use Rattle.be_serving.specs.View.{session, queued_ops}
 use Rattle.be_serving.proofs.runs.run_lines.Given as goal
 
@@ -9,7 +9,7 @@ invariant-loop-line g l = record {
   few : length (queued_ops l.client) ≤ 64;
   stays : g.S.Server.kept l.server ≡ g.S.Server.kept l.fn.server;
   so_far : Wrote (g.W.Write.contents l.fn.writer) (g.W.Write.contents l.writer)
-      (Completes (g.S.Server.shows l.fn.server) l.script (session (g.S.Server.shows l.server) l.client) l.rest);
+      (HasReplied (g.S.Server.shows l.fn.server) l.script (session (g.S.Server.shows l.server) l.client) l.rest);
 }
 
 abbrev pub decreases-loop-line : goal.decreases-loop-line

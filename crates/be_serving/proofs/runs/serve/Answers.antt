@@ -1,8 +1,9 @@
-use Rattle.std.proofs.Common.{List, ℕ, subst, arith}
-use Rattle.be_serving.specs.Output.{IsOutputTo}
-use Rattle.be_serving.specs.Run.{Wrote}
+use Rattle.std.proofs.Common.{◌≡◌, List, ℕ, IfErr, OnErr, subst, arith}
+use Rattle.be_serving.specs.Output.{IsFrontOfOutput, IsOutputTo}
+use Rattle.be_serving.specs.Run.{AreFirstReplies, Wrote}
+use Rattle.be_serving.specs.declared.faults.RunFault.TheVariants.{Memory}
 use Rattle.be_serving.proofs.ReadLemmas.{read_by, read_late, whole_fits}
-use Rattle.be_serving.proofs.RunLemmas.{left_by, on_ok, whole_output}
+use Rattle.be_serving.proofs.RunLemmas.{left_by, left_late, on_ok, whole_output}
 use Rattle.be_serving.proofs.runs.serve.Goals as goal
 
 pub returns-in-Ok-clause-output : goal.returns-in-Ok-clause-output
@@ -30,3 +31,12 @@ returns-in-Err-clause-taken g c = read_by c.in-Err.fault (g.R.Read.remaining c.a
 
 pub returns-in-Err-clause-fault : goal.returns-in-Err-clause-fault
 returns-in-Err-clause-fault g c = left_by c.in-Err.fault (g.S.Server.shows c.args.server.now) (g.R.Read.remaining c.args.reader.now) (g.R.Read.remaining c.read_script.new.reader) (g.W.Write.contents c.args.writer.now) c.in-Err.ensures.err
+
+pub returns-in-Ok-clause-fault : goal.returns-in-Ok-clause-fault
+returns-in-Ok-clause-fault g c =
+    let store = g.S.Server.shows c.args.server.now in
+    let old = g.W.Write.contents c.args.writer.now in
+    let new = g.W.Write.contents c.run_lines.new.writer in
+    left_late c.run_lines.result store (g.R.Read.remaining c.args.reader.now) (g.R.Read.remaining c.read_script.new.reader) old new c.in-Ok.script.items c.run_lines.ensures.late c.in-Ok.ensures.ok
+    (subst (λ (script : List ℕ). OnErr c.run_lines.result (Wrote old new (IsFrontOfOutput store script))) c.deref.ensures.value c.run_lines.ensures.err)
+    (subst (λ (script : List ℕ). IfErr c.run_lines.result (λ e. e ≡ Memory → Wrote old new (AreFirstReplies store script))) c.deref.ensures.value c.run_lines.ensures.whole)

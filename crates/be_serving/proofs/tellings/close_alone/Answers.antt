@@ -1,4 +1,4 @@
-use Rattle.std.proofs.Common.{◌≡◌, ℕ, List, inl, sym, ap, ◌∙◌, subst, arith, map}
+use Rattle.std.proofs.Common.{◌≡◌, ℕ, List, inl, sym, ◌∙◌, subst, arith, map}
 use Rattle.be_journal.specs.Journal.{by_pass}
 use Rattle.be_store.proofs.Alone.{by_one}
 use Rattle.be_table.specs.History.{AllBelow}

@@ -1,4 +1,4 @@
-use Rattle.std.proofs.Common.{List, ℕ, ap, ◌∙◌, refl, rules, subst, arith}
+use Rattle.std.proofs.Common.{List, ℕ, refl, rules, subst, arith}
 use Rattle.std.specs.Prelude.{Err, IfOk, OnErr, ◌≡◌, true}
 use Rattle.be_serving.specs.Run.{Wrote, IsEarly, IsLate}
 use Rattle.be_serving.specs.Telling.{IsToldInPart, IsToldRun}
@@ -29,8 +29,8 @@ pub returns-in-Ok-clause-told : goal.returns-in-Ok-clause-told
 returns-in-Ok-clause-told g c =
     let old = g.W.Write.contents c.args.writer.now in
     let new = g.W.Write.contents c.run_on_new.new.writer in
-    told_of_reader c.run_on_new.result c.args.limits.commits (g.R.Read.remaining c.args.reader.now) (g.R.Read.remaining c.read_script.new.reader) old new c.in-Ok.script.items c.in-Ok.ensures.ok
-    (subst (λ (script : List ℕ). IfOk c.run_on_new.result (λ legal. (legal ≡ true) × Wrote old new (IsToldRun c.args.limits.commits script))) c.deref.ensures.value c.run_on_new.ensures.told)
+    told_of_reader c.run_on_new.result c.args.limits (g.R.Read.remaining c.args.reader.now) (g.R.Read.remaining c.read_script.new.reader) old new c.in-Ok.script.items c.in-Ok.ensures.ok
+    (subst (λ (script : List ℕ). IfOk c.run_on_new.result (λ legal. (legal ≡ true) × Wrote old new (IsToldRun c.args.limits script))) c.deref.ensures.value c.run_on_new.ensures.told)
 
 pub returns-in-Ok-clause-fits : goal.returns-in-Ok-clause-fits
 returns-in-Ok-clause-fits g c =
@@ -41,13 +41,13 @@ pub returns-in-Ok-clause-fault : goal.returns-in-Ok-clause-fault
 returns-in-Ok-clause-fault g c =
     let old = g.W.Write.contents c.args.writer.now in
     let new = g.W.Write.contents c.run_on_new.new.writer in
-    stops_late c.run_on_new.result c.args.limits.commits (g.R.Read.remaining c.args.reader.now) (g.R.Read.remaining c.read_script.new.reader) old new c.in-Ok.script.items
+    stops_late c.run_on_new.result c.args.limits (g.R.Read.remaining c.args.reader.now) (g.R.Read.remaining c.read_script.new.reader) old new c.in-Ok.script.items
     c.run_on_new.ensures.late c.in-Ok.ensures.ok
-    (subst (λ (script : List ℕ). OnErr c.run_on_new.result (Wrote old new (IsToldInPart c.args.limits.commits script))) c.deref.ensures.value c.run_on_new.ensures.err)
+    (subst (λ (script : List ℕ). OnErr c.run_on_new.result (Wrote old new (IsToldInPart c.args.limits script))) c.deref.ensures.value c.run_on_new.ensures.err)
 
 pub returns-in-Err-clause-fault : goal.returns-in-Err-clause-fault
 returns-in-Err-clause-fault g c =
-    stops_early c.in-Err.fault c.args.limits.commits (g.R.Read.remaining c.args.reader.now) (g.R.Read.remaining c.read_script.new.reader) (g.W.Write.contents c.args.writer.now) c.in-Err.ensures.err
+    stops_early c.in-Err.fault c.args.limits (g.R.Read.remaining c.args.reader.now) (g.R.Read.remaining c.read_script.new.reader) (g.W.Write.contents c.args.writer.now) c.in-Err.ensures.err
 
 pub returns-in-Ok-clause-taken : goal.returns-in-Ok-clause-taken
 returns-in-Ok-clause-taken g c =

@@ -1,5 +1,6 @@
-use Rattle.std.proofs.Common.{◌≡◌, ℕ, sym, ap, ◌∙◌, subst}
+use Rattle.std.proofs.Common.{sym, ap, ◌∙◌, subst}
 use Rattle.be_table.specs.Place.{Opened}
+use Rattle.be_table.specs.Versions.{CanSpellEach}
 use Rattle.be_store.specs.Passes.{IsPassOf}
 use Rattle.be_serving.specs.Served.{known}
 use Rattle.be_serving.specs.Store.{Store}
@@ -21,32 +22,32 @@ returns-clause-told g c =
     let holds = g.W.Write.contents in
     on_both c.put_result.result c.put_result.ensures.ok c.put_result.ensures.ok (λ legal is _. (
       is.0,
-      told_run c.args.limits.commits c.args.script.now c.new-server.result.knows c.run_lines.new.server.knows c.into_pass-pass.result.knows c.in_ok-journal.journal.entries
+      told_run c.args.limits c.args.script.now c.new-server.result.knows c.run_lines.new.server.knows c.into_pass-pass.result.knows c.in_ok-journal.journal.entries
           (holds c.args.writer.now) (holds c.run_lines.new.writer) (holds c.put_result.new.writer)
           (ap (λ k. known k) c.new-server.ensures.1 ∙ c.in-Ok.ensures.opened.1) c.into_pass-pass.ensures.1 c.in_ok-journal.ensures.all c.in_ok-journal.ensures.legal
-          c.in_ok-run_lines.ensures.ok is.1,
+          (subst (λ n. CanSpellEach n c.in_ok-journal.journal.entries) c.in-Ok.ensures.pages c.in_ok-journal.ensures.volumes) c.in_ok-run_lines.ensures.ok is.1,
     ))
 
 pub returns-in_default-clause-err : goal.returns-in_default-clause-err
-returns-in_default-clause-err g c = nothing_told c.args.limits.commits c.args.script.now (g.W.Write.contents c.args.writer.now)
+returns-in_default-clause-err g c = nothing_told c.args.limits c.args.script.now (g.W.Write.contents c.args.writer.now)
 
 pub returns-in_err-run_lines-clause-err : goal.returns-in_err-run_lines-clause-err
 returns-in_err-run_lines-clause-err g c =
     let holds = g.W.Write.contents in
-    always_err _ (told_replies c.args.limits.commits c.args.script.now (known c.new-server.result.knows) (holds c.args.writer.now) (holds c.run_lines.new.writer)
+    always_err _ (told_replies c.args.limits c.args.script.now (known c.new-server.result.knows) (holds c.args.writer.now) (holds c.run_lines.new.writer)
     (ap (λ k. known k) c.new-server.ensures.1 ∙ c.in-Ok.ensures.opened.1) c.in_err-run_lines.ensures.err)
 
 pub returns-in_err-journal-clause-err : goal.returns-in_err-journal-clause-err
 returns-in_err-journal-clause-err g c =
     let holds = g.W.Write.contents in
-    always_err _ (told_all_replies c.args.limits.commits c.args.script.now (known c.new-server.result.knows) (known c.run_lines.new.server.knows)
+    always_err _ (told_all_replies c.args.limits c.args.script.now (known c.new-server.result.knows) (known c.run_lines.new.server.knows)
     (holds c.args.writer.now) (holds c.run_lines.new.writer) (ap (λ k. known k) c.new-server.ensures.1 ∙ c.in-Ok.ensures.opened.1) c.in_ok-run_lines.ensures.ok)
 
 pub returns-clause-err : goal.returns-clause-err
 returns-clause-err g c =
     let holds = g.W.Write.contents in
     on_err c.put_result.result (
-    told_in_part c.args.limits.commits c.args.script.now c.new-server.result.knows c.run_lines.new.server.knows c.into_pass-pass.result.knows c.in_ok-journal.journal.entries
+    told_in_part c.args.limits c.args.script.now c.new-server.result.knows c.run_lines.new.server.knows c.into_pass-pass.result.knows c.in_ok-journal.journal.entries
     (holds c.args.writer.now) (holds c.run_lines.new.writer) (holds c.put_result.new.writer)
     (ap (λ k. known k) c.new-server.ensures.1 ∙ c.in-Ok.ensures.opened.1) c.into_pass-pass.ensures.1 c.in_ok-journal.ensures.all c.in_ok-journal.ensures.legal
-    c.in_ok-run_lines.ensures.ok) c.put_result.ensures.err
+    (subst (λ n. CanSpellEach n c.in_ok-journal.journal.entries) c.in-Ok.ensures.pages c.in_ok-journal.ensures.volumes) c.in_ok-run_lines.ensures.ok) c.put_result.ensures.err

@@ -5,7 +5,7 @@ use Rattle.be_serving.specs.Store.{start}
 use Rattle.be_serving.specs.View.{session}
 use Rattle.be_serving.proofs.LimitLemmas.{served_spelt}
 use Rattle.be_serving.specs.declared.faults.RunFault.{RunFault}
-use Rattle.be_shell.specs.Conversation.{BrokeOff, Stops, TalkedTo}
+use Rattle.be_shell.specs.Conversation.{BrokeOff, ShellLeaves, TalkedTo}
 use Rattle.be_shell.proofs.TalkLemmas.{passed_up}
 use Rattle.be_shell.proofs.shells.shell.Goals as goal
 
@@ -33,7 +33,7 @@ pub returns-in_err-converse-clause-fault : goal.returns-in_err-converse-clause-f
 returns-in_err-converse-clause-fault g c =
     let opened = c.new-client.ensures.opening (known c.new-server.result.knows) ∙ ap opening (ap known c.new-server.ensures.1 ∙ c.in-Ok.ensures.opened.1) in
     passed_up c.from_residual.result c.in_err-converse.field-0.0
-    (λ (e : RunFault). Stops g.F.Peer.does g.P.Peer.does e (opening (start c.args.limits.commits)) c.args.first.now c.converse.new.peer c.args.peer.now c.args.peer.now)
+    (λ (e : RunFault). ShellLeaves g.F.Peer.does g.P.Peer.does e (opening (start c.args.limits.commits)) c.args.first.now c.converse.new.peer c.args.peer.now c.args.peer.now)
     c.from_residual.ensures.1
     (inr (inl (subst (λ (s : Session). BrokeOff g.F.Peer.does c.in_err-converse.field-0.0 s c.args.first.now c.converse.new.peer) opened c.in_err-converse.ensures.broke, refl)))
 
@@ -42,6 +42,6 @@ returns-in_err-converse-2-clause-fault g c =
     let opened = c.new-client.ensures.opening (known c.new-server.result.knows) ∙ ap opening (ap known c.new-server.ensures.1 ∙ c.in-Ok.ensures.opened.1) in
     let mid = session (known c.converse.new.server.knows) c.converse.new.client in
     passed_up c.from_residual-in_err-converse-2.result c.in_err-converse-2.field-0.0
-    (λ (e : RunFault). Stops g.F.Peer.does g.P.Peer.does e (opening (start c.args.limits.commits)) c.args.first.now c.converse.new.peer c.args.peer.now c.converse-2.new.peer)
+    (λ (e : RunFault). ShellLeaves g.F.Peer.does g.P.Peer.does e (opening (start c.args.limits.commits)) c.args.first.now c.converse.new.peer c.args.peer.now c.converse-2.new.peer)
     c.from_residual-in_err-converse-2.ensures.1
     (inr (inr (mid, subst (λ (s : Session). TalkedTo g.F.Peer.does s c.args.first.now mid c.converse.new.peer) opened c.in_ok-converse.ensures.talked, c.in_err-converse-2.ensures.broke)))

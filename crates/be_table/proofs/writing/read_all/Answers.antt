@@ -1,7 +1,7 @@
 use Rattle.std.proofs.Common.{◌+◌, [], ◌∷◌, ◌++◌, refl, sym, ap, ◌∙◌, subst, arith, length-append}
 use Rattle.be_table.specs.Rule.{pass_of}
-use Rattle.be_table.specs.Steps.{IsLeastAnnounced, IsOwnPart, IsPart}
-use Rattle.be_table.proofs.Scans.{me_next, part_none, part_step, least_none, least_more, own_none, own_step, own_all, found_own}
+use Rattle.be_table.specs.Steps.{IsLeastAnnounced, IsPart}
+use Rattle.be_table.proofs.Scans.{IsOwnPart, me_next, part_none, part_step, least_none, least_more, own_none, own_step, own_all, found_own}
 use Rattle.be_table.proofs.writing.read_all.Goals as goal
 
 pub loop-pass-init : goal.loop-pass-init

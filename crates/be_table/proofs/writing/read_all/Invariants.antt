@@ -1,6 +1,7 @@
 use Rattle.std.proofs.Common.{◌≡◌, [], ◌∷◌, length, ℕ, List}
 use Rattle.be_table.specs.Rule.{pass_of}
-use Rattle.be_table.specs.Steps.{scans_all, IsLeastAnnounced, IsOwnPart, IsPart}
+use Rattle.be_table.specs.Steps.{scans_all, IsLeastAnnounced, IsPart}
+use Rattle.be_table.proofs.Scans.{IsOwnPart}
 use Rattle.be_table.proofs.writing.read_all.Given as goal
 
 abbrev pub invariant-loop-pass : goal.invariant-loop-pass

@@ -12,6 +12,9 @@ use Rattle.be_paged.proofs.paged_source.PagedSourceSource.has_key.Goals as goal
 nowhere : Entry
 nowhere = record { name = []; kind = kinds.Cstr; root = 0 }
 
+pub find_index-requires : goal.find_index-requires
+find_index-requires g c = record { version = (c.requires.0, c.requires.1.version) }
+
 pub has_key-requires : goal.has_key-requires
 has_key-requires g c =
     let self = c.args.self.now in

@@ -11,6 +11,9 @@ use Rattle.be_paged.proofs.paged_source.PagedSourceSource.kind_of.Goals as goal
 nowhere : Entry
 nowhere = record { name = []; kind = kinds.Cstr; root = 0 }
 
+pub find_index-requires : goal.find_index-requires
+find_index-requires g c = record { version = (c.requires.0, c.requires.1.version) }
+
 pub returns-in-Some-clause-answer : goal.returns-in-Some-clause-answer
 returns-in-Some-clause-answer g c = λ volume of.
     let self = c.args.self.now in

@@ -20,6 +20,9 @@ use Rattle.be_paged.proofs.paged_source.PagedSourceSource.next_key.Goals as goal
 nowhere : Entry
 nowhere = record { name = []; kind = kinds.Cstr; root = 0 }
 
+pub find_index-requires : goal.find_index-requires
+find_index-requires g c = record { version = (c.requires.0, c.requires.1.version) }
+
 pub returns-in_default-clause-answer : goal.returns-in_default-clause-answer
 returns-in_default-clause-answer g c = λ volume of k is.
     let self = c.args.self.now in

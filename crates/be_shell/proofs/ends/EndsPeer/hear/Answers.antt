@@ -1,5 +1,5 @@
 use Rattle.be_serving.proofs.RunLemmas.{always_err}
-use Rattle.be_shell.specs.Bytes.{Hears, Moves}
+use Rattle.be_shell.specs.Bytes.{Hears, ChangesBytes}
 use Rattle.be_shell.specs.Conversation.{hearing}
 use Rattle.be_shell.proofs.LineLemmas.{hears_moves, if_ok, keeps_itself}
 use Rattle.be_shell.proofs.ends.EndsPeer.hear.Goals as goal
@@ -9,7 +9,7 @@ returns-clause-heard g c =
     let left = g.R.Read.remaining c.args.self.now.reader in
     let left' = g.R.Read.remaining c.hear_line.new.reader in
     let told = g.W.Write.contents c.args.self.now.writer in
-    if_ok c.hear_line.result (λ next. Hears left left' (hearing next)) (λ next. Moves left left' told told (hearing next))
+    if_ok c.hear_line.result (λ next. Hears left left' (hearing next)) (λ next. ChangesBytes left left' told told (hearing next))
     (λ next h. hears_moves left left' told (hearing next) h) c.hear_line.ensures.heard
 
 pub returns-clause-deaf : goal.returns-clause-deaf

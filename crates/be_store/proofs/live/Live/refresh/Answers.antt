@@ -2,11 +2,11 @@ use Rattle.std.proofs.Common.{sym, ap, ◌∙◌}
 use Rattle.be_volume.specs.Query.{scan}
 use Rattle.be_store.specs.Live.{LiveQuery}
 use Rattle.be_store.specs.Passes.{volume_pinned}
-use Rattle.be_store.proofs.Answering.{scan_rises, refreshes, if_ok}
+use Rattle.be_store.proofs.Answering.{refreshes, if_ok}
 use Rattle.be_store.proofs.live.Live.refresh.Goals as goal
 
 pub update-requires : goal.update-requires
-update-requires c = scan_rises (volume_pinned c.args.pass.now.knows) c.self.inside.query _ c.in_ok-answer.ensures.nodes
+update-requires c = c.in_ok-answer.ensures.rising
 
 pub returns-clause-ok : goal.returns-clause-ok
 returns-clause-ok c = if_ok c.update.result _ _ (λ u h.

@@ -12,7 +12,6 @@ use Rattle.be_table.specs.Reading.{word_in}
 use Rattle.be_table.specs.Steps.{IsPass, commit_of, pages_from, publishes}
 use Rattle.be_table.specs.Versions.{SpellsVolume}
 use Rattle.be_table.proofs.Keeping.{spells_kept}
-use Rattle.be_journal.proofs.LegalLemmas.{replay_push}
 use Rattle.be_table.proofs.Frames.{entries-append}
 use Rattle.be_table.proofs.Answers.{answers_each}
 use Rattle.be_table.proofs.Opened.{seen_length}
@@ -20,8 +19,8 @@ use Rattle.be_table.proofs.PinMarks.{pin_stays}
 use Rattle.be_table.proofs.Publishing.{last_page}
 use Rattle.be_table.proofs.writing.Writing.publish.Goals as goal
 
-pub announce-requires-clause-pass : goal.announce-requires-clause-pass
-announce-requires-clause-pass c =
+pub store_version-requires-clause-pass : goal.store_version-requires-clause-pass
+store_version-requires-clause-pass c =
     let i = c.self.invariant in let w = c.self.inside in let a = pass_of w.base.me.0 in
     let k : a ≡ c.args.self.now.knows = ap (λ (x : Work). x.knows) c.self.view_is in
     let e : Entry = record { by = w.marks.number; ops = c.args.ops.now; dones = c.args.dones.now } in
@@ -39,7 +38,7 @@ announce-requires-clause-pass c =
         inside = subst (λ (n : Knowledge). c.args.page < length n.places) (sym k) c.is_filled.ensures.0;
         filled = ap (λ (n : Knowledge). place_of n.places c.args.page) k ∙ c.is_filled.ensures.1;
         spelt = subst (λ (n : Knowledge). SpellsVolume (pages_from is_of_next 0 n.places) (word_in n.words) c.args.page (replay (entries n.seen ++ e ∷ []))) (sym k)
-            (subst (λ s. SpellsVolume (pages_from is_of_next 0 n0.places) (word_in n0.words) c.args.page s) (sym (replay_push (entries n0.seen) e))
+            (subst (λ s. SpellsVolume (pages_from is_of_next 0 n0.places) (word_in n0.words) c.args.page s) (sym (c.replay_push.ensures (entries n0.seen) e))
             (spells_kept n0.places few c.requires.filled (word_in n0.words) c.args.page _ c.requires.volume c.requires.exact));
       },
     )
@@ -50,12 +49,12 @@ invariant_of-self c =
     let e : Entry = record { by = w.marks.number; ops = c.args.ops.now; dones = c.args.dones.now } in
     let b = publishes a e c.args.page in
     let commit = commit_of a e c.args.page in
-    let m : c.announce.new.base.me ≡ (b ∷ [], (0, None) ∷ []) = c.announce.ensures.me ∙ ap (λ l. (b ∷ [], l)) (ap (λ m. m.1) i.me_is) in
-    let k : pass_of c.announce.new.base.me.0 ≡ b = ap (λ m. pass_of m.0) m in
+    let m : c.store_version.new.base.me ≡ (b ∷ [], (0, None) ∷ []) = c.store_version.ensures.me ∙ ap (λ l. (b ∷ [], l)) (ap (λ m. m.1) i.me_is) in
+    let k : pass_of c.store_version.new.base.me.0 ≡ b = ap (λ m. pass_of m.0) m in
     let long : length w.ledger.journal.entries ≡ length a.seen = ap length i.journal ∙ seen_length a.seen in
     let places = c.append.ensures.places in
     record {
-      table_is = c.announce.ensures.seat.0 ∙ i.table_is;
+      table_is = c.store_version.ensures.seat.0 ∙ i.table_is;
       me_is = m ∙ sym (ap (λ (x : Knowledge). (x ∷ [], (0, None) ∷ [])) k);
       number_is = ap (λ (x : Knowledge). x.number) k ∙ i.number_is;
       limits_are = ap (λ (x : Knowledge). x.limits) k ∙ i.limits_are;
@@ -68,7 +67,7 @@ invariant_of-self c =
       size = ap (λ (x : Knowledge). length x.words) k ∙ i.size;
       turn = ap (λ (x : Knowledge). x.scanned) k ∙ i.turn;
       pin = i.pin ∙ sym (pin_stays a.phase a.seen b.seen i.pass.pin (commit ∷ [], refl)) ∙ sym (ap (λ (x : Knowledge). pin_of x.phase x.seen) k);
-      pass = subst IsPass (sym k) c.announce.ensures.pass;
+      pass = subst IsPass (sym k) c.store_version.ensures.pass;
       limit = ap (λ j. j.limit) c.append.ensures.journal ∙ i.limit;
       room = λ some. absurd (omega (arith, some));
     }
@@ -83,4 +82,4 @@ append-requires-clause-room c =
 pub append-requires-clause-newest : goal.append-requires-clause-newest
 append-requires-clause-newest c =
     let i = c.self.invariant in let a = pass_of c.self.inside.base.me.0 in
-    λ q. let n = c.announce.ensures.newest q in let places = ap (λ l. number_of l q) i.places in let long = ap length i.journal ∙ seen_length a.seen in omega arith
+    λ q. let n = c.store_version.ensures.newest q in let places = ap (λ l. number_of l q) i.places in let long = ap length i.journal ∙ seen_length a.seen in omega arith
