@@ -2,6 +2,7 @@ pub mod CoverLemmas
 pub mod DumpLemmas
 pub mod EndLemmas
 pub mod FileLemmas
+pub mod GateLemmas
 pub mod JoinLemmas
 pub mod LimitLemmas
 pub mod LineLemmas

@@ -34,14 +34,17 @@ each_pushed P (y ∷ ys) x each last zero d h = each zero d (omega arith)
 each_pushed P (y ∷ ys) x each last (suc k) d h = each_pushed (λ n. P (suc n)) ys x (λ n e b. each (suc n) e (omega arith)) last k d (omega arith)
 
 -- the promise of one more thread
-pub each_promised : {H S : Type 0} (store_of : H → Opened) (number_of : H → ℕ) (script_of : H → S) (store : Opened) (scripts : List S) (threads : List H) (thread : H) (more : List H) →
-    ((k : ℕ) (t : H) (s : S) → k < length threads → (store_of (get_or threads k t) ≡ store) × (number_of (get_or threads k t) ≡ k) × (script_of (get_or threads k t) ≡ get_or scripts k s)) →
-    store_of thread ≡ store → number_of thread ≡ length threads → ((s : S) → script_of thread ≡ get_or scripts (length threads) s) → more ≡ threads ++ thread ∷ [] →
-    (k : ℕ) (t : H) (s : S) → k < length more → (store_of (get_or more k t) ≡ store) × (number_of (get_or more k t) ≡ k) × (script_of (get_or more k t) ≡ get_or scripts k s)
-each_promised {H} {S} store_of number_of script_of store scripts threads thread more each of_store of_number of_script is k t s below =
-    let P : ℕ → H → Type 0 = λ n h. (u : S) → (store_of h ≡ store) × (number_of h ≡ n) × (script_of h ≡ get_or scripts n u) in
+pub each_promised : {H S X : Type 0} (store_of : H → Opened) (number_of : H → ℕ) (script_of : H → S) (gate_of : H → X) (store : Opened) (scripts : List S) (gate : X)
+    (threads : List H) (thread : H) (more : List H) →
+    ((k : ℕ) (t : H) (s : S) → k < length threads →
+    (store_of (get_or threads k t) ≡ store) × (number_of (get_or threads k t) ≡ k) × (script_of (get_or threads k t) ≡ get_or scripts k s) × (gate_of (get_or threads k t) ≡ gate)) →
+    store_of thread ≡ store → number_of thread ≡ length threads → ((s : S) → script_of thread ≡ get_or scripts (length threads) s) → gate_of thread ≡ gate →
+    more ≡ threads ++ thread ∷ [] → (k : ℕ) (t : H) (s : S) → k < length more →
+    (store_of (get_or more k t) ≡ store) × (number_of (get_or more k t) ≡ k) × (script_of (get_or more k t) ≡ get_or scripts k s) × (gate_of (get_or more k t) ≡ gate)
+each_promised {H} {S} store_of number_of script_of gate_of store scripts gate threads thread more each of_store of_number of_script of_gate is k t s below =
+    let P : ℕ → H → Type 0 = λ n h. (u : S) → (store_of h ≡ store) × (number_of h ≡ n) × (script_of h ≡ get_or scripts n u) × (gate_of h ≡ gate) in
     let all : (n : ℕ) (h : H) → n < length (threads ++ thread ∷ []) → P n (get_or (threads ++ thread ∷ []) n h) =
-    each_pushed P threads thread (λ n h b u. each n h u b) (λ u. (of_store, of_number, of_script u)) in
+    each_pushed P threads thread (λ n h b u. each n h u b) (λ u. (of_store, of_number, of_script u, of_gate)) in
     let whole : (n : ℕ) (h : H) → n < length more → P n (get_or more n h) = subst (λ hs. (n : ℕ) (h : H) → n < length hs → P n (get_or hs n h)) (sym is) all in
     whole k t below s
 
@@ -49,6 +52,10 @@ each_promised {H} {S} store_of number_of script_of store scripts threads thread 
 pub on_both : {X E : Type 0} {P Q R : X → Type 0} (r : Result X E) → IfOk r P → IfOk r Q → ((x : X) → P x → Q x → R x) → IfOk r R
 on_both (Ok x) p q f = f x p q
 on_both (Err e) p q f = tt
+
+-- what is so where there is an answer is so of this one
+on_at_ok : {X E : Type 0} {r : Result X E} {x : X} (P : Type 0) → r ≡ Ok x → OnOk r P → P
+on_at_ok P is h = subst (λ r. OnOk r P) is h
 
 -- a new pass sees an empty store
 pub from_new : {X E : Type 0} (text : X → List ℕ) (limits : Limits) (steps k : ℕ) (a c : Knowledge) (script : List ℕ) (r : Result X E) → a ≡ newcomer limits steps k → c.number ≡ k →
@@ -71,10 +78,18 @@ replied_by limits journal k script text a number o seen own = record {
   own = subst (λ n. by_pass n journal ≡ a.mine) number own ∙ sym o.mine;
 }
 
-module _ {V E : Type 0} (store : Opened) (items : V → List ℕ) where
+module _ {V E : Type 0} (store : Opened) (items : V → List ℕ) (Told : ℕ → List ℕ → Type 0) where
   -- what the thread of the pass k has promised
   abbrev pub EndsAs : ℕ → V → SeatFacts × Result V E → Type 0
-  EndsAs k script o = IsPassOf store o.0 × (o.0.knows.number ≡ k) × IfOk o.1 (λ text. IsOutcome store.limits k (items script) o.0.knows (items text))
+  EndsAs k script o =
+      IsPassOf store o.0 × (o.0.knows.number ≡ k) × IfOk o.1 (λ text. IsOutcome store.limits k (items script) o.0.knows (items text)) × OnOk o.1 (Told k (items script))
+
+  -- the gate was told of one script more
+  told_each : (k : ℕ) (script : List ℕ) (scripts : List (List ℕ)) → Told k script → ((i : ℕ) → i < length scripts → Told ((k + 1) + i) (slice_index_or scripts i [])) →
+      (i : ℕ) → i < length (script ∷ scripts) → Told (k + i) (slice_index_or (script ∷ scripts) i [])
+  told_each k script scripts here behind zero below = subst (λ n. Told n script) (sym (add-zero k)) here
+  told_each k script scripts here behind (suc i) below =
+      let e : (k + 1) + i ≡ k + suc i = omega arith in subst (λ n. Told n (slice_index_or scripts i [])) e (behind i (omega (arith, below)))
 
   -- the outcomes from the number k on, none of which is a fault
   pub served_from : (k : ℕ) (scripts : List V) (outcomes : List (SeatFacts × Result V E)) (texts : List V) → length outcomes ≡ length scripts →
@@ -82,7 +97,8 @@ module _ {V E : Type 0} (store : Opened) (items : V → List ℕ) where
       map Ok texts ≡ map (λ (o : SeatFacts × Result V E). o.1) outcomes →
       HaveServed store k (map items scripts) (map (λ (o : SeatFacts × Result V E). o.0) outcomes)
       × AreRepliesOf store.limits k (map items scripts) (map (λ (o : SeatFacts × Result V E). o.0) outcomes) (map items texts)
-  served_from k [] [] [] count each all = (tt, λ journal keeps. tt)
+      × ((i : ℕ) → i < length (map items scripts) → Told (k + i) (slice_index_or (map items scripts) i []))
+  served_from k [] [] [] count each all = (tt, λ journal keeps. tt, λ i below. absurd (omega (arith, below)))
   served_from k [] [] (t ∷ ts) count each all = cc
   served_from k [] (o ∷ os) texts count each all = absurd (omega (arith, count))
   served_from k (s ∷ ss) [] texts count each all = absurd (omega (arith, count))
@@ -96,13 +112,17 @@ module _ {V E : Type 0} (store : Opened) (items : V → List ℕ) where
       let e : k + suc i ≡ (k + 1) + i = omega arith in subst (λ n. EndsAs n (get_or ss i u) (get_or os i d)) e (each (suc i) d u (omega arith))) rest in (
         (record { pass = here.0; number = here.1; own = told.own }, behind.0),
         (λ journal keeps. (replied_by store.limits journal k (items s) (items t) o.0.knows here.1 told keeps.0 keeps.1, behind.1 journal keeps.2)),
+        told_each k (items s) (map items ss) (on_at_ok (Told k (items s)) (sym first) here.3) behind.2,
       )
 
 -- an end is one by equal promises
-pub same_end : {V E : Type 0} (items : V → List ℕ) (store store' : Opened) (k k' : ℕ) (script script' : V) (o : SeatFacts × Result V E) → store ≡ store' → k ≡ k' → script ≡ script' →
-    EndsAs store items k script o → EndsAs store' items k' script' o
-same_end items store store' k k' script script' o of_store of_number of_script end =
-    subst (λ s. EndsAs s items k' script' o) of_store (subst (λ n. EndsAs store items n script' o) of_number (subst (λ v. EndsAs store items k v o) of_script end))
+pub same_end : {V E X : Type 0} (items : V → List ℕ) (Told : X → ℕ → List ℕ → Type 0) (store store' : Opened) (k k' : ℕ) (script script' : V) (gate gate' : X)
+    (o : SeatFacts × Result V E) → store ≡ store' → k ≡ k' → script ≡ script' → gate ≡ gate' →
+    EndsAs store items (Told gate) k script o → EndsAs store' items (Told gate') k' script' o
+same_end items Told store store' k k' script script' gate gate' o of_store of_number of_script of_gate end =
+    subst (λ g. EndsAs store' items (Told g) k' script' o) of_gate
+    (subst (λ s. EndsAs s items (Told gate) k' script' o) of_store
+    (subst (λ n. EndsAs store items (Told gate) n script' o) of_number (subst (λ v. EndsAs store items (Told gate) k v o) of_script end)))
 
 -- nothing of a text was written
 pub none_of_text : (bytes : List ℕ) (known : Option (List ℕ)) → Wrote known known (IsFrontOf bytes)

@@ -1,3 +1,4 @@
+pub mod Gates
 pub mod Output
 pub mod Own
 pub mod Race

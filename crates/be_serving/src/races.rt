@@ -13,6 +13,7 @@ ghost use Rattle.std.specs.Io.KnownBytes.{Appends};
 ghost use Rattle.std.specs.List.{list_any};
 ghost use Rattle.be_journal.specs.Journal.{IsLegal};
 ghost use Rattle.be_journal.specs.Text.{result_text};
+ghost use Rattle.be_serving.specs.Gates.{AreAllTold, AreTold, line_count};
 ghost use Rattle.be_serving.specs.Race.{IsOutcome, AreRepliesOf, HaveServed, IsNew, IsRace, RaceLeaves, pass_line, replies_text};
 ghost use Rattle.be_serving.specs.Run.{Wrote, IsFrontOf, IsLate};
 ghost use Rattle.be_store.specs.Passes.{IsPassOf};
@@ -36,20 +37,22 @@ use std::thread::{Promise, PromisedHandle, Scope, Threads};
 type Outcome = (Pass, Result<Vec<u8>, RunFault>);
 
 /// What a thread promises of its outcome: the pass is of this store and has this number; and where there are replies, they
-/// are an output of this script that leaves what the pass has seen, and its own writes are some of those that the script
-/// asks for.
+/// are an output of this script that leaves what the pass has seen, its own writes are some of those that the script asks
+/// for, and this gate was told of each line.
 #[derive(Drop)]
-struct Served {
+struct Served<G> {
     store: Snapshot<Store>,
     number: u64,
     script: Snapshot<Vec<u8>>,
+    gate: Snapshot<G>,
 }
 
-impl Promise<(Pass, Result<Vec<u8>, RunFault>)> for Served {
+impl<G: Gate> Promise<(Pass, Result<Vec<u8>, RunFault>)> for Served<G> {
     ghost kept_by = { λ p outcome.
         IsPassOf p.store.value outcome.0
         × (outcome.0.knows.number ≡ p.number)
-        × IfOk outcome.1 (λ replies. IsOutcome p.store.value.limits p.number p.script.value.items outcome.0.knows replies.items) };
+        × IfOk outcome.1 (λ replies. IsOutcome p.store.value.limits p.number p.script.value.items outcome.0.knows replies.items)
+        × OnOk outcome.1 (AreTold (G.begun p.gate.value p.number) (G.ended p.gate.value p.number) (line_count p.script.value.items)) };
 }
 
 /// Serves a script from a new pass.
@@ -58,6 +61,7 @@ fn serve_new<G: Gate>(alloc: Global, store: &Store, pass: Pass, gate: &G, script
     ensures pass { IsPassOf store.now result.0 }
     ensures number { result.0.knows.number ≡ pass.knows.number }
     ensures replies { IfOk result.1 (λ replies. IsOutcome store.now.limits pass.knows.number script.now result.0.knows replies.items) }
+    ensures told { OnOk result.1 (AreTold (G.begun gate.now pass.knows.number) (G.ended gate.now pass.knows.number) (line_count script.now)) }
 {
     serve_pass(alloc, store, pass, gate, script)
 }
@@ -70,12 +74,12 @@ fn start<'s, E, G: Gate + Sync>(
     passes: Vec<Pass>,
     scripts: &'s Vec<Vec<u8>>,
     gate: &'s G,
-) -> Result<Vec<PromisedHandle<Outcome, Served>>, RunFault>
+) -> Result<Vec<PromisedHandle<Outcome, Served<G>>>, RunFault>
     requires new { AreNew store.now 0 passes.items }
     requires count { length passes.items ≡ length scripts.now.items }
     ensures len { IfOk result (λ threads. length threads.items ≡ length scripts.now.items) }
     ensures each { IfOk result (λ threads. (k : ℕ) (t s : _) → k < length scripts.now.items → let promise = (get_or threads.items k t).promise in
-        (promise.store.value ≡ store.now) × (promise.number ≡ k) × (promise.script.value ≡ get_or scripts.now.items k s)) }
+        (promise.store.value ≡ store.now) × (promise.number ≡ k) × (promise.script.value ≡ get_or scripts.now.items k s) × (promise.gate.value ≡ gate.now)) }
     ensures fault { IfErr result (λ e. e ≡ RunFault.Memory) }
 {
     let mut threads = Vec::new(alloc);
@@ -86,6 +90,7 @@ fn start<'s, E, G: Gate + Sync>(
             store: Snapshot::of(store),
             number,
             script: Snapshot::of(script),
+            gate: Snapshot::of(gate),
         };
         let thread = scope.spawn_with(
             promise,
@@ -95,6 +100,8 @@ fn start<'s, E, G: Gate + Sync>(
                 ensures number { result.0.knows.number ≡ pass.knows.number }
                 ensures replies { IfOk result.1 (λ replies.
                     IsOutcome store.entry.now.limits pass.knows.number script.entry.now.items result.0.knows replies.items) }
+                ensures told { OnOk result.1 (AreTold (G.begun gate.entry.now pass.knows.number) (G.ended gate.entry.now pass.knows.number)
+                    (line_count script.entry.now.items)) }
             { serve_new(alloc, store, pass, gate, script) },
         );
         let Ok(thread) = thread else {
@@ -140,6 +147,7 @@ fn serve_in<'s, E, R: Threads, G: Gate + Sync>(
     requires count { length passes.items ≡ length scripts.now.items }
     ensures served { IfOk result (λ r. HaveServed store.now 0 (map (λ s. s.items) scripts.now.items) r.0.items) }
     ensures replied { IfOk result (λ r. AreRepliesOf store.now.limits 0 (map (λ s. s.items) scripts.now.items) r.0.items (map (λ s. s.items) r.1.items)) }
+    ensures told { OnOk result (AreAllTold (G.begun gate.now) (G.ended gate.now) (map (λ s. s.items) scripts.now.items)) }
     ensures fault { IfErr result (λ e. e ≡ RunFault.Memory) }
 {
     let threads = start(scope, alloc, store, passes, scripts, gate)?;
@@ -162,6 +170,7 @@ fn serve_at_once<R: Threads + Wait, G: Gate + Sync>(
     requires count { length passes.items ≡ length scripts.now.items }
     ensures served { IfOk result (λ r. HaveServed store.now 0 (map (λ s. s.items) scripts.now.items) r.0.items) }
     ensures replied { IfOk result (λ r. AreRepliesOf store.now.limits 0 (map (λ s. s.items) scripts.now.items) r.0.items (map (λ s. s.items) r.1.items)) }
+    ensures told { OnOk result (AreAllTold (G.begun gate.now) (G.ended gate.now) (map (λ s. s.items) scripts.now.items)) }
     ensures fault { IfErr result (λ e. e ≡ RunFault.Memory) }
 {
     thread::scope(
@@ -172,6 +181,7 @@ fn serve_at_once<R: Threads + Wait, G: Gate + Sync>(
             ensures served { IfOk result (λ r. HaveServed store.entry.now 0 (map (λ s. s.items) scripts.entry.now.items) r.0.items) }
             ensures replied { IfOk result (λ r. AreRepliesOf store.entry.now.limits 0
                 (map (λ s. s.items) scripts.entry.now.items) r.0.items (map (λ s. s.items) r.1.items)) }
+            ensures told { OnOk result (AreAllTold (G.begun gate.entry.now) (G.ended gate.entry.now) (map (λ s. s.items) scripts.entry.now.items)) }
             ensures fault { IfErr result (λ e. e ≡ RunFault.Memory) }
         { serve_in(scope, rt, alloc, store, passes, scripts, gate) },
     )
@@ -277,6 +287,7 @@ fn serve_on_new<R: Threads + Wait, G: Gate + Sync>(
     ensures raced { IfOk result (λ r. IsRace limits (map (λ s. s.items) scripts.items)
         (replies_text 0 (map (λ t. t.items) r.0.items) ++ result_text r.1.entries)) }
     ensures legal { IfOk result (λ r. IsLegal r.1.entries) }
+    ensures told { OnOk result (AreAllTold (G.begun gate.now) (G.ended gate.now) (map (λ s. s.items) scripts.items)) }
     ensures fault { IfErr result (λ e. e ≡ RunFault.Memory) }
 {
     let Ok((store, passes)) = Store::open(alloc, limits) else {
@@ -310,6 +321,7 @@ pub fn race<R: Threads + Wait, G: Gate + Sync, W: Write>(
     ensures long { (result ≡ Err RunFault.TooLong) ↔ (IsWithin limits × (list_any (λ s. nat_lt (2 ^ 20) (vec_len s)) scripts.items ≡ true)) }
     ensures ok { IfOk result (λ legal. (legal ≡ true)
         × Wrote (W.contents writer.old) (W.contents writer.new) (IsRace limits (map (λ s. s.items) scripts.items))) }
+    ensures told { OnOk result (AreAllTold (G.begun gate.now) (G.ended gate.now) (map (λ s. s.items) scripts.items)) }
     ensures fault { IfErr result (λ e. RaceLeaves limits (map (λ s. s.items) scripts.items) e (W.contents writer.old) (W.contents writer.new)) }
 {
     if !limits.are_within() {

@@ -6,6 +6,7 @@
 ghost use Rattle.std.specs.Prelude.{◌≡◌, ◌<◌, ◌≤◌, ◌^◌, ◌↔◌, ◌∷◌, [], length, vec_len, position, IfOk, OnOk, IfErr, IfSome, OnErr, IfNone, Err};
 ghost use Rattle.std.specs.Io.KnownBytes.{Appends};
 ghost use Rattle.be_journal.specs.Journal.{by_pass};
+ghost use Rattle.be_serving.specs.Gates.{AreTold, line_count};
 ghost use Rattle.be_serving.specs.Output as outputs;
 ghost use Rattle.be_serving.specs.Own.{IsPartOf, operations, write_ops};
 ghost use Rattle.be_language.specs.Request.{lines_of};
@@ -111,6 +112,7 @@ pub(crate) fn run_lines<S: Server, G: Gate, W: Write>(
     ensures whole { IfErr result (λ e. e ≡ RunFault.Memory →
         spec.Wrote (W.contents writer.old) (W.contents writer.new) (spec.AreFirstReplies (S.shows server.old) script.now)) }
     ensures late { IfErr result spec.IsLate }
+    ensures told { OnOk result (AreTold (G.begun gate.now pass) (G.ended gate.now pass) (line_count script.now)) }
     ensures stays { S.kept server.new ≡ S.kept server.old }
 {
     let mut client = Client::new();
@@ -150,6 +152,7 @@ pub fn serve_pass<G: Gate>(
     ensures mine { OnOk result.1 (by_pass result.0.knows.number (entries result.0.knows.seen) ≡ result.0.knows.mine) }
     ensures own { OnOk result.1 (IsPartOf (operations result.0.knows.mine) (write_ops script.now)) }
     ensures replies { IfOk result.1 (λ replies. outputs.IsOutputTo (known pass.knows) script.now (known result.0.knows) replies.items) }
+    ensures told { OnOk result.1 (AreTold (G.begun gate.now pass.knows.number) (G.ended gate.now pass.knows.number) (line_count script.now)) }
     ensures fault { IfErr result.1 (λ e. e ≡ RunFault.Memory) }
 {
     let number = pass.number();

@@ -7,7 +7,7 @@ use Rattle.be_serving.specs.Run.{IsFrontOf, IsLate, Wrote}
 use Rattle.be_serving.specs.declared.faults.RunFault.TheVariants.{Limits, TooLong, Memory}
 use Rattle.be_serving.proofs.LimitLemmas.{late_stops, no_fault, not_by}
 use Rattle.be_serving.proofs.RaceLemmas.{nothing_raced, on_both, raced_in_part}
-use Rattle.be_serving.proofs.RunLemmas.{on_err}
+use Rattle.be_serving.proofs.RunLemmas.{always_ok, on_err}
 use Rattle.be_serving.proofs.races.race.Goals as goal
 
 pub returns-then-not-are_within-clause-limits : goal.returns-then-not-are_within-clause-limits
@@ -69,3 +69,6 @@ returns-in-Err-clause-fault g c =
     let held = g.W.Write.contents c.args.writer.now in
     let scripts = map (λ s. s.items) c.args.scripts.items in
     subst (λ e. RaceLeaves c.args.limits scripts e held held) (sym c.in-Err.ensures.fault) (nothing_raced c.args.limits scripts held)
+
+pub returns-in-Ok-clause-told : goal.returns-in-Ok-clause-told
+returns-in-Ok-clause-told g c = always_ok c.put_race.result c.in-Ok.ensures.told

@@ -10,5 +10,5 @@ invariant-loop-pass g l = record {
   new : AreNew l.store (length l.threads.items) (into_iter_items l.pass-iterator);
   count : length l.threads.items + length (into_iter_items l.pass-iterator) ≡ length l.scripts.items;
   each : (k : ℕ) (t s : _) → k < length l.threads.items → let promise = (get_or l.threads.items k t).promise in
-      (promise.store.value ≡ l.store) × (promise.number ≡ k) × (promise.script.value ≡ get_or l.scripts.items k s);
+      (promise.store.value ≡ l.store) × (promise.number ≡ k) × (promise.script.value ≡ get_or l.scripts.items k s) × (promise.gate.value ≡ l.gate);
 }

@@ -1,4 +1,5 @@
-use Rattle.std.proofs.Common.{◌≡◌, ◌≤◌, ◌+◌, length}
+use Rattle.std.proofs.Common.{◌≡◌, ◌≤◌, ◌<◌, ◌+◌, ℕ, length}
+use Rattle.be_serving.specs.Gates.{IsNext, line_count}
 use Rattle.be_serving.specs.Run.{Wrote, HasReplied}
 use Rattle.be_serving.specs.View.{session, queued_ops}
 use Rattle.be_serving.proofs.runs.run_lines.Given as goal
@@ -6,6 +7,9 @@ use Rattle.be_serving.proofs.runs.run_lines.Given as goal
 abbrev pub invariant-loop-line : goal.invariant-loop-line
 invariant-loop-line g l = record {
   counted : l.number + length l.rest ≤ 1 + length l.script;
+  numbered : l.number + line_count l.rest ≡ line_count l.script + 1;
+  next : IsNext (g.G.Gate.ended l.gate l.pass) l.number;
+  told : (line : ℕ) → 1 ≤ line → line < l.number → g.G.Gate.begun l.gate l.pass line × g.G.Gate.ended l.gate l.pass line;
   few : length (queued_ops l.client) ≤ 64;
   stays : g.S.Server.kept l.server ≡ g.S.Server.kept l.fn.server;
   so_far : Wrote (g.W.Write.contents l.fn.writer) (g.W.Write.contents l.writer)

@@ -2,6 +2,7 @@ use Rattle.std.proofs.Common.{Some, ap, ◌∙◌, subst}
 use Rattle.std.specs.Prelude.{OnOk}
 use Rattle.be_table.specs.Place.{Opened}
 use Rattle.be_store.specs.Passes.{IsPassOf}
+use Rattle.be_serving.specs.Gates.{AreTold, line_count}
 use Rattle.be_serving.specs.Output.{IsOutputTo}
 use Rattle.be_serving.specs.Run.{Wrote}
 use Rattle.be_serving.specs.Served.{known}
@@ -38,3 +39,11 @@ returns-in-Ok-clause-replies g c =
     (pass_served c.args.pass.knows first last c.into_pass-pass.result.knows c.args.script.now old text
     c.new-server.ensures.1 c.into_pass-pass.ensures.1 c.requires.fresh c.is_pass.ensures c.new-replies.ensures.items
     (subst (λ r. OnOk r (Wrote (Some old) (Some text) (IsOutputTo (known first) c.args.script.now (known last)))) c.in-Ok.is c.run_lines-ran.ensures.ok)).0
+
+pub returns-in-Ok-clause-told : goal.returns-in-Ok-clause-told
+returns-in-Ok-clause-told g c =
+    let begun = g.G.Gate.begun c.args.gate.now in
+    let ended = g.G.Gate.ended c.args.gate.now in
+    let count = line_count c.args.script.now in
+    subst (λ n. AreTold (begun n) (ended n) count) c.number-number.ensures
+    (subst (λ r. OnOk r (AreTold (begun c.number-number.result) (ended c.number-number.result) count)) c.in-Ok.is c.run_lines-ran.ensures.told)
