@@ -78,18 +78,19 @@ replied_by limits journal k script text a number o seen own = record {
   own = subst (λ n. by_pass n journal ≡ a.mine) number own ∙ sym o.mine;
 }
 
+-- what was told of one script more
+told_each : (Told : ℕ → List ℕ → Type 0) (k : ℕ) (script : List ℕ) (scripts : List (List ℕ)) → Told k script →
+    ((i : ℕ) → i < length scripts → Told ((k + 1) + i) (slice_index_or scripts i [])) →
+    (i : ℕ) → i < length (script ∷ scripts) → Told (k + i) (slice_index_or (script ∷ scripts) i [])
+told_each Told k script scripts here behind zero below = subst (λ n. Told n script) (sym (add-zero k)) here
+told_each Told k script scripts here behind (suc i) below =
+    let e : (k + 1) + i ≡ k + suc i = omega arith in subst (λ n. Told n (slice_index_or scripts i [])) e (behind i (omega (arith, below)))
+
 module _ {V E : Type 0} (store : Opened) (items : V → List ℕ) (Told : ℕ → List ℕ → Type 0) where
   -- what the thread of the pass k has promised
   abbrev pub EndsAs : ℕ → V → SeatFacts × Result V E → Type 0
   EndsAs k script o =
       IsPassOf store o.0 × (o.0.knows.number ≡ k) × IfOk o.1 (λ text. IsOutcome store.limits k (items script) o.0.knows (items text)) × OnOk o.1 (Told k (items script))
-
-  -- the gate was told of one script more
-  told_each : (k : ℕ) (script : List ℕ) (scripts : List (List ℕ)) → Told k script → ((i : ℕ) → i < length scripts → Told ((k + 1) + i) (slice_index_or scripts i [])) →
-      (i : ℕ) → i < length (script ∷ scripts) → Told (k + i) (slice_index_or (script ∷ scripts) i [])
-  told_each k script scripts here behind zero below = subst (λ n. Told n script) (sym (add-zero k)) here
-  told_each k script scripts here behind (suc i) below =
-      let e : (k + 1) + i ≡ k + suc i = omega arith in subst (λ n. Told n (slice_index_or scripts i [])) e (behind i (omega (arith, below)))
 
   -- the outcomes from the number k on, none of which is a fault
   pub served_from : (k : ℕ) (scripts : List V) (outcomes : List (SeatFacts × Result V E)) (texts : List V) → length outcomes ≡ length scripts →
@@ -112,7 +113,7 @@ module _ {V E : Type 0} (store : Opened) (items : V → List ℕ) (Told : ℕ �
       let e : k + suc i ≡ (k + 1) + i = omega arith in subst (λ n. EndsAs n (get_or ss i u) (get_or os i d)) e (each (suc i) d u (omega arith))) rest in (
         (record { pass = here.0; number = here.1; own = told.own }, behind.0),
         (λ journal keeps. (replied_by store.limits journal k (items s) (items t) o.0.knows here.1 told keeps.0 keeps.1, behind.1 journal keeps.2)),
-        told_each k (items s) (map items ss) (on_at_ok (Told k (items s)) (sym first) here.3) behind.2,
+        told_each Told k (items s) (map items ss) (on_at_ok (Told k (items s)) (sym first) here.3) behind.2,
       )
 
 -- an end is one by equal promises

@@ -33,7 +33,7 @@ loop-line-preserved g c = record {
   numbered = omega (arith, line_counted c.loop-line.rest.now c.in-Some.line.now c.in-Some.behind.now c.in-Some.ensures.first, c.loop-line.invariant.numbered);
   next = inr (c.loop-line.number, refl, c.after.ensures);
   told = told_more (g.G.Gate.begun c.args.gate.now c.args.pass) (g.G.Gate.ended c.args.gate.now c.args.pass) c.loop-line.number c.loop-line.invariant.told
-      c.before.ensures c.after.ensures;
+      c.before-in-Some.ensures c.after.ensures;
   few = c.run_line-ran.ensures.few;
   stays = c.run_line-ran.ensures.stays ∙ c.loop-line.invariant.stays;
   so_far = advance (g.S.Server.shows c.args.server.now) c.args.script.now c.loop-line.rest.now c.in-Some.line.now c.in-Some.behind.now
