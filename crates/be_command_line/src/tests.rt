@@ -108,6 +108,7 @@ fn tasks(rt: HostRuntime) -> Result<(), Fail> {
     let lines = "run f => run 1024 1 1000000 f
 run - => run 1024 1 1000000 -
 run --pages 8 --commits 1 f => run 8 1 1 f
+run --pages 16384 --commits 4294967295 f => run 16384 1 4294967295 f
 run --journal f => run --journal 1024 1 1000000 f
 run f --pages 9 --journal => run --journal 9 1 1000000 f
 check f => check 0 0 0 f
