@@ -1,8 +1,8 @@
 //! A pass with its share of the store, and its calls.
 ghost use Rattle.std.specs.Prelude.{◌≡◌, ◌⊎◌, ◌≤◌, ◌+◌, ℕ, Ok, IfOk, IfErr, length, string_bytes, vec_len};
-ghost use Rattle.be_session.specs.Explained.{explained_in};
-ghost use Rattle.be_session.specs.Sitting.{AtPin, HasMet, IsHandedOut, IsHeldBack, IsHeldBackAtLast, IsNoQuery};
-ghost use Rattle.be_session.specs.Sitting.{IsOpened, IsUnpinnedAt, IsUnrefreshed, Tells};
+ghost use Rattle.be_session.specs.Explained.{explanation_in};
+ghost use Rattle.be_session.specs.Sitting.{AtPin, HasMet, IsHandedOut, IsUnwritten, IsUnwrittenAtLast, IsNoQuery};
+ghost use Rattle.be_session.specs.Sitting.{IsOpened, IsUnpinnedAt, IsUnrefreshed, ReadAnswers};
 ghost use Rattle.be_session.specs.declared.faults.Fault.TheVariants.{AlreadyPinned, NoPass, NotPinned, Refused};
 ghost use Rattle.be_journal.specs.Journal.{IsLegal};
 ghost use Rattle.be_query.specs.Grammar.{IsTextOf};
@@ -244,7 +244,7 @@ impl Session {
         ensures store { (self.new.store ≡ self.old.store) × (self.new.spare ≡ self.old.spare) }
         ensures ok { IfOk result (λ r. Accepts self.old.knows self.new.knows ops.now r.0 r.1.items) }
         ensures count { IfOk result (λ r. (1 ≤ length ops.now) × (length ops.now ≤ 64)) }
-        ensures err { IfErr result (λ e. IsHeldBack self.old.knows self.new.knows ops.now e) }
+        ensures err { IfErr result (λ e. IsUnwritten self.old.knows self.new.knows ops.now e) }
     {
         if ops.is_empty() || ops.len() > 64 {
             return Err(Fault::BadCount);
@@ -262,7 +262,7 @@ impl Session {
         ensures store { (self.new.store ≡ self.old.store) × (self.new.spare ≡ self.old.spare) }
         ensures ok { IfOk result (λ r. Accepts self.old.knows self.new.knows ops.now r.0 r.1.items) }
         ensures count { IfOk result (λ r. (1 ≤ length ops.now) × (length ops.now ≤ 64)) }
-        ensures err { IfErr result (λ e. IsHeldBackAtLast (retries + 1) self.old.knows self.new.knows ops.now e) }
+        ensures err { IfErr result (λ e. IsUnwrittenAtLast (retries + 1) self.old.knows self.new.knows ops.now e) }
     {
         if ops.is_empty() || 64 < ops.len() {
             return Err(Fault::BadCount);
@@ -288,7 +288,7 @@ impl Session {
         ensures store { (self.new.store ≡ self.old.store) × (self.new.spare ≡ self.old.spare) }
         ensures read { HasRead self.old.knows self.new.knows }
         ensures nodes { AtPin (pinned_number self.old.knows.phase) result
-            (Tells (λ nodes. nodes.items) result (scan (volume_pinned self.old.knows) query.now)) }
+            (ReadAnswers (λ nodes. nodes.items) result (scan (volume_pinned self.old.knows) query.now)) }
     {
         let Some(_) = self.pass.pinned() else {
             return Err(Fault::NotPinned);
@@ -318,7 +318,7 @@ impl Session {
     pub fn explain(&mut self, alloc: Global, query: &Query) -> Result<String, Fault>
         ensures store { (self.new.store ≡ self.old.store) × (self.new.spare ≡ self.old.spare) }
         ensures read { HasRead self.old.knows self.new.knows }
-        ensures text { AtPin (pinned_number self.old.knows.phase) result (Tells string_bytes result (explained_in (volume_pinned self.old.knows) query.now)) }
+        ensures text { AtPin (pinned_number self.old.knows.phase) result (ReadAnswers string_bytes result (explanation_in (volume_pinned self.old.knows) query.now)) }
     {
         let Some(_) = self.pass.pinned() else {
             return Err(Fault::NotPinned);
@@ -347,7 +347,7 @@ impl Session {
         ensures store { (self.new.store ≡ self.old.store) × (self.new.spare ≡ self.old.spare) }
         ensures read { HasRead self.old.knows self.new.knows }
         ensures list { AtPin (pinned_number self.old.knows.phase) result
-            (Tells (λ list. list.items) result (attributes_at (volume_pinned self.old.knows) node)) }
+            (ReadAnswers (λ list. list.items) result (attributes_at (volume_pinned self.old.knows) node)) }
     {
         let Some(_) = self.pass.pinned() else {
             return Err(Fault::NotPinned);
@@ -359,7 +359,7 @@ impl Session {
     pub fn indices(&mut self, alloc: Global) -> Result<Vec<(Name, Kind)>, Fault>
         ensures store { (self.new.store ≡ self.old.store) × (self.new.spare ≡ self.old.spare) }
         ensures read { HasRead self.old.knows self.new.knows }
-        ensures list { AtPin (pinned_number self.old.knows.phase) result (Tells (λ list. list.items) result (Ok (index_kinds (volume_pinned self.old.knows)))) }
+        ensures list { AtPin (pinned_number self.old.knows.phase) result (ReadAnswers (λ list. list.items) result (Ok (index_kinds (volume_pinned self.old.knows)))) }
     {
         let Some(_) = self.pass.pinned() else {
             return Err(Fault::NotPinned);

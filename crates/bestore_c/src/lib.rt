@@ -8,14 +8,14 @@ ghost use Rattle.std.specs.Prelude.{◌≡◌, ◌⊎◌, ◌+◌, None, Ok};
 ghost use Rattle.be_query.specs.Grammar.{IsTextOf};
 ghost use Rattle.be_session.specs.Items.{IsBuilt, IsUnbuilt};
 ghost use Rattle.be_session.specs.Operations.{makes, sets};
-ghost use Rattle.be_session.specs.Sitting.{HasMet, IsHeldBack, IsHeldBackAtLast, IsNoQuery};
+ghost use Rattle.be_session.specs.Sitting.{HasMet, IsUnwritten, IsUnwrittenAtLast, IsNoQuery};
 ghost use Rattle.be_store.specs.History.{Pins};
 ghost use Rattle.be_store.specs.Passes.{HasRead, volume_pinned};
 ghost use Rattle.be_table.specs.Seats.{pinned_number};
 ghost use Rattle.be_table.specs.Steps.{unpins};
 ghost use Rattle.be_volume.specs.Reading.{attributes_at, index_kinds};
-ghost use Rattle.bestore_c.specs.Calls.{Answers, Calls, Explains, Finds, FindsBuilt, FindsPrepared, GivesAnother, Listed, Moves, Opens};
-ghost use Rattle.bestore_c.specs.Calls.{Prepares, Reads, RefreshesPrepared, ShowsChanges, TellsJournal, Writes};
+ghost use Rattle.bestore_c.specs.Calls.{AnswersWhetherOpen, Calls, Explains, Finds, FindsBuilt, FindsPrepared, GivesAnother, Listed, MovesHandle, Opens};
+ghost use Rattle.bestore_c.specs.Calls.{Prepares, Reads, RefreshesPrepared, ShowsChanges, TellsJournal, WritesSpelled};
 
 mod asking;
 mod handle;
@@ -118,7 +118,7 @@ pub extern "C" fn bes_another(alloc: Global, pass: &mut Handle, other: &mut Hand
 /// Moves what the handle holds into a handle that is closed, and closes it.
 #[unsafe(no_mangle)]
 pub extern "C" fn bes_move(alloc: Global, pass: &mut Handle, other: &mut Handle) -> u32
-    ensures { Moves pass.old.owned.value other.old.owned.value pass.new.owned.value other.new.owned.value result }
+    ensures { MovesHandle pass.old.owned.value other.old.owned.value pass.new.owned.value other.new.owned.value result }
 {
     if !pass.live {
         return CLOSED;
@@ -138,7 +138,7 @@ pub extern "C" fn bes_move(alloc: Global, pass: &mut Handle, other: &mut Handle)
 #[unsafe(no_mangle)]
 pub extern "C" fn bes_close(alloc: Global, pass: &mut Handle) -> u32
     ensures closed { pass.new.owned.value ≡ None }
-    ensures answer { Answers pass.old.owned.value result }
+    ensures answer { AnswersWhetherOpen pass.old.owned.value result }
 {
     if !pass.live {
         return CLOSED;
@@ -222,7 +222,7 @@ pub extern "C" fn bes_apply(
     entries: &mut u64,
 ) -> u32
     ensures pass { Calls pass.old.owned.value pass.new.owned.value result
-        (λ s t. Writes IsHeldBack s t spelled.now bytes.now made.old made.new entries.new result) }
+        (λ s t. WritesSpelled IsUnwritten s t spelled.now bytes.now made.old made.new entries.new result) }
     ensures kept { (result ≡ 0) ⊎ ((entries.new ≡ entries.old) × (made.new ≡ made.old)) }
 {
     if !pass.live {
@@ -257,7 +257,7 @@ pub extern "C" fn bes_apply_or_retry(
     entries: &mut u64,
 ) -> u32
     ensures pass { Calls pass.old.owned.value pass.new.owned.value result
-        (λ s t. Writes (IsHeldBackAtLast (retries + 1)) s t spelled.now bytes.now made.old made.new entries.new result) }
+        (λ s t. WritesSpelled (IsUnwrittenAtLast (retries + 1)) s t spelled.now bytes.now made.old made.new entries.new result) }
     ensures kept { (result ≡ 0) ⊎ ((entries.new ≡ entries.old) × (made.new ≡ made.old)) }
 {
     if !pass.live {
@@ -495,7 +495,7 @@ pub extern "C" fn bes_prepare_items(
 #[unsafe(no_mangle)]
 pub extern "C" fn bes_release(alloc: Global, prepared: &mut PreparedHandle) -> u32
     ensures closed { prepared.new.owned.value ≡ None }
-    ensures answer { Answers prepared.old.owned.value result }
+    ensures answer { AnswersWhetherOpen prepared.old.owned.value result }
 {
     if !prepared.live {
         return CLOSED;

@@ -1,13 +1,13 @@
 //! What the handle of a prepared query owns: a box that C holds as a pointer, or nothing. As in `owned`, for another type.
 //!
 //! Its type names no other type, so that it can lie in memory that C passes.
-ghost use Rattle.std.specs.Prelude.{◌≡◌, Option, None, Some, true};
+ghost use Rattle.std.specs.Prelude.{◌≡◌, Option, None, Some, is_some, true};
 ghost use Rattle.std.specs.Coded.{coded_option};
 ghost use Rattle.std.specs.contracts.impls.GlobalAllocator.TheImpl.{ghosts};
 ghost use Rattle.be_session.specs.Prepared.{coded_prepared};
 ghost use Rattle.be_session.specs.declared.preparing.Prepared.{Prepared};
 ghost use Rattle.be_session.specs.contracts.preparing.Prepared.{the_row};
-ghost use Rattle.bestore_c.specs.Owned.{may_own, holds};
+ghost use Rattle.bestore_c.specs.Owned.{may_own};
 
 use crate::loose::Loose;
 use be_session::Prepared;
@@ -47,7 +47,7 @@ impl OwnedQuery {
     }
 
     fn into_loose(self) -> Loose<Prepared, Global>
-        requires { holds self.value ≡ true }
+        requires { is_some self.value ≡ true }
         ensures { self.value ≡ Some result.value }
     {
         let OwnedQuery { at, alloc } = self;
@@ -64,7 +64,7 @@ impl OwnedQuery {
     }
 
     pub fn into_box(self) -> Box<Prepared, Global>
-        requires { holds self.value ≡ true }
+        requires { is_some self.value ≡ true }
         ensures { self.value ≡ Some result.value }
     {
         self.into_loose().into_box()

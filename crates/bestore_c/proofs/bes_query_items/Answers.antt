@@ -3,14 +3,14 @@ use Rattle.be_table.specs.Seats.{pinned_number}
 use Rattle.be_store.specs.Passes.{volume_pinned}
 use Rattle.be_volume.specs.Query.{scan}
 use Rattle.bestore_c.specs.Calls.{FindsBuilt}
-use Rattle.bestore_c.specs.Owned.{holds}
+use Rattle.std.specs.Prelude.{is_some}
 use Rattle.bestore_c.proofs.Called.{called, stays}
 use Rattle.bestore_c.proofs.bes_query_items.Goals as goal
 
 pub returns-in-Err-clause-pass : goal.returns-in-Err-clause-pass
 returns-in-Err-clause-pass c =
-    let open_is : c.args.pass.now.live ≡ holds c.args.pass.now.owned.value = c.args.pass.now.full in
-    let full : holds c.args.pass.now.owned.value ≡ true = sym open_is ∙ c.if-not-pass.false in
+    let open_is : c.args.pass.now.live ≡ is_some c.args.pass.now.owned.value = c.args.pass.now.full in
+    let full : is_some c.args.pass.now.owned.value ≡ true = sym open_is ∙ c.if-not-pass.false in
     stays c.args.pass.now.owned.value c.code.result (λ s t. FindsBuilt s t c.args.spelled.now c.args.bytes.now c.args.nodes.now c.args.nodes.now
     c.args.count.now c.code.result)
     full (λ s. inl (c.in-Err.fault, c.code.ensures, c.in-Err.ensures.err, refl))
