@@ -1,5 +1,5 @@
 //! A pass with its share of the store, and its calls.
-ghost use Rattle.std.specs.Prelude.{◌≡◌, ◌⊎◌, ◌≤◌, ◌+◌, ℕ, Ok, IfOk, IfErr, length, string_bytes, vec_len};
+ghost use Rattle.std.specs.Prelude.{◌≡◌, ◌⊎◌, ◌≤◌, ◌+◌, ℕ, [], Ok, IfOk, IfErr, OnErr, OnOk, length, string_bytes, vec_len};
 ghost use Rattle.be_session.specs.Explained.{explanation_in};
 ghost use Rattle.be_session.specs.Sitting.{AtPin, HasMet, IsHandedOut, IsUnwritten, IsUnwrittenAtLast, IsNoQuery};
 ghost use Rattle.be_session.specs.Sitting.{IsOpened, IsUnpinnedAt, IsUnrefreshed, ReadAnswers};
@@ -238,18 +238,21 @@ impl Session {
         Ok(())
     }
 
-    /// Writes 1 to 64 operations, all or none, and answers the journal's length with them and an answer for each. BadCount
-    /// where they are another number, and then nothing has happened; else as the store's own `apply`.
-    pub fn apply(&mut self, ops: &[Op]) -> Result<(u64, ArrayVec<Done, 64>), Fault>
+    /// Writes 1 to 64 operations, all or none. Answers the journal's length with them, and puts an answer for each in the place of
+    /// what the list had. BadCount where they are another number, and then nothing has happened; else as the store's own
+    /// `apply_into`.
+    pub fn apply(&mut self, ops: &[Op], dones: &mut ArrayVec<Done, 64>) -> Result<u64, Fault>
         ensures store { (self.new.store ≡ self.old.store) × (self.new.spare ≡ self.old.spare) }
-        ensures ok { IfOk result (λ r. Accepts self.old.knows self.new.knows ops.now r.0 r.1.items) }
-        ensures count { IfOk result (λ r. (1 ≤ length ops.now) × (length ops.now ≤ 64)) }
+        ensures ok { IfOk result (λ n. Accepts self.old.knows self.new.knows ops.now n dones.new.items) }
+        ensures count { OnOk result ((1 ≤ length ops.now) × (length ops.now ≤ 64)) }
         ensures err { IfErr result (λ e. IsUnwritten self.old.knows self.new.knows ops.now e) }
+        ensures empty { OnErr result (dones.new.items ≡ []) }
     {
         if ops.is_empty() || ops.len() > 64 {
+            dones.clear();
             return Err(Fault::BadCount);
         }
-        Ok(self.shared.store().apply(&mut self.pass, ops)?)
+        Ok(self.shared.store().apply_into(&mut self.pass, ops, dones)?)
     }
 
     /// Writes as `apply` does, and tries again while another pass is writing, so many times at most after the first. It doesn't
@@ -258,16 +261,20 @@ impl Session {
         &mut self,
         ops: &[Op],
         retries: u32,
-    ) -> Result<(u64, ArrayVec<Done, 64>), Fault>
+        dones: &mut ArrayVec<Done, 64>,
+    ) -> Result<u64, Fault>
         ensures store { (self.new.store ≡ self.old.store) × (self.new.spare ≡ self.old.spare) }
-        ensures ok { IfOk result (λ r. Accepts self.old.knows self.new.knows ops.now r.0 r.1.items) }
-        ensures count { IfOk result (λ r. (1 ≤ length ops.now) × (length ops.now ≤ 64)) }
+        ensures ok { IfOk result (λ n. Accepts self.old.knows self.new.knows ops.now n dones.new.items) }
+        ensures count { OnOk result ((1 ≤ length ops.now) × (length ops.now ≤ 64)) }
         ensures err { IfErr result (λ e. IsUnwrittenAtLast (retries + 1) self.old.knows self.new.knows ops.now e) }
+        ensures empty { OnErr result (dones.new.items ≡ []) }
     {
         if ops.is_empty() || 64 < ops.len() {
+            dones.clear();
             return Err(Fault::BadCount);
         }
-        Ok(apply_or_retry(self.shared.store(), &mut self.pass, ops, retries)?)
+        let pass = &mut self.pass;
+        Ok(apply_or_retry(self.shared.store(), pass, ops, retries, dones)?)
     }
 
     /// The text of the journal up to now, which is legal: as the store's own `journal_text`. It needs no pin.
