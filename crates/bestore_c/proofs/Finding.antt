@@ -1,7 +1,5 @@
 -- What a query's answer is to C.
-use Rattle.std.proofs.Common.{◌≡◌, ◌⊎◌, ℕ, List, [], ◌∷◌, ◌++◌, ◌+◌, ◌<◌, length, map, take, get_or}
-use Rattle.std.proofs.Common.{Option, Some, None, Result, Ok, Err, inl, inr, ap, sym, subst, ◌∙◌}
-use Rattle.std.proofs.lemmas.List.{map_more}
+use Rattle.std.proofs.Common.{◌≡◌, ◌⊎◌, ℕ, List, length, Option, Some, None, Result, Ok, Err, inl, inr, ap, sym, subst, ◌∙◌}
 use Rattle.be_session.specs.Fault.{fault_code}
 use Rattle.be_session.specs.Sitting.{AtPin, ReadAnswers}
 use Rattle.be_session.specs.declared.faults.Fault.{Fault}
@@ -11,12 +9,6 @@ use Rattle.be_value.specs.declared.refusals.Refusal.{Refusal}
 use Rattle.be_value.specs.declared.refusals.Refusal.TheVariants.{OutOfMemory}
 use Rattle.bestore_c.specs.Calls.{PutsOutAtPin, PutsOutAnswer}
 use Rattle.bestore_c.specs.Places.{over}
-
--- one more of what is mapped
-pub map_next : {A B : Type 0} (f : A → B) (xs : List A) (i : ℕ) (d : A) (ys : List B) → i < length xs → ys ≡ map f (take i xs)
-    → ys ++ f (get_or xs i d) ∷ [] ≡ map f (take (i + 1) xs)
-map_next f xs i d ys low is =
-    ap (λ zs. zs ++ f (get_or xs i d) ∷ []) is ∙ sym (map_more f xs i d low)
 
 -- an answer that was told
 pub found_nodes : {X : Type 0} (view : X → List ℕ) (pin : Option ℕ) (x : X) (meant : Result (List ℕ) Refusal) (places filled : List ℕ) (count code : ℕ)

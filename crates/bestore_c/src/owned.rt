@@ -27,6 +27,18 @@ impl Model for Owned {
 unsafe impl Send for Owned {}
 
 impl Owned {
+    ghost use Rattle.std.specs.Borrow.{sem};
+    ghost use Rattle.bestore_c.specs.Lent.{LendsSession};
+
+    /// The session that is owned, lent: what becomes of it is what is owned then.
+    pub fn lent(&mut self) -> &mut Session
+        requires { is_some self.old.value ≡ true }
+        ensures* writes_back { sem 𝓛 (LendsSession self.entry result) }
+        ensures value { self.old.value ≡ Some result.now }
+    {
+        unsafe { &mut *(self.at as *mut Session) }
+    }
+
     pub fn none(alloc: Global) -> Owned
         ensures { result.value ≡ None }
     {

@@ -27,6 +27,18 @@ impl Model for OwnedQuery {
 }
 
 impl OwnedQuery {
+    ghost use Rattle.std.specs.Borrow.{sem};
+    ghost use Rattle.bestore_c.specs.Lent.{LendsQuery};
+
+    /// The query that is owned, lent: what becomes of it is what is owned then.
+    pub fn lent(&mut self) -> &mut Prepared
+        requires { is_some self.old.value ≡ true }
+        ensures* writes_back { sem 𝓛 (LendsQuery self.entry result) }
+        ensures value { self.old.value ≡ Some result.now }
+    {
+        unsafe { &mut *(self.at as *mut Prepared) }
+    }
+
     pub fn none(alloc: Global) -> OwnedQuery
         ensures { result.value ≡ None }
     {
