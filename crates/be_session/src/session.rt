@@ -274,7 +274,10 @@ impl Session {
             return Err(Fault::BadCount);
         }
         let pass = &mut self.pass;
-        Ok(apply_or_retry(self.shared.store(), pass, ops, retries, dones)?)
+        match apply_or_retry(self.shared.store(), pass, ops, retries, dones) {
+            Ok(number) => Ok(number),
+            Err(refusal) => Err(Fault::Refused(refusal)),
+        }
     }
 
     /// The text of the journal up to now, which is legal: as the store's own `journal_text`. It needs no pin.
