@@ -274,10 +274,11 @@ impl Session {
             return Err(Fault::BadCount);
         }
         let pass = &mut self.pass;
-        match apply_or_retry(self.shared.store(), pass, ops, retries, dones) {
-            Ok(number) => Ok(number),
-            Err(refusal) => Err(Fault::Refused(refusal)),
-        }
+        let number = match apply_or_retry(self.shared.store(), pass, ops, retries, dones) {
+            Ok(number) => number,
+            Err(refusal) => return Err(Fault::Refused(refusal)),
+        };
+        Ok(number)
     }
 
     /// The text of the journal up to now, which is legal: as the store's own `journal_text`. It needs no pin.
