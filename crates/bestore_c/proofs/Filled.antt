@@ -16,8 +16,8 @@ module _ {X : Type 0} (number : X → ℕ) (xs : List X) where
   filled_all was is n count first rest =
       let least : n ≡ min (length was) (length xs) = omega (arith, count) in
       let numbers : take (length was) (map number xs) ≡ map number (take n xs) =
-          take-map number (length was) xs ∙ ap (map number) (sym (take_min (length was) xs) ∙ ap (λ m. take m xs) (sym least)) in
+      take-map number (length was) xs ∙ ap (map number) (sym (take_min (length was) xs) ∙ ap (λ m. take m xs) (sym least)) in
       let others : drop (length (map number xs)) was ≡ drop n was =
-          ap (λ m. drop m was) (length-map xs number) ∙ (sym (drop_min (length xs) was) ∙ ap (λ m. drop m was) (sym count)) in
+      ap (λ m. drop m was) (length-map xs number) ∙ (sym (drop_min (length xs) was) ∙ ap (λ m. drop m was) (sym count)) in
       sym (take-append-drop n is) ∙ (ap (λ ns. ns ++ drop n is) (first ∙ sym numbers)
       ∙ ap (λ ns. take (length was) (map number xs) ++ ns) (rest ∙ sym others))

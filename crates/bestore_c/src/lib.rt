@@ -221,7 +221,8 @@ pub extern "C" fn bes_apply(
         Err(fault) => return fault.code(),
     };
     let mut dones = ArrayVec::new();
-    match pass.owned.lent().apply(ops.as_slice(), &mut dones) {
+    let answer = pass.owned.lent().apply(ops.as_slice(), &mut dones);
+    match answer {
         Ok(length) => {
             *entries = length;
             put_nodes(made, dones.as_slice());
@@ -254,8 +255,11 @@ pub extern "C" fn bes_apply_or_retry(
         Err(fault) => return fault.code(),
     };
     let mut dones = ArrayVec::new();
-    let session = pass.owned.lent();
-    match session.apply_or_retry(ops.as_slice(), retries, &mut dones) {
+    let answer = pass
+        .owned
+        .lent()
+        .apply_or_retry(ops.as_slice(), retries, &mut dones);
+    match answer {
         Ok(written) => {
             *entries = written;
             put_nodes(made, dones.as_slice());

@@ -16,10 +16,9 @@ returns-in-Err-clause-pass c =
 
 pub returns-clause-pass : goal.returns-clause-pass
 returns-clause-pass c =
-    let was : c.args.pass.now.owned.value ≡ Some c.deref_mut.result.now = search in
-    let is : c.of-pass.result.value ≡ Some c.apply_or_retry-answer.new.self = search in
-    called c.args.pass.now.owned.value c.of-pass.result.value c.deref_mut.result.now c.apply_or_retry-answer.new.self c.code-in-Err-answer.result _
-    was is c.apply_or_retry-answer.ensures.store.0 c.apply_or_retry-answer.ensures.store.1
+    let was : c.args.pass.now.owned.value ≡ Some c.lent.result.now = c.lent.ensures.value in
+    called c.args.pass.now.owned.value _ c.lent.result.now c.apply_or_retry-answer.new.self c.code-in-Err-answer.result _
+    was refl c.apply_or_retry-answer.ensures.store.0 c.apply_or_retry-answer.ensures.store.1
     (inr (
       c.as_slice.result.now,
       subst (AreMeant c.args.spelled.now c.args.bytes.now) (sym c.as_slice.ensures.value) c.in-Ok.ensures.ok,
