@@ -1,15 +1,9 @@
--- Places that are filled one after the other.
-use Rattle.std.proofs.Common.{◌≡◌, ◌<◌, ◌+◌, ℕ, List, [], ◌∷◌, ◌++◌, ap, arith, drop, get_or, length, map, min, set, sym, take, ◌∙◌}
-use Rattle.std.proofs.lemmas.List.{drop_min, length-map, map_more, take_min, take_more_set, take-append-drop, take-map}
+-- Places that were filled one after the other.
+use Rattle.std.proofs.Common.{◌≡◌, ℕ, List, ◌++◌, ap, arith, drop, length, map, min, sym, take, ◌∙◌}
+use Rattle.std.proofs.lemmas.List.{drop_min, length-map, take_min, take-append-drop, take-map}
 use Rattle.bestore_c.specs.Places.{over}
 
 module _ {X : Type 0} (number : X → ℕ) (xs : List X) where
-  -- one place more has its number
-  pub filled_next : (places : List ℕ) (i : ℕ) (d : X) → i < length xs → i < length places → take i places ≡ map number (take i xs)
-      → take (i + 1) (set places i (number (get_or xs i d))) ≡ map number (take (i + 1) xs)
-  filled_next places i d low room is =
-      take_more_set places i (number (get_or xs i d)) room ∙ ap (λ ns. ns ++ number (get_or xs i d) ∷ []) is ∙ sym (map_more number xs i d low)
-
   -- all that have a number have it
   pub filled_all : (was is : List ℕ) (n : ℕ) → n ≡ min (length xs) (length was) → take n is ≡ map number (take n xs) → drop n is ≡ drop n was
       → is ≡ over (map number xs) was
