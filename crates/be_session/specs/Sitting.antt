@@ -14,11 +14,9 @@ use Rattle.be_table.specs.Steps.{longer, met}
 use Rattle.be_table.specs.declared.limits.Limits.{Limits}
 use Rattle.be_table.specs.declared.pass.Knowledge.{Knowledge}
 use Rattle.be_value.specs.declared.refusals.Refusal.{Refusal}
-use Rattle.be_value.specs.declared.refusals.Refusal.TheVariants.{OutOfMemory}
 use Rattle.be_volume.specs.declared.ops.Op.{Op}
 use Rattle.be_session.specs.declared.faults.Fault.{Fault}
-use Rattle.be_session.specs.declared.faults.Fault.TheVariants.{NotPinned, AlreadyPinned, NoPass, BadCount}
-use Rattle.be_session.specs.declared.faults.Fault.TheVariants.{NotUtf8, NoOperation, NoKind, NoValue, BadPart, NoItem, Refused}
+use Rattle.be_session.specs.declared.faults.Fault.TheVariants.{NotPinned, BadCount, NotUtf8, Refused}
 
 -- the store, what its pass knows, and how many of the store's passes wait here for a session of their own
 pub record Sitting : Type 0 where
@@ -55,48 +53,28 @@ HasMet store a c n =
     (b : Knowledge) × IsUnpinnedAt store b × StartsWith (longer a.seen b.seen) a.seen × StartsWith (longer a.seen b.seen) b.seen
     × (c ≡ met a (longer a.seen b.seen)) × (n ≡ length (longer a.seen b.seen))
 
--- why a write did nothing, and what it left: the store's own refusal, or a count that isn't 1 to 64
-abbrev pub IsHeldBack : Knowledge → Knowledge → List Op → Fault → Type 0
-IsHeldBack a c ops (Refused e) = Learns a c × IsReason a c ops e
-IsHeldBack a c ops BadCount = (c ≡ a) × ((length ops ≡ 0) ⊎ (64 < length ops))
-IsHeldBack a c ops NotPinned = ⊥
-IsHeldBack a c ops AlreadyPinned = ⊥
-IsHeldBack a c ops NoPass = ⊥
-IsHeldBack a c ops NotUtf8 = ⊥
-IsHeldBack a c ops NoOperation = ⊥
-IsHeldBack a c ops NoKind = ⊥
-IsHeldBack a c ops NoValue = ⊥
-IsHeldBack a c ops BadPart = ⊥
-IsHeldBack a c ops NoItem = ⊥
+-- why a write did nothing, and what it left: a count that isn't 1 to 64, or the store's own refusal, for a reason of this kind
+abbrev pub IsUnwrittenFor : (Knowledge → Knowledge → List Op → Refusal → Type 0) → Knowledge → Knowledge → List Op → Fault → Type 0
+IsUnwrittenFor is_reason a c ops e =
+    ((e ≡ BadCount) × (c ≡ a) × ((length ops ≡ 0) ⊎ (64 < length ops)))
+    ⊎ ((why : Refusal) × (e ≡ Refused why) × Learns a c × is_reason a c ops why)
+
+-- the same of a write that is tried once
+abbrev pub IsUnwritten : Knowledge → Knowledge → List Op → Fault → Type 0
+IsUnwritten = IsUnwrittenFor IsReason
 
 -- the same of a write that is tried so many times at most
-abbrev pub IsHeldBackAtLast : ℕ → Knowledge → Knowledge → List Op → Fault → Type 0
-IsHeldBackAtLast tries a c ops (Refused e) = Learns a c × IsLastReason tries a c ops e
-IsHeldBackAtLast tries a c ops BadCount = (c ≡ a) × ((length ops ≡ 0) ⊎ (64 < length ops))
-IsHeldBackAtLast tries a c ops NotPinned = ⊥
-IsHeldBackAtLast tries a c ops AlreadyPinned = ⊥
-IsHeldBackAtLast tries a c ops NoPass = ⊥
-IsHeldBackAtLast tries a c ops NotUtf8 = ⊥
-IsHeldBackAtLast tries a c ops NoOperation = ⊥
-IsHeldBackAtLast tries a c ops NoKind = ⊥
-IsHeldBackAtLast tries a c ops NoValue = ⊥
-IsHeldBackAtLast tries a c ops BadPart = ⊥
-IsHeldBackAtLast tries a c ops NoItem = ⊥
+abbrev pub IsUnwrittenAtLast : ℕ → Knowledge → Knowledge → List Op → Fault → Type 0
+IsUnwrittenAtLast tries = IsUnwrittenFor (IsLastReason tries)
 
--- A read answered what is meant, seen by view, or a growth was refused; the store has no other refusal than the meant one.
-abbrev pub Tells : {X Y : Type 0} → (X → Y) → Result X Fault → Result Y Refusal → Type 0
-Tells view (Ok x) meant = meant ≡ Ok (view x)
-Tells view (Err (Refused e)) meant = (e ≡ OutOfMemory) ⊎ (meant ≡ Err e)
-Tells view (Err NotPinned) meant = ⊥
-Tells view (Err AlreadyPinned) meant = ⊥
-Tells view (Err NoPass) meant = ⊥
-Tells view (Err BadCount) meant = ⊥
-Tells view (Err NotUtf8) meant = ⊥
-Tells view (Err NoOperation) meant = ⊥
-Tells view (Err NoKind) meant = ⊥
-Tells view (Err NoValue) meant = ⊥
-Tells view (Err BadPart) meant = ⊥
-Tells view (Err NoItem) meant = ⊥
+-- why a read that means this has no answer: the store has this very refusal for it, or a growth was refused
+abbrev pub IsUnanswered : {Y : Type 0} → Result Y Refusal → Fault → Type 0
+IsUnanswered meant e = (why : Refusal) × (e ≡ Refused why) × IsMemory why (meant ≡ Err why)
+
+-- a read answered what is meant, seen by view, or has no answer
+abbrev pub ReadAnswers : {X Y : Type 0} → (X → Y) → Result X Fault → Result Y Refusal → Type 0
+ReadAnswers view (Ok x) meant = meant ≡ Ok (view x)
+ReadAnswers view (Err e) meant = IsUnanswered meant e
 
 -- NotPinned just where there is no pin; else this
 abbrev pub AtPin : {X : Type 0} → Option ℕ → Result X Fault → Type 0 → Type 0
@@ -106,7 +84,7 @@ AtPin (Some n) answer told = told
 -- why a live query wasn't refreshed: there is no pin; or there is one, and the query has no answer there, or a growth was refused
 abbrev pub IsUnrefreshed : Option ℕ → Result (List ℕ) Refusal → Fault → Type 0
 IsUnrefreshed None meant e = e ≡ NotPinned
-IsUnrefreshed (Some n) meant e = (e ≡ Refused OutOfMemory) ⊎ ((why : Refusal) × (e ≡ Refused why) × (meant ≡ Err why))
+IsUnrefreshed (Some n) meant e = IsUnanswered meant e
 
 -- why bytes are no text of a query: they are no UTF-8, or the text has this fault, or a growth was refused
 abbrev pub IsNoQuery : List ℕ → Fault → Type 0

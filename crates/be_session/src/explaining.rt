@@ -1,7 +1,7 @@
 //! What a query would be answered from.
 ghost use Rattle.std.specs.Prelude.{string_bytes};
 ghost use Rattle.be_plan.specs.Cover.{is_listed};
-ghost use Rattle.be_session.specs.Explained.{explained};
+ghost use Rattle.be_session.specs.Explained.{explanation_where};
 ghost use Rattle.be_value.specs.Refusal.{Answers};
 
 use be_plan::{choose, explain};
@@ -14,7 +14,7 @@ pub(crate) fn cover_text(
     query: &Query,
     indices: &[(Name, Kind)],
 ) -> Result<String, Refusal>
-    ensures { Answers string_bytes result (explained (is_listed indices.now) query.now) }
+    ensures { Answers string_bytes result (explanation_where (is_listed indices.now) query.now) }
 {
     match choose(alloc, query, indices) {
         Ok(cover) => explain(alloc, query, &cover),

@@ -62,10 +62,12 @@ pub fn operations(alloc: Global, spelled: &[Operation], bytes: &[u8]) -> Result<
     ensures ok { IfOk result (λ ops. AreMeant spelled.now bytes.now ops.items) }
     ensures err { IfErr result (λ e. IsMisspelt spelled.now bytes.now e) }
 {
-    let mut ops = Vec::new(alloc);
+    let mut ops = Vec::with_capacity(alloc, spelled.len())?;
     for next in spelled {
-        let op = one(next, bytes)?;
-        ops.push(op)?;
+        match one(next, bytes) {
+            Ok(op) => ops.push_reserved(op),
+            Err(fault) => return Err(fault),
+        }
     }
     Ok(ops)
 }

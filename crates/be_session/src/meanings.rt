@@ -52,7 +52,10 @@ pub fn name(bytes: &[u8]) -> Result<Name, Fault>
     ensures ok { IfOk result (λ name. (name ≡ bytes.now) × IsUtf8 bytes.now) }
     ensures err { IfErr result (λ e. IsNoName bytes.now e) }
 {
-    Ok(Name::new(text(bytes)?)?)
+    match Name::new(text(bytes)?) {
+        Ok(name) => Ok(name),
+        Err(refusal) => Err(Fault::Refused(refusal)),
+    }
 }
 
 fn int32(number: u64) -> Result<Value, Fault>

@@ -3,7 +3,7 @@ ghost use Rattle.std.specs.Prelude.{◌≡◌, ℕ, IfOk, IfErr};
 ghost use Rattle.be_query.specs.Grammar.{Formula, IsTextOf};
 ghost use Rattle.be_session.specs.Items.{IsBuilt, IsUnbuilt};
 ghost use Rattle.be_session.specs.Prepared.{IsUnasked};
-ghost use Rattle.be_session.specs.Sitting.{AtPin, IsNoQuery, IsUnrefreshed, Tells};
+ghost use Rattle.be_session.specs.Sitting.{AtPin, IsNoQuery, IsUnrefreshed, ReadAnswers};
 ghost use Rattle.be_session.specs.declared.faults.Fault.TheVariants.{Refused};
 ghost use Rattle.be_store.specs.Live.{Refreshes};
 ghost use Rattle.be_store.specs.Passes.{HasRead, IsPinnedTo, volume_pinned};
@@ -41,7 +41,7 @@ impl Prepared {
         ensures store { (session.new.store ≡ session.old.store) × (session.new.spare ≡ session.old.spare) }
         ensures read { HasRead session.old.knows session.new.knows }
         ensures nodes { AtPin (pinned_number session.old.knows.phase) result
-            (Tells (λ nodes. nodes.items) result (scan (volume_pinned session.old.knows) self.now.live.query)) }
+            (ReadAnswers (λ nodes. nodes.items) result (scan (volume_pinned session.old.knows) self.now.live.query)) }
     {
         let asked = self.live.query();
         session.query(alloc, asked)

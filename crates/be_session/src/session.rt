@@ -1,8 +1,8 @@
 //! A pass with its share of the store, and its calls.
-ghost use Rattle.std.specs.Prelude.{◌≡◌, ◌⊎◌, ◌≤◌, ◌+◌, ℕ, Ok, IfOk, IfErr, length, string_bytes, vec_len};
-ghost use Rattle.be_session.specs.Explained.{explained_in};
-ghost use Rattle.be_session.specs.Sitting.{AtPin, HasMet, IsHandedOut, IsHeldBack, IsHeldBackAtLast, IsNoQuery};
-ghost use Rattle.be_session.specs.Sitting.{IsOpened, IsUnpinnedAt, IsUnrefreshed, Tells};
+ghost use Rattle.std.specs.Prelude.{◌≡◌, ◌⊎◌, ◌≤◌, ◌+◌, ℕ, [], Ok, IfOk, IfErr, OnErr, OnOk, length, string_bytes, vec_len};
+ghost use Rattle.be_session.specs.Explained.{explanation_in};
+ghost use Rattle.be_session.specs.Sitting.{AtPin, HasMet, IsHandedOut, IsUnwritten, IsUnwrittenAtLast, IsNoQuery};
+ghost use Rattle.be_session.specs.Sitting.{IsOpened, IsUnpinnedAt, IsUnrefreshed, ReadAnswers};
 ghost use Rattle.be_session.specs.declared.faults.Fault.TheVariants.{AlreadyPinned, NoPass, NotPinned, Refused};
 ghost use Rattle.be_journal.specs.Journal.{IsLegal};
 ghost use Rattle.be_query.specs.Grammar.{IsTextOf};
@@ -238,18 +238,21 @@ impl Session {
         Ok(())
     }
 
-    /// Writes 1 to 64 operations, all or none, and answers the journal's length with them and an answer for each. BadCount
-    /// where they are another number, and then nothing has happened; else as the store's own `apply`.
-    pub fn apply(&mut self, ops: &[Op]) -> Result<(u64, ArrayVec<Done, 64>), Fault>
+    /// Writes 1 to 64 operations, all or none. Answers the journal's length with them, and puts an answer for each in the place of
+    /// what the list had. BadCount where they are another number, and then nothing has happened; else as the store's own
+    /// `apply_into`.
+    pub fn apply(&mut self, ops: &[Op], dones: &mut ArrayVec<Done, 64>) -> Result<u64, Fault>
         ensures store { (self.new.store ≡ self.old.store) × (self.new.spare ≡ self.old.spare) }
-        ensures ok { IfOk result (λ r. Accepts self.old.knows self.new.knows ops.now r.0 r.1.items) }
-        ensures count { IfOk result (λ r. (1 ≤ length ops.now) × (length ops.now ≤ 64)) }
-        ensures err { IfErr result (λ e. IsHeldBack self.old.knows self.new.knows ops.now e) }
+        ensures ok { IfOk result (λ n. Accepts self.old.knows self.new.knows ops.now n dones.new.items) }
+        ensures count { OnOk result ((1 ≤ length ops.now) × (length ops.now ≤ 64)) }
+        ensures err { IfErr result (λ e. IsUnwritten self.old.knows self.new.knows ops.now e) }
+        ensures empty { OnErr result (dones.new.items ≡ []) }
     {
         if ops.is_empty() || ops.len() > 64 {
+            dones.clear();
             return Err(Fault::BadCount);
         }
-        Ok(self.shared.store().apply(&mut self.pass, ops)?)
+        Ok(self.shared.store().apply_into(&mut self.pass, ops, dones)?)
     }
 
     /// Writes as `apply` does, and tries again while another pass is writing, so many times at most after the first. It doesn't
@@ -258,16 +261,24 @@ impl Session {
         &mut self,
         ops: &[Op],
         retries: u32,
-    ) -> Result<(u64, ArrayVec<Done, 64>), Fault>
+        dones: &mut ArrayVec<Done, 64>,
+    ) -> Result<u64, Fault>
         ensures store { (self.new.store ≡ self.old.store) × (self.new.spare ≡ self.old.spare) }
-        ensures ok { IfOk result (λ r. Accepts self.old.knows self.new.knows ops.now r.0 r.1.items) }
-        ensures count { IfOk result (λ r. (1 ≤ length ops.now) × (length ops.now ≤ 64)) }
-        ensures err { IfErr result (λ e. IsHeldBackAtLast (retries + 1) self.old.knows self.new.knows ops.now e) }
+        ensures ok { IfOk result (λ n. Accepts self.old.knows self.new.knows ops.now n dones.new.items) }
+        ensures count { OnOk result ((1 ≤ length ops.now) × (length ops.now ≤ 64)) }
+        ensures err { IfErr result (λ e. IsUnwrittenAtLast (retries + 1) self.old.knows self.new.knows ops.now e) }
+        ensures empty { OnErr result (dones.new.items ≡ []) }
     {
         if ops.is_empty() || 64 < ops.len() {
+            dones.clear();
             return Err(Fault::BadCount);
         }
-        Ok(apply_or_retry(self.shared.store(), &mut self.pass, ops, retries)?)
+        let pass = &mut self.pass;
+        let number = match apply_or_retry(self.shared.store(), pass, ops, retries, dones) {
+            Ok(number) => number,
+            Err(refusal) => return Err(Fault::Refused(refusal)),
+        };
+        Ok(number)
     }
 
     /// The text of the journal up to now, which is legal: as the store's own `journal_text`. It needs no pin.
@@ -288,7 +299,7 @@ impl Session {
         ensures store { (self.new.store ≡ self.old.store) × (self.new.spare ≡ self.old.spare) }
         ensures read { HasRead self.old.knows self.new.knows }
         ensures nodes { AtPin (pinned_number self.old.knows.phase) result
-            (Tells (λ nodes. nodes.items) result (scan (volume_pinned self.old.knows) query.now)) }
+            (ReadAnswers (λ nodes. nodes.items) result (scan (volume_pinned self.old.knows) query.now)) }
     {
         let Some(_) = self.pass.pinned() else {
             return Err(Fault::NotPinned);
@@ -318,7 +329,7 @@ impl Session {
     pub fn explain(&mut self, alloc: Global, query: &Query) -> Result<String, Fault>
         ensures store { (self.new.store ≡ self.old.store) × (self.new.spare ≡ self.old.spare) }
         ensures read { HasRead self.old.knows self.new.knows }
-        ensures text { AtPin (pinned_number self.old.knows.phase) result (Tells string_bytes result (explained_in (volume_pinned self.old.knows) query.now)) }
+        ensures text { AtPin (pinned_number self.old.knows.phase) result (ReadAnswers string_bytes result (explanation_in (volume_pinned self.old.knows) query.now)) }
     {
         let Some(_) = self.pass.pinned() else {
             return Err(Fault::NotPinned);
@@ -347,7 +358,7 @@ impl Session {
         ensures store { (self.new.store ≡ self.old.store) × (self.new.spare ≡ self.old.spare) }
         ensures read { HasRead self.old.knows self.new.knows }
         ensures list { AtPin (pinned_number self.old.knows.phase) result
-            (Tells (λ list. list.items) result (attributes_at (volume_pinned self.old.knows) node)) }
+            (ReadAnswers (λ list. list.items) result (attributes_at (volume_pinned self.old.knows) node)) }
     {
         let Some(_) = self.pass.pinned() else {
             return Err(Fault::NotPinned);
@@ -359,7 +370,7 @@ impl Session {
     pub fn indices(&mut self, alloc: Global) -> Result<Vec<(Name, Kind)>, Fault>
         ensures store { (self.new.store ≡ self.old.store) × (self.new.spare ≡ self.old.spare) }
         ensures read { HasRead self.old.knows self.new.knows }
-        ensures list { AtPin (pinned_number self.old.knows.phase) result (Tells (λ list. list.items) result (Ok (index_kinds (volume_pinned self.old.knows)))) }
+        ensures list { AtPin (pinned_number self.old.knows.phase) result (ReadAnswers (λ list. list.items) result (Ok (index_kinds (volume_pinned self.old.knows)))) }
     {
         let Some(_) = self.pass.pinned() else {
             return Err(Fault::NotPinned);

@@ -15,7 +15,7 @@ use Rattle.std.proofs.BoxSteps.Form.{Bx, B, D, X}
 use Rattle.std.specs.contracts.alloc.Global as Heap
 use Rattle.std.specs.contracts.impls.GlobalAllocator.TheImpl.{ghosts, dict}
 use Rattle.std.proofs.alloc.Global.TheLaws as heap
-use Rattle.bestore_c.specs.Owned.{holds}
+use Rattle.std.specs.Prelude.{is_some}
 use Rattle.bestore_c.specs.declared.owned.Owned.{Owned}
 use Rattle.be_session.specs.contracts.session.Session as Held
 use Rattle.be_session.proofs.session.Session.TheLaws as held
@@ -39,11 +39,11 @@ abbrev pub boxed : Owned → X E → D E
 boxed h x = record { ptr = h.at; alloc = h.alloc; value = x }
 
 -- What is owned where there is a value: a box of it.
-pub opened : {M : Type 1} {𝓤 : Ura M} (𝓛 : Logic 𝓤) (h : Owned) (vs : List Val) → holds h.value ≡ true
+pub opened : {M : Type 1} {𝓤 : Ura M} (𝓛 : Logic 𝓤) (h : Owned) (vs : List Val) → is_some h.value ≡ true
     → ent 𝓤 (sem 𝓛 ((owned.the_row).own_val h vs)) (ex 𝓤 (λ (x : X E). guard 𝓤 (h.value ≡ Some x) (sem 𝓛 ((B E).own_val (boxed h x) vs))))
 opened {𝓤 = 𝓤} 𝓛 h vs full = opened_at h.value full
   where
-    opened_at : (o : Option (X E)) → holds o ≡ true
+    opened_at : (o : Option (X E)) → is_some o ≡ true
         → ent 𝓤 (sem 𝓛 ((owned.the_row).own_val (record h { value = o }) vs)) (ex 𝓤 (λ (x : X E). guard 𝓤 (o ≡ Some x) (sem 𝓛 ((B E).own_val (boxed h x) vs))))
     opened_at None full = absurd (false≢true full)
     opened_at (Some x) full = qed 𝓛 (‵ ((owned.the_row).own_val (record h { value = Some x }) vs) ∷ []) ∵

@@ -3,10 +3,10 @@ use Rattle.std.proofs.Common.{◌≡◌, ℕ, Option, Some, None, true, refl, sy
 use Rattle.std.proofs.lemmas.Bool.{false≢true}
 use Rattle.be_session.specs.Sitting.{Sitting}
 use Rattle.bestore_c.specs.Calls.{Calls}
-use Rattle.bestore_c.specs.Owned.{holds}
+use Rattle.std.specs.Prelude.{is_some}
 
 -- the session stays as it was
-pub stays : (p : Option Sitting) (code : ℕ) (does : Sitting → Sitting → Type 0) → holds p ≡ true → ((s : Sitting) → does s s) → Calls p p code does
+pub stays : (p : Option Sitting) (code : ℕ) (does : Sitting → Sitting → Type 0) → is_some p ≡ true → ((s : Sitting) → does s s) → Calls p p code does
 stays None code does full all = absurd (false≢true full)
 stays (Some s) code does full all = (refl, refl, all s)
 

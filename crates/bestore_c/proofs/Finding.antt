@@ -1,31 +1,22 @@
 -- What a query's answer is to C.
-use Rattle.std.proofs.Common.{◌≡◌, ◌⊎◌, ℕ, List, [], ◌∷◌, ◌++◌, ◌+◌, ◌<◌, length, map, take, get_or}
-use Rattle.std.proofs.Common.{Option, Some, None, Result, Ok, Err, inl, inr, ap, sym, subst, ◌∙◌}
-use Rattle.std.proofs.lemmas.List.{map_more}
+use Rattle.std.proofs.Common.{◌≡◌, ◌⊎◌, ℕ, List, length, Option, Some, None, Result, Ok, Err, inl, inr, ap, sym, subst, ◌∙◌}
 use Rattle.be_session.specs.Fault.{fault_code}
-use Rattle.be_session.specs.Sitting.{AtPin, Tells}
+use Rattle.be_session.specs.Sitting.{AtPin, ReadAnswers}
 use Rattle.be_session.specs.declared.faults.Fault.{Fault}
-use Rattle.be_session.specs.declared.faults.Fault.TheVariants.{NotPinned, AlreadyPinned, NoPass, BadCount, NotUtf8, NoOperation}
-use Rattle.be_session.specs.declared.faults.Fault.TheVariants.{NoKind, NoValue, BadPart, NoItem, Refused}
+use Rattle.be_session.specs.declared.faults.Fault.TheVariants.{NotPinned}
 use Rattle.be_value.specs.Refusal.{refusal_number}
 use Rattle.be_value.specs.declared.refusals.Refusal.{Refusal}
 use Rattle.be_value.specs.declared.refusals.Refusal.TheVariants.{OutOfMemory}
-use Rattle.bestore_c.specs.Calls.{Found, Scanned}
+use Rattle.bestore_c.specs.Calls.{PutsOutAtPin, PutsOutAnswer}
 use Rattle.bestore_c.specs.Places.{over}
-
--- one more of what is mapped
-pub map_next : {A B : Type 0} (f : A → B) (xs : List A) (i : ℕ) (d : A) (ys : List B) → i < length xs → ys ≡ map f (take i xs)
-    → ys ++ f (get_or xs i d) ∷ [] ≡ map f (take (i + 1) xs)
-map_next f xs i d ys low is =
-    ap (λ zs. zs ++ f (get_or xs i d) ∷ []) is ∙ sym (map_more f xs i d low)
 
 -- an answer that was told
 pub found_nodes : {X : Type 0} (view : X → List ℕ) (pin : Option ℕ) (x : X) (meant : Result (List ℕ) Refusal) (places filled : List ℕ) (count code : ℕ)
-    → AtPin pin (Ok x) (Tells view (Ok x) meant) → code ≡ 0 → count ≡ length (view x) → filled ≡ over (view x) places
-    → Found pin meant places filled count code
+    → AtPin pin (Ok x) (ReadAnswers view (Ok x) meant) → code ≡ 0 → count ≡ length (view x) → filled ≡ over (view x) places
+    → PutsOutAtPin pin meant places filled count code
 found_nodes view None x meant places filled count code pinned done counted put = cc
 found_nodes view (Some n) x meant places filled count code pinned done counted put =
-    inr (subst (λ m. Scanned m places filled count code) (sym pinned) (done, counted, put))
+    inr (subst (λ m. PutsOutAnswer m places filled count code) (sym pinned) (done, counted, put))
 
 -- the fault of an answer that has one
 abbrev pub fault_in : {X : Type 0} → Result X Fault → Fault
@@ -34,36 +25,27 @@ fault_in (Err e) = e
 
 -- a fault in place of one
 pub found_fault : {X : Type 0} (view : X → List ℕ) (pin : Option ℕ) (e : Fault) (meant : Result (List ℕ) Refusal) (places filled : List ℕ) (count code : ℕ)
-    → AtPin {X = X} pin (Err e) (Tells view (Err e) meant) → code ≡ fault_code e
-    → Found pin meant places filled count code
+    → AtPin {X = X} pin (Err e) (ReadAnswers view (Err e) meant) → code ≡ fault_code e
+    → PutsOutAtPin pin meant places filled count code
 found_fault {X} view None e meant places filled count code pinned is = is ∙ ap (λ (r : Result X Fault). fault_code (fault_in r)) pinned
-found_fault {X} view (Some n) NotPinned meant places filled count code pinned is = absurd pinned
-found_fault {X} view (Some n) AlreadyPinned meant places filled count code pinned is = absurd pinned
-found_fault {X} view (Some n) NoPass meant places filled count code pinned is = absurd pinned
-found_fault {X} view (Some n) BadCount meant places filled count code pinned is = absurd pinned
-found_fault {X} view (Some n) NotUtf8 meant places filled count code pinned is = absurd pinned
-found_fault {X} view (Some n) NoOperation meant places filled count code pinned is = absurd pinned
-found_fault {X} view (Some n) NoKind meant places filled count code pinned is = absurd pinned
-found_fault {X} view (Some n) NoValue meant places filled count code pinned is = absurd pinned
-found_fault {X} view (Some n) BadPart meant places filled count code pinned is = absurd pinned
-found_fault {X} view (Some n) NoItem meant places filled count code pinned is = absurd pinned
-found_fault {X} view (Some n) (Refused why) meant places filled count code pinned is =
-    let known : (why ≡ OutOfMemory) ⊎ (meant ≡ Err why) = pinned in
+found_fault {X} view (Some n) e meant places filled count code pinned is =
+    let coded : code ≡ refusal_number pinned.0 = is ∙ ap fault_code pinned.1 in
+    let known : (pinned.0 ≡ OutOfMemory) ⊎ (meant ≡ Err pinned.0) = pinned.2 in
     elim known [
-      | inl none ↦ inl (is ∙ ap refusal_number none)
-      | inr told ↦ inr (subst (λ m. Scanned m places filled count code) (sym told) is)
+      | inl none ↦ inl (coded ∙ ap refusal_number none)
+      | inr told ↦ inr (subst (λ m. PutsOutAnswer m places filled count code) (sym told) coded)
     ]
 
 -- the same of an answer that is known to be one or the other
 pub found_ok : {X : Type 0} (view : X → List ℕ) (pin : Option ℕ) (answer : Result X Fault) (x : X) (meant : Result (List ℕ) Refusal) (places filled : List ℕ)
     (count code : ℕ)
-    → answer ≡ Ok x → AtPin pin answer (Tells view answer meant) → code ≡ 0 → count ≡ length (view x) → filled ≡ over (view x) places
-    → Found pin meant places filled count code
+    → answer ≡ Ok x → AtPin pin answer (ReadAnswers view answer meant) → code ≡ 0 → count ≡ length (view x) → filled ≡ over (view x) places
+    → PutsOutAtPin pin meant places filled count code
 found_ok {X} view pin answer x meant places filled count code is pinned =
-    found_nodes view pin x meant places filled count code (subst (λ (a : Result X Fault). AtPin pin a (Tells view a meant)) is pinned)
+    found_nodes view pin x meant places filled count code (subst (λ (a : Result X Fault). AtPin pin a (ReadAnswers view a meant)) is pinned)
 
 pub found_err : {X : Type 0} (view : X → List ℕ) (pin : Option ℕ) (answer : Result X Fault) (e : Fault) (meant : Result (List ℕ) Refusal)
     (places filled : List ℕ) (count code : ℕ)
-    → answer ≡ Err e → AtPin pin answer (Tells view answer meant) → code ≡ fault_code e → Found pin meant places filled count code
+    → answer ≡ Err e → AtPin pin answer (ReadAnswers view answer meant) → code ≡ fault_code e → PutsOutAtPin pin meant places filled count code
 found_err {X} view pin answer e meant places filled count code is pinned =
-    found_fault view pin e meant places filled count code (subst (λ (a : Result X Fault). AtPin pin a (Tells view a meant)) is pinned)
+    found_fault view pin e meant places filled count code (subst (λ (a : Result X Fault). AtPin pin a (ReadAnswers view a meant)) is pinned)

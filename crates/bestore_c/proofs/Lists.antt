@@ -2,10 +2,8 @@
 use Rattle.std.proofs.Common.{◌≡◌, ◌⊎◌, ℕ, List, length, map, Option, Some, None, Result, Ok, Err, IfOk, IfErr, inl, inr, ap, sym, subst, ◌∙◌}
 use Rattle.be_session.specs.Fault.{fault_code}
 use Rattle.be_session.specs.Operations.{AreSpelled}
-use Rattle.be_session.specs.Sitting.{AtPin, Tells}
+use Rattle.be_session.specs.Sitting.{AtPin, ReadAnswers}
 use Rattle.be_session.specs.declared.faults.Fault.{Fault}
-use Rattle.be_session.specs.declared.faults.Fault.TheVariants.{NotPinned, AlreadyPinned, NoPass, BadCount, NotUtf8, NoOperation}
-use Rattle.be_session.specs.declared.faults.Fault.TheVariants.{NoKind, NoValue, BadPart, NoItem, Refused}
 use Rattle.be_session.specs.declared.lists.Operation.{Operation}
 use Rattle.be_value.specs.Refusal.{refusal_number}
 use Rattle.be_value.specs.declared.refusals.Refusal.{Refusal}
@@ -38,40 +36,31 @@ module _ {A X : Type 0} (makes : A → Op) (view : X → List A) (counts : Count
   spent n (Ok list) ten = inl ten
   spent n (Err why) ten = inl ten
 
-  told_as : (pin : Option ℕ) (x : X) (meant : Result (List A) Refusal) → AtPin pin (Ok x) (Tells view (Ok x) meant)
+  told_as : (pin : Option ℕ) (x : X) (meant : Result (List A) Refusal) → AtPin pin (Ok x) (ReadAnswers view (Ok x) meant)
       → IsPutOut (map makes (view x)) counts places filled byte_places bytes code → Told pin meant
   told_as None x meant pinned out = cc
   told_as (Some n) x meant pinned out = subst (λ m. Told (Some n) m) (sym pinned) out
 
-  fault_as : (pin : Option ℕ) (e : Fault) (meant : Result (List A) Refusal) → AtPin {X = X} pin (Err e) (Tells view (Err e) meant) → code ≡ fault_code e
+  fault_as : (pin : Option ℕ) (e : Fault) (meant : Result (List A) Refusal) → AtPin {X = X} pin (Err e) (ReadAnswers view (Err e) meant) → code ≡ fault_code e
       → Told pin meant
   fault_as None e meant pinned is = is ∙ ap (λ (r : Result X Fault). fault_code (fault_in r)) pinned
-  fault_as (Some n) NotPinned meant pinned is = absurd pinned
-  fault_as (Some n) AlreadyPinned meant pinned is = absurd pinned
-  fault_as (Some n) NoPass meant pinned is = absurd pinned
-  fault_as (Some n) BadCount meant pinned is = absurd pinned
-  fault_as (Some n) NotUtf8 meant pinned is = absurd pinned
-  fault_as (Some n) NoOperation meant pinned is = absurd pinned
-  fault_as (Some n) NoKind meant pinned is = absurd pinned
-  fault_as (Some n) NoValue meant pinned is = absurd pinned
-  fault_as (Some n) BadPart meant pinned is = absurd pinned
-  fault_as (Some n) NoItem meant pinned is = absurd pinned
-  fault_as (Some n) (Refused why) meant pinned is =
-      let known : (why ≡ OutOfMemory) ⊎ (meant ≡ Err why) = pinned in
+  fault_as (Some n) e meant pinned is =
+      let coded : code ≡ refusal_number pinned.0 = is ∙ ap fault_code pinned.1 in
+      let known : (pinned.0 ≡ OutOfMemory) ⊎ (meant ≡ Err pinned.0) = pinned.2 in
       elim known [
-        | inl none ↦ spent n meant (is ∙ ap refusal_number none)
-        | inr told ↦ subst (λ m. Told (Some n) m) (sym told) (inr is)
+        | inl none ↦ spent n meant (coded ∙ ap refusal_number none)
+        | inr told ↦ subst (λ m. Told (Some n) m) (sym told) (inr coded)
       ]
 
   -- the same of an answer that is known to be one or the other
   pub listed_ok : (pin : Option ℕ) (answer : Result X Fault) (x : X) (meant : Result (List A) Refusal) (list : List A) → answer ≡ Ok x
-      → AtPin pin answer (Tells view answer meant) → list ≡ view x → IsPutOut (map makes list) counts places filled byte_places bytes code → Told pin meant
+      → AtPin pin answer (ReadAnswers view answer meant) → list ≡ view x → IsPutOut (map makes list) counts places filled byte_places bytes code → Told pin meant
   listed_ok pin answer x meant list is pinned same out =
-      told_as pin x meant (subst (λ (a : Result X Fault). AtPin pin a (Tells view a meant)) is pinned)
+      told_as pin x meant (subst (λ (a : Result X Fault). AtPin pin a (ReadAnswers view a meant)) is pinned)
       (subst (λ (l : List A). IsPutOut (map makes l) counts places filled byte_places bytes code) same out)
 
   pub listed_err : (pin : Option ℕ) (answer : Result X Fault) (e : Fault) (meant : Result (List A) Refusal) → answer ≡ Err e
-      → AtPin pin answer (Tells view answer meant)
+      → AtPin pin answer (ReadAnswers view answer meant)
       → code ≡ fault_code e → Told pin meant
   listed_err pin answer e meant is pinned =
-      fault_as pin e meant (subst (λ (a : Result X Fault). AtPin pin a (Tells view a meant)) is pinned)
+      fault_as pin e meant (subst (λ (a : Result X Fault). AtPin pin a (ReadAnswers view a meant)) is pinned)

@@ -6,10 +6,10 @@ use Rattle.be_session.specs.Fault.{fault_code}
 use Rattle.be_session.specs.Prepared.{PreparedQuery}
 use Rattle.be_session.specs.declared.faults.Fault.{Fault}
 use Rattle.bestore_c.specs.Calls.{Prepares}
-use Rattle.bestore_c.specs.Owned.{holds}
+use Rattle.std.specs.Prelude.{is_some}
 
 -- its handle is closed, and stays so
-pub prepares_none : (is_meant : Formula → Type 0) (is_fault : Fault → Type 0) (o : Option PreparedQuery) (e : Fault) (code : ℕ) → holds o ≡ false
+pub prepares_none : (is_meant : Formula → Type 0) (is_fault : Fault → Type 0) (o : Option PreparedQuery) (e : Fault) (code : ℕ) → is_some o ≡ false
     → code ≡ fault_code e → is_fault e → Prepares is_meant is_fault o o code
 prepares_none is_meant is_fault None e code lacking is why = (e, is, why)
 prepares_none is_meant is_fault (Some q) e code lacking is why = absurd (true≢false lacking)

@@ -7,7 +7,7 @@ use Rattle.be_session.specs.Fault.{fault_code}
 use Rattle.be_session.specs.Items.{IsBuilt, IsUnbuilt}
 use Rattle.be_session.specs.Meaning.{IsNoName, IsValueMeant}
 use Rattle.be_session.specs.Operations.{AreMeant, AreSpelled, IsMisspelt}
-use Rattle.be_session.specs.Explained.{explained_in}
+use Rattle.be_session.specs.Explained.{explanation_in}
 use Rattle.be_session.specs.Prepared.{IsUnasked, PreparedQuery}
 use Rattle.be_session.specs.Sitting.{IsHandedOut, IsNoQuery, IsOpened, IsUnrefreshed, Sitting}
 use Rattle.be_session.specs.declared.faults.Fault.{Fault}
@@ -42,9 +42,9 @@ Calls (Some s) None code does = ⊥
 Calls (Some s) (Some t) code does = (t.store ≡ s.store) × (t.spare ≡ s.spare) × does s t
 
 -- 64 of a handle that is closed, and 0 of one that is open
-abbrev pub Answers : {A : Type 0} → Option A → ℕ → Type 0
-Answers None code = code ≡ 64
-Answers (Some s) code = code ≡ 0
+abbrev pub AnswersWhetherOpen : {A : Type 0} → Option A → ℕ → Type 0
+AnswersWhetherOpen None code = code ≡ 64
+AnswersWhetherOpen (Some s) code = code ≡ 0
 
 -- Opening: an open handle stays as it was and answers 65; a closed one holds a session that has just opened a store with these
 -- limits, or stays closed where the store says why, or where memory was refused.
@@ -56,52 +56,52 @@ Opens limits None None code = ((code ≡ 10) × IsWithin limits) ⊎ ((why : Ref
 
 -- A second handle: one that is open stays as it was, and the answer is 65; a closed one gets a session of the same store, with
 -- which none waits, and with a pass that is handed out; 68 where none waits, and 10 where memory was refused.
-abbrev pub Gives : Sitting → Sitting → Option Sitting → Option Sitting → ℕ → Type 0
-Gives s t (Some o) (Some p) code = (code ≡ 65) × (p ≡ o) × (t ≡ s)
-Gives s t (Some o) None code = ⊥
-Gives s t None (Some p) code = (code ≡ 0) × (p.store ≡ s.store) × (p.spare ≡ 0) × IsHandedOut s t p.knows × (t.knows ≡ s.knows)
-Gives s t None None code = (t ≡ s) × ((code ≡ 10) ⊎ ((code ≡ 68) × (s.spare ≡ 0)))
+abbrev pub OpensSecond : Sitting → Sitting → Option Sitting → Option Sitting → ℕ → Type 0
+OpensSecond s t (Some o) (Some p) code = (code ≡ 65) × (p ≡ o) × (t ≡ s)
+OpensSecond s t (Some o) None code = ⊥
+OpensSecond s t None (Some p) code = (code ≡ 0) × (p.store ≡ s.store) × (p.spare ≡ 0) × IsHandedOut s t p.knows × (t.knows ≡ s.knows)
+OpensSecond s t None None code = (t ≡ s) × ((code ≡ 10) ⊎ ((code ≡ 68) × (s.spare ≡ 0)))
 
 -- A second handle, of one that may be closed: then both are as they were, and the answer is 64.
 abbrev pub GivesAnother : Option Sitting → Option Sitting → Option Sitting → Option Sitting → ℕ → Type 0
 GivesAnother None None o p code = (code ≡ 64) × (p ≡ o)
 GivesAnother None (Some t) o p code = ⊥
 GivesAnother (Some s) None o p code = ⊥
-GivesAnother (Some s) (Some t) o p code = (t.store ≡ s.store) × Gives s t o p code
+GivesAnother (Some s) (Some t) o p code = (t.store ≡ s.store) × OpensSecond s t o p code
 
 -- A handle is moved: what it holds goes to one that is closed, and it is closed then; 65 where the other is open, and 64 where
 -- it holds nothing.
-abbrev pub Moves : Option Sitting → Option Sitting → Option Sitting → Option Sitting → ℕ → Type 0
-Moves None o from to code = (code ≡ 64) × (from ≡ None) × (to ≡ o)
-Moves (Some s) (Some o) from to code = (code ≡ 65) × (from ≡ Some s) × (to ≡ Some o)
-Moves (Some s) None from to code = (code ≡ 0) × (from ≡ None) × (to ≡ Some s)
+abbrev pub MovesHandle : Option Sitting → Option Sitting → Option Sitting → Option Sitting → ℕ → Type 0
+MovesHandle None o from to code = (code ≡ 64) × (from ≡ None) × (to ≡ o)
+MovesHandle (Some s) (Some o) from to code = (code ≡ 65) × (from ≡ Some s) × (to ≡ Some o)
+MovesHandle (Some s) None from to code = (code ≡ 0) × (from ≡ None) × (to ≡ Some s)
 
 -- A write: what is spelled is misspelt, and then nothing has happened; or it means operations, which the session accepted, and
--- the numbers of the new nodes and the length of the journal are put out, or which it held back, for a reason of this kind.
-abbrev pub Writes : (Knowledge → Knowledge → List Op → Fault → Type 0) → Sitting → Sitting → List Operation → List ℕ → List ℕ → List ℕ → ℕ → ℕ → Type 0
-Writes is_held_back s t spelled bytes places filled entries code =
+-- the numbers of the new nodes and the length of the journal are put out, or which it did not write, for a reason of this kind.
+abbrev pub WritesSpelled : (Knowledge → Knowledge → List Op → Fault → Type 0) → Sitting → Sitting → List Operation → List ℕ → List ℕ → List ℕ → ℕ → ℕ → Type 0
+WritesSpelled is_unwritten s t spelled bytes places filled entries code =
     ((e : Fault) × (code ≡ fault_code e) × IsMisspelt spelled bytes e × (t ≡ s))
     ⊎ ((ops : List Op) × AreMeant spelled bytes ops ×
     (((code ≡ 0) × (dones : List Done) × Accepts s.knows t.knows ops entries dones × (filled ≡ over (map node_of dones) places))
-    ⊎ ((e : Fault) × (code ≡ fault_code e) × is_held_back s.knows t.knows ops e)))
+    ⊎ ((e : Fault) × (code ≡ fault_code e) × is_unwritten s.knows t.knows ops e)))
 
 -- What a version answers, a list of nodes or of a text's bytes: how many they are, and as many of them as there are places; or
 -- why there is no answer.
-abbrev pub Scanned : Result (List ℕ) Refusal → List ℕ → List ℕ → ℕ → ℕ → Type 0
-Scanned (Ok nodes) places filled count code = (code ≡ 0) × (count ≡ length nodes) × (filled ≡ over nodes places)
-Scanned (Err why) places filled count code = code ≡ refusal_number why
+abbrev pub PutsOutAnswer : Result (List ℕ) Refusal → List ℕ → List ℕ → ℕ → ℕ → Type 0
+PutsOutAnswer (Ok nodes) places filled count code = (code ≡ 0) × (count ≡ length nodes) × (filled ≡ over nodes places)
+PutsOutAnswer (Err why) places filled count code = code ≡ refusal_number why
 
 -- what it answers in the pinned version, if there is a pin; 10 where a growth was refused
-abbrev pub Found : Option ℕ → Result (List ℕ) Refusal → List ℕ → List ℕ → ℕ → ℕ → Type 0
-Found None answer places filled count code = code ≡ 66
-Found (Some n) answer places filled count code = (code ≡ 10) ⊎ Scanned answer places filled count code
+abbrev pub PutsOutAtPin : Option ℕ → Result (List ℕ) Refusal → List ℕ → List ℕ → ℕ → ℕ → Type 0
+PutsOutAtPin None answer places filled count code = code ≡ 66
+PutsOutAtPin (Some n) answer places filled count code = (code ≡ 10) ⊎ PutsOutAnswer answer places filled count code
 
 -- A query by its text: the bytes are no query, and then nothing has happened; or they are one, and its answer is put out.
 abbrev pub Finds : Sitting → Sitting → List ℕ → List ℕ → List ℕ → ℕ → ℕ → Type 0
 Finds s t text places filled count code =
     ((e : Fault) × (code ≡ fault_code e) × IsNoQuery text e × (t ≡ s))
     ⊎ ((query : Formula) × IsTextOf text query × HasRead s.knows t.knows
-    × Found (pinned_number s.knows.phase) (scan (volume_pinned s.knows) query) places filled count code)
+    × PutsOutAtPin (pinned_number s.knows.phase) (scan (volume_pinned s.knows) query) places filled count code)
 
 -- What a query would be answered from, by its text: the bytes are no query, and then nothing has happened; or they are one, and
 -- what is said of it is put out.
@@ -109,14 +109,14 @@ abbrev pub Explains : Sitting → Sitting → List ℕ → List ℕ → List ℕ
 Explains s t text places filled count code =
     ((e : Fault) × (code ≡ fault_code e) × IsNoQuery text e × (t ≡ s))
     ⊎ ((query : Formula) × IsTextOf text query × HasRead s.knows t.knows
-    × Found (pinned_number s.knows.phase) (explained_in (volume_pinned s.knows) query) places filled count code)
+    × PutsOutAtPin (pinned_number s.knows.phase) (explanation_in (volume_pinned s.knows) query) places filled count code)
 
 -- A query by its items: they are none, and then nothing has happened; or they build one, and its answer is put out.
 abbrev pub FindsBuilt : Sitting → Sitting → List PredicateItem → List ℕ → List ℕ → List ℕ → ℕ → ℕ → Type 0
 FindsBuilt s t spelled bytes places filled count code =
     ((e : Fault) × (code ≡ fault_code e) × IsUnbuilt spelled bytes e × (t ≡ s))
     ⊎ ((query : Formula) × IsBuilt spelled bytes query × HasRead s.knows t.knows
-    × Found (pinned_number s.knows.phase) (scan (volume_pinned s.knows) query) places filled count code)
+    × PutsOutAtPin (pinned_number s.knows.phase) (scan (volume_pinned s.knows) query) places filled count code)
 
 -- what is there in the pinned version, if there is a pin: its type code, number and length are told, and as many of its bytes
 -- as there are places
@@ -158,7 +158,7 @@ Prepares is_meant is_fault None None code = (e : Fault) × (code ≡ fault_code 
 abbrev pub FindsPrepared : Sitting → Sitting → Option PreparedQuery → List ℕ → List ℕ → ℕ → ℕ → Type 0
 FindsPrepared s t None places filled count code = (code ≡ 64) × (t ≡ s)
 FindsPrepared s t (Some p) places filled count code =
-    HasRead s.knows t.knows × Found (pinned_number s.knows.phase) (scan (volume_pinned s.knows) p.live.query) places filled count code
+    HasRead s.knows t.knows × PutsOutAtPin (pinned_number s.knows.phase) (scan (volume_pinned s.knows) p.live.query) places filled count code
 
 -- A query was asked in the pinned version, and keeps which nodes came and which went: how many these are is told; or it stays
 -- as it was.

@@ -1,3 +1,4 @@
 pub mod Owned
+pub mod Lent
 pub mod Places
 pub mod Calls

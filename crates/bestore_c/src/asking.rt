@@ -2,12 +2,12 @@
 ghost use Rattle.std.specs.Prelude.{◌≡◌, ◌⊎◌, ℕ, List, length, string_bytes};
 ghost use Rattle.std.specs.declared.option.Option.{Option as AnyOption};
 ghost use Rattle.std.specs.declared.result.Result.{Result as AnyResult};
-ghost use Rattle.be_session.specs.Sitting.{AtPin, Tells};
+ghost use Rattle.be_session.specs.Sitting.{AtPin, ReadAnswers};
 ghost use Rattle.be_store.specs.Passes.{HasRead, volume_pinned};
 ghost use Rattle.be_table.specs.Seats.{pinned_number};
 ghost use Rattle.be_value.specs.declared.refusals.Refusal.{Refusal as AnyRefusal};
 ghost use Rattle.be_volume.specs.Query.{scan};
-ghost use Rattle.bestore_c.specs.Calls.{Found, Refreshed};
+ghost use Rattle.bestore_c.specs.Calls.{PutsOutAtPin, Refreshed};
 ghost use Rattle.bestore_c.specs.Places.{over};
 
 use crate::handle::UpdateCounts;
@@ -19,8 +19,8 @@ use std::alloc::Global;
 /// what the session told.
 pub(crate) fn tell(answer: Result<Vec<u64>, Fault>, nodes: &mut [u64], count: &mut u64) -> u32
     ensures found { (pin : AnyOption ℕ) (meant : AnyResult (List ℕ) AnyRefusal)
-        → AtPin pin answer (Tells (λ found. found.items) answer meant)
-        → Found pin meant nodes.old nodes.new count.new result }
+        → AtPin pin answer (ReadAnswers (λ found. found.items) answer meant)
+        → PutsOutAtPin pin meant nodes.old nodes.new count.new result }
     ensures kept { (result ≡ 0) ⊎ ((count.new ≡ count.old) × (nodes.new ≡ nodes.old)) }
 {
     match answer {
@@ -45,8 +45,8 @@ pub(crate) fn put_text(text: &str, bytes: &mut [u8], count: &mut u64)
 /// Puts out how many bytes a text of a session's has, and as many of them as there is room for; else as `tell`.
 pub(crate) fn tell_text(answer: Result<String, Fault>, bytes: &mut [u8], count: &mut u64) -> u32
     ensures found { (pin : AnyOption ℕ) (meant : AnyResult (List ℕ) AnyRefusal)
-        → AtPin pin answer (Tells string_bytes answer meant)
-        → Found pin meant bytes.old bytes.new count.new result }
+        → AtPin pin answer (ReadAnswers string_bytes answer meant)
+        → PutsOutAtPin pin meant bytes.old bytes.new count.new result }
     ensures kept { (result ≡ 0) ⊎ ((count.new ≡ count.old) × (bytes.new ≡ bytes.old)) }
 {
     match answer {
@@ -68,7 +68,7 @@ pub(crate) fn find_prepared(
 ) -> u32
     ensures store { (session.new.store ≡ session.old.store) × (session.new.spare ≡ session.old.spare) }
     ensures read { HasRead session.old.knows session.new.knows }
-    ensures found { Found (pinned_number session.old.knows.phase) (scan (volume_pinned session.old.knows) prepared.now.live.query)
+    ensures found { PutsOutAtPin (pinned_number session.old.knows.phase) (scan (volume_pinned session.old.knows) prepared.now.live.query)
         nodes.old nodes.new count.new result }
     ensures kept { (result ≡ 0) ⊎ ((count.new ≡ count.old) × (nodes.new ≡ nodes.old)) }
 {

@@ -1,6 +1,5 @@
 //! What C holds.
-ghost use Rattle.std.specs.Prelude.{◌≡◌};
-ghost use Rattle.bestore_c.specs.Owned.{holds};
+ghost use Rattle.std.specs.Prelude.{◌≡◌, is_some};
 
 use crate::owned::Owned;
 use crate::owned_query::OwnedQuery;
@@ -12,7 +11,7 @@ use be_session::sent;
 pub struct Handle {
     pub live: bool,
     pub owned: Owned,
-    ghost full: { live ≡ holds owned.value },
+    ghost full: { live ≡ is_some owned.value },
 }
 
 /// What C holds of a query that is parsed once and kept: closed, or open with the query. Zero bytes are a closed one.
@@ -21,7 +20,7 @@ pub struct Handle {
 pub struct PreparedHandle {
     pub live: bool,
     pub owned: OwnedQuery,
-    ghost full: { live ≡ holds owned.value },
+    ghost full: { live ≡ is_some owned.value },
 }
 
 /// A law of the handle: it may go to another thread, with what it holds. It does nothing.

@@ -8,14 +8,14 @@ ghost use Rattle.std.specs.Prelude.{◌≡◌, ◌⊎◌, ◌+◌, None, Ok};
 ghost use Rattle.be_query.specs.Grammar.{IsTextOf};
 ghost use Rattle.be_session.specs.Items.{IsBuilt, IsUnbuilt};
 ghost use Rattle.be_session.specs.Operations.{makes, sets};
-ghost use Rattle.be_session.specs.Sitting.{HasMet, IsHeldBack, IsHeldBackAtLast, IsNoQuery};
+ghost use Rattle.be_session.specs.Sitting.{HasMet, IsUnwritten, IsUnwrittenAtLast, IsNoQuery};
 ghost use Rattle.be_store.specs.History.{Pins};
 ghost use Rattle.be_store.specs.Passes.{HasRead, volume_pinned};
 ghost use Rattle.be_table.specs.Seats.{pinned_number};
 ghost use Rattle.be_table.specs.Steps.{unpins};
 ghost use Rattle.be_volume.specs.Reading.{attributes_at, index_kinds};
-ghost use Rattle.bestore_c.specs.Calls.{Answers, Calls, Explains, Finds, FindsBuilt, FindsPrepared, GivesAnother, Listed, Moves, Opens};
-ghost use Rattle.bestore_c.specs.Calls.{Prepares, Reads, RefreshesPrepared, ShowsChanges, TellsJournal, Writes};
+ghost use Rattle.bestore_c.specs.Calls.{AnswersWhetherOpen, Calls, Explains, Finds, FindsBuilt, FindsPrepared, GivesAnother, Listed, MovesHandle, Opens};
+ghost use Rattle.bestore_c.specs.Calls.{Prepares, Reads, RefreshesPrepared, ShowsChanges, TellsJournal, WritesSpelled};
 
 mod asking;
 mod handle;
@@ -32,12 +32,12 @@ use be_session::{
     Operation, PredicateItem, Session, name, operations, prepare, prepare_items, query_of,
     query_of_items, spelled,
 };
-use be_store::Limits;
+use be_store::{ArrayVec, Limits};
 use handle::{Attribute, Counts, Handle, PreparedHandle, UpdateCounts};
 use listing::{tell_attributes, tell_indices};
 use owned::Owned;
 use owned_query::OwnedQuery;
-use places::{nodes_of, put};
+use places::{put, put_nodes};
 use std::alloc::Global;
 use std::mem;
 
@@ -100,10 +100,7 @@ pub extern "C" fn bes_another(alloc: Global, pass: &mut Handle, other: &mut Hand
     if other.live {
         return OPEN;
     }
-    let mut session = mem::replace(&mut pass.owned, Owned::none(alloc)).into_box();
-    let made = session.another(alloc);
-    pass.owned = Owned::of(session);
-    match made {
+    match pass.owned.lent().another(alloc) {
         Ok(session) => {
             *other = Handle {
                 live: true,
@@ -118,7 +115,7 @@ pub extern "C" fn bes_another(alloc: Global, pass: &mut Handle, other: &mut Hand
 /// Moves what the handle holds into a handle that is closed, and closes it.
 #[unsafe(no_mangle)]
 pub extern "C" fn bes_move(alloc: Global, pass: &mut Handle, other: &mut Handle) -> u32
-    ensures { Moves pass.old.owned.value other.old.owned.value pass.new.owned.value other.new.owned.value result }
+    ensures { MovesHandle pass.old.owned.value other.old.owned.value pass.new.owned.value other.new.owned.value result }
 {
     if !pass.live {
         return CLOSED;
@@ -138,7 +135,7 @@ pub extern "C" fn bes_move(alloc: Global, pass: &mut Handle, other: &mut Handle)
 #[unsafe(no_mangle)]
 pub extern "C" fn bes_close(alloc: Global, pass: &mut Handle) -> u32
     ensures closed { pass.new.owned.value ≡ None }
-    ensures answer { Answers pass.old.owned.value result }
+    ensures answer { AnswersWhetherOpen pass.old.owned.value result }
 {
     if !pass.live {
         return CLOSED;
@@ -151,7 +148,7 @@ pub extern "C" fn bes_close(alloc: Global, pass: &mut Handle) -> u32
 
 /// Meets a pass that was given back: both have then seen what either had. Puts out how much that is.
 #[unsafe(no_mangle)]
-pub extern "C" fn bes_meet(alloc: Global, pass: &mut Handle, seen: &mut u64) -> u32
+pub extern "C" fn bes_meet(pass: &mut Handle, seen: &mut u64) -> u32
     ensures pass { Calls pass.old.owned.value pass.new.owned.value result
         (λ s t. ((result ≡ 0) × HasMet s.store s.knows t.knows seen.new) ⊎ ((result ≡ 68) × (t ≡ s))) }
     ensures kept { (result ≡ 0) ⊎ (seen.new ≡ seen.old) }
@@ -159,10 +156,7 @@ pub extern "C" fn bes_meet(alloc: Global, pass: &mut Handle, seen: &mut u64) -> 
     if !pass.live {
         return CLOSED;
     }
-    let mut session = mem::replace(&mut pass.owned, Owned::none(alloc)).into_box();
-    let answer = session.meet();
-    pass.owned = Owned::of(session);
-    match answer {
+    match pass.owned.lent().meet() {
         Ok(n) => {
             *seen = n;
             DONE
@@ -173,7 +167,7 @@ pub extern "C" fn bes_meet(alloc: Global, pass: &mut Handle, seen: &mut u64) -> 
 
 /// Pins the current version, and puts out its number.
 #[unsafe(no_mangle)]
-pub extern "C" fn bes_pin(alloc: Global, pass: &mut Handle, number: &mut u64) -> u32
+pub extern "C" fn bes_pin(pass: &mut Handle, number: &mut u64) -> u32
     ensures pass { Calls pass.old.owned.value pass.new.owned.value result
         (λ s t. ((result ≡ 0) × Pins s.knows t.knows number.new) ⊎ ((result ≡ 67) × (t ≡ s))) }
     ensures kept { (result ≡ 0) ⊎ (number.new ≡ number.old) }
@@ -181,10 +175,7 @@ pub extern "C" fn bes_pin(alloc: Global, pass: &mut Handle, number: &mut u64) ->
     if !pass.live {
         return CLOSED;
     }
-    let mut session = mem::replace(&mut pass.owned, Owned::none(alloc)).into_box();
-    let answer = session.pin();
-    pass.owned = Owned::of(session);
-    match answer {
+    match pass.owned.lent().pin() {
         Ok(n) => {
             *number = n;
             DONE
@@ -195,16 +186,13 @@ pub extern "C" fn bes_pin(alloc: Global, pass: &mut Handle, number: &mut u64) ->
 
 /// Gives the pin up.
 #[unsafe(no_mangle)]
-pub extern "C" fn bes_unpin(alloc: Global, pass: &mut Handle) -> u32
+pub extern "C" fn bes_unpin(pass: &mut Handle) -> u32
     ensures pass { Calls pass.old.owned.value pass.new.owned.value result (λ s t. ((result ≡ 0) × (t.knows ≡ unpins s.knows)) ⊎ ((result ≡ 66) × (t ≡ s))) }
 {
     if !pass.live {
         return CLOSED;
     }
-    let mut session = mem::replace(&mut pass.owned, Owned::none(alloc)).into_box();
-    let answer = session.unpin();
-    pass.owned = Owned::of(session);
-    match answer {
+    match pass.owned.lent().unpin() {
         Ok(()) => DONE,
         Err(fault) => fault.code(),
     }
@@ -222,7 +210,7 @@ pub extern "C" fn bes_apply(
     entries: &mut u64,
 ) -> u32
     ensures pass { Calls pass.old.owned.value pass.new.owned.value result
-        (λ s t. Writes IsHeldBack s t spelled.now bytes.now made.old made.new entries.new result) }
+        (λ s t. WritesSpelled IsUnwritten s t spelled.now bytes.now made.old made.new entries.new result) }
     ensures kept { (result ≡ 0) ⊎ ((entries.new ≡ entries.old) × (made.new ≡ made.old)) }
 {
     if !pass.live {
@@ -232,13 +220,12 @@ pub extern "C" fn bes_apply(
         Ok(ops) => ops,
         Err(fault) => return fault.code(),
     };
-    let mut session = mem::replace(&mut pass.owned, Owned::none(alloc)).into_box();
-    let answer = session.apply(ops.as_slice());
-    pass.owned = Owned::of(session);
+    let mut dones = ArrayVec::new();
+    let answer = pass.owned.lent().apply(ops.as_slice(), &mut dones);
     match answer {
-        Ok((length, dones)) => {
+        Ok(length) => {
             *entries = length;
-            put(made, nodes_of(&dones).as_slice());
+            put_nodes(made, dones.as_slice());
             DONE
         }
         Err(fault) => fault.code(),
@@ -257,7 +244,7 @@ pub extern "C" fn bes_apply_or_retry(
     entries: &mut u64,
 ) -> u32
     ensures pass { Calls pass.old.owned.value pass.new.owned.value result
-        (λ s t. Writes (IsHeldBackAtLast (retries + 1)) s t spelled.now bytes.now made.old made.new entries.new result) }
+        (λ s t. WritesSpelled (IsUnwrittenAtLast (retries + 1)) s t spelled.now bytes.now made.old made.new entries.new result) }
     ensures kept { (result ≡ 0) ⊎ ((entries.new ≡ entries.old) × (made.new ≡ made.old)) }
 {
     if !pass.live {
@@ -267,13 +254,15 @@ pub extern "C" fn bes_apply_or_retry(
         Ok(ops) => ops,
         Err(fault) => return fault.code(),
     };
-    let mut session = mem::replace(&mut pass.owned, Owned::none(alloc)).into_box();
-    let answer = session.apply_or_retry(ops.as_slice(), retries);
-    pass.owned = Owned::of(session);
+    let mut dones = ArrayVec::new();
+    let answer = pass
+        .owned
+        .lent()
+        .apply_or_retry(ops.as_slice(), retries, &mut dones);
     match answer {
-        Ok((written, dones)) => {
+        Ok(written) => {
             *entries = written;
-            put(made, nodes_of(&dones).as_slice());
+            put_nodes(made, dones.as_slice());
             DONE
         }
         Err(fault) => fault.code(),
@@ -300,9 +289,7 @@ pub extern "C" fn bes_query(
         Ok(query) => query,
         Err(fault) => return fault.code(),
     };
-    let mut session = mem::replace(&mut pass.owned, Owned::none(alloc)).into_box();
-    let answer = session.query(alloc, &query);
-    pass.owned = Owned::of(session);
+    let answer = pass.owned.lent().query(alloc, &query);
     tell(answer, nodes, count)
 }
 
@@ -326,9 +313,7 @@ pub extern "C" fn bes_query_items(
         Ok(query) => query,
         Err(fault) => return fault.code(),
     };
-    let mut session = mem::replace(&mut pass.owned, Owned::none(alloc)).into_box();
-    let answer = session.query(alloc, &built);
-    pass.owned = Owned::of(session);
+    let answer = pass.owned.lent().query(alloc, &built);
     tell(answer, nodes, count)
 }
 
@@ -352,9 +337,7 @@ pub extern "C" fn bes_explain(
         Ok(query) => query,
         Err(fault) => return fault.code(),
     };
-    let mut session = mem::replace(&mut pass.owned, Owned::none(alloc)).into_box();
-    let answer = session.explain(alloc, &query);
-    pass.owned = Owned::of(session);
+    let answer = pass.owned.lent().explain(alloc, &query);
     tell_text(answer, bytes, count)
 }
 
@@ -362,7 +345,6 @@ pub extern "C" fn bes_explain(
 /// of its bytes as there is room for.
 #[unsafe(no_mangle)]
 pub extern "C" fn bes_get(
-    alloc: Global,
     pass: &mut Handle,
     node: u64,
     name_bytes: &[u8],
@@ -379,12 +361,10 @@ pub extern "C" fn bes_get(
         Ok(name) => name,
         Err(fault) => return fault.code(),
     };
-    let mut session = mem::replace(&mut pass.owned, Owned::none(alloc)).into_box();
-    let answer = session.get(node, &name);
-    pass.owned = Owned::of(session);
-    match answer {
+    let answer = pass.owned.lent().get(node, &name);
+    match &answer {
         Ok(Some(value)) => {
-            let (code, number, spelled) = spelled(&value);
+            let (code, number, spelled) = spelled(value);
             *attribute = Attribute {
                 code,
                 length: spelled.len() as u64,
@@ -417,9 +397,7 @@ pub extern "C" fn bes_attributes(
     if !pass.live {
         return CLOSED;
     }
-    let mut session = mem::replace(&mut pass.owned, Owned::none(alloc)).into_box();
-    let answer = session.attrs(alloc, node);
-    pass.owned = Owned::of(session);
+    let answer = pass.owned.lent().attrs(alloc, node);
     tell_attributes(alloc, node, answer, counts, listed, bytes)
 }
 
@@ -440,9 +418,7 @@ pub extern "C" fn bes_indices(
     if !pass.live {
         return CLOSED;
     }
-    let mut session = mem::replace(&mut pass.owned, Owned::none(alloc)).into_box();
-    let answer = session.indices(alloc);
-    pass.owned = Owned::of(session);
+    let answer = pass.owned.lent().indices(alloc);
     tell_indices(alloc, answer, counts, listed, bytes)
 }
 
@@ -495,7 +471,7 @@ pub extern "C" fn bes_prepare_items(
 #[unsafe(no_mangle)]
 pub extern "C" fn bes_release(alloc: Global, prepared: &mut PreparedHandle) -> u32
     ensures closed { prepared.new.owned.value ≡ None }
-    ensures answer { Answers prepared.old.owned.value result }
+    ensures answer { AnswersWhetherOpen prepared.old.owned.value result }
 {
     if !prepared.live {
         return CLOSED;
@@ -526,19 +502,14 @@ pub extern "C" fn bes_query_prepared(
     if !prepared.live {
         return CLOSED;
     }
-    let mut session = mem::replace(&mut pass.owned, Owned::none(alloc)).into_box();
-    let query = mem::replace(&mut prepared.owned, OwnedQuery::none(alloc)).into_box();
-    let code = find_prepared(alloc, &mut *session, &*query, nodes, count);
-    pass.owned = Owned::of(session);
-    prepared.owned = OwnedQuery::of(query);
-    code
+    let query = prepared.owned.lent();
+    find_prepared(alloc, pass.owned.lent(), query, nodes, count)
 }
 
 /// Refreshes a prepared query in the pinned version. Puts out how many nodes came since its last refresh, and how many went;
 /// `bes_changes` tells which.
 #[unsafe(no_mangle)]
 pub extern "C" fn bes_refresh(
-    alloc: Global,
     pass: &mut Handle,
     prepared: &mut PreparedHandle,
     counts: &mut UpdateCounts,
@@ -553,19 +524,13 @@ pub extern "C" fn bes_refresh(
     if !prepared.live {
         return CLOSED;
     }
-    let mut session = mem::replace(&mut pass.owned, Owned::none(alloc)).into_box();
-    let mut query = mem::replace(&mut prepared.owned, OwnedQuery::none(alloc)).into_box();
-    let code = refresh_prepared(&mut *session, &mut *query, counts);
-    pass.owned = Owned::of(session);
-    prepared.owned = OwnedQuery::of(query);
-    code
+    refresh_prepared(pass.owned.lent(), prepared.owned.lent(), counts)
 }
 
 /// Puts out the nodes that came at the last refresh of a prepared query, and those that went, of both as many as there is room
 /// for.
 #[unsafe(no_mangle)]
 pub extern "C" fn bes_changes(
-    alloc: Global,
     prepared: &mut PreparedHandle,
     created: &mut [u64],
     removed: &mut [u64],
@@ -577,31 +542,22 @@ pub extern "C" fn bes_changes(
     if !prepared.live {
         return CLOSED;
     }
-    let query = mem::replace(&mut prepared.owned, OwnedQuery::none(alloc)).into_box();
+    let query = prepared.owned.lent();
     put(created, query.created());
     put(removed, query.removed());
-    prepared.owned = OwnedQuery::of(query);
     DONE
 }
 
 /// Tells the journal's text up to now. Puts out how many bytes it has, and as many of them as there is room for.
 #[unsafe(no_mangle)]
-pub extern "C" fn bes_journal(
-    alloc: Global,
-    pass: &mut Handle,
-    bytes: &mut [u8],
-    count: &mut u64,
-) -> u32
+pub extern "C" fn bes_journal(pass: &mut Handle, bytes: &mut [u8], count: &mut u64) -> u32
     ensures pass { Calls pass.old.owned.value pass.new.owned.value result (λ s t. TellsJournal s t bytes.old bytes.new count.new result) }
     ensures kept { (result ≡ 0) ⊎ ((count.new ≡ count.old) × (bytes.new ≡ bytes.old)) }
 {
     if !pass.live {
         return CLOSED;
     }
-    let mut session = mem::replace(&mut pass.owned, Owned::none(alloc)).into_box();
-    let answer = session.journal_text();
-    pass.owned = Owned::of(session);
-    match answer {
+    match pass.owned.lent().journal_text() {
         Ok(text) => {
             put_text(text.as_str(), bytes, count);
             DONE

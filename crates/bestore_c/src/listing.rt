@@ -3,7 +3,7 @@ ghost use Rattle.std.specs.Prelude.{◌≡◌, ◌⊎◌, ℕ, List, IfOk, IfErr
 ghost use Rattle.std.specs.declared.option.Option.{Option as AnyOption};
 ghost use Rattle.std.specs.declared.result.Result.{Result as AnyResult};
 ghost use Rattle.be_session.specs.Operations.{AreSpelled, makes, sets};
-ghost use Rattle.be_session.specs.Sitting.{AtPin, Tells};
+ghost use Rattle.be_session.specs.Sitting.{AtPin, ReadAnswers};
 ghost use Rattle.be_session.specs.declared.faults.Fault.TheVariants.{Refused};
 ghost use Rattle.be_value.specs.declared.refusals.Refusal.{Refusal as AnyRefusal};
 ghost use Rattle.be_value.specs.declared.refusals.Refusal.TheVariants.{OutOfMemory};
@@ -67,7 +67,7 @@ pub(crate) fn tell_attributes(
     bytes: &mut [u8],
 ) -> u32
     ensures listed { (pin : AnyOption ℕ) (meant : AnyResult (List (List ℕ × AnyValue)) AnyRefusal)
-        → AtPin pin answer (Tells (λ list. list.items) answer meant)
+        → AtPin pin answer (ReadAnswers (λ list. list.items) answer meant)
         → Listed (sets node) pin meant counts.new operations.old operations.new bytes.old bytes.new result }
     ensures kept { (result ≡ 0) ⊎ ((counts.new ≡ counts.old) × (operations.new ≡ operations.old) × (bytes.new ≡ bytes.old)) }
 {
@@ -89,7 +89,7 @@ pub(crate) fn tell_indices(
     bytes: &mut [u8],
 ) -> u32
     ensures listed { (pin : AnyOption ℕ) (meant : AnyResult (List (List ℕ × AnyKind)) AnyRefusal)
-        → AtPin pin answer (Tells (λ list. list.items) answer meant)
+        → AtPin pin answer (ReadAnswers (λ list. list.items) answer meant)
         → Listed makes pin meant counts.new operations.old operations.new bytes.old bytes.new result }
     ensures kept { (result ≡ 0) ⊎ ((counts.new ≡ counts.old) × (operations.new ≡ operations.old) × (bytes.new ≡ bytes.old)) }
 {

@@ -1,11 +1,11 @@
 //! What a handle owns: a box that C holds as a pointer, or nothing.
 //!
 //! Its type names no other type, so that it can lie in memory that C passes.
-ghost use Rattle.std.specs.Prelude.{◌≡◌, Option, None, Some, true};
+ghost use Rattle.std.specs.Prelude.{◌≡◌, Option, None, Some, is_some, true};
 ghost use Rattle.std.specs.contracts.impls.GlobalAllocator.TheImpl.{ghosts};
 ghost use Rattle.be_session.specs.declared.session.Session.{Session};
 ghost use Rattle.be_session.specs.contracts.session.Session.{the_row};
-ghost use Rattle.bestore_c.specs.Owned.{may_own, holds};
+ghost use Rattle.bestore_c.specs.Owned.{may_own};
 
 use crate::loose::Loose;
 use be_session::Session;
@@ -27,6 +27,18 @@ impl Model for Owned {
 unsafe impl Send for Owned {}
 
 impl Owned {
+    ghost use Rattle.std.specs.Borrow.{sem};
+    ghost use Rattle.bestore_c.specs.Lent.{LendsSession};
+
+    /// The session that is owned, lent: what becomes of it is what is owned then.
+    pub fn lent(&mut self) -> &mut Session
+        requires { is_some self.old.value ≡ true }
+        ensures* writes_back { sem 𝓛 (LendsSession self.entry result) }
+        ensures value { self.old.value ≡ Some result.now }
+    {
+        unsafe { &mut *(self.at as *mut Session) }
+    }
+
     pub fn none(alloc: Global) -> Owned
         ensures { result.value ≡ None }
     {
@@ -47,7 +59,7 @@ impl Owned {
     }
 
     fn into_loose(self) -> Loose<Session, Global>
-        requires { holds self.value ≡ true }
+        requires { is_some self.value ≡ true }
         ensures { self.value ≡ Some result.value }
     {
         let Owned { at, alloc } = self;
@@ -64,7 +76,7 @@ impl Owned {
     }
 
     pub fn into_box(self) -> Box<Session, Global>
-        requires { holds self.value ≡ true }
+        requires { is_some self.value ≡ true }
         ensures { self.value ≡ Some result.value }
     {
         self.into_loose().into_box()

@@ -1,13 +1,13 @@
 //! What the handle of a prepared query owns: a box that C holds as a pointer, or nothing. As in `owned`, for another type.
 //!
 //! Its type names no other type, so that it can lie in memory that C passes.
-ghost use Rattle.std.specs.Prelude.{◌≡◌, Option, None, Some, true};
+ghost use Rattle.std.specs.Prelude.{◌≡◌, Option, None, Some, is_some, true};
 ghost use Rattle.std.specs.Coded.{coded_option};
 ghost use Rattle.std.specs.contracts.impls.GlobalAllocator.TheImpl.{ghosts};
 ghost use Rattle.be_session.specs.Prepared.{coded_prepared};
 ghost use Rattle.be_session.specs.declared.preparing.Prepared.{Prepared};
 ghost use Rattle.be_session.specs.contracts.preparing.Prepared.{the_row};
-ghost use Rattle.bestore_c.specs.Owned.{may_own, holds};
+ghost use Rattle.bestore_c.specs.Owned.{may_own};
 
 use crate::loose::Loose;
 use be_session::Prepared;
@@ -27,6 +27,18 @@ impl Model for OwnedQuery {
 }
 
 impl OwnedQuery {
+    ghost use Rattle.std.specs.Borrow.{sem};
+    ghost use Rattle.bestore_c.specs.Lent.{LendsQuery};
+
+    /// The query that is owned, lent: what becomes of it is what is owned then.
+    pub fn lent(&mut self) -> &mut Prepared
+        requires { is_some self.old.value ≡ true }
+        ensures* writes_back { sem 𝓛 (LendsQuery self.entry result) }
+        ensures value { self.old.value ≡ Some result.now }
+    {
+        unsafe { &mut *(self.at as *mut Prepared) }
+    }
+
     pub fn none(alloc: Global) -> OwnedQuery
         ensures { result.value ≡ None }
     {
@@ -47,7 +59,7 @@ impl OwnedQuery {
     }
 
     fn into_loose(self) -> Loose<Prepared, Global>
-        requires { holds self.value ≡ true }
+        requires { is_some self.value ≡ true }
         ensures { self.value ≡ Some result.value }
     {
         let OwnedQuery { at, alloc } = self;
@@ -64,7 +76,7 @@ impl OwnedQuery {
     }
 
     pub fn into_box(self) -> Box<Prepared, Global>
-        requires { holds self.value ≡ true }
+        requires { is_some self.value ≡ true }
         ensures { self.value ≡ Some result.value }
     {
         self.into_loose().into_box()

@@ -2,7 +2,7 @@
 ghost use Rattle.std.specs.Prelude.{◌≡◌, map};
 ghost use Rattle.bestore_c.specs.Places.{over, node_of};
 
-use be_store::{ArrayVec, Done};
+use be_store::Done;
 
 /// Puts numbers into the first places, as many as there are places.
 pub(crate) fn put<T: Copy>(places: &mut [T], numbers: &[T])
@@ -24,13 +24,12 @@ fn node_of(done: Done) -> u64
     }
 }
 
-/// The numbers of new nodes, and 0 for what is none.
-pub(crate) fn nodes_of(dones: &ArrayVec<Done, 64>) -> ArrayVec<u64, 64>
-    ensures { result.items ≡ map node_of dones.now.items }
+/// Puts the numbers of new nodes into the first places, and 0 for what is none, as many as there are places.
+pub(crate) fn put_nodes(places: &mut [u64], dones: &[Done])
+    ensures { places.new ≡ over (map node_of dones.now) places.old }
 {
-    let mut nodes = ArrayVec::new();
-    for done in dones.as_slice() {
-        nodes.push(node_of(*done));
+    let count = dones.len().min(places.len());
+    for i in 0..count {
+        places[i] = node_of(dones[i]);
     }
-    nodes
 }

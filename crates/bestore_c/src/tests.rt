@@ -66,9 +66,9 @@ fn write(alloc: Global, mine: &mut Handle, list: &[Operation]) -> u32 {
 }
 
 /// The answer to a pin.
-fn pin(alloc: Global, mine: &mut Handle) -> u32 {
+fn pin(mine: &mut Handle) -> u32 {
     let mut number = 0;
-    bes_pin(alloc, mine, &mut number)
+    bes_pin(mine, &mut number)
 }
 
 /// The same, with an index of k, and node 1, whose k is v.
@@ -90,8 +90,8 @@ fn closed_handles(rt: HostRuntime) -> Result<(), Fail> {
     let items = [item(0, 0), item(1, 1), item(4, 0)];
     let answer = bes_query_items(rt.alloc(), &mut mine, &items, b"kv", &mut nodes, &mut count);
     assert_eq!(rt; (answer, count, nodes), (64, 7, [9, 9]));
-    assert_eq!(rt; pin(rt.alloc(), &mut mine), 64);
-    let answer = bes_journal(rt.alloc(), &mut mine, &mut [9; 22], &mut count);
+    assert_eq!(rt; pin(&mut mine), 64);
+    let answer = bes_journal(&mut mine, &mut [9; 22], &mut count);
     assert_eq!(rt; answer, 64);
     Ok(())
 }
@@ -107,7 +107,7 @@ fn writes_and_asks(rt: HostRuntime) -> Result<(), Fail> {
     assert_eq!(rt; (answer, number, nodes), (0, 1, [0, 1, 0, 0]));
     let answer = bes_query(alloc, &mut theirs, b"k==\"v\"", &mut nodes, &mut count);
     assert_eq!(rt; answer, 66);
-    assert_eq!(rt; pin(alloc, &mut theirs), 0);
+    assert_eq!(rt; pin(&mut theirs), 0);
     let answer = bes_query(alloc, &mut theirs, b"k==\"v\"", &mut nodes, &mut count);
     assert_eq!(rt; (answer, count, nodes), (0, 1, [1, 1, 0, 0]));
     Ok(())
@@ -126,13 +126,13 @@ fn reads_and_closes(rt: HostRuntime) -> Result<(), Fail> {
         write(rt.alloc(), &mut mine, &[spelled(0, 0), spelled(2, 1)]),
         0
     );
-    assert_eq!(rt; pin(rt.alloc(), &mut mine), 0);
-    let answer = bes_get(rt.alloc(), &mut mine, 1, b"k", &mut told, &mut bytes);
+    assert_eq!(rt; pin(&mut mine), 0);
+    let answer = bes_get(&mut mine, 1, b"k", &mut told, &mut bytes);
     assert_eq!(rt; (answer, told.number, bytes), (0, 0, [118, 9, 9]));
     assert_eq!(rt; (told.code, told.length), (0x4353_5452, 1));
-    let answer = bes_get(rt.alloc(), &mut mine, 1, b"j", &mut told, &mut bytes);
+    let answer = bes_get(&mut mine, 1, b"j", &mut told, &mut bytes);
     assert_eq!(rt; answer, 3);
-    assert_eq!(rt; bes_unpin(rt.alloc(), &mut mine), 0);
+    assert_eq!(rt; bes_unpin(&mut mine), 0);
     assert_eq!(rt; bes_close(rt.alloc(), &mut mine), 0);
     assert_eq!(rt; bes_close(rt.alloc(), &mut mine), 64);
     Ok(())
@@ -143,7 +143,7 @@ fn gives_back_and_meets(rt: HostRuntime) -> Result<(), Fail> {
     let alloc = rt.alloc();
     let (mut mine, mut theirs) = (opened(alloc, 2)?, closed(alloc));
     let mut number = 7;
-    assert_eq!(rt; bes_meet(alloc, &mut mine, &mut number), 68);
+    assert_eq!(rt; bes_meet(&mut mine, &mut number), 68);
     assert_eq!(rt; bes_another(alloc, &mut mine, &mut theirs), 0);
     let answer = bes_apply(
         alloc,
@@ -155,9 +155,9 @@ fn gives_back_and_meets(rt: HostRuntime) -> Result<(), Fail> {
     );
     assert_eq!(rt; (answer, number), (0, 1));
     assert_eq!(rt; bes_close(alloc, &mut theirs), 0);
-    assert_eq!(rt; bes_meet(alloc, &mut mine, &mut number), 0);
+    assert_eq!(rt; bes_meet(&mut mine, &mut number), 0);
     assert_eq!(rt; bes_another(alloc, &mut mine, &mut theirs), 0);
-    assert_eq!(rt; pin(alloc, &mut theirs), 0);
+    assert_eq!(rt; pin(&mut theirs), 0);
     Ok(())
 }
 
@@ -171,9 +171,9 @@ fn moves_and_lists(rt: HostRuntime) -> Result<(), Fail> {
         bytes: 0,
     };
     assert_eq!(rt; bes_move(alloc, &mut mine, &mut theirs), 0);
-    assert_eq!(rt; pin(alloc, &mut mine), 64);
+    assert_eq!(rt; pin(&mut mine), 64);
     assert_eq!(rt; write(alloc, &mut theirs, &[spelled(4, 0)]), 0);
-    assert_eq!(rt; pin(alloc, &mut theirs), 0);
+    assert_eq!(rt; pin(&mut theirs), 0);
     let answer = bes_indices(alloc, &mut theirs, &mut counts, &mut listed, &mut bytes);
     assert_eq!(rt; (answer, listed[0].kind, bytes), (0, 4, [107, 9, 9]));
     assert_eq!(rt; (counts.operations, counts.bytes), (1, 1));
@@ -187,18 +187,18 @@ fn asks_what_is_prepared(rt: HostRuntime) -> Result<(), Fail> {
     let alloc = rt.alloc();
     let (mut mine, mut kept) = (opened(alloc, 1)?, unprepared(alloc));
     let (mut number, mut count, mut made, mut nodes) = (0, 0, [0; 2], [9; 2]);
-    assert_eq!(rt; pin(alloc, &mut mine), 0);
+    assert_eq!(rt; pin(&mut mine), 0);
     let answer = bes_query_prepared(alloc, &mut mine, &mut kept, &mut nodes, &mut count);
     assert_eq!(rt; answer, 64);
     assert_eq!(rt; bes_prepare(alloc, b"k==", &mut kept), 12);
     let items = [item(0, 0), item(1, 1), item(4, 0)];
     assert_eq!(rt; bes_prepare_items(alloc, &items, b"kv", &mut kept), 0);
     assert_eq!(rt; bes_prepare(alloc, b"k==\"v\"", &mut kept), 65);
-    assert_eq!(rt; bes_unpin(alloc, &mut mine), 0);
+    assert_eq!(rt; bes_unpin(&mut mine), 0);
     let list = [spelled(4, 0), spelled(0, 0), spelled(2, 1)];
     let answer = bes_apply_or_retry(alloc, &mut mine, &list, b"kv", 3, &mut made, &mut number);
     assert_eq!(rt; (answer, number, made), (0, 1, [0, 1]));
-    assert_eq!(rt; pin(alloc, &mut mine), 0);
+    assert_eq!(rt; pin(&mut mine), 0);
     let answer = bes_query_prepared(alloc, &mut mine, &mut kept, &mut nodes, &mut count);
     assert_eq!(rt; (answer, count, nodes), (0, 1, [1, 9]));
     assert_eq!(rt; bes_release(alloc, &mut kept), 0);
@@ -207,12 +207,12 @@ fn asks_what_is_prepared(rt: HostRuntime) -> Result<(), Fail> {
 }
 
 /// The answer to a refresh at the current version, and how many nodes came and went.
-fn refresh(alloc: Global, mine: &mut Handle, kept: &mut PreparedHandle) -> (u32, u64, u64) {
+fn refresh(mine: &mut Handle, kept: &mut PreparedHandle) -> (u32, u64, u64) {
     let mut counts = UpdateCounts {
         created: 7,
         removed: 7,
     };
-    let answer = bes_refresh(alloc, mine, kept, &mut counts);
+    let answer = bes_refresh(mine, kept, &mut counts);
     (answer, counts.created, counts.removed)
 }
 
@@ -221,16 +221,16 @@ fn tells_what_came_and_went(rt: HostRuntime) -> Result<(), Fail> {
     let (mut mine, mut kept) = (with_node(rt.alloc())?, unprepared(rt.alloc()));
     let (mut created, mut removed) = ([9; 2], [9; 2]);
     assert_eq!(rt; bes_prepare(rt.alloc(), b"k==\"v\"", &mut kept), 0);
-    assert_eq!(rt; refresh(rt.alloc(), &mut mine, &mut kept), (66, 7, 7));
-    assert_eq!(rt; pin(rt.alloc(), &mut mine), 0);
-    assert_eq!(rt; refresh(rt.alloc(), &mut mine, &mut kept), (0, 1, 0));
-    let answer = bes_changes(rt.alloc(), &mut kept, &mut created, &mut removed);
+    assert_eq!(rt; refresh(&mut mine, &mut kept), (66, 7, 7));
+    assert_eq!(rt; pin(&mut mine), 0);
+    assert_eq!(rt; refresh(&mut mine, &mut kept), (0, 1, 0));
+    let answer = bes_changes(&mut kept, &mut created, &mut removed);
     assert_eq!(rt; (answer, created, removed), (0, [1, 9], [9, 9]));
-    assert_eq!(rt; bes_unpin(rt.alloc(), &mut mine), 0);
+    assert_eq!(rt; bes_unpin(&mut mine), 0);
     assert_eq!(rt; write(rt.alloc(), &mut mine, &[spelled(1, 1)]), 0);
-    assert_eq!(rt; pin(rt.alloc(), &mut mine), 0);
-    assert_eq!(rt; refresh(rt.alloc(), &mut mine, &mut kept), (0, 0, 1));
-    let answer = bes_changes(rt.alloc(), &mut kept, &mut created, &mut removed);
+    assert_eq!(rt; pin(&mut mine), 0);
+    assert_eq!(rt; refresh(&mut mine, &mut kept), (0, 0, 1));
+    let answer = bes_changes(&mut kept, &mut created, &mut removed);
     assert_eq!(rt; (answer, created, removed), (0, [1, 9], [1, 9]));
     Ok(())
 }
@@ -240,7 +240,7 @@ fn tells_its_journal(rt: HostRuntime) -> Result<(), Fail> {
     let mut mine = opened(rt.alloc(), 1)?;
     let (mut count, mut bytes) = (0, [9; 22]);
     assert_eq!(rt; write(rt.alloc(), &mut mine, &[spelled(0, 0)]), 0);
-    let answer = bes_journal(rt.alloc(), &mut mine, &mut bytes, &mut count);
+    let answer = bes_journal(&mut mine, &mut bytes, &mut count);
     assert_eq!(rt; (answer, count), (0, 21));
     assert_eq!(rt; (bytes[0], bytes[20], bytes[21]), (49, 10, 9));
     Ok(())
@@ -253,7 +253,7 @@ fn asks_by_items(rt: HostRuntime) -> Result<(), Fail> {
     let items = [item(0, 0), item(1, 1), item(4, 0)];
     let answer = bes_query_items(rt.alloc(), &mut mine, &items, b"kv", &mut nodes, &mut count);
     assert_eq!(rt; (answer, count, nodes), (66, 7, [9, 9]));
-    assert_eq!(rt; pin(rt.alloc(), &mut mine), 0);
+    assert_eq!(rt; pin(&mut mine), 0);
     let answer = bes_query_items(rt.alloc(), &mut mine, &items, b"k", &mut nodes, &mut count);
     assert_eq!(rt; (answer, count, nodes), (74, 7, [9, 9]));
     let answer = bes_query_items(rt.alloc(), &mut mine, &items, b"kv", &mut nodes, &mut count);
@@ -273,7 +273,7 @@ fn lists_attributes(rt: HostRuntime) -> Result<(), Fail> {
     assert_eq!(rt; write(alloc, &mut mine, &[spelled(0, 0), spelled(2, 1)]), 0);
     let answer = bes_attributes(alloc, &mut mine, 1, &mut counts, &mut listed, &mut bytes);
     assert_eq!(rt; answer, 66);
-    assert_eq!(rt; pin(alloc, &mut mine), 0);
+    assert_eq!(rt; pin(&mut mine), 0);
     let answer = bes_attributes(alloc, &mut mine, 2, &mut counts, &mut listed, &mut bytes);
     assert_eq!(rt;
         (answer, counts.operations, counts.bytes, bytes),
@@ -313,7 +313,7 @@ fn refuses_what_is_misspelt(rt: HostRuntime) -> Result<(), Fail> {
     assert_eq!(rt; (answer, number, made), (74, 7, [7]));
     let answer = bes_query(rt.alloc(), &mut mine, b"\xff", &mut made, &mut number);
     assert_eq!(rt; answer, 70);
-    assert_eq!(rt; bes_pin(rt.alloc(), &mut mine, &mut number), 0);
+    assert_eq!(rt; bes_pin(&mut mine, &mut number), 0);
     assert_eq!(rt; (number, made), (0, [7]));
     Ok(())
 }

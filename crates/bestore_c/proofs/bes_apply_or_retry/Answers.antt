@@ -1,25 +1,24 @@
 use Rattle.std.proofs.Common.{◌≡◌, ◌+◌, Some, inl, inr, refl, subst, sym, true, ◌∙◌}
 use Rattle.be_session.specs.Operations.{AreMeant}
-use Rattle.be_session.specs.Sitting.{IsHeldBackAtLast}
-use Rattle.bestore_c.specs.Calls.{Writes}
-use Rattle.bestore_c.specs.Owned.{holds}
+use Rattle.be_session.specs.Sitting.{IsUnwrittenAtLast}
+use Rattle.bestore_c.specs.Calls.{WritesSpelled}
+use Rattle.std.specs.Prelude.{is_some}
 use Rattle.bestore_c.proofs.Called.{called, stays}
 use Rattle.bestore_c.proofs.bes_apply_or_retry.Goals as goal
 
 pub returns-in-Err-clause-pass : goal.returns-in-Err-clause-pass
 returns-in-Err-clause-pass c =
-    let open_is : c.args.pass.now.live ≡ holds c.args.pass.now.owned.value = c.args.pass.now.full in
-    let full : holds c.args.pass.now.owned.value ≡ true = sym open_is ∙ c.if-not-pass.false in
-    stays c.args.pass.now.owned.value c.code.result (λ s t. Writes (IsHeldBackAtLast (c.args.retries + 1)) s t c.args.spelled.now c.args.bytes.now
+    let open_is : c.args.pass.now.live ≡ is_some c.args.pass.now.owned.value = c.args.pass.now.full in
+    let full : is_some c.args.pass.now.owned.value ≡ true = sym open_is ∙ c.if-not-pass.false in
+    stays c.args.pass.now.owned.value c.code.result (λ s t. WritesSpelled (IsUnwrittenAtLast (c.args.retries + 1)) s t c.args.spelled.now c.args.bytes.now
     c.args.made.now c.args.made.now c.args.entries.now c.code.result)
     full (λ s. inl (c.in-Err.fault, c.code.ensures, c.in-Err.ensures.err, refl))
 
 pub returns-clause-pass : goal.returns-clause-pass
 returns-clause-pass c =
-    let was : c.args.pass.now.owned.value ≡ Some c.deref_mut.result.now = search in
-    let is : c.of-pass.result.value ≡ Some c.apply_or_retry-answer.new.self = search in
-    called c.args.pass.now.owned.value c.of-pass.result.value c.deref_mut.result.now c.apply_or_retry-answer.new.self c.code-in-Err-answer.result _
-    was is c.apply_or_retry-answer.ensures.store.0 c.apply_or_retry-answer.ensures.store.1
+    let was : c.args.pass.now.owned.value ≡ Some c.lent.result.now = c.lent.ensures.value in
+    called c.args.pass.now.owned.value _ c.lent.result.now c.apply_or_retry-answer.new.self c.code-in-Err-answer.result _
+    was refl c.apply_or_retry-answer.ensures.store.0 c.apply_or_retry-answer.ensures.store.1
     (inr (
       c.as_slice.result.now,
       subst (AreMeant c.args.spelled.now c.args.bytes.now) (sym c.as_slice.ensures.value) c.in-Ok.ensures.ok,

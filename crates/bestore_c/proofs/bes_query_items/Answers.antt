@@ -3,29 +3,28 @@ use Rattle.be_table.specs.Seats.{pinned_number}
 use Rattle.be_store.specs.Passes.{volume_pinned}
 use Rattle.be_volume.specs.Query.{scan}
 use Rattle.bestore_c.specs.Calls.{FindsBuilt}
-use Rattle.bestore_c.specs.Owned.{holds}
+use Rattle.std.specs.Prelude.{is_some}
 use Rattle.bestore_c.proofs.Called.{called, stays}
 use Rattle.bestore_c.proofs.bes_query_items.Goals as goal
 
 pub returns-in-Err-clause-pass : goal.returns-in-Err-clause-pass
 returns-in-Err-clause-pass c =
-    let open_is : c.args.pass.now.live ≡ holds c.args.pass.now.owned.value = c.args.pass.now.full in
-    let full : holds c.args.pass.now.owned.value ≡ true = sym open_is ∙ c.if-not-pass.false in
+    let open_is : c.args.pass.now.live ≡ is_some c.args.pass.now.owned.value = c.args.pass.now.full in
+    let full : is_some c.args.pass.now.owned.value ≡ true = sym open_is ∙ c.if-not-pass.false in
     stays c.args.pass.now.owned.value c.code.result (λ s t. FindsBuilt s t c.args.spelled.now c.args.bytes.now c.args.nodes.now c.args.nodes.now
     c.args.count.now c.code.result)
     full (λ s. inl (c.in-Err.fault, c.code.ensures, c.in-Err.ensures.err, refl))
 
 pub returns-clause-pass : goal.returns-clause-pass
 returns-clause-pass c =
-    let was : c.args.pass.now.owned.value ≡ Some c.deref_mut.result.now = search in
-    let is : c.of-pass.result.value ≡ Some c.query-answer.new.self = search in
-    called c.args.pass.now.owned.value c.of-pass.result.value c.deref_mut.result.now c.query-answer.new.self c.tell.result
-    (λ s t. FindsBuilt s t c.args.spelled.now c.args.bytes.now c.args.nodes.now c.tell.new.nodes c.tell.new.count c.tell.result) was is
+    let was : c.args.pass.now.owned.value ≡ Some c.lent.result.now = c.lent.ensures.value in
+    called c.args.pass.now.owned.value _ c.lent.result.now c.query-answer.new.self c.tell.result
+    (λ s t. FindsBuilt s t c.args.spelled.now c.args.bytes.now c.args.nodes.now c.tell.new.nodes c.tell.new.count c.tell.result) was refl
     c.query-answer.ensures.store.0 c.query-answer.ensures.store.1
     (inr (
       c.in-Ok.query,
       c.in-Ok.ensures.ok,
       c.query-answer.ensures.read,
-      c.tell.ensures.found (pinned_number c.deref_mut.result.now.knows.phase)
-          (scan (volume_pinned c.deref_mut.result.now.knows) c.in-Ok.query) c.query-answer.ensures.nodes,
+      c.tell.ensures.found (pinned_number c.lent.result.now.knows.phase)
+          (scan (volume_pinned c.lent.result.now.knows) c.in-Ok.query) c.query-answer.ensures.nodes,
     ))

@@ -1,21 +1,18 @@
-use Rattle.std.proofs.Common.{◌≡◌, ◌+◌, Result, Ok, Err, take, inl, subst, sym}
-use Rattle.std.specs.Result.{IfErr, IsErrAnd}
+use Rattle.std.proofs.Common.{◌≡◌, ◌≤◌, ◌+◌, ap, inl, length, subst, sym, take, ◌∙◌}
 use Rattle.std.proofs.lemmas.List.Elements.{Contains-get_or}
-use Rattle.be_session.specs.Operations.{AreMeant, IsMisspelt}
+use Rattle.be_session.specs.Operations.{AreMeant}
 use Rattle.be_session.proofs.Meant.{meant_next}
 use Rattle.be_session.proofs.lists.operations.Goals as goal
 
-passed_up : {T E : Type 0} (r : Result T E) (e : E) (P : E → Type 0) → IsErrAnd r (λ y. y ≡ e) → P e → IfErr r P
-passed_up (Ok x) e P is p = tt
-passed_up (Err y) e P is p = subst P (sym is) p
-
-pub returns-in_err-op-clause-err : goal.returns-in_err-op-clause-err
-returns-in_err-op-clause-err c =
-    passed_up c.from_residual.result c.in_err-op.field-0.0 (IsMisspelt c.args.spelled.now c.args.bytes.now) c.from_residual.ensures.1
-    (inl (_, Contains-get_or c.args.spelled.now c.loop-next.next-index _ c.loop-next-test.true, c.in_err-op.ensures.err))
+pub returns-in-Err-clause-err : goal.returns-in-Err-clause-err
+returns-in-Err-clause-err c =
+    inl (_, Contains-get_or c.args.spelled.now c.loop-next.next-index _ c.loop-next-test.true, c.in-Err.ensures.err)
 
 pub loop-next-preserved : goal.loop-next-preserved
-loop-next-preserved c =
-    subst (AreMeant (take (c.loop-next.next-index + 1) c.args.spelled.now) c.args.bytes.now) (sym c.in_ok-push.ensures.items)
-    (meant_next c.args.spelled.now c.loop-next.next-index _ c.args.bytes.now c.loop-next.ops.items c.in_ok-op.op c.loop-next-test.true c.loop-next.invariant
-    c.in_ok-op.ensures.ok)
+loop-next-preserved c = record {
+  meant = subst (AreMeant (take (c.loop-next.next-index + 1) c.args.spelled.now) c.args.bytes.now) (sym c.push_reserved.ensures.items)
+      (meant_next c.args.spelled.now c.loop-next.next-index _ c.args.bytes.now c.loop-next.ops.items c.in-Ok.op c.loop-next-test.true
+      c.loop-next.invariant.meant c.in-Ok.ensures.ok);
+  count = c.push_reserved.ensures.len ∙ ap (λ n. n + 1) c.loop-next.invariant.count;
+  room = subst (λ n. length c.args.spelled.now ≤ n) (sym c.push_reserved.ensures.capacity) c.loop-next.invariant.room;
+}

@@ -1,6 +1,10 @@
-use Rattle.std.proofs.Common.{take}
+use Rattle.std.proofs.Common.{◌≡◌, ◌≤◌, length, take, vec_capacity, vec_len}
 use Rattle.be_session.specs.Operations.{AreMeant}
 use Rattle.be_session.proofs.lists.operations.Given as goal
 
 abbrev pub invariant-loop-next : goal.invariant-loop-next
-invariant-loop-next l = AreMeant (take l.next-index l.spelled) l.bytes l.ops.items
+invariant-loop-next l = record {
+  meant : AreMeant (take l.next-index l.spelled) l.bytes l.ops.items;
+  count : vec_len l.ops ≡ l.next-index;
+  room : length l.spelled ≤ vec_capacity l.ops;
+}

@@ -26,7 +26,7 @@ use Rattle.std.proofs.BoxSteps.Steps.{box_out, box_in}
 use Rattle.std.specs.Prelude.{Some}
 use contract.Monad.{Fun, fact}
 use mathlib.Core.Bool.{true}
-use Rattle.bestore_c.specs.Owned.{holds}
+use Rattle.std.specs.Prelude.{is_some}
 use Rattle.bestore_c.specs.contracts.owned_query.OwnedQuery as owned
 use Rattle.bestore_c.proofs.AsBoxedQuery.{E, boxed, opened, FromOwned as From}
 use Rattle.bestore_c.specs.contracts.owned_query.OwnedQuery.into_loose as F
@@ -46,7 +46,7 @@ module _ {M : Type 1} {𝓤 : Ura M} (𝓛 : Logic 𝓤) (at_mem : Memory → SP
       let Post = (walk_of 𝓛 F.ended stayed (F.clauses 𝓛 at_mem run)).post z in
       let h = z.0.3.0 in
       let To = type_at (F.signature).result tt in
-      qed 𝓛 ((‵ ftrue ⊛ ‵ (fsep ((owned.the_row).own_val h z.0.4.0) ftrue)) ∷ raw (fact 𝓤 (holds h.value ≡ true)) ∷ []) ∵ move ! (1 ∷ []) $ heard ! (holds h.value ≡ true) (λ full. split ! $ drop ! $ fsplit ! $
+      qed 𝓛 ((‵ ftrue ⊛ ‵ (fsep ((owned.the_row).own_val h z.0.4.0) ftrue)) ∷ raw (fact 𝓤 (is_some h.value ≡ true)) ∷ []) ∵ move ! (1 ∷ []) $ heard ! (is_some h.value ≡ true) (λ full. split ! $ drop ! $ fsplit ! $
       use1 𝓛 (some (λ (x : X E). given (h.value ≡ Some x) (‵ ((B E).own_val (boxed h x) z.0.4.0)))) (opened 𝓛 h z.0.4.0 full) $ pick ! (λ x. learn ! (λ is.
       let v : D E = boxed h x in
       let made : To.Denot = record { at = v.ptr; alloc = v.alloc; value = x } in

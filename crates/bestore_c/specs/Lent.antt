@@ -1,0 +1,26 @@
+-- What a handle owns, while it is lent.
+use Rattle.std.specs.Prelude.{Some}
+use Rattle.std.specs.Borrow.{Lends, MutBor, Fml}
+use Rattle.be_session.specs.Prepared.{PreparedQuery}
+use Rattle.be_session.specs.Sitting.{Sitting}
+use Rattle.be_session.specs.contracts.preparing.Prepared as prepared
+use Rattle.be_session.specs.contracts.session.Session as session
+use Rattle.bestore_c.specs.contracts.owned.Owned as owned
+use Rattle.bestore_c.specs.contracts.owned_query.OwnedQuery as owned_query
+use Rattle.bestore_c.specs.declared.owned.Owned.{Owned}
+use Rattle.bestore_c.specs.declared.owned_query.OwnedQuery.{OwnedQuery}
+
+-- what is owned, with this session in the place of the one that it was
+abbrev pub with_session : Owned → Sitting → Owned
+with_session o s = record o { value = Some s }
+
+-- what is owned ends with what the session became
+abbrev pub LendsSession : MutBor Owned → MutBor Sitting → Fml
+LendsSession o s = Lends owned.the_row session.the_row o s (with_session o.now)
+
+-- the same of a prepared query
+abbrev pub with_query : OwnedQuery → PreparedQuery → OwnedQuery
+with_query o p = record o { value = Some p }
+
+abbrev pub LendsQuery : MutBor OwnedQuery → MutBor PreparedQuery → Fml
+LendsQuery o p = Lends owned_query.the_row prepared.the_row o p (with_query o.now)
