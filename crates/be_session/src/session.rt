@@ -329,7 +329,8 @@ impl Session {
     pub fn explain(&mut self, alloc: Global, query: &Query) -> Result<String, Fault>
         ensures store { (self.new.store ≡ self.old.store) × (self.new.spare ≡ self.old.spare) }
         ensures read { HasRead self.old.knows self.new.knows }
-        ensures text { AtPin (pinned_number self.old.knows.phase) result (ReadAnswers string_bytes result (explanation_in (volume_pinned self.old.knows) query.now)) }
+        ensures text { AtPin (pinned_number self.old.knows.phase) result
+            (ReadAnswers string_bytes result (explanation_in (volume_pinned self.old.knows) query.now)) }
     {
         let Some(_) = self.pass.pinned() else {
             return Err(Fault::NotPinned);
@@ -370,7 +371,8 @@ impl Session {
     pub fn indices(&mut self, alloc: Global) -> Result<Vec<(Name, Kind)>, Fault>
         ensures store { (self.new.store ≡ self.old.store) × (self.new.spare ≡ self.old.spare) }
         ensures read { HasRead self.old.knows self.new.knows }
-        ensures list { AtPin (pinned_number self.old.knows.phase) result (ReadAnswers (λ list. list.items) result (Ok (index_kinds (volume_pinned self.old.knows)))) }
+        ensures list { AtPin (pinned_number self.old.knows.phase) result
+            (ReadAnswers (λ list. list.items) result (Ok (index_kinds (volume_pinned self.old.knows)))) }
     {
         let Some(_) = self.pass.pinned() else {
             return Err(Fault::NotPinned);
