@@ -5,7 +5,7 @@ use Rattle.be_core.specs.declared.event.Event.{Event}
 use Rattle.be_core.specs.declared.event.Event.TheVariants.{Look, Announce, LookAgain, Read, Unpin, Lock, Scan, Fill, Publish, Unlock}
 use Rattle.be_core.specs.declared.event.Phase.{Phase}
 use Rattle.be_core.specs.declared.event.Phase.TheVariants.{Idle, Looked, Announced, Pinned}
-use Rattle.be_core.specs.Machine.{World, Holder, HasOpenWrite, Allowed, after}
+use Rattle.be_core.specs.Machine.{World, Holder, HasOpenWrite, Allowed, after_event}
 use Rattle.be_core.specs.Laws.{EachScheduleRuns}
 
 abbrev Decided : Type 0 → Type 0
@@ -122,6 +122,6 @@ module _ (w : World) where
 pub each_schedule_runs : EachScheduleRuns
 each_schedule_runs w [] = (w, refl)
 each_schedule_runs w (e ∷ es) = elim (decided w e) [
-  | inl a ↦ let r = each_schedule_runs (after w e) es in (r.0, (after w e, inl (a, refl), r.1))
+  | inl a ↦ let r = each_schedule_runs (after_event w e) es in (r.0, (after_event w e, inl (a, refl), r.1))
   | inr n ↦ let r = each_schedule_runs w es in (r.0, (w, inr (n, refl), r.1))
 ]

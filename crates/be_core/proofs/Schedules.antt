@@ -3,7 +3,7 @@ use Rattle.std.proofs.Common.{◌≡◌, ℕ, suc, ◌+◌, ◌<◌, Bool, true,
 use Rattle.std.proofs.lemmas.Bool.Decides.{eqb_tells, leb_tells}
 use Rattle.be_core.specs.declared.event.Event.{Event}
 use Rattle.be_core.specs.declared.event.Event.TheVariants.{Look, Announce, LookAgain, Read, Unpin, Lock, Scan, Fill, Publish, Unlock}
-use Rattle.be_core.specs.Machine.{World, Sound, Run, Move, happens, returns, Moves, Allowed, after, Protected, first_state, MayFill, bit, after_fill}
+use Rattle.be_core.specs.Machine.{World, Sound, Run, Move, happens, returns, Moves, Allowed, after_event, Protected, first_state, MayFill, bit, after_fill}
 use Rattle.be_core.specs.Laws.{Always, FillsNoPinned, LeavesNone, ScanLeavesNone}
 use Rattle.be_core.proofs.Places.{neither, lt-test}
 use Rattle.be_core.proofs.Readers.{after_look-sound, after_announce-sound, after_look_again-sound, after_unpin-sound}
@@ -41,7 +41,7 @@ first-sound pages passes commits words some = record {
 pub fill-sound : (w : World) (k p i word : ℕ) → Sound w → MayFill w k p i → Sound (after_fill w p i word)
 fill-sound w k p i word s may = after_fill-sound w s p may.3 i word (may.2.0, may.2.1.0)
 
-pub after-sound : (w : World) (e : Event) → Sound w → Allowed w e → Sound (after w e)
+pub after-sound : (w : World) (e : Event) → Sound w → Allowed w e → Sound (after_event w e)
 after-sound w (Look k) s may = after_look-sound w s k may
 after-sound w (Announce k) s may = after_announce-sound w s k may
 after-sound w (LookAgain k) s may = after_look_again-sound w s k may
@@ -76,7 +76,7 @@ pub sound-scan_leaves_none : (w : World) → Sound w → ScanLeavesNone w
 sound-scan_leaves_none w s k j may last = rw may.1.1.0 (whole-leaves_none w s may.1.0 k j may.1.1 may.1.2 last last)
 
 -- what an allowed event leaves
-pub after-leaves_none : (w : World) (e : Event) → Sound w → Allowed w e → LeavesNone w e (after w e)
+pub after-leaves_none : (w : World) (e : Event) → Sound w → Allowed w e → LeavesNone w e (after_event w e)
 after-leaves_none w (Look k) s may = tt
 after-leaves_none w (Announce k) s may = tt
 after-leaves_none w (LookAgain k) s may = tt

@@ -5,7 +5,7 @@ use Rattle.be_core.specs.declared.event.Event.{Event}
 use Rattle.be_core.specs.declared.event.Event.TheVariants.{Look, Announce, LookAgain, Read, Unpin, Lock, Scan, Fill, Publish, Unlock}
 use Rattle.be_core.specs.declared.event.Phase.{Phase}
 use Rattle.be_core.specs.declared.event.Phase.TheVariants.{Idle, Looked, Announced, Pinned}
-use Rattle.be_core.specs.Machine.{World, Holder, Move, happens, returns, Moves, Run, after, after_scan, scanned_by, with_published, least_with, least_after, MayScan}
+use Rattle.be_core.specs.Machine.{World, Holder, Move, happens, returns, Moves, Run, after_event, after_scan, scanned_by, with_published, least_with, least_after, MayScan}
 use Rattle.be_core.specs.Least.{announced, IsLeast, NoScan, ScansFrom, FindsLeast}
 use Rattle.be_core.proofs.Places.{only, test-other}
 
@@ -60,7 +60,7 @@ spent None h e open_ = cc
 spent (Some g) h e open_ = let yes : IsTrue h.published = only _ h (λ h. IsTrue h.published) e refl in cc
 
 module _ (c j l : ℕ) where
-  after-midway : (w : World) (e : Event) → ((k i : ℕ) → e ≢ Scan k i) → Midway c j l w → Midway c j l (after w e)
+  after-midway : (w : World) (e : Event) → ((k i : ℕ) → e ≢ Scan k i) → Midway c j l w → Midway c j l (after_event w e)
   after-midway w (Look k) scanless m = m
   after-midway w (Announce k) scanless m = m
   after-midway w (LookAgain k) scanless m = m

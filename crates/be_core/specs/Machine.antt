@@ -228,17 +228,17 @@ Allowed w (Publish k v given) = MayPublish w k v given.items
 Allowed w (Unlock k) = MayUnlock w k
 
 -- what an allowed event makes of the state
-abbrev pub after : World → Event → World
-after w (Look k) = after_look w k
-after w (Announce k) = after_announce w k
-after w (LookAgain k) = after_look_again w k
-after w (Read k p i) = w
-after w (Unpin k) = after_unpin w k
-after w (Lock k) = after_lock w k
-after w (Scan k j) = after_scan w j
-after w (Fill k p i word) = after_fill w p i word
-after w (Publish k v given) = after_publish w given.items
-after w (Unlock k) = after_unlock w
+abbrev pub after_event : World → Event → World
+after_event w (Look k) = after_look w k
+after_event w (Announce k) = after_announce w k
+after_event w (LookAgain k) = after_look_again w k
+after_event w (Read k p i) = w
+after_event w (Unpin k) = after_unpin w k
+after_event w (Lock k) = after_lock w k
+after_event w (Scan k j) = after_scan w j
+after_event w (Fill k p i word) = after_fill w p i word
+after_event w (Publish k v given) = after_publish w given.items
+after_event w (Unlock k) = after_unlock w
 
 -- the holder gives a page that it has taken back
 abbrev pub after_return : World → ℕ → World
@@ -253,7 +253,7 @@ pub data Move : Type 0 where
 
 -- An event that isn't allowed changes nothing
 abbrev pub Moves : World → Move → World → Type 0
-Moves w (happens e) w' = (Allowed w e × (w' ≡ after w e)) ⊎ ((¬ (Allowed w e)) × (w' ≡ w))
+Moves w (happens e) w' = (Allowed w e × (w' ≡ after_event w e)) ⊎ ((¬ (Allowed w e)) × (w' ≡ w))
 Moves w (returns p) w' = IsTrue (w.taken p) × (w' ≡ after_return w p)
 
 abbrev pub Run : World → List Move → World → Type 0
@@ -267,12 +267,12 @@ bit true = 1
 bit false = 0
 
 -- in how many of the four sets the page is
-abbrev pub places : World → ℕ → ℕ
-places w p = bit (w.free p) + bit (w.taken p) + bit (is_some (w.retired p)) + bit (w.reach w.current p)
+abbrev pub set_count : World → ℕ → ℕ
+set_count w p = bit (w.free p) + bit (w.taken p) + bit (is_some (w.retired p)) + bit (w.reach w.current p)
 
 -- each page is in exactly one of the four, and nothing else is in any
 abbrev pub Partition : World → Type 0
-Partition w = (p : ℕ) → places w p ≡ bit (nat_lt p w.pages)
+Partition w = (p : ℕ) → set_count w p ≡ bit (nat_lt p w.pages)
 
 -- no page of a pinned version is free or taken, and its words are those of the version
 abbrev pub Protected : World → Type 0

@@ -15,9 +15,9 @@ Images = ℕ → ℕ → ℕ → ℕ
 abbrev pub blank : Images
 blank n p i = 0
 
-abbrev pub is_in : Option (Vec Bool Global) → ℕ → Bool
-is_in None p = false
-is_in (Some row) p = slice_index_or row.items p false
+abbrev pub is_marked : Option (Vec Bool Global) → ℕ → Bool
+is_marked None p = false
+is_marked (Some row) p = slice_index_or row.items p false
 
 abbrev pub as_holder : Holder → machine.Holder
 as_holder h = record { pass = h.pass; scanned = h.scanned; least = h.least; published = h.published }
@@ -33,7 +33,7 @@ shown s image =
       passes = vec_len s.phases;
       commits = s.commits;
       current = s.current;
-      reach = λ n p. is_in (slice_get s.reach.items n) p;
+      reach = λ n p. is_marked (slice_get s.reach.items n) p;
       image = image;
       words = λ p i. slice_index (slice_index_or s.words.items p []) i;
       free = λ p. slice_index_or s.free.items p false;

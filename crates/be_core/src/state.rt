@@ -173,7 +173,7 @@ fn is_distinct(given: &[u64]) -> bool
 
 impl State {
     ghost use Rattle.std.specs.Prelude.{IfOk, OnErr, IsOk, IsOkUnless, IsTrue, IsFalse, IfSome, IsNone, ◌↔◌, All, ◌&&◌, ◌||◌, not, slice_index, slice_index_or};
-    ghost use Rattle.be_core.specs.Machine.{World, Allowed, after, MayLook, after_look, MayAnnounce, after_announce, MayLookAgain};
+    ghost use Rattle.be_core.specs.Machine.{World, Allowed, after_event, MayLook, after_look, MayAnnounce, after_announce, MayLookAgain};
     ghost use Rattle.be_core.specs.Machine.{after_look_again, MayUnpin, after_unpin, MayLock, after_lock, MayUnlock, after_unlock, MayFill};
     ghost use Rattle.be_core.specs.Machine.{after_fill, MayRead, HasOpenWrite, MayScan, after_scan, MayPublish, after_publish, has, first_state};
     ghost use Rattle.be_core.specs.Machine.{zeros, AreLimits};
@@ -489,7 +489,7 @@ impl State {
 
     /// Does what the event says, and answers whether it was allowed.
     fn happen(&mut self, event: &Event) -> Result<bool, Refusal>
-        ensures done { IfOk result (λ done. MakesStep self.old (λ w. Allowed w event.now) (λ w. after w event.now) done self.new) }
+        ensures done { IfOk result (λ done. MakesStep self.old (λ w. Allowed w event.now) (λ w. after_event w event.now) done self.new) }
         ensures err { OnErr result (IsUnchanged self.old self.new) }
         ensures memory { IsOkUnless result Refusal.OutOfMemory }
         ensures size { page_count self.new ≡ page_count self.old }
@@ -510,7 +510,7 @@ impl State {
     /// Does what the event says, and answers whether it was allowed. It is not where a page, a place in
     /// one or a pass is out of range. Refused with `OutOfMemory` alone, which only `Publish` may be.
     pub fn step(&mut self, event: &Event) -> Result<bool, Refusal>
-        ensures done { IfOk result (λ done. MakesStep self.old (λ w. Allowed w event.now) (λ w. after w event.now) done self.new) }
+        ensures done { IfOk result (λ done. MakesStep self.old (λ w. Allowed w event.now) (λ w. after_event w event.now) done self.new) }
         ensures err { OnErr result (IsUnchanged self.old self.new) }
         ensures memory { IsOkUnless result Refusal.OutOfMemory }
         ensures sound { ShowsSound self.old → ShowsSound self.new }

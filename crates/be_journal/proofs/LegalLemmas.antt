@@ -3,20 +3,20 @@ use Rattle.std.proofs.Common.{◌≡◌, ◌<◌, ◌≤◌, ℕ, ◌+◌, Bool,
 use Rattle.std.proofs.lemmas.List.{take-append-drop, take_more, get_or_default, take-append-le, take_all, get_or_append_left, get_or_push, length_push}
 use Rattle.std.proofs.lemmas.Bool.Decides.{nat_tests}
 use Rattle.std.proofs.lemmas.Grind.{fold-append}
-use Rattle.be_volume.specs.Ahead.{after, reached}
+use Rattle.be_volume.specs.Ahead.{state_after, reached}
 use Rattle.be_volume.specs.Volume.{State, empty, steps}
 use Rattle.be_journal.specs.Journal.{replay, Agrees, IsLegal}
 use Rattle.be_journal.specs.declared.entries.Entry.{Entry}
 
 -- the replay of one more entry
 pub replay_more : (entries : List Entry) (i : ℕ) (entry : Entry) → i < length entries → entry ≡ get_or entries i entry →
-    replay (take (i + 1) entries) ≡ after (replay (take i entries)) entry.ops
+    replay (take (i + 1) entries) ≡ state_after (replay (take i entries)) entry.ops
 replay_more entries i entry h e = ap replay (take_more entries i entry h ∙ ap (λ x. take i entries ++ x ∷ []) (sym e))
-    ∙ fold-append (λ s x. after s x.ops) empty (take i entries) (entry ∷ [])
+    ∙ fold-append (λ s x. state_after s x.ops) empty (take i entries) (entry ∷ [])
 
 pub replay_agreed : (entries : List Entry) (i : ℕ) (entry : Entry) (old new : State) → i < length entries → entry ≡ get_or entries i entry →
     old ≡ replay (take i entries) → steps old entry.ops ≡ Ok (new, entry.dones) → new ≡ replay (take (i + 1) entries)
-replay_agreed entries i entry old new h e is s = sym (replay_more entries i entry h e ∙ ap (λ t. after t entry.ops) (sym is) ∙ ap (reached old) s)
+replay_agreed entries i entry old new h e is s = sym (replay_more entries i entry h e ∙ ap (λ t. state_after t entry.ops) (sym is) ∙ ap (reached old) s)
 
 -- the entries up to and with this one
 pub agree_more : (entries : List Entry) (n : ℕ) (now : Entry) → now ≡ get_or entries n now → Agrees (replay (take n entries)) now →
@@ -54,8 +54,8 @@ legal_push entries now legal agrees i entry h e =
     (legal k x short (same ∙ get_or_append_left entries (now ∷ []) x k short)))
     (omega arith) i entry (subst (λ n. i < n) long h) e
 
-pub replay_push : (entries : List Entry) (entry : Entry) → replay (entries ++ entry ∷ []) ≡ after (replay entries) entry.ops
-replay_push entries entry = fold-append (λ s x. after s x.ops) empty entries (entry ∷ [])
+pub replay_push : (entries : List Entry) (entry : Entry) → replay (entries ++ entry ∷ []) ≡ state_after (replay entries) entry.ops
+replay_push entries entry = fold-append (λ s x. state_after s x.ops) empty entries (entry ∷ [])
 
 -- the first entries of a legal journal
 pub legal_front : (front rest : List Entry) → IsLegal (front ++ rest) → IsLegal front

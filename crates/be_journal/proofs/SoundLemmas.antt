@@ -3,7 +3,7 @@ use Rattle.std.proofs.Common.{◌≡◌, ◌<◌, ◌≤◌, ◌+◌, ◌*◌, �
 use Rattle.std.proofs.lemmas.List.Elements.{All-head, All-tail}
 use Rattle.std.specs.Prelude.{Result}
 use Rattle.be_value.specs.declared.refusals.Refusal.{Refusal}
-use Rattle.be_volume.specs.Ahead.{after, reached}
+use Rattle.be_volume.specs.Ahead.{state_after, reached}
 use Rattle.be_volume.specs.Sound.{IsSound, IsOperation}
 use Rattle.be_volume.specs.Volume.{State, empty, steps}
 use Rattle.be_volume.specs.declared.ops.Done.{Done}
@@ -18,7 +18,7 @@ record Reaches (s : State) (n : ℕ) : Type 0 where
   sound : IsSound s
   bound : s.next ≤ n
 
-entered : (s : State) (ops : List Op) (n : ℕ) → Reaches s n → All IsOperation ops → length ops ≤ 64 → n + 64 < 2 ^ 64 → Reaches (after s ops) (n + 64)
+entered : (s : State) (ops : List Op) (n : ℕ) → Reaches s n → All IsOperation ops → length ops ≤ 64 → n + 64 < 2 ^ 64 → Reaches (state_after s ops) (n + 64)
 entered s ops n r are few fits = by (steps s ops) refl
   where
     by : (x : Result (State × List Done) Refusal) → steps s ops ≡ x → Reaches (reached s x) (n + 64)
@@ -29,12 +29,12 @@ entered s ops n r are few fits = by (steps s ops) refl
         record { sound = steps_sound s x.0 x.1 ops r.sound (omega arith) are g; bound = omega arith }
 
 replayed : (s : State) (entries : List Entry) (n : ℕ) → Reaches s n → All HasOperations entries → n + 64 * length entries < 2 ^ 64 →
-    IsSound (fold (λ t entry. after t entry.ops) s entries)
+    IsSound (fold (λ t entry. state_after t entry.ops) s entries)
 replayed s [] n r are fits = r.sound
 replayed s (entry ∷ entries) n r are fits =
     let have : HasOperations entry = All-head HasOperations entry entries are in
     let long : n + 64 * length (entry ∷ entries) < 2 ^ 64 = fits in
-    replayed (after s entry.ops) entries (n + 64) (entered s entry.ops n r have.1 have.0 (omega arith)) (All-tail HasOperations entry entries are) (omega arith)
+    replayed (state_after s entry.ops) entries (n + 64) (entered s entry.ops n r have.1 have.0 (omega arith)) (All-tail HasOperations entry entries are) (omega arith)
 
 pub replay_sound : (entries : List Entry) → All HasOperations entries → 64 * length entries + 1 < 2 ^ 64 → IsSound (replay entries)
 replay_sound entries are fits = replayed empty entries 1 (record { sound = empty_sound; bound = omega arith }) are (omega arith)

@@ -6,7 +6,7 @@ use Rattle.std.specs.declared.result.Result.{Result}
 use Rattle.std.specs.declared.result.Result.TheVariants.{Ok, Err}
 use Rattle.be_value.specs.declared.refusals.Refusal.{Refusal}
 use Rattle.be_value.specs.declared.refusals.Refusal.TheVariants.{CommitsSpent, OutOfMemory}
-use Rattle.be_volume.specs.Ahead.{after}
+use Rattle.be_volume.specs.Ahead.{state_after}
 use Rattle.be_volume.specs.Sound.{IsOperation}
 use Rattle.be_volume.specs.Volume.{State, empty, steps}
 use Rattle.be_journal.specs.declared.entries.Entry.{Entry}
@@ -44,7 +44,7 @@ Grows old grown (Err e) new = (new ≡ old) × IsRefused old e
 
 -- The volume after the entries, one after the other. An entry that the volume refuses changes nothing as a whole.
 abbrev pub replay : List Entry → State
-replay entries = fold (λ s entry. after s entry.ops) empty entries
+replay entries = fold (λ s entry. state_after s entry.ops) empty entries
 
 -- an entry tells what the volume answers
 abbrev pub Agrees : State → Entry → Type 0

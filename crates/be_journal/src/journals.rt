@@ -3,7 +3,7 @@
 //! An entry is appended in one of two ways. `push` takes the memory that it needs. A writer that must not fail once it has
 //! published takes the memory first, by `reserve`, and then appends by `push_reserved`, which takes none.
 ghost use Rattle.std.specs.Prelude.{◌≡◌, ◌≤◌, ◌<◌, ◌^◌, ◌↔◌, ℕ, length, get_or, true, IfOk, IfErr, OnOk, Ok, [], ◌++◌, ◌+◌, vec_len, vec_capacity, All};
-ghost use Rattle.be_volume.specs.Ahead.{after};
+ghost use Rattle.be_volume.specs.Ahead.{state_after};
 ghost use Rattle.be_volume.specs.Volume.{steps};
 ghost use Rattle.be_value.specs.Refusal.{Answers};
 ghost use Rattle.be_value.specs.declared.refusals.Refusal.TheVariants.{OutOfMemory};
@@ -199,7 +199,7 @@ fn fill_dones(own: &mut Vec<Done>, dones: &[Done])
 fn enter(volume: Volume, entry: &Entry) -> Result<Volume, AllocError>
     requires entry { model.IsEntry entry.now }
     requires fits { volume.next + 64 < 2 ^ 64 }
-    ensures after { IfOk result (λ v. v ≡ after volume entry.now.ops) }
+    ensures after { IfOk result (λ v. v ≡ state_after volume entry.now.ops) }
     ensures grows { IfOk result (λ v. v.next ≤ volume.next + 64) }
 {
     let (volume, _answer) = volume.replay(entry.ops.as_slice())?;

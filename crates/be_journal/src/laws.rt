@@ -2,14 +2,14 @@
 //!
 //! Each is a function that does nothing; its contract is the law.
 ghost use Rattle.std.specs.Prelude.{◌≡◌, ◌<◌, ◌+◌, ◌*◌, ◌^◌, ◌++◌, ◌∷◌, [], ℕ, List, All, length};
-ghost use Rattle.be_volume.specs.Ahead.{after};
+ghost use Rattle.be_volume.specs.Ahead.{state_after};
 ghost use Rattle.be_volume.specs.Sound.{IsSound};
 ghost use Rattle.be_journal.specs.Journal.{replay, by_pass, Agrees, IsLegal, HasOperations};
 ghost use Rattle.be_journal.specs.declared.entries.Entry.{Entry as AnyEntry};
 
 /// A law: one more entry is one more write after the entries before it.
 pub fn replay_push()
-    ensures { (entries : List AnyEntry) (entry : AnyEntry) → replay (entries ++ entry ∷ []) ≡ after (replay entries) entry.ops }
+    ensures { (entries : List AnyEntry) (entry : AnyEntry) → replay (entries ++ entry ∷ []) ≡ state_after (replay entries) entry.ops }
 {}
 
 /// A law: the volume after entries that have operations of the program is sound.

@@ -123,8 +123,8 @@ pub record Applies {S K : Type 0} (kept_of : S → K) (standing_of : S → ℕ �
 
 -- A refused list: the steps refuse it so, and no page was taken, filled or given up; or the steps accept it and no page was left, and what
 -- stood when the write began stands once it is undone.
-abbrev pub IsRefused : {S K : Type 0} (kept_of : S → K) (standing_of : S → ℕ → Standing) (words_of : S → ℕ → ℕ → ℕ) (full_of : S → ℕ → Type 0)
+abbrev pub IsRefusedList : {S K : Type 0} (kept_of : S → K) (standing_of : S → ℕ → Standing) (words_of : S → ℕ → ℕ → ℕ) (full_of : S → ℕ → Type 0)
     (volume : State) (ops : List Op) (e : Refusal) (old new : S) → Type 0
-IsRefused kept_of standing_of words_of full_of volume ops e old new =
+IsRefusedList kept_of standing_of words_of full_of volume ops e old new =
     ((steps volume ops ≡ Err e) × IsUnchanged kept_of standing_of words_of old new)
     ⊎ (IsFullOf (full_of new) e × IsOk (steps volume ops) × KeepsStart kept_of standing_of words_of old new)

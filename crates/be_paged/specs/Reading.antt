@@ -19,9 +19,9 @@ abbrev pub is_of : ℕ → List ℕ → Bool
 is_of node k = starts_with nat_eq k (to_be_bytes w64 node)
 
 -- the pairs at the front whose keys begin with the node
-abbrev pub front : ℕ → List Pair → List Pair
-front node [] = []
-front node (x ∷ xs) = if is_of node x.key then x ∷ front node xs else []
+abbrev pub front_of_node : ℕ → List Pair → List Pair
+front_of_node node [] = []
+front_of_node node (x ∷ xs) = if is_of node x.key then x ∷ front_of_node node xs else []
 
 -- the pair of an attribute
 abbrev pub attribute_pair : ℕ → List ℕ × Value → Pair

@@ -13,7 +13,7 @@ ghost use Rattle.be_tree.specs.Tree.{IsTree, pairs};
 ghost use Rattle.be_volume.specs.Maps.{Nodes as AllNodes, attributes_of};
 ghost use Rattle.be_volume.specs.Sound.{IsName};
 ghost use Rattle.be_paged.specs.Catalog.{IsCatalog};
-ghost use Rattle.be_paged.specs.Reading.{AreValid, attribute_pair, front};
+ghost use Rattle.be_paged.specs.Reading.{AreValid, attribute_pair, front_of_node};
 
 use crate::catalog::read_payload;
 use be_pages::Look;
@@ -28,9 +28,10 @@ const MAX_ATTRIBUTES: usize = 64;
 /// The pair of the node's next attribute, and a step past it; none once all were given.
 fn next_attribute<L: Look>(look: &mut L, cursor: &mut Cursor, node: u64) -> Option<TreeItem>
     requires cursor { IsCursor (L.standing look.old) (L.words look.old) cursor.old }
-    ensures item { option_map pair_in result ≡ slice_get (front node (remaining (L.words look.old) cursor.old)) 0 }
+    ensures item { option_map pair_in result ≡ slice_get (front_of_node node (remaining (L.words look.old) cursor.old)) 0 }
     ensures cursor { IsCursor (L.standing look.old) (L.words look.old) cursor.new }
-    ensures rest { IfSome result (λ _. front node (remaining (L.words look.old) cursor.new) ≡ drop 1 (front node (remaining (L.words look.old) cursor.old))) }
+    ensures rest { IfSome result (λ _. front_of_node node (remaining (L.words look.old) cursor.new)
+        ≡ drop 1 (front_of_node node (remaining (L.words look.old) cursor.old))) }
     ensures unchanged { IsUnchanged L.kept L.standing L.words look.old look.new }
 {
     let item = cursor.next(look)?;
@@ -44,9 +45,10 @@ fn next_attribute<L: Look>(look: &mut L, cursor: &mut Cursor, node: u64) -> Opti
 /// Whether the node has a next attribute, and a step past it. Its key alone is read.
 fn pass_attribute<L: Look>(look: &mut L, cursor: &mut Cursor, node: u64) -> bool
     requires cursor { IsCursor (L.standing look.old) (L.words look.old) cursor.old }
-    ensures found { result ≡ is_some (slice_get (front node (remaining (L.words look.old) cursor.old)) 0) }
+    ensures found { result ≡ is_some (slice_get (front_of_node node (remaining (L.words look.old) cursor.old)) 0) }
     ensures cursor { IsCursor (L.standing look.old) (L.words look.old) cursor.new }
-    ensures rest { result ≡ true → front node (remaining (L.words look.old) cursor.new) ≡ drop 1 (front node (remaining (L.words look.old) cursor.old)) }
+    ensures rest { result ≡ true → front_of_node node (remaining (L.words look.old) cursor.new)
+        ≡ drop 1 (front_of_node node (remaining (L.words look.old) cursor.old)) }
     ensures unchanged { IsUnchanged L.kept L.standing L.words look.old look.new }
 {
     match cursor.next_key(look) {
@@ -86,11 +88,12 @@ fn read_attribute(item: &TreeItem) -> Option<(Name, Value)>
 fn next_value<L: Look>(look: &mut L, cursor: &mut Cursor, node: u64) -> Option<(Name, Value)>
     requires cursor { IsCursor (L.standing look.old) (L.words look.old) cursor.old }
     ensures value { (name : List ℕ) (value : AnyValue) → IsName name → IsValue value →
-        slice_get (front node (remaining (L.words look.old) cursor.old)) 0 ≡ Some (attribute_pair node (name, value)) → result ≡ Some (name, value) }
-    ensures none { slice_get (front node (remaining (L.words look.old) cursor.old)) 0 ≡ None → result ≡ None }
-    ensures more { IfSome result (λ _. 0 < length (front node (remaining (L.words look.old) cursor.old))) }
+        slice_get (front_of_node node (remaining (L.words look.old) cursor.old)) 0 ≡ Some (attribute_pair node (name, value)) → result ≡ Some (name, value) }
+    ensures none { slice_get (front_of_node node (remaining (L.words look.old) cursor.old)) 0 ≡ None → result ≡ None }
+    ensures more { IfSome result (λ _. 0 < length (front_of_node node (remaining (L.words look.old) cursor.old))) }
     ensures cursor { IsCursor (L.standing look.old) (L.words look.old) cursor.new }
-    ensures rest { IfSome result (λ _. front node (remaining (L.words look.old) cursor.new) ≡ drop 1 (front node (remaining (L.words look.old) cursor.old))) }
+    ensures rest { IfSome result (λ _. front_of_node node (remaining (L.words look.old) cursor.new)
+        ≡ drop 1 (front_of_node node (remaining (L.words look.old) cursor.old))) }
     ensures unchanged { IsUnchanged L.kept L.standing L.words look.old look.new }
 {
     let item = next_attribute(look, cursor, node)?;

@@ -6,7 +6,7 @@ ghost use Rattle.be_pages.specs.Refusal.{IsFullOf};
 ghost use Rattle.be_pages.specs.declared.room.Standing.TheVariants.{Filled};
 ghost use Rattle.be_volume.specs.Sound.{IsName};
 ghost use Rattle.be_volume.specs.Volume.{State, steps};
-ghost use Rattle.be_paged.specs.Changes.{Applies, IsRefused};
+ghost use Rattle.be_paged.specs.Changes.{Applies, IsRefusedList};
 ghost use Rattle.be_paged.specs.Facts.{AnswersFor};
 ghost use Rattle.be_paged.specs.Version.{IsVersion};
 ghost use Rattle.be_paged.specs.Page.{contents, contents_of, IsVersionPage};
@@ -86,7 +86,7 @@ pub fn apply_into<R: Room>(
     requires open { IsTrue (R.is_open (R.kept room.old)) }
     requires empty { dones.old.items ≡ [] }
     ensures ok { IfOk result (λ page. Applies R.kept R.standing R.words version_page page volume ops.now dones.new.items room.old room.new) }
-    ensures err { IfErr result (λ e. IsRefused R.kept R.standing R.words R.full volume ops.now e room.old room.new) }
+    ensures err { IfErr result (λ e. IsRefusedList R.kept R.standing R.words R.full volume ops.now e room.old room.new) }
 {
     let mut version = Version {
         next: 0,
@@ -115,7 +115,7 @@ pub fn apply<R: Room>(
     requires fits { volume.next + 64 < 2 ^ 64 }
     requires open { IsTrue (R.is_open (R.kept room.old)) }
     ensures ok { IfOk result (λ r. Applies R.kept R.standing R.words version_page r.0 volume ops.now r.1.items room.old room.new) }
-    ensures err { IfErr result (λ e. IsRefused R.kept R.standing R.words R.full volume ops.now e room.old room.new) }
+    ensures err { IfErr result (λ e. IsRefusedList R.kept R.standing R.words R.full volume ops.now e room.old room.new) }
 {
     let mut dones = ArrayVec::new();
     match apply_into(room, version_page, ops, &mut dones) {

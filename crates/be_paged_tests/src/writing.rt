@@ -6,7 +6,7 @@ ghost use Rattle.be_pages.specs.Pages.{after_undo};
 ghost use Rattle.be_tree.specs.Forest.{IsWriteStart};
 ghost use Rattle.be_volume.specs.Volume.{State, Writes, steps, empty};
 ghost use Rattle.be_volume.specs.declared.ops.Done.{Done as AnyDone};
-ghost use Rattle.be_paged.specs.Changes.{Applies, IsRefused};
+ghost use Rattle.be_paged.specs.Changes.{Applies, IsRefusedList};
 ghost use Rattle.be_paged.specs.Version.{IsVersion};
 
 use arrayvec::ArrayVec;
@@ -63,7 +63,7 @@ pub(crate) fn apply_pages(
     requires fits { volume.next + 64 < 2 ^ 64 }
     ensures ok { IfOk result (λ r. Applies ⟦<VecRoom as Look>⟧.kept ⟦<VecRoom as Look>⟧.standing ⟦<VecRoom as Look>⟧.words
         page r.0 volume ops.now r.1.items room.old room.new) }
-    ensures err { IfErr result (λ e. IsRefused ⟦<VecRoom as Look>⟧.kept ⟦<VecRoom as Look>⟧.standing ⟦<VecRoom as Look>⟧.words
+    ensures err { IfErr result (λ e. IsRefusedList ⟦<VecRoom as Look>⟧.kept ⟦<VecRoom as Look>⟧.standing ⟦<VecRoom as Look>⟧.words
         ⟦<VecRoom as Room>⟧.full volume ops.now e room.old room.new) }
 {
     apply(room, page, ops)

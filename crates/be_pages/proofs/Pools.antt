@@ -11,7 +11,7 @@ use Rattle.be_pages.specs.declared.page_pool.Ending.{Ending}
 use Rattle.be_pages.specs.declared.page_pool.Ending.TheVariants.{Published, Kept, Undone}
 use Rattle.be_pages.specs.Pages.{times}
 use Rattle.be_pages.specs.PageSet.{has_page, is_true, one_if}
-use Rattle.be_pages.specs.Place.{is_free, is_held_page, is_idle, is_in_hand, is_retired, number_in, number_of, place_of, place_after, published_place, kept_place, undone_place, swept_place, IsNewest, IsOldestFirst}
+use Rattle.be_pages.specs.Place.{is_free, is_held_page, is_idle, is_in_hand, is_retired, retired_number, retired_at, place_of, place_after, published_place, kept_place, undone_place, swept_place, IsNewest, IsOldestFirst}
 use Rattle.be_pages.proofs.PageSets.{times_more, same_page, other_page, same_test, other_test}
 
 pub in_hand : (x : Place) → IsTrue (is_in_hand x) → (is_free x ≡ false) × (is_retired x ≡ false) × (is_idle x ≡ false)
@@ -109,7 +109,7 @@ after_idle Undone GivenUp = refl
 after_idle Undone (Retired r) = refl
 
 -- the write that ends gives no number above the newest
-pub newest_after : (ending : Ending) (x : Place) (number : ℕ → ℕ) → IsNewest ending number → is_idle x ≡ false → is_retired (place_after ending x) ≡ true → (q : ℕ) → number q ≤ number_in (place_after ending x)
+pub newest_after : (ending : Ending) (x : Place) (number : ℕ → ℕ) → IsNewest ending number → is_idle x ≡ false → is_retired (place_after ending x) ≡ true → (q : ℕ) → number q ≤ retired_number (place_after ending x)
 newest_after (Published n) Free number new un is q = absurd (false≢true (sym un))
 newest_after (Published n) Reserved number new un is q = absurd (false≢true is)
 newest_after (Published n) Filled number new un is q = absurd (false≢true is)
@@ -129,7 +129,7 @@ newest_after Undone Current number new un is q = absurd (false≢true is)
 newest_after Undone GivenUp number new un is q = absurd (false≢true is)
 newest_after Undone (Retired r) number new un is q = absurd (false≢true (sym un))
 
-number_after : (n : ℕ) (x : Place) → number_in x ≤ n → number_in (published_place n x) ≤ n
+number_after : (n : ℕ) (x : Place) → retired_number x ≤ n → retired_number (published_place n x) ≤ n
 number_after n Free le = omega arith
 number_after n Reserved le = omega arith
 number_after n Filled le = omega arith
@@ -138,7 +138,7 @@ number_after n GivenUp le = omega arith
 number_after n (Retired r) le = le
 
 -- a retired page below the least is free after a sweep
-pub swept_free : (least : ℕ) (x : Place) → is_retired x ≡ true → number_in x < least → swept_place least x ≡ Free
+pub swept_free : (least : ℕ) (x : Place) → is_retired x ≡ true → retired_number x < least → swept_place least x ≡ Free
 swept_free least Free is lt = absurd (false≢true is)
 swept_free least Reserved is lt = absurd (false≢true is)
 swept_free least Filled is lt = absurd (false≢true is)
@@ -146,7 +146,7 @@ swept_free least Current is lt = absurd (false≢true is)
 swept_free least GivenUp is lt = absurd (false≢true is)
 swept_free least (Retired n) is lt = ap (λ (b : Bool). if b then Free else Retired n) (lt-ltb n least lt)
 
-pub swept_stays : (least : ℕ) (x : Place) → (is_retired x ≡ true → least ≤ number_in x) → swept_place least x ≡ x
+pub swept_stays : (least : ℕ) (x : Place) → (is_retired x ≡ true → least ≤ retired_number x) → swept_place least x ≡ x
 swept_stays least Free h = refl
 swept_stays least Reserved h = refl
 swept_stays least Filled h = refl
@@ -301,15 +301,15 @@ module _ (P : List Place) (p : ℕ) (s : Place) (lt : p < length P) where
     not_queued : is_retired (place_of P p) ≡ false → (i : ℕ) → i < length queue → slice_index queue i ≡ p → ⊥
     not_queued was i within e = absurd (omega (arith, at_most_once queue i within, ap (λ (r : ℕ). times r queue) e, retires p, ap one_if was))
 
-    pub order_same : is_retired (place_of P p) ≡ false → IsOldestFirst (number_of P) queue → IsOldestFirst (number_of (slice_set P p s)) queue
-    order_same was order = oldest_frame (number_of P) (number_of (slice_set P p s)) queue (λ i within. ap number_in (there (slice_index queue i) (not_queued was i within))) order
+    pub order_same : is_retired (place_of P p) ≡ false → IsOldestFirst (retired_at P) queue → IsOldestFirst (retired_at (slice_set P p s)) queue
+    order_same was order = oldest_frame (retired_at P) (retired_at (slice_set P p s)) queue (λ i within. ap retired_number (there (slice_index queue i) (not_queued was i within))) order
 
-    pub order_more : is_retired (place_of P p) ≡ false → ((q : ℕ) → number_of P q ≤ number_in s) → IsOldestFirst (number_of P) queue → IsOldestFirst (number_of (slice_set P p s)) (queue ++ p ∷ [])
-    order_more was newest order = oldest_push (number_of (slice_set P p s)) queue p (order_same was order)
-        (λ i within. omega (arith, ap number_in (there (slice_index queue i) (not_queued was i within)), newest (slice_index queue i), ap number_in here))
+    pub order_more : is_retired (place_of P p) ≡ false → ((q : ℕ) → retired_at P q ≤ retired_number s) → IsOldestFirst (retired_at P) queue → IsOldestFirst (retired_at (slice_set P p s)) (queue ++ p ∷ [])
+    order_more was newest order = oldest_push (retired_at (slice_set P p s)) queue p (order_same was order)
+        (λ i within. omega (arith, ap retired_number (there (slice_index queue i) (not_queued was i within)), newest (slice_index queue i), ap retired_number here))
 
-    pub order_less : 0 < length queue → p ≡ slice_index queue 0 → is_retired (place_of P p) ≡ true → IsOldestFirst (number_of P) queue → IsOldestFirst (number_of (slice_set P p s)) (drop 1 queue)
-    order_less some top was order = oldest_frame (number_of P) (number_of (slice_set P p s)) (drop 1 queue) (λ i within. ap number_in (there (slice_index (drop 1 queue) i) (gone i within))) (oldest_drop (number_of P) queue order)
+    pub order_less : 0 < length queue → p ≡ slice_index queue 0 → is_retired (place_of P p) ≡ true → IsOldestFirst (retired_at P) queue → IsOldestFirst (retired_at (slice_set P p s)) (drop 1 queue)
+    order_less some top was order = oldest_frame (retired_at P) (retired_at (slice_set P p s)) (drop 1 queue) (λ i within. ap retired_number (there (slice_index (drop 1 queue) i) (gone i within))) (oldest_drop (retired_at P) queue order)
       where
         gone : (i : ℕ) → i < length (drop 1 queue) → slice_index (drop 1 queue) i ≡ p → ⊥
         gone i within e = absurd (omega (arith, at_most_once (drop 1 queue) i within, ap (λ (r : ℕ). times r (drop 1 queue)) e, first_out some top p, same_page p, retires p, ap one_if was))
@@ -329,10 +329,10 @@ module _ (P : List Place) (p : ℕ) (s : Place) (lt : p < length P) where
     | inr ne ↦ there q ne ∙ waiting q (sym (to q ∙ ap (λ (c : Bool). if c then false else has_page flags q) (other_test q p ne)) ∙ is)
   ]
 
-  pub newest_set : (ending : Ending) → IsNewest ending (number_of P) → s ≡ place_after ending (place_of P p) → IsNewest ending (number_of (slice_set P p s))
+  pub newest_set : (ending : Ending) → IsNewest ending (retired_at P) → s ≡ place_after ending (place_of P p) → IsNewest ending (retired_at (slice_set P p s))
   newest_set (Published n) new is = λ q. elim (cases_eq q p) [
-    | inl e ↦ omega (arith, number_after n (place_of P p) (new p), ap number_in (here ∙ is), ap (number_of (slice_set P p s)) e)
-    | inr ne ↦ omega (arith, new q, ap number_in (there q ne))
+    | inl e ↦ omega (arith, number_after n (place_of P p) (new p), ap retired_number (here ∙ is), ap (retired_at (slice_set P p s)) e)
+    | inr ne ↦ omega (arith, new q, ap retired_number (there q ne))
   ]
   newest_set Kept new is = tt
   newest_set Undone new is = tt
@@ -345,10 +345,10 @@ module _ (P : List Place) (p : ℕ) (s : Place) (lt : p < length P) where
   ]
 
 -- where the oldest waits, each waits
-pub none_expired : (P : List Place) (queue : List ℕ) → ((q : ℕ) → times q queue ≡ one_if (is_retired (place_of P q))) → (least : ℕ) → IsOldestFirst (number_of P) queue → (0 < length queue → least ≤ number_of P (slice_index queue 0)) → (q : ℕ) → swept_place least (place_of P q) ≡ place_of P q
+pub none_expired : (P : List Place) (queue : List ℕ) → ((q : ℕ) → times q queue ≡ one_if (is_retired (place_of P q))) → (least : ℕ) → IsOldestFirst (retired_at P) queue → (0 < length queue → least ≤ retired_at P (slice_index queue 0)) → (q : ℕ) → swept_place least (place_of P q) ≡ place_of P q
 none_expired P queue retires least order waits q = swept_stays least (place_of P q) (λ is.
     let at : (i : ℕ) × (i < length queue) × (slice_index queue i ≡ q) = find_place queue q (omega (arith, retires q, ap one_if is)) in
-    omega (arith, waits (omega (arith, at.1)), order 0 at.0 (omega arith) at.1, ap (number_of P) at.2))
+    omega (arith, waits (omega (arith, at.1)), order 0 at.0 (omega arith) at.1, ap (retired_at P) at.2))
 
 -- a page that a write leaves is of the current version, free or retired
 pub other_place : (s : Place) → (s ≡ Free → ⊥) → ((n : ℕ) → s ≡ Retired n → ⊥) → (is_free s ≡ false) × (is_retired s ≡ false)

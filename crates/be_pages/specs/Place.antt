@@ -53,16 +53,16 @@ is_held_page GivenUp = false
 is_held_page (Retired n) = false
 
 -- the number that a page is retired with, else 0
-abbrev pub number_in : Place → ℕ
-number_in Free = 0
-number_in Reserved = 0
-number_in Filled = 0
-number_in Current = 0
-number_in GivenUp = 0
-number_in (Retired n) = n
+abbrev pub retired_number : Place → ℕ
+retired_number Free = 0
+retired_number Reserved = 0
+retired_number Filled = 0
+retired_number Current = 0
+retired_number GivenUp = 0
+retired_number (Retired n) = n
 
-abbrev pub number_of : List Place → ℕ → ℕ
-number_of places q = number_in (place_of places q)
+abbrev pub retired_at : List Place → ℕ → ℕ
+retired_at places q = retired_number (place_of places q)
 
 -- what becomes of a page that is given up: one that the open write took is free at once
 abbrev pub given_place : Place → Place

@@ -28,8 +28,8 @@ abbrev pub standings : List Place → List Stands
 standings places = map (standing_in places) (range_with_len 0 (length places))
 
 -- the word of page q at place i, for pages of 512 words one after another
-abbrev pub word_in : List ℕ → ℕ → ℕ → ℕ
-word_in words q i = if nat_lt i 512 then slice_index words (q * 512 + i) else 0
+abbrev pub pool_word : List ℕ → ℕ → ℕ → ℕ
+pool_word words q i = if nat_lt i 512 then slice_index words (q * 512 + i) else 0
 
 -- no page of the pool is free
 abbrev pub NoneFree : List Place → Type 0

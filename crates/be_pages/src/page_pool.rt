@@ -15,7 +15,7 @@ ghost use Rattle.std.specs.Prelude.{slice_index, slice_index_or, IsTrue, IfOk, I
 ghost use Rattle.std.specs.VecDeque.{deque_len, deque_capacity};
 ghost use Rattle.be_pages.specs.Pages.{times};
 ghost use Rattle.be_pages.specs.PageSet.{has_page, one_if};
-ghost use Rattle.be_pages.specs.Place.{given_place, is_free, is_held_page, is_idle, is_in_hand, is_retired, kept_place, number_of};
+ghost use Rattle.be_pages.specs.Place.{given_place, is_free, is_held_page, is_idle, is_in_hand, is_retired, kept_place, retired_at};
 ghost use Rattle.be_pages.specs.Place.{place_after, place_of, published_place, swept_place, undone_place, IsNewest, IsOldestFirst};
 ghost use Rattle.be_pages.specs.declared.page_pool.Place.TheVariants.{Free, Reserved, Filled, Current, GivenUp, Retired};
 ghost use Rattle.be_pages.specs.declared.page_pool.Ending.TheVariants.{Published, Kept, Undone};
@@ -66,7 +66,7 @@ pub struct PagePool {
     ghost frees: { (q : ℕ) → has_page free.has.items q ≡ is_free (place_of places.items q) },
     ghost touches: { (q : ℕ) → is_idle (place_of places.items q) ≡ false → has_page touched.has.items q ≡ true },
     ghost retires: { (q : ℕ) → times q retired.items ≡ one_if (is_retired (place_of places.items q)) },
-    ghost oldest_first: { IsOldestFirst (number_of places.items) retired.items },
+    ghost oldest_first: { IsOldestFirst (retired_at places.items) retired.items },
 }
 
 impl PagePool {
@@ -152,7 +152,7 @@ impl PagePool {
     /// The write is published: what it filled is of the current version, and what it gave up is retired with this
     /// number, which no retired page's number may pass. A page that was taken and not filled is free.
     pub fn publish(&mut self, number: u64)
-        requires newest { (q : ℕ) → number_of (places self.old) q ≤ number }
+        requires newest { (q : ℕ) → retired_at (places self.old) q ≤ number }
         ensures { places self.new ≡ map (published_place number) (places self.old) }
     {
         self.end(Ending::Published(number));
@@ -174,7 +174,7 @@ impl PagePool {
 
     /// Ends a write: each page that it touched is settled.
     fn end(&mut self, ending: Ending)
-        requires newest { IsNewest ending (number_of (places self.old)) }
+        requires newest { IsNewest ending (retired_at (places self.old)) }
         ensures { places self.new ≡ map (place_after ending) (places self.old) }
     {
         while let Some(page) = self.touched.pop() {
@@ -227,7 +227,7 @@ impl PagePool {
     /// The number that a page is retired with.
     fn number(&self, page: u64) -> u64
         requires { is_retired (place_of (places self.now) page) ≡ true }
-        ensures { result ≡ number_of (places self.now) page }
+        ensures { result ≡ retired_at (places self.now) page }
     {
         match self.places[page as usize] {
             Place::Retired(number) => number,

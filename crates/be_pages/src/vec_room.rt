@@ -6,7 +6,7 @@ ghost use Rattle.be_pages.specs.Pages.{StandsAt, after_keep, after_undo, is_taka
 ghost use Rattle.be_pages.specs.PagePool.{places};
 ghost use Rattle.be_pages.specs.Place.{is_retired, place_of};
 ghost use Rattle.be_pages.specs.Refusal.{IsFullOf, IsLimitOrMemory};
-ghost use Rattle.be_pages.specs.VecRoom.{NoneFree, standing_in, standings, word_in};
+ghost use Rattle.be_pages.specs.VecRoom.{NoneFree, standing_in, standings, pool_word};
 
 use crate::page_pool::PagePool;
 use crate::room::{Look, Room, Standing};
@@ -26,7 +26,7 @@ pub struct VecRoom {
 impl Look for VecRoom {
     ghost use Rattle.std.specs.Prelude.{ℕ, length, true};
     ghost use Rattle.be_pages.specs.PagePool.{places};
-    ghost use Rattle.be_pages.specs.VecRoom.{standing_in, word_in, small_in};
+    ghost use Rattle.be_pages.specs.VecRoom.{standing_in, pool_word, small_in};
 
     ghost Kept = { ℕ };
 
@@ -36,7 +36,7 @@ impl Look for VecRoom {
 
     ghost standing = { λ r q. standing_in (places r.pool) q };
 
-    ghost words = { λ r q i. word_in r.words.items q i };
+    ghost words = { λ r q i. pool_word r.words.items q i };
 
     ghost pages_small = { λ r q some. small_in (places r.pool) q r.at_most some };
 

@@ -5,8 +5,8 @@ use Rattle.std.specs.List.{list_any, list_all, before_first, position_or_len, fl
 use Rattle.std.specs.Bool.{◌==◌}
 use Rattle.std.proofs.lemmas.Bool.{cond_both, and_parts, and_from}
 use Rattle.be_pattern.specs.Match.{Part, Run, One, Among, Only}
-use Rattle.be_pattern.specs.Parse.{Letter, letters, ending_backslash, is_plain, are_members, members, set_with, set_of, with_length, set_at, and_then, parts_behind, pattern}
-use Rattle.be_pattern.specs.Canonical.{marked, is_special, is_special_in_set, member_char, member, opening, part_text, canonical, has_only, notation}
+use Rattle.be_pattern.specs.Parse.{Letter, letters, ending_backslash, is_bare, are_members, members, set_with, set_of, with_length, set_at, and_then, parts_behind, pattern}
+use Rattle.be_pattern.specs.Canonical.{marked, is_special, is_special_in_set, member_char, member, class_opening, part_text, canonical, has_only, notation}
 
 -- Of a text that is read.
 
@@ -56,7 +56,7 @@ members_on p (c ∷ d ∷ e ∷ ls) h =
     let k = and_parts _ _ h in
     let l = and_parts _ _ k.1 in
     let m = and_parts _ _ l.1 in
-    cond_both (is_plain 45 d) ((c.char, e.char) ∷ members ls) ((c.char, c.char) ∷ members (d ∷ e ∷ ls)) (Pairs p)
+    cond_both (is_bare 45 d) ((c.char, e.char) ∷ members ls) ((c.char, c.char) ∷ members (d ∷ e ∷ ls)) (Pairs p)
     (λ w. and_from _ _ (and_from _ _ k.0 m.0) (members_on p ls m.1))
     (λ w. single p c.char (members (d ∷ e ∷ ls)) k.0 (members_on p (d ∷ e ∷ ls) k.1))
 
@@ -75,7 +75,7 @@ unfolding On OnIf
 of_on p [] h = tt
 of_on p (l ∷ ls) h =
     let k = and_parts _ _ h in
-    cond_both (is_plain 94 l) _ _ (OnIf p) (λ w. with_on p true (members ls) (members_on p ls k.1)) (λ w. with_on p false (members (l ∷ ls)) (members_on p (l ∷ ls) h))
+    cond_both (is_bare 94 l) _ _ (OnIf p) (λ w. with_on p true (members ls) (members_on p ls k.1)) (λ w. with_on p false (members (l ∷ ls)) (members_on p (l ∷ ls) h))
 
 length_on : (p : ℕ → Bool) (n : ℕ) (o : Option Part) → OnIf p o → OnSet p (with_length n o)
 unfolding OnIf OnSet
@@ -84,8 +84,8 @@ length_on p n (Some part) h = h
 
 at_on : (p : ℕ → Bool) (ls : List Letter) → On p ls → OnSet p (set_at ls)
 unfolding OnSet
-at_on p ls h = cond_both (list_any (is_plain 93) ls) _ _ (OnSet p)
-    (λ w. length_on p _ _ (of_on p (before_first (is_plain 93) ls) (take_on p (position_or_len (is_plain 93) ls) ls h)))
+at_on p ls h = cond_both (list_any (is_bare 93) ls) _ _ (OnSet p)
+    (λ w. length_on p _ _ (of_on p (before_first (is_bare 93) ls) (take_on p (position_or_len (is_bare 93) ls) ls h)))
     (λ w. tt)
 
 then_on : (p : ℕ → Bool) (part : Part) (r : Result (List Part) ℕ) → has_only p part ≡ true → OnParts p r → OnParts p (and_then part r)
@@ -100,9 +100,9 @@ parts_on p (suc n) [] h = refl
 parts_on p (suc n) (l ∷ ls) h = parts_on p n ls (and_parts _ _ h).1
 parts_on p zero (l ∷ ls) h =
     let k = and_parts _ _ h in
-    cond_both (is_plain 42 l) _ _ (OnParts p) (λ w. then_on p Run _ refl (parts_on p 0 ls k.1))
-    (λ w. cond_both (is_plain 63 l) _ _ (OnParts p) (λ w. then_on p One _ refl (parts_on p 0 ls k.1))
-    (λ w. cond_both (is_plain 91 l) _ _ (OnParts p) (λ w. go (set_at ls) (at_on p ls k.1) (λ n. parts_on p n ls k.1)) (λ w. then_on p (Only l.char) _ k.0 (parts_on p 0 ls k.1))))
+    cond_both (is_bare 42 l) _ _ (OnParts p) (λ w. then_on p Run _ refl (parts_on p 0 ls k.1))
+    (λ w. cond_both (is_bare 63 l) _ _ (OnParts p) (λ w. then_on p One _ refl (parts_on p 0 ls k.1))
+    (λ w. cond_both (is_bare 91 l) _ _ (OnParts p) (λ w. go (set_at ls) (at_on p ls k.1) (λ n. parts_on p n ls k.1)) (λ w. then_on p (Only l.char) _ k.0 (parts_on p 0 ls k.1))))
   where
     go : (o : Option (Part × ℕ)) → OnSet p o → ((n : ℕ) → OnParts p (parts_behind n ls)) → OnParts p (elim o [ None ↦ Err l.at | Some s ↦ and_then s.0 (parts_behind s.1 ls) ])
     go None h k = tt
@@ -164,7 +164,7 @@ flat_members_on : (p : ℕ → Bool) (ms : List (ℕ × ℕ)) → Noted p → li
 flat_members_on p [] n h = refl
 flat_members_on p (m ∷ ms) n h = let k = and_parts _ _ h in both_on p (member m) (flat_map member ms) (member_on p m n k.0) (flat_members_on p ms n k.1)
 
-opening_on : (p : ℕ → Bool) (negated : Bool) → Noted p → list_all p (opening negated) ≡ true
+opening_on : (p : ℕ → Bool) (negated : Bool) → Noted p → list_all p (class_opening negated) ≡ true
 opening_on p true n = and_from _ _ n.opens (one_on p 94 n.caret)
 opening_on p false n = one_on p 91 n.opens
 
@@ -172,7 +172,7 @@ part_on : (p : ℕ → Bool) (part : Part) → Noted p → has_only p part ≡ t
 part_on p Run n h = one_on p 42 n.star
 part_on p One n h = one_on p 63 n.mark
 part_on p (Only c) n h = marked_on p (is_special c) c n.backslash h
-part_on p (Among negated ms) n h = both_on p (opening negated) (flat_map member ms ++ 93 ∷ []) (opening_on p negated n)
+part_on p (Among negated ms) n h = both_on p (class_opening negated) (flat_map member ms ++ 93 ∷ []) (opening_on p negated n)
     (both_on p (flat_map member ms) (93 ∷ []) (flat_members_on p ms n h) (one_on p 93 n.closes))
 
 parts_noted : (p : ℕ → Bool) (ps : List Part) → Noted p → list_all (has_only p) ps ≡ true → list_all p (canonical ps) ≡ true

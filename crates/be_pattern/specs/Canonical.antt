@@ -53,14 +53,14 @@ abbrev pub member : ℕ × ℕ → List ℕ
 member m = if m.0 == m.1 then member_char m.0 else member_char m.0 ++ 45 ∷ member_char m.1
 
 -- `[^` or `[`
-abbrev pub opening : Bool → List ℕ
-opening true = 91 ∷ 94 ∷ []
-opening false = 91 ∷ []
+abbrev pub class_opening : Bool → List ℕ
+class_opening true = 91 ∷ 94 ∷ []
+class_opening false = 91 ∷ []
 
 abbrev pub part_text : Part → List ℕ
 part_text Run = 42 ∷ []
 part_text One = 63 ∷ []
-part_text (Among negated ms) = opening negated ++ (flat_map member ms ++ 93 ∷ [])
+part_text (Among negated ms) = class_opening negated ++ (flat_map member ms ++ 93 ∷ [])
 part_text (Only c) = literal_char c
 
 abbrev pub canonical : List Part → List ℕ

@@ -4,7 +4,7 @@ use Rattle.std.specs.List.{list_any, before_first}
 use Rattle.std.specs.Str.{chars}
 use Rattle.be_pattern.specs.declared.parsing.Letter as code
 use Rattle.be_pattern.specs.Match.{Part, Run, One, Only}
-use Rattle.be_pattern.specs.Parse.{Letter, letters, ending_backslash, is_plain, members, set_with}
+use Rattle.be_pattern.specs.Parse.{Letter, letters, ending_backslash, is_bare, members, set_with}
 
 abbrev pub letter_of : ℕ → code.Letter → Letter
 letter_of at l = record { at = at; escaped = l.escaped; char = l.char }
@@ -25,7 +25,7 @@ ending_of total (suc n) = Some (total - suc n)
 abbrev pub dashed : List Letter → Option (ℕ × List Letter)
 dashed [] = None
 dashed (d ∷ []) = None
-dashed (d ∷ e ∷ ls) = if is_plain 45 d && not (is_plain 93 e) then Some (e.char, ls) else None
+dashed (d ∷ e ∷ ls) = if is_bare 45 d && not (is_bare 93 e) then Some (e.char, ls) else None
 
 abbrev pub end_or : ℕ × List Letter → Option (ℕ × List Letter) → ℕ × List Letter
 end_or single None = single
@@ -38,8 +38,8 @@ member_end c ls = end_or (c, ls) (dashed ls)
 -- the members up to the first plain `]`, and the letters behind that
 abbrev pub members_behind : List Letter → Option (List (ℕ × ℕ) × List Letter)
 members_behind ls =
-    let body = before_first (is_plain 93) ls in
-    if list_any (is_plain 93) ls then Some (members body, drop (length body + 1) ls) else None
+    let body = before_first (is_bare 93) ls in
+    if list_any (is_bare 93) ls then Some (members body, drop (length body + 1) ls) else None
 
 abbrev pub with_rest : List Letter → Option Part → Option (Part × List Letter)
 with_rest rest None = None
@@ -52,12 +52,12 @@ with_members negated (Some p) = with_rest p.1 (set_with negated p.0)
 -- the set behind a `[`, and the letters behind it
 abbrev pub set_behind : List Letter → Option (Part × List Letter)
 set_behind [] = None
-set_behind (l ∷ ls) = if is_plain 94 l then with_members true (members_behind ls) else with_members false (members_behind (l ∷ ls))
+set_behind (l ∷ ls) = if is_bare 94 l then with_members true (members_behind ls) else with_members false (members_behind (l ∷ ls))
 
 -- the token that begins with a letter, and the letters behind it
 abbrev pub token_at : Letter → List Letter → Option (Part × List Letter)
 token_at l ls =
-    if is_plain 42 l then Some (Run, ls)
-    else (if is_plain 63 l then Some (One, ls)
-    else (if is_plain 91 l then set_behind ls
+    if is_bare 42 l then Some (Run, ls)
+    else (if is_bare 63 l then Some (One, ls)
+    else (if is_bare 91 l then set_behind ls
     else Some (Only l.char, ls)))

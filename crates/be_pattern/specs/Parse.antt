@@ -26,15 +26,15 @@ ending_backslash true at (c ∷ cs) = ending_backslash false (at + 1 + len_utf8 
 ending_backslash false at (c ∷ cs) = if c == 92 then ending_backslash true at cs else ending_backslash false (at + len_utf8 c) cs
 
 -- the letter is this character, with no backslash
-abbrev pub is_plain : ℕ → Letter → Bool
-is_plain c l = (l.char == c) && not l.escaped
+abbrev pub is_bare : ℕ → Letter → Bool
+is_bare c l = (l.char == c) && not l.escaped
 
 -- The members of a set: `c-d` from c to d, any other letter from itself to itself.
 abbrev pub members : List Letter → List (ℕ × ℕ)
 members [] = []
 members (c ∷ []) = (c.char, c.char) ∷ []
 members (c ∷ d ∷ []) = (c.char, c.char) ∷ (d.char, d.char) ∷ []
-members (c ∷ d ∷ e ∷ ls) = if is_plain 45 d then (c.char, e.char) ∷ members ls else (c.char, c.char) ∷ members (d ∷ e ∷ ls)
+members (c ∷ d ∷ e ∷ ls) = if is_bare 45 d then (c.char, e.char) ∷ members ls else (c.char, c.char) ∷ members (d ∷ e ∷ ls)
 
 -- some range ends before it begins
 abbrev pub falls : List (ℕ × ℕ) → Bool
@@ -51,7 +51,7 @@ set_with negated ms = if are_members ms then Some (Among negated ms) else None
 -- the set whose letters between the brackets these are
 abbrev pub set_of : List Letter → Option Part
 set_of [] = None
-set_of (l ∷ ls) = if is_plain 94 l then set_with true (members ls) else set_with false (members (l ∷ ls))
+set_of (l ∷ ls) = if is_bare 94 l then set_with true (members ls) else set_with false (members (l ∷ ls))
 
 abbrev pub with_length : ℕ → Option Part → Option (Part × ℕ)
 with_length n None = None
@@ -60,8 +60,8 @@ with_length n (Some p) = Some (p, n)
 -- the set behind a `[`, and how many letters it takes with its `]`
 abbrev pub set_at : List Letter → Option (Part × ℕ)
 set_at ls =
-    let body = before_first (is_plain 93) ls in
-    if list_any (is_plain 93) ls then with_length (length body + 1) (set_of body) else None
+    let body = before_first (is_bare 93) ls in
+    if list_any (is_bare 93) ls then with_length (length body + 1) (set_of body) else None
 
 abbrev pub and_then : Part → Result (List Part) ℕ → Result (List Part) ℕ
 and_then p (Ok ps) = Ok (p ∷ ps)
@@ -72,9 +72,9 @@ abbrev pub parts_behind : ℕ → List Letter → Result (List Part) ℕ
 parts_behind taken [] = Ok []
 parts_behind (suc taken) (l ∷ ls) = parts_behind taken ls
 parts_behind zero (l ∷ ls) =
-    if is_plain 42 l then and_then Run (parts_behind 0 ls)
-    else (if is_plain 63 l then and_then One (parts_behind 0 ls)
-    else (if is_plain 91 l then (elim (set_at ls) [ None ↦ Err l.at | Some s ↦ and_then s.0 (parts_behind s.1 ls) ])
+    if is_bare 42 l then and_then Run (parts_behind 0 ls)
+    else (if is_bare 63 l then and_then One (parts_behind 0 ls)
+    else (if is_bare 91 l then (elim (set_at ls) [ None ↦ Err l.at | Some s ↦ and_then s.0 (parts_behind s.1 ls) ])
     else and_then (Only l.char) (parts_behind 0 ls)))
 
 -- The tokens of a pattern's text, or the place of its fault.

@@ -3,7 +3,7 @@ ghost use Rattle.std.specs.Prelude.{◌≡◌, ◌++◌, ◌∷◌, ◌<◌, fal
 ghost use Rattle.std.specs.List.{flat_map};
 ghost use Rattle.be_pattern.specs.Match.{Only, part_of, parts_of};
 ghost use Rattle.be_pattern.specs.Canonical.{canonical, is_literal, is_plain, is_prefix, is_special, is_special_in_set, marked, member};
-ghost use Rattle.be_pattern.specs.Canonical.{member_char, opening, part_text, literal_prefix};
+ghost use Rattle.be_pattern.specs.Canonical.{member_char, class_opening, part_text, literal_prefix};
 
 use crate::token::Token;
 use std::alloc::{AllocError, Global};
@@ -140,7 +140,7 @@ fn push_marked(text: &mut String, c: char, backslash: bool) -> Result<(), AllocE
 /// Appends a set.
 fn push_set(text: &mut String, negated: bool, members: &[(char, char)]) -> Result<(), AllocError>
     ensures { IfOk result (λ _. string_bytes text.new
-        ≡ string_bytes text.old ++ encode_utf8_all (opening negated ++ (flat_map member members.now ++ 93 ∷ []))) }
+        ≡ string_bytes text.old ++ encode_utf8_all (class_opening negated ++ (flat_map member members.now ++ 93 ∷ []))) }
 {
     push_opening(text, negated)?;
     let mut rest = members;
@@ -154,7 +154,7 @@ fn push_set(text: &mut String, negated: bool, members: &[(char, char)]) -> Resul
 
 /// Appends what a set begins with.
 fn push_opening(text: &mut String, negated: bool) -> Result<(), AllocError>
-    ensures { IfOk result (λ _. string_bytes text.new ≡ string_bytes text.old ++ encode_utf8_all (opening negated)) }
+    ensures { IfOk result (λ _. string_bytes text.new ≡ string_bytes text.old ++ encode_utf8_all (class_opening negated)) }
 {
     if negated {
         return text.push_str("[^");

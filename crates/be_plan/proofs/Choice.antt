@@ -14,7 +14,7 @@ use Rattle.be_value.specs.declared.refusals.Refusal.TheVariants.{OutOfMemory, No
 use Rattle.be_query.specs.Grammar.{Formula, Leaf, And, Or, comparisons}
 use Rattle.be_volume.specs.Query.{rests}
 use Rattle.be_plan.specs.Explain.{are_places}
-use Rattle.be_plan.specs.Cover.{Comparison, leaves, covers, covers_part, rests_on, choice, chosen, cheaper, joined, or_not_covered, score_of}
+use Rattle.be_plan.specs.Cover.{Comparison, leaves, covers, covers_part, rests_on, choice, chosen, cheaper, both_covers, or_not_covered, score_of}
 use Rattle.be_plan.specs.declared.plans.Cover.{Cover}
 use Rattle.be_plan.proofs.Ways.{IsPart, length-leaves, left_part, right_part, or_cases, and_first, and_second}
 
@@ -94,7 +94,7 @@ module _ (indexed : List ℕ → Bool) (whole : Formula) where
       by true = to_right at a b y g
       by false = to_left at a b x h
 
-  of_either : (at : ℕ) (a b : Formula) (x y : Option Cover) → IsChoice at a x → IsChoice (at + comparisons a) b y → IsChoice at (Or a b) (joined x y)
+  of_either : (at : ℕ) (a b : Formula) (x y : Option Cover) → IsChoice at a x → IsChoice (at + comparisons a) b y → IsChoice at (Or a b) (both_covers x y)
   of_either at a b None y h g = ap (λ t. t && rests indexed b) h
   of_either at a b (Some x) None h g = not_both (rests indexed a) _ g
   of_either at a b (Some x) (Some y) h g = record {

@@ -7,7 +7,7 @@ use Rattle.std.specs.declared.cmp.Ordering.{Ordering}
 use Rattle.std.specs.declared.cmp.Ordering.TheVariants.{Less, Equal, Greater}
 use Rattle.std.specs.Cmp.{tied_itself}
 use Rattle.be_volume.specs.Maps.{name_cmp}
-use Rattle.be_volume.specs.PairKeys.{is_from}
+use Rattle.be_volume.specs.PairKeys.{is_at_or_after}
 use Rattle.be_plan.proofs.Bounds.{not_true}
 use Rattle.be_volume.specs.Keys.{IsNextKey}
 use Rattle.be_volume.specs.Sound.{IsSound}
@@ -107,7 +107,7 @@ greater_not_less Equal h = cc
 greater_not_less Greater h = refl
 
 -- the next key of a walk that has come from the low end is not below it
-from_low : (from : List ℕ) (after : Bool) (next low : List ℕ) → is_from from after next ≡ true → is_lt (name_cmp from low) ≡ false → is_lt (name_cmp next low) ≡ false
+from_low : (from : List ℕ) (after : Bool) (next low : List ℕ) → is_at_or_after from after next ≡ true → is_lt (name_cmp from low) ≡ false → is_lt (name_cmp next low) ≡ false
 from_low from true next low h g = not_below next from low g (greater_not_less _ h)
 from_low from false next low h g = not_below next from low g (not_true _ h)
 

@@ -8,11 +8,11 @@ use Rattle.be_value.specs.declared.values.Value.{Value}
 use Rattle.be_query.specs.Grammar.{Formula, And, Or}
 use Rattle.be_volume.specs.Query.{sat, sees}
 use Rattle.be_volume.specs.Volume.{State}
-use Rattle.be_plan.specs.Narrow.{IsPair, Leaves, Within, rest_true}
+use Rattle.be_plan.specs.Narrow.{IsPair, LeavesRest, Within, rest_true}
 
 -- of an "and", where a range within both leaves these
 pub both_left : (a b : Formula) (name : List ℕ) (kind : Kind) (la lb low : List ℕ) (ha hb high : Option (List ℕ)) (left right : Option Formula) →
-    Leaves a name kind la ha left → Leaves b name kind lb hb right →
+    LeavesRest a name kind la ha left → LeavesRest b name kind lb hb right →
     ((k : List ℕ) → Within low high k → Within la ha k) → ((k : List ℕ) → Within low high k → Within lb hb k) →
     (s : State) (value : Value) (node : ℕ) → IsPair kind value node → Within low high (key value node) → sees s node name ≡ Some value →
     sat s (And a b) node ≡ (rest_true s left node && rest_true s right node)
@@ -25,13 +25,13 @@ or_true true b h = refl
 or_true false b h = h
 
 -- an "or" is true where nothing is left of one side
-pub left_done : (a b : Formula) (name : List ℕ) (kind : Kind) (low : List ℕ) (high : Option (List ℕ)) (rest : Option Formula) → Leaves a name kind low high rest →
+pub left_done : (a b : Formula) (name : List ℕ) (kind : Kind) (low : List ℕ) (high : Option (List ℕ)) (rest : Option Formula) → LeavesRest a name kind low high rest →
     (s : State) (value : Value) (node : ℕ) → IsPair kind value node → Within low high (key value node) → sees s node name ≡ Some value →
     rest ≡ None → sat s (Or a b) node ≡ true
 left_done a b name kind low high rest leaves s value node p w seen none =
     ap (λ t. t || sat s b node) (leaves s value node p w seen ∙ ap (λ r. rest_true s r node) none)
 
-pub right_done : (a b : Formula) (name : List ℕ) (kind : Kind) (low : List ℕ) (high : Option (List ℕ)) (rest : Option Formula) → Leaves b name kind low high rest →
+pub right_done : (a b : Formula) (name : List ℕ) (kind : Kind) (low : List ℕ) (high : Option (List ℕ)) (rest : Option Formula) → LeavesRest b name kind low high rest →
     (s : State) (value : Value) (node : ℕ) → IsPair kind value node → Within low high (key value node) → sees s node name ≡ Some value →
     rest ≡ None → sat s (Or a b) node ≡ true
 right_done a b name kind low high rest leaves s value node p w seen none =

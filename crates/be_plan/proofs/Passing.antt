@@ -18,7 +18,7 @@ use Rattle.be_volume.specs.Maps.{name_cmp}
 use Rattle.be_volume.specs.Volume.{State}
 use Rattle.be_volume.specs.declared.maps.Index.{Index}
 use Rattle.be_volume.specs.Keys.{IsKey, IsNextKey}
-use Rattle.be_volume.specs.PairKeys.{is_from}
+use Rattle.be_volume.specs.PairKeys.{is_at_or_after}
 use Rattle.be_volume.specs.Sound.{IsSound, IsPaired}
 use Rattle.be_plan.specs.Narrow.{Within, is_above}
 use Rattle.be_plan.specs.Walk.{HasWanted, HasPassed, Keeps}
@@ -33,7 +33,7 @@ how_many p (e ∷ es) = one_if (p e.0 e.1) + how_many p es
 
 abbrev pub ahead_in : Option Index → List ℕ → Bool → ℕ
 ahead_in None from after = 0
-ahead_in (Some index) from after = how_many (λ n v. is_from from after (key v n)) (map.entries index.pairs)
+ahead_in (Some index) from after = how_many (λ n v. is_at_or_after from after (key v n)) (map.entries index.pairs)
 
 -- how many keys of the index are ahead of a walk that stands at `from`
 abbrev pub ahead : State → List ℕ → List ℕ → Bool → ℕ
@@ -60,7 +60,7 @@ above_too k next high Equal e h g = total.congr k next high e ∙ g
 above_too k next high Greater e h g = greater_trans k next high e g
 
 -- what is above a key from there on is from there on
-from_too : (from : List ℕ) (after : Bool) (next k : List ℕ) → is_from from after next ≡ true → name_cmp k next ≡ Greater → is_from from after k ≡ true
+from_too : (from : List ℕ) (after : Bool) (next k : List ℕ) → is_at_or_after from after next ≡ true → name_cmp k next ≡ Greater → is_at_or_after from after k ≡ true
 from_too from true next k h g = ap is_gt (greater_trans k next from g (is_greater _ h))
 from_too from false next k h g = by (name_cmp next from) refl h
   where
@@ -110,13 +110,13 @@ module _ (s : State) (Wanted : ℕ → Type 0) (name low : List ℕ) (high : Opt
   -- where the next key is above the range, the walk has passed all of it
   pub ends_above : (from : List ℕ) (after : Bool) (next : List ℕ) (found : List ℕ) → IsNextKey s name from after (Some next) → is_above high next ≡ true →
       HasPassed s Wanted name low high from after found → HasWanted s Wanted name low high found
-  ends_above from after next found is up passed = λ k h w wanted. by k h w wanted (is_from from after k) refl
+  ends_above from after next found is up passed = λ k h w wanted. by k h w wanted (is_at_or_after from after k) refl
     where
       beyond : (bound : Option (List ℕ)) (k : List ℕ) → is_above bound next ≡ true → is_lt (name_cmp k next) ≡ false → is_above bound k ≡ true
       beyond None k u l = u
       beyond (Some b) k u l = ap is_gt (above_too k next b _ refl l (is_greater _ u))
 
-      by : (k : List ℕ) (h : IsKey s name k) → Within low high k → Wanted h.node → (t : Bool) → is_from from after k ≡ t → Contains found h.node
+      by : (k : List ℕ) (h : IsKey s name k) → Within low high k → Wanted h.node → (t : Bool) → is_at_or_after from after k ≡ t → Contains found h.node
       by k h w wanted false t = passed k h w t wanted
       by k h w wanted true t = let u : is_above high k ≡ true = beyond high k up (is.2 k h t) in let v : is_above high k ≡ false = w.to_high in cc
 
@@ -124,10 +124,10 @@ module _ (s : State) (Wanted : ℕ → Type 0) (name low : List ℕ) (high : Opt
   pub passes : (from : List ℕ) (after : Bool) (next : List ℕ) (before now : List ℕ) → IsSound s → IsNextKey s name from after (Some next) →
       HasPassed s Wanted name low high from after before → Keeps before now →
       ((v : Value) (n : ℕ) → n < 2 ^ 64 → next ≡ key v n → Wanted n → Contains now n) → HasPassed s Wanted name low high next true now
-  passes from after next before now sound is passed keeps has = λ k h w not_ahead wanted. by k h w not_ahead wanted (is_from from after k) refl
+  passes from after next before now sound is passed keeps has = λ k h w not_ahead wanted. by k h w not_ahead wanted (is_at_or_after from after k) refl
     where
-      by : (k : List ℕ) (h : IsKey s name k) → Within low high k → is_from next true k ≡ false → Wanted h.node →
-          (t : Bool) → is_from from after k ≡ t → Contains now h.node
+      by : (k : List ℕ) (h : IsKey s name k) → Within low high k → is_at_or_after next true k ≡ false → Wanted h.node →
+          (t : Bool) → is_at_or_after from after k ≡ t → Contains now h.node
       by k h w not_ahead wanted false t = keeps h.node (passed k h w t wanted)
       by k h w not_ahead wanted true t =
           let paired : IsPaired s name h.index.kind h.node h.value = sound.pairs name h.index h.node h.value h.there h.paired in
@@ -139,10 +139,10 @@ pub falls : (s : State) (name from : List ℕ) (after : Bool) (next : List ℕ) 
 falls s name from after next is =
     let P : Option Index → Type 0 = λ i. suc (ahead_in i next true) ≤ ahead_in i from after in
     subst P (sym k.there)
-    (fewer (λ n v. is_from from after (key v n)) (λ n v. is_from next true (key v n))
+    (fewer (λ n v. is_at_or_after from after (key v n)) (λ n v. is_at_or_after next true (key v n))
     (λ n v g. from_too from after next (key v n) is.1 (is_greater _ g))
     k.node k.value (map.entries k.index.pairs) (sym (map.get-entries k.index.pairs k.node) ∙ k.paired)
-    (ap (is_from from after) (sym k.is) ∙ is.1)
+    (ap (is_at_or_after from after) (sym k.is) ∙ is.1)
     (ap is_gt (ap (λ l. name_cmp l next) (sym k.is) ∙ tied_itself total next)))
   where
     k : IsKey s name next

@@ -16,7 +16,7 @@ use Rattle.be_volume.specs.declared.maps.Index.{Index}
 use Rattle.be_volume.specs.Keys.{IsKey}
 use Rattle.be_volume.specs.Sound.{IsSound, IsPaired}
 use Rattle.be_volume.specs.Reading.{attribute, index_kind}
-use Rattle.be_plan.specs.Narrow.{Leaves, IsPair, Within, rest_true}
+use Rattle.be_plan.specs.Narrow.{LeavesRest, IsPair, Within, rest_true}
 
 -- a key ends with one node alone
 pub key_node : (v w : Value) (m n : ℕ) → m < 2 ^ 64 → n < 2 ^ 64 → key v m ≡ key w n → m ≡ n
@@ -99,7 +99,7 @@ module _ (s : State) (sound : IsSound s) (name bytes : List ℕ) (k : IsKey s na
   own_node value node fits e = key_node k.value value k.node node paired.node_fits fits (sym k.is ∙ e)
 
   -- of the node of a key in the range the formula is true where what is left to ask is
-  pub left_key : (f : Formula) (low : List ℕ) (high : Option (List ℕ)) (rest : Option Formula) → Leaves f name kind low high rest →
+  pub left_key : (f : Formula) (low : List ℕ) (high : Option (List ℕ)) (rest : Option Formula) → LeavesRest f name kind low high rest →
       Within low high bytes → sat s f k.node ≡ rest_true s rest k.node
   left_key f low high rest leaves within =
       let pair : IsPair kind k.value k.node = record { is_value = paired.is_value; kind_is = paired.kind_is ∙ kinds; node_fits = paired.node_fits } in

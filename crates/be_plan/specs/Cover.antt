@@ -79,16 +79,16 @@ cheaper (Some a) None = Some a
 cheaper (Some a) (Some b) = if nat_lt b.score a.score then Some b else Some a
 
 -- both, if both sides are covered
-abbrev pub joined : Option Cover → Option Cover → Option Cover
-joined None b = None
-joined (Some a) None = None
-joined (Some a) (Some b) = Some (record { picks = a.picks ++ b.picks; score = a.score + b.score })
+abbrev pub both_covers : Option Cover → Option Cover → Option Cover
+both_covers None b = None
+both_covers (Some a) None = None
+both_covers (Some a) (Some b) = Some (record { picks = a.picks ++ b.picks; score = a.score + b.score })
 
 -- the choice for the part whose first comparison has the place `at`, if it is covered
 abbrev pub choice : (List ℕ → Bool) → ℕ → Formula → Option Cover
 choice indexed at (Leaf name op literal) = if indexed name then Some (record { picks = at ∷ []; score = score_of op literal }) else None
 choice indexed at (And a b) = cheaper (choice indexed at a) (choice indexed (at + comparisons a) b)
-choice indexed at (Or a b) = joined (choice indexed at a) (choice indexed (at + comparisons a) b)
+choice indexed at (Or a b) = both_covers (choice indexed at a) (choice indexed (at + comparisons a) b)
 
 abbrev pub or_not_covered : Option Cover → Result Cover Refusal
 or_not_covered None = Err NotCovered

@@ -83,8 +83,8 @@ abbrev pub rest_true : State → Option Formula → ℕ → Bool
 rest_true s rest node = option_map_or (λ f. sat s f node) rest true
 
 -- Of nodes that have keys from `low` to `high` in the index of that name the formula is true where what is left to ask is, whatever the volume.
-abbrev pub Leaves : Formula → List ℕ → Kind → List ℕ → Option (List ℕ) → Option Formula → Type 0
-Leaves f name kind low high rest =
+abbrev pub LeavesRest : Formula → List ℕ → Kind → List ℕ → Option (List ℕ) → Option Formula → Type 0
+LeavesRest f name kind low high rest =
     (s : State) (value : Value) (node : ℕ) → IsPair kind value node → Within low high (key value node) → sees s node name ≡ Some value → sat s f node ≡ rest_true s rest node
 
 -- what is above the byte behind a pattern's literal characters

@@ -11,14 +11,14 @@ use Rattle.be_volume.specs.Maps.{name_cmp}
 use Rattle.be_volume.specs.Query.{sat, sees}
 use Rattle.be_volume.specs.Volume.{State}
 use Rattle.be_volume.specs.Keys.{IsKey, IsNextKey}
-use Rattle.be_volume.specs.PairKeys.{is_from}
+use Rattle.be_volume.specs.PairKeys.{is_at_or_after}
 use Rattle.be_plan.specs.Narrow.{Within, Allows}
 
 -- a comparison of the formula is on this name
-abbrev pub asks : Formula → List ℕ → Bool
-asks (Leaf own op literal) name = pointwise nat_eq own name
-asks (And a b) name = asks a name || asks b name
-asks (Or a b) name = asks a name || asks b name
+abbrev pub asks_name : Formula → List ℕ → Bool
+asks_name (Leaf own op literal) name = pointwise nat_eq own name
+asks_name (And a b) name = asks_name a name || asks_name b name
+asks_name (Or a b) name = asks_name a name || asks_name b name
 
 -- the formula is true of each of the nodes
 abbrev pub AllSatisfy : State → Formula → List ℕ → Type 0
@@ -54,7 +54,7 @@ HasOnly s name low high before after = (n : ℕ) → Contains after n → Contai
 -- the same of the keys that are not ahead of the walk, which stands at `from`
 abbrev pub HasPassed : State → (ℕ → Type 0) → List ℕ → List ℕ → Option (List ℕ) → List ℕ → Bool → List ℕ → Type 0
 HasPassed s Wanted name low high from after found =
-    (k : List ℕ) (h : IsKey s name k) → Within low high k → is_from from after k ≡ false → Wanted h.node → Contains found h.node
+    (k : List ℕ) (h : IsKey s name k) → Within low high k → is_at_or_after from after k ≡ false → Wanted h.node → Contains found h.node
 
 -- The next key of the walk is this one, or there is none, and it has passed those before: of these the nodes that are wanted are there.
 pub record HasCome (s : State) (Wanted : ℕ → Type 0) (name low : List ℕ) (high next : Option (List ℕ)) (found : List ℕ) : Type 0 where

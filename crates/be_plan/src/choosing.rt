@@ -11,7 +11,7 @@ ghost use Rattle.be_query.specs.View.{formula, literal};
 ghost use Rattle.be_volume.specs.Query.{covered, has_index, rests};
 ghost use Rattle.be_volume.specs.Volume.{State};
 ghost use Rattle.be_plan.specs.Explain.{are_places};
-ghost use Rattle.be_plan.specs.Cover.{chosen, choice, covers, cheaper, joined, is_listed, score_of};
+ghost use Rattle.be_plan.specs.Cover.{chosen, choice, covers, cheaper, both_covers, is_listed, score_of};
 
 use crate::{Cover, Picks, Source};
 use be_query::{Cmp, Comparison, Literal, Query, Tree};

@@ -8,7 +8,7 @@ ghost use Rattle.be_query.specs.View.{formula, literal};
 ghost use Rattle.be_volume.specs.Query.{sees, sat};
 ghost use Rattle.be_volume.specs.Reading.{attribute};
 ghost use Rattle.be_volume.specs.Volume.{State};
-ghost use Rattle.be_plan.specs.Walk.{asks};
+ghost use Rattle.be_plan.specs.Walk.{asks_name};
 
 use crate::Source;
 use be_query::{Comparison, Tree};
@@ -97,11 +97,11 @@ pub(crate) fn is_true<S: Source>(source: &mut S, tree: &Tree, node: u64) -> bool
 }
 
 /// Whether a comparison of the tree is on this name.
-pub(crate) fn asks(tree: &Tree, name: &Name) -> bool
-    ensures { result ≡ asks (formula tree.now) name.now }
+pub(crate) fn asks_name(tree: &Tree, name: &Name) -> bool
+    ensures { result ≡ asks_name (formula tree.now) name.now }
 {
     match tree {
         Tree::Leaf(comparison) => comparison.name == *name,
-        Tree::And(a, b) | Tree::Or(a, b) => asks(a, name) || asks(b, name),
+        Tree::And(a, b) | Tree::Or(a, b) => asks_name(a, name) || asks_name(b, name),
     }
 }

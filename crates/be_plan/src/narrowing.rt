@@ -10,7 +10,8 @@
 //!
 //! What narrows a range tells whether that leaves no value of which the comparison, or the whole query, is false. Then the node of each key is
 //! an answer, and nothing is asked of it. A pattern is decided where it says no more than how a text begins.
-ghost use Rattle.std.specs.Prelude.{◌≡◌, ◌<◌, ◌≤◌, ◌+◌, ◌^◌, ℕ, ℤ, ◌≤ℤ◌, true, false, List, [], ◌∷◌, ◌++◌, ◌&&◌, Some, None, IfSome, IfOk, IfErr, IsUtf8, length};
+ghost use Rattle.std.specs.Prelude.{◌≡◌, ◌<◌, ◌≤◌, ◌+◌, ◌^◌, ℕ, ℤ, ◌≤ℤ◌, true, false, List, [], ◌∷◌, ◌++◌, ◌&&◌, Some, None, IfSome, IfOk, IfErr, IsUtf8,
+    length};
 ghost use Rattle.std.specs.Option.{option_copied, option_map};
 ghost use Rattle.std.specs.Str.{chars};
 ghost use Rattle.be_pattern.specs.Match.{matches};
@@ -24,7 +25,7 @@ ghost use Rattle.be_query.specs.View.{formula, literal};
 ghost use Rattle.be_volume.specs.Maps.{name_cmp};
 ghost use Rattle.be_volume.specs.Query.{holds, holds_of_number, is_true_of, literal_number, sat};
 ghost use Rattle.be_volume.specs.Volume.{State};
-ghost use Rattle.be_plan.specs.Narrow.{IsIn, IsBetween, IsPair, StandsFor, HasEnds, Allows, Leaves, high_of, limit, rest_true};
+ghost use Rattle.be_plan.specs.Narrow.{IsIn, IsBetween, IsPair, StandsFor, HasEnds, Allows, LeavesRest, high_of, limit, rest_true};
 
 use crate::ranges::Range;
 use be_pattern::Pattern;
@@ -313,7 +314,8 @@ fn rest_of_both<'a>(
     right: Option<&'a Tree>,
 ) -> Option<&'a Tree>
     ensures { (s : State) (node : ℕ) →
-        sat s (formula tree.now) node ≡ (rest_true s (option_map formula (option_copied left.entry)) node && rest_true s (option_map formula (option_copied right.entry)) node) →
+        sat s (formula tree.now) node ≡ (rest_true s (option_map formula (option_copied left.entry)) node
+            && rest_true s (option_map formula (option_copied right.entry)) node) →
         sat s (formula tree.now) node ≡ rest_true s (option_map formula (option_copied result)) node }
 {
     match (left, right) {
@@ -340,7 +342,7 @@ fn narrow_beside<'a>(range: &mut Range, tree: &'a Tree, name: &Name, kind: Kind)
     ensures within { (k : List ℕ) → IsIn range.new k → IsIn range.old k }
     ensures keeps { (pick at : ℕ) (v : AnyValue) (n : ℕ) → IsPair kind v n → Allows pick at (formula tree.now) name.now v →
         IsIn range.old (key_bytes v n) → IsIn range.new (key_bytes v n) }
-    ensures leaves { Leaves (formula tree.now) name.now kind range.new.low.items (high_of range.new) (option_map formula (option_copied result)) }
+    ensures leaves { LeavesRest (formula tree.now) name.now kind range.new.low.items (high_of range.new) (option_map formula (option_copied result)) }
 {
     match tree {
         Tree::Leaf(comparison) => {
@@ -372,7 +374,8 @@ pub(crate) fn narrow_all<'a>(
     ensures within { (k : List ℕ) → IsIn range.new k → IsIn range.old k }
     ensures keeps { (v : AnyValue) (n : ℕ) → IsPair kind v n → Allows pick at (formula tree.now) name.now v →
         IsIn range.old (key_bytes v n) → IsIn range.new (key_bytes v n) }
-    ensures leaves { IfOk result (λ rest. Leaves (formula tree.now) name.now kind range.new.low.items (high_of range.new) (option_map formula (option_copied rest))) }
+    ensures leaves { IfOk result (λ rest. LeavesRest (formula tree.now) name.now kind range.new.low.items (high_of range.new)
+        (option_map formula (option_copied rest))) }
     ensures inside { IfOk result (λ _. pick < at + comparisons (formula tree.now)) }
     ensures behind { IfErr result (λ end. (end ≡ at + comparisons (formula tree.now)) × (end ≤ pick) × (range.new ≡ range.old)) }
 {

@@ -15,11 +15,11 @@ ghost use Rattle.be_volume.specs.Keys.{IsKey};
 ghost use Rattle.be_volume.specs.Query.{sat};
 ghost use Rattle.be_volume.specs.Reading.{index_kind};
 ghost use Rattle.be_volume.specs.Volume.{State};
-ghost use Rattle.be_plan.specs.Narrow.{Leaves, high_of};
+ghost use Rattle.be_plan.specs.Narrow.{LeavesRest, high_of};
 ghost use Rattle.be_plan.specs.Walk.{AllSatisfy, IsNodeWithin, Keeps, HasWithin};
 
 use crate::Source;
-use crate::evaluating::{asks, is_true, satisfies};
+use crate::evaluating::{asks_name, is_true, satisfies};
 use crate::ranges::Range;
 use be_query::Tree;
 use be_value::{Kind, Name, Refusal, read_key};
@@ -156,7 +156,7 @@ pub(crate) fn walk<S: Source>(
     ghost volume: { State }
     requires answers { S.answers_for source.old volume }
     requires kind { index_kind volume name.now ≡ Some kind }
-    requires leaves { Leaves (formula tree.now) name.now kind range.now.low.items (high_of range.now) (option_map formula (option_copied rest)) }
+    requires leaves { LeavesRest (formula tree.now) name.now kind range.now.low.items (high_of range.now) (option_map formula (option_copied rest)) }
     ensures stays { S.kept source.new ≡ S.kept source.old }
     ensures answers { S.answers_for source.new volume }
     ensures memory { IfErr result (λ e. e ≡ OutOfMemory) }
@@ -169,7 +169,7 @@ pub(crate) fn walk<S: Source>(
     let Some(rest) = rest else {
         return source.nodes_within(name, range.low(), range.high(), found);
     };
-    if asks(rest, name) {
+    if asks_name(rest, name) {
         visit_all(source, tree, name, kind, range, found)
     } else {
         ask_each(alloc, source, rest, name, range, found)

@@ -14,7 +14,7 @@ use Rattle.be_query.specs.Grammar.{Formula, Leaf, And, Or, Literal, Wild, Exact,
 use Rattle.be_query.specs.Reading.{Operand, Operator, Value, Joint, Mark, Paren, ended, next}
 use Rattle.be_query.specs.Lexing.{Placed, Lexeme, Whole, Broken, Odd, lexemes, whole, all_whole}
 use Rattle.be_query.specs.Faults.{first_fault, own_fault, error_of, bad_pattern, fault}
-use Rattle.be_query.specs.Printing.{escaped, value_text, or_text, leaf_tokens, or_printed, and_printed, operand_printed, or_depth, and_depth, operand_depth, limit_of, IsKept, IsKeptBy}
+use Rattle.be_query.specs.Printing.{with_backslashes, literal_text, or_text, leaf_tokens, or_printed, and_printed, operand_printed, or_depth, and_depth, operand_depth, limit_of, IsKept, IsKeptBy}
 use Rattle.be_query.proofs.Kept.{kept_name, kept_quotable}
 use Rattle.be_query.proofs.Printed.{text_lexes, text_whole}
 use Rattle.be_query.proofs.Steps.{goes_on, own_stops, good_value}
@@ -64,19 +64,19 @@ Reads d n deepest ts m = (len : ℕ) (xs : List Placed) (more : List Token) → 
     → ((first_fault Operand (parens d) n len xs ≡ Some TooDeep) × (64 < deepest))
     ⊎ ((ys : List Placed) × (all_whole ys ≡ true) × (whole ys ≡ more) × (first_fault Operand (parens d) n len xs ≡ first_fault Joint (parens d) m len ys) × (deepest ≤ 64))
 
-good_literal : (op : Cmp) (v : Literal) → IsKeptBy op v → bad_pattern op (value_text v) ≡ None
+good_literal : (op : Cmp) (v : Literal) → IsKeptBy op v → bad_pattern op (literal_text v) ≡ None
 good_literal op (Exact bs) h = cond-false _ _ _ h.0
 good_literal op (Wild ps) h = cond-true _ _ _ h.0 ∙ ap error_of (ap pattern (chars-encodes (canonical ps) h.3) ∙ h.1)
 
 leaf_reads : (name : List ℕ) (op : Cmp) (v : Literal) (d n : ℕ) → IsKept (Leaf name op v) → n < 256 → Reads d n (d + 0) (leaf_tokens name op v) (n + 1)
 unfolding Reads
 leaf_reads name op v d n h few len xs more o al e =
-    let a = first_whole xs (Text (escaped name)) (Compares op ∷ Text (value_text v) ∷ more) al e in
-    let b = first_whole a.1 (Compares op) (Text (value_text v) ∷ more) a.4 a.5 in
-    let c = first_whole b.1 (Text (value_text v)) more b.4 b.5 in
-    let named = ap (first_fault Operand (parens d) n len) a.2 ∙ goes_on Operand (parens d) n len a.0 (Text (escaped name)) a.1 (Operator, parens d) a.3 (ap (λ w. cond w (Some (Operator, parens d)) None) (kept_name name h.0)) refl in
+    let a = first_whole xs (Text (with_backslashes name)) (Compares op ∷ Text (literal_text v) ∷ more) al e in
+    let b = first_whole a.1 (Compares op) (Text (literal_text v) ∷ more) a.4 a.5 in
+    let c = first_whole b.1 (Text (literal_text v)) more b.4 b.5 in
+    let named = ap (first_fault Operand (parens d) n len) a.2 ∙ goes_on Operand (parens d) n len a.0 (Text (with_backslashes name)) a.1 (Operator, parens d) a.3 (ap (λ w. cond w (Some (Operator, parens d)) None) (kept_name name h.0)) refl in
     let signed = ap (first_fault Operator (parens d) n len) b.2 ∙ goes_on Operator (parens d) n len b.0 (Compares op) b.1 (Value op, parens d) b.3 refl refl in
-    let valued = ap (first_fault (Value op) (parens d) n len) c.2 ∙ goes_on (Value op) (parens d) n len c.0 (Text (value_text v)) c.1 (Joint, ended (parens d)) c.3 refl (good_value op (value_text v) (Text (value_text v)) (parens d) n c.0.start refl (good_literal op v h.1) few) in
+    let valued = ap (first_fault (Value op) (parens d) n len) c.2 ∙ goes_on (Value op) (parens d) n len c.0 (Text (literal_text v)) c.1 (Joint, ended (parens d)) c.3 refl (good_value op (literal_text v) (Text (literal_text v)) (parens d) n c.0.start refl (good_literal op v h.1) few) in
     inr (c.1, c.4, c.5, named ∙ signed ∙ valued ∙ ap (λ l. first_fault Joint l (n + 1) len c.1) (ended_parens d), omega arith)
 
 -- an operand, `&&` or `||`, and another

@@ -9,9 +9,9 @@ use Rattle.be_query.specs.declared.tree.Cmp.{Cmp}
 use Rattle.be_query.specs.Tokens.{Token, Open, Close, Bang, Both, Either, Compares, Text, plain, is_name}
 use Rattle.be_query.specs.Grammar.{Formula, Leaf, And, Or, complement, comparisons, literal_of, Spells}
 use Rattle.be_query.specs.Reading.{Awaited, Operand, Mark, next}
-use Rattle.be_query.specs.Building.{Level, Stage, Operands, Operators, Values, Joints, State, start, turned, conjunction, disjunction, joined, with_operand, with_side, close, build_at, build, build_from, tree_at, tree_of, awaited_at, marks_of, view_of, IsSettled}
+use Rattle.be_query.specs.Building.{Level, Stage, Operands, Operators, Values, Joints, State, nothing_built, turned, conjunction, disjunction, joined, with_operand, with_side, close, build_at, take_token, build_from, tree_at, tree_of, awaited_at, marks_of, view_of, IsSettled}
 use Rattle.be_query.specs.Lexing.{Placed, Lexeme, Whole, Broken, Odd, lexemes, whole, all_whole, tokens}
-use Rattle.be_query.specs.Faults.{bad_pattern, value_fault, own_fault, counted, broken_at, first_fault, fault}
+use Rattle.be_query.specs.Faults.{bad_pattern, value_fault, own_fault, comparisons_with, broken_at, first_fault, fault}
 use Rattle.be_query.specs.Rpn as rpn
 use Rattle.be_query.proofs.Trees.{seen, build_seen, tree_built}
 use Rattle.be_query.proofs.Sentences.{settled_build, SettledIf}
@@ -128,7 +128,7 @@ value_few n start None h = go (nat_le 256 n) refl h
     go false e k = leb-false 256 n e
 
 one_more : (stage : Stage) (level : Level) (outer : List Level) (n start : ℕ) (t : Token) → (s : State) → build_at stage level outer t ≡ Some s → own_fault (awaited_at stage) (marks_of level outer) n start t ≡ None → n ≤ 256
-    → (ends_one stage + n ≡ counted (awaited_at stage) n) × (counted (awaited_at stage) n ≤ 256)
+    → (ends_one stage + n ≡ comparisons_with (awaited_at stage) n) × (comparisons_with (awaited_at stage) n ≤ 256)
 unfolding ends_one
 one_more Operands level outer n start t s b h k = (omega arith, k)
 one_more (Operators name) level outer n start t s b h k = (omega arith, k)
@@ -164,7 +164,7 @@ few_none s n len t settled f h k e = let a = end_few s.stage s.level s.outer t e
 
 few_token : (at start : ℕ) (tk : Token) (xs : List Placed) → Few xs → Few (record { at = at; start = start; lexeme = Whole tk } ∷ xs)
 unfolding Few Holds
-few_token at start tk xs rest s n len t settled f h k e = by_next (build s tk) refl e
+few_token at start tk xs rest s n len t settled f h k e = by_next (take_token s tk) refl e
   where
     marks : List Mark
     marks = marks_of s.level s.outer
@@ -172,16 +172,16 @@ few_token at start tk xs rest s n len t settled f h k e = by_next (build s tk) r
     x : Placed
     x = record { at = at; start = start; lexeme = Whole tk }
 
-    by_own : (p : State) → build s tk ≡ Some p → tree_of (build_from (Some p) (whole xs)) ≡ Some t → (o : Option Refusal) → own_fault (awaited_at s.stage) (marks_of s.level s.outer) n start tk ≡ o → comparisons t ≤ 256
+    by_own : (p : State) → take_token s tk ≡ Some p → tree_of (build_from (Some p) (whole xs)) ≡ Some t → (o : Option Refusal) → own_fault (awaited_at s.stage) (marks_of s.level s.outer) n start tk ≡ o → comparisons t ≤ 256
     by_own p b e (Some r) w = let stops = own_stops (awaited_at s.stage) (marks_of s.level s.outer) n len x tk xs (view_of p) r refl (build_seen s.stage s.level s.outer tk settled ∙ ap seen b) w in absurd (let no : Some r ≡ None = sym stops ∙ f in cc)
     by_own p b e None w =
         let g = goes_on (awaited_at s.stage) (marks_of s.level s.outer) n len x tk xs (view_of p) refl (build_seen s.stage s.level s.outer tk settled ∙ ap seen b) w in
         let held : in_state p.stage p.level p.outer ≤ in_state s.stage s.level s.outer + ends_one s.stage = subst (Holds (in_state s.stage s.level s.outer + ends_one s.stage)) b (build_holds s.stage s.level s.outer tk) in
         let c = one_more s.stage s.level s.outer n start tk p b w k in
         let counts = c.0 in
-        rest p (counted (awaited_at s.stage) n) len t (subst SettledIf b (settled_build s.stage s.level s.outer tk)) (sym g ∙ f) (omega arith) c.1 e
+        rest p (comparisons_with (awaited_at s.stage) n) len t (subst SettledIf b (settled_build s.stage s.level s.outer tk)) (sym g ∙ f) (omega arith) c.1 e
 
-    by_next : (p : Option State) → build s tk ≡ p → tree_of (build_from p (whole xs)) ≡ Some t → comparisons t ≤ 256
+    by_next : (p : Option State) → take_token s tk ≡ p → tree_of (build_from p (whole xs)) ≡ Some t → comparisons t ≤ 256
     by_next None b e = absurd (none_built (whole xs) t e)
     by_next (Some p) b e = by_own p b e (own_fault (awaited_at s.stage) (marks_of s.level s.outer) n start tk) refl
 
@@ -213,16 +213,16 @@ unbroken_more : (len : ℕ) (x : Placed) (xs : List Placed) → Unbroken len xs 
 unfolding Unbroken
 unbroken_more len x xs rest place marks n = by_lexeme x.lexeme
   where
-    by_own : (s : Awaited × List Mark) (o : Option Refusal) → ◌≡◌ {A = Option Refusal} (elim o [ Some r ↦ Some r | None ↦ first_fault s.0 s.1 (counted place n) len xs ]) None → all_whole xs ≡ true
+    by_own : (s : Awaited × List Mark) (o : Option Refusal) → ◌≡◌ {A = Option Refusal} (elim o [ Some r ↦ Some r | None ↦ first_fault s.0 s.1 (comparisons_with place n) len xs ]) None → all_whole xs ≡ true
     by_own s (Some r) f = absurd (let no : Some r ≡ None = f in cc)
-    by_own s None f = rest s.0 s.1 (counted place n) f
+    by_own s None f = rest s.0 s.1 (comparisons_with place n) f
 
     by_next : (t : Token) (o : Option (Awaited × List Mark))
-        → ◌≡◌ {A = Option Refusal} (elim o [ None ↦ Some (Syntax x.at) | Some s ↦ elim (own_fault place marks n x.start t) [ Some r ↦ Some r | None ↦ first_fault s.0 s.1 (counted place n) len xs ] ]) None → all_whole xs ≡ true
+        → ◌≡◌ {A = Option Refusal} (elim o [ None ↦ Some (Syntax x.at) | Some s ↦ elim (own_fault place marks n x.start t) [ Some r ↦ Some r | None ↦ first_fault s.0 s.1 (comparisons_with place n) len xs ] ]) None → all_whole xs ≡ true
     by_next t None f = absurd (let no : Some (Syntax x.at) ≡ None = f in cc)
     by_next t (Some s) f = by_own s (own_fault place marks n x.start t) f
 
-    by_lexeme : (l : Lexeme) → first_fault place marks n len (record { at = x.at; start = x.start; lexeme = l } ∷ xs) ≡ None → all_whole (record { at = x.at; start = x.start; lexeme = l } ∷ xs) ≡ true
+    by_lexeme : (l : Lexeme) → first_fault place marks n len (record { at = x.at; start = x.start; lexeme = l } ∷ xs) ≡ None → all_whole (record { at = x.at; nothing_built = x.start; lexeme = l } ∷ xs) ≡ true
     by_lexeme Odd f = absurd (let no : Some (Syntax x.at) ≡ None = f in cc)
     by_lexeme (Broken m) f = absurd (let no : Some (Syntax (broken_at place x.at m)) ≡ None = f in cc)
     by_lexeme (Whole t) f = by_next t (next place marks t) f
@@ -241,8 +241,8 @@ pub few_spelt : (text : List ℕ) (t : Formula) → fault text ≡ None → Spel
 unfolding Few in_state in_stage in_level in_levels in_side
 few_spelt text t f (o, same, tree) =
     let first = sym (fault_within text (fault_short text f)) ∙ f in
-    let built = ap (λ l. tree_of (build_from (Some start) l)) (sym same) ∙ tree_built o ∙ ap Some tree in
-    read_few (lexemes 0 0 text) start 0 (length text) t tt first (omega arith) (omega arith) built
+    let built = ap (λ l. tree_of (build_from (Some nothing_built) l)) (sym same) ∙ tree_built o ∙ ap Some tree in
+    read_few (lexemes 0 0 text) nothing_built 0 (length text) t tt first (omega arith) (omega arith) built
 
 -- The same of items.
 

@@ -13,7 +13,7 @@ use Rattle.be_query.specs.declared.lexer.Span.{Span}
 use Rattle.be_query.specs.declared.lexer.Span.TheVariants.{Ends, Breaks}
 use Rattle.be_query.specs.Lexing.{further, is_separator, is_quote, is_sign, is_word, word_span, quoted_span, Lexeme, Whole, Broken, Takes, front, word_front, quoted_front}
 use Rattle.be_query.specs.Tokens.{Token, Text}
-use Rattle.be_query.specs.View.{StandsAt, BeginsSeparated, text_len, second_of}
+use Rattle.be_query.specs.View.{HasLexeme, BeginsSeparated, text_len, second_of}
 use Rattle.std.specs.Prelude.{slice_get}
 
 is_at : (b n : ℕ) → n < 128 → (b == n) ≡ true → b < 128
@@ -83,7 +83,7 @@ further_some (Breaks n) = tt
 pub word_some : (b : ℕ) (bs : List ℕ) → is_word b ≡ true → IsSome1 (word_span false (b ∷ bs))
 word_some b bs w = cond_both (b == 92) _ _ IsSome1 (λ e. further_some _) (λ e. subst IsSome1 (sym (cond-true _ _ _ w)) (further_some _))
 
-pub stands_from : (text : List ℕ) (x : Lexeme) (width shift : ℕ) → 0 < length text → front (get_or text 0 0) (drop 1 text) ≡ Takes x width shift → StandsAt text x width shift
+pub stands_from : (text : List ℕ) (x : Lexeme) (width shift : ℕ) → 0 < length text → front (get_or text 0 0) (drop 1 text) ≡ Takes x width shift → HasLexeme text x width shift
 stands_from [] x width shift l h = absurd (omega arith)
 stands_from (b ∷ bs) x width shift l h = h
 
@@ -158,7 +158,7 @@ pub before_ascii : (text : List ℕ) (n : ℕ) → n ≤ length text → (n < le
 before_ascii text n w a = (w, λ l h. let k = a l in absurd (omega arith))
 
 abbrev pub TokenAt : List ℕ → Token → ℕ → List ℕ → Type 0
-TokenAt text t shift rest = (width : ℕ) × StandsAt text (Whole t) width shift × (rest ≡ drop width text) × (1 ≤ width) × (width ≤ length text) × (shift + text_len t ≤ width)
+TokenAt text t shift rest = (width : ℕ) × HasLexeme text (Whole t) width shift × (rest ≡ drop width text) × (1 ≤ width) × (width ≤ length text) × (shift + text_len t ≤ width)
 
 module _ (text : List ℕ) (l : 0 < length text) (h : is_separator (get_or text 0 0) ≡ false) where
   word_at : (s : Span) → is_quote (get_or text 0 0) ≡ false → is_sign (get_or text 0 0) ≡ false → (get_or text 0 0 == 0) ≡ false → s ≡ word_span false text → front (get_or text 0 0) (drop 1 text) ≡ word_front text s
@@ -170,7 +170,7 @@ module _ (text : List ℕ) (l : 0 < length text) (h : is_separator (get_or text 
       let len = ap length r ∙ length-take-le n text w.0 in
       (n, stands_from text _ n 0 l (word_at (Ends n) q g z e ∙ ap (λ t. Takes (Whole (Text t)) n 0) (sym r)), d, word_span_some text n l (word_first _ h q g z) e, w.0, omega arith)
 
-  pub word_broken : (n : ℕ) → is_quote (get_or text 0 0) ≡ false → is_sign (get_or text 0 0) ≡ false → (get_or text 0 0 == 0) ≡ false → Breaks n ≡ word_span false text → (width : ℕ) × StandsAt text (Broken n) width 0 × (n ≤ length text)
+  pub word_broken : (n : ℕ) → is_quote (get_or text 0 0) ≡ false → is_sign (get_or text 0 0) ≡ false → (get_or text 0 0 == 0) ≡ false → Breaks n ≡ word_span false text → (width : ℕ) × HasLexeme text (Broken n) width 0 × (n ≤ length text)
   word_broken n q g z e = (1, stands_from text _ 1 0 l (word_at (Breaks n) q g z e), word_breaks text n e)
 
   pub quoted_token : (q : ℕ) (behind raw tail rest : List ℕ) (n : ℕ) → get_or text 0 0 ≡ q → is_quote (get_or text 0 0) ≡ true → behind ≡ drop 1 text → Ends n ≡ quoted_span q false behind → raw ≡ take n behind → tail ≡ drop n behind → rest ≡ drop 1 tail → TokenAt text (Text raw) 1 rest
@@ -188,7 +188,7 @@ module _ (text : List ℕ) (l : 0 < length text) (h : is_separator (get_or text 
         omega arith,
       )
 
-  pub quoted_broken : (q : ℕ) (behind : List ℕ) (n : ℕ) → get_or text 0 0 ≡ q → is_quote (get_or text 0 0) ≡ true → behind ≡ drop 1 text → Breaks n ≡ quoted_span q false behind → (width : ℕ) × StandsAt text (Broken (n + 1)) width 0 × (n + 1 ≤ length text)
+  pub quoted_broken : (q : ℕ) (behind : List ℕ) (n : ℕ) → get_or text 0 0 ≡ q → is_quote (get_or text 0 0) ≡ true → behind ≡ drop 1 text → Breaks n ≡ quoted_span q false behind → (width : ℕ) × HasLexeme text (Broken (n + 1)) width 0 × (n + 1 ≤ length text)
   quoted_broken q behind n f k b e =
       let w = quoted_breaks q behind n e in
       let lens : length behind ≡ length text - 1 = ap length b ∙ length-drop 1 text in
@@ -233,6 +233,6 @@ sign_boundary text first width second u l f s p w a =
     let back : width - 1 + 1 ≡ width = omega arith in
     (within, subst (IsCharBoundary text) back (IsCharBoundary-after_ascii text (width - 1) u (omega arith) (omega arith)))
 
-pub sign_at : (text : List ℕ) (first : ℕ) (second : Option ℕ) (x : Lexeme) (width : ℕ) → 0 < length text → get_or text 0 0 ≡ first → second ≡ slice_get text 1 → is_separator first ≡ false → is_quote first ≡ false → (is_sign first || (first == 0)) ≡ true → front first (second_of second) ≡ Takes x width 0 → StandsAt text x width 0
+pub sign_at : (text : List ℕ) (first : ℕ) (second : Option ℕ) (x : Lexeme) (width : ℕ) → 0 < length text → get_or text 0 0 ≡ first → second ≡ slice_get text 1 → is_separator first ≡ false → is_quote first ≡ false → (is_sign first || (first == 0)) ≡ true → front first (second_of second) ≡ Takes x width 0 → HasLexeme text x width 0
 sign_at text first second x width l f s h q g e = stands_from text x width 0 l
     (ap (λ b. front b (drop 1 text)) f ∙ sign_stands first (drop 1 text) h q g ∙ ap (front first) (sym (ap second_of s ∙ second_byte text)) ∙ e)

@@ -9,7 +9,7 @@ use Rattle.std.proofs.lemmas.Bool.{true≢false, cond-false, cond_both, or_parts
 use Rattle.std.proofs.lemmas.Str.{inside_one, length-encode, len_utf8_bounds, len_utf8_ascii, encode_ascii, encodes-append, chars-encodes}
 use Rattle.be_pattern.specs.Match.{Part, Run, One, Among, Only}
 use Rattle.be_pattern.specs.Parse.{pattern}
-use Rattle.be_pattern.specs.Canonical.{marked, is_special, is_special_in_set, member_char, member, opening, part_text, canonical}
+use Rattle.be_pattern.specs.Canonical.{marked, is_special, is_special_in_set, member_char, member, class_opening, part_text, canonical}
 use Rattle.be_query.specs.declared.lexer.Span.{Span}
 use Rattle.be_query.specs.declared.lexer.Span.TheVariants.{Ends, Breaks}
 use Rattle.be_query.specs.declared.tree.Cmp.{Cmp}
@@ -20,7 +20,7 @@ use Rattle.std.specs.Result.{is_ok}
 use Rattle.be_query.specs.Grammar.{Formula, Leaf, And, Or, Literal, Wild, Exact, IsTextOf, wild_or_none, literal_of}
 use Rattle.be_query.specs.Faults.{takes_pattern}
 use Rattle.be_query.specs.Lexing.{further, quoted_span, tokens}
-use Rattle.be_query.specs.Printing.{escaped, value_text, or_text, IsPrintable, IsWhole, IsQuotable, IsKept, IsKeptBy}
+use Rattle.be_query.specs.Printing.{with_backslashes, literal_text, or_text, IsPrintable, IsWhole, IsQuotable, IsKept, IsKeptBy}
 use Rattle.be_query.proofs.Spans.{shifted, shifted_none}
 use Rattle.be_query.proofs.Spelt.{plain-escaped}
 use Rattle.be_query.proofs.Printed.{text_whole, text_spells, escaped_whole}
@@ -143,7 +143,7 @@ members_pass : (ms : List (ℕ × ℕ)) → has_nul (flat_map member ms) ≡ fal
 members_pass [] z = none_passes
 members_pass (m ∷ ms) z = two_pass (member m) (flat_map member ms) (member_passes m) (members_pass ms) z
 
-opening_passes : (negated : Bool) → Passes (opening negated)
+opening_passes : (negated : Bool) → Passes (class_opening negated)
 opening_passes true = both_pass (91 ∷ []) (94 ∷ []) (char_passes 91 (refl, refl, refl)) (char_passes 94 (refl, refl, refl))
 opening_passes false = char_passes 91 (refl, refl, refl)
 
@@ -151,7 +151,7 @@ part_passes : (p : Part) → has_nul (part_text p) ≡ false → Passes (part_te
 part_passes Run z = char_passes 42 (refl, refl, refl)
 part_passes One z = char_passes 63 (refl, refl, refl)
 part_passes (Only c) z = marked_passes (is_special c) c z (special_quote c)
-part_passes (Among negated ms) z = two_pass (opening negated) (flat_map member ms ++ 93 ∷ []) (λ w. opening_passes negated)
+part_passes (Among negated ms) z = two_pass (class_opening negated) (flat_map member ms ++ 93 ∷ []) (λ w. opening_passes negated)
     (two_pass (flat_map member ms) (93 ∷ []) (members_pass ms) (λ w. char_passes 93 (refl, refl, refl))) z
 
 canonical_passes : (ps : List Part) → has_nul (canonical ps) ≡ false → Passes (canonical ps)
@@ -164,13 +164,13 @@ canonical_whole ps z rest = canonical_passes ps z (34 ∷ rest) ∙ ap Ends (ome
 
 -- What is kept by printing.
 
-pub kept_name : (n : List ℕ) → name_from n ≡ Ok n → is_name (escaped n) ≡ true
+pub kept_name : (n : List ℕ) → name_from n ≡ Ok n → is_name (with_backslashes n) ≡ true
 kept_name n h = ap (λ x. is_ok (name_from x)) (plain-escaped n) ∙ ap is_ok h
 
-kept_literal : (op : Cmp) (v : Literal) → IsKeptBy op v → (literal_of op (value_text v) ≡ v) × IsWhole (value_text v)
+kept_literal : (op : Cmp) (v : Literal) → IsKeptBy op v → (literal_of op (literal_text v) ≡ v) × IsWhole (literal_text v)
 kept_literal op (Exact bs) h = (go op h.0, escaped_whole bs h.1)
   where
-    go : (o : Cmp) → takes_pattern o ≡ false → literal_of o (escaped bs) ≡ Exact bs
+    go : (o : Cmp) → takes_pattern o ≡ false → literal_of o (with_backslashes bs) ≡ Exact bs
     go Eq e = absurd (true≢false e)
     go Ne e = absurd (true≢false e)
     go Lt e = ap Exact (plain-escaped bs)

@@ -6,7 +6,7 @@ use Rattle.be_value.specs.declared.refusals.Refusal.TheVariants.{TooLong}
 use Rattle.be_query.specs.Reading.{Operand}
 use Rattle.be_query.specs.Lexing.{Placed, Lexeme, Front, Separator, Takes, front, lexemes}
 use Rattle.be_query.specs.Faults.{first_fault, fault}
-use Rattle.be_query.specs.View.{StandsAt, BeginsSeparated}
+use Rattle.be_query.specs.View.{HasLexeme, BeginsSeparated}
 use Rattle.be_query.proofs.Sentences.{lexemes_behind}
 
 after_front : ℕ → List ℕ → Front → List Placed
@@ -32,7 +32,7 @@ separated (b ∷ bs) rest len h k =
     let place : len - length (b ∷ bs) + 1 ≡ len - length bs = omega arith in
     by_front (len - length (b ∷ bs)) b bs ∙ ap (after_front (len - length (b ∷ bs)) bs) h.0 ∙ ap (λ a. lexemes 0 a bs) place ∙ ap (λ r. lexemes 0 (len - length r) r) (sym h.1)
 
-pub taken : (text rest : List ℕ) (len width shift : ℕ) (lexeme : Lexeme) → StandsAt text lexeme width shift → rest ≡ drop width text → 1 ≤ width → width ≤ length text → length text ≤ len
+pub taken : (text rest : List ℕ) (len width shift : ℕ) (lexeme : Lexeme) → HasLexeme text lexeme width shift → rest ≡ drop width text → 1 ≤ width → width ≤ length text → length text ≤ len
     → lexemes 0 (len - length text) text ≡ record { at = len - length text; start = len - length text + shift; lexeme = lexeme } ∷ lexemes 0 (len - length rest) rest
 unfolding after_front
 taken [] rest len width shift lexeme h r p w k = absurd h
@@ -47,7 +47,7 @@ taken (b ∷ bs) rest len (suc width) shift lexeme h r p w k =
     (ap (λ n. lexemes n (at + 1) bs) one ∙ lexemes_behind width (at + 1) bs ∙ ap (λ a. lexemes 0 a (drop width bs)) place ∙ ap (lexemes 0 (len - length rest)) (sym r))
 
 -- a lexeme stands there, whatever comes behind it
-pub stands : (text : List ℕ) (at width shift : ℕ) (lexeme : Lexeme) → StandsAt text lexeme width shift → (more : List Placed) × (lexemes 0 at text ≡ record { at = at; start = at + shift; lexeme = lexeme } ∷ more)
+pub stands : (text : List ℕ) (at width shift : ℕ) (lexeme : Lexeme) → HasLexeme text lexeme width shift → (more : List Placed) × (lexemes 0 at text ≡ record { at = at; start = at + shift; lexeme = lexeme } ∷ more)
 unfolding after_front
 stands [] at width shift lexeme h = absurd h
 stands (b ∷ bs) at width shift lexeme h = (lexemes (width - 1) (at + 1) bs, by_front at b bs ∙ ap (after_front at bs) h)

@@ -12,7 +12,7 @@ use Rattle.be_query.specs.declared.tree.Cmp.TheVariants.{Eq, Ne, Lt, Le, Gt, Ge}
 use Rattle.be_query.specs.Tokens.{Token, Open, Close, Both, Either, Compares, Text}
 use Rattle.be_query.specs.Grammar.{Formula, Leaf, And, Or, Literal, Spells}
 use Rattle.be_query.specs.Lexing.{further, quoted_span, quoted_front, lexemes, whole, all_whole, tokens, Whole}
-use Rattle.be_query.specs.Printing.{wants_backslash, escaped, value_text, op_text, leaf_text, or_text, and_text, operand_text, leaf_tokens, or_printed, and_printed, operand_printed, IsPrintable, IsWhole, IsQuotable}
+use Rattle.be_query.specs.Printing.{wants_backslash, with_backslashes, literal_text, cmp_text, leaf_text, or_text, and_text, operand_text, leaf_tokens, or_printed, and_printed, operand_printed, IsPrintable, IsWhole, IsQuotable}
 use Rattle.be_query.proofs.Sentences.{lexemes_behind}
 use Rattle.be_query.proofs.Loop.{taken_at}
 use Rattle.be_query.proofs.Spelt.{printed_spells}
@@ -75,7 +75,7 @@ quoted xs h at rest =
     )
 
 -- an operator before a quote
-op_lexes : (op : Cmp) (ys : List ℕ) (ts : List Token) → Lexes (34 ∷ ys) ts → Lexes (op_text op ++ 34 ∷ ys) (Compares op ∷ ts)
+op_lexes : (op : Cmp) (ys : List ℕ) (ts : List Token) → Lexes (34 ∷ ys) ts → Lexes (cmp_text op ++ 34 ∷ ys) (Compares op ∷ ts)
 unfolding Lexes
 op_lexes Eq ys ts h at rest = let w = h (at + 1 + 1) rest in (w.0, ap (λ l. Compares Eq ∷ l) w.1, w.2)
 op_lexes Ne ys ts h at rest = let w = h (at + 1 + 1) rest in (w.0, ap (λ l. Compares Ne ∷ l) w.1, w.2)
@@ -86,12 +86,12 @@ op_lexes Ge ys ts h at rest = let w = h (at + 1 + 1) rest in (w.0, ap (λ l. Com
 
 leaf_lexes : (n : List ℕ) (op : Cmp) (v : Literal) → IsQuotable (Leaf n op v) → Lexes (leaf_text n op v) (leaf_tokens n op v)
 leaf_lexes n op v h =
-    let value = op_lexes op (value_text v ++ 34 ∷ []) (Text (value_text v) ∷ []) (quoted (value_text v) h.1) in
-    let name = escaped n ++ 34 ∷ [] in
-    let tail = value_text v ++ 34 ∷ [] in
-    let regroup = append_assoc ((name ++ op_text op) ++ 34 ∷ []) (value_text v) (34 ∷ []) ∙ append_assoc (name ++ op_text op) (34 ∷ []) tail ∙ append_assoc name (op_text op) (34 ∷ tail) in
+    let value = op_lexes op (literal_text v ++ 34 ∷ []) (Text (literal_text v) ∷ []) (quoted (literal_text v) h.1) in
+    let name = with_backslashes n ++ 34 ∷ [] in
+    let tail = literal_text v ++ 34 ∷ [] in
+    let regroup = append_assoc ((name ++ cmp_text op) ++ 34 ∷ []) (literal_text v) (34 ∷ []) ∙ append_assoc (name ++ cmp_text op) (34 ∷ []) tail ∙ append_assoc name (cmp_text op) (34 ∷ tail) in
     subst (λ x. Lexes x (leaf_tokens n op v)) (ap (λ x. 34 ∷ x) (sym regroup))
-    (both_lex (34 ∷ name) (op_text op ++ 34 ∷ tail) (Text (escaped n) ∷ []) (Compares op ∷ Text (value_text v) ∷ []) (quoted (escaped n) h.0) value)
+    (both_lex (34 ∷ name) (cmp_text op ++ 34 ∷ tail) (Text (with_backslashes n) ∷ []) (Compares op ∷ Text (literal_text v) ∷ []) (quoted (with_backslashes n) h.0) value)
 
 both_of : (l r : Formula) → Lexes (and_text l) (and_printed l) → Lexes (operand_text r) (operand_printed r) → Lexes (and_text l ++ codes " && " ++ operand_text r) (and_printed l ++ Both ∷ operand_printed r)
 both_of l r h k = subst (λ x. Lexes x (and_printed l ++ Both ∷ operand_printed r)) (sym (append_assoc (and_text l) (codes " && ") (operand_text r))) (both_lex (and_text l) (codes " && " ++ operand_text r) (and_printed l) (Both ∷ operand_printed r) h (both_lex (codes " && ") (operand_text r) (Both ∷ []) (operand_printed r) and_lexes k))
@@ -133,21 +133,21 @@ text_spells t h k = subst (λ ts. Spells ts t) (sym (text_lexes t h)) (printed_s
 further_ends : (n m : ℕ) (s : Span) → s ≡ Ends n → m ≡ n + 1 → further s ≡ Ends m
 further_ends n m s e k = ap further e ∙ ap Ends (sym k)
 
-pub escaped_whole : (bs : List ℕ) → list_any (λ b. b == 0) bs ≡ false → IsWhole (escaped bs)
+pub escaped_whole : (bs : List ℕ) → list_any (λ b. b == 0) bs ≡ false → IsWhole (with_backslashes bs)
 escaped_whole [] h rest = refl
 escaped_whole (b ∷ bs) h rest = ⊎_elim
     (λ w.
     let p : ((b == 0) ≡ false) × (list_any (λ c. c == 0) bs ≡ false) = or_parts (b == 0) (list_any (λ c. c == 0) bs) h in
-    let len : length (92 ∷ b ∷ escaped bs) ≡ length (escaped bs) + 1 + 1 = omega arith in
+    let len : length (92 ∷ b ∷ with_backslashes bs) ≡ length (with_backslashes bs) + 1 + 1 = omega arith in
     ap (λ x. quoted_span 34 false (x ++ 34 ∷ rest)) (cond-true _ _ _ w)
-    ∙ further_ends (length (escaped bs) + 1) (length (92 ∷ b ∷ escaped bs)) _ (cond-false _ _ _ p.0 ∙ further_ends (length (escaped bs)) (length (escaped bs) + 1) _ (escaped_whole bs p.1 rest) refl) len
+    ∙ further_ends (length (with_backslashes bs) + 1) (length (92 ∷ b ∷ with_backslashes bs)) _ (cond-false _ _ _ p.0 ∙ further_ends (length (with_backslashes bs)) (length (with_backslashes bs) + 1) _ (escaped_whole bs p.1 rest) refl) len
     ∙ ap (λ x. Ends (length x)) (sym (cond-true (wants_backslash b) _ _ w)))
     (λ w.
     let p : ((b == 0) ≡ false) × (list_any (λ c. c == 0) bs ≡ false) = or_parts (b == 0) (list_any (λ c. c == 0) bs) h in
     let q : ((b == 34) ≡ false) × ((b == 92) ≡ false) = or_parts (b == 34) (b == 92) w in
-    let len : length (b ∷ escaped bs) ≡ length (escaped bs) + 1 = omega arith in
+    let len : length (b ∷ with_backslashes bs) ≡ length (with_backslashes bs) + 1 = omega arith in
     ap (λ x. quoted_span 34 false (x ++ 34 ∷ rest)) (cond-false _ _ _ w)
     ∙ rw q.0 (rw p.0 (rw q.1 refl))
-    ∙ further_ends (length (escaped bs)) (length (b ∷ escaped bs)) _ (escaped_whole bs p.1 rest) len
+    ∙ further_ends (length (with_backslashes bs)) (length (b ∷ with_backslashes bs)) _ (escaped_whole bs p.1 rest) len
     ∙ ap (λ x. Ends (length x)) (sym (cond-false (wants_backslash b) _ _ w)))
     (cases_Bool (wants_backslash b))

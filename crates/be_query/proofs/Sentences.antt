@@ -3,7 +3,7 @@ use Rattle.std.proofs.Common.{◌≡◌, ℕ, ◌+◌, Bool, true, false, zero, 
 use Rattle.be_query.specs.Tokens.{Token, Open, Close, Bang, Both, Either, Compares, Text, is_name}
 use Rattle.be_query.specs.Grammar.{or_tree, Formula, Spells}
 use Rattle.be_query.specs.Reading.{Joint, read_from}
-use Rattle.be_query.specs.Building.{Level, Stage, Operands, Operators, Values, Joints, State, start, close, build_at, build, build_from, tree_at, tree_of, awaited_at, negations_on, marks_of, IsSettledAt, IsSettled}
+use Rattle.be_query.specs.Building.{Level, Stage, Operands, Operators, Values, Joints, State, nothing_built, close, build_at, take_token, build_from, tree_at, tree_of, awaited_at, negations_on, marks_of, IsSettledAt, IsSettled}
 use Rattle.be_query.specs.Lexing.{lexemes}
 use Rattle.be_query.proofs.Viability.{read_sentence}
 use Rattle.be_query.proofs.Trees.{seen, build_seen, tree_built}
@@ -59,12 +59,12 @@ build_read s [] h = refl
 build_read None (t ∷ ts) h = refl
 build_read (Some s) (t ∷ ts) h =
     ap (λ o. read_from o ts) (build_seen s.stage s.level s.outer t h)
-    ∙ build_read (build s t) ts (settled_build s.stage s.level s.outer t)
+    ∙ build_read (take_token s t) ts (settled_build s.stage s.level s.outer t)
 
 settled_from : (s : Option State) (ts : List Token) → SettledIf s → SettledIf (build_from s ts)
 settled_from s [] h = h
 settled_from None (t ∷ ts) h = tt
-settled_from (Some s) (t ∷ ts) h = settled_from (build s t) ts (settled_build s.stage s.level s.outer t)
+settled_from (Some s) (t ∷ ts) h = settled_from (take_token s t) ts (settled_build s.stage s.level s.outer t)
 
 whole_view : (stage : Stage) (level : Level) (outer : List Level) (t : Formula) → IsSettledAt stage level → tree_at stage level outer ≡ Some t → (awaited_at stage ≡ Joint) × (marks_of level outer ≡ [])
 whole_view Operands level outer t h e = cc
@@ -74,13 +74,13 @@ whole_view (Joints u) level [] t h e = (refl, ap (λ n. negations_on n []) h)
 whole_view (Joints u) level (l ∷ ls) t h e = cc
 
 -- the tree that is built to the end is spelt by the tokens
-pub built_spells : (ts : List Token) (s : State) (t : Formula) → build_from (Some start) ts ≡ Some s → tree_at s.stage s.level s.outer ≡ Some t → Spells ts t
+pub built_spells : (ts : List Token) (s : State) (t : Formula) → build_from (Some nothing_built) ts ≡ Some s → tree_at s.stage s.level s.outer ≡ Some t → Spells ts t
 built_spells ts s t e h =
-    let settled : IsSettled s = subst SettledIf e (settled_from (Some start) ts tt) in
+    let settled : IsSettled s = subst SettledIf e (settled_from (Some nothing_built) ts tt) in
     let w = whole_view s.stage s.level s.outer t settled h in
-    let seen_is : seen (build_from (Some start) ts) ≡ Some (Joint, []) = ap seen e ∙ (λ i. Some (w.0 i, w.1 i)) in
-    let o = read_sentence ts (build_read (Some start) ts tt ∙ seen_is) in
-    let same : Some (or_tree o.0) ≡ Some t = sym (tree_built o.0) ∙ ap (λ l. tree_of (build_from (Some start) l)) o.1 ∙ ap tree_of e ∙ h in
+    let seen_is : seen (build_from (Some nothing_built) ts) ≡ Some (Joint, []) = ap seen e ∙ (λ i. Some (w.0 i, w.1 i)) in
+    let o = read_sentence ts (build_read (Some nothing_built) ts tt ∙ seen_is) in
+    let same : Some (or_tree o.0) ≡ Some t = sym (tree_built o.0) ∙ ap (λ l. tree_of (build_from (Some nothing_built) l)) o.1 ∙ ap tree_of e ∙ h in
     (o.0, o.1, cc)
 
 -- what is left behind the bytes that a lexeme took

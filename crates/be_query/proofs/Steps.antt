@@ -9,10 +9,10 @@ use Rattle.be_query.specs.Tokens.{Token, Close, Text}
 use Rattle.be_query.specs.Reading.{Awaited, Value, Joint, Mark, Paren, ended, next}
 use Rattle.be_query.specs.Building.{Level, Stage, Values, Joints, State, turned, turned_operator, conjunction, ended_level, with_side, joined, close, build_at, awaited_at, negations_on, outer_marks, marks_of, view_of, IsSettledAt}
 use Rattle.be_query.specs.Lexing.{Placed, Whole}
-use Rattle.be_query.specs.Faults.{first_fault, own_fault, counted, bad_pattern, value_fault, ends}
+use Rattle.be_query.specs.Faults.{first_fault, own_fault, comparisons_with, bad_pattern, value_fault, ends}
 use Rattle.be_query.proofs.Trees.{seen, build_seen}
 use Rattle.be_query.specs.declared.parser.Level as code_level
-use Rattle.be_query.specs.View.{level_of}
+use Rattle.be_query.specs.View.{level_seen}
 use Rattle.std.proofs.lemmas.List.{map-append, reverse-append, length-map, length-reverse}
 
 pub length-negations : (n : ℕ) (marks : List Mark) → length (negations_on n marks) ≡ n + length marks
@@ -25,17 +25,17 @@ negations_within level outer = omega (arith, length-negations level.negations (o
 -- the reading goes on behind a token that can follow and has no fault
 pub goes_on : (place : Awaited) (marks : List Mark) (n len : ℕ) (x : Placed) (t : Token) (xs : List Placed) (s : Awaited × List Mark)
     → x.lexeme ≡ Whole t → next place marks t ≡ Some s → own_fault place marks n x.start t ≡ None
-    → first_fault place marks n len (x ∷ xs) ≡ first_fault s.0 s.1 (counted place n) len xs
+    → first_fault place marks n len (x ∷ xs) ≡ first_fault s.0 s.1 (comparisons_with place n) len xs
 goes_on place marks n len x t xs s e k h = rw e (rw k (rw h refl))
 
 pub built_on : (stage : Stage) (level : Level) (outer : List Level) (n len : ℕ) (x : Placed) (t : Token) (xs : List Placed) (p : State)
     → IsSettledAt stage level → x.lexeme ≡ Whole t → build_at stage level outer t ≡ Some p → own_fault (awaited_at stage) (marks_of level outer) n x.start t ≡ None
-    → first_fault (awaited_at stage) (marks_of level outer) n len (x ∷ xs) ≡ first_fault (awaited_at p.stage) (marks_of p.level p.outer) (counted (awaited_at stage) n) len xs
+    → first_fault (awaited_at stage) (marks_of level outer) n len (x ∷ xs) ≡ first_fault (awaited_at p.stage) (marks_of p.level p.outer) (comparisons_with (awaited_at stage) n) len xs
 built_on stage level outer n len x t xs p settled e k h = goes_on (awaited_at stage) (marks_of level outer) n len x t xs (view_of p) e (build_seen stage level outer t settled ∙ ap seen k) h
 
 -- the levels round the innermost one, where the next is taken
-pub outer_pop : (xs rest : List code_level.Level) (l : code_level.Level) → xs ≡ rest ++ l ∷ [] → reverse (map level_of xs) ≡ level_of l ∷ reverse (map level_of rest)
-outer_pop xs rest l e = ap (λ v. reverse (map level_of v)) e ∙ ap reverse (map-append level_of rest (l ∷ [])) ∙ reverse-append (map level_of rest) (level_of l ∷ [])
+pub outer_pop : (xs rest : List code_level.Level) (l : code_level.Level) → xs ≡ rest ++ l ∷ [] → reverse (map level_seen xs) ≡ level_seen l ∷ reverse (map level_seen rest)
+outer_pop xs rest l e = ap (λ v. reverse (map level_seen v)) e ∙ ap reverse (map-append level_seen rest (l ∷ [])) ∙ reverse-append (map level_seen rest) (level_seen l ∷ [])
 
 pub outer_within : (level : Level) (outer rest : List Level) (l : Level) → outer ≡ l ∷ rest → 1 + l.negations + length (outer_marks rest) ≤ length (marks_of level outer)
 outer_within level outer rest l e =
@@ -105,5 +105,5 @@ not_ended level (l ∷ ls) len h = go level.negations
     go zero = refl
     go (suc n) = refl
 
-pub some_outer : (xs : List code_level.Level) → (length xs ≡ 0 → ⊥) → reverse (map level_of xs) ≡ [] → ⊥
-some_outer xs h e = h (sym (length-map xs level_of) ∙ sym (length-reverse (map level_of xs)) ∙ ap length e)
+pub some_outer : (xs : List code_level.Level) → (length xs ≡ 0 → ⊥) → reverse (map level_seen xs) ≡ [] → ⊥
+some_outer xs h e = h (sym (length-map xs level_seen) ∙ sym (length-reverse (map level_seen xs)) ∙ ap length e)

@@ -7,7 +7,7 @@ use Rattle.be_query.specs.Tokens.{Token, Open, Close, Bang, Both, Either, Compar
 use Rattle.be_query.specs.Grammar.{OrPhrase, or_one, or_more, AndPhrase, and_one, and_more, NotPhrase, negation, group, comparison, or_tokens, and_tokens, not_tokens, or_tree, and_tree, not_tree, Formula, Leaf, And, Or, opposite, complement, Spells}
 use Rattle.be_query.specs.declared.tree.Cmp.TheVariants.{Eq, Ne, Lt, Le, Gt, Ge}
 use Rattle.be_query.specs.Reading.{Awaited, Operator, Joint, Mark, ended, next}
-use Rattle.be_query.specs.Building.{Level, fresh, Stage, Operands, Operators, Values, Joints, State, start, turned, conjunction, disjunction, joined, with_operand, with_side, close, build_at, build_from, tree_of, awaited_at, negations_on, outer_marks, marks_of, view_of, IsSettledAt}
+use Rattle.be_query.specs.Building.{Level, fresh, Stage, Operands, Operators, Values, Joints, State, nothing_built, turned, conjunction, disjunction, joined, with_operand, with_side, close, build_at, build_from, tree_of, awaited_at, negations_on, outer_marks, marks_of, view_of, IsSettledAt}
 
 opposite_twice : (op : Cmp) → opposite (opposite op) ≡ op
 opposite_twice Eq = refl
@@ -90,16 +90,16 @@ mutual
       named false e l ls k = absurd (false≢true e)
 
 -- the tree that is built of a phrase's tokens is the phrase's
-pub tree_built : (o : OrPhrase) → tree_of (build_from (Some start) (or_tokens o)) ≡ Some (or_tree o)
+pub tree_built : (o : OrPhrase) → tree_of (build_from (Some nothing_built) (or_tokens o)) ≡ Some (or_tree o)
 tree_built o =
-    ap (λ ts. tree_of (build_from (Some start) ts)) (sym (append-nil (or_tokens o)))
+    ap (λ ts. tree_of (build_from (Some nothing_built) ts)) (sym (append-nil (or_tokens o)))
     ∙ ap tree_of (or_built o false [] [])
     ∙ ap Some (left_right false o)
 
 -- tokens have one tree at most
 pub one_tree : (ts : List Token) (s t : Formula) → Spells ts s → Spells ts t → s ≡ t
 one_tree ts s t (o, eo, es) (p, ep, et) =
-    let same = sym (tree_built o) ∙ ap (λ l. tree_of (build_from (Some start) l)) (eo ∙ sym ep) ∙ tree_built p in
+    let same = sym (tree_built o) ∙ ap (λ l. tree_of (build_from (Some nothing_built) l)) (eo ∙ sym ep) ∙ tree_built p in
     sym es ∙ some_same same ∙ et
   where
     some_same : {a b : Formula} → Some a ≡ Some b → a ≡ b

@@ -32,8 +32,8 @@ pub record State : Type 0 where
   pub level : Level
   pub outer : List Level
 
-abbrev pub start : State
-start = record { stage = Operands; level = fresh false; outer = [] }
+abbrev pub nothing_built : State
+nothing_built = record { stage = Operands; level = fresh false; outer = [] }
 
 -- a tree, or its complement inside an odd number of `!`
 abbrev pub turned : Bool → Formula → Formula
@@ -84,13 +84,13 @@ build_at (Joints t) level outer Either = Some (record { stage = Operands; level 
 build_at (Joints t) level outer Close = close (with_side t level) outer
 build_at _ _ _ _ = None
 
-abbrev pub build : State → Token → Option State
-build s t = build_at s.stage s.level s.outer t
+abbrev pub take_token : State → Token → Option State
+take_token s t = build_at s.stage s.level s.outer t
 
 abbrev pub build_from : Option State → List Token → Option State
 build_from s [] = s
 build_from None (t ∷ ts) = None
-build_from (Some s) (t ∷ ts) = build_from (build s t) ts
+build_from (Some s) (t ∷ ts) = build_from (take_token s t) ts
 
 abbrev pub tree_at : Stage → Level → List Level → Option Formula
 tree_at (Joints t) level [] = Some (with_side t level)

@@ -39,9 +39,9 @@ own_fault Operand marks comparisons start Bang = if nat_le 64 (length marks) the
 own_fault (Value op) marks comparisons start (Text raw) = value_fault comparisons start (bad_pattern op raw)
 own_fault _ _ _ _ _ = None
 
-abbrev pub counted : Awaited → ℕ → ℕ
-counted (Value op) comparisons = comparisons + 1
-counted _ comparisons = comparisons
+abbrev pub comparisons_with : Awaited → ℕ → ℕ
+comparisons_with (Value op) comparisons = comparisons + 1
+comparisons_with _ comparisons = comparisons
 
 -- a name or value that breaks off is a text that ends too soon, or has a NUL, where it may stand
 abbrev pub broken_at : Awaited → ℕ → ℕ → ℕ
@@ -63,7 +63,7 @@ first_fault place marks comparisons len (x ∷ xs) = elim x.lexeme [
     | None ↦ Some (Syntax x.at)
     | Some s ↦ elim (own_fault place marks comparisons x.start t) [
       | Some fault ↦ Some fault
-      | None ↦ first_fault s.0 s.1 (counted place comparisons) len xs
+      | None ↦ first_fault s.0 s.1 (comparisons_with place comparisons) len xs
     ]
   ]
 ]

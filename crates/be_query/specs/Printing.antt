@@ -19,24 +19,24 @@ abbrev pub wants_backslash : ℕ → Bool
 wants_backslash b = (b == 34) || (b == 92)
 
 -- a backslash before each `"` and `\`
-abbrev pub escaped : List ℕ → List ℕ
-escaped [] = []
-escaped (b ∷ bs) = if wants_backslash b then 92 ∷ b ∷ escaped bs else b ∷ escaped bs
+abbrev pub with_backslashes : List ℕ → List ℕ
+with_backslashes [] = []
+with_backslashes (b ∷ bs) = if wants_backslash b then 92 ∷ b ∷ with_backslashes bs else b ∷ with_backslashes bs
 
-abbrev pub value_text : Literal → List ℕ
-value_text (Wild ps) = encode_utf8_all (canonical ps)
-value_text (Exact bs) = escaped bs
+abbrev pub literal_text : Literal → List ℕ
+literal_text (Wild ps) = encode_utf8_all (canonical ps)
+literal_text (Exact bs) = with_backslashes bs
 
-abbrev pub op_text : Cmp → List ℕ
-op_text Eq = codes "=="
-op_text Ne = codes "!="
-op_text Lt = codes "<"
-op_text Le = codes "<="
-op_text Gt = codes ">"
-op_text Ge = codes ">="
+abbrev pub cmp_text : Cmp → List ℕ
+cmp_text Eq = codes "=="
+cmp_text Ne = codes "!="
+cmp_text Lt = codes "<"
+cmp_text Le = codes "<="
+cmp_text Gt = codes ">"
+cmp_text Ge = codes ">="
 
 abbrev pub leaf_text : List ℕ → Cmp → Literal → List ℕ
-leaf_text name op value = codes "\"" ++ escaped name ++ codes "\"" ++ op_text op ++ codes "\"" ++ value_text value ++ codes "\""
+leaf_text name op value = codes "\"" ++ with_backslashes name ++ codes "\"" ++ cmp_text op ++ codes "\"" ++ literal_text value ++ codes "\""
 
 -- The text of a tree where an `||`, a side of `||`, or an operand of `&&` may stand.
 abbrev mutual
@@ -78,7 +78,7 @@ limit_of t = if nat_lt 4096 (length (or_text t)) then Some TooLong else (if nat_
 
 -- The tokens of the same.
 abbrev pub leaf_tokens : List ℕ → Cmp → Literal → List Token
-leaf_tokens name op value = Text (escaped name) ∷ Compares op ∷ Text (value_text value) ∷ []
+leaf_tokens name op value = Text (with_backslashes name) ∷ Compares op ∷ Text (literal_text value) ∷ []
 
 abbrev mutual
   pub or_printed : Formula → List Token
@@ -98,7 +98,7 @@ abbrev mutual
 
 -- each name is one, and each printed name and value is read back
 abbrev pub IsPrintable : Formula → Type 0
-IsPrintable (Leaf n op v) = (is_name (escaped n) ≡ true) × (plain (escaped n) ≡ n) × (literal_of op (value_text v) ≡ v)
+IsPrintable (Leaf n op v) = (is_name (with_backslashes n) ≡ true) × (plain (with_backslashes n) ≡ n) × (literal_of op (literal_text v) ≡ v)
 IsPrintable (And l r) = IsPrintable l × IsPrintable r
 IsPrintable (Or l r) = IsPrintable l × IsPrintable r
 
@@ -108,7 +108,7 @@ IsWhole text = (rest : List ℕ) → quoted_span 34 false (text ++ 34 ∷ rest) 
 
 -- each printed name and value is one token
 abbrev pub IsQuotable : Formula → Type 0
-IsQuotable (Leaf n op v) = IsWhole (escaped n) × IsWhole (value_text v)
+IsQuotable (Leaf n op v) = IsWhole (with_backslashes n) × IsWhole (literal_text v)
 IsQuotable (And l r) = IsQuotable l × IsQuotable r
 IsQuotable (Or l r) = IsQuotable l × IsQuotable r
 

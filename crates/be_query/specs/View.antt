@@ -36,8 +36,8 @@ abbrev pub side_of : Option (Box code_tree.Tree Global) → Option Formula
 side_of None = None
 side_of (Some b) = Some (formula b.value)
 
-abbrev pub level_of : code_level.Level → Level
-level_of l = record { negated = l.negated; operand_negated = l.operand_negated; or_left = side_of l.or_left; and_left = side_of l.and_left; negations = l.negations }
+abbrev pub level_seen : code_level.Level → Level
+level_seen l = record { negated = l.negated; operand_negated = l.operand_negated; or_left = side_of l.or_left; and_left = side_of l.and_left; negations = l.negations }
 
 abbrev pub stage_of : code_stage.Stage → Stage
 stage_of code_stage.TheVariants.Operand = Operands
@@ -83,10 +83,10 @@ text_len (Text raw) = length raw
 
 -- the levels round the innermost, from the inside
 abbrev pub outer_of : code_context.Context → List Level
-outer_of c = reverse (map level_of c.outer.items)
+outer_of c = reverse (map level_seen c.outer.items)
 
 abbrev pub state_of : Stage → code_context.Context → State
-state_of stage c = record { stage = stage; level = level_of c.level; outer = outer_of c }
+state_of stage c = record { stage = stage; level = level_seen c.level; outer = outer_of c }
 
 abbrev pub parser_state : code_parser.Parser → State
 parser_state p = state_of (stage_of p.stage) p.context
@@ -101,24 +101,24 @@ IsNamed (Joints t) = Unit {0}
 -- the counts are right, and so is the name
 pub record IsCounted (stage : Stage) (c : code_context.Context) : Type 0 where
   pub named : IsNamed stage
-  pub settled : IsSettledAt stage (level_of c.level)
-  pub deep : c.depth ≡ length (marks_of (level_of c.level) (outer_of c))
+  pub settled : IsSettledAt stage (level_seen c.level)
+  pub deep : c.depth ≡ length (marks_of (level_seen c.level) (outer_of c))
   pub shallow : c.depth ≤ 64
   pub few : c.comparisons ≤ 256
 
 -- the first fault of what follows
 abbrev pub fault_in : Stage → code_context.Context → ℕ → List Placed → Option Refusal
-fault_in stage c len xs = first_fault (awaited_at stage) (marks_of (level_of c.level) (outer_of c)) c.comparisons len xs
+fault_in stage c len xs = first_fault (awaited_at stage) (marks_of (level_seen c.level) (outer_of c)) c.comparisons len xs
 
 -- the refusal is want of memory, or what it otherwise has to be
 abbrev pub IsMemory : Refusal → Type 0 → Type 0
 IsMemory e otherwise = (e ≡ OutOfMemory) ⊎ otherwise
 
 -- where a tree is printed
-abbrev pub text_at : code_place.Place → Formula → List ℕ
-text_at code_place.TheVariants.Side t = or_text t
-text_at code_place.TheVariants.Part t = and_text t
-text_at code_place.TheVariants.Operand t = operand_text t
+abbrev pub printed_at : code_place.Place → Formula → List ℕ
+printed_at code_place.TheVariants.Side t = or_text t
+printed_at code_place.TheVariants.Part t = and_text t
+printed_at code_place.TheVariants.Operand t = operand_text t
 
 abbrev pub only_if : Bool → List ℕ → List ℕ
 only_if shown t = if shown then t else []
@@ -126,7 +126,7 @@ only_if shown t = if shown then t else []
 -- a token was taken, and the reading goes on
 pub record TakesToken (stage : Stage) (c : code_context.Context) (at start : ℕ) (t : Token) (after : code_stage.Stage) (d : code_context.Context) : Type 0 where
   pub counted : IsCounted (stage_of after) d
-  pub built : build_at stage (level_of c.level) (outer_of c) t ≡ Some (state_of (stage_of after) d)
+  pub built : build_at stage (level_seen c.level) (outer_of c) t ≡ Some (state_of (stage_of after) d)
   pub faults : (len : ℕ) (xs : List Placed) → fault_in stage c len (record { at = at; start = start; lexeme = Whole t } ∷ xs) ≡ fault_in (stage_of after) d len xs
 
 -- the token is refused so, whatever follows, unless memory ran out
@@ -134,9 +134,9 @@ abbrev pub Refuses : Stage → code_context.Context → ℕ → ℕ → Token �
 Refuses stage c at start t e = IsMemory e ((len : ℕ) (xs : List Placed) → fault_in stage c len (record { at = at; start = start; lexeme = Whole t } ∷ xs) ≡ Some e)
 
 -- a lexeme stands at the front of the bytes
-abbrev pub StandsAt : List ℕ → Lexeme → ℕ → ℕ → Type 0
-StandsAt [] lexeme width shift = ⊥
-StandsAt (b ∷ bs) lexeme width shift = front b bs ≡ Takes lexeme width shift
+abbrev pub HasLexeme : List ℕ → Lexeme → ℕ → ℕ → Type 0
+HasLexeme [] lexeme width shift = ⊥
+HasLexeme (b ∷ bs) lexeme width shift = front b bs ≡ Takes lexeme width shift
 
 abbrev pub BeginsSeparated : List ℕ → List ℕ → Type 0
 BeginsSeparated [] rest = ⊥
@@ -144,9 +144,9 @@ BeginsSeparated (b ∷ bs) rest = (front b bs ≡ Separator) × (rest ≡ bs)
 
 abbrev pub IsFront : List ℕ → code_front.Front → Type 0
 IsFront text (code_front.TheVariants.Separator rest) = BeginsSeparated text rest.now
-IsFront text (code_front.TheVariants.Token token shift rest) = (width : ℕ) × StandsAt text (Whole (token_of token)) width shift × (rest.now ≡ drop width text) × (1 ≤ width) × (width ≤ length text) × (shift + text_len (token_of token) ≤ width)
-IsFront text (code_front.TheVariants.Broken n) = (width : ℕ) × StandsAt text (Broken n) width 0 × (n ≤ length text)
-IsFront text code_front.TheVariants.Odd = (width : ℕ) × StandsAt text Odd width 0
+IsFront text (code_front.TheVariants.Token token shift rest) = (width : ℕ) × HasLexeme text (Whole (token_of token)) width shift × (rest.now ≡ drop width text) × (1 ≤ width) × (width ≤ length text) × (shift + text_len (token_of token) ≤ width)
+IsFront text (code_front.TheVariants.Broken n) = (width : ℕ) × HasLexeme text (Broken n) width 0 × (n ≤ length text)
+IsFront text code_front.TheVariants.Odd = (width : ℕ) × HasLexeme text Odd width 0
 
 abbrev pub second_of : Option ℕ → List ℕ
 second_of None = []

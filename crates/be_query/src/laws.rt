@@ -5,7 +5,7 @@ ghost use Rattle.be_query.specs.Grammar.{Formula, OrPhrase, comparisons, Spells,
 ghost use Rattle.be_query.specs.Reading.{Awaited, Joint, Mark, read};
 ghost use Rattle.be_query.specs.Tokens.{Token, plain};
 ghost use Rattle.be_value.specs.Name.{has_nul};
-ghost use Rattle.be_query.specs.Printing.{IsKept, IsPrintable, IsQuotable, IsWhole, escaped, or_printed, or_text, limit_of};
+ghost use Rattle.be_query.specs.Printing.{IsKept, IsPrintable, IsQuotable, IsWhole, with_backslashes, or_printed, or_text, limit_of};
 ghost use Rattle.be_query.specs.Lexing.{tokens};
 
 /// A token list is read on exactly as long as some tokens behind it make a sentence, is a sentence
@@ -17,7 +17,7 @@ pub fn reading()
     ensures whole { (o : OrPhrase) → read (or_tokens o) ≡ Some (Joint, []) }
     // What is printed spells its tree, if its names and values are read back.
     ensures printed { (t : Formula) → IsPrintable t → Spells (or_printed t) t }
-    ensures unescaped { (bs : List ℕ) → plain (escaped bs) ≡ bs }
+    ensures unescaped { (bs : List ℕ) → plain (with_backslashes bs) ≡ bs }
     ensures one_tree { (ts : List Token) (s t : Formula) → Spells ts s → Spells ts t → s ≡ t }
 {}
 
@@ -29,7 +29,7 @@ pub fn printing()
     ensures kept { (t : Formula) → IsKept t → IsTextOf (or_text t) t }
     ensures spells { (t : Formula) → IsQuotable t → IsPrintable t → Spells (tokens (or_text t)) t }
     // A name, or an order operator's value, is one token if it has no NUL.
-    ensures whole { (bs : List ℕ) → has_nul bs ≡ false → IsWhole (escaped bs) }
+    ensures whole { (bs : List ℕ) → has_nul bs ≡ false → IsWhole (with_backslashes bs) }
 {}
 
 /// The canonical text of a query has no fault but the limit that it is past. So `parse` reads it back wherever it has

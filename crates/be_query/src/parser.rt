@@ -13,7 +13,7 @@ ghost use Rattle.be_query.specs.Building.{ended_level, with_side, with_operand, 
 ghost use Rattle.be_query.specs.Grammar.{literal_of};
 ghost use Rattle.be_query.specs.Faults.{bad_pattern};
 ghost use Rattle.be_query.specs.Tokens.{is_name, plain};
-ghost use Rattle.be_query.specs.View.{IsMemory, text_len, literal, formula, level_of, side_of, stage_of, token_of, IsCounted, TakesToken, Refuses};
+ghost use Rattle.be_query.specs.View.{IsMemory, text_len, literal, formula, level_seen, side_of, stage_of, token_of, IsCounted, TakesToken, Refuses};
 
 use crate::token::Token;
 use crate::tree::{Cmp, Comparison, Literal, Tree};
@@ -75,7 +75,7 @@ pub(crate) struct Parser<'a> {
 impl Level {
     /// With nothing in it, inside an odd number of `!` or not.
     fn new(negated: bool) -> Level
-        ensures { level_of result ≡ fresh negated }
+        ensures { level_seen result ≡ fresh negated }
     {
         Level {
             negated,
@@ -88,7 +88,7 @@ impl Level {
 }
 
 impl<'a> Parser<'a> {
-    ghost use Rattle.be_query.specs.Building.{start, tree_at};
+    ghost use Rattle.be_query.specs.Building.{nothing_built, tree_at};
     ghost use Rattle.be_query.specs.Faults.{broken_at, ends};
     ghost use Rattle.be_query.specs.Building.{awaited_at, marks_of};
     ghost use Rattle.be_query.specs.View.{outer_of, parser_state};
@@ -96,7 +96,7 @@ impl<'a> Parser<'a> {
     /// At the start of a text.
     pub(crate) fn new(alloc: Global) -> Parser<'a>
         ensures counted { IsCounted (stage_of result.stage) result.context }
-        ensures start { parser_state result ≡ start }
+        ensures start { parser_state result ≡ nothing_built }
         ensures none { result.context.comparisons ≡ 0 }
     {
         let context = Context {
@@ -161,10 +161,12 @@ impl<'a> Parser<'a> {
     /// The tree at the end of a text of so many bytes.
     pub(crate) fn finish(self, alloc: Global, len: usize) -> Result<Box<Tree>, Refusal>
         requires { IsCounted (stage_of self.stage) self.context }
-        ensures ok { IfOk result (λ t. tree_at (stage_of self.entry.stage) (level_of self.entry.context.level) (outer_of self.entry.context) ≡ Some (formula t.value)) }
-        ensures ends { IfOk result (λ t. ends (awaited_at (stage_of self.entry.stage)) (marks_of (level_of self.entry.context.level) (outer_of self.entry.context)) len ≡ None) }
+        ensures ok { IfOk result (λ t. tree_at (stage_of self.entry.stage) (level_seen self.entry.context.level) (outer_of self.entry.context)
+            ≡ Some (formula t.value)) }
+        ensures ends { IfOk result (λ t. ends (awaited_at (stage_of self.entry.stage)) (marks_of (level_seen self.entry.context.level) (outer_of self.entry.context)) len
+            ≡ None) }
         ensures err { IfErr result (λ e. IsMemory e
-            (ends (awaited_at (stage_of self.entry.stage)) (marks_of (level_of self.entry.context.level) (outer_of self.entry.context)) len ≡ Some e)) }
+            (ends (awaited_at (stage_of self.entry.stage)) (marks_of (level_seen self.entry.context.level) (outer_of self.entry.context)) len ≡ Some e)) }
     {
         let Parser { stage, context } = self;
         let Context {
@@ -428,8 +430,8 @@ fn end_operand(
     operand: Box<Tree>,
 ) -> Result<Box<Tree>, AllocError>
     ensures tree { IfOk result (λ t. formula t.value
-        ≡ joined (conjunction (level_of level.old).negated) (level_of level.old).and_left (formula operand.value)) }
-    ensures level { level_of level.new ≡ ended_level (level_of level.old) }
+        ≡ joined (conjunction (level_seen level.old).negated) (level_seen level.old).and_left (formula operand.value)) }
+    ensures level { level_seen level.new ≡ ended_level (level_seen level.old) }
 {
     level.negations = 0;
     level.operand_negated = level.negated;
@@ -441,8 +443,8 @@ fn end_operand(
 
 /// A side of `||` has ended.
 fn end_side(alloc: Global, level: &mut Level, side: Box<Tree>) -> Result<Box<Tree>, AllocError>
-    ensures tree { IfOk result (λ t. formula t.value ≡ with_side (formula side.value) (level_of level.old)) }
-    ensures level { level_of level.new ≡ record (level_of level.old) { or_left = None } }
+    ensures tree { IfOk result (λ t. formula t.value ≡ with_side (formula side.value) (level_seen level.old)) }
+    ensures level { level_seen level.new ≡ record (level_seen level.old) { or_left = None } }
 {
     match level.or_left.take() {
         None => Ok(side),

@@ -1,9 +1,9 @@
 //! The canonical text of a query, with parentheses where the tree needs them and nowhere else.
 ghost use Rattle.std.specs.Prelude.{◌≡◌, ◌++◌, ◌<◌, [], length, IfOk, IfErr, string_bytes};
 ghost use Rattle.be_value.specs.declared.refusals.Refusal.TheVariants.{OutOfMemory};
-ghost use Rattle.be_query.specs.Printing.{or_text, leaf_text, op_text, value_text, escaped, wants_backslash};
+ghost use Rattle.be_query.specs.Printing.{or_text, leaf_text, cmp_text, literal_text, with_backslashes, wants_backslash};
 ghost use Rattle.be_query.specs.Grammar.{Formula, IsTextOf};
-ghost use Rattle.be_query.specs.View.{formula, literal, text_at, only_if};
+ghost use Rattle.be_query.specs.View.{formula, literal, printed_at, only_if};
 
 use crate::query::Query;
 use crate::tree::{Cmp, Comparison, Literal, Tree};
@@ -51,7 +51,7 @@ pub fn print_comparison(alloc: Global, comparison: &Comparison) -> Result<String
 
 /// Appends a tree that is printed in a place.
 fn push_tree(alloc: Global, text: &mut String, tree: &Tree, place: Place) -> Result<(), Refusal>
-    ensures ok { IfOk result (λ _. string_bytes text.new ≡ string_bytes text.old ++ text_at place (formula tree.now)) }
+    ensures ok { IfOk result (λ _. string_bytes text.new ≡ string_bytes text.old ++ printed_at place (formula tree.now)) }
     ensures err { IfErr result (λ e. e ≡ OutOfMemory) }
 {
     match tree {
@@ -105,7 +105,7 @@ fn push_comparison(alloc: Global, text: &mut String, comparison: &Comparison) ->
 
 /// How an operator is printed.
 fn sign_of(op: Cmp) -> &'static str
-    ensures { result.now ≡ op_text op }
+    ensures { result.now ≡ cmp_text op }
 {
     match op {
         Cmp::Eq => "==",
@@ -119,7 +119,7 @@ fn sign_of(op: Cmp) -> &'static str
 
 /// Appends what is compared with, without its quotes.
 fn push_value(alloc: Global, text: &mut String, value: &Literal) -> Result<(), Refusal>
-    ensures ok { IfOk result (λ _. string_bytes text.new ≡ string_bytes text.old ++ value_text (literal value.now)) }
+    ensures ok { IfOk result (λ _. string_bytes text.new ≡ string_bytes text.old ++ literal_text (literal value.now)) }
     ensures err { IfErr result (λ e. e ≡ OutOfMemory) }
 {
     match value {
@@ -137,7 +137,7 @@ fn push_value(alloc: Global, text: &mut String, value: &Literal) -> Result<(), R
 
 /// Appends a text with a backslash before each `"` and `\`.
 fn push_escaped(text: &mut String, piece: &str) -> Result<(), AllocError>
-    ensures { IfOk result (λ _. string_bytes text.new ≡ string_bytes text.old ++ escaped piece.now) }
+    ensures { IfOk result (λ _. string_bytes text.new ≡ string_bytes text.old ++ with_backslashes piece.now) }
 {
     let mut rest = piece;
     'characters: while let Some((c, after)) = split_first_char(rest) {

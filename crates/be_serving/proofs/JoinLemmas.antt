@@ -4,12 +4,12 @@ use Rattle.std.proofs.lemmas.List.{append-nil}
 use Rattle.std.proofs.lemmas.List.Elements.{All-nil, All-head, All-tail}
 use Rattle.be_journal.specs.declared.entries.Entry.{Entry}
 use Rattle.be_journal.specs.Journal.{by_pass}
-use Rattle.be_volume.specs.Ahead.{after}
+use Rattle.be_volume.specs.Ahead.{state_after}
 use Rattle.be_volume.specs.Volume.{State}
 use Rattle.be_serving.specs.Store.{Store, Joins, Meanwhile, IsOther}
 
 abbrev after_entries : State → List Entry → State
-after_entries v es = fold (λ v (e : Entry). after v e.ops) v es
+after_entries v es = fold (λ v (e : Entry). state_after v e.ops) v es
 
 abbrev joined : Store → List Entry → Store
 joined s es = record s { journal = s.journal ++ es; volume = after_entries s.volume es }

@@ -11,7 +11,7 @@ use Rattle.be_table.specs.Rule.{AreBad, IsWithin, entries}
 use Rattle.be_table.specs.Steps.{IsPass}
 use Rattle.be_table.specs.Versions.{CanSpellEach}
 use Rattle.be_table.specs.declared.pass.Knowledge.{Knowledge}
-use Rattle.be_table.specs.Works.{IsUnopened}
+use Rattle.be_table.specs.Works.{IsOpenRefused}
 use Rattle.be_serving.specs.Race.{IsRaceInPart, RaceLeaves}
 use Rattle.be_serving.specs.Run.{IsLate, Wrote}
 use Rattle.be_serving.specs.declared.faults.RunFault.{RunFault}
@@ -37,7 +37,7 @@ for_one limits w = record {
 }
 
 -- a store of one pass is refused for want of memory alone
-pub only_memory : (limits : StoreLimits) (e : Refusal) → IsWithin limits → IsUnopened (record limits { passes = 1 }) e → e ≡ OutOfMemory
+pub only_memory : (limits : StoreLimits) (e : Refusal) → IsWithin limits → IsOpenRefused (record limits { passes = 1 }) e → e ≡ OutOfMemory
 only_memory limits e within (inl bad) = absurd (bad.1 (for_one limits within))
 only_memory limits e within (inr want) = want.0
 

@@ -15,20 +15,20 @@ use Rattle.be_journal.specs.Journal.{by_pass, replay}
 use Rattle.be_journal.proofs.LegalLemmas.{replay_push}
 use Rattle.be_table.specs.declared.pass.Commit.{Commit}
 use Rattle.be_table.specs.declared.pass.Knowledge.{Knowledge}
-use Rattle.be_table.specs.History.{AllBelow}
+use Rattle.be_table.specs.History.{AreOfPasses}
 use Rattle.be_table.specs.Rule.{announce_word, entries}
 use Rattle.be_table.specs.Seats.{pinned_number}
-use Rattle.be_table.specs.Steps.{IsPass, entry_of, least_found}
+use Rattle.be_table.specs.Steps.{IsPass, entry_by, least_found}
 use Rattle.be_table.specs.Works.{HasNoRoom}
 use Rattle.be_table.proofs.Histories.{by_pass-append, below-front}
 use Rattle.be_value.specs.declared.refusals.Refusal.{Refusal}
 use Rattle.be_value.specs.declared.refusals.Refusal.TheVariants.{CommitsSpent}
-use Rattle.be_volume.specs.Ahead.{after, reached}
+use Rattle.be_volume.specs.Ahead.{state_after, reached}
 use Rattle.be_volume.specs.Volume.{State, empty, steps}
 use Rattle.be_volume.specs.declared.ops.Done.{Done}
 use Rattle.be_volume.specs.declared.ops.Op.{Op}
 use Rattle.be_store.specs.History.{Accepts, Learns, IsLastReason, Pins}
-use Rattle.be_store.specs.Passes.{IsPinnedTo, IsSettled, volume_seen}
+use Rattle.be_store.specs.Passes.{IsPinnedTo, IsBetweenCalls, volume_seen}
 use Rattle.be_store.proofs.Applied.{entries_append, nothing_more}
 use Rattle.be_serving.specs.Served.{known, pin_at}
 use Rattle.be_serving.specs.Store.{PinnedVolume, Store, Joins, Meanwhile, IsBusy, IsWant, MayWrite, pinned, entered, written, written_by}
@@ -54,14 +54,14 @@ seen_count seen = length-map seen (λ (c : Commit). c.entry)
 abbrev seen_by : Knowledge → List Entry → Store
 seen_by a log = record (known a) { journal = log; volume = replay log }
 
-below_behind : (passes : ℕ) (log more : List Entry) → AllBelow passes (log ++ more) → AllBelow passes more
-unfolding AllBelow
+below_behind : (passes : ℕ) (log more : List Entry) → AreOfPasses passes (log ++ more) → AreOfPasses passes more
+unfolding AreOfPasses
 below_behind passes [] more b = b
 below_behind passes (e ∷ log) more b = below_behind passes log more b.1
 
 -- entries of passes of the store, of which none is by the pass k, are by others
-all_theirs : (passes k : ℕ) (es : List Entry) → AllBelow passes es → by_pass k es ≡ [] → All (λ (e : Entry). (e.by < passes) × (e.by ≢ k)) es
-unfolding AllBelow
+all_theirs : (passes k : ℕ) (es : List Entry) → AreOfPasses passes es → by_pass k es ≡ [] → All (λ (e : Entry). (e.by < passes) × (e.by ≢ k)) es
+unfolding AreOfPasses
 all_theirs passes k [] b none = All-nil (λ (e : Entry). (e.by < passes) × (e.by ≢ k))
 all_theirs passes k (e ∷ es) b none = by (eqb e.by k) refl none (all_theirs passes k es b.1)
   where
@@ -74,13 +74,13 @@ all_theirs passes k (e ∷ es) b none = by (eqb e.by k) refl none (all_theirs pa
         differs h = λ same. absurd (let t : eqb e.by k ≡ true = grind (arith, nat_tests, same) in cc)
 
 -- where more was seen, and none of it by the pass, others have joined
-joins_more : (a : Knowledge) (more : List Entry) → by_pass a.number more ≡ [] → AllBelow a.limits.passes (entries a.seen ++ more) → Joins (known a) (seen_by a (entries a.seen ++ more))
+joins_more : (a : Knowledge) (more : List Entry) → by_pass a.number more ≡ [] → AreOfPasses a.limits.passes (entries a.seen ++ more) → Joins (known a) (seen_by a (entries a.seen ++ more))
 joins_more a more none below = record {
   others = more;
   theirs = all_theirs a.limits.passes a.number more (below_behind a.limits.passes (entries a.seen) more below) none;
   store = λ i. record (known a) {
     journal = entries a.seen ++ more;
-    volume = fold-append (λ v (e : Entry). after v e.ops) empty (entries a.seen) more i;
+    volume = fold-append (λ v (e : Entry). state_after v e.ops) empty (entries a.seen) more i;
   };
 }
 
@@ -108,7 +108,7 @@ written_with_room : (s : Store) (ops : List Op) (volume : State) (dones : List D
 written_with_room s ops volume dones h = let t : nat_lt (length s.journal) s.limit ≡ true = grind (arith, nat_tests) in rw t refl
 
 -- the least that a pass finds at most, and finds where it is the only one, as the version that is read
-least_shown : (passes : ℕ) (seen : List Commit) (phase : Phase) (least : ℕ) → IsSettled passes phase → InTime (length seen) phase
+least_shown : (passes : ℕ) (seen : List Commit) (phase : Phase) (least : ℕ) → IsBetweenCalls passes phase → InTime (length seen) phase
     → (least ≤ least_found (length seen) (announce_word phase)) × (passes ≡ 1 → least ≡ least_found (length seen) (announce_word phase))
     → let shown = option_map_or (λ (p : PinnedVolume). p.number) (pin_of (entries seen) phase) (length (entries seen)) in (least ≤ shown) × (passes ≡ 1 → least ≡ shown)
 least_shown passes seen Idle least settled time own = (omega (arith, seen_count seen, own.0), λ one. own.1 one ∙ sym (seen_count seen))
@@ -134,7 +134,7 @@ module _ (a c : Knowledge) (before : IsPass a) (behind : IsPass c) (limits : c.l
   joins_seen more seen mine number =
       let log : entries c.seen ≡ entries a.seen ++ entries more = ap entries seen ∙ entries_append a.seen more in
       subst (λ l. Joins (known a) (seen_by a l)) (sym log) (joins_more a (entries more) (none_new more seen mine number)
-      (subst (λ l. AllBelow a.limits.passes l) log (subst (λ k. AllBelow k (entries c.seen)) (ap (λ l. l.passes) limits) behind.by_passes)))
+      (subst (λ l. AreOfPasses a.limits.passes l) log (subst (λ k. AreOfPasses k (entries c.seen)) (ap (λ l. l.passes) limits) behind.by_passes)))
 
   -- what the pass shows, by its journal alone, where its phase is the same
   shown : (more : List Entry) → entries c.seen ≡ entries a.seen ++ more → c.number ≡ a.number → c.phase ≡ a.phase → known c ≡ seen_by a (entries c.seen)
@@ -183,13 +183,13 @@ module _ (a c : Knowledge) (before : IsPass a) (behind : IsPass c) (limits : c.l
       Meanwhile (known a) (λ s. MayWrite dones_of s ops (Ok (n, x)) (known c))
   accepts_meanwhile dones_of ops n x h =
       let dones : List Done = dones_of x in
-      let e : Entry = entry_of a ops dones in
+      let e : Entry = entry_by a ops dones in
       let log : List Entry = entries (a.seen ++ h.others) in
       let now : Store = seen_by a log in
       let front : log ≡ entries a.seen ++ entries h.others = entries_append a.seen h.others in
       let whole : entries c.seen ≡ log ++ e ∷ [] = ap entries h.seen ∙ (entries_append (a.seen ++ h.others) (h.commit ∷ []) ∙ ap (λ x. log ++ x ∷ []) h.entry) in
-      let below : AllBelow a.limits.passes log =
-      below-front a.limits.passes (entries c.seen) log (e ∷ [], whole) (subst (λ k. AllBelow k (entries c.seen)) (ap (λ l. l.passes) limits) behind.by_passes) in
+      let below : AreOfPasses a.limits.passes log =
+      below-front a.limits.passes (entries c.seen) log (e ∷ [], whole) (subst (λ k. AreOfPasses k (entries c.seen)) (ap (λ l. l.passes) limits) behind.by_passes) in
       let long : length (entries c.seen) ≡ length log + 1 = ap length whole ∙ length-append log (e ∷ []) in
       let room : length log < a.limits.commits = omega (arith, long, seen_count c.seen, behind.room, ap (λ l. l.commits) limits) in
       let volume : h.answered.0 ≡ volume_seen c = sym (ap replay whole ∙ (replay_push log e ∙ ap (reached (replay log)) h.answered.1)) in
@@ -206,14 +206,14 @@ module _ (a c : Knowledge) (before : IsPass a) (behind : IsPass c) (limits : c.l
       } in
       record {
         now = now;
-        joins = subst (λ l. Joins (known a) (seen_by a l)) (sym front) (joins_more a (entries h.others) h.apart (subst (λ l. AllBelow a.limits.passes l) front below));
+        joins = subst (λ l. Joins (known a) (seen_by a l)) (sym front) (joins_more a (entries h.others) h.apart (subst (λ l. AreOfPasses a.limits.passes l) front below));
         is = (
           ap (written_by now ops) h.answered.1 ∙ (written_with_room now ops h.answered.0 dones room ∙ ap (λ (s : Store). Ok (s, dones)) made),
           h.number ∙ sym (seen_count c.seen),
         );
       }
 
-  refused_as : (tries : ℕ) (ops : List Op) (e : Refusal) → IsSettled c.limits.passes c.phase → c.number ≡ a.number → IsLastReason tries a c ops e →
+  refused_as : (tries : ℕ) (ops : List Op) (e : Refusal) → IsBetweenCalls c.limits.passes c.phase → c.number ≡ a.number → IsLastReason tries a c ops e →
       (written (known c) ops ≡ Err e) ⊎ (IsWant (known c) e × IsOk (written (known c) ops)) ⊎ IsBusy (known c) e
   refused_as tries ops e settled number (inl late) = inr (inr (late.0, late.2, (subst (λ l. late.0 < l.passes) (sym limits) late.3, subst (λ k. late.0 ≢ k) (sym number) late.4)))
   refused_as tries ops e settled number (inr (inl h)) = inl (ap (written_by (known c) ops) h)
@@ -225,7 +225,7 @@ module _ (a c : Knowledge) (before : IsPass a) (behind : IsPass c) (limits : c.l
   refused_as tries ops e settled number (inr (inr (inr h))) =
       inr (inl (inr (h.2.0, h.2.1, least_shown c.limits.passes c.seen c.phase h.2.0 settled behind.pin h.2.2.2), accepted_with_room (known c) ops (steps (volume_seen c) ops) h.0 (omega (arith, seen_count c.seen, h.1))))
 
-  pub writes_meanwhile : {X : Type 0} (tries : ℕ) (dones_of : X → List Done) (ops : List Op) (r : Result (ℕ × X) Refusal) → IsSettled c.limits.passes c.phase → IfOk r (λ x. Accepts a c ops x.0 (dones_of x.1)) →
+  pub writes_meanwhile : {X : Type 0} (tries : ℕ) (dones_of : X → List Done) (ops : List Op) (r : Result (ℕ × X) Refusal) → IsBetweenCalls c.limits.passes c.phase → IfOk r (λ x. Accepts a c ops x.0 (dones_of x.1)) →
       IfErr r (λ e. Learns a c × IsLastReason tries a c ops e) → Meanwhile (known a) (λ s. MayWrite dones_of s ops r (known c))
   writes_meanwhile tries dones_of ops (Ok x) settled ok err = accepts_meanwhile dones_of ops x.0 x.1 ok
   writes_meanwhile tries dones_of ops (Err e) settled ok err = record { now = known c; joins = learns_joins err.0; is = (refl, refused_as tries ops e settled err.0.pass err.1) }

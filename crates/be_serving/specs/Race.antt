@@ -7,7 +7,7 @@ use Rattle.be_volume.specs.Volume.{empty}
 use Rattle.be_journal.specs.Journal.{IsLegal, by_pass}
 use Rattle.be_journal.specs.Text.{result_text}
 use Rattle.be_journal.specs.declared.entries.Entry.{Entry}
-use Rattle.be_table.specs.History.{AllBelow, StartsWith}
+use Rattle.be_table.specs.History.{AreOfPasses, StartsWith}
 use Rattle.be_table.specs.Place.{Opened, SeatFacts}
 use Rattle.be_table.specs.Rule.{entries, newcomer}
 use Rattle.be_table.specs.Steps.{KeepsSeen}
@@ -88,7 +88,7 @@ pub record IsRace (limits : StoreLimits) (scripts : List (List ℕ)) (out : List
   pub is : out ≡ replies_text 0 replies ++ result_text journal
   pub replied : HaveReplied limits journal 0 scripts replies
   pub legal : IsLegal journal
-  pub by : AllBelow (length scripts) journal
+  pub by : AreOfPasses (length scripts) journal
   pub own : (k : ℕ) → k < length scripts → IsPartOf (operations (by_pass k journal)) (write_ops (slice_index_or scripts k []))
   pub volumes : CanSpellEach limits.pages journal
 

@@ -7,7 +7,7 @@ use Rattle.std.specs.declared.result.Result.{Result}
 use Rattle.std.specs.declared.result.Result.TheVariants.{Ok, Err}
 use Rattle.be_value.specs.declared.refusals.Refusal.{Refusal}
 use Rattle.be_value.specs.declared.refusals.Refusal.TheVariants.{Busy, CommitsSpent, OutOfMemory, Full}
-use Rattle.be_volume.specs.Ahead.{after}
+use Rattle.be_volume.specs.Ahead.{state_after}
 use Rattle.be_volume.specs.Volume.{State, coded_state, steps, empty}
 use Rattle.be_volume.specs.declared.ops.Done.{Done}
 use Rattle.be_volume.specs.declared.ops.Op.{Op}
@@ -49,7 +49,7 @@ IsOther s k = (k < s.passes) × (k ≢ s.pass)
 pub record Joins (old new : Store) : Type 0 where
   pub others : List Entry
   pub theirs : All (λ e. IsOther old e.by) others
-  pub store : new ≡ record old { journal = old.journal ++ others; volume = fold (λ v e. after v e.ops) old.volume others }
+  pub store : new ≡ record old { journal = old.journal ++ others; volume = fold (λ v e. state_after v e.ops) old.volume others }
 
 -- The other passes may have written meanwhile, and P is true of the store as they left it.
 pub record Meanwhile (old : Store) (P : Store → Type 0) : Type 0 where

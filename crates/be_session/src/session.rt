@@ -12,7 +12,7 @@ ghost use Rattle.be_store.specs.Passes.{HasRead, IsPassOf, IsPinnedTo, volume_pi
 ghost use Rattle.be_table.specs.Rule.{IsWithin, entries, newcomer};
 ghost use Rattle.be_table.specs.Seats.{pinned_number};
 ghost use Rattle.be_table.specs.Steps.{unpins};
-ghost use Rattle.be_table.specs.Works.{AreNew, IsUnopened};
+ghost use Rattle.be_table.specs.Works.{AreNew, IsOpenRefused};
 ghost use Rattle.be_value.specs.declared.refusals.Refusal.{Refusal as AnyRefusal};
 ghost use Rattle.be_value.specs.declared.refusals.Refusal.TheVariants.{OutOfMemory};
 ghost use Rattle.be_volume.specs.Query.{scan};
@@ -66,7 +66,7 @@ fn seated(
     requires pass { IsPassOf store pass × (pass.knows ≡ newcomer limits (vec_len spare + 1) (vec_len spare)) }
     requires spare { AreNew store 0 spare.items × (vec_len spare + 1 ≡ limits.passes) }
     ensures ok { IfOk result (λ s. IsOpened limits s) }
-    ensures err { IfErr result (λ e. (why : AnyRefusal) × (e ≡ Refused why) × IsUnopened limits why) }
+    ensures err { IfErr result (λ e. (why : AnyRefusal) × (e ≡ Refused why) × IsOpenRefused limits why) }
 {
     let Ok(shared) = Shared::new(alloc, store, limits.passes) else {
         return Err(Fault::Refused(Refusal::OutOfMemory));
@@ -146,7 +146,7 @@ impl Session {
     /// here.
     pub fn open(alloc: Global, limits: Limits) -> Result<Session, Fault>
         ensures ok { IfOk result (λ s. IsOpened limits s) }
-        ensures err { IfErr result (λ e. (why : AnyRefusal) × (e ≡ Refused why) × IsUnopened limits why) }
+        ensures err { IfErr result (λ e. (why : AnyRefusal) × (e ≡ Refused why) × IsOpenRefused limits why) }
     {
         let (store, mut passes) = match Store::open(alloc, limits) {
             Ok(opened) => opened,

@@ -7,22 +7,22 @@ use Rattle.be_journal.specs.declared.entries.Entry.{Entry}
 use Rattle.be_journal.specs.Journal.{by_pass, replay, Agrees}
 use Rattle.be_table.specs.declared.pass.Commit.{Commit}
 use Rattle.be_table.specs.declared.pass.Knowledge.{Knowledge}
-use Rattle.be_table.specs.History.{AllBelow, StartsWith}
+use Rattle.be_table.specs.History.{AreOfPasses, StartsWith}
 use Rattle.be_table.specs.Rule.{entries}
-use Rattle.be_table.specs.Steps.{IsPass, announces, entry_of}
+use Rattle.be_table.specs.Steps.{IsPass, announces, entry_by}
 use Rattle.be_table.specs.Works.{PinsCurrent}
 use Rattle.be_table.proofs.Histories.{by_pass-append, by_pass-own}
-use Rattle.be_volume.specs.Ahead.{after, reached}
+use Rattle.be_volume.specs.Ahead.{state_after, reached}
 use Rattle.be_volume.specs.declared.ops.Done.{Done}
 use Rattle.be_volume.specs.declared.ops.Op.{Op}
 use Rattle.be_store.specs.Alone.{IsAlone, WritesNext}
 use Rattle.be_store.specs.History.{Accepts}
-use Rattle.be_store.specs.Passes.{IsSettled, volume_seen}
+use Rattle.be_store.specs.Passes.{IsBetweenCalls, volume_seen}
 use Rattle.be_store.proofs.Applied.{entries_append, nothing_more}
 
 -- entries by passes below 1 are by the pass 0
-pub by_one : (log : List Entry) → AllBelow 1 log → by_pass 0 log ≡ log
-unfolding AllBelow
+pub by_one : (log : List Entry) → AreOfPasses 1 log → by_pass 0 log ≡ log
+unfolding AreOfPasses
 by_one [] b = refl
 by_one (e ∷ log) b =
     let zero : e.by ≡ 0 = omega (arith, b.0) in
@@ -33,7 +33,7 @@ number_zero a h = omega (arith, h.pass.number_below, h.one)
 
 pub written : (a : Knowledge) → IsAlone a → entries a.seen ≡ a.mine
 written a h =
-    sym (by_one (entries a.seen) (subst (λ n. AllBelow n (entries a.seen)) h.one h.pass.by_passes))
+    sym (by_one (entries a.seen) (subst (λ n. AreOfPasses n (entries a.seen)) h.one h.pass.by_passes))
     ∙ (ap (λ k. by_pass k (entries a.seen)) (sym (number_zero a h)) ∙ h.pass.mine)
 
 none_of : (log : List Commit) → entries log ≡ [] → log ≡ []
@@ -42,8 +42,8 @@ none_of (c ∷ log) e = absurd (let l : length (entries (c ∷ log)) ≡ 0 = ap 
 
 -- where it has written nothing, it has seen nothing more
 pub same_seen : (a c : Knowledge) → IsAlone a → IsAlone c → StartsWith c.seen a.seen → c.mine ≡ a.mine → c.seen ≡ a.seen
-same_seen a c alone after more mine =
-    let same : entries a.seen ++ entries more.0 ≡ entries a.seen = sym (entries_append a.seen more.0) ∙ (ap entries (sym more.1) ∙ (written c after ∙ (mine ∙ sym (written a alone)))) in
+same_seen a c alone state_after more mine =
+    let same : entries a.seen ++ entries more.0 ≡ entries a.seen = sym (entries_append a.seen more.0) ∙ (ap entries (sym more.1) ∙ (written c state_after ∙ (mine ∙ sym (written a alone)))) in
     more.1 ∙ (ap (λ l. a.seen ++ l) (none_of more.0 (nothing_more (entries a.seen) (entries more.0) same)) ∙ append-nil a.seen)
 
 abbrev announced_in : Phase → ℕ
@@ -53,14 +53,14 @@ announced_in (Announced x) = x
 announced_in (Pinned x n) = 0
 
 -- The pass looks, announces what it found, and looks again. Where it is the only one, it is then pinned to what it announced.
-pub settled_pin : (passes n : ℕ) (b p c : Knowledge) → IsPass b → b.limits.passes ≡ passes → c.limits.passes ≡ passes → n ≡ length b.seen → p ≡ announces b n → PinsCurrent p c → IsSettled passes c.phase
+pub settled_pin : (passes n : ℕ) (b p c : Knowledge) → IsPass b → b.limits.passes ≡ passes → c.limits.passes ≡ passes → n ≡ length b.seen → p ≡ announces b n → PinsCurrent p c → IsBetweenCalls passes c.phase
 settled_pin passes n b p c pass limits limits_then number announced h =
     let x : ℕ = h.same.0 in
     let found : x ≡ n = sym (ap announced_in h.same.1) ∙ ap (λ (k : Knowledge). announced_in k.phase) announced in
     let seen : p.seen ≡ b.seen = ap (λ (k : Knowledge). k.seen) announced in
     let mine : c.mine ≡ b.mine = ap (λ (k : Knowledge). k.mine) h.same.2 ∙ ap (λ (k : Knowledge). k.mine) announced in
     let phase : c.phase ≡ Pinned x (length c.seen) = ap (λ (k : Knowledge). k.phase) h.same.2 in
-    subst (IsSettled passes) (sym phase) (λ one.
+    subst (IsBetweenCalls passes) (sym phase) (λ one.
     let same : c.seen ≡ b.seen = same_seen b c (record { pass = pass; one = limits ∙ one }) (record { pass = h.pass; one = limits_then ∙ one }) (subst (StartsWith c.seen) seen h.more) mine in
     found ∙ (number ∙ ap length (sym same)))
 
@@ -71,9 +71,9 @@ none_between xs (y ∷ ys) d e same = absurd (
     let m = length-append (xs ++ y ∷ ys) (d ∷ []) in let n = length-append xs (y ∷ ys) in let o = length-append xs (e ∷ []) in omega arith)
 
 -- the law of be_journal that one more entry is one more write
-pub writes_next : ((log : List Entry) (entry : Entry) → replay (log ++ entry ∷ []) ≡ after (replay log) entry.ops) → (a c : Knowledge) (ops : List Op) (n : ℕ) (dones : List Done) → IsAlone a → IsAlone c → Accepts a c ops n dones → WritesNext a c ops n dones
+pub writes_next : ((log : List Entry) (entry : Entry) → replay (log ++ entry ∷ []) ≡ state_after (replay log) entry.ops) → (a c : Knowledge) (ops : List Op) (n : ℕ) (dones : List Done) → IsAlone a → IsAlone c → Accepts a c ops n dones → WritesNext a c ops n dones
 writes_next pushed a c ops n dones alone then h =
-    let e = entry_of a ops dones in
+    let e = entry_by a ops dones in
     let seen : entries c.seen ≡ entries a.seen ++ e ∷ [] = written c then ∙ (h.mine ∙ ap (λ l. l ++ e ∷ []) (sym (written a alone))) in
     let shown : entries c.seen ≡ (entries a.seen ++ entries h.others) ++ h.commit.entry ∷ [] =
     ap entries h.seen ∙ (entries_append (a.seen ++ h.others) (h.commit ∷ []) ∙ ap (λ l. l ++ h.commit.entry ∷ []) (entries_append a.seen h.others)) in

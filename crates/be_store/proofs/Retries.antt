@@ -4,7 +4,7 @@ use Rattle.std.specs.Prelude.{Result, Ok, Err, IfOk, IfErr}
 use Rattle.std.proofs.lemmas.Bool.{false≢true}
 use Rattle.be_table.specs.declared.pass.Knowledge.{Knowledge}
 use Rattle.be_table.specs.Steps.{finds_held}
-use Rattle.be_table.specs.Works.{IsBusy, HasNoRoom}
+use Rattle.be_table.specs.Works.{FoundHeld, HasNoRoom}
 use Rattle.be_value.specs.declared.refusals.Refusal.{Refusal}
 use Rattle.be_value.specs.declared.refusals.Refusal.TheVariants.{Busy}
 use Rattle.be_volume.specs.declared.ops.Done.{Done}
@@ -24,7 +24,7 @@ busy_with (Busy b) h = (b, refl)
 busy_with e h = absurd (false≢true h)
 
 -- Busy comes of the lock alone
-busy_by_lock : (a c : Knowledge) (ops : List Op) (b : ℕ) → IsReason a c ops (Busy b) → IsBusy (Busy b) a c
+busy_by_lock : (a c : Knowledge) (ops : List Op) (b : ℕ) → IsReason a c ops (Busy b) → FoundHeld (Busy b) a c
 busy_by_lock a c ops b (inl h) = h.0
 busy_by_lock a c ops b (inr (inl h)) = absurd (let few = (steps_refuse (volume_seen c) ops (Busy b) h).0 in omega (arith, few))
 busy_by_lock a c ops b (inr (inr (inl h))) = absurd (unroomed h.1)

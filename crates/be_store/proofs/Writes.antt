@@ -11,9 +11,9 @@ use Rattle.be_pages.specs.declared.room.Standing.TheVariants.{Free as Nowhere}
 use Rattle.be_table.specs.declared.pass.Commit.{Commit}
 use Rattle.be_table.specs.declared.pass.Knowledge.{Knowledge}
 use Rattle.be_table.specs.Place.{Work}
-use Rattle.be_table.specs.Reading.{open_of, standing_at, standing_in, standing_of, word_in, words_of, StaysOpen}
+use Rattle.be_table.specs.Reading.{open_of, standing_at, standing_among, standing_in_work, word_of_page, words_of, StaysOpen}
 use Rattle.be_table.specs.Rule.{entries, page_at, reach_at}
-use Rattle.be_table.specs.Steps.{commit_of, entry_of, publishes}
+use Rattle.be_table.specs.Steps.{commit_of, entry_by, publishes}
 use Rattle.be_table.specs.Versions.{at_start, SpellsVolume}
 use Rattle.be_table.specs.Works.{HasNoRoom, MakesScan, TakesLock}
 use Rattle.be_table.proofs.Standings.{swept_in}
@@ -24,13 +24,13 @@ use Rattle.be_value.specs.declared.refusals.Refusal.{Refusal}
 use Rattle.be_value.specs.declared.refusals.Refusal.TheVariants.{Full}
 use Rattle.be_pages.specs.declared.room.Standing.{Standing}
 use Rattle.be_pages.specs.Pages.{KeepsStart}
-use Rattle.be_paged.specs.Changes.{IsRefused}
+use Rattle.be_paged.specs.Changes.{IsRefusedList}
 use Rattle.be_store.specs.Writing.{Begins, Publishes, IsHeldBack}
 use Rattle.be_store.proofs.Refusals.{steps_refuse}
 
 -- the version at the page that the ledger tells is that of the whole journal
-pub current_spelt : (k : Knowledge) (page : ℕ) → Begins k → page ≡ page_at k.seen (length k.seen) → SpellsVolume (reach_at k.seen (length k.seen)) (word_in k.words) page (replay (entries k.seen))
-current_spelt k page t is = subst (λ p. SpellsVolume (reach_at k.seen (length k.seen)) (word_in k.words) p (replay (entries k.seen))) (sym is) t.spelt
+pub current_spelt : (k : Knowledge) (page : ℕ) → Begins k → page ≡ page_at k.seen (length k.seen) → SpellsVolume (reach_at k.seen (length k.seen)) (word_of_page k.words) page (replay (entries k.seen))
+current_spelt k page t is = subst (λ p. SpellsVolume (reach_at k.seen (length k.seen)) (word_of_page k.words) p (replay (entries k.seen))) (sym is) t.spelt
 
 -- a pass that has just taken the lock begins a write
 pub begins_locked : (a k : Knowledge) → TakesLock a k → Begins k
@@ -40,11 +40,11 @@ begins_locked a k t = record { unpublished = ap (λ (x : Knowledge). x.published
 pub begins_scanned : (old new : Work) (least : ℕ) → MakesScan old new least → Begins old.knows → Begins new.knows
 begins_scanned old new least h b =
     let k : Knowledge = old.knows in
-    let begun : (q : ℕ) → standing_in new.knows.places q ≡ at_start (has (reach_at k.seen (length k.seen)) q) = λ q. ap (λ ps. standing_in ps q) h.places ∙ swept_in least k.places q ∙ b.begun q in
+    let begun : (q : ℕ) → standing_among new.knows.places q ≡ at_start (has (reach_at k.seen (length k.seen)) q) = λ q. ap (λ ps. standing_among ps q) h.places ∙ swept_in least k.places q ∙ b.begun q in
     let same : new.knows ≡ record k { scanned = 0; least = least; places = new.knows.places; held = new.knows.held; steps = new.knows.steps } = ap (λ (w : Work). w.knows) h.same in record {
       unpublished = ap (λ (x : Knowledge). x.published) same ∙ b.unpublished;
       begun = λ q. begun q ∙ ap (λ (x : List Commit). at_start (has (reach_at x (length x)) q)) (sym (ap (λ (x : Knowledge). x.seen) same));
-      spelt = subst (λ (x : List Commit × List ℕ). SpellsVolume (reach_at x.0 (length x.0)) (word_in x.1) (page_at x.0 (length x.0)) (replay (entries x.0)))
+      spelt = subst (λ (x : List Commit × List ℕ). SpellsVolume (reach_at x.0 (length x.0)) (word_of_page x.1) (page_at x.0 (length x.0)) (replay (entries x.0)))
           (λ i. (sym (ap (λ (x : Knowledge). x.seen) same) i, sym (ap (λ (x : Knowledge). x.words) same) i)) b.spelt;
     }
 
@@ -73,13 +73,13 @@ both_from (Ok x) P R Q S f g m = f x m
 both_from (Err e) P R Q S f g m = g e m
 
 pub published : (w v r p : Work) (ops : List Op) (page n : ℕ) (dones shown : List Done) (made : State)
-    → open_of v ≡ open_of w → r.knows ≡ v.knows → p.knows ≡ publishes r.knows (entry_of r.knows ops shown) page → shown ≡ dones
+    → open_of v ≡ open_of w → r.knows ≡ v.knows → p.knows ≡ publishes r.knows (entry_by r.knows ops shown) page → shown ≡ dones
     → steps (replay (entries w.knows.seen)) ops ≡ Ok (made, dones) → n ≡ length p.knows.seen → Publishes w.knows p.knows ops n dones
 published w v r p ops page n dones shown made kept same is lent stepped number =
     let pass : r.knows.number ≡ w.knows.number = ap (λ (k : Knowledge). k.number) same ∙ ap (λ (o : StaysOpen). o.number) kept in
     let pin : r.knows.phase ≡ w.knows.phase = ap (λ (k : Knowledge). k.phase) same ∙ ap (λ (o : StaysOpen). o.phase) kept in
     let seen : r.knows.seen ≡ w.knows.seen = ap (λ (k : Knowledge). k.seen) same ∙ ap (λ (o : StaysOpen). o.seen) kept in
-    let commit = commit_of r.knows (entry_of r.knows ops shown) page in record {
+    let commit = commit_of r.knows (entry_by r.knows ops shown) page in record {
       same = record { pass = ap (λ (k : Knowledge). k.number) is ∙ pass; pin = ap (λ (k : Knowledge). k.phase) is ∙ pin };
       commit = commit;
       entry = cc;
@@ -90,15 +90,15 @@ published w v r p ops page n dones shown made kept same is lent stepped number =
 
 -- a list that is refused for want of a page is one that the volume accepts
 pub full_accepts : {S K : Type 0} (kept_of : S → K) (standing_of : S → ℕ → Standing) (words_of : S → ℕ → ℕ → ℕ) (full_of : S → ℕ → Type 0) (volume : State) (ops : List Op) (least : ℕ) (old new : S)
-    → IsRefused kept_of standing_of words_of full_of volume ops (Full least) old new → IsOk (steps volume ops) × KeepsStart kept_of standing_of words_of old new
+    → IsRefusedList kept_of standing_of words_of full_of volume ops (Full least) old new → IsOk (steps volume ops) × KeepsStart kept_of standing_of words_of old new
 full_accepts _ _ _ _ volume ops least old new (inl h) = absurd (let few = (steps_refuse volume ops (Full least) h.0).1 in omega (arith, few))
 full_accepts _ _ _ _ volume ops least old new (inr h) = (h.1, h.2)
 
 -- the journal's want of room goes before that of a page
 pub full_unroomed : (w v r : Work) (full_of : Work → ℕ → Type 0) (ops : List Op) (least : ℕ) (f e : Refusal) → f ≡ Full least
-    → IsRefused open_of standing_of words_of full_of (replay (entries w.knows.seen)) ops f w v → r ≡ v → HasNoRoom e v.knows → IsHeldBack w.knows r.knows ops e
+    → IsRefusedList open_of standing_in_work words_of full_of (replay (entries w.knows.seen)) ops f w v → r ≡ v → HasNoRoom e v.knows → IsHeldBack w.knows r.knows ops e
 full_unroomed w v r full_of ops least f e is refused same none =
-    let h = full_accepts open_of standing_of words_of full_of (replay (entries w.knows.seen)) ops least w v (subst (λ g. IsRefused open_of standing_of words_of full_of (replay (entries w.knows.seen)) ops g w v) is refused) in
+    let h = full_accepts open_of standing_in_work words_of full_of (replay (entries w.knows.seen)) ops least w v (subst (λ g. IsRefusedList open_of standing_in_work words_of full_of (replay (entries w.knows.seen)) ops g w v) is refused) in
     let k : open_of r ≡ open_of w = ap open_of same ∙ h.1.kept in record {
       same = record { pass = ap (λ (o : StaysOpen). o.number) k; pin = ap (λ (o : StaysOpen). o.phase) k };
       seen = ap (λ (o : StaysOpen). o.seen) k;

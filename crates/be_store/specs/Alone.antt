@@ -3,7 +3,7 @@ use Rattle.std.specs.Prelude.{◌≡◌, ℕ, ◌+◌, List, [], ◌∷◌, ◌+
 use Rattle.be_store.specs.Passes.{volume_seen}
 use Rattle.be_table.specs.declared.pass.Knowledge.{Knowledge}
 use Rattle.be_table.specs.Rule.{entries}
-use Rattle.be_table.specs.Steps.{IsPass, entry_of}
+use Rattle.be_table.specs.Steps.{IsPass, entry_by}
 use Rattle.be_volume.specs.Volume.{steps}
 use Rattle.be_volume.specs.declared.ops.Done.{Done}
 use Rattle.be_volume.specs.declared.ops.Op.{Op}
@@ -15,6 +15,6 @@ pub record IsAlone (a : Knowledge) : Type 0 where
 
 -- The write is the next entry after what the pass had seen: the volume steps from there, and gives these answers.
 pub record WritesNext (a c : Knowledge) (ops : List Op) (n : ℕ) (dones : List Done) : Type 0 where
-  pub seen : entries c.seen ≡ entries a.seen ++ entry_of a ops dones ∷ []
+  pub seen : entries c.seen ≡ entries a.seen ++ entry_by a ops dones ∷ []
   pub step : steps (volume_seen a) ops ≡ Ok (volume_seen c, dones)
   pub number : n ≡ length a.seen + 1

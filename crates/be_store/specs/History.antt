@@ -9,8 +9,8 @@ use Rattle.be_table.specs.declared.pass.Commit.{Commit}
 use Rattle.be_table.specs.declared.pass.Knowledge.{Knowledge}
 use Rattle.be_table.specs.History.{StartsWith}
 use Rattle.be_table.specs.Rule.{entries}
-use Rattle.be_table.specs.Steps.{entry_of}
-use Rattle.be_table.specs.Works.{IsBusy, HasNoRoom, IsSpent}
+use Rattle.be_table.specs.Steps.{entry_by}
+use Rattle.be_table.specs.Works.{FoundHeld, HasNoRoom, IsSpent}
 use Rattle.be_value.specs.declared.refusals.Refusal.{Refusal}
 use Rattle.be_value.specs.declared.refusals.Refusal.TheVariants.{Busy, OutOfMemory}
 use Rattle.be_volume.specs.Volume.{steps}
@@ -23,11 +23,11 @@ pub record Accepts (a c : Knowledge) (ops : List Op) (n : ℕ) (dones : List Don
   pub others : List Commit
   pub commit : Commit
   pub seen : c.seen ≡ (a.seen ++ others) ++ commit ∷ []
-  pub entry : commit.entry ≡ entry_of a ops dones
+  pub entry : commit.entry ≡ entry_by a ops dones
   pub apart : by_pass a.number (entries others) ≡ []
-  pub answered : Agrees (replay (entries (a.seen ++ others))) (entry_of a ops dones)
+  pub answered : Agrees (replay (entries (a.seen ++ others))) (entry_by a ops dones)
   pub number : n ≡ length c.seen
-  pub mine : c.mine ≡ a.mine ++ entry_of a ops dones ∷ []
+  pub mine : c.mine ≡ a.mine ++ entry_by a ops dones ∷ []
   pub pass : c.number ≡ a.number
   pub pin : c.phase ≡ a.phase
 
@@ -47,7 +47,7 @@ IsRefusedAt c ops e =
 
 -- Why a write is refused: its one try found that another pass holds the lock, and nothing more was seen; or else.
 abbrev pub IsReason : (a c : Knowledge) (ops : List Op) → Refusal → Type 0
-IsReason a c ops e = (IsBusy e a c × (c.seen ≡ a.seen)) ⊎ IsRefusedAt c ops e
+IsReason a c ops e = (FoundHeld e a c × (c.seen ≡ a.seen)) ⊎ IsRefusedAt c ops e
 
 -- the refusal says that another pass holds the lock
 abbrev pub is_busy : Refusal → Bool
@@ -82,4 +82,4 @@ text_seen a = lines_from 1 (entries a.seen)
 
 -- Why the journal isn't told: the one try found that another pass holds the lock, and nothing more was seen; or a growth was refused.
 abbrev pub IsUntold : (a c : Knowledge) → Refusal → Type 0
-IsUntold a c e = (IsBusy e a c × (c.seen ≡ a.seen)) ⊎ (e ≡ OutOfMemory)
+IsUntold a c e = (FoundHeld e a c × (c.seen ≡ a.seen)) ⊎ (e ≡ OutOfMemory)

@@ -12,15 +12,15 @@ use Rattle.be_table.specs.Works.{IsSeatOf}
 use Rattle.be_volume.specs.Volume.{State, empty}
 
 -- Between two calls of a store a pass is pinned, or it isn't; it has not stopped half way to a pin. The only pass of a store is pinned to the version that it has announced.
-abbrev pub IsSettled : ℕ → Phase → Type 0
-IsSettled passes Idle = Unit {0}
-IsSettled passes (Looked x) = ⊥
-IsSettled passes (Announced x) = ⊥
-IsSettled passes (Pinned x n) = passes ≡ 1 → x ≡ n
+abbrev pub IsBetweenCalls : ℕ → Phase → Type 0
+IsBetweenCalls passes Idle = Unit {0}
+IsBetweenCalls passes (Looked x) = ⊥
+IsBetweenCalls passes (Announced x) = ⊥
+IsBetweenCalls passes (Pinned x n) = passes ≡ 1 → x ≡ n
 
 -- a pass of this store
 abbrev pub IsPassOf : Opened → SeatFacts → Type 0
-IsPassOf store pass = IsSeatOf store pass × IsSettled store.limits.passes pass.knows.phase
+IsPassOf store pass = IsSeatOf store pass × IsBetweenCalls store.limits.passes pass.knows.phase
 
 -- the pass is pinned to the first n entries of the journal
 abbrev pub IsPinnedTo : Knowledge → ℕ → Type 0

@@ -4,9 +4,9 @@ use Rattle.be_core.specs.Machine.{has}
 use Rattle.be_journal.specs.Journal.{Agrees}
 use Rattle.be_table.specs.declared.pass.Knowledge.{Knowledge}
 use Rattle.be_table.specs.declared.pass.Commit.{Commit}
-use Rattle.be_table.specs.Reading.{standing_in, word_in}
+use Rattle.be_table.specs.Reading.{standing_among, word_of_page}
 use Rattle.be_table.specs.Rule.{page_at, reach_at}
-use Rattle.be_table.specs.Steps.{entry_of}
+use Rattle.be_table.specs.Steps.{entry_by}
 use Rattle.be_table.specs.Versions.{at_start, SpellsVolume}
 use Rattle.be_value.specs.declared.refusals.Refusal.{Refusal}
 use Rattle.be_volume.specs.declared.ops.Done.{Done}
@@ -17,8 +17,8 @@ use Rattle.be_store.specs.Passes.{volume_seen}
 -- an open write in which no page is taken yet: where the pages stand, and their words, are those of the current version
 pub record Begins (k : Knowledge) : Type 0 where
   pub unpublished : k.published ≡ false
-  pub begun : (q : ℕ) → standing_in k.places q ≡ at_start (has (reach_at k.seen (length k.seen)) q)
-  pub spelt : SpellsVolume (reach_at k.seen (length k.seen)) (word_in k.words) (page_at k.seen (length k.seen)) (volume_seen k)
+  pub begun : (q : ℕ) → standing_among k.places q ≡ at_start (has (reach_at k.seen (length k.seen)) q)
+  pub spelt : SpellsVolume (reach_at k.seen (length k.seen)) (word_of_page k.words) (page_at k.seen (length k.seen)) (volume_seen k)
 
 -- the pass is still the same pass, with its pin
 pub record IsSame (a c : Knowledge) : Type 0 where
@@ -29,9 +29,9 @@ pub record IsSame (a c : Knowledge) : Type 0 where
 pub record Publishes (a c : Knowledge) (ops : List Op) (n : ℕ) (dones : List Done) : Type 0 where
   pub same : IsSame a c
   pub commit : Commit
-  pub entry : commit.entry ≡ entry_of a ops dones
+  pub entry : commit.entry ≡ entry_by a ops dones
   pub seen : c.seen ≡ a.seen ++ commit ∷ []
-  pub answered : Agrees (volume_seen a) (entry_of a ops dones)
+  pub answered : Agrees (volume_seen a) (entry_by a ops dones)
   pub number : n ≡ length c.seen
 
 -- why a write that has the lock is refused

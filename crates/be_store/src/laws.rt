@@ -7,7 +7,7 @@ ghost use Rattle.be_journal.specs.Journal.{IsLegal, by_pass};
 ghost use Rattle.be_store.specs.Alone.{IsAlone, WritesNext};
 ghost use Rattle.be_store.specs.History.{Accepts, Learns, IsReason, IsRefusedAt, Pins as IsPin};
 ghost use Rattle.be_store.specs.Passes.{IsPassOf, volume_pinned, volume_seen};
-ghost use Rattle.be_table.specs.History.{AllBelow};
+ghost use Rattle.be_table.specs.History.{AreOfPasses};
 ghost use Rattle.be_table.specs.Rule.{entries};
 ghost use Rattle.be_table.specs.Steps.{IsPass};
 ghost use Rattle.be_table.specs.Versions.{CanSpellEach};
@@ -25,7 +25,7 @@ pub fn seen_is_legal(store: &Store, pass: &Pass)
     requires { IsPassOf store.now pass.now }
     ensures pass { IsPass pass.now.knows }
     ensures legal { IsLegal (entries pass.now.knows.seen) }
-    ensures by { AllBelow store.now.limits.passes (entries pass.now.knows.seen) }
+    ensures by { AreOfPasses store.now.limits.passes (entries pass.now.knows.seen) }
     ensures mine { by_pass pass.now.knows.number (entries pass.now.knows.seen) ≡ pass.now.knows.mine }
     ensures number { pass.now.knows.number < store.now.limits.passes }
     ensures room { length pass.now.knows.seen ≤ store.now.limits.commits }

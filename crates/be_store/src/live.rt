@@ -1,7 +1,7 @@
 //! Live queries: what changed in an answer since it was asked last.
 ghost use Rattle.std.specs.Prelude.{◌≡◌, ◌⊎◌, ℕ, [], IfOk, IfErr, Err};
 ghost use Rattle.std.specs.List.Sorted.{IsStrictlyIncreasing};
-ghost use Rattle.be_store.specs.Live.{Refreshes, is_in, without};
+ghost use Rattle.be_store.specs.Live.{Refreshes, is_among, without};
 ghost use Rattle.be_store.specs.Passes.{IsPassOf, IsPinnedTo, HasRead, volume_pinned};
 ghost use Rattle.be_value.specs.declared.refusals.Refusal.TheVariants.{OutOfMemory};
 ghost use Rattle.be_volume.specs.Query.{scan};
@@ -85,9 +85,9 @@ impl Live {
     }
 }
 
-fn is_in(numbers: &[u64], number: u64) -> bool
+fn is_among(numbers: &[u64], number: u64) -> bool
     requires { IsStrictlyIncreasing numbers.now }
-    ensures { result ≡ is_in numbers.now number }
+    ensures { result ≡ is_among numbers.now number }
 {
     numbers.binary_search(&number).is_ok()
 }
@@ -100,7 +100,7 @@ fn without(alloc: Global, numbers: &[u64], others: &[u64]) -> Result<Vec<u64>, R
 {
     let mut left = Vec::new(alloc);
     for number in numbers {
-        if !is_in(others, *number) {
+        if !is_among(others, *number) {
             left.push(*number)?;
         }
     }

@@ -35,14 +35,14 @@ impl Model for Store {
 impl Store {
     ghost use Rattle.std.specs.List.Sorted.{IsStrictlyIncreasing};
     ghost use Rattle.be_journal.specs.Journal.{IsLegal};
-    ghost use Rattle.be_table.specs.History.{StartsWith, AllBelow};
+    ghost use Rattle.be_table.specs.History.{StartsWith, AreOfPasses};
     ghost use Rattle.be_paged.specs.Version.{IsVersion};
-    ghost use Rattle.be_table.specs.Reading.{pinned_standing, word_in};
+    ghost use Rattle.be_table.specs.Reading.{pinned_standing, word_of_page};
     ghost use Rattle.be_table.specs.Rule.{IsWithin};
     ghost use Rattle.be_table.specs.Seats.{pinned_number};
     ghost use Rattle.be_table.specs.Steps.{Has, KeepsSeen, longer, met, unpins};
     ghost use Rattle.be_table.specs.Versions.{CanSpellEach};
-    ghost use Rattle.be_table.specs.Works.{AllAt, AreNew, IsUnopened, knows_of};
+    ghost use Rattle.be_table.specs.Works.{AllAt, AreNew, IsOpenRefused, knows_of};
     ghost use Rattle.be_value.specs.Refusal.{Answers};
     ghost use Rattle.be_value.specs.declared.refusals.Refusal.TheVariants.{OutOfMemory};
     ghost use Rattle.be_volume.specs.Query.{scan};
@@ -55,7 +55,7 @@ impl Store {
     pub fn open(alloc: Global, limits: Limits) -> Result<(Store, Vec<Pass>), Refusal>
         ensures { MatchResult result
             (λ r. (r.0.limits ≡ limits) × (length r.1.items ≡ limits.passes) × AreNew r.0 0 r.1.items × IsWithin limits)
-            (λ e. IsUnopened limits e) }
+            (λ e. IsOpenRefused limits e) }
     {
         let (table, passes) = VersionTable::open(alloc, limits, &first_page())?;
         Ok((Store { table }, passes))
@@ -173,7 +173,7 @@ impl Store {
         requires pass { IsPassOf self.now pass.old }
         requires pinned { (n : ℕ) × IsPinnedTo pass.old.knows n }
         ensures look { (result.0.table ≡ self.now) × (result.0.knows ≡ pass.old.knows) }
-        ensures version { IsVersion (pinned_standing result.0.knows) (word_in result.0.knows.image) result.1 (volume_pinned pass.old.knows) }
+        ensures version { IsVersion (pinned_standing result.0.knows) (word_of_page result.0.knows.image) result.1 (volume_pinned pass.old.knows) }
     {
         let page = pass.version_page();
         (self.table.pinned_look(pass.move_out()), page)
@@ -294,7 +294,7 @@ impl Store {
         requires passes { AllAt self.id passes.items }
         requires all { (k : ℕ) → k < self.limits.passes → Has (map knows_of passes.items) k }
         ensures legal { IsLegal result.entries }
-        ensures by { AllBelow self.limits.passes result.entries }
+        ensures by { AreOfPasses self.limits.passes result.entries }
         ensures passes { KeepsSeen result.entries (map knows_of passes.items) }
         ensures volumes { CanSpellEach self.limits.pages result.entries }
     {

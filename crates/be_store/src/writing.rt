@@ -1,10 +1,10 @@
 //! One write, while the lock is held.
 ghost use Rattle.std.specs.Prelude.{◌≡◌, [], ◌+◌, ◌^◌, ◌<◌, ◌≤◌, IfOk, IfErr, MatchResult, false, length};
-ghost use Rattle.be_paged.specs.Changes.{Applies, IsRefused};
+ghost use Rattle.be_paged.specs.Changes.{Applies, IsRefusedList};
 ghost use Rattle.be_paged.specs.Version.{IsVersion};
 ghost use Rattle.be_store.specs.Writing.{Begins, Publishes, IsHeldBack};
 ghost use Rattle.be_table.specs.declared.pass.Knowledge.{Knowledge};
-ghost use Rattle.be_table.specs.Reading.{open_of, standing_in, standing_of, word_in, words_of};
+ghost use Rattle.be_table.specs.Reading.{open_of, standing_among, standing_in_work, word_of_page, words_of};
 ghost use Rattle.be_table.specs.Works.{IsSpent, TakesLock};
 ghost use Rattle.be_volume.specs.Volume.{State};
 
@@ -22,13 +22,14 @@ fn apply_to(
     dones: &mut ArrayVec<Done, 64>,
 ) -> Result<u64, Refusal>
     ghost volume: { State }
-    requires version { IsVersion (standing_in writing.old.knows.places) (word_in writing.old.knows.words) version_page volume }
+    requires version { IsVersion (standing_among writing.old.knows.places) (word_of_page writing.old.knows.words) version_page volume }
     requires count { (1 ≤ length ops.now) × (length ops.now ≤ 64) }
     requires fits { volume.next + 64 < 2 ^ 64 }
     requires open { writing.old.knows.published ≡ false }
     requires empty { dones.old.items ≡ [] }
-    ensures ok { IfOk result (λ page. Applies open_of standing_of words_of version_page page volume ops.now dones.new.items writing.old writing.new) }
-    ensures err { IfErr result (λ e. IsRefused open_of standing_of words_of (λ w least. IsSpent w.knows least) volume ops.now e writing.old writing.new) }
+    ensures ok { IfOk result (λ page. Applies open_of standing_in_work words_of version_page page volume ops.now dones.new.items writing.old writing.new) }
+    ensures err { IfErr result (λ e. IsRefusedList open_of standing_in_work words_of (λ w least. IsSpent w.knows least)
+        volume ops.now e writing.old writing.new) }
 {
     apply_into(writing, version_page, ops, dones)
 }

@@ -4,7 +4,7 @@ use Rattle.std.proofs.lemmas.List.Elements.{All-head, All-tail}
 use Rattle.std.specs.Prelude.{Result}
 use Rattle.std.specs.Result.{result_map_both}
 use Rattle.be_value.specs.declared.refusals.Refusal.{Refusal}
-use Rattle.be_volume.specs.Ahead.{after, reached}
+use Rattle.be_volume.specs.Ahead.{state_after, reached}
 use Rattle.be_volume.specs.Volume.{State, empty, advance, step, steps}
 use Rattle.be_volume.specs.declared.ops.Done.{Done}
 use Rattle.be_volume.specs.declared.ops.Op.{Op}
@@ -33,18 +33,18 @@ pub answers_each : (s : State) (e : Entry) → Agrees s e → length e.dones ≡
 answers_each s e h = omega (arith, steps_count s h.0 [] e.dones e.ops h.1)
 
 -- an entry takes 64 numbers at most
-entered : (s : State) (ops : List Op) → length ops ≤ 64 → (after s ops).next ≤ s.next + 64
+entered : (s : State) (ops : List Op) → length ops ≤ 64 → (state_after s ops).next ≤ s.next + 64
 entered s ops few = by (steps s ops) refl
   where
     by : (x : Result (State × List Done) Refusal) → steps s ops ≡ x → (reached s x).next ≤ s.next + 64
     by (Err e) g = omega arith
     by (Ok x) g = omega (arith, few, steps_bound s x.0 x.1 ops g)
 
-replayed : (s : State) (es : List Entry) → All HasOperations es → (fold (λ t e. after t e.ops) s es).next ≤ s.next + 64 * length es
+replayed : (s : State) (es : List Entry) → All HasOperations es → (fold (λ t e. state_after t e.ops) s es).next ≤ s.next + 64 * length es
 replayed s [] are = omega arith
 replayed s (e ∷ es) are =
     let have : HasOperations e = All-head HasOperations e es are in
-    omega (arith, entered s e.ops have.0, replayed (after s e.ops) es (All-tail HasOperations e es are))
+    omega (arith, entered s e.ops have.0, replayed (state_after s e.ops) es (All-tail HasOperations e es are))
 
 -- the next number after a journal is far from the last one that there is
 pub next_fits : (es : List Entry) → IsHistory es → length es < 4294967296 → (replay es).next + 64 < 2 ^ 64

@@ -10,10 +10,10 @@ use Rattle.be_table.specs.declared.ledger.Ledger.{Ledger}
 use Rattle.be_table.specs.declared.limits.Limits.{Limits}
 use Rattle.be_table.specs.declared.pass.Knowledge.{Knowledge}
 use Rattle.be_journal.specs.Journal.{IsLegal}
-use Rattle.be_table.specs.History.{AllBelow}
+use Rattle.be_table.specs.History.{AreOfPasses}
 use Rattle.be_table.specs.Laws.{ArrivalIsNoEvent}
 use Rattle.be_table.specs.Place.{SeatFacts}
-use Rattle.be_table.specs.Rule.{Board, entries, is_holder, IsHome, AllFit, Shows, everyone, counted, joined}
+use Rattle.be_table.specs.Rule.{Board, entries, is_holder, IsHome, AllFit, Shows, everyone, one_step_on, seats_together}
 use Rattle.be_table.specs.Steps.{Arrived, Has, AllIdle, KeepsSeen}
 use Rattle.be_table.specs.Versions.{CanSpellEach}
 use Rattle.be_table.specs.Works.{AllAt, Gathered}
@@ -36,7 +36,7 @@ all_kept limits b i (a ∷ v) f = (entries-start b.log a.seen f.0.seen, f.0.mine
 
 -- once all passes are in one seat, the slot has the journal
 pub ends : (limits : Limits) (i : ℕ) (v : List Knowledge) (words : List ℕ) (slots : List (Option Ledger)) → AllIdle v → ((k : ℕ) → k < limits.passes → Has v k) → Final (Seen (Shows limits) i v) words slots
-    → (ledger : Ledger) × (get_elem? slots 0 ≡ some (Some ledger)) × IsLegal ledger.journal.entries × AllBelow limits.passes ledger.journal.entries × KeepsSeen ledger.journal.entries v
+    → (ledger : Ledger) × (get_elem? slots 0 ≡ some (Some ledger)) × IsLegal ledger.journal.entries × AreOfPasses limits.passes ledger.journal.entries × KeepsSeen ledger.journal.entries v
     × CanSpellEach limits.pages ledger.journal.entries
 ends limits i v words slots idle all f =
     let s = f.0 in let b = f.1.0.0 in let h = f.1.0.1 in
@@ -47,13 +47,13 @@ ends limits i v words slots idle all f =
       home.0,
       f.4 0 (Some home.0) (ap (λ hs. get_elem? hs 0) home.1),
       subst IsLegal is (is_legal (entries b.log) h.sound.legal),
-      subst (AllBelow limits.passes) is h.sound.by_passes,
+      subst (AreOfPasses limits.passes) is h.sound.by_passes,
       subst (λ l. KeepsSeen l v) is (all_kept limits b i v fit),
       subst (CanSpellEach limits.pages) is (log_spelt limits b h.sound),
     )
 
 -- what a joined seat has of each
-has_counted : (v : List Knowledge) (k : ℕ) → Has v k → Has (map counted v) k
+has_counted : (v : List Knowledge) (k : ℕ) → Has v k → Has (map one_step_on v) k
 has_counted [] k h = h
 has_counted (a ∷ v) k h = ⊎_elim inl (λ m. inr (has_counted v k m)) h
 
@@ -65,7 +65,7 @@ has_right : (v w : List Knowledge) (k : ℕ) → Has w k → Has (v ++ w) k
 has_right [] w k h = h
 has_right (a ∷ v) w k h = inr (has_right v w k h)
 
-idle_counted : (v : List Knowledge) → AllIdle v → AllIdle (map counted v)
+idle_counted : (v : List Knowledge) → AllIdle v → AllIdle (map one_step_on v)
 idle_counted [] h = tt
 idle_counted (a ∷ v) h = (h.0, idle_counted v h.1)
 
@@ -73,7 +73,7 @@ idle_append : (v w : List Knowledge) → AllIdle v → AllIdle w → AllIdle (v 
 idle_append [] w h g = g
 idle_append (a ∷ v) w h g = (h.0, idle_append v w h.1 g)
 
-keeps_counted : (log : List Entry) (v : List Knowledge) → KeepsSeen log (map counted v) → KeepsSeen log v
+keeps_counted : (log : List Entry) (v : List Knowledge) → KeepsSeen log (map one_step_on v) → KeepsSeen log v
 keeps_counted log [] h = tt
 keeps_counted log (a ∷ v) h = (h.0, h.1, keeps_counted log v h.2)
 
@@ -84,11 +84,11 @@ keeps_parts log (a ∷ v) w h = let r = keeps_parts log v w h.2 in ((h.0, h.1, r
 pub gathered_none : Gathered [] []
 gathered_none = record { idle = tt; all = λ k h. h; keeps = λ log h. tt }
 
-pub gathered_more : (known v : List Knowledge) (a : Knowledge) → a.writes ≡ false → Gathered known v → Gathered (a ∷ known) (joined v (a ∷ []))
+pub gathered_more : (known v : List Knowledge) (a : Knowledge) → a.writes ≡ false → Gathered known v → Gathered (a ∷ known) (seats_together v (a ∷ []))
 gathered_more known v a idle g = record {
-  idle = idle_append (map counted v) (counted a ∷ []) (idle_counted v g.idle) (idle, tt);
-  all = λ k h. ⊎_elim (λ e. has_right (map counted v) (counted a ∷ []) k (inl e)) (λ m. has_left (map counted v) (counted a ∷ []) k (has_counted v k (g.all k m))) h;
-  keeps = λ log h. let p = keeps_parts log (map counted v) (counted a ∷ []) h in (p.1.0, p.1.1, g.keeps log (keeps_counted log v p.0));
+  idle = idle_append (map one_step_on v) (one_step_on a ∷ []) (idle_counted v g.idle) (idle, tt);
+  all = λ k h. ⊎_elim (λ e. has_right (map one_step_on v) (one_step_on a ∷ []) k (inl e)) (λ m. has_left (map one_step_on v) (one_step_on a ∷ []) k (has_counted v k (g.all k m))) h;
+  keeps = λ log h. let p = keeps_parts log (map one_step_on v) (one_step_on a ∷ []) h in (p.1.0, p.1.1, g.keeps log (keeps_counted log v p.0));
 }
 
 pub AllAt-parts : (id : TableId) (ss : List SeatFacts) (s : SeatFacts) → AllAt id (ss ++ s ∷ []) → AllAt id ss × (s.blank ≡ false) × (s.table ≡ id)
@@ -97,7 +97,7 @@ AllAt-parts id (x ∷ ss) s h = let r = AllAt-parts id ss s h.1 in ((h.0, r.0), 
 
 pub record Closes (limits : Limits) (known : List Knowledge) (items : List Entry) : Type 0 where
   pub legal : IsLegal items
-  pub by_passes : AllBelow limits.passes items
+  pub by_passes : AreOfPasses limits.passes items
   pub keeps : KeepsSeen items known
   pub volumes : CanSpellEach limits.pages items
 

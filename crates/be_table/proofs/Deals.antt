@@ -23,7 +23,7 @@ use Rattle.be_journal.specs.Journal.{replay}
 use Rattle.be_volume.specs.Volume.{empty}
 use Rattle.be_table.specs.Versions.{in_pages, CanSpellEach, SpellsVolume}
 use Rattle.be_table.specs.Place.{SeatFacts}
-use Rattle.be_table.specs.Rule.{ledger_places, Board, IsWithin, IsSoundBoard, AreInside, reach_at, page_at, word_place, Fits, IsAbsent, AllFit, Shows, newcomer, newcomers, everyone, counted, first_seat, other_seats, joined}
+use Rattle.be_table.specs.Rule.{ledger_places, Board, IsWithin, IsSoundBoard, AreInside, reach_at, page_at, word_place, Fits, IsAbsent, AllFit, Shows, newcomer, newcomers, everyone, one_step_on, first_seat, other_seats, seats_together}
 use Rattle.be_table.specs.Seats.{IsTold}
 use Rattle.be_table.specs.Works.{AreNewAt}
 use Rattle.be_table.proofs.Histories.{by_pass-nil, legal-nil, below-nil}
@@ -59,7 +59,7 @@ reseat limits b f i j a e h = record { number = h.number; limits_are = h.limits_
 sound_seats : (limits : Limits) (b : Board) (f : ℕ → ℕ) → IsSoundBoard limits b → IsSoundBoard limits (record b { seat_of = f })
 sound_seats limits b f s = record { within = s.within; legal = s.legal; by_passes = s.by_passes; room = s.room; page = s.page; inside = s.inside; own_pages = s.own_pages; pages = s.pages; passes = s.passes; commits = s.commits; holder = s.holder; reaches = s.reaches; machine = s.machine; spelt = s.spelt }
 
-absent_counted : (k : ℕ) (v : List Knowledge) → IsAbsent k v → IsAbsent k (map counted v)
+absent_counted : (k : ℕ) (v : List Knowledge) → IsAbsent k v → IsAbsent k (map one_step_on v)
 absent_counted k [] h = tt
 absent_counted k (a ∷ v) h = (h.0, absent_counted k v h.1)
 
@@ -72,18 +72,18 @@ absent_elsewhere : (limits : Limits) (b : Board) (i j : ℕ) (a : Knowledge) (w 
 absent_elsewhere limits b i j a [] ne fa h = tt
 absent_elsewhere limits b i j a (x ∷ w) ne fa h = (apart limits b i j a x ne fa h.0, absent_elsewhere limits b i j a w ne fa h.2)
 
-all_counted : (limits : Limits) (b d : Board) (i j : ℕ) (v : List Knowledge) → ((x : Knowledge) → Fits limits b i x → Fits limits d j x) → AllFit limits b i v → AllFit limits d j (map counted v)
+all_counted : (limits : Limits) (b d : Board) (i j : ℕ) (v : List Knowledge) → ((x : Knowledge) → Fits limits b i x → Fits limits d j x) → AllFit limits b i v → AllFit limits d j (map one_step_on v)
 all_counted limits b d i j [] f h = tt
 all_counted limits b d i j (a ∷ v) f h = (fits_counted limits d j a (f a h.0), absent_counted a.number v h.1, all_counted limits b d i j v f h.2)
 
 all_joined : (limits : Limits) (b d : Board) (i j : ℕ) (v w : List Knowledge) → j ≢ i → ((x : Knowledge) → Fits limits b i x → Fits limits d i x) → ((x : Knowledge) → Fits limits b j x → Fits limits d i x)
-    → AllFit limits b i v → AllFit limits b j w → AllFit limits d i (joined v w)
+    → AllFit limits b i v → AllFit limits b j w → AllFit limits d i (seats_together v w)
 all_joined limits b d i j [] w ne f g h k = all_counted limits b d j i w g k
 all_joined limits b d i j (a ∷ v) w ne f g h k =
-    (fits_counted limits d i a (f a h.0), absent_append a.number (map counted v) (map counted w) (absent_counted a.number v h.1) (absent_counted a.number w (absent_elsewhere limits b i j a w ne h.0 k)), all_joined limits b d i j v w ne f g h.2 k)
+    (fits_counted limits d i a (f a h.0), absent_append a.number (map one_step_on v) (map one_step_on w) (absent_counted a.number v h.1) (absent_counted a.number w (absent_elsewhere limits b i j a w ne h.0 k)), all_joined limits b d i j v w ne f g h.2 k)
 
 -- the others of a list in which a pass is absent
-all_others : (limits : Limits) (b d : Board) (i k : ℕ) (v : List Knowledge) → ((x : Knowledge) → x.number ≢ k → Fits limits b i x → Fits limits d i x) → IsAbsent k v → AllFit limits b i v → AllFit limits d i (map counted v)
+all_others : (limits : Limits) (b d : Board) (i k : ℕ) (v : List Knowledge) → ((x : Knowledge) → x.number ≢ k → Fits limits b i x → Fits limits d i x) → IsAbsent k v → AllFit limits b i v → AllFit limits d i (map one_step_on v)
 all_others limits b d i k [] f n h = tt
 all_others limits b d i k (a ∷ v) f n h = (fits_counted limits d i a (f a n.0 h.0), absent_counted a.number v h.1, all_others limits b d i k v f n.1 h.2)
 
@@ -94,18 +94,18 @@ module _ (limits : Limits) where
       let n = length s.views in
       let d : Board = record b { seat_of = moved a.number n b.seat_of } in
       let f = t.views i (a ∷ v) at in
-      let changed = views_change limits b d s.views i (a ∷ v) (map counted v) t.views at
+      let changed = views_change limits b d s.views i (a ∷ v) (map one_step_on v) t.views at
       (λ j x ne fx. reseat limits b d.seat_of j j x (choose_else x.number a.number n (b.seat_of x.number) (apart limits b i j a x ne f.0 fx) ∙ fx.seat_is) fx)
       (λ all. all_others limits b d i a.number v (λ x ne fx. reseat limits b d.seat_of i i x (choose_else x.number a.number n (b.seat_of x.number) ne ∙ fx.seat_is) fx) all.1 all.2) in
-      let sized : length (set s.views i (map counted v)) ≡ n = length-set s.views i (map counted v) in
-      let new : AllFit limits d n (counted a ∷ []) = (fits_counted limits d n a (reseat limits b d.seat_of i n a (choose_then a.number a.number n (b.seat_of a.number) refl) f.0), tt, tt) in (
+      let sized : length (set s.views i (map one_step_on v)) ≡ n = length-set s.views i (map one_step_on v) in
+      let new : AllFit limits d n (one_step_on a ∷ []) = (fits_counted limits d n a (reseat limits b d.seat_of i n a (choose_then a.number a.number n (b.seat_of a.number) refl) f.0), tt, tt) in (
         d,
         record {
           table = record { words = t.table.words; home = t.table.home; version = t.table.version };
           sound = sound_seats limits b d.seat_of t.sound;
           views = λ j u e. ⊎_elim (λ there. changed j u there)
-              (λ (p : (j ≡ length (set s.views i (map counted v))) × (counted a ∷ [] ≡ u)). subst (λ (q : ℕ × List Knowledge). AllFit limits d q.0 q.1) (λ k. (sym (p.0 ∙ sized) k, p.1 k)) new)
-              (at_snoc_place (set s.views i (map counted v)) (counted a ∷ []) u j e);
+              (λ (p : (j ≡ length (set s.views i (map one_step_on v))) × (one_step_on a ∷ [] ≡ u)). subst (λ (q : ℕ × List Knowledge). AllFit limits d q.0 q.1) (λ k. (sym (p.0 ∙ sized) k, p.1 k)) new)
+              (at_snoc_place (set s.views i (map one_step_on v)) (one_step_on a ∷ []) u j e);
         },
         refl,
         refl,
@@ -118,7 +118,7 @@ module _ (limits : Limits) where
   pub join_by : (i : ℕ) (v : List Knowledge) (other : ℕ) (w : List Knowledge) → JoinIsNoEvent limits i v other w
   join_by i v other w s b t at ne there =
       let d : Board = record b { seat_of = gathered other i b.seat_of } in
-      let was : get_elem? s.views other ≡ some w = sym (set_else s.views i other (joined v w) ne) ∙ there in
+      let was : get_elem? s.views other ≡ some w = sym (set_else s.views i other (seats_together v w) ne) ∙ there in
       let to_i = λ (x : Knowledge) (fx : Fits limits b other x). reseat limits b d.seat_of other i x (choose_then (b.seat_of x.number) other i (b.seat_of x.number) fx.seat_is) fx in
       let stay = λ (j : ℕ) (x : Knowledge) (apart_from : j ≢ other) (fx : Fits limits b j x). reseat limits b d.seat_of j j x (choose_else (b.seat_of x.number) other i (b.seat_of x.number) (λ q. apart_from (sym fx.seat_is ∙ q)) ∙ fx.seat_is) fx in (
         d,
@@ -127,17 +127,17 @@ module _ (limits : Limits) where
           sound = sound_seats limits b d.seat_of t.sound;
           views = λ j u e. ⊎_elim
               (λ (p : (j ≡ other) × ([] ≡ u)). subst (AllFit limits d j) p.1 tt)
-              (λ (p : (j ≢ other) × (get_elem? (set s.views i (joined v w)) j ≡ some u)). ⊎_elim
-              (λ (q : (j ≡ i) × (joined v w ≡ u)). subst (λ (r : ℕ × List Knowledge). AllFit limits d r.0 r.1) (λ k. (sym q.0 k, q.1 k)) (all_joined limits b d i other v w ne (λ x fx. stay i x (λ q'. ne (sym q')) fx) to_i (t.views i v at) (t.views other w was)))
+              (λ (p : (j ≢ other) × (get_elem? (set s.views i (seats_together v w)) j ≡ some u)). ⊎_elim
+              (λ (q : (j ≡ i) × (seats_together v w ≡ u)). subst (λ (r : ℕ × List Knowledge). AllFit limits d r.0 r.1) (λ k. (sym q.0 k, q.1 k)) (all_joined limits b d i other v w ne (λ x fx. stay i x (λ q'. ne (sym q')) fx) to_i (t.views i v at) (t.views other w was)))
               (λ (q : (j ≢ i) × (get_elem? s.views j ≡ some u)). all_fit limits b d j u (λ x fx. stay j x p.0 fx) (t.views j u q.1))
-              (at_set s.views i j (joined v w) u p.1))
-              (at_set (set s.views i (joined v w)) other j [] u e);
+              (at_set s.views i j (seats_together v w) u p.1))
+              (at_set (set s.views i (seats_together v w)) other j [] u e);
         },
         refl,
         refl,
       )
 
-  pub joins : (i : ℕ) (v : List Knowledge) (other : ℕ) (w : List Knowledge) → Joins (Shows limits) i v other w (joined v w) []
+  pub joins : (i : ℕ) (v : List Knowledge) (other : ℕ) (w : List Knowledge) → Joins (Shows limits) i v other w (seats_together v w) []
   joins i v other w s h at ne there = let d = join_by i v other w s h.0 h.1 at ne there in (d.0, d.1)
 
 -- the passes from k on are all different
@@ -228,7 +228,7 @@ pub newcomers-first : (limits : Limits) (t k n : ℕ) → first_seat (newcomers 
 unfolding newcomers
 newcomers-first limits t k n = refl
 
-newcomers-counted : (limits : Limits) (t k n : ℕ) → map counted (newcomers limits t k n) ≡ newcomers limits (t + 1) k n
+newcomers-counted : (limits : Limits) (t k n : ℕ) → map one_step_on (newcomers limits t k n) ≡ newcomers limits (t + 1) k n
 unfolding newcomers
 newcomers-counted limits t k zero = refl
 newcomers-counted limits t k (suc n) = ap (λ v. newcomer limits (t + 1) k ∷ v) (newcomers-counted limits t (suc k) n)

@@ -17,10 +17,10 @@ use Rattle.be_table.specs.declared.pass.Commit.{Commit}
 use Rattle.be_table.specs.declared.pass.Knowledge.{Knowledge}
 use Rattle.be_journal.specs.declared.entries.Entry.{Entry}
 use Rattle.be_journal.specs.Journal.{by_pass, replay}
-use Rattle.be_table.specs.History.{StartsWith, AllBelow}
-use Rattle.be_table.specs.Rule.{Board, entries, nothing, reach_at, page_at, lock_word, announce_word, word_place, PagesAgree, is_holder, holder_of, WordsAgree, IsHome, IsWithin, ReachesAgree, AreInside, IsSoundBoard, Holds, ImageIs, Fits, AllFit, ViewsFit, Stands, counted}
+use Rattle.be_table.specs.History.{StartsWith, AreOfPasses}
+use Rattle.be_table.specs.Rule.{Board, entries, nothing, reach_at, page_at, lock_word, announce_word, word_place, PagesAgree, is_holder, known_holder, WordsAgree, IsHome, IsWithin, ReachesAgree, AreInside, IsSoundBoard, Holds, ImageIs, Fits, AllFit, ViewsFit, Stands, one_step_on}
 use Rattle.be_table.specs.Steps.{IsPass, finds_held}
-use Rattle.be_table.specs.Reading.{word_in}
+use Rattle.be_table.specs.Reading.{word_of_page}
 use Rattle.be_table.specs.Versions.{in_pages, CanSpell, CanSpellEach, SpellsVolume}
 use Rattle.be_table.proofs.Histories.{legal-front, below-front}
 use Rattle.be_table.proofs.Versions.{spells_same, clipped, take_front}
@@ -54,7 +54,7 @@ pub views_step : (limits : Limits) (b d : Board) (views : List (List Knowledge))
 views_step limits b d views i a c h at others mine =
     views_change limits b d views i (a ∷ []) (c ∷ []) h at (λ j x ne fx. others j x (apart limits b i j a x ne (h i (a ∷ []) at).0 fx) fx) (λ f. (mine, tt, tt))
 
-pub fits_counted : (limits : Limits) (b : Board) (i : ℕ) (a : Knowledge) → Fits limits b i a → Fits limits b i (counted a)
+pub fits_counted : (limits : Limits) (b : Board) (i : ℕ) (a : Knowledge) → Fits limits b i a → Fits limits b i (one_step_on a)
 fits_counted limits b i a f = record { number = f.number; limits_are = f.limits_are; seat_is = f.seat_is; seen = f.seen; mine = f.mine; own = f.own; writes = f.writes; whole = λ t. let h = f.whole t in record { log = h.log; holder = h.holder; turn = h.turn; count = h.count; shown = h.shown; size = h.size; words = h.words }; phase = f.phase; pin = f.pin; image = f.image }
 
 pub fits_late : (limits : Limits) (b : Board) (i n : ℕ) (a : Knowledge) → Fits limits b i a → Fits limits b i (finds_held a n)
@@ -103,13 +103,13 @@ spelt_front log seen words s n le h =
     subst (λ (q : List ℕ × ℕ × List Entry). SpellsVolume q.0 words q.1 (replay q.2)) (λ k. (reach-front log seen s n le k, page-front log seen s n le k, front k)) h
 
 -- the image of a pinned version spells the volume
-pinned_spelt : (limits : Limits) (b : Board) (i : ℕ) (a : Knowledge) → IsSoundBoard limits b → Fits limits b i a → (x n : ℕ) → a.phase ≡ Pinned x n → SpellsVolume (reach_at a.seen n) (word_in a.image) (page_at a.seen n) (replay (take n (entries a.seen)))
+pinned_spelt : (limits : Limits) (b : Board) (i : ℕ) (a : Knowledge) → IsSoundBoard limits b → Fits limits b i a → (x n : ℕ) → a.phase ≡ Pinned x n → SpellsVolume (reach_at a.seen n) (word_of_page a.image) (page_at a.seen n) (replay (take n (entries a.seen)))
 pinned_spelt limits b i a s f x n e =
     let low : (x ≤ n) × (n ≤ length a.seen) = subst (InTime (length a.seen)) e f.pin in
     let late : (x ≤ n) × (n ≤ b.world.current) = subst (InTime b.world.current) (f.phase ∙ e) (s.machine.in_time a.number) in
     let l = longer_seen b.log a.seen f.seen in
-    spelt_front b.log a.seen (word_in a.image) f.seen n low.1
-    (spells_same (reach_at b.log n) (in_pages (b.world.image n)) (word_in a.image) (page_at b.log n) (replay (take n (entries b.log)))
+    spelt_front b.log a.seen (word_of_page a.image) f.seen n low.1
+    (spells_same (reach_at b.log n) (in_pages (b.world.image n)) (word_of_page a.image) (page_at b.log n) (replay (take n (entries b.log)))
     (λ q r. clipped (λ j. slice_index a.image (word_place q j)) (b.world.image n q) (λ j lt. f.image x n q j e (subst IsTrue (sym (s.reaches n q late.1)) r) lt))
     (s.spelt n (omega (arith, low.1, l))))
 
@@ -136,7 +136,7 @@ is_pass limits b i a s f = record {
   within = subst IsWithin (sym f.limits_are) s.within;
   legal = legal-front (entries b.log) (entries a.seen) (entries-start b.log a.seen f.seen) s.legal;
   number_below = subst (λ (l : Limits). a.number < l.passes) (sym f.limits_are) f.number;
-  by_passes = subst (λ (l : Limits). AllBelow l.passes (entries a.seen)) (sym f.limits_are) (below-front limits.passes (entries b.log) (entries a.seen) (entries-start b.log a.seen f.seen) s.by_passes);
+  by_passes = subst (λ (l : Limits). AreOfPasses l.passes (entries a.seen)) (sym f.limits_are) (below-front limits.passes (entries b.log) (entries a.seen) (entries-start b.log a.seen f.seen) s.by_passes);
   room = subst (λ (l : Limits). length a.seen ≤ l.commits) (sym f.limits_are) (let w = s.room in let l = longer_seen b.log a.seen f.seen in omega arith);
   inside = subst (λ (l : Limits). AreInside l.pages a.seen) (sym f.limits_are) (inside-front limits.pages b.log a.seen f.seen s.inside);
   own_pages = λ n le. subst (λ (q : List ℕ × ℕ). IsTrue (has q.0 q.1)) (λ k. (reach-front b.log a.seen f.seen n le k, page-front b.log a.seen f.seen n le k)) (s.own_pages n (let l = longer_seen b.log a.seen f.seen in omega arith));
@@ -222,8 +222,8 @@ module _ (w : World) (page : ℕ) (ws : List ℕ) (h : WordsAgree w page ws) whe
 -- ## What the other passes know
 
 -- a pass other than the holder does not hold
-pub not_holder : (b : Board) (a x : Knowledge) → x.number ≢ a.number → b.world.holder ≡ Some (holder_of a) → Holds b x → ⊥
-not_holder b a x ne is h = let same : holder_of a ≡ holder_of x = (let e : Some (holder_of a) ≡ Some (holder_of x) = sym is ∙ h.holder in some_same (holder_of a) (holder_of x) e) in ne (sym (ap (λ (g : Holder). g.pass) same))
+pub not_holder : (b : Board) (a x : Knowledge) → x.number ≢ a.number → b.world.holder ≡ Some (known_holder a) → Holds b x → ⊥
+not_holder b a x ne is h = let same : known_holder a ≡ known_holder x = (let e : Some (known_holder a) ≡ Some (known_holder x) = sym is ∙ h.holder in some_same (known_holder a) (known_holder x) e) in ne (sym (ap (λ (g : Holder). g.pass) same))
   where
     some_same : (g k : Holder) → Some g ≡ Some k → g ≡ k
     some_same g k e = cc

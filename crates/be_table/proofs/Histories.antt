@@ -7,7 +7,7 @@ use Rattle.be_journal.specs.Journal.{replay, IsLegal, by_pass, Agrees, HasOperat
 use Rattle.be_journal.proofs.LegalLemmas.{legal_push, legal_front}
 use Rattle.std.proofs.lemmas.List.{get_or_append_left}
 use Rattle.std.proofs.lemmas.List.Elements.{All-nil, All-push}
-use Rattle.be_table.specs.History.{StartsWith, AllBelow, IsHistory}
+use Rattle.be_table.specs.History.{StartsWith, AreOfPasses, IsHistory}
 
 pub starts_itself : {A : Type 0} (log : List A) → StartsWith log log
 starts_itself log = ([], sym (append-nil log))
@@ -34,22 +34,22 @@ pub is_legal : (log : List Entry) → IsHistory log → IsLegal log
 unfolding IsHistory
 is_legal log l = l.0
 
-pub below-nil : (passes : ℕ) → AllBelow passes []
-unfolding AllBelow
+pub below-nil : (passes : ℕ) → AreOfPasses passes []
+unfolding AreOfPasses
 below-nil passes = tt
 
-pub below-push : (passes : ℕ) (log : List Entry) (e : Entry) → AllBelow passes log → e.by < passes → AllBelow passes (log ++ e ∷ [])
-unfolding AllBelow
+pub below-push : (passes : ℕ) (log : List Entry) (e : Entry) → AreOfPasses passes log → e.by < passes → AreOfPasses passes (log ++ e ∷ [])
+unfolding AreOfPasses
 below-push passes [] e b h = (h, tt)
 below-push passes (x ∷ log) e b h = (b.0, below-push passes log e b.1 h)
 
-below_append : (passes : ℕ) (log more : List Entry) → AllBelow passes (log ++ more) → AllBelow passes log
-unfolding AllBelow
+below_append : (passes : ℕ) (log more : List Entry) → AreOfPasses passes (log ++ more) → AreOfPasses passes log
+unfolding AreOfPasses
 below_append passes [] more b = tt
 below_append passes (x ∷ log) more b = (b.0, below_append passes log more b.1)
 
-pub below-front : (passes : ℕ) (log seen : List Entry) → StartsWith log seen → AllBelow passes log → AllBelow passes seen
-below-front passes log seen s b = below_append passes seen s.0 (subst (AllBelow passes) s.1 b)
+pub below-front : (passes : ℕ) (log seen : List Entry) → StartsWith log seen → AreOfPasses passes log → AreOfPasses passes seen
+below-front passes log seen s b = below_append passes seen s.0 (subst (AreOfPasses passes) s.1 b)
 
 pub by_pass-nil : (k : ℕ) → by_pass k [] ≡ []
 by_pass-nil k = refl

@@ -18,7 +18,7 @@ use Rattle.be_table.specs.declared.pass.Knowledge.{Knowledge}
 use Rattle.be_table.specs.Laws.{AllowsBy, NoEvent, IsFill, IsReturn, IsScan}
 use Rattle.be_pages.specs.Place.{place_of, is_in_hand, is_held_page, given_place, swept_place}
 use Rattle.be_table.specs.Ledger.{shows_taken, shows_free, retired_with}
-use Rattle.be_table.specs.Rule.{Board, page_at, reach_at, announce_word, word_place, holder_of, WordsAgree, Holds, Fits, Stands, Shows, counted}
+use Rattle.be_table.specs.Rule.{Board, page_at, reach_at, announce_word, word_place, known_holder, WordsAgree, Holds, Fits, Stands, Shows, one_step_on}
 use Rattle.be_table.specs.Steps.{fills, takes_page, gives_up, least_found, least_then, pages_from, scans_on, scans_out, scans, MayBeFilled, OwnRead, FilledAt, FilledFound, PageTaken, PageGivenUp, Scanned}
 use Rattle.be_table.proofs.Frames.{Table, Me1, views_step, fits_counted, words_load, words_fill, pages_fill, same_place, not_holder, fits_world, sound_world}
 use Rattle.be_table.proofs.Moves.{forget}
@@ -31,16 +31,16 @@ works a scanned least places words held = record a { scanned = scanned; least = 
 
 module _ (limits : Limits) (s : Table) (b0 : Board) (i : ℕ) (a : Knowledge) where
   abbrev b : Board
-  b = held_by b0 (Some (holder_of a))
+  b = held_by b0 (Some (known_holder a))
 
   -- the machine's holder, sets and words change
   pub stands_held : Stands limits s b → get_elem? s.views i ≡ some (a ∷ []) → (scanned least : ℕ) (places : List Place) (known held : List ℕ) (free taken : ℕ → Bool) (retired : ℕ → Option ℕ) (words : ℕ → ℕ → ℕ) (ws : List ℕ)
-      → let c = works a scanned least places known held in let w : World = record b.world { holder = Some (holder_of c); free = free; taken = taken; retired = retired; words = words } in
+      → let c = works a scanned least places known held in let w : World = record b.world { holder = Some (known_holder c); free = free; taken = taken; retired = retired; words = words } in
       WordsAgree w (page_at b.log (length b.log)) ws → Sound w → Holds (record b { world = w }) c
       → Stands limits (record { words = ws; homes = s.homes; views = set s.views i (c ∷ []) }) (record b { world = w })
   stands_held h at scanned least places known held free taken retired words ws agree sound holds =
       let c = works a scanned least places known held in
-      let w : World = record b.world { holder = Some (holder_of c); free = free; taken = taken; retired = retired; words = words } in
+      let w : World = record b.world { holder = Some (known_holder c); free = free; taken = taken; retired = retired; words = words } in
       let fa = (h.views i (a ∷ []) at).0 in
       let fc : Fits limits (record b { world = w }) i c = record { number = fa.number; limits_are = fa.limits_are; seat_is = fa.seat_is; seen = fa.seen; mine = fa.mine; own = fa.own; writes = fa.writes; whole = λ _. holds; phase = fa.phase; pin = fa.pin; image = fa.image } in
       record {
@@ -74,7 +74,7 @@ module _ (limits : Limits) (slots i : ℕ) (a : Knowledge) (carried : List (ℕ 
       let fa = (h.views i (a ∷ []) at).0 in
       let m = fa.whole writes in
       let inside : p < b.world.pages = rw h.sound.pages (rw fa.limits_are at lp) in (
-        counted a ∷ [],
+        one_step_on a ∷ [],
         keeps,
         tt,
         (
@@ -82,7 +82,7 @@ module _ (limits : Limits) (slots i : ℕ) (a : Knowledge) (carried : List (ℕ 
           record {
             table = record { words = words_load b.world (page_at b.log (length b.log)) s.words t.words (word_place p j); home = t.home; version = t.version };
             sound = h.sound;
-            views = views_step limits b b s.views i a (counted a) h.views at (λ j x _ f. f) (fits_counted limits b i a fa);
+            views = views_step limits b b s.views i a (one_step_on a) h.views at (λ j x _ f. f) (fits_counted limits b i a fa);
           },
           refl,
         ),
@@ -93,7 +93,7 @@ module _ (limits : Limits) (slots i : ℕ) (a : Knowledge) (carried : List (ℕ 
       → AllowsBy limits slots i (a ∷ [], carried) (word_place p j) (λ _. x) (IsFill a.number p j x) (λ _. FilledAt (step slots (word_place p j) x 0 none) (a ∷ [], carried) x)
   fill_by p j x writes unpublished may lj s b0 h0 sized at fits =
       let work = at_work limits s b0 i a h0 at writes in
-      let b : Board = held_by b0 (Some (holder_of a)) in
+      let b : Board = held_by b0 (Some (known_holder a)) in
       let h = work.0 in
       let m = work.1 in
       let v = b.world in
@@ -108,7 +108,7 @@ module _ (limits : Limits) (slots i : ℕ) (a : Knowledge) (carried : List (ℕ 
           record b { world = w },
           stands_held limits s b0 i a h at a.scanned a.least (slice_set a.places p Filled) (slice_set a.words (word_place p j) x) a.held w.free w.taken w.retired w.words (set s.words (word_place p j) x)
               (words_fill v (page_at b.log (length b.log)) s.words h.table.words p j x lp lj few)
-              (after_fill-sound v h.sound.machine p in_hand j x (holder_of a, refl))
+              (after_fill-sound v h.sound.machine p in_hand j x (known_holder a, refl))
               (record {
                 log = m.log;
                 holder = refl;
@@ -118,7 +118,7 @@ module _ (limits : Limits) (slots i : ℕ) (a : Knowledge) (carried : List (ℕ 
                 size = length-set a.words (word_place p j) x ∙ m.size;
                 words = pages_fill v.pages v.words a.words p j x m.size lp lj m.words;
               }),
-          unheld_by b0.world (holder_of a) (λ u. IsFill a.number p j x 0 u w) ((h0.views i (a ∷ []) at).0.whole writes).holder ((lp, lj, (holder_of a, (refl, refl, unpublished)), in_hand), refl),
+          unheld_by b0.world (known_holder a) (λ u. IsFill a.number p j x 0 u w) ((h0.views i (a ∷ []) at).0.whole writes).holder ((lp, lj, (known_holder a, (refl, refl, unpublished)), in_hand), refl),
         ),
         (λ q k e lk. let z = same_place p j q k lj lk e in ap (λ (y : ℕ × ℕ). (fills a y.0 y.1 x ∷ [], carried)) (λ o. (z.0 o, z.1 o))),
       )
@@ -129,7 +129,7 @@ module _ (limits : Limits) (slots i : ℕ) (a : Knowledge) (carried : List (ℕ 
   found_by p j writes unpublished may lj s b0 h0 sized at fits =
       let y = fill_by p j (slice_index s.words (word_place p j)) writes unpublished may lj s b0 h0 sized at fits in
       let work = at_work limits s b0 i a h0 at writes in
-      let b : Board = held_by b0 (Some (holder_of a)) in
+      let b : Board = held_by b0 (Some (known_holder a)) in
       let m = work.1 in
       let lp : p < b.world.pages = omega (arith, may.0, m.count) in
       (y.0, y.1, y.2, y.3, (y.4, work.0.table.words.pages p j lp lj ∙ sym (m.words p j lp lj)))
@@ -139,7 +139,7 @@ module _ (limits : Limits) (slots i : ℕ) (a : Knowledge) (carried : List (ℕ 
       → let c : Knowledge = record a { places = slice_set a.places p x; steps = a.steps + 1 } in AllowsBy limits slots i (a ∷ [], carried) (word_place p 0) (λ n. n) NoEvent (λ n r. r ≡ (c ∷ [], carried))
   note_by p x writes lp free taken retired s b0 h0 sized at fits =
       let work = at_work limits s b0 i a h0 at writes in
-      let b : Board = held_by b0 (Some (holder_of a)) in
+      let b : Board = held_by b0 (Some (known_holder a)) in
       let h = work.0 in
       let m = work.1 in
       let v = b.world in
@@ -170,7 +170,7 @@ module _ (limits : Limits) (slots i : ℕ) (a : Knowledge) (carried : List (ℕ 
       → let c : Knowledge = record a { places = slice_set a.places p Free; steps = a.steps + 1 } in AllowsBy limits slots i (a ∷ [], carried) (word_place p 0) (λ n. n) (IsReturn p) (λ n r. r ≡ (c ∷ [], carried))
   back_by p writes lp filled s b0 h0 sized at fits =
       let work = at_work limits s b0 i a h0 at writes in
-      let b : Board = held_by b0 (Some (holder_of a)) in
+      let b : Board = held_by b0 (Some (known_holder a)) in
       let h = work.0 in
       let m = work.1 in
       let v = b.world in
@@ -194,7 +194,7 @@ module _ (limits : Limits) (slots i : ℕ) (a : Knowledge) (carried : List (ℕ 
                 size = m.size;
                 words = m.words;
               }),
-          unheld_by b0.world (holder_of a) (λ u. IsReturn p 0 u w) ((h0.views i (a ∷ []) at).0.whole writes).holder (in_hand, refl),
+          unheld_by b0.world (known_holder a) (λ u. IsReturn p 0 u w) ((h0.views i (a ∷ []) at).0.whole writes).holder (in_hand, refl),
         ),
         refl,
       )
@@ -238,7 +238,7 @@ module _ (limits : Limits) (slots i : ℕ) (a : Knowledge) (carried : List (ℕ 
   pub scan_by : a.writes ≡ true → a.published ≡ false → AllowsBy limits slots i (a ∷ [], carried) (16 + 8 * a.scanned) (λ n. n) (IsScan a.number a.scanned) (Scanned (step slots (16 + 8 * a.scanned) 0 0 none) (a ∷ [], carried))
   scan_by writes unpublished s b0 h0 sized at fits =
       let work = at_work limits s b0 i a h0 at writes in
-      let b : Board = held_by b0 (Some (holder_of a)) in
+      let b : Board = held_by b0 (Some (known_holder a)) in
       let h = work.0 in
       let m = work.1 in
       let v = b.world in
@@ -247,14 +247,14 @@ module _ (limits : Limits) (slots i : ℕ) (a : Knowledge) (carried : List (ℕ 
       let n = slice_index s.words (16 + 8 * j) in
       let t = words_load v (page_at b.log (length b.log)) s.words h.table.words (16 + 8 * j) in
       let passes : a.limits.passes ≡ v.passes = ap (λ (l : Limits). l.passes) fa.limits_are ∙ sym h.sound.passes in
-      let least : least_after v (holder_of a) j ≡ least_then a n = least-found (if j == 0 then v.current else a.least) (v.phases j) ∙ least-plain (j == 0) v.current (length a.seen) a.least (announce_word (v.phases j)) n (h.table.version ∙ ap length (sym m.log)) (sym (h.table.words.announced j m.turn)) in
+      let least : least_after v (known_holder a) j ≡ least_then a n = least-found (if j == 0 then v.current else a.least) (v.phases j) ∙ least-plain (j == 0) v.current (length a.seen) a.least (announce_word (v.phases j)) n (h.table.version ∙ ap length (sym m.log)) (sym (h.table.words.announced j m.turn)) in
       let is = ((h0.views i (a ∷ []) at).0.whole writes).holder in
       let mine = λ (own : j ≡ a.number). h.table.words.announced j m.turn ∙ (ap (λ k. announce_word (v.phases k)) own ∙ ap announce_word fa.phase) in
       elim (eqb_tells (suc j) v.passes) [
         | inl y ↦
             let c = scans_out a n in
-            let w : World = swept (record v { holder = Some (holder_of c) }) (least_then a n) in
-            let event : w ≡ after_scan v j = rw y.0 (ap (λ l. swept (record v { holder = Some record (holder_of a) { scanned = 0; least = l } }) l) (sym least)) in (
+            let w : World = swept (record v { holder = Some (known_holder c) }) (least_then a n) in
+            let event : w ≡ after_scan v j = rw y.0 (ap (λ l. swept (record v { holder = Some record (known_holder a) { scanned = 0; least = l } }) l) (sym least)) in (
               scans a n ∷ [],
               keeps,
               tt,
@@ -263,7 +263,7 @@ module _ (limits : Limits) (slots i : ℕ) (a : Knowledge) (carried : List (ℕ 
                 subst (λ x. Stands limits (stepped s (16 + 8 * j) n i carried (x ∷ []) keeps) (record b { world = w })) (sym (chosen_out passes y.0 n))
                     (stands_held limits s b0 i a h at 0 (least_then a n) (map (swept_place (least_then a n)) a.places) a.words (pages_from is_in_hand 0 a.places) w.free w.taken w.retired w.words (set s.words (16 + 8 * j) n)
                     (record { size = t.size; lock = t.lock; current = t.current; announced = t.announced; pages = t.pages })
-                    (subst Sound (λ k. swept (record v { holder = Some record (holder_of a) { scanned = 0; least = least k } }) (least k)) (whole-sound v h.sound.machine (holder_of a) a.number j (refl, refl, unpublished) refl y.1))
+                    (subst Sound (λ k. swept (record v { holder = Some record (known_holder a) { scanned = 0; least = least k } }) (least k)) (whole-sound v h.sound.machine (known_holder a) a.number j (refl, refl, unpublished) refl y.1))
                     (record {
                       log = m.log;
                       holder = refl;
@@ -273,7 +273,7 @@ module _ (limits : Limits) (slots i : ℕ) (a : Knowledge) (carried : List (ℕ 
                       size = m.size;
                       words = m.words;
                     })),
-                unheld_by b0.world (holder_of a) (λ u. IsScan a.number j n u w) is ((m.turn, (holder_of a, (refl, refl, unpublished), refl)), event),
+                unheld_by b0.world (known_holder a) (λ u. IsScan a.number j n u w) is ((m.turn, (known_holder a, (refl, refl, unpublished), refl)), event),
               ),
               (
                 refl,
@@ -282,7 +282,7 @@ module _ (limits : Limits) (slots i : ℕ) (a : Knowledge) (carried : List (ℕ 
                     let z = shows-sweep a.places v m.shown l in
                     let count = length-map a.places (swept_place l) in
                     let inside : p < v.pages = omega (arith, lp, count, m.count) in
-                    let x = all_swept v h.sound.machine (holder_of a) a.number j (refl, refl, unpublished) refl y.1 p inside
+                    let x = all_swept v h.sound.machine (known_holder a) a.number j (refl, refl, unpublished) refl y.1 p inside
                     (λ o lo hi. h.sound.reaches o p hi ∙ ap (λ g. has (reach_at g o) p) (sym m.log) ∙ un o (subst (λ q. q ≤ o) least lo) (let q = ap length m.log in let g = h.table.version in omega arith)) in
                     rw (z.free p, z.taken p) at (subst (λ l. IsTrue ((v.free p || is_below l (v.retired p)) || v.taken p)) least x),
                 mine,
@@ -290,8 +290,8 @@ module _ (limits : Limits) (slots i : ℕ) (a : Knowledge) (carried : List (ℕ 
             )
         | inr y ↦
             let c = scans_on a n in
-            let w : World = record v { holder = Some (holder_of c) } in
-            let event : w ≡ after_scan v j = rw y.0 (ap (λ l. record v { holder = Some record (holder_of a) { scanned = suc j; least = l } }) (sym least)) in (
+            let w : World = record v { holder = Some (known_holder c) } in
+            let event : w ≡ after_scan v j = rw y.0 (ap (λ l. record v { holder = Some record (known_holder a) { scanned = suc j; least = l } }) (sym least)) in (
               scans a n ∷ [],
               keeps,
               tt,
@@ -300,7 +300,7 @@ module _ (limits : Limits) (slots i : ℕ) (a : Knowledge) (carried : List (ℕ 
                 subst (λ x. Stands limits (stepped s (16 + 8 * j) n i carried (x ∷ []) keeps) (record b { world = w })) (sym (chosen_on passes y.0 n))
                     (stands_held limits s b0 i a h at (suc j) (least_then a n) a.places a.words a.held w.free w.taken w.retired w.words (set s.words (16 + 8 * j) n)
                     (record { size = t.size; lock = t.lock; current = t.current; announced = t.announced; pages = t.pages })
-                    (subst Sound (λ k. record v { holder = Some record (holder_of a) { scanned = suc j; least = least k } }) (part-sound v h.sound.machine (holder_of a) a.number j (refl, refl, unpublished) refl))
+                    (subst Sound (λ k. record v { holder = Some record (known_holder a) { scanned = suc j; least = least k } }) (part-sound v h.sound.machine (known_holder a) a.number j (refl, refl, unpublished) refl))
                     (record {
                       log = m.log;
                       holder = refl;
@@ -310,7 +310,7 @@ module _ (limits : Limits) (slots i : ℕ) (a : Knowledge) (carried : List (ℕ 
                       size = m.size;
                       words = m.words;
                     })),
-                unheld_by b0.world (holder_of a) (λ u. IsScan a.number j n u w) is ((m.turn, (holder_of a, (refl, refl, unpublished), refl)), event),
+                unheld_by b0.world (known_holder a) (λ u. IsScan a.number j n u w) is ((m.turn, (known_holder a, (refl, refl, unpublished), refl)), event),
               ),
               (refl, λ last. absurd (y.1 (last ∙ passes)), mine),
             )

@@ -18,7 +18,7 @@ use Rattle.be_volume.specs.Volume.{State}
 use Rattle.be_table.specs.Ledger.{is_of_next}
 use Rattle.be_table.specs.declared.pass.Knowledge.{Knowledge}
 use Rattle.be_table.specs.Place.{Work}
-use Rattle.be_table.specs.Reading.{open_of, standing_at, standing_in, standing_of, word_in, words_of}
+use Rattle.be_table.specs.Reading.{open_of, standing_at, standing_among, standing_in_work, word_of_page, words_of}
 use Rattle.be_table.specs.Rule.{reach_at}
 use Rattle.be_table.specs.Steps.{pages_from}
 use Rattle.be_table.specs.Versions.{at_start, SpellsVolume}
@@ -36,28 +36,28 @@ nowhere : (b : Bool) → (at_start false ≡ after_keep (if b then Nowhere else 
 nowhere true = (refl, refl)
 nowhere false = (refl, refl)
 
-module _ (xs : List Place) (few : length xs ≤ 16384) (none : (q : ℕ) → standing_in xs q ≢ Taken) where
+module _ (xs : List Place) (few : length xs ≤ 16384) (none : (q : ℕ) → standing_among xs q ≢ Taken) where
   -- a page of the new version is one that the write keeps
-  kept_at : (q : ℕ) → (at_start (has (pages_from is_of_next 0 xs) q) ≡ after_keep (standing_in xs q)) × (has (pages_from is_of_next 0 xs) q ≡ stands_kept (standing_in xs q))
+  kept_at : (q : ℕ) → (at_start (has (pages_from is_of_next 0 xs) q) ≡ after_keep (standing_among xs q)) × (has (pages_from is_of_next 0 xs) q ≡ stands_kept (standing_among xs q))
   kept_at q = elim (cases_lt q (length xs)) [
     | inl lt ↦
         let in_range : nat_lt q 16384 ≡ true = lt-ltb q 16384 (omega (arith, lt, few)) in
         let place : slice_index_or xs q Free ≡ place_of xs q = get_or_default xs q Free Current lt in
-        let stands : standing_in xs q ≡ standing_at (place_of xs q) = rw (in_range, place) refl in
+        let stands : standing_among xs q ≡ standing_at (place_of xs q) = rw (in_range, place) refl in
         rw (listed is_of_next xs q, tested is_of_next xs q lt, stands) (by_place (place_of xs q) (λ e. none q (stands ∙ e)))
     | inr le ↦ rw (listed is_of_next xs q, untested is_of_next xs q le, get_or_past xs q Free le) (nowhere (nat_lt q 16384))
   ]
 
-  pub spells_kept : (words : ℕ → ℕ → ℕ) (page : ℕ) (volume : State) → IsVersion (standing_in xs) words page volume → ((q : ℕ) → times q (reach words page) ≡ bit (stands_kept (standing_in xs q))) → SpellsVolume (pages_from is_of_next 0 xs) words page volume
+  pub spells_kept : (words : ℕ → ℕ → ℕ) (page : ℕ) (volume : State) → IsVersion (standing_among xs) words page volume → ((q : ℕ) → times q (reach words page) ≡ bit (stands_kept (standing_among xs q))) → SpellsVolume (pages_from is_of_next 0 xs) words page volume
   spells_kept words page volume h exact = record {
-    version = version_kept (standing_in xs) (λ q. at_start (has (pages_from is_of_next 0 xs) q)) words (λ q. (kept_at q).0) page volume h;
+    version = version_kept (standing_among xs) (λ q. at_start (has (pages_from is_of_next 0 xs) q)) words (λ q. (kept_at q).0) page volume h;
     exact = λ q. exact q ∙ ap bit (sym (kept_at q).1);
   }
 
 -- when a write begins, the current version stands in it
-pub begun_version : (c : Knowledge) → ((q : ℕ) → standing_in c.places q ≡ at_start (has (reach_at c.seen (length c.seen)) q)) → (page : ℕ) (volume : State)
-    → SpellsVolume (reach_at c.seen (length c.seen)) (word_in c.words) page volume → IsVersion (standing_in c.places) (word_in c.words) page volume
-begun_version c begun page volume h = subst (λ (s : ℕ → Standing). IsVersion s (word_in c.words) page volume) (λ k q. sym (begun q) k) h.version
+pub begun_version : (c : Knowledge) → ((q : ℕ) → standing_among c.places q ≡ at_start (has (reach_at c.seen (length c.seen)) q)) → (page : ℕ) (volume : State)
+    → SpellsVolume (reach_at c.seen (length c.seen)) (word_of_page c.words) page volume → IsVersion (standing_among c.places) (word_of_page c.words) page volume
+begun_version c begun page volume h = subst (λ (s : ℕ → Standing). IsVersion s (word_of_page c.words) page volume) (λ k q. sym (begun q) k) h.version
 
 -- what may become of one page of a version's, or of another, while the version is replaced
 kept_once : {Same : Type 0} {b a : ℕ} {s t : Standing} (r : Bool) → b ≡ bit r → s ≡ at_start r → a ≤ 1 → PageStep Same b a s t → (a ≡ bit (stands_kept t)) × (t ≢ Taken)
@@ -77,10 +77,10 @@ pub kept_exactly : {S K : Type 0} (kept_of : S → K) (standing_of : S → ℕ �
 kept_exactly kept_of standing_of words_of pages before now old new swaps begun exact once q = kept_once (has pages q) (exact q) (begun q) (once q) (swaps.each q)
 
 -- the same of an open write that began with a version and has made another
-module _ (old new : Work) (from page : ℕ) (volume made : State) (begun : (q : ℕ) → standing_in old.knows.places q ≡ at_start (has (reach_at old.knows.seen (length old.knows.seen)) q))
-    (spelt : SpellsVolume (reach_at old.knows.seen (length old.knows.seen)) (word_in old.knows.words) from volume)
-    (version : IsVersion (standing_in new.knows.places) (word_in new.knows.words) page made)
-    (swaps : Swaps open_of standing_of words_of (reach (word_in old.knows.words) from) (reach (word_in new.knows.words) page) old new) where
-  pub keeps_exactly : (q : ℕ) → (times q (reach (word_in new.knows.words) page) ≡ bit (stands_kept (standing_in new.knows.places q))) × (standing_in new.knows.places q ≢ Taken)
-  keeps_exactly q = kept_exactly open_of standing_of words_of (reach_at old.knows.seen (length old.knows.seen))
-      (reach (word_in old.knows.words) from) (reach (word_in new.knows.words) page) old new swaps begun spelt.exact (reaches_once (standing_in new.knows.places) (word_in new.knows.words) page made version) q
+module _ (old new : Work) (from page : ℕ) (volume made : State) (begun : (q : ℕ) → standing_among old.knows.places q ≡ at_start (has (reach_at old.knows.seen (length old.knows.seen)) q))
+    (spelt : SpellsVolume (reach_at old.knows.seen (length old.knows.seen)) (word_of_page old.knows.words) from volume)
+    (version : IsVersion (standing_among new.knows.places) (word_of_page new.knows.words) page made)
+    (swaps : Swaps open_of standing_in_work words_of (reach (word_of_page old.knows.words) from) (reach (word_of_page new.knows.words) page) old new) where
+  pub keeps_exactly : (q : ℕ) → (times q (reach (word_of_page new.knows.words) page) ≡ bit (stands_kept (standing_among new.knows.places q))) × (standing_among new.knows.places q ≢ Taken)
+  keeps_exactly q = kept_exactly open_of standing_in_work words_of (reach_at old.knows.seen (length old.knows.seen))
+      (reach (word_of_page old.knows.words) from) (reach (word_of_page new.knows.words) page) old new swaps begun spelt.exact (reaches_once (standing_among new.knows.places) (word_of_page new.knows.words) page made version) q

@@ -17,13 +17,13 @@ use Rattle.be_table.specs.declared.pass.Knowledge.{Knowledge}
 use Rattle.be_table.specs.Laws.{AllowsBy, IsLock, IsUnlock}
 use Rattle.be_pages.specs.Place.{undone_place}
 use Rattle.be_table.specs.Ledger.{ShowsPlaces}
-use Rattle.be_table.specs.Rule.{ledger_places, Board, entries, reach_at, page_at, word_place, lock_word, is_holder, holder_of, IsHome, IsSoundBoard, Holds, Fits, Stands, Shows}
-use Rattle.be_table.specs.Steps.{takes_lock, finds_held, leaves, Gets, IsLate, Locked, Unlocked}
+use Rattle.be_table.specs.Rule.{ledger_places, Board, entries, reach_at, page_at, word_place, lock_word, is_holder, known_holder, IsHome, IsSoundBoard, Holds, Fits, Stands, Shows}
+use Rattle.be_table.specs.Steps.{takes_lock, finds_held, without_lock, Gets, LockIsHeld, Locked, Unlocked}
 use Rattle.be_table.proofs.Histories.{starts_itself}
 use Rattle.be_table.proofs.Frames.{Table, Me1, views_step, fits_late, longer_seen, is_pass, in_time_later, words_load, words_lock, not_holder, fits_world, not_other, sound_world}
 use Rattle.std.proofs.Math.Nat.{le_refl}
 use Rattle.be_table.specs.Versions.{at_start, in_pages, SpellsVolume}
-use Rattle.be_table.specs.Reading.{word_in}
+use Rattle.be_table.specs.Reading.{word_of_page}
 use Rattle.be_table.proofs.Versions.{spells_same, clipped, take_all}
 use Rattle.be_table.proofs.Standings.{begun}
 use Rattle.be_table.proofs.Moves.{forget}
@@ -46,7 +46,7 @@ unheld_by w h P e p = subst P (ap (λ (o : Option Holder). record w { holder = o
 
 -- a pass that holds the lock is the machine's holder, and has seen the journal
 pub at_work : (limits : Limits) (s : Table) (b : Board) (i : ℕ) (a : Knowledge) → Stands limits s b → get_elem? s.views i ≡ some (a ∷ []) → a.writes ≡ true
-    → Stands limits s (held_by b (Some (holder_of a))) × Holds (held_by b (Some (holder_of a))) a
+    → Stands limits s (held_by b (Some (known_holder a))) × Holds (held_by b (Some (known_holder a))) a
 at_work limits s b i a h at writes =
     let f = (h.views i (a ∷ []) at).0 in let r = f.whole writes in
     subst (λ (o : Option Holder). Stands limits s (held_by b o) × Holds (held_by b o) a) r.holder (h, r)
@@ -56,12 +56,12 @@ abbrev pub Goes : Limits → Table → Board → ℕ → ℕ → ℕ → List (�
 Goes limits s b word n i carried event then = (w : List Knowledge) × (x : Act (Option Ledger)) × Valid s.homes carried x × ((d : Board) × Stands limits (stepped s word n i carried w x) d × event b.world d.world) × then (w, carried_after carried x)
 
 -- the table's words spell the volume after the journal
-now_spelt : (limits : Limits) (s : Table) (b : Board) → Stands limits s b → SpellsVolume (reach_at b.log (length b.log)) (word_in s.words) (page_at b.log (length b.log)) (replay (entries b.log))
+now_spelt : (limits : Limits) (s : Table) (b : Board) → Stands limits s b → SpellsVolume (reach_at b.log (length b.log)) (word_of_page s.words) (page_at b.log (length b.log)) (replay (entries b.log))
 now_spelt limits s b h =
     let n = length b.log in let w = b.world in let version = h.table.version in
     let all : take n (entries b.log) ≡ entries b.log = ap (λ m. take m (entries b.log)) (sym (length-map b.log (λ (c : Commit). c.entry))) ∙ take_all (entries b.log) in
-    subst (λ es. SpellsVolume (reach_at b.log n) (word_in s.words) (page_at b.log n) (replay es)) all
-    (spells_same (reach_at b.log n) (in_pages (w.image n)) (word_in s.words) (page_at b.log n) (replay (take n (entries b.log)))
+    subst (λ es. SpellsVolume (reach_at b.log n) (word_of_page s.words) (page_at b.log n) (replay es)) all
+    (spells_same (reach_at b.log n) (in_pages (w.image n)) (word_of_page s.words) (page_at b.log n) (replay (take n (entries b.log)))
     (λ q r.
     let reached : IsTrue (w.reach w.current q) = subst IsTrue (sym (h.sound.reaches w.current q (le_refl w.current) ∙ ap (λ m. has (reach_at b.log m) q) version)) r in
     let inside : q < w.pages = h.sound.machine.inside w.current q reached in
@@ -125,7 +125,7 @@ module _ (limits : Limits) (slots i : ℕ) (a : Knowledge) (carried : List (ℕ 
   taken None passes n b f = absurd (n refl)
   taken (Some x) passes n b f = let lt = b x refl in ((λ e. true≢false (sym (eq-eqb x.pass a.number (omega arith)) ∙ f)), omega arith)
 
-  lock_late : (s : Table) (b : Board) → Stands limits s b → get_elem? s.views i ≡ some (a ∷ []) → a.writes ≡ false → lock_word b.world.holder ≢ 0 → Goes limits s b 0 (slice_index s.words 0) i carried (λ v w. w ≡ v) (IsLate (a ∷ [], carried) (lock_word b.world.holder))
+  lock_late : (s : Table) (b : Board) → Stands limits s b → get_elem? s.views i ≡ some (a ∷ []) → a.writes ≡ false → lock_word b.world.holder ≢ 0 → Goes limits s b 0 (slice_index s.words 0) i carried (λ v w. w ≡ v) (LockIsHeld (a ∷ [], carried) (lock_word b.world.holder))
   lock_late s b h at idle held =
       let fa = (h.views i (a ∷ []) at).0 in
       let late = taken b.world.holder b.world.passes held (λ g e. rw h.sound.passes (h.sound.holder g e)) (sym fa.writes ∙ idle) in (
@@ -152,7 +152,7 @@ module _ (limits : Limits) (slots i : ℕ) (a : Knowledge) (carried : List (ℕ 
       dite (ℕ_discrete (lock_word b.world.holder) 0)
       (λ is0. let none_is = no_lock b.world.holder is0 in
       subst (λ (o : Option Holder). P (held_by b o) (slice_index s.words 0)) (sym none_is) (subst (P (held_by b None)) (sym (found ∙ is0)) (lock_free s b (subst (λ (o : Option Holder). Stands limits s (held_by b o)) none_is h) at)))
-      (λ held. let Q : Bool → ℕ → Type 0 = λ z n. Goes limits s b 0 (either z (a.number + 1) (slice_index s.words 0)) i carried (E z) (λ r. MatchBool z (Gets (a ∷ [], carried) r) (IsLate (a ∷ [], carried) n r)) in
+      (λ held. let Q : Bool → ℕ → Type 0 = λ z n. Goes limits s b 0 (either z (a.number + 1) (slice_index s.words 0)) i carried (E z) (λ r. MatchBool z (Gets (a ∷ [], carried) r) (LockIsHeld (a ∷ [], carried) n r)) in
       let none_is : eqb (slice_index s.words 0) 0 ≡ false = ne_eqb (slice_index s.words 0) 0 (λ e. held (sym found ∙ e)) in
       subst (λ (p : Bool × ℕ). Q p.0 p.1) (λ k. (sym none_is k, sym found k)) (lock_late s b h at idle held))
 
@@ -161,7 +161,7 @@ module _ (limits : Limits) (slots i : ℕ) (a : Knowledge) (ledger : Ledger) whe
       → AllowsBy limits slots i (a ∷ [], (0, Some ledger) ∷ []) 0 (λ _. 0) (IsUnlock a.number) (λ _. Unlocked (step slots 0 0 0 none) (a ∷ [], (0, Some ledger) ∷ []) 0)
   unlock_by writes journal limit page places s b0 h0 sized at fits =
       let work = at_work limits s b0 i a h0 at writes in
-      let b : Board = held_by b0 (Some (holder_of a)) in
+      let b : Board = held_by b0 (Some (known_holder a)) in
       let h = work.0 in
       let m = work.1 in
       let t = h.table in
@@ -169,7 +169,7 @@ module _ (limits : Limits) (slots i : ℕ) (a : Knowledge) (ledger : Ledger) whe
       let d : Board = record b { world = w } in
       let fa = (h.views i (a ∷ []) at).0 in
       let few : b.world.passes ≤ 64 = rw h.sound.passes h.sound.within.few in
-      let c = leaves a in
+      let c = without_lock a in
       let v = words_lock b.world (page_at b.log (length b.log)) s.words t.words 0 None few refl in
       let shown = shows-unlock a.places b.world m.shown in
       let fc : Fits limits d i c = record { number = fa.number; limits_are = fa.limits_are; seat_is = fa.seat_is; seen = fa.seen; mine = fa.mine; own = fa.own; writes = refl; whole = λ z. absurd (true≢false (sym z)); phase = fa.phase; pin = fa.pin; image = fa.image } in (
@@ -195,10 +195,10 @@ module _ (limits : Limits) (slots i : ℕ) (a : Knowledge) (ledger : Ledger) whe
               );
               version = t.version;
             };
-            sound = sound_world limits b w h.sound refl refl refl refl (λ g e. absurd (cc)) h.sound.reaches (after_unlock-sound b.world h.sound.machine a.number (holder_of a, refl, refl));
+            sound = sound_world limits b w h.sound refl refl refl refl (λ g e. absurd (cc)) h.sound.reaches (after_unlock-sound b.world h.sound.machine a.number (known_holder a, refl, refl));
             views = views_step limits b d s.views i a c h.views at (λ j y ne f. fits_world limits b w j y (sym (not_other a.number y.number ne)) refl (λ z. absurd (not_holder b a y ne refl z)) (λ g. g) f) fc;
           },
-          ((holder_of a, ((h0.views i (a ∷ []) at).0.whole writes).holder, refl), refl),
+          ((known_holder a, ((h0.views i (a ∷ []) at).0.whole writes).holder, refl), refl),
         ),
         refl,
       )
@@ -215,11 +215,11 @@ module _ (limits : Limits) (slots i : ℕ) (a : Knowledge) (carried : List (ℕ 
       subst (λ (m : Me1). Allows (Shows limits) slots i m 0 (λ _. 0) (λ _. Unlocked (step slots 0 0 0 none) m 0)) (sym e)
       (forget limits slots i (a ∷ [], (0, Some ledger) ∷ []) 0 (λ _. 0) (IsUnlock a.number) (λ _. Unlocked (step slots 0 0 0 none) (a ∷ [], (0, Some ledger) ∷ []) 0) (unlock_by limits slots i a ledger writes journal limit page places))
 
-pub got : (m : Me1) (n : ℕ) (r : Me1) → MatchBool (eqb n 0) (Gets m r) (IsLate m n r) → n ≡ 0 → Gets m r
-got m n r l e = subst (λ (b : Bool). MatchBool b (Gets m r) (IsLate m n r)) (eq-eqb n 0 e) l
+pub got : (m : Me1) (n : ℕ) (r : Me1) → MatchBool (eqb n 0) (Gets m r) (LockIsHeld m n r) → n ≡ 0 → Gets m r
+got m n r l e = subst (λ (b : Bool). MatchBool b (Gets m r) (LockIsHeld m n r)) (eq-eqb n 0 e) l
 
-pub late : (m : Me1) (n : ℕ) (r : Me1) → MatchBool (eqb n 0) (Gets m r) (IsLate m n r) → n ≢ 0 → IsLate m n r
-late m n r l ne = subst (λ (b : Bool). MatchBool b (Gets m r) (IsLate m n r)) (ne_eqb n 0 ne) l
+pub late : (m : Me1) (n : ℕ) (r : Me1) → MatchBool (eqb n 0) (Gets m r) (LockIsHeld m n r) → n ≢ 0 → LockIsHeld m n r
+late m n r l ne = subst (λ (b : Bool). MatchBool b (Gets m r) (LockIsHeld m n r)) (ne_eqb n 0 ne) l
 
 -- the slot taken last is the first of the list
 pub is_out : (l rest : List (ℕ × Option Ledger)) (x : ℕ × Option Ledger) → l ≡ x ∷ rest → l ≡ x ∷ Rattle.atomic_table.specs.Table.rest l

@@ -12,9 +12,9 @@ use Rattle.be_table.specs.declared.pass.Commit.{Commit}
 use Rattle.be_table.specs.declared.pass.Knowledge.{Knowledge}
 use Rattle.be_table.specs.History.{StartsWith}
 use Rattle.be_table.specs.Laws.{AllowsBy, NoEvent}
-use Rattle.be_table.specs.Rule.{Board, entries, page_at, Fits, Shows, counted, pass_of, joined, first_seat, other_seats}
+use Rattle.be_table.specs.Rule.{Board, entries, page_at, Fits, Shows, one_step_on, pass_of, seats_together, first_seat, other_seats}
 use Rattle.be_table.specs.Seats.{IsTold, pin_of}
-use Rattle.be_table.specs.Steps.{IsPass, Compared, sees, longer}
+use Rattle.be_table.specs.Steps.{IsPass, Compared, having_seen, longer}
 use Rattle.be_table.proofs.Histories.{starts_itself, by_pass-between}
 use Rattle.be_table.proofs.Deals.{deals}
 use Rattle.be_table.proofs.Frames.{Me1, views_change, entries-start, longer_seen, is_pass, in_time_later, words_load}
@@ -43,7 +43,7 @@ longer_starts log p q s t = dite (dec_lt (length p) (length q))
     P b = StartsWith (if b then q else p) p × StartsWith (if b then q else p) q × StartsWith log (if b then q else p)
 
 -- a pass without the lock sees more
-sees_fits : (limits : Limits) (b : Board) (i : ℕ) (a : Knowledge) (log : List Commit) → a.writes ≡ false → Fits limits b i a → StartsWith log a.seen → StartsWith b.log log → Fits limits b i (sees a log)
+sees_fits : (limits : Limits) (b : Board) (i : ℕ) (a : Knowledge) (log : List Commit) → a.writes ≡ false → Fits limits b i a → StartsWith log a.seen → StartsWith b.log log → Fits limits b i (having_seen a log)
 sees_fits limits b i a log idle f more front = record {
   number = f.number;
   limits_are = f.limits_are;
@@ -66,7 +66,7 @@ module _ (limits : Limits) (slots i : ℕ) (a c : Knowledge) (carried : List (�
       let l = longer_starts b.log a.seen c.seen f.0.seen f.2.0.seen in
       let ga = sees_fits limits b i a log idle f.0 l.0 l.2 in
       let gc = sees_fits limits b i c log idle' f.2.0 l.1 l.2 in (
-        sees a log ∷ sees c log ∷ [],
+        having_seen a log ∷ having_seen c log ∷ [],
         keeps,
         tt,
         (
@@ -74,15 +74,15 @@ module _ (limits : Limits) (slots i : ℕ) (a c : Knowledge) (carried : List (�
           record {
             table = record { words = words_load b.world (page_at b.log (length b.log)) s.words t.table.words 0; home = t.table.home; version = t.table.version };
             sound = t.sound;
-            views = views_change limits b b s.views i (a ∷ c ∷ []) (sees a log ∷ sees c log ∷ []) t.views at (λ j x _ g. g) (λ _. (ga, (f.1.0, tt), (gc, tt, tt)));
+            views = views_change limits b b s.views i (a ∷ c ∷ []) (having_seen a log ∷ having_seen c log ∷ []) t.views at (λ j x _ g. g) (λ _. (ga, (f.1.0, tt), (gc, tt, tt)));
           },
           refl,
         ),
-        (refl, l.0, l.1, is_pass limits b i (sees a log) t.sound ga, is_pass limits b i (sees c log) t.sound gc),
+        (refl, l.0, l.1, is_pass limits b i (having_seen a log) t.sound ga, is_pass limits b i (having_seen c log) t.sound gc),
       )
 
-pub joined_pair : (a c : Knowledge) (m n r : Me1) → m ≡ (a ∷ [], []) → n ≡ (c ∷ [], []) → r ≡ (joined m.0 n.0, m.1) → r ≡ (counted a ∷ counted c ∷ [], [])
-joined_pair a c m n r e f g = g ∙ (λ k. (joined ((e k).0) ((f k).0), (e k).1))
+pub joined_pair : (a c : Knowledge) (m n r : Me1) → m ≡ (a ∷ [], []) → n ≡ (c ∷ [], []) → r ≡ (seats_together m.0 n.0, m.1) → r ≡ (one_step_on a ∷ one_step_on c ∷ [], [])
+joined_pair a c m n r e f g = g ∙ (λ k. (seats_together ((e k).0) ((f k).0), (e k).1))
 
 pub compares_as : (limits : Limits) (slots i : ℕ) (a c : Knowledge) (me : Me1) → me ≡ (a ∷ c ∷ [], []) → a.writes ≡ false → c.writes ≡ false → Allows (Shows limits) slots i me 0 (λ n. n) (Compared (step slots 0 0 0 none) me)
 compares_as limits slots i a c me e idle idle' =
@@ -107,14 +107,14 @@ pub left_longer : (p q : List Commit) → length q ≤ length p → length (long
 left_longer p q le = rw (le-ltb (length p) (length q) le) refl
 
 -- what the seats tell once they are cut apart
-module _ (a c : Knowledge) (m n j l f : Me1) (number seen both : ℕ) (left : m ≡ (a ∷ [], [])) (right : n ≡ (c ∷ [], [])) (pair : j ≡ (joined m.0 n.0, m.1)) (compared : Compared (step 0 0 0 0 none) j 0 l) (long : length (longer a.seen c.seen) ≡ both) where
-  after_all : Compared (step 0 0 0 0 none) (counted a ∷ counted c ∷ [], []) 0 l
-  after_all = told (counted a) (counted c) j l (step 0 0 0 0 none) 0 (joined_pair a c m n j left right pair) compared
+module _ (a c : Knowledge) (m n j l f : Me1) (number seen both : ℕ) (left : m ≡ (a ∷ [], [])) (right : n ≡ (c ∷ [], [])) (pair : j ≡ (seats_together m.0 n.0, m.1)) (compared : Compared (step 0 0 0 0 none) j 0 l) (long : length (longer a.seen c.seen) ≡ both) where
+  after_all : Compared (step 0 0 0 0 none) (one_step_on a ∷ one_step_on c ∷ [], []) 0 l
+  after_all = told (one_step_on a) (one_step_on c) j l (step 0 0 0 0 none) 0 (joined_pair a c m n j left right pair) compared
 
   pub met_left : f.0 ≡ first_seat l.0 → IsTold a number seen → IsTold (pass_of f.0) number both
-  met_left e t = told_as (counted (sees (counted a) (longer a.seen c.seen))) f number both (ap pass_of e ∙ ap (λ (x : Me1). pass_of (first_seat x.0)) after_all.0)
-      (record { number_is = t.number_is; seen_is = long; writes = t.writes; pass = stepped_pass (sees (counted a) (longer a.seen c.seen)) _ after_all.3 })
+  met_left e t = told_as (one_step_on (having_seen (one_step_on a) (longer a.seen c.seen))) f number both (ap pass_of e ∙ ap (λ (x : Me1). pass_of (first_seat x.0)) after_all.0)
+      (record { number_is = t.number_is; seen_is = long; writes = t.writes; pass = stepped_pass (having_seen (one_step_on a) (longer a.seen c.seen)) _ after_all.3 })
 
   pub met_right : f.0 ≡ other_seats l.0 → IsTold c number seen → IsTold (pass_of f.0) number both
-  met_right e t = told_as (counted (sees (counted c) (longer a.seen c.seen))) f number both (ap pass_of e ∙ ap (λ (x : Me1). pass_of (other_seats x.0)) after_all.0)
-      (record { number_is = t.number_is; seen_is = long; writes = t.writes; pass = stepped_pass (sees (counted c) (longer a.seen c.seen)) _ after_all.4 })
+  met_right e t = told_as (one_step_on (having_seen (one_step_on c) (longer a.seen c.seen))) f number both (ap pass_of e ∙ ap (λ (x : Me1). pass_of (other_seats x.0)) after_all.0)
+      (record { number_is = t.number_is; seen_is = long; writes = t.writes; pass = stepped_pass (having_seen (one_step_on c) (longer a.seen c.seen)) _ after_all.4 })

@@ -10,7 +10,7 @@ use Rattle.be_table.specs.declared.ledger.Ledger.{Ledger}
 use Rattle.be_table.specs.declared.limits.Limits.{Limits}
 use Rattle.be_table.specs.declared.pass.Knowledge.{Knowledge}
 use Rattle.be_table.specs.Laws.{AllowsBy, IsLook, IsAnnounce, IsLookAgain, IsRead, IsUnpin}
-use Rattle.be_table.specs.Rule.{reach_at, page_at, current_word, announce_word, word_place, Shows, counted}
+use Rattle.be_table.specs.Rule.{reach_at, page_at, current_word, announce_word, word_place, Shows, one_step_on}
 use Rattle.be_table.specs.Steps.{looks, announces, pins, unpins, LookTold, Told, PinnedAt, Unpinned, PinnedRead}
 use Rattle.be_table.proofs.Histories.{starts_itself}
 use Rattle.be_table.proofs.Frames.{Me1, views_step, fits_counted, longer_seen, reach-front, is_pass, words_load, words_phase, words_announce, stands_phase}
@@ -135,7 +135,7 @@ module _ (limits : Limits) (slots i : ℕ) (a : Knowledge) (carried : List (ℕ 
       let inside : p < b.world.pages = rw h.sound.pages (h.sound.inside n p (omega (arith, low.1)) here) in
       let r : IsTrue (b.world.reach n p) = subst IsTrue (sym (h.sound.reaches n p (omega (arith, low.1, t.version)))) here in
       let found : slice_index s.words (word_place p j) ≡ b.world.image n p j = t.words.pages p j inside lt ∙ (h.sound.machine.pinned a.number x n p (fa.phase ∙ is) r).3 j in (
-        counted a ∷ [],
+        one_step_on a ∷ [],
         keeps,
         tt,
         (
@@ -143,7 +143,7 @@ module _ (limits : Limits) (slots i : ℕ) (a : Knowledge) (carried : List (ℕ 
           record {
             table = record { words = words_load b.world (page_at b.log (length b.log)) s.words t.words (word_place p j); home = t.home; version = t.version };
             sound = h.sound;
-            views = views_step limits b b s.views i a (counted a) h.views at (λ j x _ f. f) (fits_counted limits b i a fa);
+            views = views_step limits b b s.views i a (one_step_on a) h.views at (λ j x _ f. f) (fits_counted limits b i a fa);
           },
           ((rw h.sound.passes fa.number, inside, lt, (x, n, fa.phase ∙ is, r)), refl, found),
         ),

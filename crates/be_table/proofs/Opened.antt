@@ -17,7 +17,7 @@ use Rattle.be_table.proofs.Listed.{listed, tested}
 use Rattle.be_pages.specs.declared.page_pool.Place.{Place}
 use Rattle.be_pages.specs.declared.page_pool.Place.TheVariants.{Free, Reserved, Filled, Current, GivenUp, Retired}
 use Rattle.be_table.specs.declared.pass.Knowledge.{Knowledge}
-use Rattle.be_table.specs.Steps.{IsPass, Unreached}
+use Rattle.be_table.specs.Steps.{IsPass, NoCommitReaches}
 use Rattle.be_pages.specs.Place.{is_in_hand, place_of, swept_place}
 use Rattle.be_table.specs.Ledger.{shows_taken, shows_free}
 
@@ -51,7 +51,7 @@ unswept l (Retired r) h = retired (nat_lt r l) h
 
 -- where a whole scan leaves no page free, the write holds each page that no version from the least on reaches
 pub all_held : (old new : Work) (least : ℕ) → MakesScan old new least → ((p : ℕ) → p < length new.knows.places → place_of new.knows.places p ≢ Free)
-    → (p : ℕ) → p < length new.knows.places → Unreached new.knows.seen least p → IsTrue (has new.knows.held p)
+    → (p : ℕ) → p < length new.knows.places → NoCommitReaches new.knows.seen least p → IsTrue (has new.knows.held p)
 all_held old new least h none p lp un =
     let x = in_hand_of (place_of new.knows.places p) (h.leaves p lp (λ n lo hi. un n (let e = h.least_is in omega arith) hi)) (none p lp) in
     let same : place_of new.knows.places p ≡ swept_place least (place_of old.knows.places p) = ap (λ l. place_of l p) h.places ∙ place-map (swept_place least) refl old.knows.places p in

@@ -16,13 +16,13 @@ use Rattle.be_table.specs.declared.limits.Limits.{Limits}
 use Rattle.be_table.specs.declared.pass.Commit.{Commit}
 use Rattle.be_table.specs.declared.pass.Knowledge.{Knowledge}
 use Rattle.be_journal.specs.Journal.{by_pass, replay}
-use Rattle.be_table.specs.History.{AllBelow, StartsWith, IsHistory}
+use Rattle.be_table.specs.History.{AreOfPasses, StartsWith, IsHistory}
 use Rattle.be_table.specs.Laws.{AllowsBy, IsPublish}
-use Rattle.be_pages.specs.Place.{number_in, place_of, published_place}
+use Rattle.be_pages.specs.Place.{retired_number, place_of, published_place}
 use Rattle.be_table.specs.Ledger.{ShowsPlaces, shows_free, shows_taken, is_current, is_of_next, is_given, retired_with}
-use Rattle.be_table.specs.Rule.{Board, entries, nothing, reach_at, page_at, word_place, current_word, holder_of, WordsAgree, IsSoundBoard, ImageIs, Fits, Shows}
-use Rattle.be_table.specs.Steps.{pages_from, commit_of, publishes, MayPublish, Published, IsNewest}
-use Rattle.be_table.specs.Reading.{word_in}
+use Rattle.be_table.specs.Rule.{Board, entries, nothing, reach_at, page_at, word_place, current_word, known_holder, WordsAgree, IsSoundBoard, ImageIs, Fits, Shows}
+use Rattle.be_table.specs.Steps.{pages_from, commit_of, publishes, MayPublish, Published, NoneRetiredLater}
+use Rattle.be_table.specs.Reading.{word_of_page}
 use Rattle.be_table.specs.Versions.{in_pages, SpellsVolume}
 use Rattle.be_table.proofs.Versions.{spells_same, clipped, take_front, take_all}
 use Rattle.be_table.proofs.Histories.{starts_itself, starts_more, by_pass-own, by_pass-other, legal-push, below-push}
@@ -155,10 +155,10 @@ image_kept g given phase image len le pin h x n p j e r lt =
     rw m (h x n p j e (rw m at r) lt)
 
 -- no page was retired with a number above the current one
-no_later : (a : Knowledge) (g : World) → Sound g → ShowsPlaces a.places g → g.current ≡ length a.seen → IsNewest a
+no_later : (a : Knowledge) (g : World) → Sound g → ShowsPlaces a.places g → g.current ≡ length a.seen → NoneRetiredLater a
 no_later a g s shown now q = by_place (place_of a.places q) refl
   where
-    by_place : (x : Place) → place_of a.places q ≡ x → number_in x ≤ length a.seen
+    by_place : (x : Place) → place_of a.places q ≡ x → retired_number x ≤ length a.seen
     by_place Free e = omega arith
     by_place Reserved e = omega arith
     by_place Filled e = omega arith
@@ -171,7 +171,7 @@ module _ (limits : Limits) (slots i : ℕ) (a : Knowledge) (carried : List (ℕ 
       → AllowsBy limits slots i (a ∷ [], carried) 8 (λ _. new) (IsPublish a.number v (pages_from is_given 0 a.places)) (λ _. Published e v (step slots 8 new 0 none) (a ∷ [], carried) new)
   publish_by e v new may is s b0 h0 sized at fits =
       let work = at_work limits s b0 i a h0 at may.writes in
-      let b : Board = held_by b0 (Some (holder_of a)) in
+      let b : Board = held_by b0 (Some (known_holder a)) in
       let h = work.0 in
       let m = work.1 in
       let g = b.world in
@@ -191,7 +191,7 @@ module _ (limits : Limits) (slots i : ℕ) (a : Knowledge) (carried : List (ℕ 
       let allowed : MayPublishAt g a.number v given = (
         rw (h.sound.commits, now) may.room,
         inside,
-        (holder_of a, (refl, refl, may.unpublished)),
+        (known_holder a, (refl, refl, may.unpublished)),
         rw (m.shown.taken v) (ap shows_taken may.filled),
         distinct is_given a.places,
         all_listed is_given (λ q. IsTrue (g.reach g.current q)) a.places (given_reached a.places g h.sound.machine m.shown m.count),
@@ -222,7 +222,7 @@ module _ (limits : Limits) (slots i : ℕ) (a : Knowledge) (carried : List (ℕ 
       let sd : IsSoundBoard limits d = record {
         within = h.sound.within;
         legal = subst IsHistory (sym journal) (legal-push (entries a.seen) e (subst (λ l. IsHistory (entries l)) (sym m.log) h.sound.legal) may.agrees may.operations);
-        by_passes = subst (AllBelow limits.passes) (sym journal) (below-push limits.passes (entries a.seen) e (subst (λ l. AllBelow limits.passes (entries l)) (sym m.log) h.sound.by_passes) below);
+        by_passes = subst (AreOfPasses limits.passes) (sym journal) (below-push limits.passes (entries a.seen) e (subst (λ l. AreOfPasses limits.passes (entries l)) (sym m.log) h.sound.by_passes) below);
         room = let z = may.room in omega arith;
         page = subst (λ n. n < 4294967296) (sym page) (let z = h.sound.within.few_pages in let y = h.sound.pages in omega arith);
         inside = λ n p le r. elim (cases_lt n (suc (length b.log))) [
@@ -257,7 +257,7 @@ module _ (limits : Limits) (slots i : ℕ) (a : Knowledge) (carried : List (ℕ 
               subst (λ n. SpellsVolume (reach_at log n) (in_pages (w.image n)) (page_at log n) (replay (take n (entries log)))) (sym at_new)
               (subst (λ (q : List ℕ × (ℕ → ℕ → ℕ) × ℕ × List Entry). SpellsVolume q.0 (in_pages q.1) q.2 (replay q.3))
               (λ k. (sym newest k, sym (ap w.image (ap suc (sym version)) ∙ update-same g.image (suc g.current) g.words) k, sym (ap (page_at log) (sym long) ∙ page) k, sym whole k))
-              (spells_same commit.reach (word_in a.words) (in_pages g.words) v (replay (entries a.seen ++ e ∷ []))
+              (spells_same commit.reach (word_of_page a.words) (in_pages g.words) v (replay (entries a.seen ++ e ∷ []))
               (λ q r.
               let z = kept_inside a.places g h.sound.machine m.shown m.count q r in
               clipped (g.words q) (λ j. slice_index a.words (word_place q j)) (λ j lt. sym (m.words q j (omega (arith, z, m.count)) lt)))
@@ -271,7 +271,7 @@ module _ (limits : Limits) (slots i : ℕ) (a : Knowledge) (carried : List (ℕ 
           d,
           record {
             table = record {
-              words = subst (λ p. WordsAgree w p (set s.words 8 new)) (sym page) (words_publish g (page_at b.log (length b.log)) v s.words given new (holder_of a) refl few (is ∙ ap (λ n. current_word n v) (omega arith)) h.table.words);
+              words = subst (λ p. WordsAgree w p (set s.words 8 new)) (sym page) (words_publish g (page_at b.log (length b.log)) v s.words given new (known_holder a) refl few (is ∙ ap (λ n. current_word n v) (omega arith)) h.table.words);
               home = h.table.home;
               version = ap suc version ∙ sym long;
             };
@@ -292,7 +292,7 @@ module _ (limits : Limits) (slots i : ℕ) (a : Knowledge) (carried : List (ℕ 
                 })
                 fc;
           },
-          unheld_by b0.world (holder_of a) (λ u. IsPublish a.number v given 0 u w) ((h0.views i (a ∷ []) at).0.whole may.writes).holder (allowed, refl),
+          unheld_by b0.world (known_holder a) (λ u. IsPublish a.number v given 0 u w) ((h0.views i (a ∷ []) at).0.whole may.writes).holder (allowed, refl),
         ),
         (refl, is_pass limits d i c sd fc, no_later a g h.sound.machine m.shown now),
       )

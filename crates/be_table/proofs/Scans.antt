@@ -12,7 +12,7 @@ use Rattle.atomic_table.specs.Table.{Me}
 use Rattle.be_table.specs.declared.ledger.Ledger.{Ledger}
 use Rattle.be_table.specs.Rule.{announce_word, pass_of}
 use Rattle.be_pages.specs.Place.{swept_place, is_in_hand}
-use Rattle.be_table.specs.Steps.{scans, scans_on, scans_out, scans_all, scan_from, least_found, IsLeastAnnounced, least_then, pages_from, IsPart, IsOwnLeast, own_least, LeavesNone}
+use Rattle.be_table.specs.Steps.{scans, scans_on, scans_out, scans_all, scan_from, least_found, IsLeastAnnounced, least_then, pages_from, IsPart, IsOwnLeast, own_least, UnreachedAreFree}
 
 pub scans_all-push : (a : Knowledge) (ns : List ℕ) (n : ℕ) → scans_all a (ns ++ n ∷ []) ≡ scans (scans_all a ns) n
 scans_all-push a [] n = refl
@@ -91,7 +91,7 @@ chosen_out s n e = ap (λ (b : Bool). cond b (scans_out s n) (scans_on s n)) (eq
 chosen_on : (s : Knowledge) (n : ℕ) → suc s.scanned ≢ s.limits.passes → scans s n ≡ scans_on s n
 chosen_on s n e = ap (λ (b : Bool). cond b (scans_out s n) (scans_on s n)) (ne_eqb (suc s.scanned) s.limits.passes e)
 
-pub part_next : (passes : ℕ) (a s : Knowledge) (j l n : ℕ) → j < passes → a.limits.passes ≡ passes → IsPart passes a s j l → (suc s.scanned ≡ s.limits.passes → LeavesNone (scans_out s n)) → IsPart passes a (scans s n) (j + 1) (least_found l n)
+pub part_next : (passes : ℕ) (a s : Knowledge) (j l n : ℕ) → j < passes → a.limits.passes ≡ passes → IsPart passes a s j l → (suc s.scanned ≡ s.limits.passes → UnreachedAreFree (scans_out s n)) → IsPart passes a (scans s n) (j + 1) (least_found l n)
 part_next passes a s j l n lt limits h leaves =
     let at = h.turn lt in
     let same_passes : s.limits.passes ≡ passes = ap (λ x. x.limits.passes) h.same ∙ limits in
@@ -123,5 +123,5 @@ Me3 = Me (Option Ledger) (List Knowledge)
 pub me_next : (a : Knowledge) (ns : List ℕ) (n : ℕ) (m r b : Me3) → m ≡ (scans_all a ns ∷ [], b.1) → r ≡ (scans (pass_of m.0) n ∷ [], m.1) → r ≡ (scans_all a (ns ++ n ∷ []) ∷ [], b.1)
 me_next a ns n m r b e f = f ∙ ap (λ (x : Me3). (scans (pass_of x.0) n ∷ [], x.1)) e ∙ ap (λ (s : Knowledge). (s ∷ [], b.1)) (sym (scans_all-push a ns n))
 
-pub part_step : (passes : ℕ) (a : Knowledge) (m r : Me3) (j l n : ℕ) → j < passes → a.limits.passes ≡ passes → IsPart passes a (pass_of m.0) j l → r ≡ (scans (pass_of m.0) n ∷ [], m.1) → (suc (pass_of m.0).scanned ≡ (pass_of m.0).limits.passes → LeavesNone (scans_out (pass_of m.0) n)) → IsPart passes a (pass_of r.0) (j + 1) (least_found l n)
+pub part_step : (passes : ℕ) (a : Knowledge) (m r : Me3) (j l n : ℕ) → j < passes → a.limits.passes ≡ passes → IsPart passes a (pass_of m.0) j l → r ≡ (scans (pass_of m.0) n ∷ [], m.1) → (suc (pass_of m.0).scanned ≡ (pass_of m.0).limits.passes → UnreachedAreFree (scans_out (pass_of m.0) n)) → IsPart passes a (pass_of r.0) (j + 1) (least_found l n)
 part_step passes a m r j l n lt limits h f leaves = subst (λ (x : Me3). IsPart passes a (pass_of x.0) (j + 1) (least_found l n)) (sym f) (part_next passes a (pass_of m.0) j l n lt limits h leaves)

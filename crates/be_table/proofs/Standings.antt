@@ -4,7 +4,7 @@ use Rattle.std.specs.Prelude.{Result, IfErr, OnErr, slice_index_or}
 use Rattle.std.proofs.lemmas.Bool.{cases_lt}
 use Rattle.std.proofs.lemmas.List.{get_or_default, get_or_past}
 use borrow.Author.Tests.{lt-ltb, le-ltb}
-use Rattle.be_core.specs.Machine.{World, Sound, bit, places}
+use Rattle.be_core.specs.Machine.{World, Sound, bit, set_count}
 use Rattle.be_pages.specs.declared.room.Standing.TheVariants.{Free as Nowhere, Filled as Full}
 use Rattle.be_pages.specs.declared.page_pool.Place.{Place}
 use Rattle.be_pages.specs.declared.page_pool.Place.TheVariants.{Free, Reserved, Filled, Current, GivenUp, Retired}
@@ -12,7 +12,7 @@ use Rattle.be_pages.specs.Place.{place_of, swept_place, undone_place}
 use Rattle.be_pages.specs.Refusal.{IsFullOf}
 use Rattle.be_table.specs.Ledger.{ShowsPlaces, shows_free, shows_taken, is_current, retired_with}
 use Rattle.be_table.specs.Place.{Work}
-use Rattle.be_table.specs.Reading.{standing_at, standing_in, standing_of}
+use Rattle.be_table.specs.Reading.{standing_at, standing_among, standing_in_work}
 use Rattle.be_table.specs.Versions.{at_start}
 use Rattle.be_table.specs.Works.{FindsNone}
 use Rattle.be_value.specs.declared.refusals.Refusal.{Refusal}
@@ -41,18 +41,18 @@ module _ (xs : List Place) (w : World) (s : Sound w) (shown : ShowsPlaces xs w) 
   -- the current version has the pages that the ledger says
   pub reach_shown : (q : ℕ) → q < length xs → w.reach w.current q ≡ is_current (place_of xs q)
   reach_shown q lt =
-      let p : places w q ≡ bit (nat_lt q w.pages) = s.partition q in
+      let p : set_count w q ≡ bit (nat_lt q w.pages) = s.partition q in
       let in_range : nat_lt q w.pages ≡ true = lt-ltb q w.pages (omega arith) in
       one_place (place_of xs q) (w.reach w.current q) (rw (← shown.free q, ← shown.taken q, ← shown.retired q) (p ∙ ap bit in_range))
 
   pub reach_past : (q : ℕ) → length xs ≤ q → w.reach w.current q ≡ false
   reach_past q le =
-      let p : places w q ≡ bit (nat_lt q w.pages) = s.partition q in
+      let p : set_count w q ≡ bit (nat_lt q w.pages) = s.partition q in
       let past : nat_lt q w.pages ≡ false = le-ltb q w.pages (omega arith) in
       no_place (w.free q) (w.taken q) (Rattle.std.specs.Prelude.is_some (w.retired q)) (w.reach w.current q) (p ∙ ap bit past)
 
   -- while nobody writes
-  pub begun : length xs ≤ 16384 → map undone_place xs ≡ xs → (q : ℕ) → standing_in xs q ≡ at_start (w.reach w.current q)
+  pub begun : length xs ≤ 16384 → map undone_place xs ≡ xs → (q : ℕ) → standing_among xs q ≡ at_start (w.reach w.current q)
   begun few idle q = elim (cases_lt q (length xs)) [
     | inl lt ↦
         let in_range : nat_lt q 16384 ≡ true = lt-ltb q 16384 (omega (arith, lt, few)) in
@@ -75,7 +75,7 @@ module _ (xs : List Place) (w : World) (s : Sound w) (shown : ShowsPlaces xs w) 
       nowhere false = refl
 
 -- a page that stands filled is one of the table
-pub filled_place : (xs : List Place) (q : ℕ) → standing_in xs q ≡ Full → (q < length xs) × (place_of xs q ≡ Filled)
+pub filled_place : (xs : List Place) (q : ℕ) → standing_among xs q ≡ Full → (q < length xs) × (place_of xs q ≡ Filled)
 filled_place xs q is = elim (cases_lt q (length xs)) [
   | inl lt ↦ (lt, by_place (place_of xs q) (nat_lt q 16384) (ap (λ x. if nat_lt q 16384 then standing_at x else Nowhere) (sym (get_or_default xs q Free Current lt)) ∙ is))
   | inr le ↦ absurd (none (nat_lt q 16384) (ap (λ x. if nat_lt q 16384 then standing_at x else Nowhere) (sym (get_or_past xs q Free le)) ∙ is))
@@ -111,7 +111,7 @@ swept_standing l (Retired r) = by (nat_lt r l)
     by true = refl
     by false = refl
 
-pub swept_in : (l : ℕ) (xs : List Place) (q : ℕ) → standing_in (map (swept_place l) xs) q ≡ standing_in xs q
+pub swept_in : (l : ℕ) (xs : List Place) (q : ℕ) → standing_among (map (swept_place l) xs) q ≡ standing_among xs q
 swept_in l xs q = ap (λ s. if nat_lt q 16384 then s else Nowhere) (by xs q)
   where
     by : (xs : List Place) (k : ℕ) → standing_at (slice_index_or (map (swept_place l) xs) k Free) ≡ standing_at (slice_index_or xs k Free)
@@ -120,7 +120,7 @@ swept_in l xs q = ap (λ s. if nat_lt q 16384 then s else Nowhere) (by xs q)
     by (x ∷ xs) (suc k) = by xs k
 
 -- where no page was found, each stands where it stood
-pub full_stands : {X : Type 0} (r : Result X Refusal) (old new : Work) → IfErr r (IsFullOf (FindsNone old new)) → OnErr r (standing_of new ≡ standing_of old)
+pub full_stands : {X : Type 0} (r : Result X Refusal) (old new : Work) → IfErr r (IsFullOf (FindsNone old new)) → OnErr r (standing_in_work new ≡ standing_in_work old)
 full_stands (Ok x) old new h = tt
 full_stands (Err e) old new h =
-    let stands : (q : ℕ) → standing_of new q ≡ standing_of old q = λ q. ap (λ ps. standing_in ps q) h.2.scan.places ∙ swept_in h.0 old.knows.places q in λ k q. stands q k
+    let stands : (q : ℕ) → standing_in_work new q ≡ standing_in_work old q = λ q. ap (λ ps. standing_among ps q) h.2.scan.places ∙ swept_in h.0 old.knows.places q in λ k q. stands q k

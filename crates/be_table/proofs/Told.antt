@@ -6,7 +6,7 @@ use Rattle.be_core.specs.Machine.{InTime}
 use Rattle.be_table.specs.declared.pass.Knowledge.{Knowledge}
 use Rattle.be_table.specs.Rule.{pass_of}
 use Rattle.be_table.specs.Seats.{IsTold}
-use Rattle.be_table.specs.Steps.{IsPass, announces, finds_held, unpins, leaves}
+use Rattle.be_table.specs.Steps.{IsPass, announces, finds_held, unpins, without_lock}
 use Rattle.be_table.proofs.Frames.{Me1}
 
 -- the phase changes
@@ -20,7 +20,7 @@ stepped_pass a steps h = record { within = h.within; legal = h.legal; number_bel
 pub late_pass : (a : Knowledge) (n : ℕ) → IsPass a → IsPass (finds_held a n)
 late_pass a n h = record { within = h.within; legal = h.legal; number_below = h.number_below; by_passes = h.by_passes; room = h.room; inside = h.inside; own_pages = h.own_pages; volumes = h.volumes; pin = h.pin; mine = h.mine; spelt = h.spelt }
 
-pub left_pass : (a : Knowledge) → IsPass a → IsPass (leaves a)
+pub left_pass : (a : Knowledge) → IsPass a → IsPass (without_lock a)
 left_pass a h = record { within = h.within; legal = h.legal; number_below = h.number_below; by_passes = h.by_passes; room = h.room; inside = h.inside; own_pages = h.own_pages; volumes = h.volumes; pin = h.pin; mine = h.mine; spelt = h.spelt }
 
 -- the seat has one pass, of which this is known

@@ -8,9 +8,9 @@ abbrev pub StartsWith : {A : Type 0} → List A → List A → Type 0
 StartsWith {A} log seen = (rest : List A) × (log ≡ seen ++ rest)
 
 -- each entry is by one of so many passes
-unfoldable pub AllBelow : ℕ → List Entry → Type 0
-AllBelow passes [] = Unit {0}
-AllBelow passes (e ∷ es) = (e.by < passes) × AllBelow passes es
+unfoldable pub AreOfPasses : ℕ → List Entry → Type 0
+AreOfPasses passes [] = Unit {0}
+AreOfPasses passes (e ∷ es) = (e.by < passes) × AreOfPasses passes es
 
 -- a legal journal, of operations of the program
 unfoldable pub IsHistory : List Entry → Type 0

@@ -13,7 +13,7 @@ use Rattle.be_journal.specs.declared.entries.Entry.{Entry}
 use Rattle.be_pages.specs.declared.page_pool.Place.TheVariants.{Free}
 use Rattle.be_pages.specs.Place.{undone_place, is_held_page, place_of}
 use Rattle.be_table.specs.Ledger.{is_given}
-use Rattle.be_table.specs.Rule.{ledger_places, Board, Stands, entries, page_at, reach_at, word_place, current_word, counted, joined}
+use Rattle.be_table.specs.Rule.{ledger_places, Board, Stands, entries, page_at, reach_at, word_place, current_word, one_step_on, seats_together}
 use Rattle.be_table.specs.Steps.{LookTold, Told, PinnedAt, Unpinned, PinnedRead, Locked, Unlocked, Scanned, OwnRead, FilledAt, FilledFound, PageTaken, PageGivenUp, MayBeFilled, MayPublish, Published, Compared, pages_from}
 
 -- ## The events: what a step that found the number n does to the machine
@@ -146,13 +146,13 @@ StaysShown limits b s = (d : Board) × Stands limits s d × (d.world ≡ b.world
 abbrev pub SplitIsNoEvent : Limits → ℕ → Knowledge → List Knowledge → Type 0
 SplitIsNoEvent limits id a v =
     (s : State (Option Ledger) (List Knowledge)) (b : Board) → Stands limits s b → get_elem? s.views id ≡ some (a ∷ v)
-    → StaysShown limits b (with_views s (slice_set s.views id (map counted v) ++ (counted a ∷ []) ∷ []))
+    → StaysShown limits b (with_views s (slice_set s.views id (map one_step_on v) ++ (one_step_on a ∷ []) ∷ []))
 
 -- the passes of the seat `other` go to the seat `id`, and `other` is left with none
 abbrev pub JoinIsNoEvent : Limits → ℕ → List Knowledge → ℕ → List Knowledge → Type 0
 JoinIsNoEvent limits id v other w =
-    (s : State (Option Ledger) (List Knowledge)) (b : Board) → Stands limits s b → get_elem? s.views id ≡ some v → ¬ (other ≡ id) → get_elem? (slice_set s.views id (joined v w)) other ≡ some w
-    → StaysShown limits b (with_views s (slice_set (slice_set s.views id (joined v w)) other []))
+    (s : State (Option Ledger) (List Knowledge)) (b : Board) → Stands limits s b → get_elem? s.views id ≡ some v → ¬ (other ≡ id) → get_elem? (slice_set s.views id (seats_together v w)) other ≡ some w
+    → StaysShown limits b (with_views s (slice_set (slice_set s.views id (seats_together v w)) other []))
 
 -- there is one seat more, with no pass
 abbrev pub ArrivalIsNoEvent : Limits → Type 0

@@ -24,19 +24,19 @@ standing_at GivenUp = Given
 standing_at (Retired r) = Nowhere
 
 -- where a page stands in a write with these places
-abbrev pub standing_in : List Place → ℕ → Standing
-standing_in places q = if nat_lt q 16384 then standing_at (slice_index_or places q Free) else Nowhere
+abbrev pub standing_among : List Place → ℕ → Standing
+standing_among places q = if nat_lt q 16384 then standing_at (slice_index_or places q Free) else Nowhere
 
 -- word i of the page q
-abbrev pub word_in : List ℕ → ℕ → ℕ → ℕ
-word_in words q i = if nat_lt i 512 then slice_index words (word_place q i) else 0
+abbrev pub word_of_page : List ℕ → ℕ → ℕ → ℕ
+word_of_page words q i = if nat_lt i 512 then slice_index words (word_place q i) else 0
 
 -- where the pages of an open write stand, and their words
-abbrev pub standing_of : Work → ℕ → Standing
-standing_of w q = standing_in w.knows.places q
+abbrev pub standing_in_work : Work → ℕ → Standing
+standing_in_work w q = standing_among w.knows.places q
 
 abbrev pub words_of : Work → ℕ → ℕ → ℕ
-words_of w q i = word_in w.knows.words q i
+words_of w q i = word_of_page w.knows.words q i
 
 -- what no call on an open write changes
 pub record StaysOpen : Type 0 where
@@ -63,7 +63,7 @@ pinned_standing a q = if nat_lt q 16384 && has (reach_of a.phase a.seen) q then 
 abbrev pub steady : Knowledge → Knowledge
 steady a = record a { steps = 0 }
 
-pub small_open : (w : Work) (q : ℕ) → standing_in w.knows.places q ≢ Nowhere → q < 2 ^ 32
+pub small_open : (w : Work) (q : ℕ) → standing_among w.knows.places q ≢ Nowhere → q < 2 ^ 32
 small_open w q some = elim (cases_lt q 16384) [
   | inl lt ↦ omega (arith, lt)
   | inr past ↦ absurd (some (rw (le-ltb q 16384 past) refl))

@@ -16,7 +16,7 @@ use Rattle.be_table.specs.declared.pass.Knowledge.{Knowledge}
 use Rattle.be_pages.specs.Place.{undone_place}
 use Rattle.be_table.specs.Ledger.{ShowsPlaces}
 use Rattle.be_journal.specs.Journal.{by_pass, replay}
-use Rattle.be_table.specs.History.{StartsWith, AllBelow, IsHistory}
+use Rattle.be_table.specs.History.{StartsWith, AreOfPasses, IsHistory}
 use Rattle.be_table.specs.Versions.{in_pages, SpellsVolume}
 
 -- what the table shows: the journal with its versions, the machine, and which seat each pass has
@@ -124,7 +124,7 @@ OwnPages log = (n : ℕ) → n ≤ length log → IsTrue (has (reach_at log n) (
 pub record IsSoundBoard (limits : Limits) (b : Board) : Type 0 where
   pub within : IsWithin limits
   pub legal : IsHistory (entries b.log)
-  pub by_passes : AllBelow limits.passes (entries b.log)
+  pub by_passes : AreOfPasses limits.passes (entries b.log)
   pub room : length b.log ≤ limits.commits
   pub page : page_at b.log (length b.log) < 4294967296
   pub inside : AreInside limits.pages b.log
@@ -140,13 +140,13 @@ pub record IsSoundBoard (limits : Limits) (b : Board) : Type 0 where
 -- ## The third part: what each pass knows is so
 
 -- the machine's holder, as a pass that holds the lock knows it
-abbrev pub holder_of : Knowledge → Holder
-holder_of a = record { pass = a.number; scanned = a.scanned; least = a.least; published = a.published }
+abbrev pub known_holder : Knowledge → Holder
+known_holder a = record { pass = a.number; scanned = a.scanned; least = a.least; published = a.published }
 
 -- what the holder knows
 pub record Holds (b : Board) (a : Knowledge) : Type 0 where
   pub log : a.seen ≡ b.log
-  pub holder : b.world.holder ≡ Some (holder_of a)
+  pub holder : b.world.holder ≡ Some (known_holder a)
   pub turn : a.scanned < b.world.passes
   pub count : length a.places ≡ b.world.pages
   pub shown : ShowsPlaces a.places b.world
@@ -203,18 +203,18 @@ newcomers limits steps k (suc n) = newcomer limits steps k ∷ newcomers limits 
 abbrev pub everyone : Limits → List Knowledge
 everyone limits = newcomers limits 0 0 limits.passes
 
-abbrev pub counted : Knowledge → Knowledge
-counted a = record a { steps = a.steps + 1 }
+abbrev pub one_step_on : Knowledge → Knowledge
+one_step_on a = record a { steps = a.steps + 1 }
 
 -- the first pass gets a seat of its own
 abbrev pub first_seat : List Knowledge → List Knowledge
-first_seat v = map counted (take 1 v)
+first_seat v = map one_step_on (take 1 v)
 
 abbrev pub other_seats : List Knowledge → List Knowledge
-other_seats v = map counted (drop 1 v)
+other_seats v = map one_step_on (drop 1 v)
 
-abbrev pub joined : List Knowledge → List Knowledge → List Knowledge
-joined v w = map counted v ++ map counted w
+abbrev pub seats_together : List Knowledge → List Knowledge → List Knowledge
+seats_together v w = map one_step_on v ++ map one_step_on w
 
 abbrev pub nobody : Knowledge
 nobody = newcomer (record { pages = 0; passes = 0; commits = 0 }) 0 0

@@ -11,16 +11,16 @@ use Rattle.be_table.specs.Place.{SeatFacts}
 use Rattle.be_table.specs.Rule.{pass_of, nobody, page_at}
 use Rattle.be_table.specs.Steps.{IsPass}
 
-abbrev pub is_blank : List (List Knowledge) → Bool
-is_blank [] = true
-is_blank (v ∷ vs) = false
+abbrev pub is_vacant : List (List Knowledge) → Bool
+is_vacant [] = true
+is_vacant (v ∷ vs) = false
 
 abbrev pub known_of : List (List Knowledge) → Knowledge
 known_of [] = nobody
 known_of (v ∷ vs) = pass_of v
 
 abbrev pub facts_of : Inside → SeatFacts
-facts_of s = record { blank = is_blank s.badge.views; table = s.badge.table_id; knows = known_of s.badge.views }
+facts_of s = record { blank = is_vacant s.badge.views; table = s.badge.table_id; knows = known_of s.badge.views }
 
 -- the seat's numbers are those of its pass, which doesn't hold the lock
 pub record IsTold (a : Knowledge) (number seen : ℕ) : Type 0 where

@@ -13,27 +13,27 @@ use Rattle.be_volume.specs.declared.ops.Op.{Op}
 use Rattle.be_table.specs.declared.limits.Limits.{Limits}
 use Rattle.be_table.specs.declared.pass.Commit.{Commit}
 use Rattle.be_table.specs.declared.pass.Knowledge.{Knowledge}
-use Rattle.be_pages.specs.Place.{number_of, swept_place, is_in_hand, given_place, published_place, place_of, undone_place}
+use Rattle.be_pages.specs.Place.{retired_at, swept_place, is_in_hand, given_place, published_place, place_of, undone_place}
 use Rattle.be_table.specs.Ledger.{shows_taken, shows_free, is_of_next}
 use Rattle.be_journal.specs.Journal.{HasOperations, Agrees, by_pass, replay}
-use Rattle.be_table.specs.History.{StartsWith, AllBelow, IsHistory}
-use Rattle.be_table.specs.Reading.{standing_in, word_in}
+use Rattle.be_table.specs.History.{StartsWith, AreOfPasses, IsHistory}
+use Rattle.be_table.specs.Reading.{standing_among, word_of_page}
 use Rattle.be_table.specs.Versions.{at_start, CanSpellEach, SpellsVolume}
-use Rattle.be_table.specs.Rule.{announce_word, ledger_places, IsWithin, AreInside, OwnPages, pass_of, counted, current_word, page_at, reach_at, entries, word_place}
+use Rattle.be_table.specs.Rule.{announce_word, ledger_places, IsWithin, AreInside, OwnPages, pass_of, one_step_on, current_word, page_at, reach_at, entries, word_place}
 
 -- what is always so of a pass
 pub record IsPass (a : Knowledge) : Type 0 where
   pub within : IsWithin a.limits
   pub legal : IsHistory (entries a.seen)
   pub number_below : a.number < a.limits.passes
-  pub by_passes : AllBelow a.limits.passes (entries a.seen)
+  pub by_passes : AreOfPasses a.limits.passes (entries a.seen)
   pub room : length a.seen ≤ a.limits.commits
   pub inside : AreInside a.limits.pages a.seen
   pub own_pages : OwnPages a.seen
   pub volumes : CanSpellEach a.limits.pages (entries a.seen)
   pub pin : InTime (length a.seen) a.phase
   pub mine : by_pass a.number (entries a.seen) ≡ a.mine
-  pub spelt : (x n : ℕ) → a.phase ≡ Pinned x n → SpellsVolume (reach_at a.seen n) (word_in a.image) (page_at a.seen n) (replay (take n (entries a.seen)))
+  pub spelt : (x n : ℕ) → a.phase ≡ Pinned x n → SpellsVolume (reach_at a.seen n) (word_of_page a.image) (page_at a.seen n) (replay (take n (entries a.seen)))
 
 -- a pass after a look that found this journal
 abbrev pub looks : Knowledge → List Commit → Knowledge
@@ -82,12 +82,12 @@ abbrev pub scans_out : Knowledge → ℕ → Knowledge
 scans_out a n = record a { scanned = 0; least = least_then a n; places = map (swept_place (least_then a n)) a.places; held = pages_from is_in_hand 0 a.places; steps = a.steps + 1 }
 
 -- the page is in no version from l to the last that was seen
-abbrev pub Unreached : List Commit → ℕ → ℕ → Type 0
-Unreached seen l p = (n : ℕ) → l ≤ n → n ≤ length seen → IsFalse (has (reach_at seen n) p)
+abbrev pub NoCommitReaches : List Commit → ℕ → ℕ → Type 0
+NoCommitReaches seen l p = (n : ℕ) → l ≤ n → n ≤ length seen → IsFalse (has (reach_at seen n) p)
 
 -- each page that no version from the least on reaches is free or taken
-abbrev pub LeavesNone : Knowledge → Type 0
-LeavesNone a = (p : ℕ) → p < length a.places → Unreached a.seen a.least p → IsTrue (shows_free (place_of a.places p) || shows_taken (place_of a.places p))
+abbrev pub UnreachedAreFree : Knowledge → Type 0
+UnreachedAreFree a = (p : ℕ) → p < length a.places → NoCommitReaches a.seen a.least p → IsTrue (shows_free (place_of a.places p) || shows_taken (place_of a.places p))
 
 abbrev pub scans : Knowledge → ℕ → Knowledge
 scans a n = if suc a.scanned == a.limits.passes then scans_out a n else scans_on a n
@@ -117,8 +117,8 @@ abbrev pub gives_up : Knowledge → ℕ → Knowledge
 gives_up a p = record a { places = slice_set a.places p (given_place (place_of a.places p)); steps = a.steps + 1 }
 
 -- a write by this pass
-abbrev pub entry_of : Knowledge → List Op → List Done → Entry
-entry_of a ops dones = record { by = a.number; ops = ops; dones = dones }
+abbrev pub entry_by : Knowledge → List Op → List Done → Entry
+entry_by a ops dones = record { by = a.number; ops = ops; dones = dones }
 
 -- the entry e with the version that the places make, whose version page is v
 abbrev pub commit_of : Knowledge → Entry → ℕ → Commit
@@ -138,11 +138,11 @@ pub record MayPublish (limits : Limits) (a : Knowledge) (e : Entry) (v : ℕ) : 
   pub room : length a.seen < limits.commits
   pub inside : v < length a.places
   pub filled : place_of a.places v ≡ Filled
-  pub spelt : SpellsVolume (pages_from is_of_next 0 a.places) (word_in a.words) v (replay (entries a.seen ++ e ∷ []))
+  pub spelt : SpellsVolume (pages_from is_of_next 0 a.places) (word_of_page a.words) v (replay (entries a.seen ++ e ∷ []))
 
 -- a pass that holds the lock may read the announcement of the pass j
-abbrev pub MayScan : Limits → Me (Option Ledger) (List Knowledge) → ℕ → Type 0
-MayScan limits m j = let a = pass_of m.0 in (m.0 ≡ a ∷ []) × (a.writes ≡ true) × (a.published ≡ false) × (a.scanned ≡ j) × (j < limits.passes)
+abbrev pub MayReadAnnouncement : Limits → Me (Option Ledger) (List Knowledge) → ℕ → Type 0
+MayReadAnnouncement limits m j = let a = pass_of m.0 in (m.0 ≡ a ∷ []) × (a.writes ≡ true) × (a.published ≡ false) × (a.scanned ≡ j) × (j < limits.passes)
 
 abbrev pub MayBeFilled : List Place → ℕ → Type 0
 MayBeFilled places p = (p < length places) × IsTrue (shows_taken (place_of places p) || shows_free (place_of places p))
@@ -162,8 +162,8 @@ pub record IsFound (ledger : Ledger) (c : Knowledge) : Type 0 where
   pub idle : map undone_place c.places ≡ c.places
   pub count : length c.places ≡ c.limits.pages
   pub size : length c.words ≡ 528 + 512 * c.limits.pages
-  pub begun : (q : ℕ) → standing_in c.places q ≡ at_start (has (reach_at c.seen (length c.seen)) q)
-  pub spelt : SpellsVolume (reach_at c.seen (length c.seen)) (word_in c.words) (page_at c.seen (length c.seen)) (replay (entries c.seen))
+  pub begun : (q : ℕ) → standing_among c.places q ≡ at_start (has (reach_at c.seen (length c.seen)) q)
+  pub spelt : SpellsVolume (reach_at c.seen (length c.seen)) (word_of_page c.words) (page_at c.seen (length c.seen)) (replay (entries c.seen))
 
 -- the lock was free: the slot is out with the pass, which has seen the journal in it
 abbrev pub Gets : Me (Option Ledger) (List Knowledge) → Me (Option Ledger) (List Knowledge) → Type 0
@@ -176,19 +176,19 @@ abbrev pub finds_held : Knowledge → ℕ → Knowledge
 finds_held a b = record a { holders = b ∷ a.holders; steps = a.steps + 1 }
 
 -- another pass holds the lock, of whose number the word has one more
-abbrev pub IsLate : Me (Option Ledger) (List Knowledge) → ℕ → Me (Option Ledger) (List Knowledge) → Type 0
-IsLate m n r = let a = pass_of m.0 in (r ≡ (finds_held a (n - 1) ∷ [], m.1)) × (n ≢ a.number + 1) × (n < a.limits.passes + 1)
+abbrev pub LockIsHeld : Me (Option Ledger) (List Knowledge) → ℕ → Me (Option Ledger) (List Knowledge) → Type 0
+LockIsHeld m n r = let a = pass_of m.0 in (r ≡ (finds_held a (n - 1) ∷ [], m.1)) × (n ≢ a.number + 1) × (n < a.limits.passes + 1)
 
 abbrev pub Locked : Step (Option Ledger) → Me (Option Ledger) (List Knowledge) → ℕ → Me (Option Ledger) (List Knowledge) → Type 0
-Locked st m n r = MatchBool (n == 0) (Gets m r) (IsLate m n r)
+Locked st m n r = MatchBool (n == 0) (Gets m r) (LockIsHeld m n r)
 
 -- a pass without the lock
-abbrev pub leaves : Knowledge → Knowledge
-leaves a = record a { writes = false; steps = a.steps + 1 }
+abbrev pub without_lock : Knowledge → Knowledge
+without_lock a = record a { writes = false; steps = a.steps + 1 }
 
 -- the pass has seen this journal
-abbrev pub sees : Knowledge → List Commit → Knowledge
-sees a log = record a { seen = log; steps = a.steps + 1 }
+abbrev pub having_seen : Knowledge → List Commit → Knowledge
+having_seen a log = record a { seen = log; steps = a.steps + 1 }
 
 -- the same after three steps: a join, a comparison and a cut
 abbrev pub met : Knowledge → List Commit → Knowledge
@@ -201,7 +201,7 @@ longer p q = if ltb (length p) (length q) then q else p
 abbrev pub Compared : Step (Option Ledger) → Me (Option Ledger) (List Knowledge) → ℕ → Me (Option Ledger) (List Knowledge) → Type 0
 Compared st m n r =
     let a = pass_of m.0 in let c = pass_of (drop 1 m.0) in let log = longer a.seen c.seen in
-    (r ≡ (sees a log ∷ sees c log ∷ [], m.1)) × StartsWith log a.seen × StartsWith log c.seen × IsPass (sees a log) × IsPass (sees c log)
+    (r ≡ (having_seen a log ∷ having_seen c log ∷ [], m.1)) × StartsWith log a.seen × StartsWith log c.seen × IsPass (having_seen a log) × IsPass (having_seen c log)
 
 -- a new seat has no pass
 abbrev pub Arrived : Step (Option Ledger) → Me (Option Ledger) (List Knowledge) → ℕ → Me (Option Ledger) (List Knowledge) → Type 0
@@ -224,7 +224,7 @@ KeepsSeen log (a ∷ v) = StartsWith log (entries a.seen) × (by_pass a.number l
 
 -- the ledger is at home
 abbrev pub Unlocked : Step (Option Ledger) → Me (Option Ledger) (List Knowledge) → ℕ → Me (Option Ledger) (List Knowledge) → Type 0
-Unlocked st m n r = let a = pass_of m.0 in r ≡ (leaves a ∷ [], [])
+Unlocked st m n r = let a = pass_of m.0 in r ≡ (without_lock a ∷ [], [])
 
 -- the announcement stands
 abbrev pub Told : Step (Option Ledger) → Me (Option Ledger) (List Knowledge) → ℕ → Me (Option Ledger) (List Knowledge) → Type 0
@@ -241,15 +241,15 @@ Unpinned st m n r = let a = pass_of m.0 in r ≡ (unpins a ∷ [], m.1)
 
 -- one announcement was found, and of its own the pass finds what it has announced
 abbrev pub Scanned : Step (Option Ledger) → Me (Option Ledger) (List Knowledge) → ℕ → Me (Option Ledger) (List Knowledge) → Type 0
-Scanned st m n r = let a = pass_of m.0 in (r ≡ (scans a n ∷ [], m.1)) × (suc a.scanned ≡ a.limits.passes → LeavesNone (scans_out a n)) × (a.scanned ≡ a.number → n ≡ announce_word a.phase)
+Scanned st m n r = let a = pass_of m.0 in (r ≡ (scans a n ∷ [], m.1)) × (suc a.scanned ≡ a.limits.passes → UnreachedAreFree (scans_out a n)) × (a.scanned ≡ a.number → n ≡ announce_word a.phase)
 
 -- a word of the pinned version was found
 abbrev pub PinnedRead : Step (Option Ledger) → Me (Option Ledger) (List Knowledge) → ℕ → Me (Option Ledger) (List Knowledge) → Type 0
-PinnedRead st m n r = let a = pass_of m.0 in (r ≡ (counted a ∷ [], m.1)) × (n ≡ slice_index a.image st.word)
+PinnedRead st m n r = let a = pass_of m.0 in (r ≡ (one_step_on a ∷ [], m.1)) × (n ≡ slice_index a.image st.word)
 
 -- a word of a page was found by the holder
 abbrev pub OwnRead : Step (Option Ledger) → Me (Option Ledger) (List Knowledge) → ℕ → Me (Option Ledger) (List Knowledge) → Type 0
-OwnRead st m n r = let a = pass_of m.0 in (r ≡ (counted a ∷ [], m.1)) × (n ≡ slice_index a.words st.word)
+OwnRead st m n r = let a = pass_of m.0 in (r ≡ (one_step_on a ∷ [], m.1)) × (n ≡ slice_index a.words st.word)
 
 abbrev pub FilledAt : Step (Option Ledger) → Me (Option Ledger) (List Knowledge) → ℕ → Me (Option Ledger) (List Knowledge) → Type 0
 FilledAt st m n r = let a = pass_of m.0 in (p i : ℕ) → st.word ≡ word_place p i → i < 512 → r ≡ (fills a p i n ∷ [], m.1)
@@ -270,7 +270,7 @@ pub record IsPart (passes : ℕ) (a s : Knowledge) (j least : ℕ) : Type 0 wher
   pub same : s ≡ record a { scanned = s.scanned; least = s.least; places = s.places; held = s.held; steps = s.steps }
   pub turn : j < passes → s.scanned ≡ j
   pub waits : j < passes → s.places ≡ a.places
-  pub whole : j ≡ passes → (s.scanned ≡ 0) × (s.places ≡ map (swept_place least) a.places) × (s.held ≡ pages_from is_in_hand 0 a.places) × LeavesNone s
+  pub whole : j ≡ passes → (s.scanned ≡ 0) × (s.places ≡ map (swept_place least) a.places) × (s.held ≡ pages_from is_in_hand 0 a.places) × UnreachedAreFree s
   pub begins : j ≡ 0 → least ≡ length a.seen
   pub so_far : 0 < j → s.least ≡ least
 
@@ -283,8 +283,8 @@ abbrev pub IsOwnLeast : Knowledge → ℕ → Type 0
 IsOwnLeast a least = (least ≤ own_least a) × (a.limits.passes ≡ 1 → least ≡ own_least a)
 
 -- no page was retired with a number above that of the current version
-abbrev pub IsNewest : Knowledge → Type 0
-IsNewest a = (q : ℕ) → number_of a.places q ≤ length a.seen
+abbrev pub NoneRetiredLater : Knowledge → Type 0
+NoneRetiredLater a = (q : ℕ) → retired_at a.places q ≤ length a.seen
 
 abbrev pub Published : Entry → ℕ → Step (Option Ledger) → Me (Option Ledger) (List Knowledge) → ℕ → Me (Option Ledger) (List Knowledge) → Type 0
-Published e v st m n r = let a = pass_of m.0 in (r ≡ (publishes a e v ∷ [], m.1)) × IsPass (publishes a e v) × IsNewest a
+Published e v st m n r = let a = pass_of m.0 in (r ≡ (publishes a e v ∷ [], m.1)) × IsPass (publishes a e v) × NoneRetiredLater a

@@ -12,11 +12,11 @@ use Rattle.be_table.specs.History.{StartsWith}
 use Rattle.be_pages.specs.declared.page_pool.Place.TheVariants.{Free}
 use Rattle.be_pages.specs.Place.{undone_place, swept_place, place_of, is_in_hand, is_retired}
 use Rattle.be_table.specs.Place.{SeatFacts, Opened, Work}
-use Rattle.be_table.specs.Reading.{standing_in, word_in}
+use Rattle.be_table.specs.Reading.{standing_among, word_of_page}
 use Rattle.be_table.specs.Versions.{at_start, SpellsVolume}
 use Rattle.be_journal.specs.Journal.{replay}
 use Rattle.be_table.specs.Rule.{AreBad, IsWithin, entries, page_at, reach_at, newcomer}
-use Rattle.be_table.specs.Steps.{Has, AllIdle, KeepsSeen, IsPass, looks, finds_held, takes_lock, pins, takes_page, scans_all, IsLeastAnnounced, IsOwnLeast, pages_from, LeavesNone, Unreached}
+use Rattle.be_table.specs.Steps.{Has, AllIdle, KeepsSeen, IsPass, looks, finds_held, takes_lock, pins, takes_page, scans_all, IsLeastAnnounced, IsOwnLeast, pages_from, UnreachedAreFree, NoCommitReaches}
 
 -- a seat of this table
 abbrev pub IsSeatOf : Opened → SeatFacts → Type 0
@@ -50,8 +50,8 @@ pub record TakesLock (a c : Knowledge) : Type 0 where
   pub more : StartsWith c.seen a.seen
   pub same : c ≡ takes_lock a c.seen c.places c.words
   pub idle : map undone_place c.places ≡ c.places
-  pub begun : (q : ℕ) → standing_in c.places q ≡ at_start (has (reach_at c.seen (length c.seen)) q)
-  pub spelt : SpellsVolume (reach_at c.seen (length c.seen)) (word_in c.words) (page_at c.seen (length c.seen)) (replay (entries c.seen))
+  pub begun : (q : ℕ) → standing_among c.places q ≡ at_start (has (reach_at c.seen (length c.seen)) q)
+  pub spelt : SpellsVolume (reach_at c.seen (length c.seen)) (word_of_page c.words) (page_at c.seen (length c.seen)) (replay (entries c.seen))
   pub pass : IsPass c
 
 -- the pass, which had announced x, is pinned at the current number
@@ -61,8 +61,8 @@ pub record PinsCurrent (a c : Knowledge) : Type 0 where
   pub pass : IsPass c
 
 -- the pass made one try, which found that another pass of the table holds the lock; the refusal names that pass
-abbrev pub IsBusy : Refusal → Knowledge → Knowledge → Type 0
-IsBusy r a c = (b : ℕ) × (r ≡ Busy b) × (b < a.limits.passes) × (b ≢ a.number) × (c ≡ finds_held a b)
+abbrev pub FoundHeld : Refusal → Knowledge → Knowledge → Type 0
+FoundHeld r a c = (b : ℕ) × (r ≡ Busy b) × (b < a.limits.passes) × (b ≢ a.number) × (c ≡ finds_held a b)
 
 -- why an entry has no room
 abbrev pub HasNoRoom : Refusal → Knowledge → Type 0
@@ -75,7 +75,7 @@ pub record MakesScan (old new : Work) (least : ℕ) : Type 0 where
   pub own : IsOwnLeast old.knows least
   pub places : new.knows.places ≡ map (swept_place least) old.knows.places
   pub held : new.knows.held ≡ pages_from is_in_hand 0 old.knows.places
-  pub leaves : LeavesNone new.knows
+  pub leaves : UnreachedAreFree new.knows
   pub left : new.left ≡ count_by is_retired new.knows.places
   pub same : new ≡ record old { knows = record old.knows { scanned = 0; least = least; places = new.knows.places; held = new.knows.held; steps = new.knows.steps }; left = new.left }
 
@@ -95,7 +95,7 @@ pub record TakesPage (old new : Work) (page : ℕ) : Type 0 where
 
 -- of the pages that no version from the least on reaches, each is held by the write
 abbrev pub HoldsUnreached : Knowledge → ℕ → Type 0
-HoldsUnreached a least = (p : ℕ) → p < a.limits.pages → Unreached a.seen least p → IsTrue (has a.held p)
+HoldsUnreached a least = (p : ℕ) → p < a.limits.pages → NoCommitReaches a.seen least p → IsTrue (has a.held p)
 
 -- This is the least of the write's last whole scan, and of the pages that no version from there on reaches the write held each. It is no more than the current number and what the pass has announced; and of the only pass it is the least of the two.
 abbrev pub IsSpent : Knowledge → ℕ → Type 0
@@ -109,8 +109,8 @@ pub record FindsNone (old new : Work) (least : ℕ) : Type 0 where
   pub spent : IsSpent new.knows least
 
 -- why a table with these limits was not opened
-abbrev pub IsUnopened : Limits → Refusal → Type 0
-IsUnopened l r = ((r ≡ BadLimits) × AreBad l) ⊎ ((r ≡ OutOfMemory) × IsWithin l)
+abbrev pub IsOpenRefused : Limits → Refusal → Type 0
+IsOpenRefused l r = ((r ≡ BadLimits) × AreBad l) ⊎ ((r ≡ OutOfMemory) × IsWithin l)
 
 -- what a seat knows that has taken in these passes
 pub record Gathered (known v : List Knowledge) : Type 0 where

@@ -5,7 +5,7 @@
 ghost use Rattle.std.specs.Prelude.{◌≡◌, ◌≤◌, ℕ, count_by, map, length};
 ghost use Rattle.be_journal.specs.Journal.{Grows, extended, with_room};
 ghost use Rattle.be_pages.specs.PagePool.{places};
-ghost use Rattle.be_pages.specs.Place.{is_retired, number_of, undone_place, swept_place, published_place};
+ghost use Rattle.be_pages.specs.Place.{is_retired, retired_at, undone_place, swept_place, published_place};
 
 use be_journal::Journal;
 use be_pages::PagePool;
@@ -56,7 +56,7 @@ impl Ledger {
     pub fn append(&mut self, by: u64, ops: &[Op], dones: &[Done], page: u64)
         requires some { (1 ≤ length ops.now) × (length ops.now ≤ 64) }
         requires room { (length ops.now ≡ self.old.journal.reserved) × (length dones.now ≡ self.old.journal.reserved) }
-        requires newest { (q : ℕ) → number_of (places self.old.pool) q ≤ length self.old.journal.entries }
+        requires newest { (q : ℕ) → retired_at (places self.old.pool) q ≤ length self.old.journal.entries }
         ensures journal { self.new.journal ≡ extended self.old.journal (record { by = by; ops = ops.now; dones = dones.now }) }
         ensures page { self.new.page ≡ page }
         ensures left { self.new.left ≡ self.old.left }

@@ -5,7 +5,7 @@
 ghost use Rattle.std.specs.Prelude.{◌≡◌, ◌<◌, IsTrue, slice_index};
 ghost use Rattle.be_pages.specs.Pages.{is_readable};
 ghost use Rattle.be_table.specs.Reading.{pinned_standing};
-ghost use Rattle.be_table.specs.Rule.{counted, word_place};
+ghost use Rattle.be_table.specs.Rule.{one_step_on, word_place};
 
 use crate::marks::Marks;
 use crate::rule::PinnedWord;
@@ -48,7 +48,7 @@ impl<'a> PinnedLook<'a> {
     fn read(&mut self, page: u64, i: usize) -> u64
         requires page { IsTrue (is_readable (pinned_standing self.old.knows page)) }
         requires place { i < 512 }
-        ensures look { self.new ≡ record self.old { knows = counted self.old.knows } }
+        ensures look { self.new ≡ record self.old { knows = one_step_on self.old.knows } }
         ensures word { result ≡ slice_index self.old.knows.image (word_place page i) }
     {
         let table = self.table;
@@ -73,7 +73,7 @@ impl<'a> Look for PinnedLook<'a> {
     ghost use Rattle.std.specs.Prelude.{true};
     ghost use Rattle.be_table.specs.declared.pass.Knowledge.{Knowledge};
     ghost use Rattle.be_table.specs.Place.{Opened};
-    ghost use Rattle.be_table.specs.Reading.{steady, word_in, small_pin};
+    ghost use Rattle.be_table.specs.Reading.{steady, word_of_page, small_pin};
 
     ghost Kept = { Opened × Knowledge };
 
@@ -83,7 +83,7 @@ impl<'a> Look for PinnedLook<'a> {
 
     ghost standing = { λ p q. pinned_standing p.knows q };
 
-    ghost words = { λ p q i. word_in p.knows.image q i };
+    ghost words = { λ p q i. word_of_page p.knows.image q i };
 
     ghost pages_small = { small_pin };
 

@@ -10,7 +10,7 @@ use be_value::Refusal;
 
 impl<'a> Look for Writing<'a> {
     ghost use Rattle.std.specs.Prelude.{not};
-    ghost use Rattle.be_table.specs.Reading.{StaysOpen, open_of, standing_of, words_of, small_open};
+    ghost use Rattle.be_table.specs.Reading.{StaysOpen, open_of, standing_in_work, words_of, small_open};
 
     ghost Kept = { StaysOpen };
 
@@ -18,7 +18,7 @@ impl<'a> Look for Writing<'a> {
 
     ghost is_open = { λ k. not k.published };
 
-    ghost standing = { standing_of };
+    ghost standing = { standing_in_work };
 
     ghost words = { words_of };
 

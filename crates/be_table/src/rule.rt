@@ -3,7 +3,7 @@
 //! A step on a word is allowed where, whatever the table is then, the rule still holds after it. What the step tells
 //! its pass is the definition that its name carries.
 ghost use Rattle.std.specs.Prelude.{[]};
-ghost use Rattle.be_table.specs.Rule.{Shows, everyone, first_seat, other_seats, joined};
+ghost use Rattle.be_table.specs.Rule.{Shows, everyone, first_seat, other_seats, seats_together};
 ghost use Rattle.be_table.specs.Steps.{LookTold, Locked, Unlocked, Compared, Arrived, Told, PinnedAt, Unpinned, Scanned, PinnedRead};
 ghost use Rattle.be_table.specs.Steps.{OwnRead, FilledAt, FilledFound, PageTaken, PageGivenUp, Published};
 
@@ -49,7 +49,7 @@ impl Split<View> for Deal {
 }
 
 impl Join<View> for Deal {
-    ghost both = { joined };
+    ghost both = { seats_together };
 
     ghost spent = { [] };
 }

@@ -39,7 +39,7 @@ impl Model for Seat {
 impl Seat {
     ghost use Rattle.std.specs.Prelude.{take};
     ghost use Rattle.be_journal.specs.Journal.{replay};
-    ghost use Rattle.be_table.specs.Reading.{word_in};
+    ghost use Rattle.be_table.specs.Reading.{word_of_page};
     ghost use Rattle.be_table.specs.Rule.{entries};
     ghost use Rattle.be_table.specs.Seats.{IsTold, pin_of, pinned_number};
     ghost use Rattle.be_table.specs.Steps.{IsPass};
@@ -104,7 +104,7 @@ impl Seat {
         ensures page { (x n : ℕ) → self.now.knows.phase ≡ Pinned x n → result ≡ page_at self.now.knows.seen n }
         ensures readable { (x n : ℕ) → self.now.knows.phase ≡ Pinned x n → IsTrue (has (reach_at self.now.knows.seen n) result) }
         ensures spelt { (x n : ℕ) → self.now.knows.phase ≡ Pinned x n
-            → SpellsVolume (reach_at self.now.knows.seen n) (word_in self.now.knows.image) (page_at self.now.knows.seen n)
+            → SpellsVolume (reach_at self.now.knows.seen n) (word_of_page self.now.knows.image) (page_at self.now.knows.seen n)
             (replay (take n (entries self.now.knows.seen))) }
     {
         self.is_pass();

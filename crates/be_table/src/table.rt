@@ -5,7 +5,7 @@
 //! word 528 + 512 p + i.
 ghost use Rattle.std.specs.Prelude.{◌≡◌, ℕ, ◌<◌, false, length, map, MatchResult, IsTrue, slice_index};
 ghost use Rattle.be_core.specs.Machine.{has};
-ghost use Rattle.be_table.specs.Rule.{counted, reach_at, word_place, page_at};
+ghost use Rattle.be_table.specs.Rule.{one_step_on, reach_at, word_place, page_at};
 
 use crate::deal::{deal, gather, lay_first};
 use crate::ledger::Ledger;
@@ -59,13 +59,13 @@ impl Model for VersionTable {
 }
 
 impl VersionTable {
-    ghost use Rattle.be_table.specs.Works.{IsSeatOf, SeesMore, TakesLock, IsBusy, PinsCurrent, AreNew, IsUnopened, AllAt, knows_of};
+    ghost use Rattle.be_table.specs.Works.{IsSeatOf, SeesMore, TakesLock, FoundHeld, PinsCurrent, AreNew, IsOpenRefused, AllAt, knows_of};
     ghost use Rattle.be_table.specs.Steps.{announces, unpins, met, longer, Has, KeepsSeen};
     ghost use Rattle.be_core.specs.declared.event.Phase.TheVariants.{Pinned};
     ghost use Rattle.be_journal.specs.Journal.{IsLegal, replay};
-    ghost use Rattle.be_table.specs.Reading.{pinned_standing, word_in};
+    ghost use Rattle.be_table.specs.Reading.{pinned_standing, word_of_page};
     ghost use Rattle.be_table.specs.Rule.{IsWithin, entries};
-    ghost use Rattle.be_table.specs.History.{StartsWith, AllBelow};
+    ghost use Rattle.be_table.specs.History.{StartsWith, AreOfPasses};
     ghost use Rattle.std.specs.Prelude.{[], ◌∷◌, take};
     ghost use Rattle.be_table.specs.Versions.{at_start, CanSpellEach};
     ghost use Rattle.be_paged.specs.Version.{IsVersion};
@@ -84,7 +84,7 @@ impl VersionTable {
         requires { IsVersion (λ q. at_start (has (0 ∷ []) q)) (λ q i. slice_index first.now i) 0 empty }
         ensures { MatchResult result
             (λ r. (r.0.limits ≡ limits) × (length r.1.items ≡ limits.passes) × AreNew r.0 0 r.1.items × IsWithin limits)
-            (λ r. IsUnopened limits r) }
+            (λ r. IsOpenRefused limits r) }
     {
         if !limits.are_within() {
             return Err(Refusal::BadLimits);
@@ -191,7 +191,7 @@ impl VersionTable {
         requires { IsSeatOf self.now seat }
         ensures { MatchResult result
             (λ w. (w.table ≡ self.now) × (w.reserved ≡ 0) × TakesLock seat.knows w.knows)
-            (λ r. IsSeatOf self.now r.0 × IsBusy r.1 seat.knows r.0.knows) }
+            (λ r. IsSeatOf self.now r.0 × FoundHeld r.1 seat.knows r.0.knows) }
     {
         let (mut base, marks) = seat.into_base();
         let shared = &self.table.shared;
@@ -210,7 +210,7 @@ impl VersionTable {
         requires pinned { (x : ℕ) × (n : ℕ) × (seat.old.knows.phase ≡ Phase.Pinned x n) × IsTrue (has (reach_at seat.old.knows.seen n) page) }
         requires place { i < 512 }
         ensures seat { IsSeatOf self.now seat.new }
-        ensures pass { seat.new.knows ≡ counted seat.old.knows }
+        ensures pass { seat.new.knows ≡ one_step_on seat.old.knows }
         ensures word { result ≡ slice_index seat.old.knows.image (word_place page i) }
     {
         let (mut base, marks) = seat.move_out().into_base();
@@ -227,7 +227,7 @@ impl VersionTable {
         requires pinned { (x : ℕ) × (n : ℕ) × (seat.knows.phase ≡ Phase.Pinned x n) }
         ensures look { (result.table ≡ self.now) × (result.knows ≡ seat.knows) }
         ensures version { (x n : ℕ) → seat.knows.phase ≡ Pinned x n
-            → IsVersion (pinned_standing result.knows) (word_in result.knows.image) (page_at result.knows.seen n)
+            → IsVersion (pinned_standing result.knows) (word_of_page result.knows.image) (page_at result.knows.seen n)
             (replay (take n (entries result.knows.seen))) }
     {
         seat.is_pass();
@@ -267,7 +267,7 @@ impl VersionTable {
         requires seats { AllAt self.id seats.items }
         requires all { (k : ℕ) → k < self.limits.passes → Has (map knows_of seats.items) k }
         ensures legal { IsLegal result.entries }
-        ensures by { AllBelow self.limits.passes result.entries }
+        ensures by { AreOfPasses self.limits.passes result.entries }
         ensures seats { KeepsSeen result.entries (map knows_of seats.items) }
         ensures volumes { CanSpellEach self.limits.pages result.entries }
     {

@@ -7,11 +7,11 @@ ghost use Rattle.std.specs.Prelude.{◌≡◌, ◌≤◌, All, suc, ◌+◌, ◌
 ghost use Rattle.std.specs.Prelude.{map, slice_index, IsTrue, List, IfOk, IfErr, IfSome, IfNone, ◌≢◌, Ok, string_bytes};
 ghost use Rattle.be_volume.specs.Sound.{IsOperation};
 ghost use Rattle.be_pages.specs.declared.room.Standing.TheVariants.{Taken, Filled as Full};
-ghost use Rattle.be_table.specs.Reading.{standing_in};
+ghost use Rattle.be_table.specs.Reading.{standing_among};
 ghost use Rattle.be_pages.specs.Place.{is_in_hand, is_held_page, is_retired, place_of, given_place};
-ghost use Rattle.be_table.specs.Rule.{announce_word, pass_of, counted, word_place, current_word};
-ghost use Rattle.be_table.specs.Steps.{IsNewest, IsPass, IsFound, MayPublish, publishes, MayBeFilled, MayScan, IsPart, fills_word};
-ghost use Rattle.be_table.specs.Steps.{takes_page, gives_up, scans, scans_out, scans_all, least_found, IsLeastAnnounced, IsOwnLeast, LeavesNone};
+ghost use Rattle.be_table.specs.Rule.{announce_word, pass_of, one_step_on, word_place, current_word};
+ghost use Rattle.be_table.specs.Steps.{NoneRetiredLater, IsPass, IsFound, MayPublish, publishes, MayBeFilled, MayReadAnnouncement, IsPart, fills_word};
+ghost use Rattle.be_table.specs.Steps.{takes_page, gives_up, scans, scans_out, scans_all, least_found, IsLeastAnnounced, IsOwnLeast, UnreachedAreFree};
 
 use crate::ledger::Ledger;
 use crate::marks::Marks;
@@ -54,18 +54,18 @@ impl<'a> Writing<'a> {
     ghost use Rattle.be_pages.specs.Refusal.{IsFullOf};
     ghost use Rattle.be_table.specs.Works.{IsSeatOf, HasNoRoom, MakesScan, TakesPage, FindsNone};
     ghost use Rattle.be_table.specs.Rule.{page_at, entries};
-    ghost use Rattle.be_table.specs.Steps.{entry_of};
+    ghost use Rattle.be_table.specs.Steps.{entry_by};
     ghost use Rattle.be_journal.specs.Journal.{Agrees, replay};
     ghost use Rattle.be_journal.specs.Text.{lines_from};
     ghost use Rattle.be_value.specs.Refusal.{Answers};
-    ghost use Rattle.be_table.specs.Steps.{leaves};
+    ghost use Rattle.be_table.specs.Steps.{without_lock};
     ghost use Rattle.be_table.specs.Seats.{pin_of};
-    ghost use Rattle.be_table.specs.Reading.{word_in};
+    ghost use Rattle.be_table.specs.Reading.{word_of_page};
     ghost use Rattle.be_core.specs.Machine.{bit};
     ghost use Rattle.be_pages.specs.Pages.{is_kept, times};
     ghost use Rattle.be_paged.specs.Page.{reach};
     ghost use Rattle.be_paged.specs.Version.{IsVersion};
-    ghost use Rattle.be_volume.specs.Ahead.{after};
+    ghost use Rattle.be_volume.specs.Ahead.{state_after};
 
     pub(crate) fn of(
         table: &'a VersionTable,
@@ -109,7 +109,7 @@ impl<'a> Writing<'a> {
     /// Word i of a page, as the current version has it or as this write filled it. One load.
     pub fn own_word(&mut self, page: u64, i: usize) -> u64
         requires place { (page < length self.old.knows.places) × (i < 512) }
-        ensures write { self.new ≡ record self.old { knows = counted self.old.knows } }
+        ensures write { self.new ≡ record self.old { knows = one_step_on self.old.knows } }
         ensures word { result ≡ slice_index self.old.knows.words (word_place page i) }
     {
         let table = self.table;
@@ -217,7 +217,7 @@ impl<'a> Writing<'a> {
 
     /// A page that stands filled is one of the table. It does nothing.
     fn is_filled(&self, page: u64)
-        requires { standing_in self.now.knows.places page ≡ Full }
+        requires { standing_among self.now.knows.places page ≡ Full }
         ensures { (page < length self.now.knows.places) × (place_of self.now.knows.places page ≡ Place.Filled) }
     {}
 
@@ -228,13 +228,13 @@ impl<'a> Writing<'a> {
         requires open { self.old.knows.published ≡ false }
         requires count { (1 ≤ length ops.now) × (length ops.now ≤ 64) }
         requires reserved { length ops.now ≡ self.old.reserved }
-        requires entry { Agrees (replay (entries self.old.knows.seen)) (entry_of self.old.knows ops.now dones.now) }
-        requires page { standing_in self.old.knows.places page ≡ Full }
-        requires filled { (q : ℕ) → standing_in self.old.knows.places q ≢ Taken }
-        requires volume { IsVersion (standing_in self.old.knows.places) (word_in self.old.knows.words)
-            page (after (replay (entries self.old.knows.seen)) ops.now) }
-        requires exact { (q : ℕ) → times q (reach (word_in self.old.knows.words) page) ≡ bit (is_kept (standing_in self.old.knows.places q)) }
-        ensures write { self.new ≡ record self.old { knows = publishes self.old.knows (entry_of self.old.knows ops.now dones.now) page; reserved = 0 } }
+        requires entry { Agrees (replay (entries self.old.knows.seen)) (entry_by self.old.knows ops.now dones.now) }
+        requires page { standing_among self.old.knows.places page ≡ Full }
+        requires filled { (q : ℕ) → standing_among self.old.knows.places q ≢ Taken }
+        requires volume { IsVersion (standing_among self.old.knows.places) (word_of_page self.old.knows.words)
+            page (state_after (replay (entries self.old.knows.seen)) ops.now) }
+        requires exact { (q : ℕ) → times q (reach (word_of_page self.old.knows.words) page) ≡ bit (is_kept (standing_among self.old.knows.places q)) }
+        ensures write { self.new ≡ record self.old { knows = publishes self.old.knows (entry_by self.old.knows ops.now dones.now) page; reserved = 0 } }
         ensures result { result ≡ length self.new.knows.seen }
     {
         all_valid(ops);
@@ -252,7 +252,7 @@ impl<'a> Writing<'a> {
     /// Gives the ledger and the lock back. What wasn't published is undone. One store.
     pub fn unlock(self) -> Seat
         ensures seat { IsSeatOf self.entry.table result }
-        ensures pass { result.knows ≡ leaves self.entry.knows }
+        ensures pass { result.knows ≡ without_lock self.entry.knows }
     {
         let Writing {
             table,
@@ -296,7 +296,7 @@ fn store_version<E: NextVersion>(
     ensures seat { (base.new.table_id ≡ base.old.table_id) × (base.new.id ≡ base.old.id) }
     ensures me { base.new.me ≡ (publishes (pass_of base.old.me.0) E.entry page ∷ [], base.old.me.1) }
     ensures pass { IsPass (publishes (pass_of base.old.me.0) E.entry page) }
-    ensures newest { IsNewest (pass_of base.old.me.0) }
+    ensures newest { NoneRetiredLater (pass_of base.old.me.0) }
 {
     table.table.shared.store::<Publish<E>>(base, CURRENT, word)
 }
@@ -336,10 +336,10 @@ fn fill_word(table: &VersionTable, base: &mut Base, page: u64, i: usize, word: u
 /// One announcement, of the pass whose turn it is.
 fn read_announcement(table: &VersionTable, base: &mut Base, pass: u64) -> u64
     requires seat { base.old.table_id ≡ table.now.id }
-    requires pass { MayScan table.now.limits base.old.me pass }
+    requires pass { MayReadAnnouncement table.now.limits base.old.me pass }
     ensures seat { (base.new.table_id ≡ base.old.table_id) × (base.new.id ≡ base.old.id) }
     ensures me { base.new.me ≡ (scans (pass_of base.old.me.0) result ∷ [], base.old.me.1) }
-    ensures leaves { suc (pass_of base.old.me.0).scanned ≡ (pass_of base.old.me.0).limits.passes → LeavesNone (scans_out (pass_of base.old.me.0) result) }
+    ensures leaves { suc (pass_of base.old.me.0).scanned ≡ (pass_of base.old.me.0).limits.passes → UnreachedAreFree (scans_out (pass_of base.old.me.0) result) }
     ensures own { (pass_of base.old.me.0).scanned ≡ (pass_of base.old.me.0).number → result ≡ announce_word (pass_of base.old.me.0).phase }
 {
     table
@@ -360,7 +360,7 @@ fn lower(least: u64, found: u64) -> u64
 
 fn read_all(table: &VersionTable, base: &mut Base, current: u64) -> u64
     requires seat { base.old.table_id ≡ table.now.id }
-    requires pass { MayScan table.now.limits base.old.me 0 }
+    requires pass { MayReadAnnouncement table.now.limits base.old.me 0 }
     requires number { (pass_of base.old.me.0).number < table.now.limits.passes }
     requires current { ((pass_of base.old.me.0).limits ≡ table.now.limits) × (current ≡ length (pass_of base.old.me.0).seen) }
     ensures seat { (base.new.table_id ≡ base.old.table_id) × (base.new.id ≡ base.old.id) }

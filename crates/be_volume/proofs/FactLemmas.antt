@@ -22,7 +22,7 @@ use Rattle.be_volume.specs.declared.maps.Index.{Index}
 use Rattle.be_volume.specs.declared.ops.Op.{Op}
 use Rattle.be_volume.specs.declared.ops.Op.TheVariants.{New, Drop, Set, Unset, MkIndex, RmIndex}
 use Rattle.be_volume.specs.Volume.{State, step, steps, advance}
-use Rattle.be_volume.specs.Ahead.{reached, after, next_after, node_after, attribute_after, count_after, sets_after, index_after, indices_after, IsThere}
+use Rattle.be_volume.specs.Ahead.{reached, state_after, next_after, node_after, attribute_after, count_after, sets_after, index_after, indices_after, IsThere}
 use Rattle.be_volume.proofs.MapLemmas.{names_total, exact_names}
 use Rattle.be_volume.proofs.StepLemmas.{made, Found, accepted, Turn, turn, refused_stays, not_both}
 
@@ -407,46 +407,46 @@ module _ (s : State) (ops : List Op) (i : ℕ) (op : Op) (short : i < length ops
   now : Turn s ops i op
   now = turn s ops i op short at ok
 
-  pub next_turn : (next : ℕ) → next ≡ (after s (take i ops)).next → next_after op next ≡ (after s (take (i + 1) ops)).next
-  next_turn next e = ap (next_after op) e ∙ sym (ap (λ t. t.next) now.is ∙ next_is (after s (take i ops)) op now.accepted)
+  pub next_turn : (next : ℕ) → next ≡ (state_after s (take i ops)).next → next_after op next ≡ (state_after s (take (i + 1) ops)).next
+  next_turn next e = ap (next_after op) e ∙ sym (ap (λ t. t.next) now.is ∙ next_is (state_after s (take i ops)) op now.accepted)
 
   pub bound_turn : (next : ℕ) → next ≤ s.next + i → next_after op next ≤ s.next + (i + 1)
   bound_turn next e = let g : next_after op next ≤ next + 1 = next_grows op next in omega arith
 
-  pub node_turn : (q next : ℕ) (there : Bool) → next ≡ (after s (take i ops)).next → there ≡ fin.contains_key (after s (take i ops)).nodes q →
-      node_after op next there q ≡ fin.contains_key (after s (take (i + 1) ops)).nodes q
-  node_turn q next there e f = ap (λ n. node_after op n there q) e ∙ ap (λ b. node_after op (after s (take i ops)).next b q) f
-      ∙ sym (ap (λ t. fin.contains_key t.nodes q) now.is ∙ node_is (after s (take i ops)) op q now.accepted)
+  pub node_turn : (q next : ℕ) (there : Bool) → next ≡ (state_after s (take i ops)).next → there ≡ fin.contains_key (state_after s (take i ops)).nodes q →
+      node_after op next there q ≡ fin.contains_key (state_after s (take (i + 1) ops)).nodes q
+  node_turn q next there e f = ap (λ n. node_after op n there q) e ∙ ap (λ b. node_after op (state_after s (take i ops)).next b q) f
+      ∙ sym (ap (λ t. fin.contains_key t.nodes q) now.is ∙ node_is (state_after s (take i ops)) op q now.accepted)
 
-  pub attribute_turn : (q next : ℕ) (name : List ℕ) (there : Bool) → next ≡ (after s (take i ops)).next → there ≡ fin.contains_key (attributes_of (after s (take i ops)).nodes q) name →
-      attribute_after op next there q name ≡ fin.contains_key (attributes_of (after s (take (i + 1) ops)).nodes q) name
-  attribute_turn q next name there e f = ap (λ n. attribute_after op n there q name) e ∙ ap (λ b. attribute_after op (after s (take i ops)).next b q name) f
-      ∙ sym (ap (λ t. fin.contains_key (attributes_of t.nodes q) name) now.is ∙ attribute_is (after s (take i ops)) op q name now.accepted)
+  pub attribute_turn : (q next : ℕ) (name : List ℕ) (there : Bool) → next ≡ (state_after s (take i ops)).next → there ≡ fin.contains_key (attributes_of (state_after s (take i ops)).nodes q) name →
+      attribute_after op next there q name ≡ fin.contains_key (attributes_of (state_after s (take (i + 1) ops)).nodes q) name
+  attribute_turn q next name there e f = ap (λ n. attribute_after op n there q name) e ∙ ap (λ b. attribute_after op (state_after s (take i ops)).next b q name) f
+      ∙ sym (ap (λ t. fin.contains_key (attributes_of t.nodes q) name) now.is ∙ attribute_is (state_after s (take i ops)) op q name now.accepted)
 
-  pub count_turn : (q next count : ℕ) (has : Bool) → next ≡ (after s (take i ops)).next → count ≡ fin.len (attributes_of (after s (take i ops)).nodes q) → IsThere (after s (take i ops)) op has →
-      count_after op next count q has ≡ fin.len (attributes_of (after s (take (i + 1) ops)).nodes q)
-  count_turn q next count has e f t = ap (λ n. count_after op n count q has) e ∙ ap (λ n. count_after op (after s (take i ops)).next n q has) f
-      ∙ sym (ap (λ t. fin.len (attributes_of t.nodes q)) now.is ∙ count_is (after s (take i ops)) op q has t now.accepted)
+  pub count_turn : (q next count : ℕ) (has : Bool) → next ≡ (state_after s (take i ops)).next → count ≡ fin.len (attributes_of (state_after s (take i ops)).nodes q) → IsThere (state_after s (take i ops)) op has →
+      count_after op next count q has ≡ fin.len (attributes_of (state_after s (take (i + 1) ops)).nodes q)
+  count_turn q next count has e f t = ap (λ n. count_after op n count q has) e ∙ ap (λ n. count_after op (state_after s (take i ops)).next n q has) f
+      ∙ sym (ap (λ t. fin.len (attributes_of t.nodes q)) now.is ∙ count_is (state_after s (take i ops)) op q has t now.accepted)
 
-  pub count_turn_fits : (q next count : ℕ) (has : Bool) → next ≡ (after s (take i ops)).next → count ≡ fin.len (attributes_of (after s (take i ops)).nodes q) → IsThere (after s (take i ops)) op has →
+  pub count_turn_fits : (q next count : ℕ) (has : Bool) → next ≡ (state_after s (take i ops)).next → count ≡ fin.len (attributes_of (state_after s (take i ops)).nodes q) → IsThere (state_after s (take i ops)) op has →
       count < 2 ^ 64 → count_after op next count q has < 2 ^ 64
-  count_turn_fits q next count has e f t k = subst (λ n. n < 2 ^ 64) (sym (ap (λ n. count_after op n count q has) e ∙ ap (λ n. count_after op (after s (take i ops)).next n q has) f))
-      (count_fits (after s (take i ops)) op q has t now.accepted (subst (λ n. n < 2 ^ 64) f k))
+  count_turn_fits q next count has e f t k = subst (λ n. n < 2 ^ 64) (sym (ap (λ n. count_after op n count q has) e ∙ ap (λ n. count_after op (state_after s (take i ops)).next n q has) f))
+      (count_fits (state_after s (take i ops)) op q has t now.accepted (subst (λ n. n < 2 ^ 64) f k))
 
-  pub sets_turn : (q old sets : ℕ) → fin.len (attributes_of (after s (take i ops)).nodes q) ≤ old + sets →
-      fin.len (attributes_of (after s (take (i + 1) ops)).nodes q) ≤ old + sets_after op sets q
+  pub sets_turn : (q old sets : ℕ) → fin.len (attributes_of (state_after s (take i ops)).nodes q) ≤ old + sets →
+      fin.len (attributes_of (state_after s (take (i + 1) ops)).nodes q) ≤ old + sets_after op sets q
   sets_turn q old sets h =
-      let before : State = after s (take i ops) in
+      let before : State = state_after s (take i ops) in
       let there = is_there before op in
-      let counted : fin.len (attributes_of (after s (take (i + 1) ops)).nodes q) ≡ count_after op before.next (fin.len (attributes_of before.nodes q)) q there.0 =
+      let counted : fin.len (attributes_of (state_after s (take (i + 1) ops)).nodes q) ≡ count_after op before.next (fin.len (attributes_of before.nodes q)) q there.0 =
       ap (λ t. fin.len (attributes_of t.nodes q)) now.is ∙ count_is before op q there.0 there.1 now.accepted in
       subst (λ n. n ≤ old + sets_after op sets q) (sym counted) (most_counted op before.next (fin.len (attributes_of before.nodes q)) q there.0 old sets h)
 
-  pub index_turn : (q : List ℕ) (there : Bool) → there ≡ fin.contains_key (after s (take i ops)).indices q → index_after op there q ≡ fin.contains_key (after s (take (i + 1) ops)).indices q
-  index_turn q there f = ap (λ b. index_after op b q) f ∙ sym (ap (λ t. fin.contains_key t.indices q) now.is ∙ index_is (after s (take i ops)) op q now.accepted)
+  pub index_turn : (q : List ℕ) (there : Bool) → there ≡ fin.contains_key (state_after s (take i ops)).indices q → index_after op there q ≡ fin.contains_key (state_after s (take (i + 1) ops)).indices q
+  index_turn q there f = ap (λ b. index_after op b q) f ∙ sym (ap (λ t. fin.contains_key t.indices q) now.is ∙ index_is (state_after s (take i ops)) op q now.accepted)
 
-  pub indices_turn : (count : ℕ) → count ≡ fin.len (after s (take i ops)).indices → indices_after op count ≡ fin.len (after s (take (i + 1) ops)).indices
-  indices_turn count f = ap (indices_after op) f ∙ sym (ap (λ t. fin.len t.indices) now.is ∙ indices_is (after s (take i ops)) op now.accepted)
+  pub indices_turn : (count : ℕ) → count ≡ fin.len (state_after s (take i ops)).indices → indices_after op count ≡ fin.len (state_after s (take (i + 1) ops)).indices
+  indices_turn count f = ap (indices_after op) f ∙ sym (ap (λ t. fin.len t.indices) now.is ∙ indices_is (state_after s (take i ops)) op now.accepted)
 
-  pub indices_turn_fits : (count : ℕ) → count ≡ fin.len (after s (take i ops)).indices → count < 2 ^ 64 → indices_after op count < 2 ^ 64
-  indices_turn_fits count f k = subst (λ n. n < 2 ^ 64) (sym (ap (indices_after op) f)) (indices_fits (after s (take i ops)) op now.accepted (subst (λ n. n < 2 ^ 64) f k))
+  pub indices_turn_fits : (count : ℕ) → count ≡ fin.len (state_after s (take i ops)).indices → count < 2 ^ 64 → indices_after op count < 2 ^ 64
+  indices_turn_fits count f k = subst (λ n. n < 2 ^ 64) (sym (ap (indices_after op) f)) (indices_fits (state_after s (take i ops)) op now.accepted (subst (λ n. n < 2 ^ 64) f k))

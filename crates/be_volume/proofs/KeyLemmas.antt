@@ -23,7 +23,7 @@ use Rattle.be_value.specs.declared.values.Kind.{Kind}
 use Rattle.be_value.specs.declared.values.Value.{Value}
 use Rattle.be_value.proofs.KeyOrder.{same_node}
 use Rattle.be_volume.specs.Keys.{IsKey, IsNextKey}
-use Rattle.be_volume.specs.PairKeys.{IsKeyOf, AreKeysOf, IsNext, is_from, own_key}
+use Rattle.be_volume.specs.PairKeys.{IsKeyOf, AreKeysOf, IsNext, is_at_or_after, own_key}
 use Rattle.be_volume.specs.Maps.{name_cmp}
 use Rattle.be_volume.specs.Sound.{IsSound, IsPaired}
 use Rattle.be_volume.specs.Volume.{State}
@@ -72,14 +72,14 @@ cut (suc n) (b ∷ from) (a ∷ k) h g =
     record { after = then_gt (nat_cmp a b) _ _ rest.after; at = then_at (nat_cmp a b) _ _ rest.at }
 
 -- where a range of keys begins
-pub starts_at : (from k : List ℕ) → is_from_start name_cmp (Included from) k ≡ is_from from false k
+pub starts_at : (from k : List ℕ) → is_from_start name_cmp (Included from) k ≡ is_at_or_after from false k
 starts_at from k = not_below from k
 
-pub starts_after : (from k : List ℕ) → is_from_start name_cmp (Excluded from) k ≡ is_from from true k
+pub starts_after : (from k : List ℕ) → is_from_start name_cmp (Excluded from) k ≡ is_at_or_after from true k
 starts_after from k = flipped from k
 
 pub starts_long : (n : ℕ) (from : List ℕ) (after : Bool) (k : List ℕ) → n < length from → length k ≤ n →
-    is_from_start name_cmp (Excluded (take n from)) k ≡ is_from from after k
+    is_from_start name_cmp (Excluded (take n from)) k ≡ is_at_or_after from after k
 starts_long n from true k h g = flipped (take n from) k ∙ sym (cut n from k h g).after
 starts_long n from false k h g = flipped (take n from) k ∙ sym (cut n from k h g).at
 
@@ -110,14 +110,14 @@ is_inside Unbounded k h = refl
 
 -- the first key of a range is the next
 module _ (pairs : FinMap nat_cmp Value) (set : BTreeSet (List ℕ)) (kept : AreKeysOf pairs (contains name_cmp set)) (from : List ℕ) (after : Bool) (start : Bound (List ℕ))
-    (starts : (k : List ℕ) → length k ≤ 264 → is_from_start name_cmp start k ≡ is_from from after k) where
-  in_range : (k : List ℕ) → IsKeyOf pairs k → is_from from after k ≡ true → IsInRange name_cmp start Unbounded k
+    (starts : (k : List ℕ) → length k ≤ 264 → is_from_start name_cmp start k ≡ is_at_or_after from after k) where
+  in_range : (k : List ℕ) → IsKeyOf pairs k → is_at_or_after from after k ≡ true → IsInRange name_cmp start Unbounded k
   in_range k h f = (inside start k (starts k (kept.short k (kept.each k h)) ∙ f), tt)
 
   pub first_is_next : (r : List (List ℕ)) → IsKeyRangeOf name_cmp start Unbounded set r → IsNext (IsKeyOf pairs) from after (slice_get r 0)
-  first_is_next [] range = λ k h. by k h (is_from from after k) refl
+  first_is_next [] range = λ k h. by k h (is_at_or_after from after k) refl
     where
-      by : (k : List ℕ) → IsKeyOf pairs k → (t : Bool) → is_from from after k ≡ t → t ≡ false
+      by : (k : List ℕ) → IsKeyOf pairs k → (t : Bool) → is_at_or_after from after k ≡ t → t ≡ false
       by k h false e = refl
       by k h true e = let no : contains name_cmp set k ≡ false = range.5 refl k (in_range k h e) in let yes : contains name_cmp set k ≡ true = kept.each k h in cc
   first_is_next (k ∷ r) range =

@@ -16,7 +16,7 @@ use Rattle.be_volume.specs.declared.ops.Done.{Done}
 use Rattle.be_volume.specs.declared.ops.Op.{Op}
 use Rattle.be_volume.specs.declared.ops.Op.TheVariants.{New, Drop, Set, Unset, MkIndex, RmIndex}
 use Rattle.be_volume.specs.Volume.{State, step, steps, advance}
-use Rattle.be_volume.specs.Ahead.{reached, after}
+use Rattle.be_volume.specs.Ahead.{reached, state_after}
 
 -- a refusal stays
 pub refused_stays : (e : Refusal) (ops : List Op) → fold advance (Err e) ops ≡ Err e
@@ -65,8 +65,8 @@ taken s (Ok x) op h = let ok = one_ok x.1 (step x.0 op) h in record { accepted =
 
 -- the next operation of an accepted list
 pub record Turn (s : State) (ops : List Op) (i : ℕ) (op : Op) : Type 0 where
-  pub accepted : IsOk (step (after s (take i ops)) op)
-  pub is : after s (take (i + 1) ops) ≡ reached (after s (take i ops)) (step (after s (take i ops)) op)
+  pub accepted : IsOk (step (state_after s (take i ops)) op)
+  pub is : state_after s (take (i + 1) ops) ≡ reached (state_after s (take i ops)) (step (state_after s (take i ops)) op)
 
 pub more_is : (s : State) (ops : List Op) (i : ℕ) (op : Op) → i < length ops → op ≡ get_or ops i op → steps s (take (i + 1) ops) ≡ advance (steps s (take i ops)) op
 more_is s ops i op h e = ap (steps s) (take_more ops i op h ∙ ap (λ x. take i ops ++ x ∷ []) (sym e)) ∙ fold-append advance (Ok (s, [])) (take i ops) (op ∷ [])
@@ -141,7 +141,7 @@ refused_after s (Ok x) op ops e ok h = refused_on x.1 (step x.0 op) ops e h
 refused_after s (Err f) op ops e ok h = cc
 
 pub refused_at : (s : State) (ops : List Op) (i : ℕ) (op : Op) (e : Refusal) → i < length ops → op ≡ get_or ops i op → IsOk (steps s (take i ops)) →
-    result_err (step (after s (take i ops)) op) ≡ Some e → result_err (steps s ops) ≡ Some e
+    result_err (step (state_after s (take i ops)) op) ≡ Some e → result_err (steps s ops) ≡ Some e
 refused_at s ops i op e short at ok h =
     ap (λ xs. result_err (steps s xs)) (sym (take-append-drop (i + 1) ops))
     ∙ ap result_err (fold-append advance (Ok (s, [])) (take (i + 1) ops) (drop (i + 1) ops))
@@ -158,7 +158,7 @@ accepted_after s (Ok x) op ok h = accepted_on x.1 (step x.0 op) h
 accepted_after s (Err f) op ok h = cc
 
 pub accepted_at : (s : State) (ops : List Op) (i : ℕ) (op : Op) → i < length ops → op ≡ get_or ops i op → IsOk (steps s (take i ops)) →
-    result_err (step (after s (take i ops)) op) ≡ None → IsOk (steps s (take (i + 1) ops))
+    result_err (step (state_after s (take i ops)) op) ≡ None → IsOk (steps s (take (i + 1) ops))
 accepted_at s ops i op short at ok h = ap is_ok (more_is s ops i op short at) ∙ accepted_after s (steps s (take i ops)) op ok h
 
 -- what is accepted has no refusal

@@ -10,7 +10,7 @@ ghost use Rattle.std.specs.FinMap as map;
 ghost use Rattle.be_volume.specs.Maps.{attributes_of};
 ghost use Rattle.be_volume.specs.Volume.{State, step, steps};
 ghost use Rattle.be_volume.specs.declared.ops.Op.TheVariants as ops;
-ghost use Rattle.be_volume.specs.Ahead.{after, next_after, node_after, attribute_after, count_after, sets_after, index_after, indices_after, IsThere};
+ghost use Rattle.be_volume.specs.Ahead.{state_after, next_after, node_after, attribute_after, count_after, sets_after, index_after, indices_after, IsThere};
 
 use crate::{Facts, Op};
 use be_value::{Kind, Name, Refusal, Value};
@@ -43,7 +43,7 @@ fn refusal_after<F: Facts>(facts: &mut F, before: &[Op], op: &Op) -> Option<Refu
     requires answers { F.answers_for facts.old volume }
     requires accepted { IsOk (steps volume before.now) }
     requires fits { volume.next + length before.now < 2 ^ 64 }
-    ensures answer { result ≡ result_err (step (after volume before.now) op.now) }
+    ensures answer { result ≡ result_err (step (state_after volume before.now) op.now) }
     ensures stays { F.kept facts.new ≡ F.kept facts.old }
     ensures answers { F.answers_for facts.new volume }
 {
@@ -62,7 +62,7 @@ fn drop_refusal<F: Facts>(facts: &mut F, before: &[Op], node: u64) -> Option<Ref
     requires answers { F.answers_for facts.old volume }
     requires accepted { IsOk (steps volume before.now) }
     requires fits { volume.next + length before.now < 2 ^ 64 }
-    ensures answer { result ≡ result_err (step (after volume before.now) (ops.Drop node)) }
+    ensures answer { result ≡ result_err (step (state_after volume before.now) (ops.Drop node)) }
     ensures stays { F.kept facts.new ≡ F.kept facts.old }
     ensures answers { F.answers_for facts.new volume }
 {
@@ -84,7 +84,7 @@ fn set_refusal<F: Facts>(
     requires answers { F.answers_for facts.old volume }
     requires accepted { IsOk (steps volume before.now) }
     requires fits { volume.next + length before.now < 2 ^ 64 }
-    ensures answer { result ≡ result_err (step (after volume before.now) (ops.Set node name.now value.now)) }
+    ensures answer { result ≡ result_err (step (state_after volume before.now) (ops.Set node name.now value.now)) }
     ensures stays { F.kept facts.new ≡ F.kept facts.old }
     ensures answers { F.answers_for facts.new volume }
 {
@@ -105,7 +105,7 @@ fn unset_refusal<F: Facts>(facts: &mut F, before: &[Op], node: u64, name: &Name)
     requires answers { F.answers_for facts.old volume }
     requires accepted { IsOk (steps volume before.now) }
     requires fits { volume.next + length before.now < 2 ^ 64 }
-    ensures answer { result ≡ result_err (step (after volume before.now) (ops.Unset node name.now)) }
+    ensures answer { result ≡ result_err (step (state_after volume before.now) (ops.Unset node name.now)) }
     ensures stays { F.kept facts.new ≡ F.kept facts.old }
     ensures answers { F.answers_for facts.new volume }
 {
@@ -122,7 +122,7 @@ fn make_refusal<F: Facts>(facts: &mut F, before: &[Op], name: &Name, kind: Kind)
     ghost volume: { State }
     requires answers { F.answers_for facts.old volume }
     requires accepted { IsOk (steps volume before.now) }
-    ensures answer { result ≡ result_err (step (after volume before.now) (ops.MkIndex name.now kind)) }
+    ensures answer { result ≡ result_err (step (state_after volume before.now) (ops.MkIndex name.now kind)) }
     ensures stays { F.kept facts.new ≡ F.kept facts.old }
     ensures answers { F.answers_for facts.new volume }
 {
@@ -141,7 +141,7 @@ fn remove_refusal<F: Facts>(facts: &mut F, before: &[Op], name: &Name) -> Option
     ghost volume: { State }
     requires answers { F.answers_for facts.old volume }
     requires accepted { IsOk (steps volume before.now) }
-    ensures answer { result ≡ result_err (step (after volume before.now) (ops.RmIndex name.now)) }
+    ensures answer { result ≡ result_err (step (state_after volume before.now) (ops.RmIndex name.now)) }
     ensures stays { F.kept facts.new ≡ F.kept facts.old }
     ensures answers { F.answers_for facts.new volume }
 {
@@ -169,7 +169,7 @@ fn has_node<F: Facts>(facts: &mut F, before: &[Op], node: u64) -> bool
     requires answers { F.answers_for facts.old volume }
     requires accepted { IsOk (steps volume before.now) }
     requires fits { volume.next + length before.now < 2 ^ 64 }
-    ensures answer { result ≡ map.contains_key (after volume before.now).nodes node }
+    ensures answer { result ≡ map.contains_key (state_after volume before.now).nodes node }
     ensures stays { F.kept facts.new ≡ F.kept facts.old }
     ensures answers { F.answers_for facts.new volume }
 {
@@ -198,7 +198,7 @@ fn has_attribute<F: Facts>(facts: &mut F, before: &[Op], node: u64, name: &Name)
     requires answers { F.answers_for facts.old volume }
     requires accepted { IsOk (steps volume before.now) }
     requires fits { volume.next + length before.now < 2 ^ 64 }
-    ensures answer { result ≡ map.contains_key (attributes_of (after volume before.now).nodes node) name.now }
+    ensures answer { result ≡ map.contains_key (attributes_of (state_after volume before.now).nodes node) name.now }
     ensures stays { F.kept facts.new ≡ F.kept facts.old }
     ensures answers { F.answers_for facts.new volume }
 {
@@ -230,7 +230,7 @@ fn is_full<F: Facts>(facts: &mut F, before: &[Op], node: u64) -> bool
     requires answers { F.answers_for facts.old volume }
     requires accepted { IsOk (steps volume before.now) }
     requires fits { volume.next + length before.now < 2 ^ 64 }
-    ensures answer { result ≡ nat_le 64 (map.len (attributes_of (after volume before.now).nodes node)) }
+    ensures answer { result ≡ nat_le 64 (map.len (attributes_of (state_after volume before.now).nodes node)) }
     ensures stays { F.kept facts.new ≡ F.kept facts.old }
     ensures answers { F.answers_for facts.new volume }
 {
@@ -244,7 +244,7 @@ fn may_be_full<F: Facts>(facts: &mut F, before: &[Op], node: u64) -> bool
     requires answers { F.answers_for facts.old volume }
     requires accepted { IsOk (steps volume before.now) }
     requires fits { volume.next + length before.now < 2 ^ 64 }
-    ensures few { result ≡ false → map.len (attributes_of (after volume before.now).nodes node) < 64 }
+    ensures few { result ≡ false → map.len (attributes_of (state_after volume before.now).nodes node) < 64 }
     ensures stays { F.kept facts.new ≡ F.kept facts.old }
     ensures answers { F.answers_for facts.new volume }
 {
@@ -279,7 +279,7 @@ fn attribute_count<F: Facts>(facts: &mut F, before: &[Op], node: u64) -> usize
     requires answers { F.answers_for facts.old volume }
     requires accepted { IsOk (steps volume before.now) }
     requires fits { volume.next + length before.now < 2 ^ 64 }
-    ensures answer { result ≡ map.len (attributes_of (after volume before.now).nodes node) }
+    ensures answer { result ≡ map.len (attributes_of (state_after volume before.now).nodes node) }
     ensures stays { F.kept facts.new ≡ F.kept facts.old }
     ensures answers { F.answers_for facts.new volume }
 {
@@ -299,7 +299,7 @@ fn sets_again<F: Facts>(facts: &mut F, before: &[Op], op: &Op) -> bool
     requires answers { F.answers_for facts.old volume }
     requires accepted { IsOk (steps volume before.now) }
     requires fits { volume.next + length before.now < 2 ^ 64 }
-    ensures answer { IsThere (after volume before.now) op.now result }
+    ensures answer { IsThere (state_after volume before.now) op.now result }
     ensures stays { F.kept facts.new ≡ F.kept facts.old }
     ensures answers { F.answers_for facts.new volume }
 {
@@ -327,7 +327,7 @@ fn has_index<F: Facts>(facts: &mut F, before: &[Op], name: &Name) -> bool
     ghost volume: { State }
     requires answers { F.answers_for facts.old volume }
     requires accepted { IsOk (steps volume before.now) }
-    ensures answer { result ≡ map.contains_key (after volume before.now).indices name.now }
+    ensures answer { result ≡ map.contains_key (state_after volume before.now).indices name.now }
     ensures stays { F.kept facts.new ≡ F.kept facts.old }
     ensures answers { F.answers_for facts.new volume }
 {
@@ -353,7 +353,7 @@ fn index_count<F: Facts>(facts: &mut F, before: &[Op]) -> usize
     ghost volume: { State }
     requires answers { F.answers_for facts.old volume }
     requires accepted { IsOk (steps volume before.now) }
-    ensures answer { result ≡ map.len (after volume before.now).indices }
+    ensures answer { result ≡ map.len (state_after volume before.now).indices }
     ensures stays { F.kept facts.new ≡ F.kept facts.old }
     ensures answers { F.answers_for facts.new volume }
 {

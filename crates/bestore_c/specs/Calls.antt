@@ -18,7 +18,7 @@ use Rattle.be_store.specs.Live.{Refreshes}
 use Rattle.be_store.specs.Passes.{HasRead, IsPinnedTo, volume_pinned}
 use Rattle.be_table.specs.Rule.{IsWithin, entries}
 use Rattle.be_table.specs.Seats.{pinned_number}
-use Rattle.be_table.specs.Works.{IsUnopened}
+use Rattle.be_table.specs.Works.{IsOpenRefused}
 use Rattle.be_table.specs.declared.limits.Limits.{Limits}
 use Rattle.be_table.specs.declared.pass.Knowledge.{Knowledge}
 use Rattle.be_value.specs.Refusal.{refusal_number}
@@ -52,7 +52,7 @@ abbrev pub Opens : Limits → Option Sitting → Option Sitting → ℕ → Type
 Opens limits (Some s) (Some t) code = (code ≡ 65) × (t ≡ s)
 Opens limits (Some s) None code = ⊥
 Opens limits None (Some t) code = (code ≡ 0) × IsOpened limits t
-Opens limits None None code = ((code ≡ 10) × IsWithin limits) ⊎ ((why : Refusal) × (code ≡ refusal_number why) × IsUnopened limits why)
+Opens limits None None code = ((code ≡ 10) × IsWithin limits) ⊎ ((why : Refusal) × (code ≡ refusal_number why) × IsOpenRefused limits why)
 
 -- A second handle: one that is open stays as it was, and the answer is 65; a closed one gets a session of the same store, with
 -- which none waits, and with a pass that is handed out; 68 where none waits, and 10 where memory was refused.

@@ -26,7 +26,7 @@ use Rattle.be_volume.specs.Maps.{name_cmp, Nodes, attributes_of}
 use Rattle.be_volume.specs.Sound.{IsName}
 use Rattle.be_volume.proofs.MapLemmas.{names_total}
 use Rattle.be_paged.specs.Catalog.{IsCatalog}
-use Rattle.be_paged.specs.Reading.{AreValid, front, attribute_pair, attribute_pairs}
+use Rattle.be_paged.specs.Reading.{AreValid, front_of_node, attribute_pair, attribute_pairs}
 use Rattle.be_paged.proofs.CatalogPairs.Segments.{segment, value_there}
 
 -- nothing is left, or something is
@@ -153,10 +153,10 @@ module _ (xs : List Pair) (nodes : Nodes) (node : ℕ) (fits : node < 2 ^ 64) (r
   abbrev es : Entries
   es = fin.entries (attributes_of nodes node)
 
-  pub walked : front node (pairs_from xs (to_be_bytes w64 node) true) ≡ attribute_pairs node (attributes_of nodes node)
+  pub walked : front_of_node node (pairs_from xs (to_be_bytes w64 node) true) ≡ attribute_pairs node (attributes_of nodes node)
   walked = segment xs nodes node fits rising catalog valid
 
-  pub counted : length (front node (pairs_from xs (to_be_bytes w64 node) true)) ≡ length (fin.entries (attributes_of nodes node))
+  pub counted : length (front_of_node node (pairs_from xs (to_be_bytes w64 node) true)) ≡ length (fin.entries (attributes_of nodes node))
   counted = ap length walked ∙ mapped_length (attribute_pair node) (fin.entries (attributes_of nodes node))
 
   pub entry_valid : (i : ℕ) (d : List ℕ × Value) → i < length (fin.entries (attributes_of nodes node)) → IsName (get_or (fin.entries (attributes_of nodes node)) i d).0 × IsValue (get_or (fin.entries (attributes_of nodes node)) i d).1
@@ -164,7 +164,7 @@ module _ (xs : List Pair) (nodes : Nodes) (node : ℕ) (fits : node < 2 ^ 64) (r
       valid node _ _ (sym (value_there nodes node (get_or (fin.entries (attributes_of nodes node)) i d).0) ∙ fin.get-entries (attributes_of nodes node) _ ∙ found_at (fin.entries (attributes_of nodes node)) i d (fin.entries_sorted (attributes_of nodes node)) lt)
 
   -- what a walk reads after i others is entry i
-  pub next_is : (i : ℕ) (r : Option (List ℕ × Value)) (now : List Pair) → now ≡ drop i (front node (pairs_from xs (to_be_bytes w64 node) true))
+  pub next_is : (i : ℕ) (r : Option (List ℕ × Value)) (now : List Pair) → now ≡ drop i (front_of_node node (pairs_from xs (to_be_bytes w64 node) true))
       → ((name : List ℕ) (value : Value) → IsName name → IsValue value → slice_get now 0 ≡ Some (attribute_pair node (name, value)) → r ≡ Some (name, value)) → (slice_get now 0 ≡ None → r ≡ None)
       → r ≡ slice_get (drop i (fin.entries (attributes_of nodes node))) 0
   next_is i r now stands reads ends = elim (cases_lt i (length (fin.entries (attributes_of nodes node)))) [

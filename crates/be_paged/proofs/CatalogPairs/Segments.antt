@@ -23,7 +23,7 @@ use Rattle.be_tree.proofs.Ranges.{from_greater, from_less, from_equal}
 use Rattle.be_volume.specs.Maps.{name_cmp, Nodes, Attributes, attributes_of}
 use Rattle.be_volume.proofs.MapLemmas.{names_total}
 use Rattle.be_paged.specs.Catalog.{catalog_key, payload_of, value_at, stored, IsCatalogKey, IsCatalog}
-use Rattle.be_paged.specs.Reading.{AreValid, is_of, front, attribute_pair, attribute_pairs}
+use Rattle.be_paged.specs.Reading.{AreValid, is_of, front_of_node, attribute_pair, attribute_pairs}
 
 -- keys of the catalog are ordered by the node, and then by the name
 pub key_order : (m n : ℕ) (x y : List ℕ) → m < 2 ^ 64 → n < 2 ^ 64 → key_cmp (catalog_key m x) (catalog_key n y) ≡ ordering_then (nat_cmp m n) (name_cmp x y)
@@ -154,30 +154,30 @@ pub is_node : (node : ℕ) (k : List ℕ) → is_of node k ≡ true → k ≡ ca
 is_node node k e = (starts_is Decides-eqb k (to_be_bytes w64 node) (is_of node k) refl).0 e
 
 -- the front of a rising list rises, and has the node's look-ups
-front_above : (node : ℕ) (q : List ℕ) (xs : List Pair) → AllAbove q xs → AllAbove q (front node xs)
+front_above : (node : ℕ) (q : List ℕ) (xs : List Pair) → AllAbove q xs → AllAbove q (front_of_node node xs)
 front_above node q [] h = tt
 front_above node q (x ∷ xs) h = by (is_of node x.key) (front_above node q xs h.1)
   where
-    by : (b : Bool) → AllAbove q (front node xs) → AllAbove q (cond b (x ∷ front node xs) [])
+    by : (b : Bool) → AllAbove q (front_of_node node xs) → AllAbove q (cond b (x ∷ front_of_node node xs) [])
     by true rest = (h.0, rest)
     by false rest = tt
 
-front_rising : (node : ℕ) (xs : List Pair) → IsRising xs → IsRising (front node xs)
+front_rising : (node : ℕ) (xs : List Pair) → IsRising xs → IsRising (front_of_node node xs)
 front_rising node [] h = tt
 front_rising node (x ∷ xs) h = by (is_of node x.key) (front_rising node xs h.1)
   where
-    by : (b : Bool) → IsRising (front node xs) → IsRising (cond b (x ∷ front node xs) [])
+    by : (b : Bool) → IsRising (front_of_node node xs) → IsRising (cond b (x ∷ front_of_node node xs) [])
     by true rest = (front_above node x.key xs h.0, rest)
     by false rest = tt
 
 abbrev IsOf : ℕ → List ℕ → Type 0
 IsOf node k = (name : List ℕ) × (k ≡ catalog_key node name)
 
-front_all : (node : ℕ) (xs : List Pair) → All (λ x. IsOf node x.key) (front node xs)
+front_all : (node : ℕ) (xs : List Pair) → All (λ x. IsOf node x.key) (front_of_node node xs)
 front_all node [] = λ i d lt. absurd (omega (arith, lt))
 front_all node (x ∷ xs) = by (is_of node x.key) refl (front_all node xs)
   where
-    by : (b : Bool) → is_of node x.key ≡ b → All (λ x. IsOf node x.key) (front node xs) → All (λ x. IsOf node x.key) (cond b (x ∷ front node xs) [])
+    by : (b : Bool) → is_of node x.key ≡ b → All (λ x. IsOf node x.key) (front_of_node node xs) → All (λ x. IsOf node x.key) (cond b (x ∷ front_of_node node xs) [])
     by true e rest zero d lt = (drop 8 x.key, is_node node x.key e)
     by true e rest (suc i) d lt = rest i d (omega (arith, lt))
     by false e rest i d lt = absurd (omega (arith, lt))
@@ -211,11 +211,11 @@ past node name x fits at other =
         never : false ≡ true → ⊥
         never e = cc
 
-front_payload : (node : ℕ) (name : List ℕ) (xs : List Pair) → node < 2 ^ 64 → IsRising xs → All (IsAfter node) xs → payload_at (front node xs) (catalog_key node name) ≡ payload_at xs (catalog_key node name)
+front_payload : (node : ℕ) (name : List ℕ) (xs : List Pair) → node < 2 ^ 64 → IsRising xs → All (IsAfter node) xs → payload_at (front_of_node node xs) (catalog_key node name) ≡ payload_at xs (catalog_key node name)
 front_payload node name [] fits rising all = refl
 front_payload node name (x ∷ xs) fits rising all = by (is_of node x.key) refl (front_payload node name xs fits rising.1 (λ i d lt. all (suc i) d (omega (arith, lt))))
   where
-    by : (b : Bool) → is_of node x.key ≡ b → payload_at (front node xs) (catalog_key node name) ≡ payload_at xs (catalog_key node name) → payload_at (cond b (x ∷ front node xs) []) (catalog_key node name) ≡ payload_at (x ∷ xs) (catalog_key node name)
+    by : (b : Bool) → is_of node x.key ≡ b → payload_at (front_of_node node xs) (catalog_key node name) ≡ payload_at xs (catalog_key node name) → payload_at (cond b (x ∷ front_of_node node xs) []) (catalog_key node name) ≡ payload_at (x ∷ xs) (catalog_key node name)
     by true e rest = ap (λ r. cond (is_eq (key_cmp x.key (catalog_key node name))) (Some x.payload) r) rest
     by false e rest = let gt = past node name x fits (all zero x (omega arith)) e in sym (payload_at_above (catalog_key node name) (x ∷ xs) (gt, AllAbove_trans x.key (catalog_key node name) xs gt rising.0))
 
@@ -281,11 +281,11 @@ no_nameless nodes node valid = by (value_at nodes node []) refl
 
 -- a walk from behind a node's mark meets the node's attributes, and then no more of the node
 pub segment : (xs : List Pair) (nodes : Nodes) (node : ℕ) → node < 2 ^ 64 → IsRising xs → IsCatalog xs nodes → AreValid nodes
-    → front node (pairs_from xs (to_be_bytes w64 node) true) ≡ attribute_pairs node (attributes_of nodes node)
+    → front_of_node node (pairs_from xs (to_be_bytes w64 node) true) ≡ attribute_pairs node (attributes_of nodes node)
 segment xs nodes node fits rising catalog valid =
-    same_pairs (IsOf node) (front node from) (attribute_pairs node (attributes_of nodes node)) (front_rising node from from_rising)
+    same_pairs (IsOf node) (front_of_node node from) (attribute_pairs node (attributes_of nodes node)) (front_rising node from from_rising)
     (entries_rising node (fin.entries (attributes_of nodes node)) fits (entries_sorted (attributes_of nodes node))) (front_all node from) (entries_all node (fin.entries (attributes_of nodes node)))
-    (λ k is. subst (λ q. payload_at (front node from) q ≡ payload_at (attribute_pairs node (attributes_of nodes node)) q) (sym is.1) (at is.0))
+    (λ k is. subst (λ q. payload_at (front_of_node node from) q ≡ payload_at (attribute_pairs node (attributes_of nodes node)) q) (sym is.1) (at is.0))
   where
     from : List Pair
     from = pairs_from xs (to_be_bytes w64 node) true
@@ -296,11 +296,11 @@ segment xs nodes node fits rising catalog valid =
     looked : (name : List ℕ) → payload_at (attribute_pairs node (attributes_of nodes node)) (catalog_key node name) ≡ option_map payload_of (value_at nodes node name)
     looked name = entries_payload node name (fin.entries (attributes_of nodes node)) fits ∙ ap (option_map payload_of) (sym (get-entries (attributes_of nodes node) name) ∙ value_there nodes node name)
 
-    walked : (name : List ℕ) → payload_at (front node (pairs_from xs (to_be_bytes w64 node) true)) (catalog_key node name) ≡ cond (is_from (to_be_bytes w64 node) true (catalog_key node name)) (stored nodes node name) None
+    walked : (name : List ℕ) → payload_at (front_of_node node (pairs_from xs (to_be_bytes w64 node) true)) (catalog_key node name) ≡ cond (is_from (to_be_bytes w64 node) true (catalog_key node name)) (stored nodes node name) None
     walked name = front_payload node name (pairs_from xs (to_be_bytes w64 node) true) fits (rising_from (to_be_bytes w64 node) true xs rising) (all_from (λ x. IsCatalogKey x.key) (to_be_bytes w64 node) true xs catalog.only)
         ∙ payload_from (to_be_bytes w64 node) (catalog_key node name) true xs
         ∙ ap (λ p. cond (is_from (to_be_bytes w64 node) true (catalog_key node name)) p None) (catalog.each node name fits)
 
-    at : (name : List ℕ) → payload_at (front node (pairs_from xs (to_be_bytes w64 node) true)) (catalog_key node name) ≡ payload_at (attribute_pairs node (attributes_of nodes node)) (catalog_key node name)
+    at : (name : List ℕ) → payload_at (front_of_node node (pairs_from xs (to_be_bytes w64 node) true)) (catalog_key node name) ≡ payload_at (attribute_pairs node (attributes_of nodes node)) (catalog_key node name)
     at [] = walked [] ∙ ap (λ b. cond b (stored nodes node []) None) (from_equal (to_be_bytes w64 node) true (catalog_key node []) (same_node_order node [] [] fits)) ∙ sym (looked [] ∙ ap (option_map payload_of) (no_nameless nodes node valid))
     at (c ∷ name) = walked (c ∷ name) ∙ ap (λ b. cond b (stored nodes node (c ∷ name)) None) (from_greater (to_be_bytes w64 node) true (catalog_key node (c ∷ name)) (same_node_order node (c ∷ name) [] fits)) ∙ sym (looked (c ∷ name))

@@ -9,7 +9,7 @@ use Rattle.be_tree.specs.Tree.{pairs}
 use Rattle.be_tree.proofs.Frame.{unchanged_trans}
 use Rattle.be_tree.proofs.Trees.{tree_rising}
 use Rattle.be_volume.specs.Maps.{attributes_of}
-use Rattle.be_paged.specs.Reading.{front}
+use Rattle.be_paged.specs.Reading.{front_of_node}
 use Rattle.be_paged.proofs.Asking.Walks.{none_left, one_left, drop_next, counted, cursor_since}
 use Rattle.be_paged.proofs.attributes.attribute_count.Goals as goal
 
@@ -18,12 +18,12 @@ loop-count-preserved g c =
     let v = g.L.Look.words c.args.look.now in
     let mid = g.L.Look.words c.loop-count.look in
     let node = c.args.node in
-    let all = front node (pairs_from (pairs v c.args.catalog) (to_be_bytes w64 node) true) in
+    let all = front_of_node node (pairs_from (pairs v c.args.catalog) (to_be_bytes w64 node) true) in
     let step = c.pass_attribute.ensures.unchanged in
     let some : is_some (slice_get (drop c.loop-count.count all) 0) ≡ true = ap (λ (xs : List Pair). is_some (slice_get xs 0)) (sym c.loop-count.invariant.rest) ∙ sym c.pass_attribute.ensures.found ∙ c.if-not-pass_attribute.false in
     record {
       cursor = cursor_since (g.L.Look.standing c.loop-count.look) (g.L.Look.standing c.pass_attribute.new.look) mid (g.L.Look.words c.pass_attribute.new.look) c.pass_attribute.new.cursor step.standing step.words c.pass_attribute.ensures.cursor;
-      rest = ap (λ (w : ℕ → ℕ → ℕ). front node (remaining w c.pass_attribute.new.cursor)) step.words ∙ c.pass_attribute.ensures.rest c.if-not-pass_attribute.false ∙ ap (λ (xs : List Pair). drop 1 xs) c.loop-count.invariant.rest ∙ drop_next all c.loop-count.count;
+      rest = ap (λ (w : ℕ → ℕ → ℕ). front_of_node node (remaining w c.pass_attribute.new.cursor)) step.words ∙ c.pass_attribute.ensures.rest c.if-not-pass_attribute.false ∙ ap (λ (xs : List Pair). drop 1 xs) c.loop-count.invariant.rest ∙ drop_next all c.loop-count.count;
       passed = omega (arith, one_left all c.loop-count.count some);
       unchanged = unchanged_trans g.L.Look.kept g.L.Look.standing g.L.Look.words c.args.look.now c.loop-count.look c.pass_attribute.new.look c.loop-count.invariant.unchanged step;
     }
@@ -32,7 +32,7 @@ pub returns-then-not-pass_attribute-clause-count : goal.returns-then-not-pass_at
 returns-then-not-pass_attribute-clause-count g c = λ nodes catalog valid few.
     let v = g.L.Look.words c.args.look.now in
     let node = c.args.node in
-    let all = front node (pairs_from (pairs v c.args.catalog) (to_be_bytes w64 node) true) in
+    let all = front_of_node node (pairs_from (pairs v c.args.catalog) (to_be_bytes w64 node) true) in
     let rising = tree_rising (g.L.Look.standing c.args.look.now) v c.args.catalog c.requires.tree in
     none_left all c.loop-count.count c.loop-count.invariant.passed (ap (λ (xs : List Pair). is_some (slice_get xs 0)) (sym c.loop-count.invariant.rest) ∙ sym c.pass_attribute.ensures.found ∙ c.if-not-pass_attribute.true)
     ∙ counted (pairs v c.args.catalog) nodes node c.ranges.node.fits rising catalog valid ∙ sym (fin.len-entries (attributes_of nodes node))

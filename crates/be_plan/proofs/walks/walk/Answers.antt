@@ -6,7 +6,7 @@ use Rattle.std.specs.declared.option.Option.TheVariants.{Some, None}
 use Rattle.be_query.specs.Grammar.{Formula}
 use Rattle.be_query.specs.View.{formula}
 use Rattle.be_volume.specs.Query.{sat}
-use Rattle.be_plan.specs.Narrow.{Leaves, high_of}
+use Rattle.be_plan.specs.Narrow.{LeavesRest, high_of}
 use Rattle.be_plan.specs.Walk.{HasNodes, HasOnly, IsNodeWithin}
 use Rattle.be_plan.proofs.Reaching.{on_ok}
 use Rattle.be_plan.proofs.Seen.{left_key}
@@ -26,8 +26,8 @@ returns-in_default-clause-satisfy g c = λ all n h.
     let H : Option (List ℕ) → Type 0 = λ b. HasOnly g.volume name low b c.args.found.now.items c.nodes_within.new.found.items in
     let only : HasOnly g.volume name low high c.args.found.now.items c.nodes_within.new.found.items =
     subst H c.high.ensures (subst L c.low.ensures (c.nodes_within.ensures.only g.volume c.requires.1.0)) in
-    let R : Option Formula → Type 0 = λ r. Leaves f name c.args.kind low high r in
-    let leaves : Leaves f name c.args.kind low high None = subst R (ap (λ r. option_map formula (option_copied r)) c.in_default.is) c.requires.1.1.1 in
+    let R : Option Formula → Type 0 = λ r. LeavesRest f name c.args.kind low high r in
+    let leaves : LeavesRest f name c.args.kind low high None = subst R (ap (λ r. option_map formula (option_copied r)) c.in_default.is) c.requires.1.1.1 in
     let P : ℕ → Type 0 = λ m. sat g.volume f m ≡ true in
     let by : Contains c.args.found.now.items n ⊎ IsNodeWithin g.volume name low high n → sat g.volume f n ≡ true =
     elim [
@@ -53,8 +53,8 @@ returns-else-asks-clause-satisfy g c = λ all n h.
     let high = high_of c.args.range.now in
     let rest = formula c.in-Some.rest.now in
     let sound = g.met.S.Source.sound c.args.source.now g.volume c.requires.1.0 in
-    let R : Option Formula → Type 0 = λ r. Leaves f name c.args.kind low high r in
-    let leaves : Leaves f name c.args.kind low high (Some rest) = subst R (ap (λ r. option_map formula (option_copied r)) c.in-Some.is) c.requires.1.1.1 in
+    let R : Option Formula → Type 0 = λ r. LeavesRest f name c.args.kind low high r in
+    let leaves : LeavesRest f name c.args.kind low high (Some rest) = subst R (ap (λ r. option_map formula (option_copied r)) c.in-Some.is) c.requires.1.1.1 in
     let P : ℕ → Type 0 = λ m. sat g.volume f m ≡ sat g.volume rest m in
     let by : Contains c.args.found.now.items n ⊎ (IsNodeWithin g.volume name low high n × (sat g.volume rest n ≡ true)) → sat g.volume f n ≡ true =
     elim [
@@ -71,7 +71,7 @@ returns-else-asks-clause-has g c =
     let high = high_of c.args.range.now in
     let rest = formula c.in-Some.rest.now in
     let sound = g.met.S.Source.sound c.args.source.now g.volume c.requires.1.0 in
-    let R : Option Formula → Type 0 = λ r. Leaves f name c.args.kind low high r in
-    let leaves : Leaves f name c.args.kind low high (Some rest) = subst R (ap (λ r. option_map formula (option_copied r)) c.in-Some.is) c.requires.1.1.1 in
+    let R : Option Formula → Type 0 = λ r. LeavesRest f name c.args.kind low high r in
+    let leaves : LeavesRest f name c.args.kind low high (Some rest) = subst R (ap (λ r. option_map formula (option_copied r)) c.in-Some.is) c.requires.1.1.1 in
     on_ok c.ask_each.result (λ has k h w holds. has k h w (sym (left_key g.volume sound name k h c.args.kind c.requires.1.1.0 f low high (Some rest) leaves w) ∙ holds))
     c.ask_each.ensures.has

@@ -2,7 +2,7 @@ use Rattle.std.proofs.Common.{◌++◌, ◌∙◌, sym, ap, is_ok, rules}
 use Rattle.std.specs.Prelude.{string_bytes, codes}
 use Rattle.std.proofs.ResultArms.{chosen}
 use Rattle.std.proofs.lemmas.List.{append-nil}
-use Rattle.be_query.specs.Printing.{escaped}
+use Rattle.be_query.specs.Printing.{with_backslashes}
 use Rattle.be_query.specs.View.{only_if}
 use Rattle.be_query.proofs.Escapes.{written}
 use Rattle.be_query.proofs.Plain.{no_chars}
@@ -22,4 +22,4 @@ characters-preserved c =
 pub returns : goal.returns
 returns c =
     let e = no_chars c.characters.rest.now c.characters.invariant.utf8 c.in_default.ensures.empty in
-    sym (append-nil (string_bytes c.characters.text)) ∙ ap (λ l. string_bytes c.characters.text ++ escaped l) (sym e) ∙ c.characters.invariant.so_far
+    sym (append-nil (string_bytes c.characters.text)) ∙ ap (λ l. string_bytes c.characters.text ++ with_backslashes l) (sym e) ∙ c.characters.invariant.so_far

@@ -1,7 +1,7 @@
 use Rattle.std.proofs.Common.{◌≡◌, [], length, map, slice_index_or, refl, ap, subst, arith, zero-add}
 use Rattle.std.proofs.lemmas.List.{length-map}
 use Rattle.be_journal.specs.Journal.{by_pass}
-use Rattle.be_table.specs.History.{AllBelow}
+use Rattle.be_table.specs.History.{AreOfPasses}
 use Rattle.be_table.specs.Steps.{Has}
 use Rattle.be_table.specs.Versions.{CanSpellEach}
 use Rattle.be_table.specs.Works.{knows_of}
@@ -36,7 +36,7 @@ returns-clause-raced g c =
       is = refl;
       replied = subst (λ l. HaveReplied l journal 0 scripts replies) c.in-Ok.ensures.0 (c.in_ok-passes.ensures.replied journal c.close.ensures.passes);
       legal = c.close.ensures.legal;
-      by = subst (λ n. AllBelow n journal) passes c.close.ensures.by;
+      by = subst (λ n. AreOfPasses n journal) passes c.close.ensures.by;
       own = λ k below. subst (λ n. IsPartOf (operations (by_pass n journal)) (write_ops (slice_index_or scripts k []))) (zero-add k)
           (own_of c.in-Ok.store 0 scripts c.in_ok-passes.passes.items journal c.in_ok-passes.ensures.served c.close.ensures.passes k below);
       volumes = subst (λ (l : Limits). CanSpellEach l.pages journal) c.in-Ok.ensures.0 c.close.ensures.volumes;

@@ -1,7 +1,7 @@
 use Rattle.std.proofs.Common.{◌≡◌, ℕ, List, inl, sym, ◌∙◌, subst, arith, map}
 use Rattle.be_journal.specs.Journal.{by_pass}
 use Rattle.be_store.proofs.Alone.{by_one}
-use Rattle.be_table.specs.History.{AllBelow}
+use Rattle.be_table.specs.History.{AreOfPasses}
 use Rattle.be_table.specs.Place.{SeatFacts}
 use Rattle.be_table.specs.Steps.{Has, KeepsSeen}
 use Rattle.be_table.specs.Works.{AllAt, knows_of}
@@ -21,5 +21,5 @@ returns-clause-all c =
     let log = c.close.result.entries in
     let knows = c.args.pass.knows in
     let keeps = subst (λ (ps : List SeatFacts). KeepsSeen log (map knows_of ps)) c.in_ok-passes.ensures.passes c.close.ensures.passes in
-    let whole : by_pass 0 log ≡ log = by_one log (subst (λ (n : ℕ). AllBelow n log) c.requires.one c.close.ensures.by) in
+    let whole : by_pass 0 log ≡ log = by_one log (subst (λ (n : ℕ). AreOfPasses n log) c.requires.one c.close.ensures.by) in
     sym whole ∙ (subst (λ (n : ℕ). by_pass n log ≡ knows.mine) c.alone.ensures.number keeps.1 ∙ sym c.alone.ensures.written)

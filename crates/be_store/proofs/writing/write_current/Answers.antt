@@ -4,11 +4,11 @@ use Rattle.be_journal.specs.Journal.{replay}
 use Rattle.be_pages.specs.Pages.{is_kept, times}
 use Rattle.be_paged.specs.Page.{reach}
 use Rattle.be_paged.specs.Version.{IsVersion}
-use Rattle.be_volume.specs.Ahead.{after, reached}
+use Rattle.be_volume.specs.Ahead.{state_after, reached}
 use Rattle.be_volume.specs.Volume.{State, steps}
 use Rattle.be_table.specs.declared.pass.Knowledge.{Knowledge}
 use Rattle.be_table.specs.Place.{Work}
-use Rattle.be_table.specs.Reading.{standing_in, word_in, StaysOpen}
+use Rattle.be_table.specs.Reading.{standing_among, word_of_page, StaysOpen}
 use Rattle.be_table.specs.Rule.{entries}
 use Rattle.be_table.specs.Works.{IsSpent}
 use Rattle.be_table.proofs.Keeping.{begun_version, keeps_exactly}
@@ -32,22 +32,22 @@ pub publish-number-requires-clause-filled : goal.publish-number-requires-clause-
 publish-number-requires-clause-filled c =
     let t = c.requires.begins in let ok = c.in-Ok.ensures.ok in let old = c.args.writing.now in
     let first = current_spelt old.knows c.current-version_page.result.1 t c.current-version_page.ensures.version.1 in
-    λ q e. (keeps_exactly old c.apply_to.new.writing c.current-version_page.result.1 c.in-Ok.page _ ok.made t.begun first ok.version ok.swaps q).1 (ap (λ (w : Work). standing_in w.knows.places q) (sym c.in_ok-reserve-in-Ok.ensures.0) ∙ e)
+    λ q e. (keeps_exactly old c.apply_to.new.writing c.current-version_page.result.1 c.in-Ok.page _ ok.made t.begun first ok.version ok.swaps q).1 (ap (λ (w : Work). standing_among w.knows.places q) (sym c.in_ok-reserve-in-Ok.ensures.0) ∙ e)
 
 pub publish-number-requires-clause-volume : goal.publish-number-requires-clause-volume
 publish-number-requires-clause-volume c =
     let ok = c.in-Ok.ensures.ok in let old = c.args.writing.now in let same = ap (λ (w : Work). w.knows) c.in_ok-reserve-in-Ok.ensures.0 in
-    let made : after (replay (entries c.reserve.new.self.knows.seen)) c.args.ops.now ≡ ok.made =
-    ap (λ (k : Knowledge). after (replay (entries k.seen)) c.args.ops.now) same
-    ∙ ap (λ (o : StaysOpen). after (replay (entries o.seen)) c.args.ops.now) ok.swaps.kept
+    let made : state_after (replay (entries c.reserve.new.self.knows.seen)) c.args.ops.now ≡ ok.made =
+    ap (λ (k : Knowledge). state_after (replay (entries k.seen)) c.args.ops.now) same
+    ∙ ap (λ (o : StaysOpen). state_after (replay (entries o.seen)) c.args.ops.now) ok.swaps.kept
     ∙ ap (reached (replay (entries old.knows.seen))) ok.stepped in
-    subst (λ (x : Knowledge × State). IsVersion (standing_in x.0.places) (word_in x.0.words) c.in-Ok.page x.1) (λ i. (sym same i, sym made i)) ok.version
+    subst (λ (x : Knowledge × State). IsVersion (standing_among x.0.places) (word_of_page x.0.words) c.in-Ok.page x.1) (λ i. (sym same i, sym made i)) ok.version
 
 pub publish-number-requires-clause-exact : goal.publish-number-requires-clause-exact
 publish-number-requires-clause-exact c =
     let t = c.requires.begins in let ok = c.in-Ok.ensures.ok in let old = c.args.writing.now in
     let first = current_spelt old.knows c.current-version_page.result.1 t c.current-version_page.ensures.version.1 in
-    subst (λ (w : Work). (q : ℕ) → times q (reach (word_in w.knows.words) c.in-Ok.page) ≡ bit (is_kept (standing_in w.knows.places q))) (sym c.in_ok-reserve-in-Ok.ensures.0)
+    subst (λ (w : Work). (q : ℕ) → times q (reach (word_of_page w.knows.words) c.in-Ok.page) ≡ bit (is_kept (standing_among w.knows.places q))) (sym c.in_ok-reserve-in-Ok.ensures.0)
     (λ q. (keeps_exactly old c.apply_to.new.writing c.current-version_page.result.1 c.in-Ok.page _ ok.made t.begun first ok.version ok.swaps q).0)
 
 pub returns-in_ok-reserve-in-Ok-clause-answer : goal.returns-in_ok-reserve-in-Ok-clause-answer

@@ -1,5 +1,5 @@
 use Rattle.std.proofs.Common.{[], ◌∷◌, ◌++◌, map, sym, ap, ◌∙◌, subst, arith, append_assoc}
-use Rattle.be_table.specs.Rule.{joined}
+use Rattle.be_table.specs.Rule.{seats_together}
 use Rattle.be_table.specs.Works.{AllAt, Gathered, knows_of}
 use Rattle.be_table.proofs.Deals.{Me2, joins}
 use Rattle.be_table.proofs.Closing.{AllAt-parts, gathered_more}
@@ -20,7 +20,7 @@ loop-seat-preserved c =
     let s = c.in-Some.seat in
     let at = AllAt-parts _ c.pop.new.self.items s (subst (AllAt c.args.table.now.shared.table_id) c.in-Some.ensures.items i.seats) in
     let taken = i.passes.0 in
-    let me = j.2 ∙ ap (λ (m : Me2). (joined c.loop-seat.rest.me.0 m.0, c.loop-seat.rest.me.1)) p.pass.1 in
+    let me = j.2 ∙ ap (λ (m : Me2). (seats_together c.loop-seat.rest.me.0 m.0, c.loop-seat.rest.me.1)) p.pass.1 in
     record {
       table = j.0 ∙ i.table;
       id = j.1 ∙ i.id;

@@ -1,12 +1,12 @@
 use Rattle.std.proofs.Common.{◌≡◌, ◌≤◌, ◌+◌, take}
 use Rattle.std.specs.FinMap as map
 use Rattle.be_volume.specs.Maps.{attributes_of}
-use Rattle.be_volume.specs.Ahead.{after}
+use Rattle.be_volume.specs.Ahead.{state_after}
 use Rattle.be_volume.proofs.ahead.has_attribute.Given as goal
 
 abbrev pub invariant-loop-op : goal.invariant-loop-op
 invariant-loop-op g l = record {
-  next : l.next ≡ (after g.volume (take l.op-index l.before)).next;
+  next : l.next ≡ (state_after g.volume (take l.op-index l.before)).next;
   bound : l.next ≤ g.volume.next + l.op-index;
-  there : l.there ≡ map.contains_key (attributes_of (after g.volume (take l.op-index l.before)).nodes l.node) l.name;
+  there : l.there ≡ map.contains_key (attributes_of (state_after g.volume (take l.op-index l.before)).nodes l.node) l.name;
 }

@@ -4,7 +4,7 @@ use Rattle.std.specs.FinMap as map
 use Rattle.be_volume.specs.Maps.{attributes_of}
 use Rattle.be_volume.specs.declared.ops.Op.{Op}
 use Rattle.be_volume.specs.Volume.{steps}
-use Rattle.be_volume.specs.Ahead.{after, sets_after}
+use Rattle.be_volume.specs.Ahead.{state_after, sets_after}
 use Rattle.be_volume.proofs.FactLemmas.{sets_grow, sets_turn}
 use Rattle.be_volume.proofs.RefusalLemmas.{as_before, not_reached}
 use Rattle.be_volume.proofs.ahead.may_be_full.Goals as goal
@@ -27,7 +27,7 @@ loop-op-preserved g c =
     let bound : sets_after c.op-item.result c.loop-op.sets c.args.node ≤ at + 1 = omega (arith, grown, c.loop-op.invariant.bound) in
     record {
       bound = subst (λ n. n ≤ at + 1) (sym c.sets_after-sets.ensures) bound;
-      most = subst (λ n. map.len (attributes_of (after g.volume (take (at + 1) c.args.before.now)).nodes c.args.node) ≤ old + n) (sym c.sets_after-sets.ensures)
+      most = subst (λ n. map.len (attributes_of (state_after g.volume (take (at + 1) c.args.before.now)).nodes c.args.node) ≤ old + n) (sym c.sets_after-sets.ensures)
           (sets_turn g.volume c.args.before.now at c.op-item.result c.loop-op-test.true c.op-item.is ok c.args.node old c.loop-op.sets c.loop-op.invariant.most);
     }
 
@@ -36,6 +36,6 @@ returns-clause-few g c = λ no.
     let before = c.args.before.now in
     let old = c.attribute_count-old.result in
     let ends : length before ≤ c.loop-op.op-index = omega (arith, c.loop-op-test.false) in
-    let P : List Op → Type 0 = λ l. map.len (attributes_of (after g.volume l).nodes c.args.node) ≤ old + c.loop-op.sets in
+    let P : List Op → Type 0 = λ l. map.len (attributes_of (state_after g.volume l).nodes c.args.node) ≤ old + c.loop-op.sets in
     let most = subst P (take_all c.loop-op.op-index before ends) c.loop-op.invariant.most in
     not_reached _ (old + c.loop-op.sets) most (sym c.reach_limit.ensures ∙ no)

@@ -2,7 +2,7 @@ use Rattle.std.proofs.Common.{◌≡◌, ◌<◌, ◌≤◌, length, take, sym, 
 use Rattle.std.proofs.lemmas.List.{length-take-le}
 use Rattle.std.specs.Ordering.{is_lt, is_le}
 use Rattle.be_volume.specs.Maps.{name_cmp}
-use Rattle.be_volume.specs.PairKeys.{is_from}
+use Rattle.be_volume.specs.PairKeys.{is_at_or_after}
 use Rattle.be_volume.proofs.KeyLemmas.{starts_at, starts_after, starts_long}
 use Rattle.be_volume.proofs.keys.start_of.Goals as goal
 
@@ -25,8 +25,8 @@ returns-then-from-gt-MAX_KEY c = λ k h.
 
 pub returns-then-after : goal.returns-then-after
 returns-then-after c = λ k h.
-    ap (λ b. is_lt (name_cmp b k)) c.new-key.ensures ∙ starts_after c.args.from.now k ∙ ap (λ t. is_from c.args.from.now t k) (sym c.if-after.true)
+    ap (λ b. is_lt (name_cmp b k)) c.new-key.ensures ∙ starts_after c.args.from.now k ∙ ap (λ t. is_at_or_after c.args.from.now t k) (sym c.if-after.true)
 
 pub returns-else-after : goal.returns-else-after
 returns-else-after c = λ k h.
-    ap (λ b. is_le (name_cmp b k)) c.new-key.ensures ∙ starts_at c.args.from.now k ∙ ap (λ t. is_from c.args.from.now t k) (sym c.if-after.false)
+    ap (λ b. is_le (name_cmp b k)) c.new-key.ensures ∙ starts_at c.args.from.now k ∙ ap (λ t. is_at_or_after c.args.from.now t k) (sym c.if-after.false)

@@ -1,6 +1,6 @@
 use Rattle.std.proofs.Common.{ℕ, ap, sym, subst, ◌∙◌}
 use Rattle.be_pages.specs.PagePool.{places}
-use Rattle.be_pages.specs.VecRoom.{standing_in, word_in}
+use Rattle.be_pages.specs.VecRoom.{standing_in, pool_word}
 use Rattle.be_tree.specs.Forest.{IsUndone}
 use Rattle.be_volume.specs.Volume.{State}
 use Rattle.be_paged.specs.Version.{IsVersion}
@@ -11,7 +11,7 @@ use Rattle.be_paged_tests.proofs.both.Both.write.Goals as goal
 pub invariant_of-result : goal.invariant_of-result
 invariant_of-result c =
     let s = λ (q : ℕ). standing_in (places c.apply_pages.new.room.pool) q in
-    let w = λ (q i : ℕ). word_in c.apply_pages.new.room.words.items q i in
+    let w = λ (q i : ℕ). pool_word c.apply_pages.new.room.words.items q i in
     let kept = λ (q : ℕ). standing_in (places c.keep.new.self.pool) q in
     let page = c.in-Ok.page in
     let applied = c.in-Ok.ensures.ok in
@@ -26,8 +26,8 @@ invariant_of-result-in-Err c =
     let start = λ (q : ℕ). standing_in (places c.self.inside.room.pool) q in
     let s = λ (q : ℕ). standing_in (places c.apply_pages.new.room.pool) q in
     let undone = λ (q : ℕ). standing_in (places c.undo.new.self.pool) q in
-    let v = λ (q i : ℕ). word_in c.self.inside.room.words.items q i in
-    let w = λ (q i : ℕ). word_in c.undo.new.self.words.items q i in
+    let v = λ (q i : ℕ). pool_word c.self.inside.room.words.items q i in
+    let w = λ (q i : ℕ). pool_word c.undo.new.self.words.items q i in
     let keeps = refused_start _ _ _ _ _ c.in-Err.ensures.err in
     let was : IsUndone start undone v w = record {
       standing = λ q. c.undo.ensures.standing q ∙ keeps.undone q;

@@ -2,7 +2,7 @@ use Rattle.std.proofs.Common.{◌≡◌, ◌∙◌, ◌<◌, ◌≤◌, ◌++◌
 use Rattle.std.proofs.lemmas.List.{get_or_default, length-set, length-append}
 use Rattle.be_pages.specs.declared.page_pool.Place.TheVariants.{Current}
 use Rattle.be_pages.specs.Pages.{times}
-use Rattle.be_pages.specs.Place.{IsOldestFirst, is_free, is_idle, is_retired, number_in, number_of, place_of, place_after}
+use Rattle.be_pages.specs.Place.{IsOldestFirst, is_free, is_idle, is_retired, retired_number, retired_at, place_of, place_after}
 use Rattle.be_pages.proofs.PageSets.{flagged_below}
 use Rattle.be_pages.proofs.Pools.{active, after_idle, idle_after, newest_after, other_place, retired_busy, places_map, flags_same, flags_to, touches_to, touches_less, count_same, count_more, count_room, retires_same, retires_more, order_same, order_more, done_to, done_less, waiting_to, waiting_less, newest_set}
 use mathlib.Core.Bool.{false≢true}
@@ -90,8 +90,8 @@ invariant_of-self-in-Retired c =
       frees = flags_same P p s lt is_free pool.free.has.items pool.frees (act.0 ∙ sym (retired_busy s kept));
       touches = touches_to P p s lt false pool.touched.has.items c.pop.new.self.has.items pool.touches c.in-Some.ensures.has (λ e. absurd (false≢true (sym e ∙ idle)));
       retires = λ q. ap (times q) items ∙ retires_more P p s lt queue pool.retires act.1 kept q;
-      oldest_first = subst (IsOldestFirst (number_of (slice_set P p s))) (sym items) (order_more P p s lt queue pool.retires act.1
-          (λ q. subst (λ x. number_of P q ≤ number_in x) (sym is) (newest_after c.args.ending (place_of P p) (number_of P) c.loop-page.invariant.newest un (sym (ap is_retired is) ∙ kept) q)) pool.oldest_first);
+      oldest_first = subst (IsOldestFirst (retired_at (slice_set P p s))) (sym items) (order_more P p s lt queue pool.retires act.1
+          (λ q. subst (λ x. retired_at P q ≤ retired_number x) (sym is) (newest_after c.args.ending (place_of P p) (retired_at P) c.loop-page.invariant.newest un (sym (ap is_retired is) ∙ kept) q)) pool.oldest_first);
     }
 
 pub loop-page-preserved-in-Retired : goal.loop-page-preserved-in-Retired

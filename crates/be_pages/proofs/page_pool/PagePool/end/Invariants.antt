@@ -1,6 +1,6 @@
 use Rattle.std.proofs.Common.{◌≡◌, ℕ, length, true, false}
 use Rattle.be_pages.specs.PageSet.{has_page}
-use Rattle.be_pages.specs.Place.{place_of, place_after, number_of, IsNewest}
+use Rattle.be_pages.specs.Place.{place_of, place_after, retired_at, IsNewest}
 use Rattle.be_pages.proofs.page_pool.PagePool.end.Given as goal
 
 -- the pages that no longer wait are settled, and the others are where they were
@@ -9,7 +9,7 @@ invariant-loop-page l = record {
   done : (q : ℕ) → has_page l.self.touched.has.items q ≡ false → place_of l.self.places.items q ≡ place_after l.ending (place_of l.initial.self.places.items q);
   waiting : (q : ℕ) → has_page l.self.touched.has.items q ≡ true → place_of l.self.places.items q ≡ place_of l.initial.self.places.items q;
   len : length l.self.places.items ≡ length l.initial.self.places.items;
-  newest : IsNewest l.ending (number_of l.self.places.items);
+  newest : IsNewest l.ending (retired_at l.self.places.items);
 }
 
 abbrev pub decreases-loop-page : goal.decreases-loop-page

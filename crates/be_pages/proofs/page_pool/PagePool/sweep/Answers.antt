@@ -2,7 +2,7 @@ use Rattle.std.proofs.Common.{◌≡◌, ◌∙◌, ◌<◌, ◌+◌, sym, ap, s
 use Rattle.std.proofs.lemmas.List.{length-set, length-drop}
 use Rattle.be_pages.specs.declared.page_pool.Place.TheVariants.{Free}
 use Rattle.be_pages.specs.Pages.{times}
-use Rattle.be_pages.specs.Place.{IsOldestFirst, is_free, number_of, place_of, swept_place}
+use Rattle.be_pages.specs.Place.{IsOldestFirst, is_free, retired_at, place_of, swept_place}
 use Rattle.be_pages.proofs.Pools.{places_map, retired_inside, flags_to, touches_same, count_less, retires_less, order_less, swept_set}
 use mathlib.Core.Bool.{false≢true}
 use Rattle.be_pages.proofs.page_pool.PagePool.sweep.Goals as goal
@@ -25,7 +25,7 @@ invariant_of-self c =
       frees = flags_to P p Free lt is_free true pool.free.has.items c.insert.new.self.has.items pool.frees c.insert.ensures.has refl;
       touches = touches_same P p Free lt pool.touched.has.items pool.touches (λ e. absurd (false≢true (sym e)));
       retires = λ q. ap (times q) rest ∙ retires_less P p Free lt queue pool.retires first.0 first.1 refl is q;
-      oldest_first = subst (IsOldestFirst (number_of (slice_set P p Free))) (sym rest) (order_less P p Free lt queue pool.retires first.0 first.1 is pool.oldest_first);
+      oldest_first = subst (IsOldestFirst (retired_at (slice_set P p Free))) (sym rest) (order_less P p Free lt queue pool.retires first.0 first.1 is pool.oldest_first);
     }
 
 pub loop-page-preserved : goal.loop-page-preserved

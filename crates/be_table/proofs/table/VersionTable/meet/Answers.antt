@@ -1,5 +1,5 @@
 use Rattle.std.proofs.Common.{◌≡◌, length, sym, ap, ◌∙◌, arith}
-use Rattle.be_table.specs.Rule.{counted}
+use Rattle.be_table.specs.Rule.{one_step_on}
 use Rattle.be_table.proofs.Deals.{joins}
 use Rattle.be_table.specs.Steps.{longer}
 use Rattle.be_table.proofs.Meetings.{joined_pair, compares_as, deals_as, left_longer, right_longer, met_left, met_right}
@@ -17,7 +17,7 @@ load-requires c =
     let j = c.join_seat.ensures in (
       j.0 ∙ p.0 ∙ c.requires.0.1 ∙ id,
       omega (arith, c.self.invariant.0),
-      compares_as _ _ _ (counted c.args.left.knows) (counted c.args.right.knows) _ (joined_pair _ _ _ _ _ p.1 q.1 j.2) c.into_base-base.ensures.told.1.writes c.into_base-other.ensures.told.1.writes,
+      compares_as _ _ _ (one_step_on c.args.left.knows) (one_step_on c.args.right.knows) _ (joined_pair _ _ _ _ _ p.1 q.1 j.2) c.into_base-base.ensures.told.1.writes c.into_base-other.ensures.told.1.writes,
     )
 
 pub split_seat-first-requires : goal.split_seat-first-requires

@@ -1,6 +1,6 @@
 use Rattle.std.proofs.Common.{◌≡◌, ◌<◌, IsTrue, sym, ap, ◌∙◌, subst, arith}
 use Rattle.be_core.specs.Machine.{has}
-use Rattle.be_table.specs.Rule.{counted, pass_of, reach_at}
+use Rattle.be_table.specs.Rule.{one_step_on, pass_of, reach_at}
 use Rattle.be_table.proofs.Told.{told_as, stepped_pass}
 use Rattle.be_table.proofs.Moves.{pinned_as}
 use Rattle.be_table.proofs.Pins.{page_inside}
@@ -24,6 +24,6 @@ pub of-requires-clause-told : goal.of-requires-clause-told
 of-requires-clause-told c =
     let t = c.into_base-base.ensures.told.1 in
     let a = c.move_out.result.knows in
-    told_as (counted a) c.load-found.new.seat.me c.into_base-base.result.1.number c.into_base-base.result.1.seen
-    (ap (λ m. pass_of m.0) c.load-found.ensures.2.0 ∙ ap (λ m. counted (pass_of m.0)) c.into_base-base.ensures.pass.1)
+    told_as (one_step_on a) c.load-found.new.seat.me c.into_base-base.result.1.number c.into_base-base.result.1.seen
+    (ap (λ m. pass_of m.0) c.load-found.ensures.2.0 ∙ ap (λ m. one_step_on (pass_of m.0)) c.into_base-base.ensures.pass.1)
     (record { number_is = t.number_is; seen_is = t.seen_is; writes = t.writes; pass = stepped_pass a _ t.pass })

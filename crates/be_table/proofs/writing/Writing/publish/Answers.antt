@@ -2,13 +2,13 @@ use Rattle.std.proofs.Common.{◌≡◌, ◌≤◌, ◌<◌, [], ◌∷◌, ◌+
 use Rattle.std.proofs.lemmas.List.{length-map}
 use Rattle.be_journal.specs.declared.entries.Entry.{Entry}
 use Rattle.be_journal.specs.Journal.{Agrees, replay}
-use Rattle.be_pages.specs.Place.{number_of, place_of, published_place}
+use Rattle.be_pages.specs.Place.{retired_at, place_of, published_place}
 use Rattle.be_table.specs.declared.pass.Knowledge.{Knowledge}
 use Rattle.be_table.specs.Place.{Work}
 use Rattle.be_table.specs.Rule.{entries, ledger_places, page_at, pass_of}
 use Rattle.be_table.specs.Seats.{pin_of}
 use Rattle.be_table.specs.Ledger.{is_of_next}
-use Rattle.be_table.specs.Reading.{word_in}
+use Rattle.be_table.specs.Reading.{word_of_page}
 use Rattle.be_table.specs.Steps.{IsPass, commit_of, pages_from, publishes}
 use Rattle.be_table.specs.Versions.{SpellsVolume}
 use Rattle.be_table.proofs.Keeping.{spells_kept}
@@ -37,9 +37,9 @@ store_version-requires-clause-pass c =
         room = (i.room (let n = c.requires.count.0 in let r = c.requires.reserved in omega arith)).1;
         inside = subst (λ (n : Knowledge). c.args.page < length n.places) (sym k) c.is_filled.ensures.0;
         filled = ap (λ (n : Knowledge). place_of n.places c.args.page) k ∙ c.is_filled.ensures.1;
-        spelt = subst (λ (n : Knowledge). SpellsVolume (pages_from is_of_next 0 n.places) (word_in n.words) c.args.page (replay (entries n.seen ++ e ∷ []))) (sym k)
-            (subst (λ s. SpellsVolume (pages_from is_of_next 0 n0.places) (word_in n0.words) c.args.page s) (sym (c.replay_push.ensures (entries n0.seen) e))
-            (spells_kept n0.places few c.requires.filled (word_in n0.words) c.args.page _ c.requires.volume c.requires.exact));
+        spelt = subst (λ (n : Knowledge). SpellsVolume (pages_from is_of_next 0 n.places) (word_of_page n.words) c.args.page (replay (entries n.seen ++ e ∷ []))) (sym k)
+            (subst (λ s. SpellsVolume (pages_from is_of_next 0 n0.places) (word_of_page n0.words) c.args.page s) (sym (c.replay_push.ensures (entries n0.seen) e))
+            (spells_kept n0.places few c.requires.filled (word_of_page n0.words) c.args.page _ c.requires.volume c.requires.exact));
       },
     )
 
@@ -82,4 +82,4 @@ append-requires-clause-room c =
 pub append-requires-clause-newest : goal.append-requires-clause-newest
 append-requires-clause-newest c =
     let i = c.self.invariant in let a = pass_of c.self.inside.base.me.0 in
-    λ q. let n = c.store_version.ensures.newest q in let places = ap (λ l. number_of l q) i.places in let long = ap length i.journal ∙ seen_length a.seen in omega arith
+    λ q. let n = c.store_version.ensures.newest q in let places = ap (λ l. retired_at l q) i.places in let long = ap length i.journal ∙ seen_length a.seen in omega arith

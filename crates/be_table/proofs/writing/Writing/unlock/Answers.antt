@@ -3,7 +3,7 @@ use Rattle.atomic_table.specs.Table.{rest}
 use Rattle.be_table.specs.Rule.{pass_of}
 use Rattle.be_table.proofs.Frames.{Me1}
 use Rattle.be_pages.specs.Place.{undone_place}
-use Rattle.be_table.specs.Steps.{leaves}
+use Rattle.be_table.specs.Steps.{without_lock}
 use Rattle.be_table.proofs.Locks.{unlocks_as}
 use Rattle.be_table.proofs.Opened.{seen_length}
 use Rattle.be_table.proofs.Told.{told_as, left_pass}
@@ -18,6 +18,6 @@ store-requires c =
 pub of-requires-clause-told : goal.of-requires-clause-told
 of-requires-clause-told c =
     let i = c.self.invariant in let w = c.self.inside in let a = pass_of w.base.me.0 in
-    told_as (leaves a) c.store.new.seat.me w.marks.number c.len.result
-    (ap (λ m. pass_of m.0) c.store.ensures.2 ∙ ap (λ m. leaves (pass_of m.0)) c.exchange.ensures.3)
+    told_as (without_lock a) c.store.new.seat.me w.marks.number c.len.result
+    (ap (λ m. pass_of m.0) c.store.ensures.2 ∙ ap (λ m. without_lock (pass_of m.0)) c.exchange.ensures.3)
     (record { number_is = i.number_is; seen_is = sym (seen_length a.seen) ∙ sym (ap length i.journal) ∙ sym c.len.ensures.len; writes = refl; pass = left_pass a i.pass })
