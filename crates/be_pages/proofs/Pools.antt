@@ -1,9 +1,9 @@
 -- A pool's lists, as one page's place changes.
-use Rattle.std.proofs.Common.{◌≡◌, ℕ, zero, suc, ◌+◌, ◌-◌, ◌<◌, ◌≤◌, ◌==◌, ◌⊎◌, List, [], ◌∷◌, ◌++◌, length, drop, get_or, cond, Bool, true, false, if◌then◌else◌, ap, sym, subst, ◌∙◌, refl, inl, inr, arith, slice_set, count_by, map}
+use Rattle.std.proofs.Common.{◌≡◌, ℕ, suc, ◌+◌, ◌-◌, ◌<◌, ◌≤◌, ◌==◌, ◌⊎◌, List, [], ◌∷◌, ◌++◌, length, drop, cond, Bool, true, false, if◌then◌else◌, ap, sym, subst, ◌∙◌, refl, inl, inr, arith, slice_set, count_by, map}
 use Rattle.std.specs.Prelude.{IsTrue, slice_index}
 use Rattle.std.proofs.lemmas.Bool.{cases_eq, cases_lt, le-ltb, lt-ltb}
 use Rattle.std.proofs.lemmas.List.{get_or_past, get_or-set_same, get_or-set_other, get_or-drop, get_or_append_left, get_or_push, drop_more, length-drop, length-append, length-set, length-map, get_or-map, ext_get_or}
-use Rattle.std.proofs.lemmas.List.Sums.{sum_by-append, sum_by-cons, sum_by-set, count_by-le-length, get_or-le-sum_by}
+use Rattle.std.proofs.lemmas.List.Sums.{sum_by-cons, sum_by-set, count_by-le-length, get_or-le-sum_by}
 use mathlib.Core.Bool.{false≢true}
 use Rattle.be_pages.specs.declared.page_pool.Place.{Place}
 use Rattle.be_pages.specs.declared.page_pool.Place.TheVariants.{Free, Reserved, Filled, Current, GivenUp, Retired}
@@ -11,7 +11,7 @@ use Rattle.be_pages.specs.declared.page_pool.Ending.{Ending}
 use Rattle.be_pages.specs.declared.page_pool.Ending.TheVariants.{Published, Kept, Undone}
 use Rattle.be_pages.specs.Pages.{times}
 use Rattle.be_pages.specs.PageSet.{has_page, is_true, one_if}
-use Rattle.be_pages.specs.Place.{is_free, is_held_page, is_idle, is_in_hand, is_retired, retired_number, retired_at, place_of, place_after, published_place, kept_place, undone_place, swept_place, IsNewest, IsOldestFirst}
+use Rattle.be_pages.specs.Place.{is_free, is_held_page, is_idle, is_in_hand, is_retired, retired_number, retired_at, place_of, place_after, published_place, swept_place, IsNewest, IsOldestFirst}
 use Rattle.be_pages.proofs.PageSets.{times_more, same_page, other_page, same_test, other_test}
 
 pub in_hand : (x : Place) → IsTrue (is_in_hand x) → (is_free x ≡ false) × (is_retired x ≡ false) × (is_idle x ≡ false)

@@ -1,6 +1,6 @@
-use Rattle.std.proofs.Common.{◌≡◌, ◌<◌, ◌≤◌, ◌+◌, ◌*◌, length, take, get_or, sym, ap, subst, ◌∙◌, refl, Ok, Some, arith}
+use Rattle.std.proofs.Common.{◌≡◌, ◌<◌, ◌≤◌, ◌+◌, ◌*◌, sym, ap, subst, ◌∙◌, Ok, Some, arith}
 use Rattle.be_volume.specs.Volume.{steps}
-use Rattle.be_journal.specs.Journal.{replay, Agrees, IsFirstWrong}
+use Rattle.be_journal.specs.Journal.{Agrees, IsFirstWrong}
 use Rattle.be_journal.proofs.LegalLemmas.{replay_agreed, agree_more, front_legal, not_agreed, past}
 use Rattle.be_journal.proofs.journals.first_wrong.Goals as goal
 

@@ -1,14 +1,12 @@
 use Rattle.std.proofs.Common.{◌≡◌, ◌≤◌, ◌<◌, ◌+◌, ℕ, List, length, get_or, ap, sym, subst, ◌∙◌, arith}
 use Rattle.std.specs.FinMap as fin
-use Rattle.std.specs.declared.cmp.Ordering.TheVariants.{Less, Equal, Greater}
+use Rattle.std.specs.declared.cmp.Ordering.TheVariants.{Equal}
 use Rattle.be_pages.specs.Pages.{IsUnchanged}
 use Rattle.be_volume.specs.Maps.{name_cmp}
 use Rattle.be_paged.specs.Page.{contents_of, entry_at, entry_place, IsEntry, IsGapAt, IsNamedAt, IsVersionPage}
-use Rattle.be_paged.specs.Version.{IsVersion}
 use Rattle.be_paged.proofs.IndexEntries.Indexing.{NamesRise, names_rise}
 use Rattle.be_paged.proofs.Stored.Codec.{name_short}
-use Rattle.be_paged.proofs.Stored.PageIndices.{AreAbove, AreBelow, above_from, below_through, gap_here, named_here}
-use Rattle.be_paged.proofs.Versions.{version_since}
+use Rattle.be_paged.proofs.Stored.PageIndices.{above_from, below_through, gap_here, named_here}
 use Rattle.be_paged.proofs.on_page.find_index.Given.{Over}
 use Rattle.be_paged.proofs.on_page.find_index.Goals as goal
 use Rattle.be_paged.proofs.on_page.find_index.Goals.{After-place_between-at, After-compare_at}

@@ -1,5 +1,4 @@
-use Rattle.std.proofs.Common.{◌∙◌, sym, ap, length, arith, refl}
-use Rattle.std.proofs.lemmas.List.{length-set}
+use Rattle.std.proofs.Common.{◌∙◌, sym}
 use Rattle.be_pages.specs.declared.page_pool.Place.TheVariants.{Filled}
 use Rattle.be_pages.specs.Place.{is_free, place_of}
 use Rattle.be_pages.proofs.Pools.{in_hand, in_hand_inside, flags_same, touches_same, count_same, retires_same, order_same}

@@ -1,4 +1,4 @@
-use Rattle.std.proofs.Common.{◌∙◌, sym, ap, length, arith, refl, true}
+use Rattle.std.proofs.Common.{◌∙◌, sym, refl, true}
 use mathlib.Core.Bool.{false≢true}
 use Rattle.be_pages.specs.declared.page_pool.Place.TheVariants.{Free}
 use Rattle.be_pages.specs.Place.{is_free, place_of}

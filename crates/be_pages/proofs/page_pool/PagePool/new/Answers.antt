@@ -5,7 +5,7 @@ use mathlib.Core.Bool.{false≢true}
 use Rattle.be_pages.specs.declared.page_pool.Place.{Place}
 use Rattle.be_pages.specs.declared.page_pool.Place.TheVariants.{Free, Current}
 use Rattle.be_pages.specs.Pages.{times}
-use Rattle.be_pages.specs.PageSet.{has_page, one_if}
+use Rattle.be_pages.specs.PageSet.{one_if}
 use Rattle.be_pages.specs.Place.{is_free, is_idle, place_of, is_retired}
 use Rattle.be_pages.proofs.Pools.{count_none}
 use Rattle.be_pages.proofs.page_pool.PagePool.new.Goals as goal

@@ -1,8 +1,8 @@
-use Rattle.std.proofs.Common.{◌≡◌, ◌∙◌, ◌<◌, ◌+◌, sym, ap, subst, arith, length, drop, refl, true, false, slice_set}
+use Rattle.std.proofs.Common.{◌≡◌, ◌∙◌, ◌<◌, ◌+◌, sym, ap, subst, arith, length, refl, true, false, slice_set}
 use Rattle.std.proofs.lemmas.List.{length-set, length-drop}
 use Rattle.be_pages.specs.declared.page_pool.Place.TheVariants.{Free}
 use Rattle.be_pages.specs.Pages.{times}
-use Rattle.be_pages.specs.Place.{IsOldestFirst, is_free, retired_at, place_of, swept_place}
+use Rattle.be_pages.specs.Place.{IsOldestFirst, is_free, retired_at, swept_place}
 use Rattle.be_pages.proofs.Pools.{places_map, retired_inside, flags_to, touches_same, count_less, retires_less, order_less, swept_set}
 use mathlib.Core.Bool.{false≢true}
 use Rattle.be_pages.proofs.page_pool.PagePool.sweep.Goals as goal

@@ -1,4 +1,4 @@
-use Rattle.std.proofs.Common.{◌∙◌, ◌<◌, ◌≡◌, sym, ap, length, arith, refl, true, false}
+use Rattle.std.proofs.Common.{◌∙◌, ◌<◌, ◌≡◌, sym, length, arith, refl, true, false}
 use Rattle.be_pages.specs.declared.page_pool.Place.TheVariants.{Reserved}
 use Rattle.be_pages.specs.Place.{is_free, place_of, is_retired}
 use Rattle.be_pages.proofs.PageSets.{flagged_below}
