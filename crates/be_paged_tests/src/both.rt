@@ -3,12 +3,12 @@
 //! That the pages spell the plain volume is kept by the type, so a test that goes from one call to the next states nothing.
 use crate::asking::{attrs_pages, attrs_plain, indices_pages, indices_plain, query_both};
 use crate::same::same_lists;
-use crate::test_looks::Counting;
 use crate::writing::{accepts, apply_pages, refuses, room_of};
 use arrayvec::ArrayVec;
 use be_paged::get;
 use be_pages::{Look, VecRoom};
 use be_query::Query;
+use be_testing::Counting;
 use be_value::{Kind, Name, Refusal, Value};
 use be_volume::{Done, Op, Volume};
 use std::alloc::Global;

@@ -1,31 +1,5 @@
-//! Readers for tests: one that counts its calls, and one that sees the room as it was when its write began.
+//! A reader for tests, which sees the room as it was when its write began.
 use be_pages::Look;
-
-/// A reader that counts its calls. Its facts are those of the reader that it owns.
-#[derive(Drop)]
-pub(crate) struct Counting<L> {
-    pub look: L,
-    pub reads: u64,
-}
-
-impl<L: Look> Look for Counting<L> {
-    ghost Kept = { L.Kept };
-
-    ghost kept = { λ c. L.kept c.look };
-
-    ghost is_open = { L.is_open };
-
-    ghost standing = { λ c. L.standing c.look };
-
-    ghost words = { λ c. L.words c.look };
-
-    ghost pages_small = { λ c q some. L.pages_small c.look q some };
-
-    fn word(&mut self, page: u64, i: usize) -> u64 {
-        self.reads = self.reads.wrapping_add(1);
-        self.look.word(page, i)
-    }
-}
 
 /// A reader as it was when the open write began. What the write gave up can be read, and what it took can't.
 #[derive(Drop)]
