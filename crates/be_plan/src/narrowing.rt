@@ -10,8 +10,8 @@
 //!
 //! What narrows a range tells whether that leaves no value of which the comparison, or the whole query, is false. Then the node of each key is
 //! an answer, and nothing is asked of it. A pattern is decided where it says no more than how a text begins.
-ghost use Rattle.std.specs.Prelude.{◌≡◌, ◌<◌, ◌≤◌, ◌+◌, ◌^◌, ℕ, ℤ, ◌≤ℤ◌, true, false, List, [], ◌∷◌, ◌++◌, ◌&&◌, Some, None, IfSome, IfOk, IfErr, IsUtf8,
-    length};
+ghost use Rattle.std.specs.Prelude.{◌≡◌, ◌<◌, ◌≤◌, ◌+◌, ◌^◌, ℕ, ℤ, ◌≤ℤ◌, true, false, List, [], ◌∷◌, ◌++◌, ◌&&◌};
+ghost use Rattle.std.specs.Prelude.{Some, None, IfSome, IfOk, IfErr, IsUtf8, length};
 ghost use Rattle.std.specs.Option.{option_copied, option_map};
 ghost use Rattle.std.specs.Str.{chars};
 ghost use Rattle.be_pattern.specs.Match.{matches};
@@ -315,7 +315,7 @@ fn rest_of_both<'a>(
 ) -> Option<&'a Tree>
     ensures { (s : State) (node : ℕ) →
         sat s (formula tree.now) node ≡ (rest_true s (option_map formula (option_copied left.entry)) node
-            && rest_true s (option_map formula (option_copied right.entry)) node) →
+        && rest_true s (option_map formula (option_copied right.entry)) node) →
         sat s (formula tree.now) node ≡ rest_true s (option_map formula (option_copied result)) node }
 {
     match (left, right) {
