@@ -24,7 +24,7 @@ struct Letter {
 
 impl Letter {
     /// Whether the letter is this character, with no backslash.
-    fn is_bare(self, c: char) -> bool
+    fn is_plain(self, c: char) -> bool
         ensures { (at : ℕ) → is_bare c (letter_of at self) ≡ result }
     {
         self.char == c && !self.escaped
@@ -127,13 +127,13 @@ fn read_token(
         (λ p. token_at (letter_of at letter) (letters_in total text.now) ≡ Some (part_of p.0, letters_in total p.1.now))) }
     ensures within { IfOk result (λ o. IfSome o (λ p. length p.1.now ≤ length text.now)) }
 {
-    if letter.is_bare('*') {
+    if letter.is_plain('*') {
         return Ok(Some((Token::AnyRun, text)));
     }
-    if letter.is_bare('?') {
+    if letter.is_plain('?') {
         return Ok(Some((Token::AnyOne, text)));
     }
-    if letter.is_bare('[') {
+    if letter.is_plain('[') {
         return read_set(alloc, text);
     }
     let char = letter.char;
@@ -151,7 +151,7 @@ fn split_caret(text: &str) -> Option<&str>
     let Some((letter, after)) = split_letter(text) else {
         return None;
     };
-    if letter.is_bare('^') {
+    if letter.is_plain('^') {
         Some(after)
     } else {
         None
@@ -185,7 +185,7 @@ fn read_members(
     let mut members = Vec::new(alloc);
     let mut rest = text;
     'members: while let Some((first, after)) = split_letter(rest) {
-        if first.is_bare(']') {
+        if first.is_plain(']') {
             if !are_members(&members) {
                 return Ok(None);
             }
@@ -208,13 +208,13 @@ fn split_range(text: &str) -> Option<(char, &str)>
     let Some((dash, after)) = split_letter(text) else {
         return None;
     };
-    if !dash.is_bare('-') {
+    if !dash.is_plain('-') {
         return None;
     }
     let Some((last, behind)) = split_letter(after) else {
         return None;
     };
-    if last.is_bare(']') {
+    if last.is_plain(']') {
         return None;
     }
     let last = last.char;

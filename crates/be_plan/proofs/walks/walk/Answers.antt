@@ -45,8 +45,8 @@ returns-in_default-clause-has g c =
     let H : Option (List ℕ) → Type 0 = λ b. HasNodes g.volume name low b found in
     on_ok c.nodes_within.result (λ has k h w _. subst H c.high.ensures (subst L c.low.ensures (has g.volume c.requires.1.0)) k h w) c.nodes_within.ensures.has
 
-pub returns-else-asks-clause-satisfy : goal.returns-else-asks-clause-satisfy
-returns-else-asks-clause-satisfy g c = λ all n h.
+pub returns-else-asks_name-clause-satisfy : goal.returns-else-asks_name-clause-satisfy
+returns-else-asks_name-clause-satisfy g c = λ all n h.
     let f = formula c.args.tree.now in
     let name = c.args.name.now in
     let low = c.args.range.now.low.items in
@@ -63,8 +63,8 @@ returns-else-asks-clause-satisfy g c = λ all n h.
     ] in
     by (c.ask_each.ensures.only n h)
 
-pub returns-else-asks-clause-has : goal.returns-else-asks-clause-has
-returns-else-asks-clause-has g c =
+pub returns-else-asks_name-clause-has : goal.returns-else-asks_name-clause-has
+returns-else-asks_name-clause-has g c =
     let f = formula c.args.tree.now in
     let name = c.args.name.now in
     let low = c.args.range.now.low.items in
