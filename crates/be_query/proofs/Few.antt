@@ -222,7 +222,7 @@ unbroken_more len x xs rest place marks n = by_lexeme x.lexeme
     by_next t None f = absurd (let no : Some (Syntax x.at) ≡ None = f in cc)
     by_next t (Some s) f = by_own s (own_fault place marks n x.start t) f
 
-    by_lexeme : (l : Lexeme) → first_fault place marks n len (record { at = x.at; start = x.start; lexeme = l } ∷ xs) ≡ None → all_whole (record { at = x.at; nothing_built = x.start; lexeme = l } ∷ xs) ≡ true
+    by_lexeme : (l : Lexeme) → first_fault place marks n len (record { at = x.at; start = x.start; lexeme = l } ∷ xs) ≡ None → all_whole (record { at = x.at; start = x.start; lexeme = l } ∷ xs) ≡ true
     by_lexeme Odd f = absurd (let no : Some (Syntax x.at) ≡ None = f in cc)
     by_lexeme (Broken m) f = absurd (let no : Some (Syntax (broken_at place x.at m)) ≡ None = f in cc)
     by_lexeme (Whole t) f = by_next t (next place marks t) f
