@@ -74,7 +74,7 @@ module _ (w : ℕ → ℕ → ℕ) (c : Contents) (volume : State) (name : List 
         ∙ ap is_some ((found.entry d).keys.each is.node is.value (ap (λ (x : Index). fin.get x.pairs is.node) (sym same) ∙ is.paired))
 
 -- both crates mean the same keys
-pub same_from : (from : List ℕ) (after : Bool) (k : List ℕ) → pair_keys.is_from from after k ≡ is_from from after k
+pub same_from : (from : List ℕ) (after : Bool) (k : List ℕ) → pair_keys.is_at_or_after from after k ≡ is_from from after k
 unfolding key_cmp
 same_from from true k = refl
 same_from from false k = by (key_cmp k from)
