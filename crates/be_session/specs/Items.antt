@@ -1,5 +1,5 @@
 -- What a predicate in reverse Polish order means, as other languages spell it.
-use Rattle.std.specs.Prelude.{◌≡◌, ◌⊎◌, ◌+◌, ◌<◌, ℕ, true, false, List, [], ◌∷◌, length, Contains, IsUtf8, Ok, Err}
+use Rattle.std.specs.Prelude.{◌≡◌, ◌⊎◌, ◌+◌, ◌++◌, ◌<◌, ℕ, true, false, List, [], ◌∷◌, length, take, IsUtf8, Ok, Err}
 use Rattle.std.specs.Fmt.{decimal, signed_decimal}
 use Rattle.std.specs.Int.{cast_signed, w64}
 use Rattle.be_query.specs.Grammar.{Formula}
@@ -52,9 +52,11 @@ AreItemsMeant (s ∷ ss) bytes (item ∷ items) = IsItemMeant s.kind s.number (p
 abbrev pub IsItemMisspelt : PredicateItem → List ℕ → Fault → Type 0
 IsItemMisspelt s bytes e = ((e ≡ BadPart) × (length bytes < s.at + s.length)) ⊎ IsNoItem s.kind (part bytes s.at s.length) e
 
--- why these mean no items: one of them means none, or a growth was refused
+-- why these mean no items: the one behind the first n, which mean some, means none, or a growth was refused
 abbrev pub AreItemsMisspelt : List PredicateItem → List ℕ → Fault → Type 0
-AreItemsMisspelt ss bytes e = ((s : PredicateItem) × Contains ss s × IsItemMisspelt s bytes e) ⊎ (e ≡ Refused OutOfMemory)
+AreItemsMisspelt ss bytes e =
+    ((n : ℕ) × (s : PredicateItem) × (items : List Item) × (take (n + 1) ss ≡ take n ss ++ s ∷ []) × AreItemsMeant (take n ss) bytes items × IsItemMisspelt s bytes e)
+    ⊎ (e ≡ Refused OutOfMemory)
 
 -- the query that the items which are spelled here build
 abbrev pub IsBuilt : List PredicateItem → List ℕ → Formula → Type 0

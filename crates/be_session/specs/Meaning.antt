@@ -1,5 +1,5 @@
 -- What numbers and bytes mean: values and operations as other languages spell them.
-use Rattle.std.specs.Prelude.{◌≡◌, ◌≢◌, ◌⊎◌, ◌<◌, ◌≤◌, ◌^◌, ℕ, List, IsUtf8, Err}
+use Rattle.std.specs.Prelude.{◌≡◌, ◌≢◌, ◌⊎◌, ◌<◌, ◌≤◌, ◌^◌, ℕ, List, [], IsUtf8, Ok, Err}
 use Rattle.std.specs.Int.{cast_signed, w32, w64}
 use Rattle.std.specs.Int.RustNames.{FitsSigned}
 use Rattle.be_value.specs.Name.{name_from, text_from, bytes_from}
@@ -23,6 +23,16 @@ IsValueMeant code number bytes (Mims text) = (code ≡ code_of kinds.Mims) × (t
 IsValueMeant code number bytes (Rawt raw) = (code ≡ code_of kinds.Rawt) × (raw ≡ bytes)
 IsValueMeant code number bytes (Ulng n) = (code ≡ code_of kinds.Ulng) × (n ≡ number)
 IsValueMeant code number bytes (Ullg n) = (code ≡ code_of kinds.Ullg) × (n ≡ number)
+
+-- what a value has no use for is left at 0, or empty
+abbrev pub HasNoMore : ℕ → List ℕ → Value → Type 0
+HasNoMore number bytes (Cstr text) = number ≡ 0
+HasNoMore number bytes (Long n) = bytes ≡ []
+HasNoMore number bytes (Llng n) = bytes ≡ []
+HasNoMore number bytes (Mims text) = number ≡ 0
+HasNoMore number bytes (Rawt raw) = number ≡ 0
+HasNoMore number bytes (Ulng n) = bytes ≡ []
+HasNoMore number bytes (Ullg n) = bytes ≡ []
 
 -- The operation that these mean, each by the parts that it has a use for.
 abbrev pub IsMeant : ℕ → ℕ → List ℕ → ℕ → ℕ → List ℕ → Op → Type 0
@@ -59,10 +69,10 @@ IsNoneOf kinds.Ullg number bytes e = ⊥
 abbrev pub IsNoValue : ℕ → ℕ → List ℕ → Fault → Type 0
 IsNoValue code number bytes e = ((e ≡ NoKind) × IsNoKind code) ⊎ ((kind : Kind) × (code_of kind ≡ code) × IsNoneOf kind number bytes e)
 
--- why these mean no operation
+-- Why these mean no operation. The name is looked at first, where the operation has one.
 abbrev pub IsNoOperation : ℕ → List ℕ → ℕ → ℕ → List ℕ → Fault → Type 0
 IsNoOperation number name code value_number bytes e =
     ((e ≡ NoOperation) × (5 < number))
-    ⊎ ((2 ≤ number) × IsNoName name e)
-    ⊎ ((number ≡ 2) × IsNoValue code value_number bytes e)
-    ⊎ ((number ≡ 4) × (e ≡ NoKind) × IsNoKind code)
+    ⊎ ((2 ≤ number) × (number ≤ 5) × IsNoName name e)
+    ⊎ ((number ≡ 2) × (name_from name ≡ Ok name) × IsNoValue code value_number bytes e)
+    ⊎ ((number ≡ 4) × (name_from name ≡ Ok name) × (e ≡ NoKind) × IsNoKind code)

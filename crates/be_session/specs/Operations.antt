@@ -1,5 +1,5 @@
 -- What a list of operations means, as other languages spell them.
-use Rattle.std.specs.Prelude.{◌≡◌, ◌⊎◌, ◌+◌, ◌<◌, ◌≤◌, ℕ, List, [], ◌∷◌, length, take, drop, Contains}
+use Rattle.std.specs.Prelude.{◌≡◌, ◌⊎◌, ◌+◌, ◌<◌, ◌≤◌, ◌++◌, ℕ, List, [], ◌∷◌, length, take, drop}
 use Rattle.be_value.specs.declared.refusals.Refusal.TheVariants.{OutOfMemory}
 use Rattle.be_value.specs.declared.values.Kind.{Kind}
 use Rattle.be_value.specs.declared.values.Value.{Value}
@@ -50,6 +50,8 @@ IsMisspeltAt o bytes e =
     ((e ≡ BadPart) × ((length bytes < o.name_at + o.name_length) ⊎ (length bytes < o.value_at + o.value_length)))
     ⊎ IsNoOperation o.kind (part bytes o.name_at o.name_length) o.code o.number (part bytes o.value_at o.value_length) e
 
--- why these mean no operations: one of them means none, or a growth was refused
+-- why these mean no operations: the one behind the first n, which mean some, means none, or a growth was refused
 abbrev pub IsMisspelt : List Operation → List ℕ → Fault → Type 0
-IsMisspelt os bytes e = ((o : Operation) × Contains os o × IsMisspeltAt o bytes e) ⊎ (e ≡ Refused OutOfMemory)
+IsMisspelt os bytes e =
+    ((n : ℕ) × (o : Operation) × (ops : List Op) × (take (n + 1) os ≡ take n os ++ o ∷ []) × AreMeant (take n os) bytes ops × IsMisspeltAt o bytes e)
+    ⊎ (e ≡ Refused OutOfMemory)

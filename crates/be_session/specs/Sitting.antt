@@ -1,5 +1,5 @@
 -- What a contract sees of a session, and what its calls make of it.
-use Rattle.std.specs.Prelude.{◌≡◌, ◌⊎◌, ◌+◌, ◌<◌, ℕ, List, IsUtf8, length, Ok, Err, Some, None}
+use Rattle.std.specs.Prelude.{◌≡◌, ◌⊎◌, ◌+◌, ◌<◌, ℕ, List, IsUtf8, length, Ok, Err, Some, None, is_some, true}
 use Rattle.std.specs.declared.option.Option.{Option}
 use Rattle.std.specs.declared.result.Result.{Result}
 use Rattle.be_query.specs.Faults.{fault}
@@ -30,6 +30,10 @@ pub record IsOpened (limits : Limits) (s : Sitting) : Type 0 where
   pub limits_are : s.store.limits ≡ limits
   pub count : s.spare + 1 ≡ limits.passes
   pub unused : s.knows ≡ newcomer limits (s.spare + 1) s.spare
+
+-- what a pass knows that is pinned
+abbrev pub IsPinned : Knowledge → Type 0
+IsPinned a = is_some (pinned_number a.phase) ≡ true
 
 -- what a pass of this store knows that isn't pinned
 abbrev pub IsUnpinnedAt : Opened → Knowledge → Type 0

@@ -1,9 +1,10 @@
 //! Operations and values as other languages spell them: numbers and bytes.
-ghost use Rattle.std.specs.Prelude.{◌≡◌, ◌≢◌, ◌<◌, ◌^◌, IfOk, IfErr, IfSome, IfNone, IsUtf8};
+ghost use Rattle.std.specs.Prelude.{◌≡◌, ◌≢◌, ◌<◌, ◌^◌, Ok, IfOk, IfErr, IfSome, IfNone, IsUtf8};
 ghost use Rattle.std.specs.Int.{cast_signed, w32, w64};
 ghost use Rattle.std.specs.Int.RustNames.{FitsSigned};
-ghost use Rattle.be_session.specs.Meaning.{IsMeant, IsValueMeant, IsNoName, IsNoOperation, IsNoValue};
+ghost use Rattle.be_session.specs.Meaning.{HasNoMore, IsMeant, IsValueMeant, IsNoName, IsNoOperation, IsNoValue};
 ghost use Rattle.be_session.specs.declared.faults.Fault.TheVariants.{NotUtf8, NoKind, NoValue};
+ghost use Rattle.be_value.specs.Name.{name_from};
 ghost use Rattle.be_value.specs.Value.{code_of};
 ghost use Rattle.be_value.specs.declared.values.Kind.{Kind as AnyKind};
 
@@ -50,6 +51,7 @@ pub(crate) fn text(bytes: &[u8]) -> Result<&str, Fault>
 /// The name that bytes spell.
 pub fn name(bytes: &[u8]) -> Result<Name, Fault>
     ensures ok { IfOk result (λ name. (name ≡ bytes.now) × IsUtf8 bytes.now) }
+    ensures named { IfOk result (λ name. name_from bytes.now ≡ Ok bytes.now) }
     ensures err { IfErr result (λ e. IsNoName bytes.now e) }
 {
     match Name::new(text(bytes)?) {
@@ -98,7 +100,8 @@ pub fn value(code: u32, number: u64, bytes: &[u8]) -> Result<Value, Fault>
 /// The type code, the number and the bytes that mean this value. The number is 0 for a text or raw bytes, and there are
 /// no bytes for a number.
 pub fn spelled(value: &Value) -> (u32, u64, &[u8])
-    ensures { IsValueMeant result.0 result.1 result.2.now value.now }
+    ensures meant { IsValueMeant result.0 result.1 result.2.now value.now }
+    ensures no_more { HasNoMore result.1 result.2.now value.now }
 {
     let code = value.kind().code();
     match value {

@@ -1,7 +1,7 @@
 //! A pass with its share of the store, and its calls.
-ghost use Rattle.std.specs.Prelude.{◌≡◌, ◌⊎◌, ◌≤◌, ◌+◌, ℕ, [], Ok, IfOk, IfErr, OnErr, OnOk, length, string_bytes, vec_len};
+ghost use Rattle.std.specs.Prelude.{◌≡◌, ◌⊎◌, ◌≤◌, ◌+◌, ℕ, [], None, Ok, IfOk, IfErr, OnErr, OnOk, length, string_bytes, vec_len};
 ghost use Rattle.be_session.specs.Explained.{explanation_in};
-ghost use Rattle.be_session.specs.Sitting.{AtPin, HasMet, IsHandedOut, IsUnwritten, IsUnwrittenAtLast, IsNoQuery};
+ghost use Rattle.be_session.specs.Sitting.{AtPin, HasMet, IsHandedOut, IsPinned, IsUnwritten, IsUnwrittenAtLast, IsNoQuery};
 ghost use Rattle.be_session.specs.Sitting.{IsOpened, IsUnpinnedAt, IsUnrefreshed, ReadAnswers};
 ghost use Rattle.be_session.specs.declared.faults.Fault.TheVariants.{AlreadyPinned, NoPass, NotPinned, Refused};
 ghost use Rattle.be_journal.specs.Journal.{IsLegal};
@@ -217,7 +217,7 @@ impl Session {
     pub fn pin(&mut self) -> Result<u64, Fault>
         ensures store { (self.new.store ≡ self.old.store) × (self.new.spare ≡ self.old.spare) }
         ensures ok { IfOk result (λ n. Pins self.old.knows self.new.knows n) }
-        ensures err { IfErr result (λ e. (self.new ≡ self.old) × (e ≡ AlreadyPinned)) }
+        ensures err { IfErr result (λ e. (self.new ≡ self.old) × (e ≡ AlreadyPinned) × IsPinned self.old.knows) }
     {
         if self.pass.pinned().is_some() {
             return Err(Fault::AlreadyPinned);
@@ -229,7 +229,7 @@ impl Session {
     pub fn unpin(&mut self) -> Result<(), Fault>
         ensures store { (self.new.store ≡ self.old.store) × (self.new.spare ≡ self.old.spare) }
         ensures ok { IfOk result (λ n. self.new.knows ≡ unpins self.old.knows) }
-        ensures err { IfErr result (λ e. (self.new ≡ self.old) × (e ≡ NotPinned)) }
+        ensures err { IfErr result (λ e. (self.new ≡ self.old) × (e ≡ NotPinned) × (pinned_number self.old.knows.phase ≡ None)) }
     {
         let Some(_) = self.pass.pinned() else {
             return Err(Fault::NotPinned);

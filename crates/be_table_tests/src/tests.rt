@@ -469,7 +469,7 @@ fn scan_due(rt: HostRuntime) -> Result<(), Fail> {
     let before = enter_until_due(&table, &mut first)?;
     assert_eq!(rt; scan(&table, &mut first)?, 0);
     let beyond = enter_until_due(&table, &mut first)?;
-    assert!(rt; before >= 64 && beyond >= 64);
+    assert!(rt; before >= 64 && before < 128 && beyond >= 64 && beyond < 128);
     assert_eq!(rt; read(&table, &mut second), 1);
     table.unpin(&mut second);
     assert_eq!(rt; scan(&table, &mut first)?, before.saturating_add(beyond));

@@ -5,7 +5,7 @@ use Rattle.be_journal.specs.Journal.{IsLegal}
 use Rattle.be_query.specs.Grammar.{Formula, IsTextOf}
 use Rattle.be_session.specs.Fault.{fault_code}
 use Rattle.be_session.specs.Items.{IsBuilt, IsUnbuilt}
-use Rattle.be_session.specs.Meaning.{IsNoName, IsValueMeant}
+use Rattle.be_session.specs.Meaning.{HasNoMore, IsNoName, IsValueMeant}
 use Rattle.be_session.specs.Operations.{AreMeant, AreSpelled, IsMisspelt}
 use Rattle.be_session.specs.Explained.{explanation_in}
 use Rattle.be_session.specs.Prepared.{IsUnasked, PreparedQuery}
@@ -124,7 +124,8 @@ abbrev pub Shown : Option ℕ → Option Value → Attribute → List ℕ → Li
 Shown None found told places filled code = code ≡ 66
 Shown (Some n) None told places filled code = code ≡ 3
 Shown (Some n) (Some value) told places filled code =
-    (code ≡ 0) × (bytes : List ℕ) × IsValueMeant told.code told.number bytes value × (told.length ≡ length bytes) × (filled ≡ over bytes places)
+    (code ≡ 0) × (bytes : List ℕ) × IsValueMeant told.code told.number bytes value × HasNoMore told.number bytes value
+    × (told.length ≡ length bytes) × (filled ≡ over bytes places)
 
 -- A read of an attribute: the bytes are no name, and then nothing has happened; or what is there is shown.
 abbrev pub Reads : Sitting → Sitting → ℕ → List ℕ → Attribute → List ℕ → List ℕ → ℕ → Type 0

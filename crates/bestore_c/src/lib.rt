@@ -8,7 +8,7 @@ ghost use Rattle.std.specs.Prelude.{◌≡◌, ◌⊎◌, ◌+◌, None, Ok};
 ghost use Rattle.be_query.specs.Grammar.{IsTextOf};
 ghost use Rattle.be_session.specs.Items.{IsBuilt, IsUnbuilt};
 ghost use Rattle.be_session.specs.Operations.{makes, sets};
-ghost use Rattle.be_session.specs.Sitting.{HasMet, IsUnwritten, IsUnwrittenAtLast, IsNoQuery};
+ghost use Rattle.be_session.specs.Sitting.{HasMet, IsPinned, IsUnwritten, IsUnwrittenAtLast, IsNoQuery};
 ghost use Rattle.be_store.specs.History.{Pins};
 ghost use Rattle.be_store.specs.Passes.{HasRead, volume_pinned};
 ghost use Rattle.be_table.specs.Seats.{pinned_number};
@@ -169,7 +169,7 @@ pub extern "C" fn bes_meet(pass: &mut Handle, seen: &mut u64) -> u32
 #[unsafe(no_mangle)]
 pub extern "C" fn bes_pin(pass: &mut Handle, number: &mut u64) -> u32
     ensures pass { Calls pass.old.owned.value pass.new.owned.value result
-        (λ s t. ((result ≡ 0) × Pins s.knows t.knows number.new) ⊎ ((result ≡ 67) × (t ≡ s))) }
+        (λ s t. ((result ≡ 0) × Pins s.knows t.knows number.new) ⊎ ((result ≡ 67) × (t ≡ s) × IsPinned s.knows)) }
     ensures kept { (result ≡ 0) ⊎ (number.new ≡ number.old) }
 {
     if !pass.live {
@@ -187,7 +187,8 @@ pub extern "C" fn bes_pin(pass: &mut Handle, number: &mut u64) -> u32
 /// Gives the pin up.
 #[unsafe(no_mangle)]
 pub extern "C" fn bes_unpin(pass: &mut Handle) -> u32
-    ensures pass { Calls pass.old.owned.value pass.new.owned.value result (λ s t. ((result ≡ 0) × (t.knows ≡ unpins s.knows)) ⊎ ((result ≡ 66) × (t ≡ s))) }
+    ensures pass { Calls pass.old.owned.value pass.new.owned.value result
+        (λ s t. ((result ≡ 0) × (t.knows ≡ unpins s.knows)) ⊎ ((result ≡ 66) × (t ≡ s) × (pinned_number s.knows.phase ≡ None))) }
 {
     if !pass.live {
         return CLOSED;

@@ -4,6 +4,7 @@ ghost use Rattle.std.specs.Prelude.{⊤};
 use super::LIMITS;
 use crate::{Ends, Line, Peer, RunFault, shell};
 use std::alloc::{AllocError, Global};
+use std::io::{self, Write};
 use std::test::Fail;
 
 /// Lines with their replies. The batch stays open between them.
@@ -205,13 +206,72 @@ fn long_lines(rt: HostRuntime) -> Result<(), Fail> {
     for (len, replies) in [
         (65_536, "node 1\n"),
         (65_537, "bad line\nnode 1\n"),
-        (300_000, "bad line\nnode 1\n"),
+        (1_100_000, "bad line\nnode 1\n"),
     ] {
         let bytes = match commented(rt.alloc(), len) {
             Ok(bytes) => bytes,
             Err(_) => commented(rt.alloc(), len)?,
         };
         assert!(rt; says(rt.alloc(), b"", &bytes, replies), "{len}");
+    }
+    Ok(())
+}
+
+/// Holds what it is given until a flush sends it, and fails at each flush behind so many.
+#[derive(Drop)]
+struct Sending {
+    held: u64,
+    flushes: u64,
+    flushes_left: u64,
+}
+
+impl Write for Sending {
+    fn write(&mut self, buf: &[u8]) -> io::Result<usize> {
+        self.held = self.held.saturating_add(buf.len() as u64);
+        Ok(buf.len())
+    }
+
+    fn flush(&mut self) -> io::Result<()> {
+        if self.flushes_left == 0 {
+            return Err(io::Error::from(io::ErrorKind::Other));
+        }
+        self.held = 0;
+        self.flushes = self.flushes.saturating_add(1);
+        self.flushes_left -= 1;
+        Ok(())
+    }
+}
+
+/// Whether a conversation of three lines over a writer that sends so many replies ends with `Write` behind them; or well,
+/// where it sends each.
+fn sends(alloc: Global, most: u64) -> bool {
+    let mut early: Vec<u8> = Vec::new(alloc);
+    let mut late = Sending {
+        held: 0,
+        flushes: 0,
+        flushes_left: most,
+    };
+    let ended = shell(
+        alloc,
+        &mut Ends::new(b"".as_slice(), &mut early),
+        &mut Ends::new(b"new\nbad\nnew\n".as_slice(), &mut late),
+        LIMITS,
+    );
+    match ended {
+        Ok(()) => most >= 3 && late.flushes == 3 && late.held == 0,
+        Err(RunFault::Write) => most < 3 && late.flushes == most && late.held > 0,
+        Err(_) => false,
+    }
+}
+
+/// A writer that fails at each flush.
+#[test]
+fn failing_flush(rt: HostRuntime) -> Result<(), Fail> {
+    for most in 0..5u64 {
+        assert!(rt;
+            sends(rt.alloc(), most) || sends(rt.alloc(), most),
+            "at {most}"
+        );
     }
     Ok(())
 }

@@ -1,6 +1,6 @@
 use Rattle.std.proofs.Common.{◌≡◌, ◌+◌, Result, Ok, Err, map, take, inl, subst, sym}
 use Rattle.std.specs.Result.{IfErr, IsErrAnd}
-use Rattle.std.proofs.lemmas.List.Elements.{Contains-get_or}
+use Rattle.std.proofs.lemmas.List.{take_more}
 use Rattle.be_query.specs.Rpn.{item_of}
 use Rattle.be_session.specs.Items.{AreItemsMeant, AreItemsMisspelt}
 use Rattle.be_session.proofs.Built.{items_next}
@@ -13,7 +13,7 @@ passed_up (Err y) e P is p = subst P (sym is) p
 pub returns-in_err-item-clause-err : goal.returns-in_err-item-clause-err
 returns-in_err-item-clause-err c =
     passed_up c.from_residual.result c.in_err-item.field-0.0 (AreItemsMisspelt c.args.spelled.now c.args.bytes.now) c.from_residual.ensures.1
-    (inl (_, Contains-get_or c.args.spelled.now c.loop-next.next-index _ c.loop-next-test.true, c.in_err-item.ensures.err))
+    (inl (c.loop-next.next-index, _, map item_of c.loop-next.items.items, take_more c.args.spelled.now c.loop-next.next-index _ c.loop-next-test.true, c.loop-next.invariant, c.in_err-item.ensures.err))
 
 pub loop-next-preserved : goal.loop-next-preserved
 loop-next-preserved c =

@@ -1,12 +1,12 @@
 use Rattle.std.proofs.Common.{◌≡◌, ◌≤◌, ◌+◌, ap, inl, length, subst, sym, take, ◌∙◌}
-use Rattle.std.proofs.lemmas.List.Elements.{Contains-get_or}
+use Rattle.std.proofs.lemmas.List.{take_more}
 use Rattle.be_session.specs.Operations.{AreMeant}
 use Rattle.be_session.proofs.Meant.{meant_next}
 use Rattle.be_session.proofs.lists.operations.Goals as goal
 
 pub returns-in-Err-clause-err : goal.returns-in-Err-clause-err
 returns-in-Err-clause-err c =
-    inl (_, Contains-get_or c.args.spelled.now c.loop-next.next-index _ c.loop-next-test.true, c.in-Err.ensures.err)
+    inl (c.loop-next.next-index, _, c.loop-next.ops.items, take_more c.args.spelled.now c.loop-next.next-index _ c.loop-next-test.true, c.loop-next.invariant.meant, c.in-Err.ensures.err)
 
 pub loop-next-preserved : goal.loop-next-preserved
 loop-next-preserved c = record {
