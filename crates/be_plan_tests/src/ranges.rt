@@ -39,42 +39,61 @@ LLNG -9223372036854775808 -9223372036854775807 -1 0 1 9223372036854775806 922337
 ULNG 0 1 2147483647 2147483648 2147483649 4294967294 4294967295
 ULLG 0 1 9223372036854775807 9223372036854775808 9223372036854775809 18446744073709551614 18446744073709551615";
 
-/// How many of seven values are so to the one at a place, by the place's values below it and above it.
-const OPERATORS: [(&str, [u64; 7]); 5] = [
-    ("==", [1, 1, 1, 1, 1, 1, 1]),
-    ("<", [0, 1, 2, 3, 4, 5, 6]),
-    ("<=", [1, 2, 3, 4, 5, 6, 7]),
-    (">", [6, 5, 4, 3, 2, 1, 0]),
-    (">=", [7, 6, 5, 4, 3, 2, 1]),
-];
+/// How many of seven rising values A to G are so to each of them.
+const KEYS: &str = "keys k==A => 1
+keys k<A => 0
+keys k<=A => 1
+keys k>A => 6
+keys k>=A => 7
+keys k==B => 1
+keys k<B => 1
+keys k<=B => 2
+keys k>B => 5
+keys k>=B => 6
+keys k==C => 1
+keys k<C => 2
+keys k<=C => 3
+keys k>C => 4
+keys k>=C => 5
+keys k==D => 1
+keys k<D => 3
+keys k<=D => 4
+keys k>D => 3
+keys k>=D => 4
+keys k==E => 1
+keys k<E => 4
+keys k<=E => 5
+keys k>E => 2
+keys k>=E => 3
+keys k==F => 1
+keys k<F => 5
+keys k<=F => 6
+keys k>F => 1
+keys k>=F => 2
+keys k==G => 1
+keys k<G => 6
+keys k<=G => 7
+keys k>G => 0
+keys k>=G => 1";
 
-/// A request by an operator at a word, with its reply.
-fn line_of(alloc: Global, operator: &str, word: &str, keys: u64) -> Result<String, Refusal> {
-    Ok(format!(in alloc; "keys k{operator}{word} => {keys}")?)
-}
-
-/// Fails unless each operator at the value of a place leaves out what it can. A line that is refused memory is made again.
-fn exact_at(alloc: Global, volume: &Volume, word: &str, place: usize) -> Result<(), Fail> {
-    for (operator, counts) in OPERATORS {
-        let keys = counts.get(place).copied().unwrap_or(0);
-        let line = match line_of(alloc, operator, word, keys) {
-            Err(Refusal::OutOfMemory) => line_of(alloc, operator, word, keys)?,
-            line => line?,
-        };
-        replies(alloc, volume, line.as_str())?;
+/// These lines with the values in place of A to G.
+fn keys_of_values(alloc: Global, values: &str) -> Result<String, AllocError> {
+    let mut letters = "A B C D E F G".split(' ');
+    let mut lines = String::from_str(alloc, KEYS)?;
+    for word in values.split(' ') {
+        lines = lines.replace(alloc, letters.next().unwrap_or("?"), word)?;
     }
-    Ok(())
+    Ok(lines)
 }
 
 /// Fails unless each range of a comparison with one of the values leaves out what it can.
 fn exact(alloc: Global, kind: &str, values: &str) -> Result<(), Fail> {
     let volume = volume_of_values(alloc, kind, 7, values)?;
-    let mut place: usize = 0;
-    for word in values.split(' ') {
-        exact_at(alloc, &volume, word, place)?;
-        place = place.wrapping_add(1);
-    }
-    Ok(())
+    let lines = match keys_of_values(alloc, values) {
+        Err(_) => keys_of_values(alloc, values)?,
+        Ok(lines) => lines,
+    };
+    replies(alloc, &volume, lines.as_str())
 }
 
 #[test]

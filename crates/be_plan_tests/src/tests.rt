@@ -5,10 +5,12 @@
 //! in lines `COMMAND QUERY => REPLY`. The command `explain` asks what the query is answered from, and `query` for its nodes
 //! by these picks. Digits are a command too: the nodes by these picks, a digit for each. Behind the nodes stands of which
 //! indices a key was asked, the first letter of the name for each call, and for a range that is asked for whole, one for each
-//! key that lies in it and one for its end: `nodes 2 3 asks nnn`. The commands `keys` and `looks` count what is asked for
-//! where the source tells the kinds.
+//! key that lies in it and one for its end: `nodes 2 3 asks nnn`. The commands `keys`, `looks` and `kinds` count what is
+//! asked for where the source tells the kinds, and `ranges` counts the ranges that answer a query whole.
 
+ghost use Rattle.std.specs.Prelude.{◌≡◌, true, IfOk};
 ghost use Rattle.be_volume.specs.Volume.{State};
+ghost use Rattle.be_plan.specs.Explain.{are_places};
 
 use crate::counting::{nodes_by, nodes_chosen};
 use be_language::{Request, read_line};
@@ -88,7 +90,7 @@ pub(crate) fn volume_of(alloc: Global, lines: &str) -> Result<Volume, Refusal> {
     Ok(volume)
 }
 
-/// The picks of digits.
+/// The places of digits.
 fn picks_of(alloc: Global, digits: &str) -> Result<Picks, Refusal> {
     let mut places = Vec::new(alloc);
     for digit in digits.bytes() {
@@ -106,51 +108,92 @@ fn nodes_text(alloc: Global, nodes: &[u64]) -> Result<String, Refusal> {
     Ok(text)
 }
 
-/// The nodes by the cover, and what was asked for them.
-fn found(alloc: Global, volume: &Volume, query: &Query, cover: &Cover) -> Result<String, Refusal> {
-    let Some((nodes, counts)) = nodes_by(alloc, volume, query, cover)? else {
-        return Ok(String::from_str(alloc, "not covered")?);
-    };
-    let mut text = nodes_text(alloc, &nodes)?;
+/// The nodes, and the indices of which keys were asked for them.
+fn found_text(alloc: Global, nodes: &[u64], asked: &str) -> Result<String, Refusal> {
+    let mut text = nodes_text(alloc, nodes)?;
     text.push_str(" asks ")?;
-    text.push_str(counts.asked.as_str())?;
+    text.push_str(asked)?;
     Ok(text)
 }
 
-/// What was asked for where the source tells the kinds: the keys of a range without its end, or the values and the keys that were searched for.
+/// The nodes by the cover, and what was asked for them.
+fn found(alloc: Global, volume: &Volume, query: &Query, cover: &Cover) -> Result<String, Refusal> {
+    match nodes_by(alloc, volume, query, cover)? {
+        Some((nodes, counts)) => found_text(alloc, &nodes, counts.asked.as_str()),
+        None => Ok(String::from_str(alloc, "not covered")?),
+    }
+}
+
+fn number(alloc: Global, number: u64) -> Result<String, Refusal> {
+    Ok(format!(in alloc; "{number}")?)
+}
+
+/// Whether these are the nodes of a scan.
+fn are_scanned(volume: &Volume, query: &Query, nodes: &[u64]) -> Result<bool, Refusal> {
+    Ok(volume.query(query)?.as_slice() == nodes)
+}
+
+/// How many ranges were asked for whole by the cover, which has to give the nodes of a scan.
+fn ranges(alloc: Global, volume: &Volume, query: &Query, cover: &Cover) -> Result<String, Refusal> {
+    if let Some((nodes, counts)) = nodes_by(alloc, volume, query, cover)? {
+        if are_scanned(volume, query, &nodes)? {
+            return number(alloc, counts.ranges);
+        }
+    }
+    Ok(String::from_str(alloc, "not the nodes of a scan")?)
+}
+
+/// The nodes, and how many kinds and ranges were asked for them.
+fn kinds(alloc: Global, nodes: &[u64], kinds: u64, ranges: u64) -> Result<String, Refusal> {
+    let mut text = nodes_text(alloc, nodes)?;
+    text.push_str(format!(in alloc; " kinds {kinds} ranges {ranges}")?.as_str())?;
+    Ok(text)
+}
+
+fn looks(alloc: Global, values: u64, searches: u64) -> Result<String, Refusal> {
+    Ok(format!(in alloc; "values {values} searches {searches}")?)
+}
+
+/// What was asked for where the source tells the kinds: the keys of a range without its end, the values and the keys that were searched for, or
+/// the kinds and the ranges.
 fn counted(
     alloc: Global,
     volume: &Volume,
     command: &str,
     query: &Query,
 ) -> Result<String, Refusal> {
-    let (_nodes, counts) = nodes_chosen(alloc, volume, query)?;
-    if command == "keys" {
-        let keys = (counts.asked.as_str().len() as u64).wrapping_sub(1);
-        return Ok(format!(in alloc; "{keys}")?);
+    let (nodes, counts) = nodes_chosen(alloc, volume, query)?;
+    match command {
+        "keys" => number(alloc, (counts.asked.as_str().len() as u64).wrapping_sub(1)),
+        "kinds" => kinds(alloc, &nodes, counts.kinds, counts.ranges),
+        _ => looks(alloc, counts.values, counts.searches),
     }
-    let values = counts.values;
-    let searches = counts.searches;
-    Ok(format!(in alloc; "values {values} searches {searches}")?)
+}
+
+/// What is chosen where the volume's indices are listed.
+fn chosen(alloc: Global, volume: &Volume, query: &Query) -> Result<Cover, Refusal>
+    ensures { IfOk result (λ cover. are_places query.now cover.picks ≡ true) }
+{
+    choose(alloc, query, &volume.indices()?)
+}
+
+/// The picks of digits.
+fn picked(alloc: Global, digits: &str) -> Result<Cover, Refusal> {
+    Ok(Cover {
+        picks: picks_of(alloc, digits)?,
+        score: 0,
+    })
 }
 
 /// The answer to a command.
 fn answer(alloc: Global, volume: &Volume, command: &str, query: &Query) -> Result<String, Refusal> {
-    if command == "explain" {
-        return explain(alloc, query, &choose(alloc, query, &volume.indices()?)?);
+    match command {
+        "explain" => explain(alloc, query, &chosen(alloc, volume, query)?),
+        "keys" | "looks" | "kinds" => counted(alloc, volume, command, query),
+        "ranges" => ranges(alloc, volume, query, &chosen(alloc, volume, query)?),
+        "query" => found(alloc, volume, query, &chosen(alloc, volume, query)?),
+        _ => found(alloc, volume, query, &picked(alloc, command)?),
     }
-    if command == "keys" || command == "looks" {
-        return counted(alloc, volume, command, query);
-    }
-    let cover = if command == "query" {
-        choose(alloc, query, &volume.indices()?)?
-    } else {
-        Cover {
-            picks: picks_of(alloc, command)?,
-            score: 0,
-        }
-    };
-    found(alloc, volume, query, &cover)
 }
 
 /// A volume that answers requests.
@@ -360,10 +403,10 @@ fn is_next<S: Source + Drop>(
 }
 
 /// The key of the text x and node 1.
-const FIRST: [u8; 10] = [0x78, 0, 0, 0, 0, 0, 0, 0, 0, 1];
+const FIRST: &[u8] = b"x\0\0\0\0\0\0\0\0\x01";
 
 /// The key of the text x and node 3.
-const LAST: [u8; 10] = [0x78, 0, 0, 0, 0, 0, 0, 0, 0, 3];
+const LAST: &[u8] = b"x\0\0\0\0\0\0\0\0\x03";
 
 fn gives_kinds(volume: &Volume, index: &Name, other: &Name) -> bool {
     matches!(kind_by(volume_source(volume), index), Some(Kind::Cstr))
@@ -371,10 +414,10 @@ fn gives_kinds(volume: &Volume, index: &Name, other: &Name) -> bool {
 }
 
 fn gives_keys(volume: &Volume, index: &Name, other: &Name) -> bool {
-    is_next(volume_source(volume), index, &FIRST, true, &LAST)
-        && is_next(volume_source(volume), index, &LAST, true, &[])
-        && is_next(volume_source(volume), index, &LAST, false, &LAST)
-        && is_next(volume_source(volume), other, &LAST, false, &[])
+    is_next(volume_source(volume), index, FIRST, true, LAST)
+        && is_next(volume_source(volume), index, LAST, true, &[])
+        && is_next(volume_source(volume), index, LAST, false, LAST)
+        && is_next(volume_source(volume), other, LAST, false, &[])
 }
 
 #[test]
@@ -405,6 +448,13 @@ fn with_long(alloc: Global, text: &str) -> Result<String, Refusal> {
     }
 }
 
+/// Fails unless each request has its reply on a volume of these lines, where both have 254 times m in place of each M.
+fn replies_of_long(alloc: Global, lines: &str, requests: &str) -> Result<(), Fail> {
+    let lines = with_long(alloc, lines)?;
+    let requests = with_long(alloc, requests)?;
+    replies_of(alloc, lines.as_str(), requests.as_str())
+}
+
 /// A text longer than any value's bounds a walk by the bytes that a value may have, and a pattern of more literal bytes leaves out all keys.
 #[test]
 fn bounds_of_long_texts(rt: HostRuntime) -> Result<(), Fail> {
@@ -420,41 +470,7 @@ each t CSTR a Mm Mn z";
 0 t==Mmm => nodes asks t
 0 t==\"Mmm*\" => nodes asks t
 0 t==\"MM*\" => nodes asks t";
-    let lines = with_long(rt.alloc(), lines)?;
-    let requests = with_long(rt.alloc(), requests)?;
-    replies_of(rt.alloc(), lines.as_str(), requests.as_str())
-}
-
-/// The nodes by what is chosen, and the number of ranges asked for.
-fn chosen(alloc: Global, volume: &Volume, text: &str) -> Result<(Vec<u64>, u64), Refusal> {
-    let query = parse(alloc, text)?;
-    let cover = choose(alloc, &query, &volume.indices()?)?;
-    match nodes_by(alloc, volume, &query, &cover)? {
-        Some((nodes, counts)) => Ok((nodes, counts.ranges)),
-        None => Err(Refusal::BadLimits),
-    }
-}
-
-/// The nodes of a scan.
-fn scanned(alloc: Global, volume: &Volume, text: &str) -> Result<Vec<u64>, Refusal> {
-    volume.query(&parse(alloc, text)?)
-}
-
-/// Fails unless the query gives the nodes of a scan, and is answered by this many ranges asked for whole. Each call is made again where it is
-/// refused memory.
-fn decided(alloc: Global, volume: &Volume, text: &str, ranges: u64) -> Result<(), Fail> {
-    let (nodes, asked) = match chosen(alloc, volume, text) {
-        Err(Refusal::OutOfMemory) => chosen(alloc, volume, text)?,
-        answer => answer?,
-    };
-    let all = match scanned(alloc, volume, text) {
-        Err(Refusal::OutOfMemory) => scanned(alloc, volume, text)?,
-        answer => answer?,
-    };
-    if nodes.as_slice() != all.as_slice() || asked != ranges {
-        return Err(Fail::new(text));
-    }
-    Ok(())
+    replies_of_long(rt.alloc(), lines, requests)
 }
 
 /// Texts around the fronts of patterns: of one, two and four bytes a character, with the least byte behind a front, and of 255 bytes.
@@ -462,62 +478,48 @@ const BY_FRONT: &str = "mkindex t CSTR
 10 times new
 each t CSTR a a\u{1} ab aé aéz aè \u{10ffff} Mm M b";
 
-fn volume_by_front(alloc: Global) -> Result<Volume, Refusal> {
-    volume_of(alloc, with_long(alloc, BY_FRONT)?.as_str())
-}
-
 /// Queries, and the number of ranges that each is answered by whole.
-const BY_RANGE: [(&str, u64); 17] = [
-    ("t==a", 1),
-    ("t==\"\"", 1),
-    ("t==\"*\"", 1),
-    ("t==\"a*\"", 1),
-    ("t==\"a\u{1}*\"", 1),
-    ("t==\"aé*\"", 1),
-    ("t==\"\u{10ffff}*\"", 1),
-    ("t==\"é*\"", 1),
-    ("t==\"a*\" && t==\"aé*\"", 1),
-    ("t==\"a*\" && t<b", 1),
-    ("t==\"a*\" || t==b", 2),
-    ("t==\"a**\"", 0),
-    ("t==\"a?\"", 0),
-    ("t==\"*a\"", 0),
-    ("t==\"a*z\"", 0),
-    ("t==\"[a]*\"", 0),
-    ("t!=\"a*\"", 0),
-];
-
-fn all_decided(alloc: Global, volume: &Volume) -> Result<(), Fail> {
-    for (text, ranges) in BY_RANGE {
-        decided(alloc, volume, text, ranges)?;
-    }
-    Ok(())
-}
+const BY_RANGE: &str = "ranges t==a => 1
+ranges t==\"\" => 1
+ranges t==\"*\" => 1
+ranges t==\"a*\" => 1
+ranges t==\"a\u{1}*\" => 1
+ranges t==\"aé*\" => 1
+ranges t==\"\u{10ffff}*\" => 1
+ranges t==\"é*\" => 1
+ranges t==\"a*\" && t==\"aé*\" => 1
+ranges t==\"a*\" && t<b => 1
+ranges t==\"a*\" || t==b => 2
+ranges t==\"a**\" => 0
+ranges t==\"a?\" => 0
+ranges t==\"*a\" => 0
+ranges t==\"a*z\" => 0
+ranges t==\"[a]*\" => 0
+ranges t!=\"a*\" => 0";
 
 /// A pattern that says how a text begins is answered by its range alone, and every other is asked of each key.
 #[test]
 fn patterns_by_range(rt: HostRuntime) -> Result<(), Fail> {
-    all_decided(rt.alloc(), &volume_by_front(rt.alloc())?)
+    replies_of_long(rt.alloc(), BY_FRONT, BY_RANGE)
 }
 
 /// The front of a pattern has up to 255 bytes, as a text has.
 #[test]
 fn longest_front(rt: HostRuntime) -> Result<(), Fail> {
-    let volume = volume_by_front(rt.alloc())?;
-    for (text, ranges) in [("t==\"Mm*\"", 1), ("t==\"Mmm*\"", 0)] {
-        let text = with_long(rt.alloc(), text)?;
-        decided(rt.alloc(), &volume, text.as_str(), ranges)?;
-    }
-    Ok(())
+    let requests = "ranges t==\"Mm*\" => 1
+ranges t==\"Mmm*\" => 0";
+    replies_of_long(rt.alloc(), BY_FRONT, requests)
 }
 
-/// 256 comparisons on the names of 32 indices, joined by `||`: i0==0, i1==1, .. i31==255.
+/// 256 comparisons on the names of 32 indices, joined by `||`: i0==0, i1==1, .. i31==255. They find nodes 1 and 2, and the
+/// kind of each comparison's index is asked for once to choose and once to walk.
 fn most_comparisons(alloc: Global) -> Result<String, Refusal> {
-    let mut text = String::from_str(alloc, "i0==0")?;
+    let mut text = String::from_str(alloc, "kinds i0==0")?;
     for number in 1..256u64 {
         let index = number % 32;
         text.push_str(format!(in alloc; "||i{index}=={number}")?.as_str())?;
     }
+    text.push_str(" => nodes 1 2 kinds 512 ranges 256")?;
     Ok(text)
 }
 
@@ -531,24 +533,18 @@ fn most_indices(alloc: Global) -> Result<String, Refusal> {
     Ok(lines)
 }
 
-/// Whether the largest query finds nodes 1 and 2, asking for the kind of each comparison's index once to choose and once to walk.
-fn asks_each_once(alloc: Global) -> Result<bool, Refusal> {
-    let volume = volume_of(alloc, most_indices(alloc)?.as_str())?;
-    let text = most_comparisons(alloc)?;
-    let query = parse(alloc, text.as_str())?;
-    let (nodes, counts) = nodes_chosen(alloc, &volume, &query)?;
-    let found = nodes.as_slice() == [1, 2].as_slice();
-    Ok(found && counts.kinds == 512 && counts.ranges == 256)
+/// The lines of this volume, and the request for these comparisons with its reply.
+fn largest(alloc: Global) -> Result<(String, String), Refusal> {
+    Ok((most_indices(alloc)?, most_comparisons(alloc)?))
 }
 
 #[test]
 fn largest_query(rt: HostRuntime) -> Result<(), Fail> {
-    let so = match asks_each_once(rt.alloc()) {
-        Err(Refusal::OutOfMemory) => asks_each_once(rt.alloc())?,
-        answer => answer?,
+    let (lines, request) = match largest(rt.alloc()) {
+        Err(Refusal::OutOfMemory) => largest(rt.alloc())?,
+        both => both?,
     };
-    assert!(rt; so);
-    Ok(())
+    replies_of(rt.alloc(), lines.as_str(), request.as_str())
 }
 
 /// The lines of a volume whose values fall where its 300 nodes rise.
@@ -562,13 +558,11 @@ fn falling_values(alloc: Global) -> Result<String, Refusal> {
 }
 
 /// Queries on these: of 255 nodes and of 256, of all, of all found twice, and of one.
-const FALLING: [(&str, u64); 5] = [
-    ("n>=700 && n<955", 1),
-    ("n>=700 && n<956", 1),
-    ("n>=0", 1),
-    ("n>=0 || n<1000", 2),
-    ("n==850", 1),
-];
+const FALLING: &str = "ranges n>=700 && n<955 => 1
+ranges n>=700 && n<956 => 1
+ranges n>=0 => 1
+ranges n>=0 || n<1000 => 2
+ranges n==850 => 1";
 
 /// Nodes that are found in falling order are answered in rising order, each once.
 #[test]
@@ -577,9 +571,5 @@ fn falling_nodes(rt: HostRuntime) -> Result<(), Fail> {
         Err(Refusal::OutOfMemory) => falling_values(rt.alloc())?,
         lines => lines?,
     };
-    let volume = volume_of(rt.alloc(), lines.as_str())?;
-    for (text, ranges) in FALLING {
-        decided(rt.alloc(), &volume, text, ranges)?;
-    }
-    Ok(())
+    replies_of(rt.alloc(), lines.as_str(), FALLING)
 }

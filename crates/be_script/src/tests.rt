@@ -8,6 +8,7 @@ ghost use Rattle.std.specs.Prelude.{◌<◌, ◌^◌};
 mod alike;
 mod examples;
 mod faults;
+mod gates;
 mod limits;
 mod plain;
 mod pools;

@@ -1,5 +1,5 @@
 -- Which faults come of limits out of their ranges.
-use Rattle.std.proofs.Common.{◌≡◌, ℕ, List, inl, inr, ap, ◌∙◌, subst, arith}
+use Rattle.std.proofs.Common.{◌≡◌, ℕ, List, inl, inr, refl, ap, ◌∙◌, subst, arith}
 use Rattle.std.specs.Prelude.{◌↔◌, Result, Ok, Err, IfErr, OnErr}
 use Rattle.std.specs.declared.option.Option.{Option}
 use Rattle.be_value.specs.declared.refusals.Refusal.{Refusal}
@@ -12,7 +12,7 @@ use Rattle.be_table.specs.Steps.{IsPass}
 use Rattle.be_table.specs.Versions.{CanSpellEach}
 use Rattle.be_table.specs.declared.pass.Knowledge.{Knowledge}
 use Rattle.be_table.specs.Works.{IsOpenRefused}
-use Rattle.be_serving.specs.Race.{IsRaceInPart, RaceLeaves}
+use Rattle.be_serving.specs.Race.{AreFirstPasses, IsRaceInPart, RaceLeaves}
 use Rattle.be_serving.specs.Run.{IsLate, Wrote}
 use Rattle.be_serving.specs.declared.faults.RunFault.{RunFault}
 use Rattle.be_serving.specs.declared.faults.RunFault.TheVariants.{Limits, Read, TooLong, Write, Memory}
@@ -41,15 +41,16 @@ pub only_memory : (limits : StoreLimits) (e : Refusal) → IsWithin limits → I
 only_memory limits e within (inl bad) = absurd (bad.1 (for_one limits within))
 only_memory limits e within (inr want) = want.0
 
--- a fault after the scripts were looked at leaves a part of the whole
+-- a fault after the scripts were looked at leaves a part of the whole, and for want of memory whole passes
 pub late_stops : {A : Type 0} (r : Result A RunFault) (limits : StoreLimits) (scripts : List (List ℕ)) (old new : Option (List ℕ)) → IfErr r IsLate →
-    OnErr r (Wrote old new (IsRaceInPart limits scripts)) → IfErr r (λ e. RaceLeaves limits scripts e old new)
-late_stops (Ok x) limits scripts old new late w = tt
-late_stops (Err Limits) limits scripts old new late w = absurd late
-late_stops (Err Read) limits scripts old new late w = absurd late
-late_stops (Err TooLong) limits scripts old new late w = absurd late
-late_stops (Err Write) limits scripts old new late w = w
-late_stops (Err Memory) limits scripts old new late w = w
+    OnErr r (Wrote old new (IsRaceInPart limits scripts)) → IfErr r (λ e. e ≡ Memory → Wrote old new (AreFirstPasses limits scripts)) →
+    IfErr r (λ e. RaceLeaves limits scripts e old new)
+late_stops (Ok x) limits scripts old new late w whole = tt
+late_stops (Err Limits) limits scripts old new late w whole = absurd late
+late_stops (Err Read) limits scripts old new late w whole = absurd late
+late_stops (Err TooLong) limits scripts old new late w whole = absurd late
+late_stops (Err Write) limits scripts old new late w whole = w
+late_stops (Err Memory) limits scripts old new late w whole = whole refl
 
 -- as many pages as the store has can spell each volume that a pass of it has seen
 seen_spelt : (pages : ℕ) (store : Opened) (pass : SeatFacts) (a : Knowledge) → IsPassOf store pass → store.limits.pages ≡ pages → pass.knows ≡ a → IsPass pass.knows → CanSpellEach pages (entries a.seen)

@@ -1,6 +1,8 @@
 -- Threads and passes, each at its place.
-use Rattle.std.proofs.Common.{◌≡◌, ℕ, zero, suc, ◌<◌, ◌+◌, List, [], ◌∷◌, ◌++◌, length, map, get_or, drop, IfOk, OnOk, add-zero, add-one, append_assoc, append-nil, ◌≤◌, ap, sym, ◌∙◌, subst, arith, refl, slice_index_or, inl, inr}
+use Rattle.std.proofs.Common.{◌≡◌, ℕ, zero, suc, ◌<◌, ◌+◌, List, [], ◌∷◌, ◌++◌, length, map, get_or, drop, take, IfOk, OnOk, add-zero, add-one, zero-add, append_assoc, append-nil, ◌≤◌, ap, sym, ◌∙◌, subst, arith, refl, slice_index_or, inl, inr}
 use Rattle.std.proofs.lemmas.Result.{IfOk-at_ok}
+use Rattle.std.proofs.lemmas.List.{append_cancel_right}
+use Rattle.std.proofs.Math.Seq.{take-length}
 use Rattle.std.specs.Prelude.{codes}
 use Rattle.std.specs.Fmt.{decimal}
 use Rattle.std.specs.declared.result.Result.{Result}
@@ -23,7 +25,7 @@ use Rattle.be_serving.specs.Output.{IsOutputTo}
 use Rattle.be_serving.specs.Run.{IsFrontOf, Wrote}
 use Rattle.be_serving.specs.Served.{known}
 use Rattle.be_serving.proofs.RunLemmas.{none_written, written_both}
-use Rattle.be_serving.specs.Race.{HaveServed, AreRepliesOf, IsOutcome, IsRace, IsRaceInPart, IsReplied, pass_line, replies_text}
+use Rattle.be_serving.specs.Race.{HaveServed, AreRepliesOf, IsOutcome, IsRace, IsRaceInPart, IsReplied, AreFirstPasses, AreFirstTexts, pass_line, replies_text}
 
 -- what is so of each element, and of one more at its place, is so of all
 pub each_pushed : {X : Type 0} (P : ℕ → X → Type 0) (xs : List X) (x : X) → ((k : ℕ) (d : X) → k < length xs → P k (get_or xs k d)) → P (length xs) x →
@@ -150,6 +152,25 @@ done_at items n (suc k) [] past = refl
 done_at items n zero (x ∷ xs) past = absurd (omega (arith, past))
 done_at items n (suc k) (x ∷ xs) past = done_at items n k xs (omega (arith, past))
 
+-- the text of the replies is that of the first ones, and of those behind them
+replies_split : (n k : ℕ) (texts : List (List ℕ)) → replies_text n texts ≡ replies_text n (take k texts) ++ replies_text (n + k) (drop k texts)
+replies_split n zero [] = refl
+replies_split n zero (t ∷ ts) = ap (λ m. replies_text m (t ∷ ts)) (sym (add-zero n))
+replies_split n (suc k) [] = refl
+replies_split n (suc k) (t ∷ ts) =
+    let e : (n + 1) + k ≡ n + suc k = omega arith in
+    let first = replies_text (n + 1) (take k ts) in
+    ap (λ z. (pass_line n ++ t) ++ z) (replies_split (n + 1) k ts ∙ ap (λ m. first ++ replies_text m (drop k ts)) e)
+    ∙ sym (append_assoc (pass_line n ++ t) first (replies_text (n + suc k) (drop k ts)))
+
+-- the replies of all passes are those of the first ones
+pub all_texts : (replies : List (List ℕ)) (old mid new : Option (List ℕ)) → Appends old mid (replies_text 0 replies) → new ≡ mid → Wrote old new (AreFirstTexts replies)
+all_texts replies old mid new written same = record {
+  out = replies_text 0 replies;
+  appended = subst (λ held. Appends old held (replies_text 0 replies)) (sym same) written;
+  is = (length replies, ap (λ ts. replies_text 0 ts) (sym (take-length replies)));
+}
+
 module _ {V : Type 0} (items : V → List ℕ) (texts : List V) (k : ℕ) (old mid : Option (List ℕ))
     (w : Wrote old mid (λ out. replies_text 0 (map items texts) ≡ out ++ replies_text k (drop k (map items texts)))) where
   -- the replies of one more pass are written
@@ -170,6 +191,19 @@ module _ {V : Type 0} (items : V → List ℕ) (texts : List V) (k : ℕ) (old m
   -- those before are a front
   pub replies_before : Wrote old mid (IsFrontOf (replies_text 0 (map items texts)))
   replies_before = record { out = w.out; appended = w.appended; is = (replies_text k (drop k (map items texts)), w.is) }
+
+  -- those before are whole
+  pub replies_whole : Wrote old mid (AreFirstTexts (map items texts))
+  replies_whole =
+      let all = map items texts in
+      let behind = replies_text k (drop k all) in
+      let split : replies_text 0 all ≡ replies_text 0 (take k all) ++ behind =
+      subst (λ m. replies_text 0 all ≡ replies_text 0 (take k all) ++ replies_text m (drop k all)) (zero-add k) (replies_split 0 k all) in
+      record {
+        out = w.out;
+        appended = w.appended;
+        is = (k, append_cancel_right w.out (replies_text 0 (take k all)) behind (sym w.is ∙ split));
+      }
 
   -- the next pass's line, its replies, and those behind it
   next_parts : (t : V) (line text : List ℕ) → k < length texts → t ≡ get_or texts k t → line ≡ pass_line k → text ≡ items t →
@@ -235,7 +269,7 @@ result_is log head text last of_head of_text of_last =
     ∙ ap (λ t. (codes "journal " ++ (decimal (length log) ++ codes "\n")) ++ t) (ap (λ t. t ++ last) of_text ∙ ap (λ l. lines_from 1 log ++ l) of_last)
 
 -- a race of which nothing was written
-pub nothing_raced : (limits : Limits) (scripts : List (List ℕ)) (held : Option (List ℕ)) → Wrote held held (IsRaceInPart limits scripts)
+pub nothing_raced : (limits : Limits) (scripts : List (List ℕ)) (held : Option (List ℕ)) → Wrote held held (AreFirstPasses limits scripts)
 nothing_raced limits scripts held = record { out = []; appended = none_written held; is = inl refl }
 
 -- a race of which a front was written
@@ -244,5 +278,14 @@ pub raced_in_part : (limits : Limits) (scripts : List (List ℕ)) (whole : List 
 raced_in_part limits scripts whole old new race w = record {
   out = w.out;
   appended = w.appended;
-  is = inr (w.is.0, subst (IsRace limits scripts) w.is.1 race);
+  is = (w.is.0, subst (IsRace limits scripts) w.is.1 race);
+}
+
+-- a race of whose passes the first ones were written whole
+pub raced_to_pass : (limits : Limits) (scripts replies : List (List ℕ)) (whole : List ℕ) (old new : Option (List ℕ)) (race : IsRace limits scripts whole) →
+    race.replies ≡ replies → Wrote old new (AreFirstTexts replies) → Wrote old new (AreFirstPasses limits scripts)
+raced_to_pass limits scripts replies whole old new race same w = record {
+  out = w.out;
+  appended = w.appended;
+  is = inr (whole, race, subst (λ texts. AreFirstTexts texts w.out) (sym same) w.is);
 }

@@ -277,6 +277,10 @@ pub each_err : {T E : Type 0} {P Q : E → Type 0} (r : Result T E) → ((e : E)
 each_err (Ok x) f p = tt
 each_err (Err e) f p = f e p
 
+-- what a want of memory leaves, by what it left before
+pub on_memory : {A B : Type 0} (e : RunFault) → (A → B) → (e ≡ Memory → A) → e ≡ Memory → B
+on_memory e f left is = f (left is)
+
 -- a fault that is passed on
 pub passed_up : {T E : Type 0} (r : Result T E) (e : E) (P : E → Type 0) → IsErrAnd r (λ y. y ≡ e) → P e → IfErr r P
 passed_up (Ok x) e P is p = tt

@@ -11,14 +11,15 @@ use Rattle.be_table.specs.Rule.{entries}
 use Rattle.be_table.specs.Versions.{CanSpellEach}
 use Rattle.be_table.specs.declared.limits.Limits.{Limits as StoreLimits}
 use Rattle.be_table.specs.declared.pass.Knowledge.{Knowledge}
+use Rattle.be_language.specs.Request.{lines_of}
 use Rattle.be_serving.specs.Output.{IsFrontOfOutput, IsOutputTo}
-use Rattle.be_serving.specs.Run.{Wrote, IsFrontOf, IsLate, ReadFault, ReadsAll}
+use Rattle.be_serving.specs.Run.{AreFirstReplies, Wrote, IsFrontOf, IsLate, ReadFault, ReadsAll}
 use Rattle.be_serving.specs.Served.{known}
 use Rattle.be_serving.specs.Store.{Store, start}
 use Rattle.be_serving.specs.Telling.{IsToldInPart, IsToldRun, TellingLeaves}
 use Rattle.be_serving.specs.declared.faults.RunFault.{RunFault}
 use Rattle.be_serving.specs.declared.faults.RunFault.TheVariants.{Limits, Read, TooLong, Write, Memory}
-use Rattle.be_serving.proofs.RunLemmas.{all_read, left_by, none_answered, written_both}
+use Rattle.be_serving.proofs.RunLemmas.{all_read, left_by, none_answered, none_answered_if, written_both}
 
 -- the replies, and behind them the journal that they leave
 pub told_run : (limits : StoreLimits) (script : List ℕ) (first after c : Knowledge) (log : List Entry) (old mid new : Option (List ℕ)) → known first ≡ start limits.commits → c ≡ after →
@@ -67,9 +68,23 @@ told_all_replies limits script store last old new begun w = told_replies limits 
 pub nothing_told : (limits : StoreLimits) (script : List ℕ) (held : Option (List ℕ)) → Wrote held held (IsToldInPart limits script)
 nothing_told limits script held = told_replies limits script (start limits.commits) held held refl (none_answered (start limits.commits) script held)
 
-nothing_told_if : (limits : StoreLimits) (input held : Option (List ℕ)) → IfSome input (λ script. Wrote held held (IsToldInPart limits script))
-nothing_told_if limits None held = tt
-nothing_told_if limits (Some script) held = nothing_told limits script held
+-- no line was answered
+pub no_line_told : (limits : StoreLimits) (script : List ℕ) (held : Option (List ℕ)) → Wrote held held (AreFirstReplies (start limits.commits) script)
+no_line_told limits script held = none_answered_if (start limits.commits) (Some script) held
+
+-- the first lines were answered
+pub first_lines_told : (limits : StoreLimits) (script : List ℕ) (store : Store) (old new : Option (List ℕ)) → store ≡ start limits.commits → Wrote old new (AreFirstReplies store script) →
+    Wrote old new (AreFirstReplies (start limits.commits) script)
+first_lines_told limits script store old new begun w = subst (λ (s : Store). Wrote old new (AreFirstReplies s script)) begun w
+
+-- all lines were answered, and no more was written
+pub all_lines_told : (limits : StoreLimits) (script : List ℕ) (store last : Store) (old mid new : Option (List ℕ)) → store ≡ start limits.commits → Wrote old mid (IsOutputTo store script last) →
+    new ≡ mid → Wrote old new (AreFirstReplies (start limits.commits) script)
+all_lines_told limits script store last old mid new begun w same = first_lines_told limits script store old new begun (record {
+  out = w.out;
+  appended = subst (λ held. Appends old held w.out) (sym same) w.appended;
+  is = record { lines = lines_of script; rest = []; is = sym (append-nil (lines_of script)); last = w.is.0; output = w.is.1 };
+})
 
 -- all the replies were written, and behind them a front of the journal that they leave
 pub told_in_part : (limits : StoreLimits) (script : List ℕ) (first after c : Knowledge) (log : List Entry) (old mid new : Option (List ℕ)) → known first ≡ start limits.commits → c ≡ after →
@@ -93,15 +108,17 @@ told_in_part limits script first after c log old mid new begun ended all legal v
       );
     }
 
--- a late fault leaves a part of the whole
+-- a late fault leaves a part of the whole, and for want of memory whole replies
 pub stops_late : {A : Type 0} (r : Result A RunFault) (limits : StoreLimits) (input left old new : Option (List ℕ)) (bytes : List ℕ) → IfErr r IsLate → ReadsAll input left bytes →
-    OnErr r (Wrote old new (IsToldInPart limits bytes)) → IfErr r (λ e. TellingLeaves limits e input old new)
-stops_late (Ok x) limits input left old new bytes l h w = tt
-stops_late (Err Limits) limits input left old new bytes l h w = absurd l
-stops_late (Err Read) limits input left old new bytes l h w = absurd l
-stops_late (Err TooLong) limits input left old new bytes l h w = absurd l
-stops_late (Err Write) limits input left old new bytes l h w = all_read input left bytes (λ script. Wrote old new (IsToldInPart limits script)) h w
-stops_late (Err Memory) limits input left old new bytes l h w = all_read input left bytes (λ script. Wrote old new (IsToldInPart limits script)) h w
+    OnErr r (Wrote old new (IsToldInPart limits bytes)) → IfErr r (λ e. e ≡ Memory → Wrote old new (AreFirstReplies (start limits.commits) bytes)) →
+    IfErr r (λ e. TellingLeaves limits e input old new)
+stops_late (Ok x) limits input left old new bytes l h w whole = tt
+stops_late (Err Limits) limits input left old new bytes l h w whole = absurd l
+stops_late (Err Read) limits input left old new bytes l h w whole = absurd l
+stops_late (Err TooLong) limits input left old new bytes l h w whole = absurd l
+stops_late (Err Write) limits input left old new bytes l h w whole = all_read input left bytes (λ script. Wrote old new (IsToldInPart limits script)) h w
+stops_late (Err Memory) limits input left old new bytes l h w whole =
+    all_read input left bytes (λ script. Wrote old new (AreFirstReplies (start limits.commits) script)) h (whole refl)
 
 -- a fault of the reading leaves nothing written
 pub stops_early : (e : RunFault) (limits : StoreLimits) (input left held : Option (List ℕ)) → ReadFault e input left → TellingLeaves limits e input held held
@@ -109,4 +126,4 @@ stops_early Limits limits input left held h = absurd h
 stops_early Read limits input left held h = left_by Read (start limits.commits) input left held h
 stops_early TooLong limits input left held h = left_by TooLong (start limits.commits) input left held h
 stops_early Write limits input left held h = absurd h
-stops_early Memory limits input left held h = nothing_told_if limits input held
+stops_early Memory limits input left held h = left_by Memory (start limits.commits) input left held h

@@ -1,5 +1,5 @@
 -- What a race gives: what its passes have served, and what it writes.
-use Rattle.std.specs.Prelude.{◌≡◌, ◌⊎◌, ℕ, ◌+◌, ◌<◌, List, [], ◌∷◌, ◌++◌, None, false, length, map, slice_index_or, codes}
+use Rattle.std.specs.Prelude.{◌≡◌, ◌⊎◌, ℕ, ◌+◌, ◌<◌, List, [], ◌∷◌, ◌++◌, None, false, length, map, slice_index_or, take, codes}
 use Rattle.std.specs.Fmt.{decimal}
 use Rattle.std.specs.Io.KnownBytes.{Keeps}
 use Rattle.std.specs.declared.option.Option.{Option}
@@ -79,6 +79,10 @@ abbrev pub replies_text : ℕ → List (List ℕ) → List ℕ
 replies_text k [] = []
 replies_text k (text ∷ texts) = (pass_line k ++ text) ++ replies_text (k + 1) texts
 
+-- the text is the lines and the replies of the first passes, each of them whole
+abbrev pub AreFirstTexts : List (List ℕ) → List ℕ → Type 0
+AreFirstTexts replies out = (k : ℕ) × (out ≡ replies_text 0 (take k replies))
+
 -- What a race writes is the replies to its scripts, and a legal journal of the store that replied. Each entry is by one of
 -- the scripts, and the operations that are by a script are some of those that its lines ask for, in their order. After each
 -- entry the volume is one that as many pages as the limits say can spell.
@@ -92,15 +96,19 @@ pub record IsRace (limits : StoreLimits) (scripts : List (List ℕ)) (out : List
   pub own : (k : ℕ) → k < length scripts → IsPartOf (operations (by_pass k journal)) (write_ops (slice_index_or scripts k []))
   pub volumes : CanSpellEach limits.pages journal
 
--- the text is nothing, or a front of what a race of these scripts writes
+-- the text is a front of what a race of these scripts writes
 abbrev pub IsRaceInPart : StoreLimits → List (List ℕ) → List ℕ → Type 0
-IsRaceInPart limits scripts front = (front ≡ []) ⊎ ((rest : List ℕ) × IsRace limits scripts (front ++ rest))
+IsRaceInPart limits scripts front = (rest : List ℕ) × IsRace limits scripts (front ++ rest)
 
--- What a fault leaves: where the limits or a script's length are at fault, nothing was written; else a part of the whole, from
--- its front on.
+-- the text is nothing, or what a race of these scripts writes of its first passes, each of them whole
+abbrev pub AreFirstPasses : StoreLimits → List (List ℕ) → List ℕ → Type 0
+AreFirstPasses limits scripts out = (out ≡ []) ⊎ ((whole : List ℕ) × (race : IsRace limits scripts whole) × AreFirstTexts race.replies out)
+
+-- What a fault leaves: where the limits or a script's length are at fault, nothing was written; after a failed write a front of
+-- what a race writes; and for want of memory nothing, or the first passes whole.
 abbrev pub RaceLeaves : StoreLimits → List (List ℕ) → RunFault → Option (List ℕ) → Option (List ℕ) → Type 0
 RaceLeaves limits scripts Limits old new = Keeps old new
 RaceLeaves limits scripts Read old new = ⊥
 RaceLeaves limits scripts TooLong old new = Keeps old new
 RaceLeaves limits scripts Write old new = Wrote old new (IsRaceInPart limits scripts)
-RaceLeaves limits scripts Memory old new = Wrote old new (IsRaceInPart limits scripts)
+RaceLeaves limits scripts Memory old new = Wrote old new (AreFirstPasses limits scripts)

@@ -11,7 +11,7 @@ use Rattle.be_table.specs.Versions.{CanSpellEach}
 use Rattle.be_table.specs.declared.limits.Limits.{Limits as StoreLimits}
 use Rattle.be_volume.specs.declared.ops.Op.{Op}
 use Rattle.be_serving.specs.Output.{IsFrontOfOutput, IsOutputTo, done_reply}
-use Rattle.be_serving.specs.Run.{Wrote}
+use Rattle.be_serving.specs.Run.{AreFirstReplies, Wrote}
 use Rattle.be_serving.specs.Store.{Store, start}
 use Rattle.be_serving.specs.declared.faults.RunFault.{RunFault}
 use Rattle.be_serving.specs.declared.faults.RunFault.TheVariants.{Limits, Read, TooLong, Write, Memory}
@@ -30,13 +30,14 @@ pub record IsToldRun (limits : StoreLimits) (script out : List ℕ) : Type 0 whe
 abbrev pub IsToldInPart : StoreLimits → List ℕ → List ℕ → Type 0
 IsToldInPart limits script front = IsFrontOfOutput (start limits.commits) script front ⊎ ((rest : List ℕ) × IsToldRun limits script (front ++ rest))
 
--- What a fault leaves: where the limits or the script are at fault, nothing was written; else a part of the whole, from its front on.
+-- What a fault leaves: where the limits or the script are at fault, nothing was written; after a failed write a part of the whole,
+-- from its front on; and for want of memory the replies to the first lines, each of them whole, and nothing of the journal.
 abbrev pub TellingLeaves : StoreLimits → RunFault → Option (List ℕ) → Option (List ℕ) → Option (List ℕ) → Type 0
 TellingLeaves limits Limits input old new = Keeps old new
 TellingLeaves limits Read input old new = Keeps old new
 TellingLeaves limits TooLong input old new = Keeps old new × IfSome input (λ script. 2 ^ 20 < length script)
 TellingLeaves limits Write input old new = IfSome input (λ script. Wrote old new (IsToldInPart limits script))
-TellingLeaves limits Memory input old new = IfSome input (λ script. Wrote old new (IsToldInPart limits script))
+TellingLeaves limits Memory input old new = IfSome input (λ script. Wrote old new (AreFirstReplies (start limits.commits) script))
 
 -- a store of one pass with these writes, by its pass
 abbrev pub made : ℕ → List Entry → Store

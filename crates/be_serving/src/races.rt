@@ -14,7 +14,7 @@ ghost use Rattle.std.specs.List.{list_any};
 ghost use Rattle.be_journal.specs.Journal.{IsLegal};
 ghost use Rattle.be_journal.specs.Text.{result_text};
 ghost use Rattle.be_serving.specs.Gates.{AreAllTold, AreTold, line_count};
-ghost use Rattle.be_serving.specs.Race.{IsOutcome, AreRepliesOf, HaveServed, IsNew, IsRace, RaceLeaves, pass_line, replies_text};
+ghost use Rattle.be_serving.specs.Race.{IsOutcome, AreFirstTexts, AreRepliesOf, HaveServed, IsNew, IsRace, RaceLeaves, pass_line, replies_text};
 ghost use Rattle.be_serving.specs.Run.{Wrote, IsFrontOf, IsLate};
 ghost use Rattle.be_store.specs.Passes.{IsPassOf};
 ghost use Rattle.std.specs.String.{string_bytes};
@@ -200,10 +200,12 @@ fn line_of(alloc: Global, pass: usize) -> Result<String, AllocError>
     format!(in alloc; "pass {pass}\n")
 }
 
-/// Writes each pass's line and its replies. After a fault a front of them all was written.
+/// Writes each pass's line and its replies. After a fault a front of them all was written, and for want of memory whole ones.
 fn put_replies<W: Write>(alloc: Global, writer: &mut W, replies: &[Vec<u8>]) -> Result<(), RunFault>
     ensures ok { OnOk result (Appends (W.contents writer.old) (W.contents writer.new) (replies_text 0 (map (λ t. t.items) replies.now))) }
     ensures err { OnErr result (Wrote (W.contents writer.old) (W.contents writer.new) (IsFrontOf (replies_text 0 (map (λ t. t.items) replies.now)))) }
+    ensures whole { IfErr result (λ e. e ≡ RunFault.Memory →
+        Wrote (W.contents writer.old) (W.contents writer.new) (AreFirstTexts (map (λ t. t.items) replies.now))) }
     ensures late { IfErr result IsLate }
 {
     for (pass, text) in replies.iter().enumerate() {
@@ -225,6 +227,7 @@ fn put_parts<W: Write>(
 ) -> Result<(), RunFault>
     ensures ok { OnOk result (Appends (W.contents writer.old) (W.contents writer.new) (first.now ++ (second.now ++ third.now))) }
     ensures err { OnErr result (Wrote (W.contents writer.old) (W.contents writer.new) (IsFrontOf (first.now ++ (second.now ++ third.now)))) }
+    ensures fault { IfErr result (λ e. e ≡ RunFault.Write) }
     ensures late { IfErr result IsLate }
 {
     put(writer, first)?;
@@ -232,7 +235,8 @@ fn put_parts<W: Write>(
     put(writer, third)
 }
 
-/// Writes how many entries the journal has, their text, and the result of its check, which it answers.
+/// Writes how many entries the journal has, their text, and the result of its check, which it answers. Nothing was written
+/// where memory is missing.
 pub(crate) fn put_result<W: Write>(
     alloc: Global,
     writer: &mut W,
@@ -241,6 +245,7 @@ pub(crate) fn put_result<W: Write>(
     requires { IsLegal journal.now.entries }
     ensures ok { IfOk result (λ legal. (legal ≡ true) × Appends (W.contents writer.old) (W.contents writer.new) (result_text journal.now.entries)) }
     ensures err { OnErr result (Wrote (W.contents writer.old) (W.contents writer.new) (IsFrontOf (result_text journal.now.entries))) }
+    ensures whole { IfErr result (λ e. e ≡ RunFault.Memory → W.contents writer.new ≡ W.contents writer.old) }
     ensures late { IfErr result IsLate }
 {
     let count = journal.len();
@@ -257,7 +262,7 @@ pub(crate) fn put_result<W: Write>(
 }
 
 /// Writes each pass's line and its replies, and behind them what tells the journal; and answers the result of its check. After
-/// a fault a front of them all was written.
+/// a fault a front of them all was written, and for want of memory whole replies alone.
 fn put_race<W: Write>(
     alloc: Global,
     writer: &mut W,
@@ -269,6 +274,8 @@ fn put_race<W: Write>(
         (replies_text 0 (map (λ t. t.items) replies.now) ++ result_text journal.now.entries)) }
     ensures err { OnErr result (Wrote (W.contents writer.old) (W.contents writer.new)
         (IsFrontOf (replies_text 0 (map (λ t. t.items) replies.now) ++ result_text journal.now.entries))) }
+    ensures whole { IfErr result (λ e. e ≡ RunFault.Memory →
+        Wrote (W.contents writer.old) (W.contents writer.new) (AreFirstTexts (map (λ t. t.items) replies.now))) }
     ensures late { IfErr result IsLate }
 {
     put_replies(alloc, writer, replies)?;
@@ -284,8 +291,8 @@ fn serve_on_new<R: Threads + Wait, G: Gate + Sync>(
     gate: &G,
 ) -> Result<(Vec<Vec<u8>>, Journal), RunFault>
     requires { limits.passes ≡ vec_len scripts }
-    ensures raced { IfOk result (λ r. IsRace limits (map (λ s. s.items) scripts.items)
-        (replies_text 0 (map (λ t. t.items) r.0.items) ++ result_text r.1.entries)) }
+    ensures raced { IfOk result (λ r. (race : IsRace limits (map (λ s. s.items) scripts.items)
+        (replies_text 0 (map (λ t. t.items) r.0.items) ++ result_text r.1.entries)) × (race.replies ≡ map (λ t. t.items) r.0.items)) }
     ensures legal { IfOk result (λ r. IsLegal r.1.entries) }
     ensures told { OnOk result (AreAllTold (G.begun gate.now) (G.ended gate.now) (map (λ s. s.items) scripts.items)) }
     ensures fault { IfErr result (λ e. e ≡ RunFault.Memory) }
@@ -305,8 +312,9 @@ fn serve_on_new<R: Threads + Wait, G: Gate + Sync>(
 /// tried again, 10,000,000 times at most in all, and its refusal is the reply then. It returns once all threads have ended. The
 /// replies are written behind a line `pass K` for each pass; then `journal N`, the journal's text, and `replay ok`. The
 /// journal is of the store that replied: it begins with what each pass has seen, and has its writes just as they were
-/// answered. Memory where memory or a thread is missing. Any error of a write, and a write of no bytes, is Write. Both leave
-/// nothing written, or a front of what a race of these scripts writes.
+/// answered. Memory where memory or a thread is missing: nothing was written then, or the lines and the replies of the first
+/// passes, each of them whole. Any error of a write, and a write of no bytes, is Write, and leaves a front of what a race of
+/// these scripts writes.
 pub fn race<R: Threads + Wait, G: Gate + Sync, W: Write>(
     rt: &R,
     alloc: Global,

@@ -2,6 +2,7 @@
 ghost use Rattle.std.specs.Prelude.{◌≡◌, ◌≤◌, ◌^◌, ◌↔◌, ◌∷◌, [], true, length, IfOk, IfErr, OnOk, OnErr, IfSome, Err};
 ghost use Rattle.be_journal.specs.Journal.{IsLegal};
 ghost use Rattle.be_serving.specs.Run as spec;
+ghost use Rattle.be_serving.specs.Store.{start};
 ghost use Rattle.be_serving.specs.Telling.{IsToldInPart, IsToldRun, TellingLeaves};
 ghost use Rattle.be_store.specs.Passes.{IsPassOf};
 ghost use Rattle.be_table.specs.Rule.{AreBad, IsWithin, entries};
@@ -55,6 +56,8 @@ fn run_on_new<W: Write>(
     ensures told { IfOk result (λ legal. (legal ≡ true)
         × spec.Wrote (W.contents writer.old) (W.contents writer.new) (IsToldRun limits script.now)) }
     ensures err { OnErr result (spec.Wrote (W.contents writer.old) (W.contents writer.new) (IsToldInPart limits script.now)) }
+    ensures whole { IfErr result (λ e. e ≡ RunFault.Memory →
+        spec.Wrote (W.contents writer.old) (W.contents writer.new) (spec.AreFirstReplies (start limits.commits) script.now)) }
     ensures late { IfErr result spec.IsLate }
 {
     let Ok((store, pass)) = open_for_one(alloc, limits) else {
@@ -72,8 +75,8 @@ fn run_on_new<W: Write>(
 ///
 /// The script is read before the store is opened. The journal is that which the replies leave: each accepted write of the
 /// script, in its order; after each of them the volume is one that as many pages as the limits say can spell. Faults are those
-/// of `run`; `Write` and `Memory` leave a front of the replies written, or all of them and a front of what stands behind them,
-/// and any other fault leaves nothing.
+/// of `run`; `Write` leaves a front of the replies written, or all of them and a front of what stands behind them, `Memory` the
+/// replies to the script's first lines, each of them whole, and nothing of the journal, and any other fault leaves nothing.
 pub fn run_and_tell<R: Read, W: Write>(
     alloc: Global,
     reader: &mut R,

@@ -1,10 +1,10 @@
 -- Bytes that grow at the end: what lay within them stays.
 use Rattle.std.proofs.Common.{◌≡◌, ◌<◌, ◌≤◌, ◌+◌, ℕ, List, [], ◌∷◌, ◌++◌, arith, drop}
 use Rattle.std.proofs.Common.{get_or, length, map, length-append, length-drop, refl, sym, ap, subst, take, ◌∙◌}
-use Rattle.std.proofs.lemmas.List.{drop-append-le, drop_at, map_more, take-append-le, take_all}
+use Rattle.std.proofs.lemmas.List.{append_assoc, append-nil, drop-append-le, drop_at, map_more, take-append-le, take_all}
 use Rattle.be_volume.specs.declared.ops.Op.{Op}
 use Rattle.be_session.specs.Meaning.{IsMeant}
-use Rattle.be_session.specs.Operations.{AreSpelled, IsMeantBy, ArePartsWithin, part}
+use Rattle.be_session.specs.Operations.{AreMeantWithin, AreSpelled, IsMeantBy, ArePartsWithin, all_parts, both_parts, part}
 use Rattle.be_session.specs.declared.lists.Operation.{Operation}
 
 pub part_kept : (bytes more : List ℕ) (at len : ℕ) → at + len ≤ length bytes → part (bytes ++ more) at len ≡ part bytes at len
@@ -29,35 +29,56 @@ meant_kept o bytes more op within is =
     (subst (λ value. IsMeant o.kind o.node (part bytes o.name_at o.name_length) o.code o.number value op)
     (sym (part_kept bytes more o.value_at o.value_length within.1)) is)
 
-pub spelled_kept : (os : List Operation) (bytes more : List ℕ) (ops : List Op) → AreSpelled os bytes ops → AreSpelled os (bytes ++ more) ops
-spelled_kept [] bytes more [] are = tt
-spelled_kept [] bytes more (op ∷ ops) are = absurd are
-spelled_kept (o ∷ os) bytes more [] are = absurd are
-spelled_kept (o ∷ os) bytes more (op ∷ ops) are =
+meant_within_kept : (os : List Operation) (bytes more : List ℕ) (ops : List Op) → AreMeantWithin os bytes ops → AreMeantWithin os (bytes ++ more) ops
+meant_within_kept [] bytes more [] are = tt
+meant_within_kept [] bytes more (op ∷ ops) are = absurd are
+meant_within_kept (o ∷ os) bytes more [] are = absurd are
+meant_within_kept (o ∷ os) bytes more (op ∷ ops) are =
     let name : o.name_at + o.name_length ≤ length bytes = are.0.0.0 in
     let value : o.value_at + o.value_length ≤ length bytes = are.0.0.1 in (
       ((omega (arith, length-append bytes more), omega (arith, length-append bytes more)), meant_kept o bytes more op are.0.0 are.0.1),
-      spelled_kept os bytes more ops are.1,
+      meant_within_kept os bytes more ops are.1,
     )
 
-spelled_more : (os : List Operation) (o : Operation) (bytes : List ℕ) (ops : List Op) (op : Op) → AreSpelled os bytes ops → ArePartsWithin o (length bytes)
-    → IsMeantBy o bytes op → AreSpelled (os ++ o ∷ []) bytes (ops ++ op ∷ [])
-spelled_more [] o bytes [] op are within is = ((within, is), tt)
-spelled_more [] o bytes (p ∷ ops) op are within is = absurd are
-spelled_more (n ∷ os) o bytes [] op are within is = absurd are
-spelled_more (n ∷ os) o bytes (p ∷ ops) op are within is = (are.0, spelled_more os o bytes ops op are.1 within is)
+meant_within_more : (os : List Operation) (o : Operation) (bytes : List ℕ) (ops : List Op) (op : Op) → AreMeantWithin os bytes ops
+    → ArePartsWithin o (length bytes) → IsMeantBy o bytes op → AreMeantWithin (os ++ o ∷ []) bytes (ops ++ op ∷ [])
+meant_within_more [] o bytes [] op are within is = ((within, is), tt)
+meant_within_more [] o bytes (p ∷ ops) op are within is = absurd are
+meant_within_more (n ∷ os) o bytes [] op are within is = absurd are
+meant_within_more (n ∷ os) o bytes (p ∷ ops) op are within is = (are.0, meant_within_more os o bytes ops op are.1 within is)
 
--- one operation more, whose parts are in the bytes that came
-pub spelled_next : (os : List Operation) (o : Operation) (bytes more all : List ℕ) (ops : List Op) (op : Op) → AreSpelled os bytes ops → all ≡ bytes ++ more
+parts_kept : (os : List Operation) (bytes more : List ℕ) (ops : List Op) → AreMeantWithin os bytes ops → all_parts os (bytes ++ more) ≡ all_parts os bytes
+parts_kept [] bytes more [] are = refl
+parts_kept [] bytes more (op ∷ ops) are = absurd are
+parts_kept (o ∷ os) bytes more [] are = absurd are
+parts_kept (o ∷ os) bytes more (op ∷ ops) are =
+    let later : List ℕ = all_parts os (bytes ++ more) in
+    let name : List ℕ = part bytes o.name_at o.name_length in
+    ap (λ n. (n ++ part (bytes ++ more) o.value_at o.value_length) ++ later) (part_kept bytes more o.name_at o.name_length are.0.0.0)
+    ∙ (ap (λ v. (name ++ v) ++ later) (part_kept bytes more o.value_at o.value_length are.0.0.1)
+    ∙ ap (λ ps. both_parts o bytes ++ ps) (parts_kept os bytes more ops are.1))
+
+parts_more : (os : List Operation) (o : Operation) (bytes : List ℕ) → all_parts (os ++ o ∷ []) bytes ≡ all_parts os bytes ++ both_parts o bytes
+parts_more [] o bytes = append-nil (both_parts o bytes)
+parts_more (n ∷ os) o bytes =
+    ap (λ ps. both_parts n bytes ++ ps) (parts_more os o bytes) ∙ sym (append_assoc (both_parts n bytes) (all_parts os bytes) (both_parts o bytes))
+
+-- one operation more, whose parts are the bytes that came
+pub spelled_next : (os : List Operation) (o : Operation) (bytes all : List ℕ) (ops : List Op) (op : Op) → AreSpelled os bytes ops → all ≡ bytes ++ both_parts o all
     → ArePartsWithin o (length all) → IsMeantBy o all op → AreSpelled (os ++ o ∷ []) all (ops ++ op ∷ [])
-spelled_next os o bytes more all ops op are grown within is =
-    spelled_more os o all ops op (subst (λ bs. AreSpelled os bs ops) (sym grown) (spelled_kept os bytes more ops are)) within is
+spelled_next os o bytes all ops op are grown within is =
+    let more : List ℕ = both_parts o all in (
+      meant_within_more os o all ops op (subst (λ bs. AreMeantWithin os bs ops) (sym grown) (meant_within_kept os bytes more ops are.0)) within is,
+      parts_more os o all
+          ∙ (ap (λ ps. ps ++ more) (ap (all_parts os) grown ∙ (parts_kept os bytes more ops are.0 ∙ are.1)) ∙ sym grown),
+    )
 
 -- one more of a list that is spelled as operations
-pub listed_next : {A : Type 0} (f : A → Op) (xs : List A) (i : ℕ) (d : A) (os later : List Operation) (o : Operation) (bytes more all : List ℕ) → i < length xs
-    → AreSpelled os bytes (map f (take i xs)) → all ≡ bytes ++ more → ArePartsWithin o (length all) → IsMeantBy o all (f (get_or xs i d)) → later ≡ os ++ o ∷ []
+pub listed_next : {A : Type 0} (f : A → Op) (xs : List A) (i : ℕ) (d : A) (os later : List Operation) (o : Operation) (bytes all : List ℕ) → i < length xs
+    → AreSpelled os bytes (map f (take i xs)) → all ≡ bytes ++ both_parts o all → ArePartsWithin o (length all) → IsMeantBy o all (f (get_or xs i d))
+    → later ≡ os ++ o ∷ []
     → AreSpelled later all (map f (take (i + 1) xs))
-listed_next f xs i d os later o bytes more all low are grown within is pushed =
+listed_next f xs i d os later o bytes all low are grown within is pushed =
     subst (λ ns. AreSpelled ns all (map f (take (i + 1) xs))) (sym pushed)
     (subst (λ ops. AreSpelled (os ++ o ∷ []) all ops) (sym (map_more f xs i d low))
-    (spelled_next os o bytes more all (map f (take i xs)) (f (get_or xs i d)) are grown within is))
+    (spelled_next os o bytes all (map f (take i xs)) (f (get_or xs i d)) are grown within is))

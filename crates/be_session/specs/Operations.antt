@@ -29,12 +29,25 @@ AreMeant (o ∷ os) bytes (op ∷ ops) = IsMeantBy o bytes op × AreMeant os byt
 abbrev pub ArePartsWithin : Operation → ℕ → Type 0
 ArePartsWithin o n = (o.name_at + o.name_length ≤ n) × (o.value_at + o.value_length ≤ n)
 
--- these are a spelling of the operations: they mean them, and each part lies within the bytes
+-- these mean the operations, and each part lies within the bytes
+abbrev pub AreMeantWithin : List Operation → List ℕ → List Op → Type 0
+AreMeantWithin [] bytes [] = Unit {0}
+AreMeantWithin [] bytes (op ∷ ops) = ⊥
+AreMeantWithin (o ∷ os) bytes [] = ⊥
+AreMeantWithin (o ∷ os) bytes (op ∷ ops) = (ArePartsWithin o (length bytes) × IsMeantBy o bytes op) × AreMeantWithin os bytes ops
+
+-- the bytes of this one's name, and then those of its value
+abbrev pub both_parts : Operation → List ℕ → List ℕ
+both_parts o bytes = part bytes o.name_at o.name_length ++ part bytes o.value_at o.value_length
+
+-- the parts of these, one behind the other
+abbrev pub all_parts : List Operation → List ℕ → List ℕ
+all_parts [] bytes = []
+all_parts (o ∷ os) bytes = both_parts o bytes ++ all_parts os bytes
+
+-- These are a spelling of the operations: they mean them, and the bytes are their parts, one behind the other, and nothing else.
 abbrev pub AreSpelled : List Operation → List ℕ → List Op → Type 0
-AreSpelled [] bytes [] = Unit {0}
-AreSpelled [] bytes (op ∷ ops) = ⊥
-AreSpelled (o ∷ os) bytes [] = ⊥
-AreSpelled (o ∷ os) bytes (op ∷ ops) = (ArePartsWithin o (length bytes) × IsMeantBy o bytes op) × AreSpelled os bytes ops
+AreSpelled os bytes ops = AreMeantWithin os bytes ops × (all_parts os bytes ≡ bytes)
 
 -- the operation that sets this attribute of the node
 abbrev pub sets : ℕ → (List ℕ × Value) → Op

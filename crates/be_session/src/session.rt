@@ -1,5 +1,5 @@
 //! A pass with its share of the store, and its calls.
-ghost use Rattle.std.specs.Prelude.{◌≡◌, ◌⊎◌, ◌≤◌, ◌+◌, ℕ, [], None, Ok, IfOk, IfErr, OnErr, OnOk, length, string_bytes, vec_len};
+ghost use Rattle.std.specs.Prelude.{◌≡◌, ◌⊎◌, ◌≤◌, ◌+◌, ℕ, [], None, Ok, IfOk, IfErr, OnErr, OnOk, is_some, length, string_bytes, vec_len};
 ghost use Rattle.be_session.specs.Explained.{explanation_in};
 ghost use Rattle.be_session.specs.Sitting.{AtPin, HasMet, IsHandedOut, IsPinned, IsUnwritten, IsUnwrittenAtLast, IsNoQuery};
 ghost use Rattle.be_session.specs.Sitting.{IsOpened, IsUnpinnedAt, IsUnrefreshed, ReadAnswers};
@@ -222,7 +222,17 @@ impl Session {
         if self.pass.pinned().is_some() {
             return Err(Fault::AlreadyPinned);
         }
-        Ok(self.shared.store().pin(&mut self.pass))
+        let mut pass = self.pass.move_out();
+        let number = self.shared.store().pin(&mut pass);
+        self.pass = pass;
+        Ok(number)
+    }
+
+    /// Whether a version is pinned.
+    pub fn is_pinned(&self) -> bool
+        ensures { result ≡ is_some (pinned_number self.now.knows.phase) }
+    {
+        self.pass.pinned().is_some()
     }
 
     /// Gives the pin up.

@@ -1,6 +1,6 @@
 //! Attributes and indices as other languages are told of them: as the operations that would make them.
-ghost use Rattle.std.specs.Prelude.{◌≡◌, ◌++◌, ℕ, List, IfOk, IfErr, length, map};
-ghost use Rattle.be_session.specs.Operations.{AreSpelled, IsMeantBy, ArePartsWithin, makes, sets};
+ghost use Rattle.std.specs.Prelude.{◌≡◌, ◌++◌, IfOk, IfErr, length, map};
+ghost use Rattle.be_session.specs.Operations.{AreSpelled, IsMeantBy, ArePartsWithin, both_parts, makes, sets};
 ghost use Rattle.be_session.specs.declared.faults.Fault.TheVariants.{Refused};
 ghost use Rattle.be_value.specs.declared.refusals.Refusal.TheVariants.{OutOfMemory};
 
@@ -36,7 +36,7 @@ fn spell_attribute(
     name: &Name,
     value: &Value,
 ) -> Result<Operation, Fault>
-    ensures more { IfOk result (λ o. (more : List ℕ) × (bytes.new.items ≡ bytes.old.items ++ more)) }
+    ensures more { IfOk result (λ o. bytes.new.items ≡ bytes.old.items ++ both_parts o bytes.new.items) }
     ensures meant { IfOk result (λ o. ArePartsWithin o (length bytes.new.items) × IsMeantBy o bytes.new.items (sets node (name.now, value.now))) }
     ensures err { IfErr result (λ e. e ≡ Refused OutOfMemory) }
 {
@@ -56,7 +56,7 @@ fn spell_attribute(
 }
 
 fn spell_index(bytes: &mut Vec<u8>, name: &Name, kind: Kind) -> Result<Operation, Fault>
-    ensures more { IfOk result (λ o. (more : List ℕ) × (bytes.new.items ≡ bytes.old.items ++ more)) }
+    ensures more { IfOk result (λ o. bytes.new.items ≡ bytes.old.items ++ both_parts o bytes.new.items) }
     ensures meant { IfOk result (λ o. ArePartsWithin o (length bytes.new.items) × IsMeantBy o bytes.new.items (makes (name.now, kind))) }
     ensures err { IfErr result (λ e. e ≡ Refused OutOfMemory) }
 {

@@ -1,3 +1,4 @@
 pub mod LineLemmas
 pub mod TalkLemmas
+pub mod TerminalLemmas
 pub mod WholeLemmas

@@ -1,10 +1,11 @@
 -- A peer at a terminal.
-use Rattle.std.specs.Prelude.{◌≡◌, ◌⊎◌, [], codes}
+use Rattle.std.specs.Prelude.{◌≡◌, ◌≢◌, ◌⊎◌, [], codes}
 use Rattle.be_shell.specs.Conversation.{Event, Heard, hears, short_line}
 
 abbrev pub help_line : Heard
 help_line = short_line (codes "help")
 
--- What an event at a terminal is to the peer behind it: the same event; but what is heard as an empty line may be `help` there.
+-- What an event at a terminal is to the peer behind it: the same event, which isn't the line `help`; but what is heard as an
+-- empty line may be that line there.
 abbrev pub asks : {P : Type 0} → (P → Event → P → Type 0) → P → Event → P → Type 0
-asks does old event new = does old event new ⊎ ((event ≡ hears (short_line [])) × does old (hears help_line) new)
+asks does old event new = ((event ≢ hears help_line) × does old event new) ⊎ ((event ≡ hears (short_line [])) × does old (hears help_line) new)

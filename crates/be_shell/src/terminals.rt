@@ -1,5 +1,5 @@
 //! A peer at a terminal.
-ghost use Rattle.std.specs.Prelude.{◌≡◌, [], true};
+ghost use Rattle.std.specs.Prelude.{◌≡◌, ◌↔◌, [], true};
 ghost use Rattle.be_shell.specs.Conversation.{hearing, hears, short_line};
 ghost use Rattle.be_shell.specs.Terminal.{help_line};
 
@@ -32,7 +32,7 @@ abort                     drop the batch
 
 /// Whether what was heard is the line `help`.
 fn is_help(heard: &Option<Line>) -> bool
-    ensures { result ≡ true → hearing heard.now ≡ hears help_line }
+    ensures { (result ≡ true) ↔ (hearing heard.now ≡ hears help_line) }
 {
     match heard {
         Some(Line::Short(bytes)) => bytes.as_slice() == b"help".as_slice(),

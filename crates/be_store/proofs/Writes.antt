@@ -1,6 +1,6 @@
 -- What a write makes of the pass that holds the lock.
-use Rattle.std.proofs.Common.{arith, ◌≡◌, inl, inr, ℕ, List, [], ◌∷◌, ◌++◌, length, if◌then◌else◌, Ok, Err, sym, ap, ◌∙◌, subst}
-use Rattle.std.specs.Prelude.{IsOk, Result, MatchResult}
+use Rattle.std.proofs.Common.{arith, ◌≡◌, inl, inr, ℕ, List, [], ◌∷◌, ◌++◌, length, Ok, Err, sym, ap, ◌∙◌, subst}
+use Rattle.std.specs.Prelude.{IfErr, IsOk, Result, MatchResult}
 use Rattle.std.specs.Result.{IsErrAnd}
 use Rattle.be_journal.specs.Journal.{replay}
 use Rattle.be_core.specs.Machine.{has}
@@ -17,11 +17,11 @@ use Rattle.be_volume.specs.Volume.{State, steps}
 use Rattle.be_volume.specs.declared.ops.Done.{Done}
 use Rattle.be_volume.specs.declared.ops.Op.{Op}
 use Rattle.be_value.specs.declared.refusals.Refusal.{Refusal}
-use Rattle.be_value.specs.declared.refusals.Refusal.TheVariants.{Full}
+use Rattle.be_value.specs.declared.refusals.Refusal.TheVariants.{CommitsSpent, Full, OutOfMemory}
 use Rattle.be_pages.specs.declared.room.Standing.{Standing}
 use Rattle.be_pages.specs.Pages.{KeepsStart}
 use Rattle.be_paged.specs.Changes.{IsRefusedList}
-use Rattle.be_store.specs.Writing.{Begins, Publishes, IsHeldBack}
+use Rattle.be_store.specs.Writing.{Begins, HasRoomAtFull, Publishes, IsHeldBack}
 use Rattle.be_store.proofs.Refusals.{steps_refuse}
 
 -- the version at the page that the ledger tells is that of the whole journal
@@ -105,3 +105,12 @@ full_unroomed w v r full_of ops least f e is refused same none =
 pub passed_up : {T E : Type 0} (r : Result T E) (e : E) (P : T → Type 0) (Q : E → Type 0) → IsErrAnd r (λ y. y ≡ e) → Q e → MatchResult r P Q
 passed_up (Ok x) e P Q is q = absurd is
 passed_up (Err y) e P Q is q = subst Q (sym is) q
+
+-- where the journal has no room, that isn't for want of a page
+unroomed_at_full : (k : Knowledge) (w : Work) (count : ℕ) (e : Refusal) → HasNoRoom e k → HasRoomAtFull w count e
+unroomed_at_full k w count e (inl none) least full = absurd (let spent : CommitsSpent ≡ Full least = sym none.0 ∙ full in cc)
+unroomed_at_full k w count e (inr none) least full = absurd (let refused : OutOfMemory ≡ Full least = sym none.0 ∙ full in cc)
+
+pub unroomed_passed_up : {T : Type 0} (r : Result T Refusal) (k : Knowledge) (w : Work) (count : ℕ) (e : Refusal) → HasNoRoom e k → IsErrAnd r (λ y. y ≡ e) → IfErr r (HasRoomAtFull w count)
+unroomed_passed_up (Ok x) k w count e none is = absurd is
+unroomed_passed_up (Err y) k w count e none is = subst (HasRoomAtFull w count) (sym is) (unroomed_at_full k w count e none)

@@ -1,14 +1,18 @@
 -- What one write makes of the pass that holds the lock.
-use Rattle.std.specs.Prelude.{◌≡◌, ℕ, false, List, [], ◌∷◌, ◌++◌, length}
+use Rattle.std.specs.Prelude.{◌≡◌, ◌⊎◌, ◌≤◌, ◌<◌, ◌+◌, ℕ, false, List, [], ◌∷◌, ◌++◌, count_by, length}
 use Rattle.be_core.specs.Machine.{has}
 use Rattle.be_journal.specs.Journal.{Agrees}
+use Rattle.be_pages.specs.Place.{is_retired}
 use Rattle.be_table.specs.declared.pass.Knowledge.{Knowledge}
 use Rattle.be_table.specs.declared.pass.Commit.{Commit}
+use Rattle.be_table.specs.Place.{Work}
 use Rattle.be_table.specs.Reading.{standing_among, word_of_page}
 use Rattle.be_table.specs.Rule.{page_at, reach_at}
 use Rattle.be_table.specs.Steps.{entry_by}
 use Rattle.be_table.specs.Versions.{at_start, SpellsVolume}
+use Rattle.be_table.specs.Works.{MakesScan}
 use Rattle.be_value.specs.declared.refusals.Refusal.{Refusal}
+use Rattle.be_value.specs.declared.refusals.Refusal.TheVariants.{Full}
 use Rattle.be_volume.specs.declared.ops.Done.{Done}
 use Rattle.be_volume.specs.declared.ops.Op.{Op}
 use Rattle.be_store.specs.History.{IsRefusedAt}
@@ -19,6 +23,12 @@ pub record Begins (k : Knowledge) : Type 0 where
   pub unpublished : k.published ≡ false
   pub begun : (q : ℕ) → standing_among k.places q ≡ at_start (has (reach_at k.seen (length k.seen)) q)
   pub spelt : SpellsVolume (reach_at k.seen (length k.seen)) (word_of_page k.words) (page_at k.seen (length k.seen)) (volume_seen k)
+
+-- An early scan: a whole one where 256 or more pages are retired beyond those that the last one left, and else nothing.
+abbrev pub ScansEarly : Work → Work → Type 0
+ScansEarly old new =
+    ((count_by is_retired old.knows.places < old.left + 256) × (new ≡ old))
+    ⊎ ((old.left + 256 ≤ count_by is_retired old.knows.places) × ((least : ℕ) × MakesScan old new least))
 
 -- the pass is still the same pass, with its pin
 pub record IsSame (a c : Knowledge) : Type 0 where
@@ -39,3 +49,7 @@ pub record IsHeldBack (a c : Knowledge) (ops : List Op) (e : Refusal) : Type 0 w
   pub same : IsSame a c
   pub seen : c.seen ≡ a.seen
   pub reason : IsRefusedAt c ops e
+
+-- where no page is left, room was made for an entry of so many operations
+abbrev pub HasRoomAtFull : Work → ℕ → Refusal → Type 0
+HasRoomAtFull w count e = (least : ℕ) → e ≡ Full least → w.reserved ≡ count

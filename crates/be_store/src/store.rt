@@ -297,6 +297,7 @@ impl Store {
         ensures by { AreOfPasses self.limits.passes result.entries }
         ensures passes { KeepsSeen result.entries (map knows_of passes.items) }
         ensures volumes { CanSpellEach self.limits.pages result.entries }
+        ensures limit { result.limit ≡ self.limits.commits }
     {
         let Store { table } = self;
         table.close(passes)

@@ -2,8 +2,9 @@
 ghost use Rattle.std.specs.Prelude.{◌≡◌, [], ◌+◌, ◌^◌, ◌<◌, ◌≤◌, IfOk, IfErr, MatchResult, false, length};
 ghost use Rattle.be_paged.specs.Changes.{Applies, IsRefusedList};
 ghost use Rattle.be_paged.specs.Version.{IsVersion};
-ghost use Rattle.be_store.specs.Writing.{Begins, Publishes, IsHeldBack};
+ghost use Rattle.be_store.specs.Writing.{Begins, HasRoomAtFull, Publishes, IsHeldBack, ScansEarly};
 ghost use Rattle.be_table.specs.declared.pass.Knowledge.{Knowledge};
+ghost use Rattle.be_table.specs.Place.{Work};
 ghost use Rattle.be_table.specs.Reading.{open_of, standing_among, standing_in_work, word_of_page, words_of};
 ghost use Rattle.be_table.specs.Works.{IsSpent, TakesLock};
 ghost use Rattle.be_volume.specs.Volume.{State};
@@ -34,12 +35,13 @@ fn apply_to(
     apply_into(writing, version_page, ops, dones)
 }
 
-/// Scans where a scan is due, so that the write takes pages that were given up lately.
+/// Scans where a scan is due, and only there, so that the write takes pages that were given up lately.
 fn scan_early(writing: &mut Writing<'_>)
     requires begins { Begins writing.old.knows }
     ensures table { writing.new.table ≡ writing.old.table }
     ensures begins { Begins writing.new.knows }
     ensures kept { open_of writing.new ≡ open_of writing.old }
+    ensures early { ScansEarly writing.old writing.new }
 {
     if writing.is_scan_due() {
         writing.scan();
@@ -60,6 +62,7 @@ fn write_current(
     ensures answer { MatchResult result
         (λ n. Publishes writing.old.knows writing.new.knows ops.now n dones.new.items)
         (λ e. IsHeldBack writing.old.knows writing.new.knows ops.now e) }
+    ensures room { IfErr result (HasRoomAtFull writing.new (length ops.now)) }
 {
     let (_, version_page) = writing.current();
     match apply_to(writing, version_page, ops, dones) {
@@ -89,6 +92,10 @@ pub(crate) fn write(
     ensures answer { MatchResult result
         (λ n. Publishes writing.old.knows writing.new.knows ops.now n dones.new.items)
         (λ e. IsHeldBack writing.old.knows writing.new.knows ops.now e) }
+    ensures room { IfErr result (HasRoomAtFull writing.new (length ops.now)) }
+    ensures early { (between : Work) × ScansEarly writing.old between × MatchResult result
+        (λ n. Publishes between.knows writing.new.knows ops.now n dones.new.items)
+        (λ e. IsHeldBack between.knows writing.new.knows ops.now e) }
 {
     scan_early(writing);
     write_current(writing, ops, dones)

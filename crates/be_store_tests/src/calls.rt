@@ -293,6 +293,55 @@ pub(crate) fn count_indices(store: &Store, alloc: Global, pass: &mut Pass) -> Re
     Ok(indices_pinned(store, alloc, pass)?.len())
 }
 
+/// Whether node 1 has no attribute at the pin, of this name or another, and there is no index.
+pub(crate) fn is_bare(
+    store: &Store,
+    alloc: Global,
+    pass: &mut Pass,
+    name: &Name,
+) -> Result<bool, Refusal>
+    requires { IsPassOf store.now pass.old }
+    ensures { IsPassOf store.now pass.new }
+{
+    let is_unset = value_of(store, pass, name).is_none();
+    let indices = count_indices(store, alloc, pass)?;
+    let attributes = count_attrs(store, alloc, pass)?;
+    Ok(is_unset && indices == 0 && attributes == 0)
+}
+
+/// Whether an attribute of node 1 is this text at the pin.
+pub(crate) fn reads_text(store: &Store, pass: &mut Pass, name: &Name, text: &str) -> bool
+    requires { IsPassOf store.now pass.old }
+    ensures { IsPassOf store.now pass.new }
+{
+    match value_of(store, pass, name) {
+        Some(Value::Cstr(value)) => value.as_str() == text,
+        _ => false,
+    }
+}
+
+/// Makes an index of the name and then node 1, and sets its attribute to a number. Whether these are the first three writes.
+pub(crate) fn index_and_set(store: &Store, pass: &mut Pass, name: &Name, number: i32) -> bool
+    requires { IsPassOf store.now pass.old }
+    ensures { IsPassOf store.now pass.new }
+{
+    let index = write(store, pass, Op::MkIndex(name.copy(), Kind::Long));
+    let node = write(store, pass, Op::New);
+    let value = set(store, pass, name, number);
+    matches!((index, node, value), (Ok(1), Ok(2), Ok(3)))
+}
+
+/// Makes node 2, and sets the attributes of node 1 and of this one to these numbers. Whether these are the next three writes.
+pub(crate) fn set_both(store: &Store, pass: &mut Pass, name: &Name, first: i32, second: i32) -> bool
+    requires { IsPassOf store.now pass.old }
+    ensures { IsPassOf store.now pass.new }
+{
+    let node = write(store, pass, Op::New);
+    let one = set(store, pass, name, first);
+    let two = write(store, pass, Op::Set(2, name.copy(), Value::int32(second)));
+    matches!((node, one, two), (Ok(4), Ok(5), Ok(6)))
+}
+
 /// What changed since the last refresh, at the current version.
 fn refreshed(store: &Store, pass: &mut Pass, live: &mut Live) -> Result<Updates, Refusal>
     requires { IsPassOf store.now pass.old }
@@ -497,7 +546,7 @@ pub(crate) fn reads_number(store: &Store, alloc: Global, pass: &mut Pass, number
 }
 
 /// Sets 64 attributes of node 1.
-pub(crate) fn set_most(store: &Store, pass: &mut Pass) -> Result<(), Refusal>
+fn set_most(store: &Store, pass: &mut Pass) -> Result<(), Refusal>
     requires { IsPassOf store.now pass.old }
     ensures { IsPassOf store.now pass.new }
 {
@@ -508,7 +557,7 @@ pub(crate) fn set_most(store: &Store, pass: &mut Pass) -> Result<(), Refusal>
 }
 
 /// Makes 32 indices.
-pub(crate) fn index_most(store: &Store, pass: &mut Pass) -> Result<(), Refusal>
+fn index_most(store: &Store, pass: &mut Pass) -> Result<(), Refusal>
     requires { IsPassOf store.now pass.old }
     ensures { IsPassOf store.now pass.new }
 {
@@ -516,6 +565,31 @@ pub(crate) fn index_most(store: &Store, pass: &mut Pass) -> Result<(), Refusal>
         write(store, pass, Op::MkIndex(numbered(number)?, Kind::Long))?;
     }
     Ok(())
+}
+
+/// Makes node 1, its 64 attributes and 32 indices.
+pub(crate) fn make_most(store: &Store, pass: &mut Pass) -> Result<(), Refusal>
+    requires { IsPassOf store.now pass.old }
+    ensures { IsPassOf store.now pass.new }
+{
+    write(store, pass, Op::New)?;
+    set_most(store, pass)?;
+    index_most(store, pass)
+}
+
+/// The pin of the current version, and how many attributes of node 1 and how many indices it lists.
+pub(crate) fn listed(
+    store: &Store,
+    alloc: Global,
+    pass: &mut Pass,
+) -> Result<(u64, usize, usize), Refusal>
+    requires { IsPassOf store.now pass.old }
+    ensures { IsPassOf store.now pass.new }
+{
+    let pinned = pin(store, pass);
+    let attributes = count_attrs(store, alloc, pass)?;
+    let indices = count_indices(store, alloc, pass)?;
+    Ok((pinned, attributes, indices))
 }
 
 /// The operations that set the attribute of node 1 to 1 to 64, or to 63 and then drop node 9.
@@ -532,13 +606,7 @@ fn sixty_four(alloc: Global, name: &Name, drops: bool) -> Result<Vec<Op>, AllocE
 }
 
 /// A write of these operations. BadLimits where they aren't 64, which is never so.
-pub(crate) fn write_64(
-    store: &Store,
-    alloc: Global,
-    pass: &mut Pass,
-    name: &Name,
-    drops: bool,
-) -> Written
+fn write_64(store: &Store, alloc: Global, pass: &mut Pass, name: &Name, drops: bool) -> Written
     requires { IsPassOf store.now pass.old }
     ensures { IsPassOf store.now pass.new }
 {
@@ -563,7 +631,7 @@ fn are_units(dones: &[Done]) -> bool {
 }
 
 /// Whether the list of 64 writes is accepted with number 4.
-pub(crate) fn writes_64(store: &Store, alloc: Global, pass: &mut Pass, name: &Name) -> bool
+fn writes_64(store: &Store, alloc: Global, pass: &mut Pass, name: &Name) -> bool
     requires { IsPassOf store.now pass.old }
     ensures { IsPassOf store.now pass.new }
 {
@@ -571,6 +639,43 @@ pub(crate) fn writes_64(store: &Store, alloc: Global, pass: &mut Pass, name: &Na
         Ok((number, dones)) => number == 4 && are_units(dones.as_slice()),
         Err(_) => false,
     }
+}
+
+/// Whether the list is accepted while the other pass, pinned at 3, reads on where the attribute is 0, and reads 64 from
+/// its next pin.
+pub(crate) fn accepts_64(
+    store: &Store,
+    alloc: Global,
+    writer: &mut Pass,
+    reader: &mut Pass,
+    name: &Name,
+) -> bool
+    requires { IsPassOf store.now writer.old × IsPassOf store.now reader.old }
+    ensures { IsPassOf store.now writer.new × IsPassOf store.now reader.new }
+{
+    let pinned = pin(store, reader);
+    let is_accepted = writes_64(store, alloc, writer, name);
+    let stays = finds(store, alloc, reader, "k==0", 3, &[1]);
+    let next = pin(store, reader);
+    let comes = finds(store, alloc, reader, "k==64", 4, &[1]);
+    pinned == 3 && is_accepted && stays && next == 4 && comes
+}
+
+/// Whether the list that drops a node which isn't there is refused by NoNode, and the other pass reads 64 as before.
+pub(crate) fn refuses_64(
+    store: &Store,
+    alloc: Global,
+    writer: &mut Pass,
+    reader: &mut Pass,
+    name: &Name,
+) -> bool
+    requires { IsPassOf store.now writer.old × IsPassOf store.now reader.old }
+    ensures { IsPassOf store.now writer.new × IsPassOf store.now reader.new }
+{
+    let refused = write_64(store, alloc, writer, name, true);
+    let pinned = pin(store, reader);
+    let stays = finds(store, alloc, reader, "k==64", 4, &[1]);
+    matches!(refused, Err(Refusal::NoNode)) && pinned == 4 && stays
 }
 
 /// Makes a node, at a later try while another pass holds the lock.

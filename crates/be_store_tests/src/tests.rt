@@ -3,10 +3,10 @@
 //! A test is a store, and then a call a line with its answer. What they call stands in `calls`.
 
 use crate::calls::{
-    closed, count_attrs, count_indices, drops_no_node, fill_alone, finds, finds_now, first_full,
-    for_one, for_two, index_most, index_zero, journal_of, make_both, make_nodes, opened, parsed,
-    pin, reads_bare, reads_number, refreshes, set, set_many, set_most, value_of, with_zero, write,
-    write_64, writes, writes_64,
+    accepts_64, closed, drops_no_node, fill_alone, finds_now, first_full, for_one, for_two,
+    index_and_set, index_zero, is_bare, journal_of, listed, make_both, make_most, make_nodes,
+    opened, parsed, pin, reads_bare, reads_number, reads_text, refreshes, refuses_64, set,
+    set_both, set_many, with_zero, write, writes,
 };
 use be_store::{Done, Kind, Live, Name, Op, Refusal, Value};
 use be_testing::{OUTSIDE_LIMITS, has_hundred_by_each};
@@ -35,13 +35,9 @@ fn two_passes(rt: HostRuntime) -> Result<(), Fail> {
     assert!(rt; writes(&store, &mut a, &[Op::New], 1, &[Done::Node(1)]));
     assert_eq!(rt; pin(&store, &mut b), 1);
     assert!(rt; writes(&store, &mut a, &[op], 2, &[Done::Unit]));
-    assert!(rt; value_of(&store, &mut b, &name).is_none());
-    assert_eq!(rt; count_attrs(&store, rt.alloc(), &mut b)?, 0);
-    assert_eq!(rt; count_indices(&store, rt.alloc(), &mut b)?, 0);
+    assert!(rt; is_bare(&store, rt.alloc(), &mut b, &name)?);
     assert_eq!(rt; pin(&store, &mut b), 2);
-    assert!(rt;
-        matches!(value_of(&store, &mut b, &name), Some(Value::Cstr(text)) if text.as_str() == "v")
-    );
+    assert!(rt; reads_text(&store, &mut b, &name, "v"));
     Ok(())
 }
 
@@ -93,17 +89,9 @@ fn live_query(rt: HostRuntime) -> Result<(), Fail> {
     let (store, mut a) = for_one(rt.alloc(), 64, 100)?;
     let name = Name::new("k")?;
     let mut live = Live::new(rt.alloc(), parsed(rt.alloc(), "k>4")?);
-    let nine = Op::Set(2, name.copy(), Value::int32(9));
-    assert_eq!(rt;
-        write(&store, &mut a, Op::MkIndex(name.copy(), Kind::Long)),
-        Ok(1)
-    );
-    assert_eq!(rt; write(&store, &mut a, Op::New), Ok(2));
-    assert_eq!(rt; set(&store, &mut a, &name, 5), Ok(3));
+    assert!(rt; index_and_set(&store, &mut a, &name, 5));
     assert!(rt; refreshes(&store, &mut a, &mut live, &[1], &[]));
-    assert_eq!(rt; write(&store, &mut a, Op::New), Ok(4));
-    assert_eq!(rt; set(&store, &mut a, &name, 1), Ok(5));
-    assert_eq!(rt; write(&store, &mut a, nine), Ok(6));
+    assert!(rt; set_both(&store, &mut a, &name, 1, 9));
     assert!(rt; refreshes(&store, &mut a, &mut live, &[2], &[1]));
     assert!(rt; refreshes(&store, &mut a, &mut live, &[], &[]));
     Ok(())
@@ -115,15 +103,8 @@ fn batches_in_store(rt: HostRuntime) -> Result<(), Fail> {
     let (store, mut b, mut a) = for_two(rt.alloc(), 32, 100)?;
     let name = Name::new("k")?;
     assert_eq!(rt; index_zero(&store, &mut a, &name)?, 3);
-    assert_eq!(rt; pin(&store, &mut b), 3);
-    assert!(rt; writes_64(&store, rt.alloc(), &mut a, &name));
-    assert!(rt; finds(&store, rt.alloc(), &mut b, "k==0", 3, &[1]));
-    assert_eq!(rt; pin(&store, &mut b), 4);
-    assert!(rt; finds(&store, rt.alloc(), &mut b, "k==64", 4, &[1]));
-    let refused = write_64(&store, rt.alloc(), &mut b, &name, true);
-    assert!(rt; matches!(refused, Err(Refusal::NoNode)));
-    assert_eq!(rt; pin(&store, &mut a), 4);
-    assert!(rt; finds(&store, rt.alloc(), &mut a, "k==64", 4, &[1]));
+    assert!(rt; accepts_64(&store, rt.alloc(), &mut a, &mut b, &name));
+    assert!(rt; refuses_64(&store, rt.alloc(), &mut b, &mut a, &name));
     Ok(())
 }
 
@@ -131,12 +112,8 @@ fn batches_in_store(rt: HostRuntime) -> Result<(), Fail> {
 #[test]
 fn longest_lists(rt: HostRuntime) -> Result<(), Fail> {
     let (store, mut a) = for_one(rt.alloc(), 256, 100)?;
-    write(&store, &mut a, Op::New)?;
-    set_most(&store, &mut a)?;
-    index_most(&store, &mut a)?;
-    assert_eq!(rt; pin(&store, &mut a), 97);
-    assert_eq!(rt; count_attrs(&store, rt.alloc(), &mut a)?, 64);
-    assert_eq!(rt; count_indices(&store, rt.alloc(), &mut a)?, 32);
+    make_most(&store, &mut a)?;
+    assert_eq!(rt; listed(&store, rt.alloc(), &mut a)?, (97, 64, 32));
     Ok(())
 }
 

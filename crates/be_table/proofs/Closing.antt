@@ -9,7 +9,7 @@ use Rattle.be_journal.specs.declared.entries.Entry.{Entry}
 use Rattle.be_table.specs.declared.ledger.Ledger.{Ledger}
 use Rattle.be_table.specs.declared.limits.Limits.{Limits}
 use Rattle.be_table.specs.declared.pass.Knowledge.{Knowledge}
-use Rattle.be_journal.specs.Journal.{IsLegal}
+use Rattle.be_journal.specs.Journal.{IsLegal, Log}
 use Rattle.be_table.specs.History.{AreOfPasses}
 use Rattle.be_table.specs.Laws.{ArrivalIsNoEvent}
 use Rattle.be_table.specs.Place.{SeatFacts}
@@ -37,7 +37,7 @@ all_kept limits b i (a ∷ v) f = (entries-start b.log a.seen f.0.seen, f.0.mine
 -- once all passes are in one seat, the slot has the journal
 pub ends : (limits : Limits) (i : ℕ) (v : List Knowledge) (words : List ℕ) (slots : List (Option Ledger)) → AllIdle v → ((k : ℕ) → k < limits.passes → Has v k) → Final (Seen (Shows limits) i v) words slots
     → (ledger : Ledger) × (get_elem? slots 0 ≡ some (Some ledger)) × IsLegal ledger.journal.entries × AreOfPasses limits.passes ledger.journal.entries × KeepsSeen ledger.journal.entries v
-    × CanSpellEach limits.pages ledger.journal.entries
+    × CanSpellEach limits.pages ledger.journal.entries × (ledger.journal.limit ≡ limits.commits)
 ends limits i v words slots idle all f =
     let s = f.0 in let b = f.1.0.0 in let h = f.1.0.1 in
     let fit = h.views i v f.1.1 in
@@ -50,6 +50,7 @@ ends limits i v words slots idle all f =
       subst (AreOfPasses limits.passes) is h.sound.by_passes,
       subst (λ l. KeepsSeen l v) is (all_kept limits b i v fit),
       subst (CanSpellEach limits.pages) is (log_spelt limits b h.sound),
+      home.2.limit ∙ h.sound.commits,
     )
 
 -- what a joined seat has of each
@@ -95,20 +96,21 @@ pub AllAt-parts : (id : TableId) (ss : List SeatFacts) (s : SeatFacts) → AllAt
 AllAt-parts id [] s h = (tt, h.0.0, h.0.1)
 AllAt-parts id (x ∷ ss) s h = let r = AllAt-parts id ss s h.1 in ((h.0, r.0), r.1, r.2)
 
-pub record Closes (limits : Limits) (known : List Knowledge) (items : List Entry) : Type 0 where
-  pub legal : IsLegal items
-  pub by_passes : AreOfPasses limits.passes items
-  pub keeps : KeepsSeen items known
-  pub volumes : CanSpellEach limits.pages items
+pub record Closes (limits : Limits) (known : List Knowledge) (journal : Log) : Type 0 where
+  pub legal : IsLegal journal.entries
+  pub by_passes : AreOfPasses limits.passes journal.entries
+  pub keeps : KeepsSeen journal.entries known
+  pub volumes : CanSpellEach limits.pages journal.entries
+  pub limit : journal.limit ≡ limits.commits
 
 -- the ledger that was found in the slot has the journal
-pub closes : (limits : Limits) (known : List Knowledge) (i : ℕ) (v : List Knowledge) (words : List ℕ) (slots : List (Option Ledger)) (ledger : Ledger) (items : List Entry) → Gathered known v → ((k : ℕ) → k < limits.passes → Has known k)
-    → Final (Seen (Shows limits) i v) words slots → get_elem? slots 0 ≡ some (Some ledger) → items ≡ ledger.journal.entries → Closes limits known items
-closes limits known i v words slots ledger items g all f at is =
+pub closes : (limits : Limits) (known : List Knowledge) (i : ℕ) (v : List Knowledge) (words : List ℕ) (slots : List (Option Ledger)) (ledger : Ledger) (journal : Log) → Gathered known v → ((k : ℕ) → k < limits.passes → Has known k)
+    → Final (Seen (Shows limits) i v) words slots → get_elem? slots 0 ≡ some (Some ledger) → journal ≡ ledger.journal → Closes limits known journal
+closes limits known i v words slots ledger journal g all f at is =
     let e = ends limits i v words slots g.idle (λ k lt. g.all k (all k lt)) f in
     let same : Some e.0 ≡ Some ledger = some-injective (Some e.0) (Some ledger) (sym e.1 ∙ at) in
     let it : e.0 ≡ ledger = cc in
-    subst (Closes limits known) (ap (λ (l : Ledger). l.journal.entries) it ∙ sym is) record { legal = e.2; by_passes = e.3; keeps = g.keeps e.0.journal.entries e.4; volumes = e.5 }
+    subst (Closes limits known) (ap (λ (l : Ledger). l.journal) it ∙ sym is) record { legal = e.2; by_passes = e.3; keeps = g.keeps e.0.journal.entries e.4; volumes = e.5; limit = e.6 }
 
 -- a seat with no pass may arrive
 pub arrive_by : (limits : Limits) → ArrivalIsNoEvent limits

@@ -180,15 +180,15 @@ zero_first zero = refl
 zero_first (suc p) = rw (ne_eqb 0 (suc p) (λ z. absurd (omega arith)), ne_eqb (suc p) 0 (λ z. absurd (omega arith))) refl
 
 pub begins : (limits : Limits) (words : List ℕ) (ledger : Ledger) → IsWithin limits → length words ≡ 528 + 512 * limits.pages → ((k : ℕ) → k < 528 → slice_index words k ≡ 0)
-    → ledger.journal.entries ≡ [] → ledger.journal.limit ≡ limits.commits → ledger.page ≡ 0 → length (ledger_places ledger) ≡ limits.pages → ShowsPlaces (ledger_places ledger) (first_board limits words).world → map undone_place (ledger_places ledger) ≡ (ledger_places ledger)
+    → ledger.journal.entries ≡ [] → ledger.journal.limit ≡ limits.commits → ledger.page ≡ 0 → length (ledger_places ledger) ≡ limits.pages → ShowsPlaces (ledger_places ledger) (first_board limits words).world → map undone_place (ledger_places ledger) ≡ (ledger_places ledger) → ledger.left ≡ 0
     → SpellsVolume (0 ∷ []) (in_pages (λ p i. slice_index words (word_place p i))) 0 empty
     → Shows limits (opening words (Some ledger ∷ []) (everyone limits))
-begins limits words ledger within size blank none limit page count shown idle first = (
+begins limits words ledger within size blank none limit page count shown idle left first = (
   first_board limits words,
   record {
     table = record {
       words = record { size = size; lock = blank 0 (omega arith); current = blank 8 (omega arith); announced = λ k lt. blank (16 + 8 * k) (let f = within.few in omega arith); pages = λ p i a b. refl };
-      home = (ledger, refl, record { journal = none; limit = limit; page = page; count = count; shown = shown; idle = idle });
+      home = (ledger, refl, record { journal = none; limit = limit; page = page; count = count; shown = shown; idle = idle; left = omega (arith, left) });
       version = refl;
     };
     sound = record {
@@ -274,10 +274,10 @@ first_places limits words places within count used unused = (record { free = λ 
     ]
 
 pub begins_as : (limits : Limits) (words : List ℕ) (slots : List (Option Ledger)) (ledger : Ledger) → slots ≡ Some ledger ∷ [] → IsWithin limits → length words ≡ 528 + 512 * limits.pages → ((k : ℕ) → k < 528 → slice_index words k ≡ 0)
-    → ledger.journal.entries ≡ [] → ledger.journal.limit ≡ limits.commits → ledger.page ≡ 0 → length (ledger_places ledger) ≡ limits.pages → ((q : ℕ) → q < 1 → place_of (ledger_places ledger) q ≡ Current) → ((q : ℕ) → 1 ≤ q → q < limits.pages → place_of (ledger_places ledger) q ≡ Free) → SpellsVolume (0 ∷ []) (in_pages (λ p i. slice_index words (word_place p i))) 0 empty → Shows limits (opening words slots (everyone limits))
-begins_as limits words slots ledger e within size blank none limit page count used unused first =
+    → ledger.journal.entries ≡ [] → ledger.journal.limit ≡ limits.commits → ledger.page ≡ 0 → length (ledger_places ledger) ≡ limits.pages → ((q : ℕ) → q < 1 → place_of (ledger_places ledger) q ≡ Current) → ((q : ℕ) → 1 ≤ q → q < limits.pages → place_of (ledger_places ledger) q ≡ Free) → ledger.left ≡ 0 → SpellsVolume (0 ∷ []) (in_pages (λ p i. slice_index words (word_place p i))) 0 empty → Shows limits (opening words slots (everyone limits))
+begins_as limits words slots ledger e within size blank none limit page count used unused left first =
     let x = first_places limits words (ledger_places ledger) within count used unused in
-    subst (λ (xs : List (Option Ledger)). Shows limits (opening words xs (everyone limits))) (sym e) (begins limits words ledger within size blank none limit page count x.0 x.1 first)
+    subst (λ (xs : List (Option Ledger)). Shows limits (opening words xs (everyone limits))) (sym e) (begins limits words ledger within size blank none limit page count x.0 x.1 left first)
 
 pub only_one : (r l : List (Option Ledger)) (x : Option Ledger) → r ≡ l ++ x ∷ [] → l ≡ [] → r ≡ x ∷ []
 only_one r l x e f = e ∙ ap (λ xs. xs ++ x ∷ []) f

@@ -251,7 +251,7 @@ pub sound_world : (limits : Limits) (b : Board) (w : World) → IsSoundBoard lim
 sound_world limits b w h pages passes commits image holder reaches sound = record { within = h.within; legal = h.legal; by_passes = h.by_passes; room = h.room; page = h.page; inside = h.inside; own_pages = h.own_pages; pages = pages ∙ h.pages; passes = passes ∙ h.passes; commits = commits ∙ h.commits; holder = holder; reaches = reaches; machine = sound; spelt = λ n le. subst (λ (f : ℕ → ℕ → ℕ → ℕ). SpellsVolume (reach_at b.log n) (in_pages (f n)) (page_at b.log n) (replay (take n (entries b.log)))) (sym image) (h.spelt n le) }
 
 home_phases : (o : Option Holder) (w : World) (phases : ℕ → Phase) (log : List Commit) (homes : List (mathlib.Core.Option.Option (Option Ledger))) → IsHome o w log homes → IsHome o (record w { phases = phases }) log homes
-home_phases None w phases log homes h = let x = h.2 in (h.0, h.1, record { journal = x.journal; limit = x.limit; page = x.page; count = x.count; shown = record { free = x.shown.free; taken = x.shown.taken; retired = x.shown.retired }; idle = x.idle })
+home_phases None w phases log homes h = let x = h.2 in (h.0, h.1, record { journal = x.journal; limit = x.limit; page = x.page; count = x.count; shown = record { free = x.shown.free; taken = x.shown.taken; retired = x.shown.retired }; idle = x.idle; left = x.left })
 home_phases (Some x) w phases log homes h = h
 
 pub holds_phases : (b : Board) (phases : ℕ → Phase) (x : Knowledge) → Holds b x → Holds (record b { world = record b.world { phases = phases } }) x

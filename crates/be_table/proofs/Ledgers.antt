@@ -1,11 +1,12 @@
 -- What a write to the ledger shows is the event's effect.
-use Rattle.std.proofs.Common.{◌≡◌, ℕ, zero, suc, ◌<◌, Bool, true, false, nat_lt, if◌then◌else◌, ◌||◌, List, [], ◌∷◌, map, length, slice_set, Some, None, refl, sym, ◌∙◌, inl, inr, get_or-set_same, get_or-set_other, arith}
+use Rattle.std.proofs.Common.{◌≡◌, ℕ, zero, suc, ◌<◌, ◌≤◌, Bool, true, false, cond, nat_lt, if◌then◌else◌, ◌||◌, List, [], ◌∷◌, map, length, slice_set, count_by, Some, None, refl, sym, ap, ◌∙◌, subst, inl, inr, get_or-set_same, get_or-set_other, arith, IsTrue}
 use Rattle.std.proofs.lemmas.Bool.Decides.{eqb_tells}
 use Rattle.std.proofs.lemmas.List.{length-map}
+use Rattle.std.proofs.lemmas.List.Sums.{sum_by-cons, sum_by-set}
 use Rattle.be_core.specs.Machine.{World, is_below, swept, after_fill, after_unlock, after_return}
 use Rattle.be_pages.specs.declared.page_pool.Place.{Place}
 use Rattle.be_pages.specs.declared.page_pool.Place.TheVariants.{Free, Reserved, Filled, Current, GivenUp, Retired}
-use Rattle.be_pages.specs.Place.{place_of, swept_place, undone_place}
+use Rattle.be_pages.specs.Place.{is_held_page, is_in_hand, is_retired, place_of, published_place, swept_place, undone_place}
 use Rattle.be_table.specs.Ledger.{shows_free, shows_taken, retired_with, ShowsPlaces}
 
 pub place-map : (f : Place → Place) → f Current ≡ Current → (places : List Place) (p : ℕ) → place_of (map f places) p ≡ f (place_of places p)
@@ -27,6 +28,80 @@ idle_again (Retired r) = refl
 
 pub idle-idle : (places : List Place) → map undone_place (map undone_place places) ≡ map undone_place places
 idle-idle places = map-map undone_place undone_place undone_place idle_again places
+
+-- ## How many pages are retired
+
+unretired_in_hand : (x : Place) → IsTrue (is_in_hand x) → is_retired x ≡ false
+unretired_in_hand Free h = refl
+unretired_in_hand Reserved h = refl
+unretired_in_hand Filled h = refl
+unretired_in_hand Current h = refl
+unretired_in_hand GivenUp h = refl
+unretired_in_hand (Retired r) h = sym h
+
+unretired_held : (x : Place) → IsTrue (is_held_page x) → is_retired x ≡ false
+unretired_held Free h = refl
+unretired_held Reserved h = refl
+unretired_held Filled h = refl
+unretired_held Current h = refl
+unretired_held GivenUp h = refl
+unretired_held (Retired r) h = sym h
+
+abbrev one_where : Bool → ℕ
+one_where b = cond b 1 0
+
+-- one page that isn't retired gets another place
+pub left-set : (left : ℕ) (places new : List Place) (p : ℕ) (x : Place) → new ≡ slice_set places p x → p < length places → is_retired (place_of places p) ≡ false → left ≤ count_by is_retired places → left ≤ count_by is_retired new
+left-set left places new p x is inside unretired le =
+    let counted = sum_by-set (λ y. cond (is_retired y) 1 0) places p x Current inside in
+    let none : one_where (is_retired (place_of places p)) ≡ 0 = ap one_where unretired in
+    subst (λ ps. left ≤ count_by is_retired ps) (sym is) (omega (arith, counted, none, le))
+
+-- the same, where the places are those that the pass knows
+pub left-fill : (left : ℕ) (places known new : List Place) (p : ℕ) (x : Place) → places ≡ known → new ≡ slice_set places p x → p < length known → IsTrue (is_in_hand (place_of known p)) → left ≤ count_by is_retired places → left ≤ count_by is_retired new
+left-fill left places known new p x same is inside hand le =
+    left-set left places new p x is (subst (λ ps. p < length ps) (sym same) inside) (subst (λ ps. is_retired (place_of ps p) ≡ false) (sym same) (unretired_in_hand (place_of known p) hand)) le
+
+pub left-give : (left : ℕ) (places known new : List Place) (p : ℕ) (x : Place) → places ≡ known → new ≡ slice_set places p x → p < length known → IsTrue (is_held_page (place_of known p)) → left ≤ count_by is_retired places → left ≤ count_by is_retired new
+left-give left places known new p x same is inside held le =
+    left-set left places new p x is (subst (λ ps. p < length ps) (sym same) inside) (subst (λ ps. is_retired (place_of ps p) ≡ false) (sym same) (unretired_held (place_of known p) held)) le
+
+one_more : (x y : Bool) → (x ≡ true → y ≡ true) → cond x 1 0 ≤ cond y 1 0
+one_more true y h = subst (λ b. 1 ≤ cond b 1 0) (sym (h refl)) (omega arith)
+one_more false true h = omega arith
+one_more false false h = omega arith
+
+-- each page gets another place, and what is retired stays so
+retired_more : (f : Place → Place) → ((x : Place) → is_retired x ≡ true → is_retired (f x) ≡ true) → (places : List Place) → count_by is_retired places ≤ count_by is_retired (map f places)
+retired_more f h [] = omega arith
+retired_more f h (x ∷ xs) =
+    let one = one_more (is_retired x) (is_retired (f x)) (h x) in
+    let more = retired_more f h xs in
+    let old = sum_by-cons (λ y. cond (is_retired y) 1 0) x xs in
+    let new = sum_by-cons (λ y. cond (is_retired y) 1 0) (f x) (map f xs) in
+    omega (arith, one, more, old, new)
+
+undone_retired : (x : Place) → is_retired x ≡ true → is_retired (undone_place x) ≡ true
+undone_retired Free h = h
+undone_retired Reserved h = h
+undone_retired Filled h = h
+undone_retired Current h = h
+undone_retired GivenUp h = h
+undone_retired (Retired r) h = h
+
+published_retired : (n : ℕ) (x : Place) → is_retired x ≡ true → is_retired (published_place n x) ≡ true
+published_retired n Free h = h
+published_retired n Reserved h = h
+published_retired n Filled h = h
+published_retired n Current h = h
+published_retired n GivenUp h = refl
+published_retired n (Retired r) h = h
+
+pub left-undo : (left : ℕ) (places new : List Place) → new ≡ map undone_place places → left ≤ count_by is_retired places → left ≤ count_by is_retired new
+left-undo left places new is le = let more = retired_more undone_place undone_retired places in subst (λ ps. left ≤ count_by is_retired ps) (sym is) (omega (arith, more, le))
+
+pub left-publish : (left n : ℕ) (places new : List Place) → new ≡ map (published_place n) places → left ≤ count_by is_retired places → left ≤ count_by is_retired new
+left-publish left n places new is le = let more = retired_more (published_place n) (published_retired n) places in subst (λ ps. left ≤ count_by is_retired ps) (sym is) (omega (arith, more, le))
 
 -- a reserved page is filled
 pub shows-fill : (places : List Place) (w : World) → ShowsPlaces places w → (p i word : ℕ) → p < length places → retired_with (place_of places p) ≡ None

@@ -17,7 +17,7 @@ use Rattle.be_table.specs.declared.pass.Knowledge.{Knowledge}
 use Rattle.be_table.specs.Laws.{AllowsBy, IsLock, IsUnlock}
 use Rattle.be_pages.specs.Place.{undone_place}
 use Rattle.be_table.specs.Ledger.{ShowsPlaces}
-use Rattle.be_table.specs.Rule.{ledger_places, Board, entries, reach_at, page_at, word_place, lock_word, is_holder, known_holder, IsHome, IsSoundBoard, Holds, Fits, Stands, Shows}
+use Rattle.be_table.specs.Rule.{ledger_places, LeftAreRetired, Board, entries, reach_at, page_at, word_place, lock_word, is_holder, known_holder, IsHome, IsSoundBoard, Holds, Fits, Stands, Shows}
 use Rattle.be_table.specs.Steps.{takes_lock, finds_held, without_lock, Gets, LockIsHeld, Locked, Unlocked}
 use Rattle.be_table.proofs.Histories.{starts_itself}
 use Rattle.be_table.proofs.Frames.{Table, Me1, views_step, fits_late, longer_seen, is_pass, in_time_later, words_load, words_lock, not_holder, fits_world, not_other, sound_world}
@@ -118,7 +118,7 @@ module _ (limits : Limits) (slots i : ℕ) (a : Knowledge) (carried : List (ℕ 
           },
           ((below, refl), refl),
         ),
-        (ledger, b.log, s.words, (refl, fa.seen, is_pass limits d i c sd fc, record { journal = x.journal; limit = x.limit ∙ h.sound.commits ∙ ap (λ (l : Limits). l.commits) (sym fa.limits_are); page = x.page; places = refl; idle = x.idle; count = x.count ∙ h.sound.pages ∙ ap (λ (l : Limits). l.pages) (sym fa.limits_are); size = t.words.size ∙ ap (λ n. 528 + 512 * n) (h.sound.pages ∙ ap (λ (l : Limits). l.pages) (sym fa.limits_are)); begun = λ q. begun (ledger_places ledger) b.world h.sound.machine x.shown x.count (let few = h.sound.within.few_pages in let count = x.count in let pages = h.sound.pages in omega arith) x.idle q ∙ ap at_start (h.sound.reaches b.world.current q (le_refl b.world.current) ∙ ap (λ n. has (reach_at b.log n) q) t.version); spelt = now_spelt limits s b h })),
+        (ledger, b.log, s.words, (refl, fa.seen, is_pass limits d i c sd fc, record { journal = x.journal; limit = x.limit ∙ h.sound.commits ∙ ap (λ (l : Limits). l.commits) (sym fa.limits_are); page = x.page; places = refl; idle = x.idle; left = x.left; count = x.count ∙ h.sound.pages ∙ ap (λ (l : Limits). l.pages) (sym fa.limits_are); size = t.words.size ∙ ap (λ n. 528 + 512 * n) (h.sound.pages ∙ ap (λ (l : Limits). l.pages) (sym fa.limits_are)); begun = λ q. begun (ledger_places ledger) b.world h.sound.machine x.shown x.count (let few = h.sound.within.few_pages in let count = x.count in let pages = h.sound.pages in omega arith) x.idle q ∙ ap at_start (h.sound.reaches b.world.current q (le_refl b.world.current) ∙ ap (λ n. has (reach_at b.log n) q) t.version); spelt = now_spelt limits s b h })),
       )
 
   taken : (o : Option Holder) (passes : ℕ) → lock_word o ≢ 0 → ((g : Holder) → o ≡ Some g → g.pass < passes) → is_holder o a.number ≡ false → (lock_word o ≢ a.number + 1) × (lock_word o < passes + 1)
@@ -157,9 +157,9 @@ module _ (limits : Limits) (slots i : ℕ) (a : Knowledge) (carried : List (ℕ 
       subst (λ (p : Bool × ℕ). Q p.0 p.1) (λ k. (sym none_is k, sym found k)) (lock_late s b h at idle held))
 
 module _ (limits : Limits) (slots i : ℕ) (a : Knowledge) (ledger : Ledger) where
-  pub unlock_by : a.writes ≡ true → ledger.journal.entries ≡ entries a.seen → ledger.journal.limit ≡ a.limits.commits → ledger.page ≡ page_at a.seen (length a.seen) → (ledger_places ledger) ≡ map undone_place a.places
+  pub unlock_by : a.writes ≡ true → ledger.journal.entries ≡ entries a.seen → ledger.journal.limit ≡ a.limits.commits → ledger.page ≡ page_at a.seen (length a.seen) → (ledger_places ledger) ≡ map undone_place a.places → LeftAreRetired ledger
       → AllowsBy limits slots i (a ∷ [], (0, Some ledger) ∷ []) 0 (λ _. 0) (IsUnlock a.number) (λ _. Unlocked (step slots 0 0 0 none) (a ∷ [], (0, Some ledger) ∷ []) 0)
-  unlock_by writes journal limit page places s b0 h0 sized at fits =
+  unlock_by writes journal limit page places left s b0 h0 sized at fits =
       let work = at_work limits s b0 i a h0 at writes in
       let b : Board = held_by b0 (Some (known_holder a)) in
       let h = work.0 in
@@ -191,6 +191,7 @@ module _ (limits : Limits) (slots i : ℕ) (a : Knowledge) (ledger : Ledger) whe
                   count = ap length places ∙ length-map a.places undone_place ∙ m.count;
                   shown = subst (λ ps. ShowsPlaces ps w) (sym places) shown;
                   idle = ap (map undone_place) places ∙ idle-idle a.places ∙ sym places;
+                  left = left;
                 },
               );
               version = t.version;
@@ -209,11 +210,11 @@ module _ (limits : Limits) (slots i : ℕ) (a : Knowledge) (carried : List (ℕ 
       subst (λ (p : Me1 × ℕ). Allows (Shows limits) slots i p.0 0 (λ n. either (eqb n 0) p.1 n) (Locked (step slots 0 0 p.1 none) p.0)) (λ k. (sym e k, sym is k))
       (forget limits slots i (a ∷ [], carried) 0 (λ n. either (eqb n 0) (a.number + 1) n) (IsLock a.number) (Locked (step slots 0 0 (a.number + 1) none) (a ∷ [], carried)) (lock_by limits slots i a carried idle))
 
-  pub unlocks_as : (ledger : Ledger) → me ≡ (a ∷ [], (0, Some ledger) ∷ []) → a.writes ≡ true → ledger.journal.entries ≡ entries a.seen → ledger.journal.limit ≡ a.limits.commits → ledger.page ≡ page_at a.seen (length a.seen) → (ledger_places ledger) ≡ map undone_place a.places
+  pub unlocks_as : (ledger : Ledger) → me ≡ (a ∷ [], (0, Some ledger) ∷ []) → a.writes ≡ true → ledger.journal.entries ≡ entries a.seen → ledger.journal.limit ≡ a.limits.commits → ledger.page ≡ page_at a.seen (length a.seen) → (ledger_places ledger) ≡ map undone_place a.places → LeftAreRetired ledger
       → Allows (Shows limits) slots i me 0 (λ _. 0) (λ _. Unlocked (step slots 0 0 0 none) me 0)
-  unlocks_as ledger e writes journal limit page places =
+  unlocks_as ledger e writes journal limit page places left =
       subst (λ (m : Me1). Allows (Shows limits) slots i m 0 (λ _. 0) (λ _. Unlocked (step slots 0 0 0 none) m 0)) (sym e)
-      (forget limits slots i (a ∷ [], (0, Some ledger) ∷ []) 0 (λ _. 0) (IsUnlock a.number) (λ _. Unlocked (step slots 0 0 0 none) (a ∷ [], (0, Some ledger) ∷ []) 0) (unlock_by limits slots i a ledger writes journal limit page places))
+      (forget limits slots i (a ∷ [], (0, Some ledger) ∷ []) 0 (λ _. 0) (IsUnlock a.number) (λ _. Unlocked (step slots 0 0 0 none) (a ∷ [], (0, Some ledger) ∷ []) 0) (unlock_by limits slots i a ledger writes journal limit page places left))
 
 pub got : (m : Me1) (n : ℕ) (r : Me1) → MatchBool (eqb n 0) (Gets m r) (LockIsHeld m n r) → n ≡ 0 → Gets m r
 got m n r l e = subst (λ (b : Bool). MatchBool b (Gets m r) (LockIsHeld m n r)) (eq-eqb n 0 e) l

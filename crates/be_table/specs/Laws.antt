@@ -13,7 +13,7 @@ use Rattle.be_journal.specs.declared.entries.Entry.{Entry}
 use Rattle.be_pages.specs.declared.page_pool.Place.TheVariants.{Free}
 use Rattle.be_pages.specs.Place.{undone_place, is_held_page, place_of}
 use Rattle.be_table.specs.Ledger.{is_given}
-use Rattle.be_table.specs.Rule.{ledger_places, Board, Stands, entries, page_at, reach_at, word_place, current_word, one_step_on, seats_together}
+use Rattle.be_table.specs.Rule.{ledger_places, LeftAreRetired, Board, Stands, entries, page_at, reach_at, word_place, current_word, one_step_on, seats_together}
 use Rattle.be_table.specs.Steps.{LookTold, Told, PinnedAt, Unpinned, PinnedRead, Locked, Unlocked, Scanned, OwnRead, FilledAt, FilledFound, PageTaken, PageGivenUp, MayBeFilled, MayPublish, Published, Compared, pages_from}
 
 -- ## The events: what a step that found the number n does to the machine
@@ -125,7 +125,7 @@ module _ (limits : Limits) (slots id : ℕ) (a : Knowledge) (carried : List (ℕ
       → AllowsBy limits slots id (a ∷ [], carried) 8 (λ _. new) (IsPublish a.number page (pages_from is_given 0 a.places)) (λ _. Published e page (step slots 8 new 0 none) (a ∷ [], carried) new)
 
 abbrev pub UnlockIsItsEvent : Limits → ℕ → ℕ → Knowledge → Ledger → Type 0
-UnlockIsItsEvent limits slots id a ledger = a.writes ≡ true → ledger.journal.entries ≡ entries a.seen → ledger.journal.limit ≡ a.limits.commits → ledger.page ≡ page_at a.seen (length a.seen) → (ledger_places ledger) ≡ map undone_place a.places
+UnlockIsItsEvent limits slots id a ledger = a.writes ≡ true → ledger.journal.entries ≡ entries a.seen → ledger.journal.limit ≡ a.limits.commits → ledger.page ≡ page_at a.seen (length a.seen) → (ledger_places ledger) ≡ map undone_place a.places → LeftAreRetired ledger
     → AllowsBy limits slots id (a ∷ [], (0, Some ledger) ∷ []) 0 (λ _. 0) (IsUnlock a.number) (λ _. Unlocked (step slots 0 0 0 none) (a ∷ [], (0, Some ledger) ∷ []) 0)
 
 abbrev pub CompareIsNoEvent : Limits → ℕ → ℕ → Knowledge → Knowledge → List (ℕ × Option Ledger) → Type 0

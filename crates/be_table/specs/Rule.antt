@@ -1,5 +1,5 @@
 -- The fact that holds of the table between any two steps.
-use Rattle.std.specs.Prelude.{◌≡◌, ◌≢◌, ℕ, zero, suc, ◌+◌, ◌*◌, ◌<◌, ◌≤◌, ◌==◌, Bool, true, false, List, [], ◌∷◌, ◌++◌, length, take, drop, map, Option, Some, None, slice_index, slice_index_or, IsTrue}
+use Rattle.std.specs.Prelude.{◌≡◌, ◌≢◌, ℕ, zero, suc, ◌+◌, ◌*◌, ◌<◌, ◌≤◌, ◌==◌, Bool, true, false, List, [], ◌∷◌, ◌++◌, length, take, drop, map, Option, Some, None, slice_index, slice_index_or, IsTrue, count_by}
 use mathlib.Core.Option.{Option as Maybe, some, none}
 use lib.ListN.{get_elem?}
 use Rattle.atomic_table.specs.Table.{State}
@@ -13,7 +13,7 @@ use Rattle.be_pages.specs.declared.page_pool.Place.{Place}
 use Rattle.be_table.specs.declared.limits.Limits.{Limits}
 use Rattle.be_table.specs.declared.pass.Commit.{Commit}
 use Rattle.be_table.specs.declared.pass.Knowledge.{Knowledge}
-use Rattle.be_pages.specs.Place.{undone_place}
+use Rattle.be_pages.specs.Place.{is_retired, undone_place}
 use Rattle.be_table.specs.Ledger.{ShowsPlaces}
 use Rattle.be_journal.specs.Journal.{by_pass, replay}
 use Rattle.be_table.specs.History.{StartsWith, AreOfPasses, IsHistory}
@@ -66,6 +66,10 @@ PagesAgree pages words ws = (p i : ℕ) → p < pages → i < 512 → slice_inde
 abbrev pub ledger_places : Ledger → List Place
 ledger_places ledger = places ledger.pool
 
+-- as many pages as the last whole scan left retired are retired still
+abbrev pub LeftAreRetired : Ledger → Type 0
+LeftAreRetired ledger = ledger.left ≤ count_by is_retired (ledger_places ledger)
+
 abbrev pub is_holder : Option Holder → ℕ → Bool
 is_holder None k = false
 is_holder (Some h) k = h.pass == k
@@ -78,6 +82,7 @@ pub record AtHome (w : World) (log : List Commit) (ledger : Ledger) : Type 0 whe
   pub count : length (ledger_places ledger) ≡ w.pages
   pub shown : ShowsPlaces (ledger_places ledger) w
   pub idle : map undone_place (ledger_places ledger) ≡ (ledger_places ledger)
+  pub left : LeftAreRetired ledger
 
 -- the ledger is at home while nobody holds the lock
 abbrev pub IsHome : Option Holder → World → List Commit → List (Maybe (Option Ledger)) → Type 0

@@ -19,7 +19,7 @@ use Rattle.be_journal.specs.Journal.{HasOperations, Agrees, by_pass, replay}
 use Rattle.be_table.specs.History.{StartsWith, AreOfPasses, IsHistory}
 use Rattle.be_table.specs.Reading.{standing_among, word_of_page}
 use Rattle.be_table.specs.Versions.{at_start, CanSpellEach, SpellsVolume}
-use Rattle.be_table.specs.Rule.{announce_word, ledger_places, IsWithin, AreInside, OwnPages, pass_of, one_step_on, current_word, page_at, reach_at, entries, word_place}
+use Rattle.be_table.specs.Rule.{announce_word, ledger_places, LeftAreRetired, IsWithin, AreInside, OwnPages, pass_of, one_step_on, current_word, page_at, reach_at, entries, word_place}
 
 -- what is always so of a pass
 pub record IsPass (a : Knowledge) : Type 0 where
@@ -160,6 +160,7 @@ pub record IsFound (ledger : Ledger) (c : Knowledge) : Type 0 where
   pub page : ledger.page ≡ page_at c.seen (length c.seen)
   pub places : (ledger_places ledger) ≡ c.places
   pub idle : map undone_place c.places ≡ c.places
+  pub left : LeftAreRetired ledger
   pub count : length c.places ≡ c.limits.pages
   pub size : length c.words ≡ 528 + 512 * c.limits.pages
   pub begun : (q : ℕ) → standing_among c.places q ≡ at_start (has (reach_at c.seen (length c.seen)) q)

@@ -1,5 +1,5 @@
 -- What is true of each table and of each open write, and what calls promise.
-use Rattle.std.specs.Prelude.{◌≡◌, ◌≢◌, ◌⊎◌, ◌≤◌, ℕ, ◌+◌, ◌<◌, false, List, [], ◌∷◌, length, map, count_by, IsTrue}
+use Rattle.std.specs.Prelude.{◌≡◌, ◌≢◌, ◌⊎◌, ℕ, ◌+◌, ◌<◌, false, List, [], ◌∷◌, length, map, count_by, IsTrue}
 use Rattle.atomic_table.specs.Seated.{TableId}
 use Rattle.be_journal.specs.declared.entries.Entry.{Entry}
 use Rattle.be_table.specs.declared.limits.Limits.{Limits}

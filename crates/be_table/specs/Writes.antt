@@ -2,7 +2,7 @@
 use Rattle.std.specs.Prelude.{◌≡◌, ◌+◌, ◌*◌, ◌<◌, true, [], ◌∷◌, None, length}
 use Rattle.be_table.specs.declared.writing.Writing.TheInside.{Inside}
 use Rattle.be_table.specs.Place.{Work}
-use Rattle.be_table.specs.Rule.{pass_of, entries, page_at, ledger_places}
+use Rattle.be_table.specs.Rule.{pass_of, entries, page_at, ledger_places, LeftAreRetired}
 use Rattle.be_table.specs.Seats.{pin_of}
 use Rattle.be_table.specs.Steps.{IsPass}
 
@@ -26,4 +26,5 @@ pub record IsOpen (w : Inside) : Type 0 where
   pub pin : w.marks.pin ≡ pin_of (pass_of w.base.me.0).phase (pass_of w.base.me.0).seen
   pub pass : IsPass (pass_of w.base.me.0)
   pub limit : w.ledger.journal.limit ≡ w.table.now.limits.commits
+  pub left : LeftAreRetired w.ledger
   pub room : 0 < w.reserved → (w.ledger.journal.reserved ≡ w.reserved) × (length (pass_of w.base.me.0).seen < w.table.now.limits.commits)

@@ -36,7 +36,8 @@ impl Ledger {
 
     /// What the write has taken is free, and what it has given up stays.
     pub fn rest(&mut self)
-        ensures { (self.new.journal ≡ self.old.journal) × (self.new.page ≡ self.old.page) × (places self.new.pool ≡ map undone_place (places self.old.pool)) }
+        ensures { (self.new.journal ≡ self.old.journal) × (self.new.page ≡ self.old.page)
+            × (places self.new.pool ≡ map undone_place (places self.old.pool)) × (self.new.left ≡ self.old.left) }
     {
         self.pool.undo();
     }

@@ -270,6 +270,7 @@ impl VersionTable {
         ensures by { AreOfPasses self.limits.passes result.entries }
         ensures seats { KeepsSeen result.entries (map knows_of seats.items) }
         ensures volumes { CanSpellEach self.limits.pages result.entries }
+        ensures limit { result.limit ≡ self.limits.commits }
     {
         let VersionTable { table, limits: _ } = self;
         // A seat with no pass takes in the others.

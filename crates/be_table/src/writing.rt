@@ -180,10 +180,11 @@ impl<'a> Writing<'a> {
     }
 
     /// Whether a scan pays though pages may be free: 256 or more pages are retired beyond those that the last whole scan
-    /// had to leave for readers. No step.
+    /// had to leave for readers, which are no more than are retired now. No step.
     pub fn is_scan_due(&self) -> bool
         ensures due { result ≡ true → self.now.left + 256 ≤ count_by is_retired self.now.knows.places }
         ensures not_yet { result ≡ false → count_by is_retired self.now.knows.places < self.now.left + 256 }
+        ensures left { self.now.left ≤ count_by is_retired self.now.knows.places }
     {
         self.ledger.pool.retired().saturating_sub(self.ledger.left) >= EARLY
     }

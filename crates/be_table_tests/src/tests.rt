@@ -124,9 +124,10 @@ fn write_node(writing: &mut Writing<'_>) -> Result<u64, Refusal>
     write(writing, &[Op::New])
 }
 
-/// Locks, enters a new node, and unlocks. Answers the journal's length.
-fn enter(table: &VersionTable, pass: &mut Seat) -> Result<u64, Refusal>
+/// Locks, applies a list of operations, and unlocks. Answers the journal's length.
+fn enter_list(table: &VersionTable, pass: &mut Seat, ops: &[Op]) -> Result<u64, Refusal>
     requires seat { IsSeatOf table.now pass.old }
+    requires count { (1 ≤ length ops.now) × (length ops.now ≤ 64) }
     ensures seat { IsSeatOf table.now pass.new }
     ensures pass { (pass.new.knows.number ≡ pass.old.knows.number) × (pass.new.knows.phase ≡ pass.old.knows.phase) }
 {
@@ -137,9 +138,18 @@ fn enter(table: &VersionTable, pass: &mut Seat) -> Result<u64, Refusal>
             return Err(refusal);
         }
     };
-    let answer = write_node(&mut writing);
+    let answer = write(&mut writing, ops);
     *pass = writing.unlock();
     answer
+}
+
+/// Enters a new node in the same way.
+fn enter(table: &VersionTable, pass: &mut Seat) -> Result<u64, Refusal>
+    requires seat { IsSeatOf table.now pass.old }
+    ensures seat { IsSeatOf table.now pass.new }
+    ensures pass { (pass.new.knows.number ≡ pass.old.knows.number) × (pass.new.knows.phase ≡ pass.old.knows.phase) }
+{
+    enter_list(table, pass, &[Op::New])
 }
 
 /// Enters a new node, at a later try while another pass has the lock.
@@ -378,38 +388,69 @@ fn reading_under_held_lock(rt: HostRuntime) -> Result<(), Fail> {
     Ok(())
 }
 
-/// A pinned version is the volume after the entries up to it, for the reader of pages and for queries, while a later
-/// write changes it.
-#[test]
-fn pinned_volume(rt: HostRuntime) -> Result<(), Fail> {
-    let (table, first, mut second) = for_two(rt.alloc(), 64)?;
-    let name = Name::new("size")?;
+/// Enters an index of the name, and node 1 with 5 at it.
+fn enter_five(table: &VersionTable, pass: &mut Seat, name: &Name) -> Result<u64, Refusal>
+    requires { IsSeatOf table.now pass.old }
+    ensures { IsSeatOf table.now pass.new }
+{
     let ops = [
         Op::MkIndex(name.copy(), Kind::Long),
         Op::New,
         Op::Set(1, name.copy(), Value::int32(5)),
     ];
-    let mut writing = locked(&table, first)?;
-    assert_eq!(rt; write(&mut writing, &ops), Ok(1));
-    let first = writing.unlock();
-    assert_eq!(rt; pin(&table, &mut second), 1);
-    let mut writing = locked(&table, first)?;
-    let change = [
+    enter_list(table, pass, &ops)
+}
+
+/// Sets node 1 to 6 there, and takes the index away.
+fn enter_six(table: &VersionTable, pass: &mut Seat, name: &Name) -> Result<u64, Refusal>
+    requires { IsSeatOf table.now pass.old }
+    ensures { IsSeatOf table.now pass.new }
+{
+    let ops = [
         Op::Set(1, name.copy(), Value::int32(6)),
         Op::RmIndex(name.copy()),
     ];
-    assert_eq!(rt; write(&mut writing, &change), Ok(2));
-    drop(writing.unlock());
-    let (second, value) = value_of(&table, second, 1, &name);
-    assert!(rt; matches!(value, Some(Value::Long(5))));
-    let (mut second, kind, value) = ask_source(&table, second, 1, &name);
-    assert_eq!(rt; kind, Some(Kind::Long));
-    assert!(rt; matches!(value, Some(Value::Long(5))));
+    enter_list(table, pass, &ops)
+}
+
+fn is_number(value: &Option<Value>, number: i32) -> bool {
+    matches!(value, Some(Value::Long(n)) if *n == number)
+}
+
+/// Whether node 1 has the number at the name, for the reader of pages and for queries, and the index is of the kind.
+fn tells(
+    table: &VersionTable,
+    pass: Seat,
+    name: &Name,
+    kind: Option<Kind>,
+    number: i32,
+) -> (Seat, bool)
+    requires seat { IsSeatOf table.now pass }
+    requires pinned { (x : ℕ) × (n : ℕ) × (pass.knows.phase ≡ Pinned x n) }
+    ensures seat { IsSeatOf table.now result.0 }
+    ensures pinned { (x : ℕ) × (n : ℕ) × (result.0.knows.phase ≡ Pinned x n) }
+{
+    let (pass, value) = value_of(table, pass, 1, name);
+    let (pass, of, asked) = ask_source(table, pass, 1, name);
+    let same = of == kind && is_number(&value, number) && is_number(&asked, number);
+    (pass, same)
+}
+
+/// A pinned version is the volume after the entries up to it, for the reader of pages and for queries, while a later
+/// write changes it.
+#[test]
+fn pinned_volume(rt: HostRuntime) -> Result<(), Fail> {
+    let (table, mut first, mut second) = for_two(rt.alloc(), 64)?;
+    let name = Name::new("size")?;
+    assert_eq!(rt; enter_five(&table, &mut first, &name), Ok(1));
+    assert_eq!(rt; pin(&table, &mut second), 1);
+    assert_eq!(rt; enter_six(&table, &mut first, &name), Ok(2));
+    let (mut second, five) = tells(&table, second, &name, Some(Kind::Long), 5);
+    assert!(rt; five);
     table.unpin(&mut second);
     assert_eq!(rt; pin(&table, &mut second), 2);
-    let (second, kind, value) = ask_source(&table, second, 1, &name);
-    assert_eq!(rt; kind, None);
-    assert!(rt; matches!(value, Some(Value::Long(6))));
+    let (second, six) = tells(&table, second, &name, None, 6);
+    assert!(rt; six);
     let (_, none) = value_of(&table, second, 2, &name);
     assert!(rt; none.is_none());
     Ok(())

@@ -118,14 +118,17 @@ FindsBuilt s t spelled bytes places filled count code =
     ⊎ ((query : Formula) × IsBuilt spelled bytes query × HasRead s.knows t.knows
     × PutsOutAtPin (pinned_number s.knows.phase) (scan (volume_pinned s.knows) query) places filled count code)
 
--- what is there in the pinned version, if there is a pin: its type code, number and length are told, and as many of its bytes
--- as there are places
+-- a value's type code, number and length are told, and as many of its bytes as there are places
+abbrev pub ShowsValue : Value → Attribute → List ℕ → List ℕ → Type 0
+ShowsValue value told places filled =
+    (bytes : List ℕ) × IsValueMeant told.code told.number bytes value × HasNoMore told.number bytes value
+    × (told.length ≡ length bytes) × (filled ≡ over bytes places)
+
+-- what is there in the pinned version, if there is a pin, is shown
 abbrev pub Shown : Option ℕ → Option Value → Attribute → List ℕ → List ℕ → ℕ → Type 0
 Shown None found told places filled code = code ≡ 66
 Shown (Some n) None told places filled code = code ≡ 3
-Shown (Some n) (Some value) told places filled code =
-    (code ≡ 0) × (bytes : List ℕ) × IsValueMeant told.code told.number bytes value × HasNoMore told.number bytes value
-    × (told.length ≡ length bytes) × (filled ≡ over bytes places)
+Shown (Some n) (Some value) told places filled code = (code ≡ 0) × ShowsValue value told places filled
 
 -- A read of an attribute: the bytes are no name, and then nothing has happened; or what is there is shown.
 abbrev pub Reads : Sitting → Sitting → ℕ → List ℕ → Attribute → List ℕ → List ℕ → ℕ → Type 0

@@ -24,13 +24,14 @@ mod loose;
 mod owned;
 mod owned_query;
 mod places;
+mod reading;
 #[cfg(test)]
 mod tests;
 
 use asking::{find_prepared, put_text, refresh_prepared, tell, tell_text};
 use be_session::{
     Operation, PredicateItem, Session, name, operations, prepare, prepare_items, query_of,
-    query_of_items, spelled,
+    query_of_items,
 };
 use be_store::{ArrayVec, Limits};
 use handle::{Attribute, Counts, Handle, PreparedHandle, UpdateCounts};
@@ -38,14 +39,12 @@ use listing::{tell_attributes, tell_indices};
 use owned::Owned;
 use owned_query::OwnedQuery;
 use places::{put, put_nodes};
+use reading::read;
 use std::alloc::Global;
 use std::mem;
 
 /// The number that says that a call did what it should.
 const DONE: u32 = 0;
-
-/// No attribute of this name: the refusal's number.
-const NO_ATTRIBUTE: u32 = 3;
 
 const NO_MEMORY: u32 = 10;
 
@@ -358,23 +357,8 @@ pub extern "C" fn bes_get(
     if !pass.live {
         return CLOSED;
     }
-    let name = match name(name_bytes) {
-        Ok(name) => name,
-        Err(fault) => return fault.code(),
-    };
-    let answer = pass.owned.lent().get(node, &name);
-    match &answer {
-        Ok(Some(value)) => {
-            let (code, number, spelled) = spelled(value);
-            *attribute = Attribute {
-                code,
-                length: spelled.len() as u64,
-                number,
-            };
-            put(bytes, spelled);
-            DONE
-        }
-        Ok(None) => NO_ATTRIBUTE,
+    match &name(name_bytes) {
+        Ok(name) => read(pass.owned.lent(), node, name, attribute, bytes),
         Err(fault) => fault.code(),
     }
 }

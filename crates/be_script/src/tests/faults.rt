@@ -86,6 +86,22 @@ pub struct Narrow<'a> {
     pub is_as_expected: bool,
 }
 
+impl Narrow<'_> {
+    pub fn is_full(&self) -> bool {
+        self.room == 0
+    }
+
+    /// Whether it was given all that is expected.
+    pub fn has_all(&self) -> bool {
+        self.is_as_expected && self.expected.is_empty()
+    }
+
+    /// Whether it was given a front of what is expected, and not all.
+    pub fn is_cut_short(&self) -> bool {
+        self.is_as_expected && !self.expected.is_empty()
+    }
+}
+
 impl Write for Narrow<'_> {
     fn write(&mut self, buf: &[u8]) -> io::Result<usize> {
         let Some(byte) = buf.first() else {
@@ -121,12 +137,11 @@ fn fills(alloc: Global, room: usize, fails: bool) -> bool {
         is_as_expected: true,
     };
     let result = run(alloc, &mut SCRIPT.as_bytes(), &mut writer, LIMITS);
-    let ends = if room < replies.len() {
-        writer.room == 0 && matches!(result, Err(RunFault::Write))
+    if room < replies.len() {
+        writer.is_full() && writer.is_cut_short() && matches!(result, Err(RunFault::Write))
     } else {
-        writer.expected.is_empty() && result.is_ok()
-    };
-    ends && writer.is_as_expected
+        writer.has_all() && result.is_ok()
+    }
 }
 
 /// A writer that fails or takes nothing at each place: a front of the replies is written.

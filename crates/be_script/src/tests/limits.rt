@@ -1,9 +1,12 @@
 //! What there may be most of.
 use super::faults::dripped;
+use super::races::outcome_of;
+use super::talks::says;
 use super::{LIMITS, check, check_bytes};
-use crate::{Limits, RunFault, run};
+use crate::{Limits, OpenGate, RunFault, run};
 use std::alloc::{AllocError, AllocGlobal, Global};
 use std::process::Abort;
+use std::str;
 use std::test::Fail;
 
 /// Rows with a numbered one for each number from 1 to `count` between the first and the last.
@@ -75,6 +78,41 @@ fn too_many_attrs(rt: HostRuntime) -> Result<(), Fail> {
         ("set 1 a", " LONG 5 => ok"),
         last,
     )
+}
+
+/// A script that lists 64 attributes with the longest names and values, of which each LF is printed by two characters; and
+/// its replies, the last of them of 41,289 bytes.
+fn longest_list(alloc: Global) -> Result<(String, String), AllocError> {
+    let name = "\\n".repeat(alloc, 61)?;
+    let value = "\\n".repeat(alloc, 255)?;
+    let mut script = String::from_str(alloc, "new\n")?;
+    let mut replies = String::from_str(alloc, "node 1\n")?;
+    let mut list = String::from_str(alloc, "attrs 64\n")?;
+    for n in 10..74u64 {
+        let attribute = format!(in alloc; "\"{name}{n}\" CSTR \"{value}\"\n")?;
+        script.push_str("set 1 ")?;
+        script.push_str(attribute.as_str())?;
+        replies.push_str("ok\n")?;
+        list.push_str(attribute.as_str())?;
+    }
+    script.push_str("attrs 1\n")?;
+    replies.push_str(list.as_str())?;
+    Ok((script, replies))
+}
+
+/// A reply is written whole, however long it is: by a run, in a conversation, and among the replies of a race.
+#[test]
+fn longest_replies(rt: HostRuntime) -> Result<(), Fail> {
+    let alloc = rt.alloc();
+    let (script, replies) = match longest_list(alloc) {
+        Ok(texts) => texts,
+        Err(_) => longest_list(alloc)?,
+    };
+    check_bytes(&rt, script.as_bytes(), &replies, LIMITS.commits)?;
+    assert!(rt; says(alloc, b"", script.as_bytes(), &replies));
+    let written = outcome_of(&rt, alloc, &[script.as_str(), ""], &OpenGate)?;
+    assert!(rt; str::from_utf8(&written)?.contains(replies.as_str()));
+    Ok(())
 }
 
 /// There are 32 indices at most. An index of that name is told first, and its kind last.

@@ -160,7 +160,7 @@ fn said_to(alloc: Global, first: &[u8], bytes: &[u8]) -> Result<Vec<u8>, RunFaul
 }
 
 /// Whether a shell says this, asked again where memory was wanted.
-fn says(alloc: Global, first: &[u8], bytes: &[u8], replies: &str) -> bool {
+pub fn says(alloc: Global, first: &[u8], bytes: &[u8], replies: &str) -> bool {
     for _ in 0..2 {
         if let Ok(said) = said_to(alloc, first, bytes) {
             if said.as_slice() == replies.as_bytes() {

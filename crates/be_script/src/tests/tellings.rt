@@ -1,5 +1,6 @@
 //! Runs that tell their journal, and the script that makes the journal again.
 use super::LIMITS;
+use super::faults::Narrow;
 use crate::{Finding, Limits, RunFault, check, dump, journal_told, run_and_tell};
 use std::alloc::{AllocError, Global};
 use std::process::Abort;
@@ -57,6 +58,33 @@ fn journal_is_made_again(rt: HostRuntime) -> Result<(), Fail> {
     };
     assert_eq!(rt; dumped.as_str(), DUMPED);
     assert!(rt; tells(&rt, alloc, DUMPED, TOLD_AGAIN)? || tells(&rt, alloc, DUMPED, TOLD_AGAIN)?);
+    Ok(())
+}
+
+/// Whether a run that tells its journal writes as many bytes as there is room for, and then ends with `Write`; or with
+/// success, where there is room for all. It may say no where memory was wanted, which isn't told as `Write`.
+fn fills(alloc: Global, room: usize) -> Result<bool, RunFault> {
+    let mut writer = Narrow {
+        expected: TOLD.as_bytes(),
+        room,
+        fails: true,
+        is_as_expected: true,
+    };
+    match run_and_tell(alloc, &mut SCRIPT.as_bytes(), &mut writer, LIMITS) {
+        Ok(legal) => Ok(legal && writer.has_all()),
+        Err(RunFault::Write) if writer.is_full() => Ok(writer.is_cut_short()),
+        Err(RunFault::Memory) => Ok(false),
+        Err(fault) => Err(fault),
+    }
+}
+
+/// A writer that fails at each place: a front is written.
+#[test]
+fn failing_writer_of_a_telling(rt: HostRuntime) -> Result<(), Fail> {
+    let alloc = rt.alloc();
+    for room in 0..=TOLD.len() {
+        assert!(rt; fills(alloc, room)? || fills(alloc, room)?, "at {room}");
+    }
     Ok(())
 }
 

@@ -105,16 +105,26 @@ fn attribute_count(volume: &Volume) -> Result<usize, Refusal> {
     }
 }
 
-/// What the volume of the journal has: the next node's number, node 1's attributes, and its size where it has one.
-fn contents(alloc: Global, journal: &Journal) -> Result<String, Refusal> {
-    let volume = journal.replay()?;
-    let next = volume.next();
-    let count = attribute_count(&volume)?;
+/// Node 1's size where it has one.
+fn size_of(volume: &Volume) -> Result<Option<i32>, Refusal> {
     match volume.get(1, &Name::new("size")?) {
-        Some(Value::Long(size)) => Ok(format!(in alloc;
-            "next {next}, attributes {count}, size {size}"
-        )?),
-        _ => Ok(format!(in alloc; "next {next}, attributes {count}")?),
+        Some(Value::Long(size)) => Ok(Some(size)),
+        _ => Ok(None),
+    }
+}
+
+/// What the volume of the journal has: the next node's number, how many attributes node 1 has, and its size.
+fn replayed(journal: &Journal) -> Result<(u64, usize, Option<i32>), Refusal> {
+    let volume = journal.replay()?;
+    Ok((volume.next(), attribute_count(&volume)?, size_of(&volume)?))
+}
+
+/// The same as a text.
+fn contents(alloc: Global, journal: &Journal) -> Result<String, Refusal> {
+    let (next, count, size) = replayed(journal)?;
+    match size {
+        Some(size) => Ok(format!(in alloc; "next {next}, attributes {count}, size {size}")?),
+        None => Ok(format!(in alloc; "next {next}, attributes {count}")?),
     }
 }
 

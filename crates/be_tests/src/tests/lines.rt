@@ -1,6 +1,6 @@
 //! Requests and replies of tests, as text: a line `COMMAND TEXT => REPLY` each. What is refused is replied as it is printed.
 
-use super::{journal, pattern, query, value};
+use super::{journal, machine, pattern, query, tree, value};
 use be_testing::{Answers, check_lines};
 use be_value::{Refusal, word_of};
 use std::alloc::Global;
@@ -9,11 +9,6 @@ use std::test::Fail;
 /// The answer to a command.
 fn answer(alloc: Global, command: &str, text: &str) -> Result<String, Refusal> {
     match command {
-        "name" => value::is_name(alloc, text),
-        "text" => value::is_text(alloc, text),
-        "mime" => value::is_mime(alloc, text),
-        "raw" => value::is_raw(alloc, text),
-        "key" => value::key_length(alloc, text),
         "kind" => value::kind_numbered(alloc, text),
         "number" => value::number_spelt(alloc, text),
         "pattern" => pattern::canonical(alloc, text),
@@ -24,37 +19,51 @@ fn answer(alloc: Global, command: &str, text: &str) -> Result<String, Refusal> {
         "query" => query::printed_twice(alloc, text),
         "leaf" => query::leaf_matches(alloc, text),
         "right" => query::right_pattern(alloc, text),
-        "times" => query::printed_times(alloc, text),
-        "read" => query::read_times(alloc, text),
-        "build" => query::built_times(alloc, text),
-        "reread" => query::reread_times(alloc, text),
+        "feeds" => query::printed_with_feeds(alloc, text),
         "items" => query::printed_items(alloc, text),
         "comparison" => query::printed_comparison(alloc, text),
         "literal" => query::printed_literal(alloc, text),
         "journal" => journal::told(alloc, text),
         "ends" => journal::told_end(alloc, text),
-        _ => Err(Refusal::BadLimits),
+        "machine" => machine::is_opened(alloc, text),
+        "free" => tree::free_with(alloc, text),
+        "emptied" => tree::free_without(alloc, text),
+        _ => answer_long(alloc, command, repeated(alloc, text)?.as_str()),
     }
 }
 
-fn append(text: &mut String, piece: &str, count: usize) -> Result<(), Refusal> {
-    for i in 0..count {
-        let _ = i;
-        text.push_str(piece)?;
+/// The answer to a command on a text of pieces that are repeated.
+fn answer_long(alloc: Global, command: &str, text: &str) -> Result<String, Refusal> {
+    match command {
+        "name" => value::is_name(alloc, text),
+        "text" => value::is_text(alloc, text),
+        "mime" => value::is_mime(alloc, text),
+        "raw" => value::is_raw(alloc, text),
+        "key" => value::key_length(alloc, text),
+        "times" => query::printed(alloc, text),
+        "read" => query::is_read(alloc, text),
+        "build" => query::is_built(alloc, text),
+        "reread" => query::reread(alloc, text),
+        _ => Ok(String::from_str(alloc, "no command")?),
     }
-    Ok(())
+}
+
+/// The first of these words as a number, 0 where there is none, and the others.
+pub(crate) fn first_number(words: &str) -> (u64, &str) {
+    let (word, others) = words.split_once(" ").unwrap_or((words, ""));
+    (word_of(word.as_bytes()).unwrap_or(0), others)
 }
 
 /// The text of `COUNT FRONT;MIDDLE;BACK;END`: the front so many times, the middle, the back so many times, and the end.
-pub(crate) fn repeated(alloc: Global, request: &str) -> Result<String, Refusal> {
-    let (count, pieces) = request.split_once(" ").unwrap_or(("", request));
-    let count = word_of(count.as_bytes()).unwrap_or(0) as usize;
+fn repeated(alloc: Global, request: &str) -> Result<String, Refusal> {
+    let (count, pieces) = first_number(request);
+    let count = count as usize;
     let mut pieces = pieces.split(';');
-    let mut text = String::new(alloc);
-    append(&mut text, pieces.next().unwrap_or(""), count)?;
-    append(&mut text, pieces.next().unwrap_or(""), 1)?;
-    append(&mut text, pieces.next().unwrap_or(""), count)?;
-    append(&mut text, pieces.next().unwrap_or(""), 1)?;
+    let mut text = pieces.next().unwrap_or("").repeat(alloc, count)?;
+    text.push_str(pieces.next().unwrap_or(""))?;
+    let back = pieces.next().unwrap_or("").repeat(alloc, count)?;
+    text.push_str(back.as_str())?;
+    text.push_str(pieces.next().unwrap_or(""))?;
     Ok(text)
 }
 

@@ -4,8 +4,9 @@
 ghost use Rattle.std.specs.Prelude.{◌≡◌, IfOk};
 ghost use Rattle.be_core.specs.Shown.{page_count};
 
+use super::lines::{first_number, replies, yes_or_no};
 use be_core::{Event, State};
-use be_value::{Refusal, word_of};
+use be_value::Refusal;
 use std::alloc::Global;
 use std::test::Fail;
 
@@ -44,12 +45,6 @@ fn event_of(alloc: Global, word: &str, numbers: [u64; 4]) -> Result<Event, Refus
         "publish" => Ok(Event::Publish(pass, second, vec![in alloc; third]?)),
         _ => Ok(Event::Unlock(pass)),
     }
-}
-
-/// The first of these words as a number, 0 where there is none, and the others.
-fn first_number(words: &str) -> (u64, &str) {
-    let (word, others) = words.split_once(" ").unwrap_or((words, ""));
-    (word_of(word.as_bytes()).unwrap_or(0), others)
 }
 
 /// The event of a line of words.
@@ -118,31 +113,24 @@ fill 0 0 0 5";
     Ok(())
 }
 
-/// Whether a machine of these pages, passes and commits is refused for its limits.
-fn has_bad_limits(alloc: Global, line: &str) -> bool {
+/// Whether a machine is made of these pages, passes and commits.
+pub(crate) fn is_opened(alloc: Global, line: &str) -> Result<String, Refusal> {
     let (pages, numbers) = first_number(line);
     let (passes, numbers) = first_number(numbers);
     let (commits, _) = first_number(numbers);
-    matches!(
-        machine(alloc, pages, passes, commits),
-        Err(Refusal::BadLimits)
-    )
+    let _state = machine(alloc, pages, passes, commits)?;
+    yes_or_no(alloc, true)
 }
 
 #[test]
 fn limits(rt: HostRuntime) -> Result<(), Fail> {
-    let alloc = rt.alloc();
-    let outside = "0 2 10
-16385 2 10
-3 0 10
-3 65 10
-3 2 0
-3 2 4294967296";
-    for line in outside.lines() {
-        assert!(rt; has_bad_limits(alloc, line), "{line}");
-    }
-    for (pages, passes, commits) in [(1, 1, 1), (16_384, 64, 4_294_967_295)] {
-        assert!(rt; machine(alloc, pages, passes, commits).is_ok());
-    }
-    Ok(())
+    let lines = "machine 0 2 10 => refused 21 BadLimits
+machine 16385 2 10 => refused 21 BadLimits
+machine 3 0 10 => refused 21 BadLimits
+machine 3 65 10 => refused 21 BadLimits
+machine 3 2 0 => refused 21 BadLimits
+machine 3 2 4294967296 => refused 21 BadLimits
+machine 1 1 1 => yes
+machine 16384 64 4294967295 => yes";
+    replies(rt.alloc(), lines)
 }

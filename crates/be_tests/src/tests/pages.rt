@@ -67,13 +67,3 @@ fn page_given_up(rt: HostRuntime) -> Result<(), Fail> {
     assert!(rt; matches!(take_again(rt.alloc())?, (8, true)));
     Ok(())
 }
-
-#[test]
-fn limits(rt: HostRuntime) -> Result<(), Fail> {
-    for pages in [0, 7, 16385] {
-        assert!(rt; matches!(VecRoom::new(rt.alloc(), pages), Err(Refusal::BadLimits)));
-    }
-    let room = room_of(rt.alloc(), 16384)?;
-    assert_eq!(rt; room.free(), 16384);
-    Ok(())
-}

@@ -1,15 +1,20 @@
 //! Worked examples of queries and predicates.
 
-use super::lines::{repeated, replies, yes_or_no};
+use super::lines::{replies, yes_or_no};
 use be_query::{Comparison, Item, Literal, Query, Tree, from_rpn, parse, print, print_comparison};
 use be_value::{Name, Refusal, number_of};
 use std::alloc::Global;
 use std::test::Fail;
 
+/// The canonical text of a text's query.
+pub(crate) fn printed(alloc: Global, text: &str) -> Result<String, Refusal> {
+    print(alloc, &parse(alloc, text)?)
+}
+
 /// The canonical text of a text's query, which spells the same query.
 pub(crate) fn printed_twice(alloc: Global, text: &str) -> Result<String, Refusal> {
-    let once = print(alloc, &parse(alloc, text)?)?;
-    let twice = print(alloc, &parse(alloc, once.as_str())?)?;
+    let once = printed(alloc, text)?;
+    let twice = printed(alloc, once.as_str())?;
     if twice.as_str() == once.as_str() {
         Ok(once)
     } else {
@@ -52,16 +57,14 @@ pub(crate) fn leaf_matches(alloc: Global, request: &str) -> Result<String, Refus
     }
 }
 
-/// The canonical text of a query of pieces that are repeated.
-pub(crate) fn printed_times(alloc: Global, request: &str) -> Result<String, Refusal> {
-    let text = repeated(alloc, request)?;
-    print(alloc, &parse(alloc, text.as_str())?)
+/// The same of a text in which a `|` stands for each line feed.
+pub(crate) fn printed_with_feeds(alloc: Global, text: &str) -> Result<String, Refusal> {
+    printed_twice(alloc, text.replace(alloc, "|", "\n")?.as_str())
 }
 
-/// Whether such a query is read.
-pub(crate) fn read_times(alloc: Global, request: &str) -> Result<String, Refusal> {
-    let text = repeated(alloc, request)?;
-    let _query = parse(alloc, text.as_str())?;
+/// Whether a query is read.
+pub(crate) fn is_read(alloc: Global, text: &str) -> Result<String, Refusal> {
+    let _query = parse(alloc, text)?;
     yes_or_no(alloc, true)
 }
 
@@ -170,12 +173,7 @@ right a==\"*\" && b==y => y";
 /// A line feed separates tokens too.
 #[test]
 fn line_feeds(rt: HostRuntime) -> Result<(), Fail> {
-    let printed = match printed_twice(rt.alloc(), "\ta\n!=\r\"\" ") {
-        Err(Refusal::OutOfMemory) => printed_twice(rt.alloc(), "\ta\n!=\r\"\" ")?,
-        answer => answer?,
-    };
-    assert_eq!(rt; printed.as_str(), "\"a\"!=\"\"");
-    Ok(())
+    replies(rt.alloc(), "feeds \ta|!=\r\"\"  => \"a\"!=\"\"")
 }
 
 /// Example `patterns`, where it compares with patterns.
@@ -267,18 +265,15 @@ pub(crate) fn printed_literal(alloc: Global, line: &str) -> Result<String, Refus
     pattern_of(alloc, leaf(query.tree())?)
 }
 
-/// Whether the items of a line of pieces that are repeated build a query.
-pub(crate) fn built_times(alloc: Global, request: &str) -> Result<String, Refusal> {
-    let line = repeated(alloc, request)?;
-    let _query = built(alloc, line.as_str())?;
+/// Whether the items of a line build a query.
+pub(crate) fn is_built(alloc: Global, line: &str) -> Result<String, Refusal> {
+    let _query = built(alloc, line)?;
     yes_or_no(alloc, true)
 }
 
-/// The canonical text of what such items build, read back.
-pub(crate) fn reread_times(alloc: Global, request: &str) -> Result<String, Refusal> {
-    let line = repeated(alloc, request)?;
-    let text = print(alloc, &built(alloc, line.as_str())?)?;
-    print(alloc, &parse(alloc, text.as_str())?)
+/// The canonical text of what the items of a line build, read back.
+pub(crate) fn reread(alloc: Global, line: &str) -> Result<String, Refusal> {
+    printed(alloc, printed_items(alloc, line)?.as_str())
 }
 
 /// Examples `predicates` and `unsigned_keys`, and each reading of a predicate that is built. The one comparison of a query has

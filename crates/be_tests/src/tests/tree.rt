@@ -6,9 +6,11 @@ ghost use Rattle.be_tree.specs.Forest.{IsWriteStart};
 ghost use Rattle.be_tree.specs.Tree.{IsTree};
 
 use super::counting_look::{finds, ranges, room_of};
+use super::lines::{first_number, replies};
 use be_pages::{Look, VecRoom};
 use be_tree::{Cursor, insert, remove};
 use be_value::Refusal;
+use std::alloc::Global;
 use std::test::Fail;
 
 /// Inserts a number's key and keeps the write, or undoes a write that is refused.
@@ -31,16 +33,16 @@ fn put_number(room: &mut VecRoom, root: u64, i: u64) -> Result<u64, Refusal>
     }
 }
 
-/// Inserts the numbers from one up to another in order, each write kept. Gives the root, and the first number that was
-/// refused, or the last one's next.
-fn put_numbers(room: &mut VecRoom, root: u64, from: u64, to: u64) -> (u64, u64)
+/// Inserts the numbers below another in order, each write kept. Gives the root, and the first number that was refused, or
+/// the last one's next.
+fn put_numbers(room: &mut VecRoom, root: u64, to: u64) -> (u64, u64)
     requires tree { IsTree (⟦<VecRoom as Look>⟧.standing room.old) (⟦<VecRoom as Look>⟧.words room.old) root }
     requires start { IsWriteStart (⟦<VecRoom as Look>⟧.standing room.old) }
     ensures tree { IsTree (⟦<VecRoom as Look>⟧.standing room.new) (⟦<VecRoom as Look>⟧.words room.new) result.0 }
     ensures start { IsWriteStart (⟦<VecRoom as Look>⟧.standing room.new) }
 {
     let mut root = root;
-    for i in from..to {
+    for i in 0..to {
         match put_number(room, root, i) {
             Ok(new) => root = new,
             Err(_) => return (root, i),
@@ -62,29 +64,58 @@ fn take_numbers(room: &mut VecRoom, root: u64, to: u64) -> Result<u64, Refusal>
     Ok(root)
 }
 
-/// Twelve pairs stand in one page; the thirteenth makes two leaves and an inner page.
+/// How many of so many pages are free once the numbers below a count are inserted, if they are met in order then.
+pub(crate) fn free_with(alloc: Global, line: &str) -> Result<String, Refusal> {
+    let (pages, numbers) = first_number(line);
+    let (count, _) = first_number(numbers);
+    let mut room = room_of(alloc, pages)?;
+    let (root, accepted) = put_numbers(&mut room, 0, count);
+    if accepted != count || !ranges(&mut room, root, count) {
+        return Err(Refusal::Full(accepted));
+    }
+    let free = room.free();
+    Ok(format!(in alloc; "{free}")?)
+}
+
+/// The root, and how many of so many pages are free, once the numbers below a count are inserted and taken out again.
+pub(crate) fn free_without(alloc: Global, line: &str) -> Result<String, Refusal> {
+    let (pages, numbers) = first_number(line);
+    let (count, _) = first_number(numbers);
+    let mut room = room_of(alloc, pages)?;
+    let (root, accepted) = put_numbers(&mut room, 0, count);
+    let root = take_numbers(&mut room, root, accepted)?;
+    let free = room.free();
+    Ok(format!(in alloc; "{accepted} taken, root {root}, {free} free")?)
+}
+
+/// Twelve pairs stand in one page; the thirteenth makes two leaves and an inner page. Rising keys fill their pages: 600 pairs
+/// take 50 leaves of 12, five pages above them and the root.
 #[test]
 fn tree_pages(rt: HostRuntime) -> Result<(), Fail> {
-    let mut room = room_of(rt.alloc(), 16)?;
-    let (root, _) = put_numbers(&mut room, 0, 0, 1);
-    assert_eq!(rt; room.free(), 15);
-    let (root, _) = put_numbers(&mut room, root, 1, 12);
-    assert_eq!(rt; room.free(), 15);
-    let (root, _) = put_numbers(&mut room, root, 12, 13);
-    assert_eq!(rt; room.free(), 13);
-    let root = take_numbers(&mut room, root, 13)?;
-    assert_eq!(rt; root, 0);
-    assert_eq!(rt; room.free(), 16);
-    Ok(())
+    let lines = "free 16 1 => 15
+free 16 12 => 15
+free 16 13 => 13
+free 128 600 => 72
+emptied 16 13 => 13 taken, root 0, 16 free";
+    replies(rt.alloc(), lines)
+}
+
+/// The limits of a room.
+#[test]
+fn limits(rt: HostRuntime) -> Result<(), Fail> {
+    let lines = "free 0 0 => refused 21 BadLimits
+free 7 0 => refused 21 BadLimits
+free 16385 0 => refused 21 BadLimits
+free 16384 0 => 16384";
+    replies(rt.alloc(), lines)
 }
 
 /// In a room of eight pages at least 20 rising keys are accepted and at most 60. The next one is refused, and its write
 /// undone: the pairs before it stand.
 #[test]
 fn full_tree(rt: HostRuntime) -> Result<(), Fail> {
-    assert!(rt; matches!(VecRoom::new(rt.alloc(), 7), Err(Refusal::BadLimits)));
     let mut room = room_of(rt.alloc(), 8)?;
-    let (root, accepted) = put_numbers(&mut room, 0, 0, 61);
+    let (root, accepted) = put_numbers(&mut room, 0, 61);
     assert!(rt; accepted >= 20 && accepted < 61);
     assert_eq!(rt;
         put_number(&mut room, root, accepted),
@@ -95,20 +126,11 @@ fn full_tree(rt: HostRuntime) -> Result<(), Fail> {
     Ok(())
 }
 
-/// Rising keys fill their pages: 600 pairs take 50 leaves of 12, five pages above them and the root.
-#[test]
-fn rising_keys_fill_pages(rt: HostRuntime) -> Result<(), Fail> {
-    let mut room = room_of(rt.alloc(), 128)?;
-    let (root, accepted) = put_numbers(&mut room, 0, 0, 600);
-    assert_eq!(rt; accepted, 600);
-    assert_eq!(rt; room.free(), 128 - 56);
-    assert!(rt; ranges(&mut room, root, 600));
-    Ok(())
-}
-
 /// The key of the text `x` of a node in an index.
 fn value_key(node: u8) -> [u8; 10] {
-    [b'x', 0, 0, 0, 0, 0, 0, 0, 0, node]
+    let mut key = *b"x\0\0\0\0\0\0\0\0\0";
+    key[9] = node;
+    key
 }
 
 /// Inserts the keys of nodes, and gives the root.

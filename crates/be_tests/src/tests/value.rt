@@ -1,6 +1,6 @@
 //! Vectors from outside: keys as bytes, numbers as texts, and the limits of names and values.
 
-use super::lines::{repeated, replies, yes_or_no};
+use super::lines::{replies, yes_or_no};
 use arrayvec::ArrayVec;
 use be_value::{Kind, Name, Refusal, Value, key_of, node_of, number_of, read_key};
 use std::alloc::Global;
@@ -36,35 +36,34 @@ fn is_key(bytes: &[u8], value: &Value, node: u64) -> bool {
 
 #[test]
 fn keys_are_these_bytes(rt: HostRuntime) -> Result<(), Fail> {
-    let five = [0x80, 0, 0, 5, 0, 0, 0, 0, 0, 0, 0, 1];
-    assert!(rt; is_key(&five, &Value::int32(5), 1));
-    let minus_one = [0x7f, 0xff, 0xff, 0xff, 0, 0, 0, 0, 0, 0, 0, 2];
-    assert!(rt; is_key(&minus_one, &Value::int32(-1), 2));
-    let largest = [0xff, 0xff, 0xff, 0xff, 0, 0, 0, 0, 0, 0, 0, 1];
-    assert!(rt; is_key(&largest, &Value::uint32(4_294_967_295), 1));
-    let text = [0x61, 0x62, 0, 0, 0, 0, 0, 0, 0, 0, 2];
-    assert!(rt; is_key(&text, &Value::text("ab")?, 2));
+    let five = b"\x80\0\0\x05\0\0\0\0\0\0\0\x01";
+    assert!(rt; is_key(five, &Value::int32(5), 1));
+    let minus_one = b"\x7f\xff\xff\xff\0\0\0\0\0\0\0\x02";
+    assert!(rt; is_key(minus_one, &Value::int32(-1), 2));
+    let largest = b"\xff\xff\xff\xff\0\0\0\0\0\0\0\x01";
+    assert!(rt; is_key(largest, &Value::uint32(4_294_967_295), 1));
+    let text = b"ab\0\0\0\0\0\0\0\0\x02";
+    assert!(rt; is_key(text, &Value::text("ab")?, 2));
     Ok(())
 }
 
-fn starts_key(front: [u8; 8], value: &Value) -> bool {
-    key_bytes(value, 1).as_slice().starts_with(&front)
+fn starts_key(front: &[u8], value: &Value) -> bool {
+    key_bytes(value, 1).as_slice().starts_with(front)
 }
 
 /// Numbers of 64 bits, from the least one.
 #[test]
 fn wide_keys_are_these_bytes(rt: HostRuntime) {
-    assert!(rt; starts_key([0, 0, 0, 0, 0, 0, 0, 0], &Value::int64(i64::MIN)));
-    let minus_one = [0x7f, 0xff, 0xff, 0xff, 0xff, 0xff, 0xff, 0xff];
+    assert!(rt; starts_key(b"\0\0\0\0\0\0\0\0", &Value::int64(i64::MIN)));
+    let minus_one = b"\x7f\xff\xff\xff\xff\xff\xff\xff";
     assert!(rt; starts_key(minus_one, &Value::int64(-1)));
-    assert!(rt; starts_key([0x80, 0, 0, 0, 0, 0, 0, 5], &Value::int64(5)));
-    assert!(rt; starts_key([0, 0, 0, 0, 0, 0, 0, 5], &Value::uint64(5)));
+    assert!(rt; starts_key(b"\x80\0\0\0\0\0\0\x05", &Value::int64(5)));
+    assert!(rt; starts_key(b"\0\0\0\0\0\0\0\x05", &Value::uint64(5)));
 }
 
 /// How many bytes the key of a long text has.
-pub(crate) fn key_length(alloc: Global, request: &str) -> Result<String, Refusal> {
-    let value = Value::text(repeated(alloc, request)?.as_str())?;
-    let length = key_bytes(&value, 1).len();
+pub(crate) fn key_length(alloc: Global, text: &str) -> Result<String, Refusal> {
+    let length = key_bytes(&Value::text(text)?, 1).len();
     Ok(format!(in alloc; "{length}")?)
 }
 
@@ -102,31 +101,26 @@ number abc => no";
     replies(rt.alloc(), lines)
 }
 
-/// Whether a name is made of a text of pieces that are repeated, and is that text.
-pub(crate) fn is_name(alloc: Global, request: &str) -> Result<String, Refusal> {
-    let text = repeated(alloc, request)?;
-    let name = Name::new(text.as_str())?;
-    yes_or_no(alloc, name.as_str() == text.as_str())
+/// Whether a name is made of a text, and is that text.
+pub(crate) fn is_name(alloc: Global, text: &str) -> Result<String, Refusal> {
+    yes_or_no(alloc, Name::new(text)?.as_str() == text)
 }
 
-/// Whether such a text is a value.
-pub(crate) fn is_text(alloc: Global, request: &str) -> Result<String, Refusal> {
-    let text = repeated(alloc, request)?;
-    match Value::text(text.as_str())? {
-        Value::Cstr(made) => yes_or_no(alloc, made.as_str() == text.as_str()),
+/// Whether a text is a value.
+pub(crate) fn is_text(alloc: Global, text: &str) -> Result<String, Refusal> {
+    match Value::text(text)? {
+        Value::Cstr(made) => yes_or_no(alloc, made.as_str() == text),
         _ => yes_or_no(alloc, false),
     }
 }
 
-pub(crate) fn is_mime(alloc: Global, request: &str) -> Result<String, Refusal> {
-    let made = Value::mime(repeated(alloc, request)?.as_str())?;
-    yes_or_no(alloc, made.kind() == Kind::Mims)
+pub(crate) fn is_mime(alloc: Global, text: &str) -> Result<String, Refusal> {
+    yes_or_no(alloc, Value::mime(text)?.kind() == Kind::Mims)
 }
 
-/// Whether the bytes of such a text are a raw value.
-pub(crate) fn is_raw(alloc: Global, request: &str) -> Result<String, Refusal> {
-    let made = Value::raw(repeated(alloc, request)?.as_bytes())?;
-    yes_or_no(alloc, made.kind() == Kind::Rawt)
+/// Whether the bytes of a text are a raw value.
+pub(crate) fn is_raw(alloc: Global, text: &str) -> Result<String, Refusal> {
+    yes_or_no(alloc, Value::raw(text.as_bytes())?.kind() == Kind::Rawt)
 }
 
 /// The kind of a number: its letters, and whether an index takes it.

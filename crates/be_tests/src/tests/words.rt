@@ -29,8 +29,8 @@ fn first_words<L: Look>(look: &mut L, root: u64) -> [u64; 6]
 #[test]
 fn words_of_an_attribute(rt: HostRuntime) -> Result<(), Fail> {
     let mut room = room_of(rt.alloc(), 8)?;
-    let key = [0, 0, 0, 0, 0, 0, 0, 1, b's', b'i', b'z', b'e'];
-    let root = insert(&mut room, 0, &key, &[2, 0, 0, 0, 5])?;
+    let key = b"\0\0\0\0\0\0\0\x01size";
+    let root = insert(&mut room, 0, key, b"\x02\0\0\0\x05")?;
     let words = first_words(&mut room, root);
     let expected = [
         0,

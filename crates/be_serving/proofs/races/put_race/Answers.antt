@@ -1,8 +1,8 @@
 use Rattle.std.proofs.Common.{[], ◌++◌, map, refl, sym, ap, append-nil}
 use Rattle.be_journal.specs.Text.{result_text}
 use Rattle.be_serving.specs.Race.{replies_text}
-use Rattle.be_serving.proofs.RaceLemmas.{next_in_part, on_both}
-use Rattle.be_serving.proofs.RunLemmas.{always_err, none_written, on_err, written_both}
+use Rattle.be_serving.proofs.RaceLemmas.{all_texts, next_in_part, on_both}
+use Rattle.be_serving.proofs.RunLemmas.{always_err, each_err, none_written, on_err, on_memory, passed_up, written_both}
 use Rattle.be_serving.proofs.races.put_race.Goals as goal
 
 pub returns-in_err-put_replies-clause-err : goal.returns-in_err-put_replies-clause-err
@@ -29,3 +29,14 @@ returns-clause-err g c =
     let result = result_text c.args.journal.now.entries in
     on_err c.put_result.result (next_in_part (holds c.args.writer.now) (holds c.put_replies.new.writer) (holds c.put_result.new.writer) replies result [] (replies ++ result)
     (ap (λ l. replies ++ l) (sym (append-nil result))) c.in_ok-put_replies.ensures.ok) c.put_result.ensures.err
+
+pub returns-in_err-put_replies-clause-whole : goal.returns-in_err-put_replies-clause-whole
+returns-in_err-put_replies-clause-whole g c =
+    passed_up c.from_residual.result c.in_err-put_replies.field-0.0 _ c.from_residual.ensures.1 c.in_err-put_replies.ensures.whole
+
+pub returns-clause-whole : goal.returns-clause-whole
+returns-clause-whole g c =
+    let holds = g.W.Write.contents in
+    let replies = map (λ t. t.items) c.args.replies.now in
+    each_err c.put_result.result (λ e. on_memory e
+    (all_texts replies (holds c.args.writer.now) (holds c.put_replies.new.writer) (holds c.put_result.new.writer) c.in_ok-put_replies.ensures.ok)) c.put_result.ensures.whole

@@ -1,5 +1,5 @@
 use Rattle.std.proofs.Common.{◌∙◌}
-use Rattle.be_serving.proofs.RaceLemmas.{line_in_part, replies_all, replies_before, replies_more, text_in_part}
+use Rattle.be_serving.proofs.RaceLemmas.{line_in_part, replies_all, replies_before, replies_more, replies_whole, text_in_part}
 use Rattle.be_serving.proofs.RunLemmas.{always_err}
 use Rattle.be_serving.proofs.races.put_replies.Goals as goal
 
@@ -7,6 +7,11 @@ pub returns-in_default-clause-err : goal.returns-in_default-clause-err
 returns-in_default-clause-err g c =
     let holds = g.W.Write.contents in
     replies_before (λ t. t.items) c.args.replies.now c.loop-pass.pass (holds c.args.writer.now) (holds c.loop-pass.writer) c.loop-pass.invariant
+
+pub returns-in_default-clause-whole : goal.returns-in_default-clause-whole
+returns-in_default-clause-whole g c is =
+    let holds = g.W.Write.contents in
+    replies_whole (λ t. t.items) c.args.replies.now c.loop-pass.pass (holds c.args.writer.now) (holds c.loop-pass.writer) c.loop-pass.invariant
 
 pub returns-in_err-put-clause-err : goal.returns-in_err-put-clause-err
 returns-in_err-put-clause-err g c =

@@ -1,13 +1,13 @@
 use Rattle.std.proofs.Common.{◌≡◌, ◌++◌, map, refl, rules, sym, subst}
-use Rattle.std.specs.Prelude.{Err, OnErr}
+use Rattle.std.specs.Prelude.{Err, IfErr, OnErr}
 use Rattle.std.specs.Io.KnownBytes.{Appends}
 use Rattle.be_journal.specs.Text.{result_text}
-use Rattle.be_serving.specs.Race.{RaceLeaves, replies_text}
+use Rattle.be_serving.specs.Race.{AreFirstTexts, RaceLeaves, replies_text}
 use Rattle.be_serving.specs.Run.{IsFrontOf, IsLate, Wrote}
 use Rattle.be_serving.specs.declared.faults.RunFault.TheVariants.{Limits, TooLong, Memory}
 use Rattle.be_serving.proofs.LimitLemmas.{late_stops, no_fault, not_by}
-use Rattle.be_serving.proofs.RaceLemmas.{nothing_raced, on_both, raced_in_part}
-use Rattle.be_serving.proofs.RunLemmas.{always_ok, on_err}
+use Rattle.be_serving.proofs.RaceLemmas.{nothing_raced, on_both, raced_in_part, raced_to_pass}
+use Rattle.be_serving.proofs.RunLemmas.{always_ok, each_err, on_err, on_memory}
 use Rattle.be_serving.proofs.races.race.Goals as goal
 
 pub returns-then-not-are_within-clause-limits : goal.returns-then-not-are_within-clause-limits
@@ -50,7 +50,7 @@ returns-in-Ok-clause-ok g c =
       record {
         out = replies_text 0 (map (λ t. t.items) c.in-Ok.replies.items) ++ result;
         appended = subst (λ ts. Appends old new (replies_text 0 (map (λ t. t.items) ts) ++ result)) c.deref-in-Ok.ensures.value is.1;
-        is = c.in-Ok.ensures.raced;
+        is = c.in-Ok.ensures.raced.0;
       },
     ))
 
@@ -60,9 +60,13 @@ returns-in-Ok-clause-fault g c =
     let new = g.W.Write.contents c.put_race.new.writer in
     let result = result_text c.in-Ok.journal.entries in
     let scripts = map (λ s. s.items) c.args.scripts.items in
+    let replies = map (λ t. t.items) c.in-Ok.replies.items in
+    let race = c.in-Ok.ensures.raced.0 in
     late_stops c.put_race.result c.args.limits scripts old new c.put_race.ensures.late
-    (on_err c.put_race.result (raced_in_part c.args.limits scripts (replies_text 0 (map (λ t. t.items) c.in-Ok.replies.items) ++ result) old new c.in-Ok.ensures.raced)
+    (on_err c.put_race.result (raced_in_part c.args.limits scripts (replies_text 0 replies ++ result) old new race)
     (subst (λ ts. OnErr c.put_race.result (Wrote old new (IsFrontOf (replies_text 0 (map (λ t. t.items) ts) ++ result)))) c.deref-in-Ok.ensures.value c.put_race.ensures.err))
+    (each_err c.put_race.result (λ e. on_memory e (raced_to_pass c.args.limits scripts replies (replies_text 0 replies ++ result) old new race c.in-Ok.ensures.raced.1))
+    (subst (λ ts. IfErr c.put_race.result (λ e. e ≡ Memory → Wrote old new (AreFirstTexts (map (λ t. t.items) ts)))) c.deref-in-Ok.ensures.value c.put_race.ensures.whole))
 
 pub returns-in-Err-clause-fault : goal.returns-in-Err-clause-fault
 returns-in-Err-clause-fault g c =

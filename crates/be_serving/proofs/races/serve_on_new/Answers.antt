@@ -29,15 +29,17 @@ returns-clause-raced g c =
     let limit : c.in-Ok.store.limits.passes ≡ c.args.limits.passes = ap (λ l. l.passes) c.in-Ok.ensures.0 in
     let passes : c.in-Ok.store.limits.passes ≡ length scripts = omega (arith, count, limit, c.requires, c.args.scripts.ok.0) in
     let journal = c.close.result.entries in
-    let replies = map (λ s. s.items) c.in_ok-passes.replies.items in
-    record {
-      replies = replies;
-      journal = journal;
-      is = refl;
-      replied = subst (λ l. HaveReplied l journal 0 scripts replies) c.in-Ok.ensures.0 (c.in_ok-passes.ensures.replied journal c.close.ensures.passes);
-      legal = c.close.ensures.legal;
-      by = subst (λ n. AreOfPasses n journal) passes c.close.ensures.by;
-      own = λ k below. subst (λ n. IsPartOf (operations (by_pass n journal)) (write_ops (slice_index_or scripts k []))) (zero-add k)
-          (own_of c.in-Ok.store 0 scripts c.in_ok-passes.passes.items journal c.in_ok-passes.ensures.served c.close.ensures.passes k below);
-      volumes = subst (λ (l : Limits). CanSpellEach l.pages journal) c.in-Ok.ensures.0 c.close.ensures.volumes;
-    }
+    let replies = map (λ s. s.items) c.in_ok-passes.replies.items in (
+      record {
+        replies = replies;
+        journal = journal;
+        is = refl;
+        replied = subst (λ l. HaveReplied l journal 0 scripts replies) c.in-Ok.ensures.0 (c.in_ok-passes.ensures.replied journal c.close.ensures.passes);
+        legal = c.close.ensures.legal;
+        by = subst (λ n. AreOfPasses n journal) passes c.close.ensures.by;
+        own = λ k below. subst (λ n. IsPartOf (operations (by_pass n journal)) (write_ops (slice_index_or scripts k []))) (zero-add k)
+            (own_of c.in-Ok.store 0 scripts c.in_ok-passes.passes.items journal c.in_ok-passes.ensures.served c.close.ensures.passes k below);
+        volumes = subst (λ (l : Limits). CanSpellEach l.pages journal) c.in-Ok.ensures.0 c.close.ensures.volumes;
+      },
+      refl,
+    )

@@ -1,8 +1,9 @@
 use Rattle.std.proofs.Common.{List, ℕ, refl, rules, subst, arith}
-use Rattle.std.specs.Prelude.{Err, IfOk, OnErr, ◌≡◌, true}
-use Rattle.be_serving.specs.Run.{Wrote, IsEarly, IsLate}
+use Rattle.std.specs.Prelude.{Err, IfErr, IfOk, OnErr, ◌≡◌, true}
+use Rattle.be_serving.specs.Run.{AreFirstReplies, Wrote, IsEarly, IsLate}
+use Rattle.be_serving.specs.Store.{start}
 use Rattle.be_serving.specs.Telling.{IsToldInPart, IsToldRun}
-use Rattle.be_serving.specs.declared.faults.RunFault.TheVariants.{Limits}
+use Rattle.be_serving.specs.declared.faults.RunFault.TheVariants.{Limits, Memory}
 use Rattle.be_serving.proofs.LimitLemmas.{no_fault, not_by}
 use Rattle.be_serving.proofs.ReadLemmas.{none_read, read_by, read_late, whole_fits}
 use Rattle.be_serving.proofs.TellLemmas.{told_of_reader, stops_early, stops_late}
@@ -44,6 +45,8 @@ returns-in-Ok-clause-fault g c =
     stops_late c.run_on_new.result c.args.limits (g.R.Read.remaining c.args.reader.now) (g.R.Read.remaining c.read_script.new.reader) old new c.in-Ok.script.items
     c.run_on_new.ensures.late c.in-Ok.ensures.ok
     (subst (λ (script : List ℕ). OnErr c.run_on_new.result (Wrote old new (IsToldInPart c.args.limits script))) c.deref.ensures.value c.run_on_new.ensures.err)
+    (subst (λ (script : List ℕ). IfErr c.run_on_new.result (λ e. e ≡ Memory → Wrote old new (AreFirstReplies (start c.args.limits.commits) script)))
+    c.deref.ensures.value c.run_on_new.ensures.whole)
 
 pub returns-in-Err-clause-fault : goal.returns-in-Err-clause-fault
 returns-in-Err-clause-fault g c =

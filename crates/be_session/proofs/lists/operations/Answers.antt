@@ -1,4 +1,4 @@
-use Rattle.std.proofs.Common.{◌≡◌, ◌≤◌, ◌+◌, ap, inl, length, subst, sym, take, ◌∙◌}
+use Rattle.std.proofs.Common.{◌≤◌, ◌+◌, ap, inl, length, subst, sym, take, ◌∙◌}
 use Rattle.std.proofs.lemmas.List.{take_more}
 use Rattle.be_session.specs.Operations.{AreMeant}
 use Rattle.be_session.proofs.Meant.{meant_next}

@@ -7,7 +7,7 @@ pub loop-name-preserved : goal.loop-name-preserved
 loop-name-preserved c =
     listed_next (sets c.args.node) c.args.list.now c.loop-name.name-index _ c.loop-name.operations.items c.push.new.self.items c.in_ok-operation.operation
     c.loop-name.bytes.items
-    c.in_ok-operation.ensures.more.0 c.spell_attribute.new.bytes.items c.loop-name-test.true c.loop-name.invariant c.in_ok-operation.ensures.more.1
+    c.spell_attribute.new.bytes.items c.loop-name-test.true c.loop-name.invariant c.in_ok-operation.ensures.more
     c.in_ok-operation.ensures.meant.0 (subst (λ a. IsMeantBy c.in_ok-operation.operation c.spell_attribute.new.bytes.items ((sets c.args.node) a))
     c.loop-name-item.is c.in_ok-operation.ensures.meant.1)
     c.in_ok-push.ensures.items

@@ -10,3 +10,6 @@ returns-clause-answer c =
     (λ r p. published_from c.args.writing.now c.scan_early.new.writing c.write_current.new.writing.knows c.args.ops.now r c.write_current.new.dones.items c.scan_early.ensures.kept p)
     (λ e p. held_back_from c.args.writing.now c.scan_early.new.writing c.write_current.new.writing.knows c.args.ops.now e c.scan_early.ensures.kept p)
     c.write_current.ensures.answer
+
+pub returns-clause-early : goal.returns-clause-early
+returns-clause-early c = (c.scan_early.new.writing, c.scan_early.ensures.early, c.write_current.ensures.answer)

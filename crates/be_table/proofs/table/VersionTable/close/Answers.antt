@@ -10,13 +10,13 @@ unreachable-requires c =
     let e = ends c.self.inside.table.shared.key c.gather.new.rest.id c.gather.new.rest.me.0 _ _ g.idle (λ k lt. g.all k (c.requires.all k (subst (λ t. k < t.limits.passes) c.self.view_is lt))) c.close_with-closed.ensures.values.2 in
     c.in_default.not-Some e.0 (some-injective _ _ (sym c.take-slot.ensures.value ∙ e.1))
 
-closed : (c : goal.After-into_journal) → Closes c.args.self.limits (map knows_of c.args.seats.items) c.into_journal.result.entries
+closed : (c : goal.After-into_journal) → Closes c.args.self.limits (map knows_of c.args.seats.items) c.into_journal.result
 closed c =
     let g = c.gather.ensures.passes in
     let limits = ap (λ t. t.limits) c.self.view_is in
-    subst (λ l. Closes l (map knows_of c.args.seats.items) c.into_journal.result.entries) limits
-    (closes c.self.inside.table.shared.key (map knows_of c.args.seats.items) c.gather.new.rest.id c.gather.new.rest.me.0 _ _ c.in-Some.ledger c.into_journal.result.entries g
-    (λ k lt. c.requires.all k (subst (λ l. k < l.passes) limits lt)) c.close_with-closed.ensures.values.2 (c.take-slot.ensures.value ∙ ap some c.in-Some.is) (ap (λ j. j.entries) c.into_journal.ensures))
+    subst (λ l. Closes l (map knows_of c.args.seats.items) c.into_journal.result) limits
+    (closes c.self.inside.table.shared.key (map knows_of c.args.seats.items) c.gather.new.rest.id c.gather.new.rest.me.0 _ _ c.in-Some.ledger c.into_journal.result g
+    (λ k lt. c.requires.all k (subst (λ l. k < l.passes) limits lt)) c.close_with-closed.ensures.values.2 (c.take-slot.ensures.value ∙ ap some c.in-Some.is) c.into_journal.ensures)
 
 pub returns-clause-legal : goal.returns-clause-legal
 returns-clause-legal c = (closed c).legal
@@ -29,6 +29,9 @@ returns-clause-seats c = (closed c).keeps
 
 pub returns-clause-volumes : goal.returns-clause-volumes
 returns-clause-volumes c = (closed c).volumes
+
+pub returns-clause-limit : goal.returns-clause-limit
+returns-clause-limit c = (closed c).limit
 
 pub load_new_seat-rest-requires : goal.load_new_seat-rest-requires
 load_new_seat-rest-requires c = (omega (arith, c.self.invariant.0), arrives _ _)

@@ -12,5 +12,5 @@ new-requires-3 c =
     (c.are_within.ensures.within (search rules))
     (let v = ap length c.as_slice.ensures.value in let l = c.in-Ok-vec.ensures.len in let o = c.in-Ok-vec.words.ok.0 in omega (arith, z.0))
     (λ k lt. ap (λ ws. slice_index ws k) c.as_slice.ensures.value ∙ z.1 k lt ∙ ap (λ ws. slice_index ws k) (c.in-Ok-vec.ensures.items_if_clones_equal (λ a b. b)) ∙ get_or-replicate _ k 0 0 (omega arith))
-    (ap (λ j. j.entries) c.new-2.ensures) (ap (λ j. j.limit) c.new-2.ensures) refl c.in-Ok-new.ensures.pages c.in-Ok-new.ensures.used c.in-Ok-new.ensures.free
+    (ap (λ j. j.entries) c.new-2.ensures) (ap (λ j. j.limit) c.new-2.ensures) refl c.in-Ok-new.ensures.pages c.in-Ok-new.ensures.used c.in-Ok-new.ensures.free refl
     (first_spelt c.args.first.now c.as_slice.result.now (omega arith) (λ i lt. ap (λ ws. slice_index ws (528 + i)) c.as_slice.ensures.value ∙ z.2 i lt) c.requires)

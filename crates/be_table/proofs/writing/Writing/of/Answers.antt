@@ -11,6 +11,7 @@ invariant_of-result c = let l = c.requires.ledger in let p = c.requires.pass in 
   writes = p.3;
   journal = l.journal;
   limit = l.limit ∙ ap (λ x. x.commits) p.1;
+  left = l.left;
   page = l.page;
   places = l.places;
   count = ap length l.places ∙ l.count ∙ ap (λ x. x.pages) p.1;

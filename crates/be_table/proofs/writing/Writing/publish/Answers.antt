@@ -1,8 +1,8 @@
-use Rattle.std.proofs.Common.{◌≡◌, ◌≤◌, ◌<◌, [], ◌∷◌, ◌++◌, None, length, map, refl, sym, ap, ◌∙◌, subst, arith}
+use Rattle.std.proofs.Common.{◌≡◌, ◌≤◌, ◌<◌, [], ◌∷◌, ◌++◌, None, length, map, count_by, refl, sym, ap, ◌∙◌, subst, arith}
 use Rattle.std.proofs.lemmas.List.{length-map}
 use Rattle.be_journal.specs.declared.entries.Entry.{Entry}
 use Rattle.be_journal.specs.Journal.{Agrees, replay}
-use Rattle.be_pages.specs.Place.{retired_at, place_of, published_place}
+use Rattle.be_pages.specs.Place.{is_retired, retired_at, place_of, published_place}
 use Rattle.be_table.specs.declared.pass.Knowledge.{Knowledge}
 use Rattle.be_table.specs.Place.{Work}
 use Rattle.be_table.specs.Rule.{entries, ledger_places, page_at, pass_of}
@@ -12,6 +12,7 @@ use Rattle.be_table.specs.Reading.{word_of_page}
 use Rattle.be_table.specs.Steps.{IsPass, commit_of, pages_from, publishes}
 use Rattle.be_table.specs.Versions.{SpellsVolume}
 use Rattle.be_table.proofs.Keeping.{spells_kept}
+use Rattle.be_table.proofs.Ledgers.{left-publish}
 use Rattle.be_table.proofs.Frames.{entries-append}
 use Rattle.be_table.proofs.Answers.{answers_each}
 use Rattle.be_table.proofs.Opened.{seen_length}
@@ -69,6 +70,8 @@ invariant_of-self c =
       pin = i.pin ∙ sym (pin_stays a.phase a.seen b.seen i.pass.pin (commit ∷ [], refl)) ∙ sym (ap (λ (x : Knowledge). pin_of x.phase x.seen) k);
       pass = subst IsPass (sym k) c.store_version.ensures.pass;
       limit = ap (λ j. j.limit) c.append.ensures.journal ∙ i.limit;
+      left = subst (λ n. n ≤ count_by is_retired (ledger_places c.append.new.self)) (sym c.append.ensures.left)
+          (left-publish w.ledger.left (length w.ledger.journal.entries) (ledger_places w.ledger) (ledger_places c.append.new.self) places i.left);
       room = λ some. absurd (omega (arith, some));
     }
 

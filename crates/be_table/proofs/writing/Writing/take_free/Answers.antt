@@ -2,9 +2,11 @@ use Rattle.std.proofs.Common.{◌≡◌, ◌+◌, ◌<◌, [], ◌∷◌, None, 
 use Rattle.std.proofs.Common.{length-set}
 use Rattle.be_pages.specs.declared.page_pool.Place.TheVariants.{Reserved}
 use Rattle.be_table.specs.declared.pass.Knowledge.{Knowledge}
-use Rattle.be_table.specs.Rule.{entries, page_at, pass_of}
+use Rattle.be_pages.specs.Place.{is_retired}
+use Rattle.be_table.specs.Rule.{entries, ledger_places, page_at, pass_of}
 use Rattle.be_table.specs.Seats.{pin_of}
 use Rattle.be_table.specs.Steps.{IsPass, takes_page}
+use Rattle.be_table.proofs.Ledgers.{left-set}
 use Rattle.be_table.proofs.Opened.{going_pass}
 use Rattle.be_table.proofs.writing.Writing.take_free.Goals as goal
 
@@ -32,5 +34,6 @@ invariant_of-self-2 c =
       pin = i.pin ∙ sym (ap (λ (x : Knowledge). pin_of x.phase x.seen) k);
       pass = subst IsPass (sym k) (going_pass a a.scanned a.least (slice_set a.places p Reserved) a.words a.held (a.steps + 1) i.pass);
       limit = i.limit;
+      left = left-set w.ledger.left (ledger_places w.ledger) _ p Reserved taken c.in_ok-page.ensures.free.0 (ap is_retired c.in_ok-page.ensures.free.1) i.left;
       room = λ some. let r = i.room some in (r.0, subst (λ (x : Knowledge). length x.seen < w.table.now.limits.commits) (sym k) r.1);
     }

@@ -1,9 +1,10 @@
-use Rattle.std.proofs.Common.{[], ◌∷◌, length, refl, Some, map, sym, ap, ◌∙◌, arith}
+use Rattle.std.proofs.Common.{[], ◌∷◌, length, count_by, refl, Some, map, sym, ap, ◌∙◌, ◌≤◌, subst, arith}
 use Rattle.atomic_table.specs.Table.{rest}
-use Rattle.be_table.specs.Rule.{pass_of}
+use Rattle.be_table.specs.Rule.{ledger_places, pass_of}
 use Rattle.be_table.proofs.Frames.{Me1}
-use Rattle.be_pages.specs.Place.{undone_place}
+use Rattle.be_pages.specs.Place.{is_retired, undone_place}
 use Rattle.be_table.specs.Steps.{without_lock}
+use Rattle.be_table.proofs.Ledgers.{left-undo}
 use Rattle.be_table.proofs.Locks.{unlocks_as}
 use Rattle.be_table.proofs.Opened.{seen_length}
 use Rattle.be_table.proofs.Told.{told_as, left_pass}
@@ -12,8 +13,12 @@ use Rattle.be_table.proofs.writing.Writing.unlock.Goals as goal
 pub store-requires : goal.store-requires
 store-requires c =
     let i = c.self.invariant in let e = c.exchange.ensures in
-    let w = c.self.inside in
-    (e.0 ∙ i.table_is ∙ sym (ap (λ t. t.id) c.table.view_is), omega (arith, c.table.invariant.0), unlocks_as _ _ _ (pass_of w.base.me.0) [] _ c.rest.new.self (e.3 ∙ ap (λ (m : Me1). (m.0, (0, Some c.rest.new.self) ∷ rest m.1)) i.me_is) i.writes (ap (λ j. j.entries) c.rest.ensures.0 ∙ i.journal) (ap (λ j. j.limit) c.rest.ensures.0 ∙ i.limit ∙ ap (λ l. l.commits) (sym i.limits_are)) (c.rest.ensures.1 ∙ i.page) (c.rest.ensures.2 ∙ ap (map undone_place) i.places))
+    let w = c.self.inside in (
+      e.0 ∙ i.table_is ∙ sym (ap (λ t. t.id) c.table.view_is),
+      omega (arith, c.table.invariant.0),
+      unlocks_as _ _ _ (pass_of w.base.me.0) [] _ c.rest.new.self (e.3 ∙ ap (λ (m : Me1). (m.0, (0, Some c.rest.new.self) ∷ rest m.1)) i.me_is) i.writes (ap (λ j. j.entries) c.rest.ensures.0 ∙ i.journal) (ap (λ j. j.limit) c.rest.ensures.0 ∙ i.limit ∙ ap (λ l. l.commits) (sym i.limits_are)) (c.rest.ensures.1 ∙ i.page) (c.rest.ensures.2 ∙ ap (map undone_place) i.places)
+          (subst (λ n. n ≤ count_by is_retired (ledger_places c.rest.new.self)) (sym c.rest.ensures.3) (left-undo w.ledger.left (ledger_places w.ledger) (ledger_places c.rest.new.self) c.rest.ensures.2 i.left)),
+    )
 
 pub of-requires-clause-told : goal.of-requires-clause-told
 of-requires-clause-told c =
