@@ -1,0 +1,240 @@
+"""A window that asks for files by their attributes, as the Tracker of BeOS did, and follows them while they come and go.
+
+    PYTHONPATH=python python3 examples/python/queries.py FOLDER [QUERY]
+
+FOLDER is any folder, or a Maildir. The query is asked while it is typed; docs/QUERIES.md has its language.
+"""
+
+from __future__ import annotations
+
+import os
+import sys
+import time
+import tkinter as tk
+from tkinter import ttk
+from typing import Callable, List, Literal, NamedTuple, Optional, Tuple
+
+import bestore
+from bestore.refusals import column
+
+from catalogue import MAIL_TYPE, Catalogue, Hit
+
+SLICE = 200         # hits that are shown at a time, so that the window answers meanwhile
+BUSY_PAUSE = 15     # milliseconds to the next slice
+IDLE_PAUSE = 200    # milliseconds to the next look
+TYPING_PAUSE = 150  # milliseconds without a key before a query is asked
+
+DESKTOP, TAB, FACE, LINE, PAPER, STRIPE, MARKED = "#336698", "#ffcb00", "#d8d8d8", "#989898", "#ffffff", "#f3f6fa", "#9fb6d2"
+FAULT, QUIET = "#b3261e", "#4f4f4f"
+
+SAMPLES = [
+    'name=="*"', 'name=="*.h" && size>=10000', 'BEOS:TYPE=="text/*" && size<100', 'name=="[A-Z]*" && !(name=="*.gz")',
+    'last_modified>=1700000000', 'MAIL:status==New', 'MAIL:from=="*@*" && MAIL:subject=="Re: *"',
+]
+
+
+def text_of(hit: Hit, name: str) -> str:
+    return str(hit.attributes.get(name, ""))
+
+
+def size_of(hit: Hit) -> str:
+    """A file's size in words."""
+    size = float(hit.attributes.get("size", 0))
+    for unit in ("bytes", "KB", "MB"):
+        if size < 1024:
+            return f"{size:.0f} {unit}" if unit == "bytes" else f"{size:.1f} {unit}"
+        size /= 1024
+    return f"{size:.1f} GB"
+
+
+def time_of(hit: Hit, name: str) -> str:
+    """An attribute that is a time, in words."""
+    seconds = hit.attributes.get(name)
+    return time.strftime("%d %b %Y, %H:%M", time.localtime(seconds)) if isinstance(seconds, int) else ""
+
+
+class Column(NamedTuple):
+    """A column of the list."""
+
+    title: str
+    width: int
+    anchor: Literal["w", "e"]
+    shown: Callable[[Hit], str]
+
+
+FILE_COLUMNS = [
+    Column("Name", 270, "w", lambda hit: text_of(hit, "name")),
+    Column("Size", 90, "e", size_of),
+    Column("Modified", 150, "w", lambda hit: time_of(hit, "last_modified")),
+    Column("Type", 150, "w", lambda hit: text_of(hit, "BEOS:TYPE")),
+    Column("Folder", 220, "w", lambda hit: text_of(hit, "folder")),
+]
+MAIL_COLUMNS = [
+    Column("Subject", 330, "w", lambda hit: text_of(hit, "MAIL:subject")),
+    Column("From", 230, "w", lambda hit: text_of(hit, "MAIL:from")),
+    Column("When", 150, "w", lambda hit: time_of(hit, "MAIL:when")),
+    Column("Status", 80, "w", lambda hit: text_of(hit, "MAIL:status")),
+    Column("Size", 90, "e", size_of),
+]
+
+# The sheet of a file's icon, and the colours of the lines on it, by the beginning of the file's type.
+ICONS = [
+    (MAIL_TYPE, "#fff3c4", "#b07d00"), ("text/html", "#dceefb", "#1769aa"), ("text/", "#ffffff", "#7a7a7a"),
+    ("image/", "#e3f4e1", "#2e7d32"), ("audio/", "#f6e1f3", "#8e24aa"), ("application/gzip", "#f3e4d3", "#8d5524"),
+    ("", "#ececec", "#9a9a9a"),
+]
+
+
+def icon(sheet: str, ink: str) -> tk.PhotoImage:
+    """A sheet of paper with a few lines."""
+    image = tk.PhotoImage(width=20, height=16)
+
+    def fill(colour: str, x: int, y: int, width: int, height: int) -> None:
+        row = "{" + " ".join([colour] * width) + "}"
+        image.put(" ".join([row] * height), to=(x, y))
+
+    fill("#6b6b6b", 2, 1, 12, 14)
+    fill(sheet, 3, 2, 10, 12)
+    for y, length in ((4, 6), (6, 8), (8, 8), (10, 5)):
+        fill(ink, 4, y, length, 1)
+    return image
+
+
+class Window:
+    """The window over a catalogue."""
+
+    def __init__(self, root: tk.Tk, catalogue: Catalogue, folder: str, columns: List[Column]) -> None:
+        self._root, self._catalogue, self._columns = root, catalogue, columns
+        self._query, self._typing, self._rows = tk.StringVar(root), "", 0
+        self._icons = [(beginning, icon(sheet, ink)) for beginning, sheet, ink in ICONS]
+        root.title(f"Query: {folder}")
+        root.configure(background=FACE)
+        self._style()
+        self._build_head(folder)
+        self._build_list()
+        self._query.trace_add("write", lambda *_: self._typed())
+
+    def _style(self) -> None:
+        style = ttk.Style(self._root)
+        style.theme_use("clam")
+        style.configure(".", background=FACE, font="TkDefaultFont")
+        style.configure("Treeview", background=PAPER, fieldbackground=PAPER, rowheight=21, borderwidth=0)
+        style.configure("Treeview.Heading", background=FACE, relief="flat", padding=(6, 3))
+        style.map("Treeview", background=[("selected", MARKED)], foreground=[("selected", "black")])
+
+    def _build_head(self, folder: str) -> None:
+        strip = tk.Frame(self._root, background=DESKTOP)
+        tab = tk.Label(strip, text=f"Query: {folder}", background=TAB, padx=14, pady=4, font="TkCaptionFont")
+        tab.pack(side="left")
+        strip.pack(fill="x")
+        head = tk.Frame(self._root, background=FACE, padx=12, pady=10)
+        head.pack(fill="x")
+        self._entry = ttk.Combobox(head, textvariable=self._query, values=SAMPLES, font="TkFixedFont")
+        self._entry.pack(fill="x")
+        self._told = tk.Label(head, background=FACE, anchor="w", justify="left", font="TkFixedFont", padx=6)
+        self._told.pack(fill="x", pady=(4, 0))
+
+    def _build_list(self) -> None:
+        self._state = tk.Label(self._root, background=FACE, foreground=QUIET, anchor="w", padx=12, pady=5)
+        self._state.pack(side="bottom", fill="x")
+        frame = tk.Frame(self._root, background=LINE, padx=1, pady=1)
+        frame.pack(fill="both", expand=True, padx=(12, 12))
+        names = [column.title for column in self._columns]
+        self._list = ttk.Treeview(frame, columns=names[1:], selectmode="extended")
+        for place, column in zip(["#0", *names[1:]], self._columns):
+            self._list.heading(place, text=column.title, anchor=column.anchor)
+            self._list.column(place, width=column.width, anchor=column.anchor, stretch=place == "#0")
+        self._list.tag_configure("stripe", background=STRIPE)
+        bar = ttk.Scrollbar(frame, command=self._list.yview)
+        self._list.configure(yscrollcommand=bar.set)
+        bar.pack(side="right", fill="y")
+        self._list.pack(fill="both", expand=True)
+
+    def ask(self, text: str) -> None:
+        """Writes a query into the line, and asks it at once."""
+        self._query.set(text)
+        self._ask()
+
+    def _typed(self) -> None:
+        if self._typing:
+            self._root.after_cancel(self._typing)
+        self._typing = self._root.after(TYPING_PAUSE, self._ask)
+
+    def _ask(self) -> None:
+        if self._typing:
+            self._root.after_cancel(self._typing)
+        self._typing, text = "", self._query.get()
+        try:
+            self._tell(f"asks {self._catalogue.ask(text)}", QUIET)
+        except bestore.Refusal as fault:
+            self._tell(fault_line(text, fault), FAULT)
+            return
+        self._list.delete(*self._list.get_children())
+        self._rows = 0
+
+    def _tell(self, text: str, colour: str) -> None:
+        self._told.configure(text=text, foreground=colour)
+
+    def follow(self) -> None:
+        """Shows the next slice of what came and went, and so on for as long as the window is there."""
+        step = self._catalogue.step(SLICE)
+        self._list.delete(*(str(node) for node in step.went))
+        for hit in step.came:
+            self._show(hit)
+        self._tell_state()
+        self._root.after(BUSY_PAUSE if self._catalogue.waiting else IDLE_PAUSE, self.follow)
+
+    def _show(self, hit: Hit) -> None:
+        name, *others = (column.shown(hit) for column in self._columns)
+        kind = text_of(hit, "BEOS:TYPE")
+        image = next(image for beginning, image in self._icons if kind.startswith(beginning))
+        tags = ("stripe",) if self._rows % 2 else ()
+        self._list.insert("", "end", iid=str(hit.node), text=f" {name}", image=image, values=others, tags=tags)
+        self._rows += 1
+
+    def _tell_state(self) -> None:
+        catalogue, reader = self._catalogue, self._catalogue.reader
+        if reader.fault is not None:
+            doing = f"the folder isn't followed any more: {reader.fault}"
+        else:
+            doing = "following the folder" if reader.rounds else "reading the folder"
+        words = [f"{catalogue.hits:,} of {len(reader):,} files", f"version {max(catalogue.version, 0):,}", doing]
+        if catalogue.waiting:
+            words.insert(1, f"{catalogue.waiting:,} to be shown")
+        self._state.configure(text="   ·   ".join(words))
+
+
+def fault_line(text: str, fault: bestore.Refusal) -> str:
+    """What is wrong with a query, behind a caret under its byte where that is known."""
+    if fault.offset is None:
+        return str(fault.meaning)
+    return " " * column(text, fault.offset) + f"^ {fault.meaning}"
+
+
+def is_maildir(folder: str) -> bool:
+    return all(os.path.isdir(os.path.join(folder, name)) for name in ("cur", "new", "tmp"))
+
+
+def open_window(catalogue: Catalogue, folder: str, query: Optional[str] = None) -> Tuple[tk.Tk, Window]:
+    """The window over a folder's catalogue, which asks this query first."""
+    root = tk.Tk()
+    root.geometry("940x560")
+    columns, asked = (MAIL_COLUMNS, "MAIL:subject==*") if is_maildir(folder) else (FILE_COLUMNS, "name==*")
+    window = Window(root, catalogue, folder, columns)
+    window.ask(query or asked)
+    window.follow()
+    return root, window
+
+
+def main(words: List[str]) -> int:
+    if not 1 <= len(words) <= 2 or not os.path.isdir(words[0]):
+        print(__doc__, file=sys.stderr)
+        return 2
+    with Catalogue(words[0]) as catalogue:
+        root, _ = open_window(catalogue, *words)
+        root.mainloop()
+    return 0
+
+
+if __name__ == "__main__":
+    sys.exit(main(sys.argv[1:]))
