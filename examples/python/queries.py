@@ -131,8 +131,8 @@ class Window:
         head.pack(fill="x")
         self._entry = ttk.Combobox(head, textvariable=self._query, values=SAMPLES, font="TkFixedFont")
         self._entry.pack(fill="x")
-        self._told = tk.Label(head, background=FACE, anchor="w", justify="left", font="TkFixedFont", padx=6)
-        self._told.pack(fill="x", pady=(4, 0))
+        self.told = tk.Label(head, background=FACE, anchor="w", justify="left", font="TkFixedFont", padx=6)
+        self.told.pack(fill="x", pady=(4, 0))
 
     def _build_list(self) -> None:
         self._state = tk.Label(self._root, background=FACE, foreground=QUIET, anchor="w", padx=12, pady=5)
@@ -140,15 +140,15 @@ class Window:
         frame = tk.Frame(self._root, background=LINE, padx=1, pady=1)
         frame.pack(fill="both", expand=True, padx=(12, 12))
         names = [column.title for column in self._columns]
-        self._list = ttk.Treeview(frame, columns=names[1:], selectmode="extended")
+        self.list = ttk.Treeview(frame, columns=names[1:], selectmode="extended")
         for place, column in zip(["#0", *names[1:]], self._columns):
-            self._list.heading(place, text=column.title, anchor=column.anchor)
-            self._list.column(place, width=column.width, anchor=column.anchor, stretch=place == "#0")
-        self._list.tag_configure("stripe", background=STRIPE)
-        bar = ttk.Scrollbar(frame, command=self._list.yview)
-        self._list.configure(yscrollcommand=bar.set)
+            self.list.heading(place, text=column.title, anchor=column.anchor)
+            self.list.column(place, width=column.width, anchor=column.anchor, stretch=place == "#0")
+        self.list.tag_configure("stripe", background=STRIPE)
+        bar = ttk.Scrollbar(frame, command=self.list.yview)
+        self.list.configure(yscrollcommand=bar.set)
         bar.pack(side="right", fill="y")
-        self._list.pack(fill="both", expand=True)
+        self.list.pack(fill="both", expand=True)
 
     def ask(self, text: str) -> None:
         """Writes a query into the line, and asks it at once."""
@@ -169,16 +169,16 @@ class Window:
         except bestore.Refusal as fault:
             self._tell(fault_line(text, fault), FAULT)
             return
-        self._list.delete(*self._list.get_children())
+        self.list.delete(*self.list.get_children())
         self._rows = 0
 
     def _tell(self, text: str, colour: str) -> None:
-        self._told.configure(text=text, foreground=colour)
+        self.told.configure(text=text, foreground=colour)
 
     def follow(self) -> None:
         """Shows the next slice of what came and went, and so on for as long as the window is there."""
         step = self._catalogue.step(SLICE)
-        self._list.delete(*(str(node) for node in step.went))
+        self.list.delete(*(str(node) for node in step.went))
         for hit in step.came:
             self._show(hit)
         self._tell_state()
@@ -189,7 +189,7 @@ class Window:
         kind = text_of(hit, "BEOS:TYPE")
         image = next(image for beginning, image in self._icons if kind.startswith(beginning))
         tags = ("stripe",) if self._rows % 2 else ()
-        self._list.insert("", "end", iid=str(hit.node), text=f" {name}", image=image, values=others, tags=tags)
+        self.list.insert("", "end", iid=str(hit.node), text=f" {name}", image=image, values=others, tags=tags)
         self._rows += 1
 
     def _tell_state(self) -> None:
