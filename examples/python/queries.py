@@ -12,10 +12,10 @@ import sys
 import time
 import tkinter as tk
 from tkinter import ttk
-from typing import Callable, List, Literal, NamedTuple, Optional, Tuple
+from typing import Callable, Dict, List, Literal, NamedTuple, Optional, Tuple
 
 import bestore
-from bestore.refusals import column
+from bestore.refusals import characters_before
 
 from catalogue import MAIL_TYPE, Catalogue, Hit
 
@@ -33,48 +33,46 @@ SAMPLES = [
 ]
 
 
-def text_of(hit: Hit, name: str) -> str:
-    return str(hit.attributes.get(name, ""))
+def size_in_words(size: bestore.Value) -> str:
+    number, unit = float(size), "bytes"
+    for larger in ("KB", "MB", "GB"):
+        if number >= 1024:
+            number, unit = number / 1024, larger
+    return f"{number:.0f} {unit}" if unit == "bytes" else f"{number:.1f} {unit}"
 
 
-def size_of(hit: Hit) -> str:
-    """A file's size in words."""
-    size = float(hit.attributes.get("size", 0))
-    for unit in ("bytes", "KB", "MB"):
-        if size < 1024:
-            return f"{size:.0f} {unit}" if unit == "bytes" else f"{size:.1f} {unit}"
-        size /= 1024
-    return f"{size:.1f} GB"
-
-
-def time_of(hit: Hit, name: str) -> str:
-    """An attribute that is a time, in words."""
-    seconds = hit.attributes.get(name)
-    return time.strftime("%d %b %Y, %H:%M", time.localtime(seconds)) if isinstance(seconds, int) else ""
+def time_in_words(seconds: bestore.Value) -> str:
+    return time.strftime("%d %b %Y, %H:%M", time.localtime(int(seconds)))
 
 
 class Column(NamedTuple):
-    """A column of the list."""
+    """A column of the list: an attribute, and how it is shown."""
 
     title: str
     width: int
     anchor: Literal["w", "e"]
-    shown: Callable[[Hit], str]
+    attribute: str
+    in_words: Callable[[bestore.Value], str] = str
+
+    def shown(self, hit: Hit) -> str:
+        value = hit.attributes.get(self.attribute)
+        return "" if value is None else self.in_words(value)
+
+    def order(self, hit: Hit) -> Tuple[bool, bestore.Value]:
+        """By what hits are sorted: those without the attribute come last."""
+        value = hit.attributes.get(self.attribute)
+        return value is None, 0 if value is None else value
 
 
 FILE_COLUMNS = [
-    Column("Name", 270, "w", lambda hit: text_of(hit, "name")),
-    Column("Size", 90, "e", size_of),
-    Column("Modified", 150, "w", lambda hit: time_of(hit, "last_modified")),
-    Column("Type", 150, "w", lambda hit: text_of(hit, "BEOS:TYPE")),
-    Column("Folder", 220, "w", lambda hit: text_of(hit, "folder")),
+    Column("Name", 270, "w", "name"), Column("Size", 90, "e", "size", size_in_words),
+    Column("Modified", 150, "w", "last_modified", time_in_words), Column("Type", 150, "w", "BEOS:TYPE"),
+    Column("Folder", 220, "w", "folder"),
 ]
 MAIL_COLUMNS = [
-    Column("Subject", 330, "w", lambda hit: text_of(hit, "MAIL:subject")),
-    Column("From", 230, "w", lambda hit: text_of(hit, "MAIL:from")),
-    Column("When", 150, "w", lambda hit: time_of(hit, "MAIL:when")),
-    Column("Status", 80, "w", lambda hit: text_of(hit, "MAIL:status")),
-    Column("Size", 90, "e", size_of),
+    Column("Subject", 330, "w", "MAIL:subject"), Column("From", 230, "w", "MAIL:from"),
+    Column("When", 150, "w", "MAIL:when", time_in_words), Column("Status", 80, "w", "MAIL:status"),
+    Column("Size", 90, "e", "size", size_in_words),
 ]
 
 # The sheet of a file's icon, and the colours of the lines on it, by the beginning of the file's type.
@@ -105,7 +103,9 @@ class Window:
 
     def __init__(self, root: tk.Tk, catalogue: Catalogue, folder: str, columns: List[Column]) -> None:
         self._root, self._catalogue, self._columns = root, catalogue, columns
-        self._query, self._typing, self._rows = tk.StringVar(root), "", 0
+        self._query, self._typing = tk.StringVar(root), ""
+        self._hits: Dict[str, Hit] = {}  # those that are shown, by their rows
+        self._sorted: Tuple[Optional[Column], bool] = (None, False)
         self._icons = [(beginning, icon(sheet, ink)) for beginning, sheet, ink in ICONS]
         root.title(f"Query: {folder}")
         root.configure(background=FACE)
@@ -142,7 +142,7 @@ class Window:
         names = [column.title for column in self._columns]
         self.list = ttk.Treeview(frame, columns=names[1:], selectmode="extended")
         for place, column in zip(["#0", *names[1:]], self._columns):
-            self.list.heading(place, text=column.title, anchor=column.anchor)
+            self.list.heading(place, text=column.title, anchor=column.anchor, command=lambda column=column: self._sort(column))
             self.list.column(place, width=column.width, anchor=column.anchor, stretch=place == "#0")
         self.list.tag_configure("stripe", background=STRIPE)
         bar = ttk.Scrollbar(frame, command=self.list.yview)
@@ -170,7 +170,7 @@ class Window:
             self._tell(fault_line(text, fault), FAULT)
             return
         self.list.delete(*self.list.get_children())
-        self._rows = 0
+        self._hits.clear()
 
     def _tell(self, text: str, colour: str) -> None:
         self.told.configure(text=text, foreground=colour)
@@ -178,7 +178,9 @@ class Window:
     def follow(self) -> None:
         """Shows the next slice of what came and went, and so on for as long as the window is there."""
         step = self._catalogue.step(SLICE)
-        self.list.delete(*(str(node) for node in step.went))
+        for node in step.went:
+            self.list.delete(str(node))
+            del self._hits[str(node)]
         for hit in step.came:
             self._show(hit)
         self._tell_state()
@@ -186,11 +188,20 @@ class Window:
 
     def _show(self, hit: Hit) -> None:
         name, *others = (column.shown(hit) for column in self._columns)
-        kind = text_of(hit, "BEOS:TYPE")
+        kind, row = str(hit.attributes["BEOS:TYPE"]), str(hit.node)
         image = next(image for beginning, image in self._icons if kind.startswith(beginning))
-        tags = ("stripe",) if self._rows % 2 else ()
-        self.list.insert("", "end", iid=str(hit.node), text=f" {name}", image=image, values=others, tags=tags)
-        self._rows += 1
+        tags = ("stripe",) if len(self._hits) % 2 else ()
+        self.list.insert("", "end", iid=row, text=f" {name}", image=image, values=others, tags=tags)
+        self._hits[row] = hit
+
+    def _sort(self, column: Column) -> None:
+        """Sorts the rows that are there; at the second time the other way round. Those that come later stand below."""
+        is_turned = self._sorted == (column, False)
+        self._sorted = column, is_turned
+        rows = sorted(self._hits, key=lambda row: column.order(self._hits[row]), reverse=is_turned)
+        self.list.set_children("", *rows)
+        for place, row in enumerate(rows):
+            self.list.item(row, tags=("stripe",) if place % 2 else ())
 
     def _tell_state(self) -> None:
         catalogue, reader = self._catalogue, self._catalogue.reader
@@ -208,7 +219,7 @@ def fault_line(text: str, fault: bestore.Refusal) -> str:
     """What is wrong with a query, behind a caret under its byte where that is known."""
     if fault.offset is None:
         return str(fault.meaning)
-    return " " * column(text, fault.offset) + f"^ {fault.meaning}"
+    return " " * characters_before(text, fault.offset) + f"^ {fault.meaning}"
 
 
 def is_maildir(folder: str) -> bool:

@@ -126,10 +126,10 @@ class _AtPlace(Refusal):
         shown = "".join(character if character.isprintable() else " " for character in self.query)
         if self.offset is None:
             return f"{self.meaning}\n  {shown}"
-        return f"{self.meaning}\n  {shown}\n  {' ' * column(self.query, self.offset)}^"
+        return f"{self.meaning}\n  {shown}\n  {' ' * characters_before(self.query, self.offset)}^"
 
 
-def column(text: str, offset: int) -> int:
+def characters_before(text: str, offset: int) -> int:
     """The number of characters before this byte of the text."""
     return len(text.encode()[:offset].decode(errors="ignore"))
 
