@@ -124,11 +124,11 @@ if ! command -v python3 >/dev/null; then
     exit
 fi
 export PYTHONDONTWRITEBYTECODE=1
-in_python() { BESTORE_LIBRARY="$PWD/libbestore.so" PYTHONPATH=../python python3 -W error "$@"; }
-run Python in_python -m unittest discover -q -s ../python
-in_python ../examples/python/first.py | cmp - <(echo "1 ann")
+python=(env BESTORE_LIBRARY="$PWD/libbestore.so" PYTHONPATH=../python python3 -W error)
+run Python "${python[@]}" -m unittest discover -q -s ../python
+"${python[@]}" ../examples/python/first.py | cmp - <(echo "1 ann")
 if [ -x $program ]; then
-    run "the library and the program" in_python ../python/alike.py $program
+    run "the library and the program" "${python[@]}" ../python/alike.py $program
 else
     echo "the library and the program: skipped, crates/bestore/out/bestore isn't built"
 fi
@@ -160,4 +160,4 @@ if command -v Xvfb >/dev/null && python3 -c 'import tkinter' 2>/dev/null; then
 else
     echo "the query window: skipped, there is no Xvfb or no Tk"
 fi
-run "query window" in_python -m unittest discover -q -s ../examples/python
+run "query window" "${python[@]}" -m unittest discover -q -s ../examples/python

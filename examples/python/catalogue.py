@@ -154,7 +154,7 @@ class Reader(threading.Thread):
     def _attributes(self, entry: os.DirEntry[str], about: os.stat_result) -> Dict[str, bestore.Value]:
         folder = os.path.dirname(entry.path)
         values: Dict[str, bestore.Value] = {
-            "name": cut(entry.name), "folder": cut(os.path.relpath(folder, self._folder)), "size": about.st_size,
+            "name": cut(entry.name), "folder": cut(folder), "size": about.st_size,
             "last_modified": int(about.st_mtime), "BEOS:TYPE": type_of(entry.name),
         }
         if is_mailbox(folder):

@@ -19,8 +19,9 @@ from bestore.refusals import characters_before
 
 from catalogue import MAIL_TYPE, Catalogue, Hit
 
-SLICE = 200         # hits that are shown at a time, so that the window answers meanwhile
-BUSY_PAUSE = 15     # milliseconds to the next slice
+SLICE = 100         # hits that are shown at a time, so that the window answers meanwhile
+GONE_SLICE = 500    # rows that are taken away at a time
+BUSY_PAUSE = 10     # milliseconds to the next slice
 IDLE_PAUSE = 200    # milliseconds to the next look
 TYPING_PAUSE = 150  # milliseconds without a key before a query is asked
 
@@ -65,13 +66,13 @@ class Column(NamedTuple):
 
 
 FILE_COLUMNS = [
-    Column("Name", 270, "w", "name"), Column("Size", 90, "e", "size", size_in_words),
-    Column("Modified", 150, "w", "last_modified", time_in_words), Column("Type", 150, "w", "BEOS:TYPE"),
-    Column("Folder", 220, "w", "folder"),
+    Column("Name", 240, "w", "name"), Column("Size", 90, "e", "size", size_in_words),
+    Column("Modified", 160, "w", "last_modified", time_in_words), Column("Type", 135, "w", "BEOS:TYPE"),
+    Column("Folder", 280, "w", "folder"),
 ]
 MAIL_COLUMNS = [
     Column("Subject", 330, "w", "MAIL:subject"), Column("From", 230, "w", "MAIL:from"),
-    Column("When", 150, "w", "MAIL:when", time_in_words), Column("Status", 80, "w", "MAIL:status"),
+    Column("When", 160, "w", "MAIL:when", time_in_words), Column("Status", 80, "w", "MAIL:status"),
     Column("Size", 90, "e", "size", size_in_words),
 ]
 
@@ -104,7 +105,9 @@ class Window:
     def __init__(self, root: tk.Tk, catalogue: Catalogue, folder: str, columns: List[Column]) -> None:
         self._root, self._catalogue, self._columns = root, catalogue, columns
         self._query, self._typing = tk.StringVar(root), ""
-        self._hits: Dict[str, Hit] = {}  # those that are shown, by their rows
+        self._rows: Dict[int, str] = {}  # the rows of hits that are shown, by their nodes
+        self._hits: Dict[str, Hit] = {}  # those hits, by their rows
+        self._gone: List[str] = []       # rows that are still to be taken away
         self._sorted: Tuple[Optional[Column], bool] = (None, False)
         self._icons = [(beginning, icon(sheet, ink)) for beginning, sheet, ink in ICONS]
         root.title(f"Query: {folder}")
@@ -118,8 +121,11 @@ class Window:
         style = ttk.Style(self._root)
         style.theme_use("clam")
         style.configure(".", background=FACE, font="TkDefaultFont")
+        style.configure("TCombobox", padding=(5, 4))
         style.configure("Treeview", background=PAPER, fieldbackground=PAPER, rowheight=21, borderwidth=0)
-        style.configure("Treeview.Heading", background=FACE, relief="flat", padding=(6, 3))
+        style.configure("Treeview.Heading", background=FACE, relief="flat", padding=(3, 4))
+        parts = [("Treeitem.image", {"side": "left"}), ("Treeitem.text", {"side": "left"})]  # and no mark of rows below a row
+        style.layout("Treeview.Item", [("Treeitem.padding", {"sticky": "nswe", "children": parts})])
         style.map("Treeview", background=[("selected", MARKED)], foreground=[("selected", "black")])
 
     def _build_head(self, folder: str) -> None:
@@ -169,8 +175,8 @@ class Window:
         except bestore.Refusal as fault:
             self._tell(fault_line(text, fault), FAULT)
             return
-        self.list.delete(*self.list.get_children())
-        self._hits.clear()
+        self.list.set_children("")
+        self._go(list(self._rows))
 
     def _tell(self, text: str, colour: str) -> None:
         self.told.configure(text=text, foreground=colour)
@@ -178,21 +184,28 @@ class Window:
     def follow(self) -> None:
         """Shows the next slice of what came and went, and so on for as long as the window is there."""
         step = self._catalogue.step(SLICE)
-        for node in step.went:
-            self.list.delete(str(node))
-            del self._hits[str(node)]
+        self._go(step.went)
         for hit in step.came:
             self._show(hit)
+        self.list.delete(*self._gone[:-GONE_SLICE - 1:-1])  # the newest first: Tk looks for a row's icon from the newest on
+        del self._gone[-GONE_SLICE:]
         self._tell_state()
-        self._root.after(BUSY_PAUSE if self._catalogue.waiting else IDLE_PAUSE, self.follow)
+        self._root.after(BUSY_PAUSE if self._catalogue.waiting or self._gone else IDLE_PAUSE, self.follow)
+
+    def _go(self, nodes: List[int]) -> None:
+        """These hits went: their rows are taken away a slice at a time."""
+        for node in nodes:
+            row = self._rows.pop(node)
+            del self._hits[row]
+            self._gone.append(row)
 
     def _show(self, hit: Hit) -> None:
         name, *others = (column.shown(hit) for column in self._columns)
-        kind, row = str(hit.attributes["BEOS:TYPE"]), str(hit.node)
+        kind = str(hit.attributes["BEOS:TYPE"])
         image = next(image for beginning, image in self._icons if kind.startswith(beginning))
         tags = ("stripe",) if len(self._hits) % 2 else ()
-        self.list.insert("", "end", iid=row, text=f" {name}", image=image, values=others, tags=tags)
-        self._hits[row] = hit
+        row = self.list.insert("", "end", text=f" {name}", image=image, values=others, tags=tags)
+        self._rows[hit.node], self._hits[row] = row, hit
 
     def _sort(self, column: Column) -> None:
         """Sorts the rows that are there; at the second time the other way round. Those that come later stand below."""

@@ -82,7 +82,7 @@ class Files(unittest.TestCase):
         os.unlink(self.path("sub", "five.txt"))
         self.assertTrue(shown.becomes("new.txt"))
         self.assertEqual((self.catalogue.hits, self.catalogue.waiting, len(self.catalogue.reader)), (1, 0, 2))
-        self.catalogue.ask('folder=="sub" || name=="nine*"')
+        self.catalogue.ask('folder=="*/sub" || name=="nine*"')
         shown.names.clear()
         self.assertTrue(shown.becomes("nine.c"))
         self.assertIsNone(self.catalogue.reader.fault)
