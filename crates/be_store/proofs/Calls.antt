@@ -2,7 +2,8 @@
 use Rattle.std.proofs.Common.{◌≡◌, ◌≤◌, ◌-◌, ℕ, inl, inr, List, [], ◌∷◌, ◌++◌, length, take, Option, Some, refl, sym, ap, ◌∙◌, subst, arith, length-append}
 use Rattle.std.specs.Prelude.{All, map, slice_get}
 use Rattle.std.proofs.Math.Seq.{get_or-append_seam}
-use Rattle.std.proofs.lemmas.List.{append-assoc, append-nil, length-map, take-append-le}
+use Rattle.std.proofs.lemmas.List.{append_assoc, append-nil, length-map, take-append-le}
+use Rattle.std.proofs.lemmas.List.Elements.{All-cons, All-nil}
 use Rattle.std.proofs.lemmas.Option.{slice_get-get_or}
 use Rattle.std.specs.Option.{option_map_or}
 use Rattle.be_core.specs.declared.event.Phase.TheVariants.{Pinned}
@@ -27,13 +28,13 @@ starts_refl : {A : Type 0} (xs : List A) → StartsWith xs xs
 starts_refl xs = ([], sym (append-nil xs))
 
 starts_trans : {A : Type 0} (xs ys zs : List A) → StartsWith zs ys → StartsWith ys xs → StartsWith zs xs
-starts_trans xs ys zs more first = (first.0 ++ more.0, more.1 ∙ (ap (λ l. l ++ more.0) first.1 ∙ append-assoc xs first.0 more.0))
+starts_trans xs ys zs more first = (first.0 ++ more.0, more.1 ∙ (ap (λ l. l ++ more.0) first.1 ∙ append_assoc xs first.0 more.0))
 
 same_starts : (a c : Knowledge) → c.seen ≡ a.seen → StartsWith c.seen a.seen
 same_starts a c same = subst (λ l. StartsWith l a.seen) (sym same) (starts_refl a.seen)
 
 call_seen : (a c : Knowledge) → Call a c → StartsWith c.seen a.seen
-call_seen a c (inl (ops, n, dones, h)) = (h.others ++ h.commit ∷ [], h.seen ∙ append-assoc a.seen h.others (h.commit ∷ []))
+call_seen a c (inl (ops, n, dones, h)) = (h.others ++ h.commit ∷ [], h.seen ∙ append_assoc a.seen h.others (h.commit ∷ []))
 call_seen a c (inr (inl h)) = h.more
 call_seen a c (inr (inr (inl (n, h)))) = h.more
 call_seen a c (inr (inr (inr (inl h)))) = same_starts a c (ap (λ (k : Knowledge). k.seen) h)
@@ -64,7 +65,7 @@ has_writes log z more a c cs ops n dones h calls =
     ap entries h.seen ∙ (entries_append (a.seen ++ h.others) (h.commit ∷ []) ∙ ap (λ e. front ++ e ∷ []) h.entry) in
     let begun = reaches log c cs z more calls in
     let is : log ≡ front ++ entry_by a ops dones ∷ begun.0 =
-    begun.1 ∙ (ap (λ l. l ++ begun.0) own ∙ append-assoc front (entry_by a ops dones ∷ []) begun.0) in
+    begun.1 ∙ (ap (λ l. l ++ begun.0) own ∙ append_assoc front (entry_by a ops dones ∷ []) begun.0) in
     let long = ap length h.seen in
     let parts = length-append (a.seen ++ h.others) (h.commit ∷ []) in
     let counted = length-map (a.seen ++ h.others) (λ (x : Commit). x.entry) in
@@ -82,9 +83,9 @@ reads_fronts log z more a cs n pass pin calls =
     read ∙ ap replay (sym (take-append-le n (entries a.seen) begun.0 below) ∙ ap (take n) (sym begun.1))
 
 pub all_writes : (log : List Entry) (passes : List Knowledge) → KeepsSeen log passes → All (HasWrites log) passes
-all_writes log [] kept = tt
-all_writes log (a ∷ passes) kept = (has_writes log a kept.0, all_writes log passes kept.1.1)
+all_writes log [] kept = All-nil (HasWrites log)
+all_writes log (a ∷ passes) kept = All-cons (HasWrites log) a passes (has_writes log a kept.0) (all_writes log passes kept.2)
 
 pub all_fronts : (log : List Entry) (passes : List Knowledge) → KeepsSeen log passes → All (ReadsFronts log) passes
-all_fronts log [] kept = tt
-all_fronts log (a ∷ passes) kept = (reads_fronts log a kept.0, all_fronts log passes kept.1.1)
+all_fronts log [] kept = All-nil (ReadsFronts log)
+all_fronts log (a ∷ passes) kept = All-cons (ReadsFronts log) a passes (reads_fronts log a kept.0) (all_fronts log passes kept.2)
