@@ -2,9 +2,10 @@
 //!
 //! A pin that is forgotten holds its version's pages for as long as the store lives. So a program that leaves a function by
 //! `?` asks through a `Pinned`, which unpins when it goes.
-ghost use Rattle.std.specs.Prelude.{◌≡◌, ℕ, None, Ok, IsOk, IfOk, IfErr};
+ghost use Rattle.std.specs.Prelude.{◌≡◌, ◌⊎◌, ℕ, None, Ok, Err, IsOk, IfOk, IfErr};
 ghost use Rattle.std.specs.List.Sorted.{IsStrictlyIncreasing};
 ghost use Rattle.be_store.specs.History.{Pins};
+ghost use Rattle.be_store.specs.Live.{Refreshes};
 ghost use Rattle.be_store.specs.Passes.{IsBetweenCalls, IsBetweenCalls-prop, IsPassOf, IsPinnedTo, HasRead, volume_pinned};
 ghost use Rattle.be_table.specs.Works.{IsSeatOf};
 ghost use Rattle.be_table.specs.Seats.{pinned_number};
@@ -14,8 +15,8 @@ ghost use Rattle.be_value.specs.declared.refusals.Refusal.TheVariants.{OutOfMemo
 ghost use Rattle.be_volume.specs.Query.{scan};
 ghost use Rattle.be_volume.specs.Reading.{attribute, attributes_at, index_kinds};
 
-use crate::answers::Answer;
-use crate::{Pass, Store};
+use crate::answers::{Answer, Updates};
+use crate::{Live, Pass, Store};
 use be_query::Query;
 use be_value::{Kind, Name, Refusal, Value};
 use std::alloc::Global;
@@ -100,6 +101,18 @@ impl Pinned<'_> {
         ensures list { Answers (λ list. list.items) result (Ok (index_kinds (volume_pinned self.old.pass.now.knows))) }
     {
         self.store.indices(alloc, self.pass)
+    }
+
+    /// As `Live::refresh`.
+    pub fn refresh(&mut self, live: &mut Live) -> Result<Updates, Refusal>
+        requires pinned { (n : ℕ) × IsPinnedTo self.old.pass.now.knows n }
+        ensures same_reference { self.new.pass.ghost_name ≡ self.old.pass.ghost_name }
+        ensures store { (self.new.store.now ≡ self.old.store.now) × (self.new.number ≡ self.old.number) }
+        ensures read { HasRead self.old.pass.now.knows self.new.pass.now.knows }
+        ensures ok { IfOk result (λ u. Refreshes (volume_pinned self.old.pass.now.knows) live.old live.new u.created.items u.removed.items) }
+        ensures err { IfErr result (λ e. (live.new ≡ live.old) × ((e ≡ OutOfMemory) ⊎ (scan (volume_pinned self.old.pass.now.knows) live.old.query ≡ Err e))) }
+    {
+        live.refresh(self.store, self.pass)
     }
 }
 
