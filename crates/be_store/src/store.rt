@@ -33,6 +33,8 @@ impl Model for Store {
 }
 
 impl Store {
+    ghost use Rattle.std.specs.Prelude.{All};
+    ghost use Rattle.be_store.specs.Calls.{HasWrites, ReadsFronts};
     ghost use Rattle.std.specs.List.Sorted.{IsStrictlyIncreasing};
     ghost use Rattle.be_journal.specs.Journal.{IsLegal};
     ghost use Rattle.be_table.specs.History.{StartsWith, AreOfPasses};
@@ -290,12 +292,18 @@ impl Store {
     }
 
     /// The journal, once all passes are back. They may be pinned. A store whose pass was dropped can't be closed.
+    ///
+    /// `writes` and `reads` are the promise of the whole, whatever calls were made on whatever threads: a write that was
+    /// accepted with the number n is the journal's n-th entry, with its pass, its operations and its answers; and what a
+    /// pass read at a pin n was the volume after the journal's first n entries.
     pub fn close(self, passes: Vec<Pass>) -> Journal
         requires passes { AllAt self.id passes.items }
         requires all { (k : ℕ) → k < self.limits.passes → Has (map knows_of passes.items) k }
         ensures legal { IsLegal result.entries }
         ensures by { AreOfPasses self.limits.passes result.entries }
         ensures passes { KeepsSeen result.entries (map knows_of passes.items) }
+        ensures writes { All (HasWrites result.entries) (map knows_of passes.items) }
+        ensures reads { All (ReadsFronts result.entries) (map knows_of passes.items) }
         ensures volumes { CanSpellEach self.limits.pages result.entries }
         ensures limit { result.limit ≡ self.limits.commits }
     {
