@@ -135,6 +135,7 @@ fi
 python3 manual.py | cmp - ../docs/bestore.3
 if command -v mypy >/dev/null; then
     (cd ../python && run mypy mypy --cache-dir="$work/mypy")
+    run "mypy, examples" env MYPYPATH=../python mypy --strict --cache-dir="$work/mypy" ../examples/python
 else
     echo "mypy: skipped, it isn't installed"
 fi

@@ -42,6 +42,7 @@ class Refusals(unittest.TestCase):
         ]:
             fault = refusals.refusal(12, offset, text)
             self.assertEqual((fault.offset, str(fault)), (offset, f"the query leaves the grammar\n{shown}"))
+        self.assertEqual([refusals.refusal(12, offset, "é é").column for offset in (0, 2, 3, 5, None)], [0, 1, 2, 3, None])
         self.assertEqual(str(refusals.refusal(12, None, "size <")), "the query leaves the grammar\n  size <")
 
     def test_caught_by_what_they_are(self):

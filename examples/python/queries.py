@@ -15,7 +15,6 @@ from tkinter import ttk
 from typing import Callable, Dict, List, Literal, NamedTuple, Optional, Tuple
 
 import bestore
-from bestore.refusals import characters_before
 
 from catalogue import MAIL_TYPE, Catalogue, Hit
 
@@ -174,7 +173,7 @@ class Window:
         try:
             self._tell(f"asks {self._catalogue.ask(text)}", QUIET)
         except bestore.Refusal as fault:
-            self._tell(fault_line(text, fault), FAULT)
+            self._tell(fault_line(fault), FAULT)
             return
         self.list.set_children("")
         self._go(list(self._rows))
@@ -229,11 +228,9 @@ class Window:
         self._state.configure(text="   ·   ".join(words))
 
 
-def fault_line(text: str, fault: bestore.Refusal) -> str:
-    """What is wrong with a query, behind a caret under its byte where that is known."""
-    if fault.offset is None:
-        return str(fault.meaning)
-    return " " * characters_before(text, fault.offset) + f"^ {fault.meaning}"
+def fault_line(fault: bestore.Refusal) -> str:
+    """What is wrong with a query, behind a caret under its character where that is known."""
+    return fault.meaning if fault.column is None else " " * fault.column + f"^ {fault.meaning}"
 
 
 def is_maildir(folder: str) -> bool:

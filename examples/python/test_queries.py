@@ -169,8 +169,8 @@ class Windows(unittest.TestCase):
             root.destroy()
 
     def test_fault_line(self) -> None:
-        self.assertEqual(queries.fault_line("é==", refusal(12, 4, "é==")), "   ^ the query leaves the grammar")
-        self.assertEqual(queries.fault_line("a", refusal(17)), "no index serves the query")
+        self.assertEqual(queries.fault_line(refusal(12, 4, "é==")), "   ^ the query leaves the grammar")
+        self.assertEqual(queries.fault_line(refusal(17)), "no index serves the query")
 
 
 if __name__ == "__main__":

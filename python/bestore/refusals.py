@@ -35,6 +35,13 @@ class Refusal(Exception):
     def __str__(self) -> str:
         return self.meaning
 
+    @property
+    def column(self) -> Optional[int]:
+        """The character of the query's text, from 0, that has the byte of the fault."""
+        if self.query is None or self.offset is None:
+            return None
+        return len(self.query.encode()[:self.offset].decode(errors="ignore"))
+
 
 def refusal(number: int, carried: Optional[int] = None, query: Optional[str] = None) -> Refusal:
     """The refusal with this number, what it carries, and the query that it is of."""
@@ -124,14 +131,9 @@ class _AtPlace(Refusal):
         if self.query is None:
             return self.meaning
         shown = "".join(character if character.isprintable() else " " for character in self.query)
-        if self.offset is None:
+        if self.column is None:
             return f"{self.meaning}\n  {shown}"
-        return f"{self.meaning}\n  {shown}\n  {' ' * characters_before(self.query, self.offset)}^"
-
-
-def characters_before(text: str, offset: int) -> int:
-    """The number of characters before this byte of the text."""
-    return len(text.encode()[:offset].decode(errors="ignore"))
+        return f"{self.meaning}\n  {shown}\n  {' ' * self.column}^"
 
 
 class QuerySyntax(_AtPlace):
