@@ -101,12 +101,14 @@ def between(begin, end):
 def description():
     """What the head of the header says, by its words in capitals."""
     text = described(re.match(COMMENT, HEADER)[1].replace("bestore: a", "A", 1))
-    return ".Sh DESCRIPTION\n" + re.sub(r"^\.Pp\n([A-Z]{2,})\.\n", lambda word: f".Ss {word[1].capitalize()}\n", text, flags=re.MULTILINE)
+    titled = re.sub(r"^\.Pp\n([A-Z]{2,})\.\n", lambda word: f".Ss {word[1].capitalize()}\n", text, flags=re.MULTILINE)
+    return ".Sh DESCRIPTION\n" + titled
 
 
 def calls():
     listed = re.findall(COMMENT + r"uint32_t (\w+)\(", HEADER, re.MULTILINE)
-    return ".Sh CALLS\n.Bl -tag -width indent\n" + "".join(f".It Fn {name}\n{described(comment)}" for comment, name in listed) + ".El\n"
+    told = "".join(f".It Fn {name}\n{described(comment)}" for comment, name in listed)
+    return f".Sh CALLS\n.Bl -tag -width indent\n{told}.El\n"
 
 
 def types():
@@ -123,9 +125,10 @@ def inlines():
 
 
 def answers():
-    listed = re.findall(r"^    (BES_\w+) = \d+,? +/\* (.*?) \*/$", between("/* What calls answer", "/* The kinds of values"), re.MULTILINE)
-    return (".Sh RETURN VALUES\n.Dv BES_OK ,\nor\n.Bl -tag -width indent -compact\n"
-            + "".join(f".It Dv {name}\n{plain(meaning)}\n" for name, meaning in listed) + ".El\n")
+    numbered = between("/* What calls answer", "/* The kinds of values")
+    listed = re.findall(r"^    (BES_\w+) = \d+,? +/\* (.*?) \*/$", numbered, re.MULTILINE)
+    told = "".join(f".It Dv {name}\n{plain(meaning)}\n" for name, meaning in listed)
+    return f".Sh RETURN VALUES\n.Dv BES_OK ,\nor\n.Bl -tag -width indent -compact\n{told}.El\n"
 
 
 def manual():

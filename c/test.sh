@@ -94,7 +94,8 @@ build -O2 ../examples/c/first.c -o "$work/first"
 build -O2 ../examples/c/unread.c -o "$work/unread"
 "$work/unread" | cmp - <(printf '%s\n' "came 1" "came 2" "went 1" "came 3")
 build -O2 ../examples/c/mailbox.c -o "$work/mailbox"
-"$work/mailbox" ../examples/c/letters.mbox 'MAIL:from=="*ann*"' 'MAIL:subject=="*Seeds*" || MAIL:to=="*bob*"' 'MAIL:when>=1741046400' |
+"$work/mailbox" ../examples/c/letters.mbox 'MAIL:from=="*ann*"' 'MAIL:subject=="*Seeds*" || MAIL:to=="*bob*"' \
+    'MAIL:when>=1741046400' |
     cmp - ../examples/c/mailbox.stdout
 echo "examples in C: ok"
 
@@ -135,7 +136,6 @@ fi
 python3 manual.py | cmp - ../docs/bestore.3
 if command -v mypy >/dev/null; then
     (cd ../python && run mypy mypy --cache-dir="$work/mypy")
-    run "mypy, examples" env MYPYPATH=../python mypy --strict --cache-dir="$work/mypy" ../examples/python
 else
     echo "mypy: skipped, it isn't installed"
 fi
@@ -152,11 +152,14 @@ fi
 
 # The query window, on a display in memory, and what it stands on.
 unset DISPLAY
+: >"$work/display"
 if command -v Xvfb >/dev/null && python3 -c 'import tkinter' 2>/dev/null; then
     Xvfb -displayfd 3 -nolisten tcp 3>"$work/display" 2>/dev/null &
     server=$!
     trap 'kill $server 2>/dev/null; rm -rf "$work"' EXIT
     for _ in {1..100}; do [ -s "$work/display" ] || sleep 0.1; done
+fi
+if [ -s "$work/display" ]; then
     export DISPLAY=":$(<"$work/display")"
 else
     echo "the query window: skipped, there is no Xvfb or no Tk"

@@ -372,9 +372,9 @@ public:
     Written apply(const Batch &batch, std::uint32_t tries = BES_TRIES)
     {
         Written written{0, std::vector<Node>(batch.size() + 1)};
-        detail::check(bes_apply_or_retry(handle(), detail::begin_of(batch.operations_), batch.size(), detail::bytes_of(batch.bytes_),
-                                         batch.bytes_.size(), tries > 0 ? tries - 1 : 0, written.made.data(), batch.size(),
-                                         &written.number));
+        detail::check(bes_apply_or_retry(handle(), detail::begin_of(batch.operations_), batch.size(),
+                                         detail::bytes_of(batch.bytes_), batch.bytes_.size(), tries > 0 ? tries - 1 : 0,
+                                         written.made.data(), batch.size(), &written.number));
         written.made.resize(batch.size());
         return written;
     }

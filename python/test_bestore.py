@@ -185,7 +185,8 @@ class WrongUse(unittest.TestCase):
             self.assertEqual(fault.exception.number, number)
         with self.assertRaises(bestore.QuerySyntax) as syntax:
             version.explain("k <")
-        self.assertEqual((syntax.exception.query, str(syntax.exception).startswith("the query leaves the grammar\n  k <")), ("k <", True))
+        self.assertEqual(syntax.exception.query, "k <")
+        self.assertTrue(str(syntax.exception).startswith("the query leaves the grammar\n  k <"))
         version.unpin()
         with self.assertRaises(bestore.Refusal) as fault:
             version.query("k == 1")

@@ -89,7 +89,8 @@ def _arguments() -> dict[str, List[Any]]:
 
 
 def _path() -> str:
-    """Where the shared object is: named by BESTORE_LIBRARY, inside the package, in c/ of the repository, or where the system looks."""
+    """Where the shared object is: what BESTORE_LIBRARY names, inside the package, in c/ of the repository, or where the system
+    looks."""
     here = os.path.dirname(os.path.abspath(__file__))
     named = os.environ.get("BESTORE_LIBRARY")
     if named:
