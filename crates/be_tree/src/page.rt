@@ -170,6 +170,17 @@ fn whole_word(bytes: &[u8], from: usize) -> u64
     ])
 }
 
+/// The bytes from one of the last seven on, as a word, with zeros past the end: the last eight in one load, moved up.
+fn last_word(bytes: &[u8], from: usize) -> u64
+    requires some { 8 ≤ length bytes.now }
+    requires within { from < length bytes.now }
+    requires past { length bytes.now < from + 8 }
+    ensures { to_be_bytes w64 result ≡ map (λ k. slice_index bytes.now k) (range_with_len from 8) }
+{
+    let last = bytes.len() - 8;
+    whole_word(bytes, last) << (8 * (from - last))
+}
+
 /// The eight bytes from a place on, as a word, with zeros past the end.
 pub(crate) fn word_from(bytes: &[u8], from: usize) -> u64
     requires { from ≤ 328 }
@@ -177,6 +188,9 @@ pub(crate) fn word_from(bytes: &[u8], from: usize) -> u64
 {
     if from + 8 <= bytes.len() {
         return whole_word(bytes, from);
+    }
+    if bytes.len() >= 8 && from < bytes.len() {
+        return last_word(bytes, from);
     }
     u64::from_be_bytes([
         byte_or_zero(bytes, from),
