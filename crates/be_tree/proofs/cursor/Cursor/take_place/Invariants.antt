@@ -1,7 +1,7 @@
 use Rattle.std.proofs.Common.{◌≡◌, ◌+◌, ◌<◌, ◌≤◌, ◌++◌, length}
 use Rattle.be_pages.specs.Pages.{IsUnchanged}
 use Rattle.be_tree.specs.Cursor.{IsPath, IsPlace, pairs_along, pairs_past}
-use Rattle.be_tree.proofs.cursor.Cursor.step.Given as goal
+use Rattle.be_tree.proofs.cursor.Cursor.take_place.Given as goal
 
 -- the next pair is the first below this place
 abbrev pub invariant-loop-place : goal.invariant-loop-place
