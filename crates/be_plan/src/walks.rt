@@ -26,8 +26,9 @@ use be_query::Tree;
 use be_value::{Kind, Name, Refusal, read_key};
 use std::alloc::Global;
 
-/// For so many nodes there is room from the start: for few hits the list doesn't grow.
-pub(crate) const ROOM: usize = 16;
+/// For so many nodes there is room from the start: for a hundred hits the list doesn't grow. Their 1,024 bytes are the most that an allocator
+/// gives as fast as a few.
+pub(crate) const ROOM: usize = 128;
 
 /// Adds the node of a key of the index of that name and kind, if the tree is true of it.
 fn visit<S: Source>(
