@@ -141,8 +141,8 @@ fi
 
 # The wheel, in an environment that has nothing else.
 if python3 -m venv "$work/venv" >/dev/null 2>&1; then
-    make -s BUILT=1 wheel >/dev/null
-    "$work/venv/bin/python" -m pip install -q --no-index bestore-*.whl
+    "${python[@]}" ../python/backend.py "$work" >/dev/null
+    "$work/venv/bin/python" -m pip install -q --no-index "$work"/bestore-*.whl
     (cd / && env -u BESTORE_LIBRARY "$work/venv/bin/python" -W error -c 'import bestore; bestore.open(8, 1, 1).close()')
     echo "wheel: ok"
 else

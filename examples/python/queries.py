@@ -68,7 +68,7 @@ class Column(NamedTuple):
 FILE_COLUMNS = [
     Column("Name", 240, "w", "name"), Column("Size", 90, "e", "size", size_in_words),
     Column("Modified", 160, "w", "last_modified", time_in_words), Column("Type", 135, "w", "BEOS:TYPE"),
-    Column("Folder", 280, "w", "folder"),
+    Column("Folder", 270, "w", "folder"),
 ]
 MAIL_COLUMNS = [
     Column("Subject", 330, "w", "MAIL:subject"), Column("From", 230, "w", "MAIL:from"),
@@ -124,7 +124,8 @@ class Window:
         style.configure("TCombobox", padding=(5, 4))
         style.configure("Treeview", background=PAPER, fieldbackground=PAPER, rowheight=21, borderwidth=0)
         style.configure("Treeview.Heading", background=FACE, relief="flat", padding=(3, 4))
-        parts = [("Treeitem.image", {"side": "left"}), ("Treeitem.text", {"side": "left"})]  # and no mark of rows below a row
+        # An icon and a text, and no mark of rows below a row.
+        parts = [(part, {"side": "left", "sticky": ""}) for part in ("Treeitem.image", "Treeitem.text")]
         style.layout("Treeview.Item", [("Treeitem.padding", {"sticky": "nswe", "children": parts})])
         style.map("Treeview", background=[("selected", MARKED)], foreground=[("selected", "black")])
 
@@ -148,7 +149,7 @@ class Window:
         names = [column.title for column in self._columns]
         self.list = ttk.Treeview(frame, columns=names[1:], selectmode="extended")
         for place, column in zip(["#0", *names[1:]], self._columns):
-            self.list.heading(place, text=column.title, anchor=column.anchor, command=lambda column=column: self._sort(column))
+            self.list.heading(place, text=column.title, anchor=column.anchor, command=lambda column=column: self.sort(column))
             self.list.column(place, width=column.width, anchor=column.anchor, stretch=place == "#0")
         self.list.tag_configure("stripe", background=STRIPE)
         bar = ttk.Scrollbar(frame, command=self.list.yview)
@@ -207,7 +208,7 @@ class Window:
         row = self.list.insert("", "end", text=f" {name}", image=image, values=others, tags=tags)
         self._rows[hit.node], self._hits[row] = row, hit
 
-    def _sort(self, column: Column) -> None:
+    def sort(self, column: Column) -> None:
         """Sorts the rows that are there; at the second time the other way round. Those that come later stand below."""
         is_turned = self._sorted == (column, False)
         self._sorted = column, is_turned

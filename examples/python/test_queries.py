@@ -161,6 +161,11 @@ class Windows(unittest.TestCase):
             self.assertTrue(is_shown(*names))
             window.ask("size==450")
             self.assertTrue(wait_for(lambda: is_shown("450.txt")))
+            window.ask("size<3")
+            self.assertTrue(wait_for(lambda: is_shown("000.txt", "001.txt", "002.txt")))
+            for sizes in (["0 bytes", "1 bytes", "2 bytes"], ["2 bytes", "1 bytes", "0 bytes"]):
+                window.sort(queries.FILE_COLUMNS[1])
+                self.assertEqual([window.list.item(row, "values")[0] for row in window.list.get_children()], sizes)
             root.destroy()
 
     def test_fault_line(self) -> None:
