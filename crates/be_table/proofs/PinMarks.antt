@@ -11,7 +11,8 @@ use Rattle.be_table.specs.declared.pass.Knowledge.{Knowledge}
 use Rattle.be_table.specs.History.{StartsWith}
 use Rattle.be_table.specs.Rule.{pass_of}
 use Rattle.be_table.specs.Seats.{pin_of}
-use Rattle.be_table.specs.Steps.{IsPass, LookTold, Gets}
+use Rattle.be_table.specs.Steps.{IsPass, Gets, Moving, LookMoves}
+use Rattle.be_table.specs.declared.pass.Move.TheVariants.{Lock}
 use Rattle.be_table.proofs.Frames.{Me1, page-front}
 
 abbrev pub pinned : ℕ → ℕ → Option PinnedVersion
@@ -34,12 +35,12 @@ abbrev pub pin_in : Me1 → Option PinnedVersion
 pin_in m = pin_of (pass_of m.0).phase (pass_of m.0).seen
 
 module _ (me r : Me1) (a : Knowledge) (pin : Option PinnedVersion) (e : me ≡ (a ∷ [], [])) (pass : IsPass a) (is : pin ≡ pin_of a.phase a.seen) where
-  pub looked_pin : (st : Step (Option Ledger)) (n : ℕ) → LookTold st me n r → pin ≡ pin_in r
+  pub looked_pin : (st : Step (Option Ledger)) (n : ℕ) → LookMoves st me n r → pin ≡ pin_in r
   looked_pin st n told =
-      let t : LookTold st (a ∷ [], []) n r = subst (λ (m : Me1). LookTold st m n r) e told in
-      is ∙ sym (pin_looks a.phase a.seen t.0 (length t.0) pass.pin t.1.1) ∙ ap pin_in (sym t.1.0)
+      let t : LookMoves st (a ∷ [], []) n r = subst (λ (m : Me1). LookMoves st m n r) e told in
+      is ∙ sym (pin_looks a.phase a.seen t.3.0 (length t.3.0) pass.pin t.3.1.1) ∙ ap pin_in (sym t.3.1.0)
 
-  pub locked_pin : Gets me r → pin ≡ pin_in r
-  locked_pin told =
-      let t : Gets (a ∷ [], []) r = subst (λ (m : Me1). Gets m r) e told in
-      is ∙ sym (pin_stays a.phase a.seen t.1 pass.pin t.3.1) ∙ ap pin_in (sym t.3.0)
+  pub locked_pin : (k : ℕ) → Moving (Lock k) (λ w. Unit {0}) Gets me r → pin ≡ pin_in r
+  locked_pin k told =
+      let t : Moving (Lock k) (λ w. Unit {0}) Gets (a ∷ [], []) r = subst (λ (m : Me1). Moving (Lock k) (λ w. Unit {0}) Gets m r) e told in
+      is ∙ sym (pin_stays a.phase a.seen t.3.1 pass.pin t.3.3.1) ∙ ap pin_in (sym t.3.3.0)

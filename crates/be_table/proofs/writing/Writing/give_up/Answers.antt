@@ -3,6 +3,7 @@ use Rattle.be_table.specs.declared.pass.Knowledge.{Knowledge}
 use Rattle.be_pages.specs.Place.{given_place, is_held_page, place_of}
 use Rattle.be_table.specs.Rule.{ledger_places, pass_of}
 use Rattle.be_table.specs.Steps.{gives_up}
+use Rattle.be_table.specs.Trace.{with_history}
 use Rattle.be_table.proofs.Holding.{gives_as}
 use Rattle.be_table.proofs.Ledgers.{left-give}
 use Rattle.be_table.proofs.Opened.{reopened}
@@ -25,8 +26,9 @@ pub invariant_of-self : goal.invariant_of-self
 invariant_of-self c =
     let i = c.self.invariant in let w = c.self.inside in let a = pass_of w.base.me.0 in
     let s = c.load.ensures in
-    let b = gives_up a c.args.page in
-    let m = s.2 c.args.page (omega arith) in
+    let g = s.2 c.args.page (omega arith) in
+    let b = gives_up (with_history a g.0) c.args.page in
+    let m = g.2 in
     reopened w _ b i refl refl refl refl refl s.0 (m ∙ ap (λ l. (b ∷ [], l)) (ap (λ m. m.1) i.me_is)) refl i.turn refl (length-set a.places c.args.page (given_place (place_of a.places c.args.page)))
     (c.give_up.ensures ∙ ap (λ l. slice_set l c.args.page (given_place (place_of l c.args.page))) i.places)
     (left-give w.ledger.left (ledger_places w.ledger) c.args.self.now.knows.places _ c.args.page _ (i.places ∙ ap (λ (x : Rattle.be_table.specs.Place.Work). x.knows.places) c.self.view_is) c.give_up.ensures c.requires.held.0 c.requires.held.1 i.left)
