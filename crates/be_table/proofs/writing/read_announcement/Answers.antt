@@ -14,13 +14,13 @@ load-requires c =
     )
 
 pub returns-clause-me : goal.returns-clause-me
-returns-clause-me c = (scan_makes _ _ c.args.base.now.me c.load.new.seat.me c.load.ensures.2).0
+returns-clause-me c = (scan_makes c.load.result c.args.base.now.me c.load.new.seat.me c.load.ensures.2).0
 
 pub returns-clause-moves : goal.returns-clause-moves
-returns-clause-moves c = (scan_makes _ _ c.args.base.now.me c.load.new.seat.me c.load.ensures.2).1
+returns-clause-moves c = (scan_makes c.load.result c.args.base.now.me c.load.new.seat.me c.load.ensures.2).1
 
 pub returns-clause-found : goal.returns-clause-found
-returns-clause-found c = (scan_makes _ _ c.args.base.now.me c.load.new.seat.me c.load.ensures.2).2
+returns-clause-found c = (scan_makes c.load.result c.args.base.now.me c.load.new.seat.me c.load.ensures.2).2
 
 pub returns-clause-leaves : goal.returns-clause-leaves
 returns-clause-leaves c = c.load.ensures.2.3.1

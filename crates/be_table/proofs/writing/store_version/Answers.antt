@@ -22,21 +22,21 @@ store-requires g c =
 pub returns-clause-me : goal.returns-clause-me
 returns-clause-me g c =
     let m = c.args.base.now.me in let r = c.store.new.seat.me in
-    (publish_makes m r (pass_of m.0) m.1 (λ k. (c.requires.pass.0 k, m.1)) _ g.E.NextVersion.entry g.E.NextVersion.page _ c.store.ensures.2).0
+    (publish_makes g.E.NextVersion.entry g.E.NextVersion.page m r c.store.ensures.2).0
     ∙ ap (λ p. (publishes (with_history (pass_of m.0) (pass_of r.0).history) g.E.NextVersion.entry p ∷ [], m.1)) (sym c.requires.told.1)
 
 pub returns-clause-moves : goal.returns-clause-moves
 returns-clause-moves g c =
     let m = c.args.base.now.me in let r = c.store.new.seat.me in
     subst (λ p. Moves (pass_of m.0) (Publish (pass_of m.0).number p (given_of (pass_of m.0)) ∷ []) (pass_of r.0)) (sym c.requires.told.1)
-    (publish_makes m r (pass_of m.0) m.1 (λ k. (c.requires.pass.0 k, m.1)) _ g.E.NextVersion.entry g.E.NextVersion.page _ c.store.ensures.2).1
+    (publish_makes g.E.NextVersion.entry g.E.NextVersion.page m r c.store.ensures.2).1
 
 pub returns-clause-pass : goal.returns-clause-pass
 returns-clause-pass g c =
     let m = c.args.base.now.me in
-    (publish_makes m c.store.new.seat.me (pass_of m.0) m.1 (λ k. (c.requires.pass.0 k, m.1)) _ g.E.NextVersion.entry g.E.NextVersion.page _ c.store.ensures.2).2
+    (publish_makes g.E.NextVersion.entry g.E.NextVersion.page m c.store.new.seat.me c.store.ensures.2).2
 
 pub returns-clause-newest : goal.returns-clause-newest
 returns-clause-newest g c =
     let m = c.args.base.now.me in
-    (publish_makes m c.store.new.seat.me (pass_of m.0) m.1 (λ k. (c.requires.pass.0 k, m.1)) _ g.E.NextVersion.entry g.E.NextVersion.page _ c.store.ensures.2).3
+    (publish_makes g.E.NextVersion.entry g.E.NextVersion.page m c.store.new.seat.me c.store.ensures.2).3

@@ -18,4 +18,4 @@ pub of-requires-clause-told : goal.of-requires-clause-told
 of-requires-clause-told c =
     let p = c.into_base-base.ensures.pass in let t = c.into_base-base.ensures.told in
     let k = ap (λ s. s.knows) c.move_out.ensures.0 in
-    announced_told _ _ c.move_out.result.knows _ (c.args.number + 1) c.args.number _ _ p.1 (ap (λ n. n.phase) k ∙ c.requires.looked) (omega arith) c.store.ensures.2 t.1
+    announced_told _ _ c.move_out.result.knows (c.args.number + 1) c.args.number _ _ p.1 (ap (λ n. n.phase) k ∙ c.requires.looked) (omega arith) c.store.ensures.2 t.1

@@ -14,4 +14,4 @@ store-requires c =
     )
 
 pub of-requires-clause-told : goal.of-requires-clause-told
-of-requires-clause-told c = unpinned_told _ _ c.move_out.result.knows _ _ _ _ c.into_base-base.ensures.pass.1 c.store.ensures.2 c.into_base-base.ensures.told.1
+of-requires-clause-told c = unpinned_told _ _ c.move_out.result.knows _ _ c.into_base-base.ensures.pass.1 c.store.ensures.2 c.into_base-base.ensures.told.1
