@@ -215,9 +215,14 @@ module _ (limits : Limits) (slots i : ℕ) (a : Knowledge) (carried : List (ℕ 
       let m = moved limits s h 0 (either (eqb n 0) (a.number + 1) n) i a carried at (Lock a.number) refl (λ v w. IsLock a.number n v w) (λ l r. MatchBool (eqb n 0) (Gets (with_history a l ∷ [], carried) r) (LockIsHeld (with_history a l ∷ [], carried) n r)) (λ w. Unit {0}) y
       (λ v w g. (subst (λ b. MatchBool b (MayLock v a.number × (w ≡ after_lock v a.number)) (w ≡ v)) yes g, tt))
       (λ r g. let x : Gets (with_history a hist ∷ [], carried) r = subst (λ b. MatchBool b (Gets (with_history a hist ∷ [], carried) r) (LockIsHeld (with_history a hist ∷ [], carried) n r)) yes g in
-      one_of a (takes_lock (with_history a hist) x.1 (ledger_places x.0) x.2) hist ((0, Some x.0) ∷ carried) r x.3.0 refl refl) in
-      (m.0, m.1, m.2, m.3, subst (λ b. MatchBool b (Moving (Lock a.number) (λ w. Unit {0}) Gets (a ∷ [], carried) (m.0, carried_after carried m.1)) (LockIsHeld (a ∷ [], carried) n (m.0, carried_after carried m.1))) (sym yes)
-      (m.4.0, m.4.1, m.4.2, subst (λ b. MatchBool b (Gets (with_history a m.4.0 ∷ [], carried) (m.0, carried_after carried m.1)) (LockIsHeld (with_history a m.4.0 ∷ [], carried) n (m.0, carried_after carried m.1))) yes m.4.3)))
+      one_of a (takes_lock (with_history a hist) x.1 (ledger_places x.0) x.2) hist ((0, Some x.0) ∷ carried) r x.3.0 refl refl) in (
+        m.0,
+        m.1,
+        m.2,
+        m.3,
+        subst (λ b. MatchBool b (Moving (Lock a.number) (λ w. Unit {0}) Gets (a ∷ [], carried) (m.0, carried_after carried m.1)) (LockIsHeld (a ∷ [], carried) n (m.0, carried_after carried m.1))) (sym yes)
+            (m.4.0, m.4.1, m.4.2, subst (λ b. MatchBool b (Gets (with_history a m.4.0 ∷ [], carried) (m.0, carried_after carried m.1)) (LockIsHeld (with_history a m.4.0 ∷ [], carried) n (m.0, carried_after carried m.1))) yes m.4.3),
+      ))
       (λ other.
       let no : eqb n 0 ≡ false = ne_eqb n 0 other in
       let y = lock_by limits slots i a carried idle s h.0 h.1 sized at fits in

@@ -152,7 +152,7 @@ me_next a ns n m r b e f =
     let h = (pass_of r.0).history in
     let before : with_history (pass_of m.0) h ≡ with_history (scans_all a ns) h = ap (λ (x : Me3). with_history (pass_of x.0) h) e in
     let after : scans (with_history (pass_of m.0) h) n ≡ with_history (scans_all a (ns ++ n ∷ [])) h =
-        ap (λ (k : Knowledge). scans k n) before ∙ scans_history (scans_all a ns) n h ∙ ap (λ (k : Knowledge). with_history k h) (sym (scans_all-push a ns n)) in
+    ap (λ (k : Knowledge). scans k n) before ∙ scans_history (scans_all a ns) n h ∙ ap (λ (k : Knowledge). with_history k h) (sym (scans_all-push a ns n)) in
     f ∙ (λ k. (after k ∷ [], ap (λ (x : Me3). x.1) e k))
 
 pub part_step : (passes : ℕ) (a : Knowledge) (m r : Me3) (j l n : ℕ) → j < passes → a.limits.passes ≡ passes → IsPart passes a (pass_of m.0) j l → r ≡ (scans (with_history (pass_of m.0) (pass_of r.0).history) n ∷ [], m.1)

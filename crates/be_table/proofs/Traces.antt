@@ -112,8 +112,8 @@ module _ (limits : Limits) (s : Table) (h : Shows limits s) (word n i : ℕ) (a 
       let fa = (h.1.views i (a ∷ []) at).0 in
       let run = goes b.world d.world y.3.2 in
       let stands : Stands limits (stepped s word n i carried y.0 y.1) d = subst
-          (λ (vs : List (List Knowledge)). Stands limits (record { words = set s.words word n; homes = homes_after s.homes carried y.1; views = vs }) d)
-          (set-set s.views i (with_history a later ∷ []) y.0) y.3.1 in
+      (λ (vs : List (List Knowledge)). Stands limits (record { words = set s.words word n; homes = homes_after s.homes carried y.1; views = vs }) d)
+      (set-set s.views i (with_history a later ∷ []) y.0) y.3.1 in
       let runs : RunsTo limits tr.words later d.world = run-append _ b.world d.world t (m ∷ []) tr.runs run.0 in
       let fits : Fits limits d i c.0 = (subst (AllFit limits d i) c.1 (stands.views i y.0 (set_at s.views i (a ∷ []) y.0 at))).0 in (
         y.0,

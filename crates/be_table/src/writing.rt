@@ -242,7 +242,9 @@ impl<'a> Writing<'a> {
             page (state_after (replay (entries self.old.knows.seen)) ops.now) }
         requires exact { (q : ℕ) → times q (reach (word_of_page self.old.knows.words) page) ≡ bit (is_kept (standing_among self.old.knows.places q)) }
         ensures write { self.new ≡ record self.old {
-            knows = publishes (with_history self.old.knows self.new.knows.history) (entry_by self.old.knows ops.now dones.now) page; reserved = 0 } }
+          knows = publishes (with_history self.old.knows self.new.knows.history) (entry_by self.old.knows ops.now dones.now) page;
+          reserved = 0;
+        } }
         ensures moves { Moves self.old.knows (moves.Publish self.old.knows.number page (given_of self.old.knows) ∷ []) self.new.knows }
         ensures result { result ≡ length self.new.knows.seen }
     {

@@ -34,9 +34,14 @@ loop-pass-preserved c =
     record {
       table = r.ensures.seat.0 ∙ i.table;
       id = r.ensures.seat.1 ∙ i.id;
-      me = (i.me.0 ++ r.result ∷ [], length-append i.me.0 (r.result ∷ []) ∙ ap (λ n. n + 1) i.me.1, me_next a i.me.0 r.result c.loop-pass.base.me r.new.base.me c.args.base.now.me i.me.2 r.ensures.me, subst (IsLeastAnnounced c.args.current (i.me.0 ++ r.result ∷ [])) (sym c.lower-least.ensures) (least_more c.args.current i.me.0 c.loop-pass.least r.result i.me.3),
-          found_more a.limits a.number c.loop-pass.pass a.history s.history q.history i.me.0 r.result i.me.1 i.me.4 (makes_starts a.number s.history (Scan a.number c.loop-pass.pass ∷ []) q.history one)
-          (found_now a.limits a.number c.loop-pass.pass r.result a.history s.history q limits i.moves one found));
+      me = (
+        i.me.0 ++ r.result ∷ [],
+        length-append i.me.0 (r.result ∷ []) ∙ ap (λ n. n + 1) i.me.1,
+        me_next a i.me.0 r.result c.loop-pass.base.me r.new.base.me c.args.base.now.me i.me.2 r.ensures.me,
+        subst (IsLeastAnnounced c.args.current (i.me.0 ++ r.result ∷ [])) (sym c.lower-least.ensures) (least_more c.args.current i.me.0 c.loop-pass.least r.result i.me.3),
+        found_more a.limits a.number c.loop-pass.pass a.history s.history q.history i.me.0 r.result i.me.1 i.me.4 (makes_starts a.number s.history (Scan a.number c.loop-pass.pass ∷ []) q.history one)
+            (found_now a.limits a.number c.loop-pass.pass r.result a.history s.history q limits i.moves one found),
+      );
       moves = subst (λ j. Makes a.number a.history (scans_of a.number j) q.history) next (makes_more a.number a.history (scans_of a.number c.loop-pass.pass) s.history (Scan a.number c.loop-pass.pass ∷ []) q.history i.moves one);
       part = subst (IsPart c.args.table.now.limits.passes a (pass_of r.new.base.me.0) (c.loop-pass.pass + 1)) (sym c.lower-least.ensures)
           (part_step c.args.table.now.limits.passes a c.loop-pass.base.me r.new.base.me c.loop-pass.pass c.loop-pass.least r.result (omega arith) (ap (λ l. l.passes) c.requires.current.0) i.part r.ensures.me r.ensures.leaves);
