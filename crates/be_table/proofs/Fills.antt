@@ -48,7 +48,7 @@ stored_as me r q p i n x h g first next found other =
     ∙ ap (λ (l : List Move). (fills_word (with_history a l) p i x ∷ [], me.1)) (sym last)
 
 -- the moves of a fill, where the word was there or not
-moves_if : Knowledge → ℕ → ℕ → ℕ → ℕ → Bool → List Move
+abbrev moves_if : Knowledge → ℕ → ℕ → ℕ → ℕ → Bool → List Move
 moves_if a p i x n z = Fill a.number p i n ∷ (if z then [] else Fill a.number p i x ∷ [])
 
 pub there_makes : (me r : Me1) (p i n x : ℕ) (h : List Move) → r ≡ (fills (with_history (pass_of me.0) h) p i n ∷ [], me.1) → n ≡ slice_index (pass_of me.0).words (word_place p i) → n ≡ x
@@ -66,6 +66,6 @@ stored_makes me r q p i n x h g first next found other makes more =
     let a = pass_of me.0 in
     let last : (pass_of q.0).history ≡ g = ap (λ (m : Me1). (pass_of m.0).history) next in
     let w = slice_index a.words (word_place p i) in
-    let then : Makes a.number h (Fill a.number p i x ∷ []) g = subst (λ (k : Knowledge). Makes k.number k.history (Fill k.number p i x ∷ []) g) (ap (λ (m : Me1). pass_of m.0) first) more in
+    let after : Makes a.number h (Fill a.number p i x ∷ []) g = subst (λ (k : Knowledge). Makes k.number k.history (Fill k.number p i x ∷ []) g) (ap (λ (m : Me1). pass_of m.0) first) more in
     subst (λ (y : ℕ × Bool × List Move). Makes a.number a.history (moves_if a p i x y.0 y.1) y.2) (λ k. (found k, sym (ne_eqb w x (λ e. other (found ∙ e))) k, sym last k))
-    (makes_more a.number a.history (Fill a.number p i n ∷ []) h (Fill a.number p i x ∷ []) g makes then)
+    (makes_more a.number a.history (Fill a.number p i n ∷ []) h (Fill a.number p i x ∷ []) g makes after)
