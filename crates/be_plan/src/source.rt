@@ -1,21 +1,24 @@
 //! What answers for a volume.
 //!
-//! A source is read by five calls, and each may change the source itself: a cursor moves, a reader counts its steps. What stays is said in two
+//! A source is read by six calls, and each may change the source itself: a cursor moves, a reader counts its steps. What stays is said in two
 //! ways. `kept` names the facts of the source that no call changes, and `answers_for` says by a relation which volume it answers for. It is a
 //! relation and not a function, since a reader of pages spells a volume but can't compute it: a contract says what holds of each volume
 //! that the source answers for, and the caller, who knows the volume, names it.
 ghost use Rattle.std.specs.Prelude.{◌≡◌, true, OnOk, IfErr};
 ghost use Rattle.std.specs.Option.{option_copied, option_map};
 ghost use Rattle.be_value.specs.declared.refusals.Refusal.TheVariants.{OutOfMemory};
+ghost use Rattle.be_query.specs.View.{literal};
 ghost use Rattle.be_volume.specs.Reading.{attribute};
 ghost use Rattle.be_volume.specs.Volume.{State};
 ghost use Rattle.be_volume.specs.Keys.{IsKey, IsNextKey};
 ghost use Rattle.be_volume.specs.Reading.{index_kind};
 ghost use Rattle.be_volume.specs.Sound.{IsSound};
-ghost use Rattle.be_plan.specs.Walk.{HasNodes, HasOnly, Keeps};
+ghost use Rattle.be_plan.specs.Walk.{HasNodes, HasOnly, Keeps, is_true_at};
 
 use arrayvec::ArrayVec;
+use be_query::Comparison;
 use be_value::{Kind, Name, Refusal, Value};
+use be_volume::holds;
 
 /// A reader of one volume. Its calls may change the reader itself, but neither the volume nor the facts that it keeps. Each call asks that
 /// the source answers for some volume, and its clauses hold of every volume for which it does. No call takes memory, but for what is added to a
@@ -78,6 +81,21 @@ pub trait Source {
         ensures answer { (volume : State) → answers_for self.old volume → result ≡ attribute volume node name.now }
         ensures stays { kept self.new ≡ kept self.old }
         ensures answers { (volume : State) → answers_for self.old volume → answers_for self.new volume };
+
+    /// Whether the node has an attribute of the comparison's name and the comparison is true of it, whether or not an index has it. A source
+    /// that can compare a value where it stands has a body of its own, which moves none.
+    fn holds(&mut self, node: u64, comparison: &Comparison) -> bool
+        requires { (volume : State) × answers_for self.old volume }
+        ensures answer { (volume : State) → answers_for self.old volume →
+            result ≡ is_true_at volume node comparison.now.name comparison.now.op (literal comparison.now.literal) }
+        ensures stays { kept self.new ≡ kept self.old }
+        ensures answers { (volume : State) → answers_for self.old volume → answers_for self.new volume }
+    {
+        match self.value(node, &comparison.name) {
+            Some(value) => holds(comparison, &value),
+            None => false,
+        }
+    }
 
     // A law: each pair of an index of the volume is its node's attribute and has the index's kind.
     ghost sound: { (source : Self) (volume : State) → answers_for source volume → IsSound volume };

@@ -1,5 +1,5 @@
 -- Many bytes of a quoted text are passed over at once.
-use Rattle.std.proofs.Common.{◌≡◌, ℕ, ◌+◌, ◌-◌, ◌<◌, ◌≤◌, true, false, zero, suc, List, [], ◌∷◌, length, take, drop, get_or, ◌||◌, refl, sym, ap, ◌∙◌, arith, take-add, cond}
+use Rattle.std.proofs.Common.{◌≡◌, ℕ, ◌+◌, ◌-◌, ◌<◌, ◌≤◌, Bool, true, false, zero, suc, List, [], ◌∷◌, length, take, drop, get_or, ◌||◌, refl, sym, ap, ◌∙◌, arith, take-add, cond}
 use Rattle.std.specs.List.{list_any, slice_range}
 use Rattle.std.proofs.lemmas.Bool.{cond-false, or_parts, or_from, ne_eqb, true≢false}
 use Rattle.std.proofs.lemmas.List.Folds.{list_any-append}
@@ -12,6 +12,22 @@ use Rattle.be_query.proofs.Spans.{shifted, shifted_none, stops_at_end, stops, qu
 further_shifted : (n : ℕ) (s : Span) → further (shifted n s) ≡ shifted (suc n) s
 further_shifted n (Ends k) = ap Ends (omega arith)
 further_shifted n (Breaks k) = ap Breaks (omega arith)
+
+shuffled : (a b c x y z : Bool) → (((a || x) || (b || y)) || (c || z)) ≡ (((a || b) || c) || ((x || y) || z))
+shuffled true b c x y z = refl
+shuffled false true c true y z = refl
+shuffled false true c false y z = refl
+shuffled false false true true y z = refl
+shuffled false false true false true z = refl
+shuffled false false true false false z = refl
+shuffled false false false x y z = refl
+
+-- a mark is looked for as each of its bytes
+pub any_mark : (q : ℕ) (bs : List ℕ) → ((list_any (λ b. b == q) bs || list_any (λ b. b == 0) bs) || list_any (λ b. b == 92) bs) ≡ list_any (is_mark q) bs
+any_mark q [] = refl
+any_mark q (b ∷ bs) =
+    shuffled (b == q) (b == 0) (b == 92) (list_any (λ b. b == q) bs) (list_any (λ b. b == 0) bs) (list_any (λ b. b == 92) bs)
+    ∙ ap (λ r. is_mark q b || r) (any_mark q bs)
 
 -- no byte of the front matters to a quoted text
 pub skipped : (q n : ℕ) (bs : List ℕ) → n ≤ length bs → list_any (is_mark q) (take n bs) ≡ false → quoted_span q false bs ≡ shifted n (quoted_span q false (drop n bs))

@@ -116,13 +116,23 @@ fn unmarked_front(quote: u8, bytes: &[u8]) -> usize
     at
 }
 
-/// Whether a byte of the block is a backslash, or ends the quoted text. It looks at each, so that it can look at all at once.
+/// Whether a byte of the block is a backslash, or ends the quoted text.
 fn has_mark(quote: u8, block: &[u8]) -> bool
     ensures { result ≡ list_any (is_mark quote) block.now }
 {
+    let ends = has_byte(quote, block);
+    let breaks = has_byte(0, block);
+    let escapes = has_byte(b'\\', block);
+    ends | breaks | escapes
+}
+
+/// Whether the byte is in the block. It looks at each place, so that it can look at all at once.
+fn has_byte(byte: u8, block: &[u8]) -> bool
+    ensures { result ≡ list_any (λ b. b == byte) block.now }
+{
     let mut found = false;
     'bytes: for b in block {
-        found |= (*b == quote) | (*b == 0) | (*b == b'\\');
+        found |= *b == byte;
     }
     found
 }

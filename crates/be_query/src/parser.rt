@@ -109,6 +109,10 @@ impl<'a> Stage<'a> {
 }
 
 impl Context {
+    ghost use Rattle.be_query.specs.Building.{awaited_at, marks_of, tree_at};
+    ghost use Rattle.be_query.specs.Faults.{ends};
+    ghost use Rattle.be_query.specs.View.{outer_of};
+
     /// Takes a token at a place, whose text begins at another, and says what may come next.
     pub(crate) fn take<'a>(
         &mut self,
@@ -131,13 +135,37 @@ impl Context {
             Stage::Joint(tree) => take_joint(alloc, tree, self, at, token),
         }
     }
+
+    /// The tree at the end of a text of so many bytes. Nothing more is taken.
+    pub(crate) fn finish(
+        &mut self,
+        alloc: Global,
+        stage: Stage<'_>,
+        len: usize,
+    ) -> Result<Box<Tree>, Refusal>
+        requires { IsCounted (stage_of stage) self.now }
+        ensures ok { IfOk result (λ t. tree_at (stage_of stage.entry) (level_seen self.old.level) (outer_of self.old) ≡ Some (formula t.value)) }
+        ensures ends { IfOk result (λ t. ends (awaited_at (stage_of stage.entry)) (marks_of (level_seen self.old.level) (outer_of self.old)) len ≡ None) }
+        ensures err { IfErr result (λ e. IsMemory e
+            (ends (awaited_at (stage_of stage.entry)) (marks_of (level_seen self.old.level) (outer_of self.old)) len ≡ Some e)) }
+    {
+        match stage {
+            Stage::Joint(tree) => {
+                if !self.outer.is_empty() {
+                    return Err(Refusal::Syntax(len));
+                }
+                Ok(end_side(alloc, &mut self.level, tree)?)
+            }
+            Stage::Operand => Err(Refusal::Syntax(len)),
+            Stage::Operator(_) => Err(Refusal::Syntax(len)),
+            Stage::Value(_, _) => Err(Refusal::Syntax(len)),
+        }
+    }
 }
 
 impl<'a> Parser<'a> {
-    ghost use Rattle.be_query.specs.Building.{nothing_built, tree_at};
-    ghost use Rattle.be_query.specs.Faults.{ends};
-    ghost use Rattle.be_query.specs.Building.{awaited_at, marks_of};
-    ghost use Rattle.be_query.specs.View.{outer_of, parser_state};
+    ghost use Rattle.be_query.specs.Building.{nothing_built};
+    ghost use Rattle.be_query.specs.View.{parser_state};
 
     /// At the start of a text.
     pub(crate) fn new(alloc: Global) -> Parser<'a>
@@ -154,37 +182,6 @@ impl<'a> Parser<'a> {
         Parser {
             stage: Stage::Operand,
             context,
-        }
-    }
-
-    /// The tree at the end of a text of so many bytes.
-    pub(crate) fn finish(self, alloc: Global, len: usize) -> Result<Box<Tree>, Refusal>
-        requires { IsCounted (stage_of self.stage) self.context }
-        ensures ok { IfOk result (λ t. tree_at (stage_of self.entry.stage) (level_seen self.entry.context.level) (outer_of self.entry.context)
-            ≡ Some (formula t.value)) }
-        ensures ends { IfOk result (λ t. ends (awaited_at (stage_of self.entry.stage)) (marks_of (level_seen self.entry.context.level) (outer_of self.entry.context)) len
-            ≡ None) }
-        ensures err { IfErr result (λ e. IsMemory e
-            (ends (awaited_at (stage_of self.entry.stage)) (marks_of (level_seen self.entry.context.level) (outer_of self.entry.context)) len ≡ Some e)) }
-    {
-        let Parser { stage, context } = self;
-        let Context {
-            mut level,
-            outer,
-            depth,
-            comparisons,
-        } = context;
-        let _counts = depth.min(comparisons);
-        match stage {
-            Stage::Joint(tree) => {
-                if !outer.is_empty() {
-                    return Err(Refusal::Syntax(len));
-                }
-                Ok(end_side(alloc, &mut level, tree)?)
-            }
-            Stage::Operand => Err(Refusal::Syntax(len)),
-            Stage::Operator(_) => Err(Refusal::Syntax(len)),
-            Stage::Value(_, _) => Err(Refusal::Syntax(len)),
         }
     }
 }

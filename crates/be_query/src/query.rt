@@ -87,7 +87,6 @@ pub fn parse(alloc: Global, text: &str) -> Result<Query, Refusal>
             Front::Odd => return Err(Refusal::Syntax(at)),
         }
     }
-    let parser = Parser { stage, context };
-    let tree = parser.finish(alloc, text.len())?;
+    let tree = context.finish(alloc, stage, text.len())?;
     Ok(Query { tree })
 }

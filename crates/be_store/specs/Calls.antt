@@ -6,6 +6,7 @@ use Rattle.be_table.specs.declared.pass.Commit.{Commit}
 use Rattle.be_table.specs.declared.pass.Knowledge.{Knowledge}
 use Rattle.be_table.specs.History.{StartsWith}
 use Rattle.be_table.specs.Steps.{IsPass, entry_by, met, unpins}
+use Rattle.be_table.specs.Trace.{with_history}
 use Rattle.be_volume.specs.declared.ops.Done.{Done}
 use Rattle.be_volume.specs.declared.ops.Op.{Op}
 use Rattle.be_store.specs.History.{Accepts, Learns, Pins}
@@ -17,7 +18,7 @@ Call a c =
     ((ops : List Op) × (n : ℕ) × (dones : List Done) × Accepts a c ops n dones)
     ⊎ Learns a c
     ⊎ ((n : ℕ) × Pins a c n)
-    ⊎ (c ≡ unpins a)
+    ⊎ (c ≡ unpins (with_history a c.history))
     ⊎ HasRead a c
     ⊎ ((log : List Commit) × StartsWith log a.seen × (c ≡ met a log))
 

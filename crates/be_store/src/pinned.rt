@@ -10,6 +10,7 @@ ghost use Rattle.be_store.specs.Passes.{IsBetweenCalls, IsBetweenCalls-prop, IsP
 ghost use Rattle.be_table.specs.Works.{IsSeatOf};
 ghost use Rattle.be_table.specs.Seats.{pinned_number};
 ghost use Rattle.be_table.specs.Steps.{unpins};
+ghost use Rattle.be_table.specs.Trace.{with_history};
 ghost use Rattle.be_value.specs.Refusal.{Answers};
 ghost use Rattle.be_value.specs.declared.refusals.Refusal.TheVariants.{OutOfMemory};
 ghost use Rattle.be_volume.specs.Query.{scan};
@@ -120,7 +121,7 @@ impl Drop for Pinned<'_> {
     fn drop(self)
         requires pinned { (n : ℕ) × IsPinnedTo self.pass.now.knows n }
         ensures pass { IsPassOf self.entry.store.now self.exit.1.0.now }
-        ensures unpinned { self.exit.1.0.now.knows ≡ unpins self.entry.pass.now.knows }
+        ensures unpinned { self.exit.1.0.now.knows ≡ unpins (with_history self.entry.pass.now.knows self.exit.1.0.now.knows.history) }
     {
         let Pinned {
             store,

@@ -1,5 +1,5 @@
 //! The store, and the calls of its passes.
-ghost use Rattle.std.specs.Prelude.{◌≡◌, ◌≤◌, ◌<◌, ℕ, [], None, Some, Ok, MatchResult, IsOk, IfOk, IfErr, OnErr, length, map, string_bytes};
+ghost use Rattle.std.specs.Prelude.{◌≡◌, ◌≤◌, ◌<◌, ℕ, [], ◌∷◌, None, Some, Ok, MatchResult, IsOk, IfOk, IfErr, OnErr, length, map, string_bytes};
 ghost use Rattle.be_store.specs.Passes.{IsPassOf, IsPinnedTo, HasRead, volume_pinned};
 ghost use Rattle.be_store.specs.History.{Accepts, Learns, IsReason, IsLastReason, IsUntold, Pins, text_seen};
 
@@ -44,7 +44,9 @@ impl Store {
     ghost use Rattle.be_table.specs.Seats.{pinned_number};
     ghost use Rattle.be_table.specs.Steps.{Has, KeepsSeen, longer, met, unpins};
     ghost use Rattle.be_table.specs.Versions.{CanSpellEach};
-    ghost use Rattle.be_table.specs.Works.{AllAt, AreNew, IsOpenRefused, knows_of};
+    ghost use Rattle.be_table.specs.Trace.{with_history};
+    ghost use Rattle.be_table.specs.declared.pass.Move.TheVariants as moves;
+    ghost use Rattle.be_table.specs.Works.{AllAt, AreNew, IsOpenRefused, Moves, knows_of};
     ghost use Rattle.be_value.specs.Refusal.{Answers};
     ghost use Rattle.be_value.specs.declared.refusals.Refusal.TheVariants.{OutOfMemory};
     ghost use Rattle.be_volume.specs.Query.{scan};
@@ -165,7 +167,8 @@ impl Store {
         requires pass { IsPassOf self.now pass.old }
         requires pinned { (n : ℕ) × IsPinnedTo pass.old.knows n }
         ensures pass { IsPassOf self.now pass.new }
-        ensures unpinned { pass.new.knows ≡ unpins pass.old.knows }
+        ensures unpinned { pass.new.knows ≡ unpins (with_history pass.old.knows pass.new.knows.history) }
+        ensures moves { Moves pass.old.knows (moves.Unpin pass.old.knows.number ∷ []) pass.new.knows }
     {
         self.table.unpin(pass);
     }

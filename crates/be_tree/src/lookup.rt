@@ -3,18 +3,19 @@
 //! On each level the items of one page are asked one after the other, where they stand, up to the first whose key is
 //! greater. A page has 12 at most, mostly their first words decide, and a processor reads ahead along them, while the steps
 //! of a binary search wait for each other.
-ghost use Rattle.std.specs.Prelude.{◌≡◌, [], ◌+◌, ◌-◌, ◌<◌, ◌≤◌, true, false, length, map, slice_index, option_map, is_some, IfNone, IfSome, None, Some};
+ghost use Rattle.std.specs.Prelude.{◌≡◌, [], ◌+◌, ◌-◌, ◌<◌, ◌≤◌, true, false, length, map, slice_index, option_map, is_some, IfNone, IfSome, IfOk, IfErr, None, Some};
 ghost use Rattle.std.specs.Prelude.{IsTrue};
 ghost use Rattle.std.specs.Int.{to_be_bytes, w64};
 ghost use Rattle.std.specs.List.{range_with_len};
 ghost use Rattle.std.specs.Ordering.{is_eq, is_gt};
 ghost use Rattle.be_pages.specs.Pages.{IsUnchanged, is_readable};
-ghost use Rattle.be_tree.specs.Page.{IsItem, IsPage, item_at, items_of};
-ghost use Rattle.be_tree.specs.Key.{IsRank, key_cmp, payload_at};
+ghost use Rattle.std.specs.declared.cmp.Ordering.TheVariants.{Equal};
+ghost use Rattle.be_tree.specs.Page.{IsItem, IsPage, item_at, item_place, items_of};
+ghost use Rattle.be_tree.specs.Key.{IsGap, IsRank, key_cmp, payload_at};
 ghost use Rattle.be_tree.specs.Tree.{IsTree, pairs};
 
 use crate::page::{HEADER_WORDS, ITEM_WORDS, child_at, cmp_at, word_from};
-use crate::walk::fill_payload;
+use crate::payload::fill_payload;
 use arrayvec::ArrayVec;
 use be_pages::Look;
 use std::cmp::Ordering;
@@ -35,7 +36,7 @@ pub fn find_into<L: Look>(
     ensures empty { result ≡ false → payload.new.items ≡ [] }
     ensures unchanged { IsUnchanged L.kept L.standing L.words look.old look.new }
 {
-    let Some((page, at)) = key_place(look, root, key) else {
+    let Some((page, at)) = find_place(look, root, key) else {
         return false;
     };
     fill_payload(look, page, at, payload);
@@ -61,11 +62,12 @@ pub fn has_key<L: Look>(look: &mut L, root: u64, key: &[u8]) -> bool
     ensures found { result ≡ is_some (payload_at (pairs (L.words look.old) root) key.now) }
     ensures unchanged { IsUnchanged L.kept L.standing L.words look.old look.new }
 {
-    key_place(look, root, key).is_some()
+    find_place(look, root, key).is_some()
 }
 
-/// The page and the place of the item that has this key.
-fn key_place<L: Look>(look: &mut L, root: u64, key: &[u8]) -> Option<(u64, usize)>
+/// The page and the place of the item that has this key, for those who read its payload where it stands (`payload_number_at` and
+/// its like). It costs one descent.
+pub fn find_place<L: Look>(look: &mut L, root: u64, key: &[u8]) -> Option<(u64, usize)>
     requires tree { IsTree (L.standing look.old) (L.words look.old) root }
     ensures none { IfNone result (payload_at (pairs (L.words look.old) root) key.now ≡ None) }
     ensures some { IfSome result (λ at. payload_at (pairs (L.words look.old) root) key.now ≡ Some (item_at (L.words look.old at.0) at.1).payload) }
@@ -84,10 +86,9 @@ fn key_place<L: Look>(look: &mut L, root: u64, key: &[u8]) -> Option<(u64, usize
         page = child_at(look, page, HEADER_WORDS + ITEM_WORDS * at);
         level -= 1;
     }
-    let at = rank(look, page, key).saturating_sub(1);
-    match cmp_at(look, page, HEADER_WORDS + ITEM_WORDS * at, key) {
-        Ordering::Equal => Some((page, HEADER_WORDS + ITEM_WORDS * at)),
-        Ordering::Less | Ordering::Greater => None,
+    match search(look, page, key) {
+        Ok(at) => Some((page, HEADER_WORDS + ITEM_WORDS * at)),
+        Err(_) => None,
     }
 }
 
@@ -119,8 +120,31 @@ pub(crate) fn rank<L: Look>(look: &mut L, page: u64, key: &[u8]) -> usize
     count
 }
 
+/// Where a key stands among a page's items: the number of the item that has it, or how many have lesser keys.
+pub(crate) fn search<L: Look>(look: &mut L, page: u64, key: &[u8]) -> Result<usize, usize>
+    requires readable { IsTrue (is_readable (L.standing look.old page)) }
+    requires page { IsPage (L.words look.old page) }
+    ensures found { IfOk result (λ at. at < L.words look.old page 1) }
+    ensures same { IfOk result (λ at. key_cmp (item_at (L.words look.old page) (item_place at)).key key.now ≡ Equal) }
+    ensures absent { IfErr result (IsGap key.now (items_of (L.words look.old page))) }
+    ensures unchanged { IsUnchanged L.kept L.standing L.words look.old look.new }
+{
+    let first = word_from(key, 0);
+    let count = look.word(page, 1) as usize;
+    for at in 0..count {
+        let order = order_at(look, page, HEADER_WORDS + ITEM_WORDS * at, key, first);
+        if order.is_eq() {
+            return Ok(at);
+        }
+        if order.is_gt() {
+            return Err(at);
+        }
+    }
+    Err(count)
+}
+
 /// Whether the key of the item at a place is greater than a key whose first word is at hand.
-fn is_above<L: Look>(look: &mut L, page: u64, at: usize, key: &[u8], first: u64) -> bool
+pub(crate) fn is_above<L: Look>(look: &mut L, page: u64, at: usize, key: &[u8], first: u64) -> bool
     requires readable { IsTrue (is_readable (L.standing look.old page)) }
     requires in_page { at + 42 ≤ 512 }
     requires item { IsItem (L.words look.old page) at }
@@ -128,12 +152,24 @@ fn is_above<L: Look>(look: &mut L, page: u64, at: usize, key: &[u8], first: u64)
     ensures above { result ≡ is_gt (key_cmp (item_at (L.words look.old page) at).key key.now) }
     ensures unchanged { IsUnchanged L.kept L.standing L.words look.old look.new }
 {
+    order_at(look, page, at, key, first).is_gt()
+}
+
+/// How the key of the item at a place compares with a key whose first word is at hand: mostly the first words decide.
+fn order_at<L: Look>(look: &mut L, page: u64, at: usize, key: &[u8], first: u64) -> Ordering
+    requires readable { IsTrue (is_readable (L.standing look.old page)) }
+    requires in_page { at + 42 ≤ 512 }
+    requires item { IsItem (L.words look.old page) at }
+    requires first { to_be_bytes w64 first ≡ map (λ k. slice_index key.now k) (range_with_len 0 8) }
+    ensures order { result ≡ key_cmp (item_at (L.words look.old page) at).key key.now }
+    ensures unchanged { IsUnchanged L.kept L.standing L.words look.old look.new }
+{
     let len = look.word(page, at) >> 32;
     if len >= 8 {
         let mine = look.word(page, at + 1);
         if mine != first {
-            return mine.cmp(&first).is_gt();
+            return mine.cmp(&first);
         }
     }
-    cmp_at(look, page, at, key).is_gt()
+    cmp_at(look, page, at, key)
 }

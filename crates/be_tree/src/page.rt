@@ -47,7 +47,7 @@ pub(crate) fn child_at<L: Look>(look: &mut L, page: u64, at: usize) -> u64
 pub(crate) fn number_behind<L: Look>(look: &mut L, page: u64, at: usize, skip: usize) -> u64
     requires readable { IsTrue (is_readable (L.standing look.old page)) }
     requires skips { skip < 8 }
-    requires in_page { at + 2 ≤ 512 }
+    requires in_page { at + words_for (skip + 8) ≤ 512 }
     ensures number { result ≡ from_be_bytes w64 (drop skip (bytes_at (L.words look.old page) at (skip + 8))) }
     ensures unchanged { IsUnchanged L.kept L.standing L.words look.old look.new }
 {
@@ -60,7 +60,7 @@ pub(crate) fn number_behind<L: Look>(look: &mut L, page: u64, at: usize, skip: u
 }
 
 /// The number whose eight bytes stand in two words, from a byte of the first one on.
-fn straddled(first: u64, second: u64, skip: usize) -> u64
+pub(crate) fn straddled(first: u64, second: u64, skip: usize) -> u64
     requires { (0 < skip) × (skip < 8) }
     ensures { result ≡ first * 2 ^ (8 * skip) % 2 ^ 64 + second / 2 ^ (64 - 8 * skip) }
 {
@@ -170,6 +170,17 @@ fn whole_word(bytes: &[u8], from: usize) -> u64
     ])
 }
 
+/// The bytes from one of the last seven on, as a word, with zeros past the end: the last eight in one load, moved up.
+fn last_word(bytes: &[u8], from: usize) -> u64
+    requires some { 8 ≤ length bytes.now }
+    requires within { from < length bytes.now }
+    requires past { length bytes.now < from + 8 }
+    ensures { to_be_bytes w64 result ≡ map (λ k. slice_index bytes.now k) (range_with_len from 8) }
+{
+    let last = bytes.len() - 8;
+    whole_word(bytes, last) << (8 * (from - last))
+}
+
 /// The eight bytes from a place on, as a word, with zeros past the end.
 pub(crate) fn word_from(bytes: &[u8], from: usize) -> u64
     requires { from ≤ 328 }
@@ -177,6 +188,9 @@ pub(crate) fn word_from(bytes: &[u8], from: usize) -> u64
 {
     if from + 8 <= bytes.len() {
         return whole_word(bytes, from);
+    }
+    if bytes.len() >= 8 && from < bytes.len() {
+        return last_word(bytes, from);
     }
     u64::from_be_bytes([
         byte_or_zero(bytes, from),
