@@ -15,9 +15,10 @@ ghost use Rattle.be_tree.specs.Cursor.{IsCursor, IsPath, IsPlace, pairs_along, p
 ghost use Rattle.be_tree.specs.Page.{IsItem, IsPage, item_at, items_of};
 ghost use Rattle.be_tree.specs.Range.{pair_in, pairs_from};
 ghost use Rattle.be_tree.specs.Tree.{IsTree, IsTreeAt, pairs, pairs_at};
+ghost use Rattle.be_tree.specs.Words.{AreFirst};
 
-use crate::lookup::{rank, search};
-use crate::page::{HEADER_WORDS, ITEM_WORDS, child_at};
+use crate::lookup::{rank_by, search};
+use crate::page::{FirstWords, HEADER_WORDS, ITEM_WORDS, child_at, first_words};
 use crate::payload::fill_payload;
 use crate::walk::{TreeItem, fill_key, key_at};
 use arrayvec::ArrayVec;
@@ -71,10 +72,11 @@ impl Cursor {
         if root == 0 {
             return;
         }
+        let words = first_words(from);
         let mut page = root - 1;
         let mut level = look.word(page, 0);
         while level > 0 {
-            let at = rank(look, page, from).saturating_sub(1);
+            let at = rank_by(look, page, from, words).saturating_sub(1);
             let child = child_at(look, page, HEADER_WORDS + ITEM_WORDS * at);
             self.path.push(Place {
                 page: page as u32,
@@ -84,7 +86,7 @@ impl Cursor {
             page = child;
             level -= 1;
         }
-        let next = leaf_from(look, page, from, after);
+        let next = leaf_from(look, page, from, words, after);
         self.path.push(Place {
             page: page as u32,
             next: next as u8,
@@ -218,13 +220,14 @@ impl Cursor {
 }
 
 /// How many of a leaf's items stand before the pairs at or after a key.
-fn leaf_from<L: Look>(look: &mut L, page: u64, from: &[u8], after: bool) -> usize
+fn leaf_from<L: Look>(look: &mut L, page: u64, from: &[u8], words: FirstWords, after: bool) -> usize
     requires tree { IsTreeAt 0 1 (L.standing look.old) (L.words look.old) page }
+    requires words { AreFirst from.now words }
     ensures in_range { result ≤ length (items_of (L.words look.old page)) }
     ensures rest { drop result (items_of (L.words look.old page)) ≡ pairs_from (items_of (L.words look.old page)) from.now after }
     ensures unchanged { IsUnchanged L.kept L.standing L.words look.old look.new }
 {
-    match search(look, page, from) {
+    match search(look, page, from, words) {
         Ok(at) => if after { at + 1 } else { at },
         Err(at) => at,
     }

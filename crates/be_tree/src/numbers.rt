@@ -14,7 +14,7 @@ ghost use Rattle.be_tree.specs.Tree.{IsTree, IsTreeAt, pairs};
 
 use crate::cursor::Cursor;
 use crate::lookup::is_above;
-use crate::page::{HEADER_WORDS, ITEM_WORDS, number_behind, word_from};
+use crate::page::{HEADER_WORDS, ITEM_WORDS, first_words, number_behind};
 use be_pages::Look;
 use std::alloc::AllocError;
 
@@ -134,7 +134,7 @@ fn is_past_at<L: Look>(look: &mut L, page: u64, at: usize, high: Option<&[u8]>) 
     ensures unchanged { IsUnchanged L.kept L.standing L.words look.old look.new }
 {
     match high {
-        Some(high) => is_above(look, page, at, high, word_from(high, 0)),
+        Some(high) => is_above(look, page, at, high, first_words(high)),
         None => false,
     }
 }

@@ -12,14 +12,14 @@ use Rattle.be_tree.proofs.lookup.find_place.Goals as goal
 use Rattle.be_tree.proofs.lookup.find_place.Goals.{After-saturating_sub-at}
 
 -- the room after the search is as at first
-words_same : (g : Over) (c : After-saturating_sub-at g) → g.L.Look.words c.rank.new.look ≡ g.L.Look.words c.args.look.now
-words_same g c = c.rank.ensures.unchanged.words ∙ c.loop-level.invariant.unchanged.words
+words_same : (g : Over) (c : After-saturating_sub-at g) → g.L.Look.words c.rank_by.new.look ≡ g.L.Look.words c.args.look.now
+words_same g c = c.rank_by.ensures.unchanged.words ∙ c.loop-level.invariant.unchanged.words
 
-standing_same : (g : Over) (c : After-saturating_sub-at g) → g.L.Look.standing c.rank.new.look ≡ g.L.Look.standing c.args.look.now
-standing_same g c = c.rank.ensures.unchanged.standing ∙ c.loop-level.invariant.unchanged.standing
+standing_same : (g : Over) (c : After-saturating_sub-at g) → g.L.Look.standing c.rank_by.new.look ≡ g.L.Look.standing c.args.look.now
+standing_same g c = c.rank_by.ensures.unchanged.standing ∙ c.loop-level.invariant.unchanged.standing
 
-ranked : (g : Over) (c : After-saturating_sub-at g) → IsRank c.args.key.now (items_of (g.L.Look.words c.args.look.now c.loop-level.page)) c.rank.result
-ranked g c = subst (λ (w : ℕ → ℕ → ℕ). IsRank c.args.key.now (items_of (w c.loop-level.page)) c.rank.result) c.loop-level.invariant.unchanged.words c.rank.ensures.rank
+ranked : (g : Over) (c : After-saturating_sub-at g) → IsRank c.args.key.now (items_of (g.L.Look.words c.args.look.now c.loop-level.page)) c.rank_by.result
+ranked g c = subst (λ (w : ℕ → ℕ → ℕ). IsRank c.args.key.now (items_of (w c.loop-level.page)) c.rank_by.result) c.loop-level.invariant.unchanged.words c.rank_by.ensures.rank
 
 at_item : (g : Over) (c : After-saturating_sub-at g) → c.saturating_sub-at.result < g.L.Look.words c.args.look.now c.loop-level.page 1
 at_item g c = omega (arith, c.saturating_sub-at.ensures, (ranked g c).in_range, c.loop-level.invariant.tree.node.enough, c.loop-level.invariant.some, items_count (g.L.Look.words c.args.look.now c.loop-level.page))
@@ -30,7 +30,7 @@ steps g c =
     let words = g.L.Look.words c.args.look.now c.loop-level.page in
     let branch = item_at words (2 + 42 * c.saturating_sub-at.result) in
     steps_down c.loop-level.level (c.loop-level.level - 1) c.loop-level.invariant.least (g.L.Look.standing c.args.look.now) (g.L.Look.words c.args.look.now) c.loop-level.page c.args.key.now
-    (items_of words) c.rank.result c.saturating_sub-at.result branch
+    (items_of words) c.rank_by.result c.saturating_sub-at.result branch
     (omega (arith, c.loop-level-test.true)) c.loop-level.invariant.tree c.loop-level.invariant.some refl (ranked g c) c.saturating_sub-at.ensures
     (sym (item_get words c.saturating_sub-at.result branch (at_item g c)))
 
@@ -63,8 +63,8 @@ loop-level-preserved g c =
       some = omega arith;
       tree = subst (λ p. IsTreeAt (c.loop-level.level - 1) 6 (g.L.Look.standing c.args.look.now) (g.L.Look.words c.args.look.now) p) (sym is) s.tree;
       same = ap (λ p. payload_at (pairs_at (c.loop-level.level - 1) (g.L.Look.words c.args.look.now) p) c.args.key.now) is ∙ sym s.same ∙ c.loop-level.invariant.same;
-      unchanged = unchanged_trans g.L.Look.kept g.L.Look.standing g.L.Look.words c.args.look.now c.rank.new.look c.child_at-page.new.look
-          (unchanged_trans g.L.Look.kept g.L.Look.standing g.L.Look.words c.args.look.now c.loop-level.look c.rank.new.look c.loop-level.invariant.unchanged c.rank.ensures.unchanged) c.child_at-page.ensures.unchanged;
+      unchanged = unchanged_trans g.L.Look.kept g.L.Look.standing g.L.Look.words c.args.look.now c.rank_by.new.look c.child_at-page.new.look
+          (unchanged_trans g.L.Look.kept g.L.Look.standing g.L.Look.words c.args.look.now c.loop-level.look c.rank_by.new.look c.loop-level.invariant.unchanged c.rank_by.ensures.unchanged) c.child_at-page.ensures.unchanged;
     }
 
 -- the item that was found
