@@ -31,6 +31,14 @@ impl Range {
         }
     }
 
+    /// Takes all keys again. So a range is made once for all walks of a query: to clear the room for its ends takes as long as to narrow it.
+    pub(crate) fn open(&mut self)
+        ensures { (k : List ℕ) → IsIn self.new k }
+    {
+        self.low.clear();
+        self.bounded = false;
+    }
+
     /// The bytes that no key of the range is below.
     pub(crate) fn low(&self) -> &[u8]
         ensures { result.now ≡ self.now.low.items }
