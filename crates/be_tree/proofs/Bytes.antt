@@ -3,3 +3,4 @@ pub mod Words
 pub mod Zeros
 pub mod Branches
 pub mod Straddling
+pub mod Payloads

@@ -18,7 +18,8 @@ ghost use Rattle.be_tree.specs.Tree.{IsTree, IsTreeAt, pairs, pairs_at};
 
 use crate::lookup::rank;
 use crate::page::{HEADER_WORDS, ITEM_WORDS, child_at, cmp_at};
-use crate::walk::{TreeItem, fill_key, fill_payload, key_at};
+use crate::payload::fill_payload;
+use crate::walk::{TreeItem, fill_key, key_at};
 use arrayvec::ArrayVec;
 use be_pages::Look;
 use std::cmp::Ordering;

@@ -30,6 +30,7 @@ mod laws;
 mod lookup;
 mod numbers;
 mod page;
+mod payload;
 mod removal;
 mod siblings;
 mod slot;
@@ -40,7 +41,10 @@ pub use clearing::clear;
 pub use cursor::Cursor;
 pub use edit::insert;
 pub use laws::{tree_beside, tree_kept, tree_replaced, tree_undone};
-pub use lookup::{find, find_into, has_key, is_key_at};
+pub use lookup::{find, find_into, find_place, has_key, is_key_at};
 pub use numbers::numbers_within;
+pub use payload::{
+    fill_payload, payload_byte_at, payload_len_at, payload_number32_at, payload_number_at,
+};
 pub use removal::remove;
 pub use walk::{TreeItem, key_at, range};

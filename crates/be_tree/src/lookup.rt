@@ -14,7 +14,7 @@ ghost use Rattle.be_tree.specs.Key.{IsRank, key_cmp, payload_at};
 ghost use Rattle.be_tree.specs.Tree.{IsTree, pairs};
 
 use crate::page::{HEADER_WORDS, ITEM_WORDS, child_at, cmp_at, word_from};
-use crate::walk::fill_payload;
+use crate::payload::fill_payload;
 use arrayvec::ArrayVec;
 use be_pages::Look;
 use std::cmp::Ordering;
@@ -35,7 +35,7 @@ pub fn find_into<L: Look>(
     ensures empty { result ≡ false → payload.new.items ≡ [] }
     ensures unchanged { IsUnchanged L.kept L.standing L.words look.old look.new }
 {
-    let Some((page, at)) = key_place(look, root, key) else {
+    let Some((page, at)) = find_place(look, root, key) else {
         return false;
     };
     fill_payload(look, page, at, payload);
@@ -61,11 +61,12 @@ pub fn has_key<L: Look>(look: &mut L, root: u64, key: &[u8]) -> bool
     ensures found { result ≡ is_some (payload_at (pairs (L.words look.old) root) key.now) }
     ensures unchanged { IsUnchanged L.kept L.standing L.words look.old look.new }
 {
-    key_place(look, root, key).is_some()
+    find_place(look, root, key).is_some()
 }
 
-/// The page and the place of the item that has this key.
-fn key_place<L: Look>(look: &mut L, root: u64, key: &[u8]) -> Option<(u64, usize)>
+/// The page and the place of the item that has this key, for those who read its payload where it stands (`payload_number_at` and
+/// its like). It costs one descent.
+pub fn find_place<L: Look>(look: &mut L, root: u64, key: &[u8]) -> Option<(u64, usize)>
     requires tree { IsTree (L.standing look.old) (L.words look.old) root }
     ensures none { IfNone result (payload_at (pairs (L.words look.old) root) key.now ≡ None) }
     ensures some { IfSome result (λ at. payload_at (pairs (L.words look.old) root) key.now ≡ Some (item_at (L.words look.old at.0) at.1).payload) }

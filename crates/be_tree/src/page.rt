@@ -47,7 +47,7 @@ pub(crate) fn child_at<L: Look>(look: &mut L, page: u64, at: usize) -> u64
 pub(crate) fn number_behind<L: Look>(look: &mut L, page: u64, at: usize, skip: usize) -> u64
     requires readable { IsTrue (is_readable (L.standing look.old page)) }
     requires skips { skip < 8 }
-    requires in_page { at + 2 ≤ 512 }
+    requires in_page { at + words_for (skip + 8) ≤ 512 }
     ensures number { result ≡ from_be_bytes w64 (drop skip (bytes_at (L.words look.old page) at (skip + 8))) }
     ensures unchanged { IsUnchanged L.kept L.standing L.words look.old look.new }
 {
@@ -60,7 +60,7 @@ pub(crate) fn number_behind<L: Look>(look: &mut L, page: u64, at: usize, skip: u
 }
 
 /// The number whose eight bytes stand in two words, from a byte of the first one on.
-fn straddled(first: u64, second: u64, skip: usize) -> u64
+pub(crate) fn straddled(first: u64, second: u64, skip: usize) -> u64
     requires { (0 < skip) × (skip < 8) }
     ensures { result ≡ first * 2 ^ (8 * skip) % 2 ^ 64 + second / 2 ^ (64 - 8 * skip) }
 {

@@ -60,24 +60,3 @@ pub(crate) fn fill_key<L: Look>(look: &mut L, page: u64, at: usize, key: &mut Ar
     let key_len = (look.word(page, at) >> 32) as usize;
     fill_bytes(look, page, at + 1, 0, key_len, key);
 }
-
-/// Puts the payload at a place of a page into an empty vector.
-pub(crate) fn fill_payload<L: Look>(
-    look: &mut L,
-    page: u64,
-    at: usize,
-    payload: &mut ArrayVec<u8, 328>,
-)
-    requires readable { IsTrue (is_readable (L.standing look.old page)) }
-    requires in_page { at + 42 ≤ 512 }
-    requires item { IsItem (L.words look.old page) at }
-    requires empty { payload.old.items ≡ [] }
-    ensures payload { payload.new.items ≡ (item_at (L.words look.old page) at).payload }
-    ensures unchanged { IsUnchanged L.kept L.standing L.words look.old look.new }
-{
-    let header = look.word(page, at);
-    let key_len = (header >> 32) as usize;
-    let from = at + 1 + key_len / 8;
-    let payload_len = (header % (1 << 32)) as usize;
-    fill_bytes(look, page, from, key_len % 8, payload_len, payload);
-}

@@ -1,13 +1,14 @@
 -- A number whose eight bytes stand in two words.
-use Rattle.std.proofs.Common.{◌≡◌, ℕ, zero, suc, ◌+◌, ◌-◌, ◌*◌, ◌/◌, ◌%◌, ◌^◌, ◌<◌, List, [], ◌∷◌, ◌++◌, length, map, take, drop, ap, sym, subst, ◌∙◌, refl, arith, pow-add}
-use Rattle.std.specs.Int.{byte_at, bytes_high_first, from_be_bytes, to_be_bytes, w64}
+use Rattle.std.proofs.Common.{◌≡◌, ℕ, zero, suc, ◌+◌, ◌-◌, ◌*◌, ◌/◌, ◌%◌, ◌^◌, ◌<◌, ◌≤◌, List, [], ◌∷◌, ◌++◌, length, map, take, drop, ap, sym, subst, ◌∙◌, refl, arith, pow-add}
+use Rattle.std.specs.Int.{byte_at, bytes_high_first, from_be_bytes, to_be_bytes, w32, w64}
 use Rattle.std.specs.List.{flat_map, range_with_len}
 use Rattle.std.proofs.Math.Nat.{add-mul-div_right, add-mul-mod_self_right, add-mul, div-add-mod, div-div-eq-div-mul, div-lt_iff_lt-mul, mul_assoc, mul_comm, pow-suc}
 use Rattle.std.proofs.Math.Seq.{take-append-add}
 use Rattle.std.proofs.lemmas.List.{append-nil, drop-append-le, drop-take, length-drop}
-use Rattle.std.proofs.lemmas.Nat.{div-mul-add, from_be_bytes-to_be_bytes_8, mod-mul-add, mul-add-lt, pow_pos}
+use Rattle.std.proofs.lemmas.Nat.{div-mul-add, from_be_bytes-to_be_bytes_4, from_be_bytes-to_be_bytes_8, mod-mul-add, mul-add-lt, pow_pos}
 use Rattle.be_tree.specs.Page.{bytes_at, words_for}
 use Rattle.be_tree.proofs.Bytes.Words.{byte_is, pow256}
+use Rattle.be_tree.proofs.Codec.{bytes_at_prefix, word_bytes}
 
 rejoined : (n m : ℕ) → n / m * m + n % m ≡ n
 rejoined n m = ap (λ (k : ℕ). k + n % m) (mul_comm (n / m) m) ∙ div-add-mod n m
@@ -101,7 +102,7 @@ module _ (x y s t : ℕ) (e : s + t ≡ 8) (ly : y < 2 ^ 64) where
       ap (λ (n : ℕ). n * q) (sym (rejoined x p)) ∙ add-mul (x / p * p) (x % p) q ∙ ap (λ (n : ℕ). n + x % p * q) (mul_assoc (x / p) p q ∙ ap (λ (n : ℕ). x / p * n) whole) in
       ap (λ (n : ℕ). n % 2 ^ 64) all ∙ mod-mul-add (x / p) (2 ^ 64) (x % p * q) low
 
-  pub two_words : from_be_bytes w64 (take 8 (drop s (to_be_bytes w64 x ++ to_be_bytes w64 y))) ≡ x % 256 ^ t * 256 ^ s + y / 256 ^ t
+  pub two_words : take 8 (drop s (to_be_bytes w64 x ++ to_be_bytes w64 y)) ≡ to_be_bytes w64 (x % 256 ^ t * 256 ^ s + y / 256 ^ t)
   two_words =
       let xs = to_be_bytes w64 x in
       let ys = to_be_bytes w64 y in
@@ -109,14 +110,12 @@ module _ (x y s t : ℕ) (e : s + t ≡ 8) (ly : y < 2 ^ 64) where
       let len : length (drop s xs) + s ≡ 8 = omega (arith, length-drop s xs, e) in
       let first : bytes_high_first t x ≡ bytes_high_first t (x % 256 ^ t) =
       ap (bytes_high_first t) (sym (rejoined x (256 ^ t))) ∙ low_bytes t 0 t (x / 256 ^ t) (x % 256 ^ t) (omega arith) in
-      let bytes : take 8 (drop s (xs ++ ys)) ≡ to_be_bytes w64 (x % 256 ^ t * 256 ^ s + y / 256 ^ t) =
       ap (take 8) (drop-append-le s xs ys (omega (arith, e)))
       ∙ ap (λ (n : ℕ). take n (drop s xs ++ ys)) (sym len)
       ∙ take-append-add (drop s xs) ys s
       ∙ ap (λ (zs : List ℕ). zs ++ take s ys) (high_dropped s t 8 x e ∙ first)
       ∙ ap (λ (zs : List ℕ). bytes_high_first t (x % 256 ^ t) ++ zs) (high_taken s t 8 y e)
-      ∙ sym (high_append t s 8 (x % 256 ^ t) (y / 256 ^ t) turned second_fits) in
-      ap (from_be_bytes w64) bytes ∙ from_be_bytes-to_be_bytes_8 (x % 256 ^ t * 256 ^ s + y / 256 ^ t) both_fits
+      ∙ sym (high_append t s 8 (x % 256 ^ t) (y / 256 ^ t) turned second_fits)
 
 -- the same in bits
 module _ (x y r : ℕ) (lt : r < 8) (ly : y < 2 ^ 64) where
@@ -135,13 +134,13 @@ module _ (x y r : ℕ) (lt : r < 8) (ly : y < 2 ^ 64) where
   pub straddled_fits : x * 2 ^ (8 * r) % 2 ^ 64 + y / 2 ^ (64 - 8 * r) < 2 ^ 64
   straddled_fits = subst (λ (n : ℕ). n < 2 ^ 64) in_bits (both_fits x y r (8 - r) in_eight ly)
 
-  pub straddled_is : from_be_bytes w64 (take 8 (drop r (to_be_bytes w64 x ++ to_be_bytes w64 y))) ≡ x * 2 ^ (8 * r) % 2 ^ 64 + y / 2 ^ (64 - 8 * r)
-  straddled_is = two_words x y r (8 - r) in_eight ly ∙ in_bits
+  pub straddled_is : take 8 (drop r (to_be_bytes w64 x ++ to_be_bytes w64 y)) ≡ to_be_bytes w64 (x * 2 ^ (8 * r) % 2 ^ 64 + y / 2 ^ (64 - 8 * r))
+  straddled_is = two_words x y r (8 - r) in_eight ly ∙ ap (to_be_bytes w64) in_bits
 
 -- and as it is read
-pub straddling : (w : ℕ → ℕ) (from r : ℕ) → 0 < r → r < 8 → w (from + 1) < 2 ^ 64
-    → from_be_bytes w64 (drop r (bytes_at w from (r + 8))) ≡ w from * 2 ^ (8 * r) % 2 ^ 64 + w (from + 1) / 2 ^ (64 - 8 * r)
-straddling w from r some lt small =
+pub straddling_bytes : (w : ℕ → ℕ) (from r : ℕ) → 0 < r → r < 8 → w (from + 1) < 2 ^ 64
+    → drop r (bytes_at w from (r + 8)) ≡ to_be_bytes w64 (w from * 2 ^ (8 * r) % 2 ^ 64 + w (from + 1) / 2 ^ (64 - 8 * r))
+straddling_bytes w from r some lt small =
     let count : words_for (r + 8) ≡ 2 = omega (arith, some, lt) in
     let here : from + 0 ≡ from = omega arith in
     let xs = to_be_bytes w64 (w from) in
@@ -149,5 +148,52 @@ straddling w from r some lt small =
     let read : flat_map (to_be_bytes w64) (map (λ i. w (from + i)) (range_with_len 0 (words_for (r + 8)))) ≡ xs ++ ys =
     ap (λ (n : ℕ). flat_map (to_be_bytes w64) (map (λ i. w (from + i)) (range_with_len 0 n))) count
     ∙ ap (λ (n : ℕ). to_be_bytes w64 (w n) ++ (ys ++ [])) here ∙ ap (λ (zs : List ℕ). xs ++ zs) (append-nil ys) in
-    ap (from_be_bytes w64) (drop-take r 8 (flat_map (to_be_bytes w64) (map (λ i. w (from + i)) (range_with_len 0 (words_for (r + 8))))) ∙ ap (λ (zs : List ℕ). take 8 (drop r zs)) read)
+    drop-take r 8 (flat_map (to_be_bytes w64) (map (λ i. w (from + i)) (range_with_len 0 (words_for (r + 8)))))
+    ∙ ap (λ (zs : List ℕ). take 8 (drop r zs)) read
     ∙ straddled_is (w from) (w (from + 1)) r lt small
+
+pub straddling : (w : ℕ → ℕ) (from r : ℕ) → 0 < r → r < 8 → w (from + 1) < 2 ^ 64
+    → from_be_bytes w64 (drop r (bytes_at w from (r + 8))) ≡ w from * 2 ^ (8 * r) % 2 ^ 64 + w (from + 1) / 2 ^ (64 - 8 * r)
+straddling w from r some lt small =
+    ap (from_be_bytes w64) (straddling_bytes w from r some lt small)
+    ∙ from_be_bytes-to_be_bytes_8 (w from * 2 ^ (8 * r) % 2 ^ 64 + w (from + 1) / 2 ^ (64 - 8 * r)) (straddled_fits (w from) (w (from + 1)) r lt small)
+
+-- the upper half of a number
+upper : (n k m : ℕ) → n < 2 ^ 64 → 4 + k ≡ 8 → m ≡ n / 2 ^ 32 → from_be_bytes w32 (take 4 (to_be_bytes w64 n)) ≡ m
+upper n k m small e is =
+    let four : k ≡ 4 = omega (arith, e) in
+    let shift : n / 256 ^ k ≡ n / 2 ^ 32 = ap (λ (j : ℕ). n / 256 ^ j) four in
+    let fits : n / 2 ^ 32 < 2 ^ 32 = omega (arith, small) in
+    ap (from_be_bytes w32) (high_taken 4 k 8 n e ∙ ap (bytes_high_first 4) shift) ∙ from_be_bytes-to_be_bytes_4 (n / 2 ^ 32) fits ∙ sym is
+
+-- four bytes of two words
+pub four_of_two : (w : ℕ → ℕ) (from r : ℕ) → 0 < r → r < 8 → w (from + 1) < 2 ^ 64
+    → from_be_bytes w32 (drop r (bytes_at w from (r + 4))) ≡ (w from * 2 ^ (8 * r) % 2 ^ 64 + w (from + 1) / 2 ^ (64 - 8 * r)) / 2 ^ 32
+four_of_two w from r some lt small =
+    let n = w from * 2 ^ (8 * r) % 2 ^ 64 + w (from + 1) / 2 ^ (64 - 8 * r) in
+    ap (from_be_bytes w32)
+    (ap (drop r) (sym (bytes_at_prefix w from (r + 4) (r + 8) (omega arith)))
+    ∙ drop-take r 4 (bytes_at w from (r + 8))
+    ∙ ap (take 4) (straddling_bytes w from r some lt small))
+    ∙ upper n 4 (n / 2 ^ 32) (straddled_fits (w from) (w (from + 1)) r lt small) refl refl
+
+-- four bytes of one word
+pub four_of_one : (w : ℕ → ℕ) (from r : ℕ) → r ≤ 4 → from_be_bytes w32 (drop r (bytes_at w from (r + 4))) ≡ w from / 2 ^ (32 - 8 * r) % 2 ^ 32
+four_of_one w from r le =
+    let x = w from in
+    let t = 4 - r in
+    let eight : r + (t + 4) ≡ 8 = omega (arith, le) in
+    let four : 4 + t ≡ t + 4 = omega arith in
+    let bits : 8 * t ≡ 32 - 8 * r = omega (arith, le) in
+    let shift : x / 256 ^ t ≡ x / 2 ^ (32 - 8 * r) = ap (λ (p : ℕ). x / p) (pow256 t ∙ ap (λ (n : ℕ). 2 ^ n) bits) in
+    let y = x / 256 ^ t in
+    let low : bytes_high_first 4 y ≡ bytes_high_first 4 (y % 2 ^ 32) = ap (bytes_high_first 4) (sym (rejoined y (2 ^ 32))) ∙ low_bytes 4 0 4 (y / 2 ^ 32) (y % 2 ^ 32) refl in
+    let fits : y % 2 ^ 32 < 2 ^ 32 = omega arith in
+    ap (from_be_bytes w32)
+    (ap (drop r) (sym (bytes_at_prefix w from (r + 4) 8 (omega (arith, le))) ∙ ap (take (r + 4)) (word_bytes w from))
+    ∙ drop-take r 4 (to_be_bytes w64 x)
+    ∙ ap (take 4) (high_dropped r (t + 4) 8 x eight)
+    ∙ high_taken 4 t (t + 4) x four
+    ∙ low)
+    ∙ from_be_bytes-to_be_bytes_4 (y % 2 ^ 32) fits
+    ∙ ap (λ (n : ℕ). n % 2 ^ 32) shift

@@ -8,9 +8,9 @@ use Rattle.be_tree.proofs.Nodes.Slots.{item_get, items_count}
 use Rattle.be_tree.proofs.Frame.{unchanged_trans}
 use Rattle.be_tree.specs.Tree.{IsTreeAt, child, pairs, pairs_at}
 use Rattle.be_tree.proofs.TreeFacts.{StepsDown, steps_down, found_in_leaf}
-use Rattle.be_tree.proofs.lookup.key_place.Given.{Over}
-use Rattle.be_tree.proofs.lookup.key_place.Goals as goal
-use Rattle.be_tree.proofs.lookup.key_place.Goals.{After-saturating_sub-at, After-saturating_sub-at-2}
+use Rattle.be_tree.proofs.lookup.find_place.Given.{Over}
+use Rattle.be_tree.proofs.lookup.find_place.Goals as goal
+use Rattle.be_tree.proofs.lookup.find_place.Goals.{After-saturating_sub-at, After-saturating_sub-at-2}
 
 -- the room after the search is as at first
 words_same : (g : Over) (c : After-saturating_sub-at g) → g.L.Look.words c.rank.new.look ≡ g.L.Look.words c.args.look.now

@@ -2,7 +2,7 @@ use Rattle.std.proofs.Common.{◌≡◌, ◌<◌, ℕ}
 use Rattle.be_pages.specs.Pages.{IsUnchanged}
 use Rattle.be_tree.specs.Key.{payload_at}
 use Rattle.be_tree.specs.Tree.{IsTreeAt, pairs, pairs_at}
-use Rattle.be_tree.proofs.lookup.key_place.Given as goal
+use Rattle.be_tree.proofs.lookup.find_place.Given as goal
 
 -- the key is looked up in the tree from this page down
 abbrev pub invariant-loop-level : goal.invariant-loop-level

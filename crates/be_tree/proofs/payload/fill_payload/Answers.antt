@@ -1,7 +1,7 @@
 use Rattle.std.proofs.Common.{ℕ, ◌+◌, ◌/◌, ◌%◌, ◌^◌, drop, ap, sym, ◌∙◌}
 use Rattle.be_tree.specs.Page.{bytes_at}
 use Rattle.be_tree.proofs.Codec.{payload_from}
-use Rattle.be_tree.proofs.walk.fill_payload.Goals as goal
+use Rattle.be_tree.proofs.payload.fill_payload.Goals as goal
 
 pub returns-clause-payload : goal.returns-clause-payload
 returns-clause-payload g c =
