@@ -1,5 +1,6 @@
 -- What a source over a version has in hand.
-use Rattle.std.specs.Prelude.{◌≡◌, ℕ, ◌+◌, ◌<◌, ◌≤◌, IsTrue, List, true, length, slice_index_or}
+use Rattle.std.specs.Prelude.{◌≡◌, ℕ, ◌+◌, ◌<◌, ◌≤◌, IsTrue, IfSome, IfNone, List, true, length, slice_index_or}
+use Rattle.std.specs.declared.option.Option.{Option}
 use Rattle.be_pages.specs.declared.room.Standing.{Standing}
 use Rattle.be_pages.specs.Pages.{is_readable}
 use Rattle.be_tree.specs.Page.{IsItem, item_at}
@@ -9,8 +10,10 @@ use Rattle.be_tree.specs.Tree.{pairs}
 use Rattle.be_tree.specs.declared.cursor.Cursor.{Cursor}
 use Rattle.be_volume.specs.Volume.{State}
 use Rattle.be_paged.specs.Entry.{Entry}
-use Rattle.be_paged.specs.Page.{contents_of}
+use Rattle.be_paged.specs.Page.{contents_of, IsGapAt, IsNamedAt}
 use Rattle.be_paged.specs.Version.{IsVersion}
+use Rattle.be_paged.specs.declared.on_page.FoundIndex.{FoundIndex}
+use Rattle.be_paged.specs.declared.on_page.KnownName.{KnownName}
 
 -- an item that can be read stands at a place of a page
 pub record IsItemAt (standing : ℕ → Standing) (words : ℕ → ℕ → ℕ) (page at : ℕ) : Type 0 where
@@ -24,7 +27,20 @@ pub record StandsBehind (standing : ℕ → Standing) (words : ℕ → ℕ → �
   pub last : place < length entries → IsItemAt standing words last_page last_at
   pub rest : (d : Entry) → place < length entries → remaining words cursor ≡ pairs_from (pairs words (slice_index_or entries place d).root) (item_at (words last_page) last_at).key true
 
--- the page spells the volume, and the cursor stands where it says
-pub record SourceOf (standing : ℕ → Standing) (words : ℕ → ℕ → ℕ) (page : ℕ) (cursor : Cursor) (place : ℕ) (last_page last_at : ℕ) (volume : State) : Type 0 where
+-- the index of a name among the entries, or that there is none
+pub record IsFound (entries : List Entry) (name : List ℕ) (found : Option FoundIndex) : Type 0 where
+  pub named : IfSome found (λ index. IsNamedAt entries name index.place)
+  pub kind : IfSome found (λ index. (d : Entry) → index.kind ≡ (slice_index_or entries index.place d).kind)
+  pub root : IfSome found (λ index. (d : Entry) → index.root ≡ (slice_index_or entries index.place d).root)
+  pub absent : IfNone found ((i : ℕ) × IsGapAt entries name i)
+
+-- what is remembered of a name is what the entries say
+abbrev pub IsKnown : List Entry → Option KnownName → Type 0
+IsKnown entries known = IfSome known (λ last. IsFound entries last.name last.index)
+
+-- the page spells the volume, what is remembered is of that page, and the cursor stands where it says
+pub record SourceOf (standing : ℕ → Standing) (words : ℕ → ℕ → ℕ) (page : ℕ) (known : Option KnownName)
+    (cursor : Cursor) (place : ℕ) (last_page last_at : ℕ) (volume : State) : Type 0 where
   pub version : IsVersion standing words page volume
+  pub known_is : IsKnown (contents_of (words page)).entries known
   pub behind : StandsBehind standing words (contents_of (words page)).entries cursor place last_page last_at

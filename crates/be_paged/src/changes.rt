@@ -3,6 +3,7 @@
 //! An attribute and its pair in an index change one after the other. Between the two the contents spell a volume of which an index says other
 //! than the attribute, so what is kept from one change to the next is that the trees stand, apart from what they say.
 ghost use Rattle.std.specs.Prelude.{◌≡◌, ℕ, ◌<◌, length, IsTrue, IfOk, IfErr, OnOk, OnErr, IfSome, IfNone, Some, None, option_map, true, is_some, List};
+ghost use Rattle.std.specs.Option.{option_copied};
 ghost use Rattle.be_value.specs.Key.{key, IsValue};
 ghost use Rattle.be_value.specs.Value.{kind_of as kind_in, is_indexable};
 ghost use Rattle.be_value.specs.declared.values.Value.{Value as AnyValue};
@@ -29,9 +30,9 @@ use be_tree::{has_key, insert, remove};
 use be_value::{Kind, Name, Refusal, Value, key_of, valid};
 
 /// The key of a pair in an index of this kind, if there is a value and it is of the kind.
-fn key_in(kind: Kind, value: &Option<Value>, node: u64) -> Option<ArrayVec<u8, 264>>
-    ensures some { IfSome result (λ k. (v : AnyValue) × (value.now ≡ Some v) × (kind_in v ≡ kind) × IsValue v × (k.items ≡ key v node)) }
-    ensures none { IfNone result ((v : AnyValue) → value.now ≡ Some v → kind_in v ≡ kind → IsTrue (is_indexable kind) → ⊥) }
+fn key_in(kind: Kind, value: Option<&Value>, node: u64) -> Option<ArrayVec<u8, 264>>
+    ensures some { IfSome result (λ k. (v : AnyValue) × (option_copied value.entry ≡ Some v) × (kind_in v ≡ kind) × IsValue v × (k.items ≡ key v node)) }
+    ensures none { IfNone result ((v : AnyValue) → option_copied value.entry ≡ Some v → kind_in v ≡ kind → IsTrue (is_indexable kind) → ⊥) }
 {
     if !kind.indexable() {
         return None;
@@ -113,18 +114,20 @@ fn change_root<R: Room>(
     root: u64,
     kind: Kind,
     node: u64,
-    old: &Option<Value>,
-    new: &Option<Value>,
+    old: Option<&Value>,
+    new: Option<&Value>,
 ) -> Result<u64, Refusal>
     requires tree { IsTree (R.standing room.old) (R.words room.old) root }
     requires open { IsTrue (R.is_open (R.kept room.old)) }
     ensures tree { IfOk result (λ r. IsTree (R.standing room.new) (R.words room.new) r) }
     ensures swaps { IfOk result (λ r. Swaps R.kept R.standing R.words (pages (R.words room.old) root) (pages (R.words room.new) r) room.old room.new) }
-    ensures keys { IfOk result (λ r. (index : AnyIndex) → IsIndexOf (pairs (R.words room.old) root) index → IsReady index kind node old.now →
-        IsIndexOf (pairs (R.words room.new) r) (repaired index node new.now)) }
-    ensures stays { IfOk result (λ r. (v : AnyValue) → kind_in v ≡ kind → IsTrue (is_indexable kind) → old.now ≡ Some v → new.now ≡ Some v →
+    ensures keys { IfOk result (λ r. (index : AnyIndex) → IsIndexOf (pairs (R.words room.old) root) index → IsReady index kind node (option_copied old.entry) →
+        IsIndexOf (pairs (R.words room.new) r) (repaired index node (option_copied new.entry))) }
+    ensures stays { IfOk result (λ r. (v : AnyValue) → kind_in v ≡ kind → IsTrue (is_indexable kind) →
+        option_copied old.entry ≡ Some v → option_copied new.entry ≡ Some v →
         is_some (payload_at (pairs (R.words room.old) root) (key v node)) ≡ true → (r ≡ root) × IsUnchanged R.kept R.standing R.words room.old room.new) }
-    ensures apart { IfOk result (λ r. (v : AnyValue) → (kind_in v ≡ kind → ⊥) → old.now ≡ Some v → new.now ≡ Some v → r ≡ root) }
+    ensures apart { IfOk result (λ r. (v : AnyValue) → (kind_in v ≡ kind → ⊥) →
+        option_copied old.entry ≡ Some v → option_copied new.entry ≡ Some v → r ≡ root) }
     ensures err { OnErr result (KeepsStart R.kept R.standing R.words room.old room.new) }
     ensures full { IfErr result (IsFullOf (R.full room.new)) }
 {
@@ -144,19 +147,20 @@ fn change_at<R: Room>(
     version: &mut Version,
     at: usize,
     node: u64,
-    old: &Option<Value>,
-    new: &Option<Value>,
+    old: Option<&Value>,
+    new: Option<&Value>,
 ) -> Result<(), Refusal>
     requires in_hand { IsInHand (R.standing room.old) (R.words room.old) (contents version.old) }
     requires in_range { at < length version.old.entries.items }
     requires open { IsTrue (R.is_open (R.kept room.old)) }
     ensures changes { OnOk result (Changes R.kept R.standing R.words (contents version.old) (contents version.new) room.old room.new) }
     ensures spells { OnOk result ((volume : State) (name : List ℕ) → IsNamedAt version.old.entries.items name at →
-        Spells (R.words room.old) (contents version.old) volume → IsSound volume → old.now ≡ attribute volume node name →
-        Spells (R.words room.new) (contents version.new) (with_indices volume name node new.now)) }
+        Spells (R.words room.old) (contents version.old) volume → IsSound volume → option_copied old.entry ≡ attribute volume node name →
+        Spells (R.words room.new) (contents version.new) (with_indices volume name node (option_copied new.entry))) }
     ensures stays { OnOk result ((volume : State) (name : List ℕ) → IsNamedAt version.old.entries.items name at →
-        Spells (R.words room.old) (contents version.old) volume → IsSound volume → old.now ≡ attribute volume node name → (v : AnyValue) →
-        old.now ≡ Some v → new.now ≡ Some v → with_pair volume.indices name node v ≡ volume.indices → version.new.entries.items ≡ version.old.entries.items) }
+        Spells (R.words room.old) (contents version.old) volume → IsSound volume → option_copied old.entry ≡ attribute volume node name → (v : AnyValue) →
+        option_copied old.entry ≡ Some v → option_copied new.entry ≡ Some v → with_pair volume.indices name node v ≡ volume.indices →
+        version.new.entries.items ≡ version.old.entries.items) }
     ensures catalog { OnOk result (version.new.catalog ≡ version.old.catalog) }
     ensures next { OnOk result (version.new.next ≡ version.old.next) }
     ensures err { OnErr result (KeepsStart R.kept R.standing R.words room.old room.new) }
@@ -174,15 +178,15 @@ pub(crate) fn change_entry<R: Room>(
     version: &mut Version,
     node: u64,
     name: &Name,
-    new: &Option<Value>,
+    new: Option<&Value>,
 ) -> Result<(), Refusal>
     requires in_hand { IsInHand (R.standing room.old) (R.words room.old) (contents version.old) }
     requires open { IsTrue (R.is_open (R.kept room.old)) }
     ensures changes { OnOk result (Changes R.kept R.standing R.words (contents version.old) (contents version.new) room.old room.new) }
     ensures spells { OnOk result ((volume : State) → Spells (R.words room.old) (contents version.old) volume → IsSound volume →
-        Spells (R.words room.new) (contents version.new) (with_indices volume name.now node new.now)) }
+        Spells (R.words room.new) (contents version.new) (with_indices volume name.now node (option_copied new.entry))) }
     ensures stays { OnOk result ((volume : State) → Spells (R.words room.old) (contents version.old) volume → IsSound volume → (v : AnyValue) →
-        attribute volume node name.now ≡ Some v → new.now ≡ Some v → with_pair volume.indices name.now node v ≡ volume.indices →
+        attribute volume node name.now ≡ Some v → option_copied new.entry ≡ Some v → with_pair volume.indices name.now node v ≡ volume.indices →
         version.new.entries.items ≡ version.old.entries.items) }
     ensures catalog { OnOk result (version.new.catalog ≡ version.old.catalog) }
     ensures next { OnOk result (version.new.next ≡ version.old.next) }
@@ -193,6 +197,6 @@ pub(crate) fn change_entry<R: Room>(
         return Ok(());
     };
     let old = value_in(room, version.catalog, node, name);
-    change_at(room, version, at, node, &old, new)?;
+    change_at(room, version, at, node, old.as_ref(), new)?;
     Ok(())
 }

@@ -67,7 +67,7 @@ fn set_value<R: Room>(
     ensures err { OnErr result (KeepsStart R.kept R.standing R.words room.old room.new) }
     ensures full { IfErr result (IsFullOf (R.full room.new)) }
 {
-    change_entry(room, version, node, name, &Some(value.copy()))?;
+    change_entry(room, version, node, name, Some(value))?;
     let key = catalog_key(node, name);
     version.catalog = insert(room, version.catalog, &key, &payload_of(value))?;
     Ok(Done::Unit)
@@ -89,7 +89,7 @@ fn unset_value<R: Room>(
     ensures err { OnErr result (KeepsStart R.kept R.standing R.words room.old room.new) }
     ensures full { IfErr result (IsFullOf (R.full room.new)) }
 {
-    change_entry(room, version, node, name, &None)?;
+    change_entry(room, version, node, name, None)?;
     let key = catalog_key(node, name);
     version.catalog = remove(room, version.catalog, &key)?;
     Ok(Done::Unit)

@@ -172,11 +172,11 @@ impl Entry {
         self.root
     }
 
-    /// The same index with another root.
-    pub(crate) fn with_root(self, root: u64) -> Entry
-        ensures { result ≡ record { name = self.name; kind = self.kind; root = root } }
+    /// Gives the index another root.
+    pub(crate) fn set_root(&mut self, root: u64)
+        ensures { self.new ≡ record { name = self.old.name; kind = self.old.kind; root = root } }
     {
-        Entry { root, ..self }
+        self.root = root;
     }
 
     /// The bytes of the name.
@@ -191,11 +191,19 @@ impl Entry {
         bytes
     }
 
-    /// How the index's name compares with a name.
+    /// How the index's name compares with a name. The words behind a name are zeros, so the first word that differs decides, and else the lengths.
     pub(crate) fn compare(&self, name: &Name) -> Ordering
         ensures { result ≡ name_cmp self.now.name name.now }
     {
-        self.bytes().as_slice().cmp(name.as_str().as_bytes())
+        let text = name.as_str().as_bytes();
+        for j in 0..text.len() / 8 + 1 {
+            let mine = self.words[j];
+            let other = word_from(text, 8 * j);
+            if mine != other {
+                return mine.cmp(&other);
+            }
+        }
+        self.len.cmp(&text.len())
     }
 
     /// The name.

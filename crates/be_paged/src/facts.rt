@@ -1,4 +1,6 @@
 //! The facts of a version in hand on which refusals rest.
+//!
+//! A list of operations asks for the same node again and again, so a reader remembers what it found of the node last.
 use crate::attributes::attribute_count;
 use crate::catalog::catalog_key;
 use crate::entries::search;
@@ -8,11 +10,14 @@ use be_tree::has_key;
 use be_value::Name;
 use be_volume::Facts;
 
-/// A reader of these facts.
+/// A reader of these facts, with the node that it looked for last and whether that is there, and the node whose attributes it counted last and their
+/// count.
 #[derive(Drop)]
 pub(crate) struct PageFacts<'a, L: Look> {
     pub(crate) look: &'a mut L,
     pub(crate) version: &'a Version,
+    pub(crate) sought: Option<(u64, bool)>,
+    pub(crate) counted: Option<(u64, usize)>,
 }
 
 impl<L: Look> Facts for PageFacts<'_, L> {
@@ -20,28 +25,47 @@ impl<L: Look> Facts for PageFacts<'_, L> {
     ghost use base.Fml.{GName};
     ghost use Rattle.be_pages.specs.declared.room.Standing.{Standing as Stands};
     ghost use Rattle.be_paged.specs.Page.{contents};
-    ghost use Rattle.be_paged.specs.Facts.{AnswersFor};
+    ghost use Rattle.be_paged.specs.Facts.{FactsOf};
 
     ghost Kept = { GName × (L.Kept × ((ℕ → Stands) × (ℕ → ℕ → ℕ))) };
 
     ghost kept = { λ f. (f.look.ghost_name, (L.kept f.look.now, (L.standing f.look.now, L.words f.look.now))) };
 
-    ghost answers_for = { λ f volume. AnswersFor (L.standing f.look.now) (L.words f.look.now) (contents f.version.now) volume };
+    ghost answers_for = { λ f volume. FactsOf (L.standing f.look.now) (L.words f.look.now) (contents f.version.now) f.sought f.counted volume };
 
     fn next(&mut self) -> u64 {
         self.version.next
     }
 
     fn has_node(&mut self, node: u64) -> bool {
-        has_key(self.look, self.version.catalog, &node.to_be_bytes())
+        if let Some((last, there)) = self.sought {
+            if last == node {
+                return there;
+            }
+        }
+        let there = has_key(self.look, self.version.catalog, &node.to_be_bytes());
+        self.sought = Some((node, there));
+        there
     }
 
     fn has_attribute(&mut self, node: u64, name: &Name) -> bool {
+        if let Some((last, count)) = self.counted {
+            if last == node && count == 0 {
+                return false;
+            }
+        }
         has_key(self.look, self.version.catalog, &catalog_key(node, name))
     }
 
     fn attribute_count(&mut self, node: u64) -> usize {
-        attribute_count(self.look, self.version.catalog, node)
+        if let Some((last, count)) = self.counted {
+            if last == node {
+                return count;
+            }
+        }
+        let count = attribute_count(self.look, self.version.catalog, node);
+        self.counted = Some((node, count));
+        count
     }
 
     fn has_index(&mut self, name: &Name) -> bool {

@@ -1,15 +1,17 @@
 //! Indices where they stand on a version page.
 //!
 //! Who asks for one or two indices by name needs no version in hand, which has room for all 32 of them. Names are compared where they stand, and
-//! mostly their first words differ already. They ascend, so of 32 indices a search looks at six at most.
-ghost use Rattle.std.specs.Prelude.{◌≡◌, ℕ, ◌+◌, ◌<◌, ◌≤◌, IsTrue, IfSome, IfNone, length, map, slice_index, slice_index_or};
+//! mostly their first words differ already. They ascend, so of 32 indices a search looks at six at most. Mostly the same name is asked for again, so
+//! what was found for it last is kept.
+ghost use Rattle.std.specs.Prelude.{◌≡◌, ◌+◌, ◌<◌, ◌≤◌, IsTrue, length, map, slice_index, slice_index_or};
 ghost use Rattle.std.specs.Int.{to_be_bytes, w64};
 ghost use Rattle.std.specs.List.{range_with_len};
 ghost use Rattle.be_volume.specs.Maps.{name_cmp};
 ghost use Rattle.be_volume.specs.Volume.{State};
 ghost use Rattle.be_pages.specs.Pages.{IsUnchanged, is_readable};
 ghost use Rattle.be_paged.specs.Entry.{Entry as AnyEntry};
-ghost use Rattle.be_paged.specs.Page.{contents_of, entry_at, IsEntry, IsGapAt, IsNamedAt, IsVersionPage};
+ghost use Rattle.be_paged.specs.Page.{contents_of, entry_at, IsEntry, IsVersionPage};
+ghost use Rattle.be_paged.specs.Source.{IsFound, IsKnown};
 ghost use Rattle.be_paged.specs.Version.{IsVersion};
 
 use crate::entry::{kind_numbered, word_from};
@@ -25,19 +27,43 @@ pub(crate) struct FoundIndex {
     pub(crate) root: u64,
 }
 
-/// The index of a name on a version page, if there is one. The place where one was found last is looked at first, as mostly the same index is asked
-/// for again. Of most indices on the way it reads one word.
-pub(crate) fn find_index<L: Look>(
+/// A name that was looked for, with its index if it has one.
+#[derive(Drop)]
+pub(crate) struct KnownName {
+    pub(crate) name: Name,
+    pub(crate) index: Option<FoundIndex>,
+}
+
+/// The index of a name on a version page, if there is one. Where the name is the one that was looked for last, no page is read.
+pub(crate) fn known_index<L: Look>(
     look: &mut L,
     page: u64,
     name: &Name,
-    recent: &mut usize,
+    known: &mut Option<KnownName>,
 ) -> Option<FoundIndex>
     requires version { (volume : State) × IsVersion (L.standing look.old) (L.words look.old) page volume }
-    ensures found { IfSome result (λ at. IsNamedAt (contents_of (L.words look.new page)).entries name.now at.place) }
-    ensures kind { IfSome result (λ at. (d : AnyEntry) → at.kind ≡ (slice_index_or (contents_of (L.words look.new page)).entries at.place d).kind) }
-    ensures root { IfSome result (λ at. (d : AnyEntry) → at.root ≡ (slice_index_or (contents_of (L.words look.new page)).entries at.place d).root) }
-    ensures absent { IfNone result ((i : ℕ) × IsGapAt (contents_of (L.words look.new page)).entries name.now i) }
+    requires known { IsKnown (contents_of (L.words look.old page)).entries known.old }
+    ensures found { IsFound (contents_of (L.words look.new page)).entries name.now result }
+    ensures known { IsKnown (contents_of (L.words look.new page)).entries known.new }
+    ensures unchanged { IsUnchanged L.kept L.standing L.words look.old look.new }
+{
+    if let Some(last) = known {
+        if last.name == *name {
+            return last.index;
+        }
+    }
+    let index = find_index(look, page, name);
+    *known = Some(KnownName {
+        name: name.copy(),
+        index,
+    });
+    index
+}
+
+/// The index of a name on a version page, if there is one. Of most indices on the way it reads one word.
+fn find_index<L: Look>(look: &mut L, page: u64, name: &Name) -> Option<FoundIndex>
+    requires version { (volume : State) × IsVersion (L.standing look.old) (L.words look.old) page volume }
+    ensures found { IsFound (contents_of (L.words look.new page)).entries name.now result }
     ensures unchanged { IsUnchanged L.kept L.standing L.words look.old look.new }
 {
     let text = name.as_str().as_bytes();
@@ -45,29 +71,22 @@ pub(crate) fn find_index<L: Look>(
     let mut low = 0;
     let mut high = look.word(page, 1) as usize;
     'halves: while low < high {
-        let at = place_between(low, high, *recent);
+        let at = middle(low, high);
         match compare_at(look, page, 4 + 11 * at, text, first) {
             Ordering::Less => low = at + 1,
-            Ordering::Equal => {
-                *recent = at;
-                return Some(index_at(look, page, at));
-            }
+            Ordering::Equal => return Some(index_at(look, page, at)),
             Ordering::Greater => high = at,
         }
     }
     None
 }
 
-/// The place that is wanted, where it is one of those from `low` on and before `high`; else their middle.
-fn place_between(low: usize, high: usize, wanted: usize) -> usize
+/// The place in the middle of those from `low` on and before `high`.
+fn middle(low: usize, high: usize) -> usize
     requires { low < high }
     ensures { (low ≤ result) × (result < high) }
 {
-    if low <= wanted && wanted < high {
-        wanted
-    } else {
-        low + (high - low) / 2
-    }
+    low + (high - low) / 2
 }
 
 /// How the name of the index at a place of a page compares with a name whose first word is at hand. The words behind a name are zeros, so the first

@@ -3,7 +3,7 @@
 //! A walk over an index asks for one key after the other. So the source keeps a cursor of the tree that it walked last, and
 //! the place of the item whose key it gave last: where the next key is asked from that very key, it goes on from there and
 //! makes no descent. The nodes of a range are read leaf by leaf, and no key is unpacked. A query asks for the same index again and again, so the
-//! source keeps the place of the one that it found last.
+//! source keeps what it found last.
 ghost use Rattle.std.specs.Prelude.{◌≡◌, ◌<◌, ℕ, true, length, slice_index_or};
 ghost use Rattle.be_pages.specs.Pages.{IsUnchanged};
 ghost use Rattle.be_tree.specs.Cursor.{IsCursor, remaining};
@@ -15,7 +15,7 @@ ghost use Rattle.be_paged.specs.Source.{StandsBehind};
 ghost use Rattle.be_paged.specs.Version.{IsVersion};
 ghost use Rattle.be_paged.specs.Entry.{Entry as AnyEntry};
 
-use crate::on_page::{FoundIndex, find_index};
+use crate::on_page::{FoundIndex, KnownName, known_index};
 use crate::reading::get;
 use arrayvec::ArrayVec;
 use be_pages::Look;
@@ -31,7 +31,7 @@ const NOWHERE: usize = 32;
 pub struct PagedSource<L> {
     look: L,
     page: u64,
-    recent: usize,
+    known: Option<KnownName>,
     cursor: Cursor,
     place: usize,
     last: (u64, usize),
@@ -47,7 +47,7 @@ pub fn source<L: Look>(look: L, version_page: u64) -> PagedSource<L>
     PagedSource {
         look,
         page: version_page,
-        recent: NOWHERE,
+        known: None,
         cursor: Cursor::new(),
         place: NOWHERE,
         last: (0, 0),
@@ -73,6 +73,7 @@ impl<L: Look> PagedSource<L> {
         ensures cursor { IsCursor (L.standing self.new.look) (L.words self.new.look) self.new.cursor }
         ensures rest { remaining (L.words self.new.look) self.new.cursor ≡ pairs_from (pairs (L.words self.new.look) index.root) from.now after }
         ensures page { self.new.page ≡ self.old.page }
+        ensures known { self.new.known ≡ self.old.known }
         ensures unchanged { IsUnchanged L.kept L.standing L.words self.old.look self.new.look }
     {
         if after && index.place == self.place {
@@ -94,19 +95,19 @@ impl<L: Look> Source for PagedSource<L> {
 
     ghost kept = { λ s. (L.kept s.look, (L.standing s.look, L.words s.look)) };
 
-    ghost answers_for = { λ s volume. SourceOf (L.standing s.look) (L.words s.look) s.page s.cursor s.place s.last.0 s.last.1 volume };
+    ghost answers_for = { λ s volume. SourceOf (L.standing s.look) (L.words s.look) s.page s.known s.cursor s.place s.last.0 s.last.1 volume };
 
     ghost sound = { λ s volume is. is.version.sound };
 
     fn kind_of(&mut self, name: &Name) -> Option<Kind> {
-        match find_index(&mut self.look, self.page, name, &mut self.recent) {
+        match known_index(&mut self.look, self.page, name, &mut self.known) {
             Some(index) => Some(index.kind),
             None => None,
         }
     }
 
     fn next_key(&mut self, name: &Name, from: &[u8], after: bool) -> Option<ArrayVec<u8, 264>> {
-        let Some(index) = find_index(&mut self.look, self.page, name, &mut self.recent) else {
+        let Some(index) = known_index(&mut self.look, self.page, name, &mut self.known) else {
             return None;
         };
         self.walk_to(index, from, after);
@@ -124,7 +125,7 @@ impl<L: Look> Source for PagedSource<L> {
         high: Option<&[u8]>,
         found: &mut Vec<u64>,
     ) -> Result<(), Refusal> {
-        let Some(index) = find_index(&mut self.look, self.page, name, &mut self.recent) else {
+        let Some(index) = known_index(&mut self.look, self.page, name, &mut self.known) else {
             return Ok(());
         };
         numbers_within(&mut self.look, index.root, low, high, found)?;
@@ -132,7 +133,7 @@ impl<L: Look> Source for PagedSource<L> {
     }
 
     fn has_key(&mut self, name: &Name, key: &[u8]) -> bool {
-        match find_index(&mut self.look, self.page, name, &mut self.recent) {
+        match known_index(&mut self.look, self.page, name, &mut self.known) {
             Some(index) => has_key(&mut self.look, index.root, key),
             None => false,
         }

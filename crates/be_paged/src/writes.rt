@@ -28,7 +28,12 @@ fn refusal<L: Look>(look: &mut L, version: &Version, ops: &[Op]) -> Option<Refus
     ensures answer { result ≡ result_err (steps volume ops.now) }
     ensures unchanged { IsUnchanged L.kept L.standing L.words look.old look.new }
 {
-    let mut facts = PageFacts { look, version };
+    let mut facts = PageFacts {
+        look,
+        version,
+        sought: None,
+        counted: None,
+    };
     first_refusal(&mut facts, ops)
 }
 

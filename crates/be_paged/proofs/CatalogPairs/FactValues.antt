@@ -13,11 +13,12 @@ use Rattle.be_value.specs.declared.values.Value.{Value}
 use Rattle.be_tree.specs.Pair.{Pair}
 use Rattle.be_tree.specs.Key.{payload_at}
 use Rattle.be_value.specs.declared.refusals.Refusal.TheVariants.{NoNode}
-use Rattle.be_volume.specs.Maps.{Nodes, Attributes, attributes_of}
+use Rattle.be_volume.specs.Maps.{Nodes, Attributes, attributes_of, name_cmp}
 use Rattle.be_volume.specs.Reading.{attributes_at}
 use Rattle.be_volume.specs.Volume.{State}
 use Rattle.be_volume.specs.Indices.{Indices}
 use Rattle.be_paged.specs.Entry.{Entry}
+use Rattle.be_paged.specs.Facts.{IsCounted}
 use Rattle.be_paged.specs.Page.{IsNamedAt, IsGapAt}
 use Rattle.be_paged.specs.Catalog.{catalog_key, payload_of, value_at, stored, IsCatalog}
 use Rattle.be_paged.specs.Reading.{AreValid}
@@ -90,3 +91,13 @@ attributes_some s node = by (fin.get s.nodes node)
     by : (a : Option Attributes) → is_some a ≡ true → option_map_or (λ (b : Attributes). Ok (fin.entries b)) a (Err NoNode) ≡ Ok (fin.entries (unwrap_or a fin.empty))
     by None h = cc
     by (Some a) h = refl
+
+-- a node whose attributes were counted, and are none
+pub bare_counted : (counted : Option (ℕ × ℕ)) (last : ℕ × ℕ) (volume : State) (node : ℕ) → counted ≡ Some last → last.0 ≡ node → last.1 ≡ 0 → IsCounted counted volume → fin.len (attributes_of volume.nodes node) ≡ 0
+bare_counted None last volume node is of bare told = cc
+bare_counted (Some x) last volume node is of bare told =
+    let same : x ≡ last = ap (λ o. unwrap_or o last) is in
+    ap (λ n. fin.len (attributes_of volume.nodes n)) (sym (ap (λ (y : ℕ × ℕ). y.0) same ∙ of)) ∙ sym told ∙ ap (λ (y : ℕ × ℕ). y.1) same ∙ bare
+
+pub no_attribute : (nodes : Nodes) (node : ℕ) (name : List ℕ) → fin.len (attributes_of nodes node) ≡ 0 → fin.contains_key (attributes_of nodes node) name ≡ false
+no_attribute nodes node name bare = ap (λ (a : Attributes). is_some (fin.get a name)) (fin.empty_of_len (attributes_of nodes node) bare) ∙ ap is_some (fin.get-empty name_cmp name)

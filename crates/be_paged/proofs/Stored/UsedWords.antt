@@ -14,7 +14,7 @@ use Rattle.be_tree.proofs.Codec.{flat_map_length}
 use Rattle.be_paged.specs.Entry.{Entry, HaveText}
 use Rattle.be_paged.specs.Page.{Contents, contents_of, entry_at, kind_numbered, entry_place, IsEntry, IsVersionPage}
 
-length_told : (words : ℕ → ℕ) (at n : ℕ) → length (bytes_at words at n) ≡ n
+pub length_told : (words : ℕ → ℕ) (at n : ℕ) → length (bytes_at words at n) ≡ n
 length_told words at n = length-take-le n (flat_map (to_be_bytes w64) (map (λ i. words (at + i)) (range_with_len 0 (words_for n)))) (omega (arith, flat_map_length (λ i. words (at + i)) (words_for n)))
 
 number_back : (n : ℕ) → 1 ≤ n → n ≤ 7 → place (kind_numbered n) + 1 ≡ n

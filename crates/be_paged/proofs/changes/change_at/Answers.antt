@@ -1,4 +1,5 @@
 use Rattle.std.proofs.Common.{ℕ, List, [], get_or, ap, sym, subst, ◌∙◌}
+use Rattle.std.specs.Option.{option_copied}
 use Rattle.be_value.specs.declared.values.Kind.{Kind}
 use Rattle.be_value.specs.declared.values.Kind.TheVariants as kinds
 use Rattle.be_pages.specs.Pages.{Swaps}
@@ -50,12 +51,12 @@ returns-clause-spells g c = λ volume name at spells sound value.
     let kind = c.index_at-kind.ensures.kind nowhere ∙ ap (λ (xs : List Entry). (get_or xs i nowhere).kind) c.deref.ensures.0 in
     let e : Entry = record { name = (get_or es i nowhere).name; kind = (get_or es i nowhere).kind; root = c.in_ok-changed.changed } in
     let swaps = subst (λ (r : ℕ). Swaps g.R.Look.kept g.R.Look.standing g.R.Look.words (pages (w c.args.room.now) r) (pages (w new) c.in_ok-changed.changed) c.args.room.now new) root c.in_ok-changed.ensures.swaps in
-    let ix = indexed (w c.args.room.now) before volume name node i c.args.old.now c.args.new.now spells sound value at in
+    let ix = indexed (w c.args.room.now) before volume name node i (option_copied c.args.old) (option_copied c.args.new) spells sound value at in
     let keys = c.in_ok-changed.ensures.keys ix.index (subst (λ (r : ℕ). IsIndexOf (pairs (w c.args.room.now) r) ix.index) (sym root) (ix.keys nowhere))
-    (subst (λ (k : Kind). IsReady ix.index k node c.args.old.now) (sym kind) (ix.ready nowhere)) in
-    let told = entry_spells g.R.Look.kept g.R.Look.standing g.R.Look.words c.args.room.now new before c.requires.in_hand i e nowhere c.requires.in_range c.in_ok-changed.ensures.tree swaps volume name (repaired ix.index node c.args.new.now)
+    (subst (λ (k : Kind). IsReady ix.index k node (option_copied c.args.old)) (sym kind) (ix.ready nowhere)) in
+    let told = entry_spells g.R.Look.kept g.R.Look.standing g.R.Look.words c.args.room.now new before c.requires.in_hand i e nowhere c.requires.in_range c.in_ok-changed.ensures.tree swaps volume name (repaired ix.index node (option_copied c.args.new))
     spells at (at.here nowhere) (ix.kind nowhere ∙ ix.kept) keys in
-    subst (λ (xs : List Entry). Spells (w new) (record { next = before.next; catalog = before.catalog; entries = xs }) (record { next = volume.next; nodes = volume.nodes; indices = with_change volume.indices name node c.args.new.now })) (sym (c.set_root.ensures nowhere))
+    subst (λ (xs : List Entry). Spells (w new) (record { next = before.next; catalog = before.catalog; entries = xs }) (record { next = volume.next; nodes = volume.nodes; indices = with_change volume.indices name node (option_copied c.args.new) })) (sym (c.set_root.ensures nowhere))
     (subst (λ (is : Indices). Spells (w new) (record { next = before.next; catalog = before.catalog; entries = replaced es i e }) (record { next = volume.next; nodes = volume.nodes; indices = is })) (sym ix.changed) told)
 
 pub returns-clause-stays : goal.returns-clause-stays
@@ -67,9 +68,9 @@ returns-clause-stays g c = λ volume name at spells sound value v was is same.
     let node = c.args.node in
     let root = c.index_at-kind.ensures.root nowhere ∙ ap (λ (xs : List Entry). (get_or xs i nowhere).root) c.deref.ensures.0 in
     let kind = c.index_at-kind.ensures.kind nowhere ∙ ap (λ (xs : List Entry). (get_or xs i nowhere).kind) c.deref.ensures.0 in
-    let ix = indexed w before volume name node i c.args.old.now c.args.new.now spells sound value at in
+    let ix = indexed w before volume name node i (option_copied c.args.old) (option_copied c.args.new) spells sound value at in
     let keys = subst (λ (r : ℕ). IsIndexOf (pairs w r) ix.index) (sym root) (ix.keys nowhere) in
-    let ready = subst (λ (k : Kind). IsReady ix.index k node c.args.old.now) (sym kind) (ix.ready nowhere) in
-    let kept = by_kinds _ ix.index _ node v c.args.old.now c.args.new.now _ _ keys ready.kind_is ready.indexable (paired_same volume.indices name ix.index node v ix.there same) was is
+    let ready = subst (λ (k : Kind). IsReady ix.index k node (option_copied c.args.old)) (sym kind) (ix.ready nowhere) in
+    let kept = by_kinds _ ix.index _ node v (option_copied c.args.old) (option_copied c.args.new) _ _ keys ready.kind_is ready.indexable (paired_same volume.indices name ix.index node v ix.there same) was is
     c.in_ok-changed.ensures.stays c.in_ok-changed.ensures.apart in
     c.set_root.ensures nowhere ∙ root_kept es i nowhere c.in_ok-changed.changed c.requires.in_range (kept ∙ root)

@@ -1,4 +1,5 @@
 use Rattle.std.proofs.Common.{ℕ, List, sym, subst, ◌∙◌, rules, arith}
+use Rattle.std.specs.Option.{option_copied}
 use Rattle.be_paged.specs.Entry.{Entry}
 use Rattle.be_paged.specs.Page.{IsNamedAt, IsGapAt, contents}
 use Rattle.be_paged.specs.Version.{Spells}
@@ -12,7 +13,7 @@ returns-in_default-clause-changes g c = changes_none g.R.Look.kept g.R.Look.stan
 
 pub returns-in_default-clause-spells : goal.returns-in_default-clause-spells
 returns-in_default-clause-spells g c = λ volume spells sound.
-    spells_unindexed (g.R.Look.words c.args.room.now) (contents c.args.version.now) volume c.args.name.now c.args.node c.in_default.field-0 c.args.new.now spells
+    spells_unindexed (g.R.Look.words c.args.room.now) (contents c.args.version.now) volume c.args.name.now c.args.node c.in_default.field-0 (option_copied c.args.new) spells
     (subst (λ (es : List Entry). IsGapAt es c.args.name.now c.in_default.field-0) c.deref.ensures.0 c.in_default.ensures.absent)
 
 pub value_in-old-requires : goal.value_in-old-requires
@@ -36,7 +37,7 @@ returns-clause-spells g c = λ volume spells sound.
     let at = subst (λ (xs : List Entry). IsNamedAt xs c.args.name.now c.in-Ok.at) c.deref.ensures.0 c.in-Ok.ensures.found in
     let old = c.value_in-old.ensures.value volume.nodes spells.catalog (values_valid volume sound) in
     let read = subst (λ (w : ℕ → ℕ → ℕ). Spells w (contents c.args.version.now) volume) (sym c.value_in-old.ensures.unchanged.words) spells in
-    c.in_ok-change_at.ensures.spells volume c.args.name.now at read sound old
+    c.in_ok-change_at.ensures.spells volume c.args.name.now at read sound (c.as_ref.ensures.value ∙ old)
 
 pub returns-in_err-change_at-clause-err : goal.returns-in_err-change_at-clause-err
 returns-in_err-change_at-clause-err g c =
@@ -48,4 +49,4 @@ returns-clause-stays g c = λ volume spells sound v has is same.
     let at = subst (λ (xs : List Entry). IsNamedAt xs c.args.name.now c.in-Ok.at) c.deref.ensures.0 c.in-Ok.ensures.found in
     let old = c.value_in-old.ensures.value volume.nodes spells.catalog (values_valid volume sound) in
     let read = subst (λ (w : ℕ → ℕ → ℕ). Spells w (contents c.args.version.now) volume) (sym c.value_in-old.ensures.unchanged.words) spells in
-    c.in_ok-change_at.ensures.stays volume c.args.name.now at read sound old v (old ∙ has) is same
+    c.in_ok-change_at.ensures.stays volume c.args.name.now at read sound (c.as_ref.ensures.value ∙ old) v (c.as_ref.ensures.value ∙ old ∙ has) is same

@@ -1,6 +1,6 @@
 use Rattle.std.proofs.Common.{◌≡◌, ℕ, List, true, false, ap, sym, subst, ◌∙◌, rules}
 use Rattle.be_value.specs.Key.{key}
-use Rattle.std.specs.Option.{option_map}
+use Rattle.std.specs.Option.{option_map, option_copied}
 use Rattle.be_pages.specs.Pages.{Swaps}
 use Rattle.be_tree.specs.Pair.{Pair}
 use Rattle.be_tree.specs.Tree.{pairs, pages}
@@ -19,9 +19,9 @@ returns-then-holds_both-clause-swaps g c = (tree_read g.R.Look.kept g.R.Look.sta
 pub returns-then-holds_both-clause-keys : goal.returns-then-holds_both-clause-keys
 returns-then-holds_both-clause-keys g c = λ index h ready.
     let found = c.holds_both.ensures.found c.if-holds_both.true in
-    let leaves = seen_at (Leaves c.args.kind c.args.node c.args.new.now) _ found.0 (seen_some (λ k. k.items) (Leaves c.args.kind c.args.node c.args.new.now) c.key_in-enters.result c.key_in-enters.ensures.some) found.1 in
-    subst (λ (w : ℕ → ℕ → ℕ). IsIndexOf (pairs w c.args.root) (repaired index c.args.node c.args.new.now)) (sym c.holds_both.ensures.unchanged.words)
-    (stands index c.args.kind c.args.node c.args.old.now c.ranges.node.fits ready (pairs (g.R.Look.words c.args.room.now) c.args.root) found.0 c.args.new.now leaves ready.indexable found.2 h)
+    let leaves = seen_at (Leaves c.args.kind c.args.node (option_copied c.args.new)) _ found.0 (seen_some (λ k. k.items) (Leaves c.args.kind c.args.node (option_copied c.args.new)) c.key_in-enters.result c.key_in-enters.ensures.some) found.1 in
+    subst (λ (w : ℕ → ℕ → ℕ). IsIndexOf (pairs w c.args.root) (repaired index c.args.node (option_copied c.args.new))) (sym c.holds_both.ensures.unchanged.words)
+    (stands index c.args.kind c.args.node (option_copied c.args.old) c.ranges.node.fits ready (pairs (g.R.Look.words c.args.room.now) c.args.root) found.0 (option_copied c.args.new) leaves ready.indexable found.2 h)
 
 pub returns-clause-swaps : goal.returns-clause-swaps
 returns-clause-swaps g c =
@@ -42,14 +42,14 @@ returns-clause-keys g c = λ index h ready.
     let items = pairs (w c.args.room.now) c.args.root in
     let leaves = option_map (λ k. k.items) c.key_in-leaves.result in
     let enters = option_map (λ k. k.items) c.key_in-enters.result in
-    let out = taken index kind node c.args.old.now c.ranges.node.fits ready items leaves (seen_some (λ k. k.items) (Leaves kind node c.args.old.now) c.key_in-leaves.result c.key_in-leaves.ensures.some)
-    (seen_none (λ k. k.items) (HasNone kind c.args.old.now) c.key_in-leaves.result c.key_in-leaves.ensures.none) h in
+    let out = taken index kind node (option_copied c.args.old) c.ranges.node.fits ready items leaves (seen_some (λ k. k.items) (Leaves kind node (option_copied c.args.old)) c.key_in-leaves.result c.key_in-leaves.ensures.some)
+    (seen_none (λ k. k.items) (HasNone kind (option_copied c.args.old)) c.key_in-leaves.result c.key_in-leaves.ensures.none) h in
     let mid = c.in_ok-rest.ensures.ok.has_pairs ∙ ap (λ (v : ℕ → ℕ → ℕ). key_taken leaves (pairs v c.args.root)) c.holds_both.ensures.unchanged.words in
     let rest = subst (λ (xs : List Pair). IsIndexOf xs (unpaired index node)) (sym mid) out in
-    subst (λ (xs : List Pair). IsIndexOf xs (repaired index node c.args.new.now)) (sym c.in_ok-last.ensures.ok.has_pairs)
-    (entered index kind node c.args.old.now c.ranges.node.fits ready (pairs (w c.take_key.new.room) c.in_ok-rest.rest) enters c.args.new.now
-    (seen_some (λ k. k.items) (Leaves kind node c.args.new.now) c.key_in-enters.result c.key_in-enters.ensures.some)
-    (seen_none (λ k. k.items) (HasNone kind c.args.new.now) c.key_in-enters.result c.key_in-enters.ensures.none) rest)
+    subst (λ (xs : List Pair). IsIndexOf xs (repaired index node (option_copied c.args.new))) (sym c.in_ok-last.ensures.ok.has_pairs)
+    (entered index kind node (option_copied c.args.old) c.ranges.node.fits ready (pairs (w c.take_key.new.room) c.in_ok-rest.rest) enters (option_copied c.args.new)
+    (seen_some (λ k. k.items) (Leaves kind node (option_copied c.args.new)) c.key_in-enters.result c.key_in-enters.ensures.some)
+    (seen_none (λ k. k.items) (HasNone kind (option_copied c.args.new)) c.key_in-enters.result c.key_in-enters.ensures.none) rest)
 
 clash : false ≡ true → ⊥
 clash e = cc
@@ -58,12 +58,12 @@ pub returns-clause-stays : goal.returns-clause-stays
 returns-clause-stays g c = λ v of_kind indexable was is found.
     let kind = c.args.kind in
     let node = c.args.node in
-    let leaves = key_there kind node c.args.old.now (option_map (λ k. k.items) c.key_in-leaves.result)
-    (seen_some (λ k. k.items) (Leaves kind node c.args.old.now) c.key_in-leaves.result c.key_in-leaves.ensures.some)
-    (seen_none (λ k. k.items) (HasNone kind c.args.old.now) c.key_in-leaves.result c.key_in-leaves.ensures.none) v was of_kind indexable in
-    let enters = key_there kind node c.args.new.now (option_map (λ k. k.items) c.key_in-enters.result)
-    (seen_some (λ k. k.items) (Leaves kind node c.args.new.now) c.key_in-enters.result c.key_in-enters.ensures.some)
-    (seen_none (λ k. k.items) (HasNone kind c.args.new.now) c.key_in-enters.result c.key_in-enters.ensures.none) v is of_kind indexable in
+    let leaves = key_there kind node (option_copied c.args.old) (option_map (λ k. k.items) c.key_in-leaves.result)
+    (seen_some (λ k. k.items) (Leaves kind node (option_copied c.args.old)) c.key_in-leaves.result c.key_in-leaves.ensures.some)
+    (seen_none (λ k. k.items) (HasNone kind (option_copied c.args.old)) c.key_in-leaves.result c.key_in-leaves.ensures.none) v was of_kind indexable in
+    let enters = key_there kind node (option_copied c.args.new) (option_map (λ k. k.items) c.key_in-enters.result)
+    (seen_some (λ k. k.items) (Leaves kind node (option_copied c.args.new)) c.key_in-enters.result c.key_in-enters.ensures.some)
+    (seen_none (λ k. k.items) (HasNone kind (option_copied c.args.new)) c.key_in-enters.result c.key_in-enters.ensures.none) v is of_kind indexable in
     absurd (clash (sym c.if-holds_both.false ∙ c.holds_both.ensures.finds (key v node) leaves enters found))
 
 pub returns-in_err-rest-clause-err : goal.returns-in_err-rest-clause-err
@@ -83,8 +83,8 @@ pub returns-clause-apart : goal.returns-clause-apart
 returns-clause-apart g c = λ v ne was is.
     let kind = c.args.kind in
     let node = c.args.node in
-    let leaves = no_key kind node c.args.old.now (option_map (λ k. k.items) c.key_in-leaves.result)
-    (seen_some (λ k. k.items) (Leaves kind node c.args.old.now) c.key_in-leaves.result c.key_in-leaves.ensures.some) v was ne in
-    let enters = no_key kind node c.args.new.now (option_map (λ k. k.items) c.key_in-enters.result)
-    (seen_some (λ k. k.items) (Leaves kind node c.args.new.now) c.key_in-enters.result c.key_in-enters.ensures.some) v is ne in
+    let leaves = no_key kind node (option_copied c.args.old) (option_map (λ k. k.items) c.key_in-leaves.result)
+    (seen_some (λ k. k.items) (Leaves kind node (option_copied c.args.old)) c.key_in-leaves.result c.key_in-leaves.ensures.some) v was ne in
+    let enters = no_key kind node (option_copied c.args.new) (option_map (λ k. k.items) c.key_in-enters.result)
+    (seen_some (λ k. k.items) (Leaves kind node (option_copied c.args.new)) c.key_in-enters.result c.key_in-enters.ensures.some) v is ne in
     c.in_ok-last.ensures.none enters ∙ c.in_ok-rest.ensures.none leaves

@@ -1,5 +1,4 @@
-use Rattle.std.proofs.Common.{ap, sym, ◌∙◌, subst, Some, rules, arith}
-use Rattle.be_value.specs.declared.values.Value.{Value}
+use Rattle.std.proofs.Common.{sym, ◌∙◌, subst, Some, refl, rules, arith}
 use Rattle.be_tree.specs.Pair.{Pair}
 use Rattle.be_tree.specs.Tree.{pairs}
 use Rattle.be_volume.specs.Maps.{with_attribute}
@@ -8,7 +7,6 @@ use Rattle.be_volume.proofs.StepLemmas.{made, accepted}
 use Rattle.be_paged.specs.Page.{Contents, contents}
 use Rattle.be_paged.specs.Catalog.{IsCatalog}
 use Rattle.be_paged.specs.Changes.{with_indices}
-use Rattle.be_paged.specs.Version.{Spells}
 use Rattle.be_paged.proofs.Applying.Composing.{changes_trans, start_after}
 use Rattle.be_paged.proofs.Applying.Hand.{catalog_changes, catalog_spells}
 use Rattle.be_paged.proofs.CatalogPairs.Items.{catalog_set}
@@ -37,8 +35,7 @@ returns-clause-steps g c = λ volume spells sound ok.
     let value = c.args.value.now in
     let op = Set node name value in
     let mid = contents c.change_entry.new.version in
-    let between = subst (λ (v : Value). Spells (g.R.Look.words c.change_entry.new.room) (contents c.change_entry.new.version) (with_indices volume name node (Some v))) c.copy.ensures
-    (c.in_ok-change_entry.ensures.spells volume spells sound) in
+    let between = c.in_ok-change_entry.ensures.spells volume spells sound in
     let pair : Pair = record { key = c.deref.result.now; payload = c.deref-2.result.now } in
     let found = (accepted volume op ok).found in
     let catalog = catalog_set (pairs (g.R.Look.words c.change_entry.new.room) mid.catalog) volume.nodes node name value pair c.ranges.node.fits found.0 c.catalog_key-key.ensures.valid
@@ -60,4 +57,4 @@ returns-in_err-version-clause-err g c =
 pub returns-clause-stays : goal.returns-clause-stays
 returns-clause-stays g c = λ volume spells sound stands.
     let s = settled volume c.args.node c.args.name.now c.args.value.now stands in
-    c.in_ok-change_entry.ensures.stays volume spells sound c.args.value.now s.has (ap (λ (v : Value). Some v) c.copy.ensures) s.indices
+    c.in_ok-change_entry.ensures.stays volume spells sound c.args.value.now s.has refl s.indices

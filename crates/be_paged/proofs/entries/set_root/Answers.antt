@@ -1,8 +1,17 @@
-use Rattle.std.proofs.Common.{◌∷◌, ◌++◌, take, drop, ap, ◌∙◌}
+use Rattle.std.proofs.Common.{◌≡◌, List, length, get_or, set, ap, ◌∙◌, length-set}
+use Rattle.std.specs.List.{refill}
+use Rattle.be_tree.proofs.Nodes.SlotLists.{refilled}
 use Rattle.be_paged.specs.Entry.{Entry}
 use Rattle.be_paged.proofs.IndexEntries.RootSetting.{root_set}
 use Rattle.be_paged.proofs.entries.set_root.Goals as goal
 
 pub returns : goal.returns
-returns c = λ d. root_set c.args.entries.now.items c.remove-entry.new.self.items c.insert.new.self.items c.args.at c.args.root c.remove-entry.result d c.requires.in_range c.remove-entry.ensures.value c.remove-entry.ensures.items
-    (c.insert.ensures.items ∙ ap (λ (e : Entry). take c.args.at c.remove-entry.new.self.items ++ e ∷ drop c.args.at c.remove-entry.new.self.items) c.with_root.ensures)
+returns c = λ d.
+    let es = c.args.entries.now.items in
+    let at = c.args.at in
+    let new = c.set_root.new.self in
+    let same : c.deref_mut.result.now ≡ es = c.deref_mut.ensures.value in
+    let len : length (set es at new) ≡ length es = length-set es at new in
+    ap (λ (xs : List Entry). refill (length es) es (set xs at new)) same ∙ refilled es (set es at new) len
+    ∙ root_set es (set es at new) at c.args.root c.index-deref_mut-at.result d c.requires (c.index-deref_mut-at.is ∙ ap (λ (xs : List Entry). get_or xs at c.index-deref_mut-at.result) same)
+    (ap (λ (e : Entry). set es at e) c.set_root.ensures)

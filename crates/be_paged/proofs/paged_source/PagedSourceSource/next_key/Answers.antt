@@ -12,6 +12,7 @@ use Rattle.be_tree.proofs.Trees.{tree_rising}
 use Rattle.be_value.specs.declared.values.Kind.TheVariants as kinds
 use Rattle.be_paged.specs.Entry.{Entry}
 use Rattle.be_paged.specs.Page.{IsNamedAt, contents_of}
+use Rattle.be_paged.specs.Source.{IsKnown}
 use Rattle.be_paged.proofs.Stored.PageIndices.{source_since}
 use Rattle.be_paged.proofs.Asking.SourceKeys.{entry_tree, no_key, is_next_key, behind_next}
 use Rattle.be_paged.proofs.Versions.{version_since}
@@ -20,43 +21,43 @@ use Rattle.be_paged.proofs.paged_source.PagedSourceSource.next_key.Goals as goal
 nowhere : Entry
 nowhere = record { name = []; kind = kinds.Cstr; root = 0 }
 
-pub find_index-requires : goal.find_index-requires
-find_index-requires g c = record { version = (c.requires.0, c.requires.1.version) }
+pub known_index-requires : goal.known_index-requires
+known_index-requires g c = record { version = (c.requires.0, c.requires.1.version); known = c.requires.1.known_is }
 
 pub returns-in_default-clause-answer : goal.returns-in_default-clause-answer
 returns-in_default-clause-answer g c = λ volume of k is.
     let self = c.args.self.now in
-    let w = g.L.Look.words c.find_index.new.look in
+    let w = g.L.Look.words c.known_index.new.look in
     let since = c.in_default.ensures.unchanged in
-    let version = version_since (g.L.Look.standing self.look) (g.L.Look.standing c.find_index.new.look) (g.L.Look.words self.look) w self.page volume since.standing since.words of.version in
-    absurd (no_key w (contents_of (w self.page)) volume c.args.name.now c.in_default.ensures.absent.0 version.spells c.in_default.ensures.absent.1 k is)
+    let version = version_since (g.L.Look.standing self.look) (g.L.Look.standing c.known_index.new.look) (g.L.Look.words self.look) w self.page volume since.standing since.words of.version in
+    absurd (no_key w (contents_of (w self.page)) volume c.args.name.now c.in_default.ensures.found.absent.0 version.spells c.in_default.ensures.found.absent.1 k is)
 
 pub returns-in_default-clause-answers : goal.returns-in_default-clause-answers
 returns-in_default-clause-answers g c = λ volume of.
     let self = c.args.self.now in
     let since = c.in_default.ensures.unchanged in
-    source_since (g.L.Look.standing self.look) (g.L.Look.standing c.find_index.new.look) (g.L.Look.words self.look) (g.L.Look.words c.find_index.new.look) self.page self.cursor self.place self.last.0 self.last.1 volume since.standing since.words of
+    source_since (g.L.Look.standing self.look) (g.L.Look.standing c.known_index.new.look) (g.L.Look.words self.look) (g.L.Look.words c.known_index.new.look) self.page self.known c.known_index.new.known self.cursor self.place self.last.0 self.last.1 volume since.standing since.words c.in_default.ensures.known of
 
 pub walk_to-requires-clause-in_range : goal.walk_to-requires-clause-in_range
-walk_to-requires-clause-in_range g c = c.in-Some.ensures.found.in_range
+walk_to-requires-clause-in_range g c = c.in-Some.ensures.found.named.in_range
 
 pub walk_to-requires-clause-root : goal.walk_to-requires-clause-root
-walk_to-requires-clause-root g c = c.in-Some.ensures.root
+walk_to-requires-clause-root g c = c.in-Some.ensures.found.root
 
 pub walk_to-requires-clause-tree : goal.walk_to-requires-clause-tree
 walk_to-requires-clause-tree g c =
     let self = c.args.self.now in
-    let s = g.L.Look.standing c.find_index.new.look in
-    let w = g.L.Look.words c.find_index.new.look in
+    let s = g.L.Look.standing c.known_index.new.look in
+    let w = g.L.Look.words c.known_index.new.look in
     let since = c.in-Some.ensures.unchanged in
     let version = version_since (g.L.Look.standing self.look) s (g.L.Look.words self.look) w self.page c.requires.0 since.standing since.words c.requires.1.version in
-    subst (IsTree s w) (sym (c.in-Some.ensures.root nowhere)) (entry_tree s w (contents_of (w self.page)) c.in-Some.index.place nowhere version.in_hand c.in-Some.ensures.found.in_range)
+    subst (IsTree s w) (sym (c.in-Some.ensures.found.root nowhere)) (entry_tree s w (contents_of (w self.page)) c.in-Some.index.place nowhere version.in_hand c.in-Some.ensures.found.named.in_range)
 
 pub walk_to-requires-clause-behind : goal.walk_to-requires-clause-behind
 walk_to-requires-clause-behind g c =
     let self = c.args.self.now in
     let since = c.in-Some.ensures.unchanged in
-    let now = source_since (g.L.Look.standing self.look) (g.L.Look.standing c.find_index.new.look) (g.L.Look.words self.look) (g.L.Look.words c.find_index.new.look) self.page self.cursor self.place self.last.0 self.last.1 c.requires.0 since.standing since.words c.requires.1 in
+    let now = source_since (g.L.Look.standing self.look) (g.L.Look.standing c.known_index.new.look) (g.L.Look.words self.look) (g.L.Look.words c.known_index.new.look) self.page self.known c.known_index.new.known self.cursor self.place self.last.0 self.last.1 c.requires.0 since.standing since.words c.in-Some.ensures.known c.requires.1 in
     now.behind
 
 pub returns-in_err-page-clause-answer : goal.returns-in_err-page-clause-answer
@@ -66,9 +67,9 @@ returns-in_err-page-clause-answer g c = λ volume of.
     let name = c.args.name.now in
     let place = c.in-Some.index.place in
     let s0 = g.L.Look.standing self0.look in
-    let s1 = g.L.Look.standing c.find_index.new.look in
+    let s1 = g.L.Look.standing c.known_index.new.look in
     let w0 = g.L.Look.words self0.look in
-    let w1 = g.L.Look.words c.find_index.new.look in
+    let w1 = g.L.Look.words c.known_index.new.look in
     let first = c.in-Some.ensures.unchanged in
     let self2 = c.walk_to.new.self in
     let s2 = g.L.Look.standing self2.look in
@@ -76,8 +77,8 @@ returns-in_err-page-clause-answer g c = λ volume of.
     let step = c.walk_to.ensures.unchanged in
     let version = version_since s1 s2 w1 w2 page volume step.standing step.words (version_since s0 s1 w0 w1 page volume first.standing first.words of.version) in
     let contents = contents_of (w2 page) in
-    let named = subst (λ (u : ℕ → ℕ → ℕ). IsNamedAt (contents_of (u page)).entries name place) (sym step.words) c.in-Some.ensures.found in
-    let root : c.in-Some.index.root ≡ (get_or contents.entries place nowhere).root = c.in-Some.ensures.root nowhere ∙ ap (λ (u : ℕ → ℕ → ℕ). (get_or (contents_of (u page)).entries place nowhere).root) (sym step.words) in
+    let named = subst (λ (u : ℕ → ℕ → ℕ). IsNamedAt (contents_of (u page)).entries name place) (sym step.words) c.in-Some.ensures.found.named in
+    let root : c.in-Some.index.root ≡ (get_or contents.entries place nowhere).root = c.in-Some.ensures.found.root nowhere ∙ ap (λ (u : ℕ → ℕ → ℕ). (get_or (contents_of (u page)).entries place nowhere).root) (sym step.words) in
     let rising = tree_rising s2 w2 (get_or contents.entries place nowhere).root (entry_tree s2 w2 contents place nowhere version.in_hand named.in_range) in
     rw c.from_residual.ensures
     (is_next_key w2 contents volume name place nowhere version.spells named rising c.args.from.now c.args.after (remaining w2 self2.cursor) None
@@ -90,9 +91,9 @@ returns-clause-answer g c = λ volume of.
     let name = c.args.name.now in
     let place = c.in-Some.index.place in
     let s0 = g.L.Look.standing self0.look in
-    let s1 = g.L.Look.standing c.find_index.new.look in
+    let s1 = g.L.Look.standing c.known_index.new.look in
     let w0 = g.L.Look.words self0.look in
-    let w1 = g.L.Look.words c.find_index.new.look in
+    let w1 = g.L.Look.words c.known_index.new.look in
     let first = c.in-Some.ensures.unchanged in
     let self2 = c.walk_to.new.self in
     let s2 = g.L.Look.standing self2.look in
@@ -100,8 +101,8 @@ returns-clause-answer g c = λ volume of.
     let step = c.walk_to.ensures.unchanged in
     let version = version_since s1 s2 w1 w2 page volume step.standing step.words (version_since s0 s1 w0 w1 page volume first.standing first.words of.version) in
     let contents = contents_of (w2 page) in
-    let named = subst (λ (u : ℕ → ℕ → ℕ). IsNamedAt (contents_of (u page)).entries name place) (sym step.words) c.in-Some.ensures.found in
-    let root : c.in-Some.index.root ≡ (get_or contents.entries place nowhere).root = c.in-Some.ensures.root nowhere ∙ ap (λ (u : ℕ → ℕ → ℕ). (get_or (contents_of (u page)).entries place nowhere).root) (sym step.words) in
+    let named = subst (λ (u : ℕ → ℕ → ℕ). IsNamedAt (contents_of (u page)).entries name place) (sym step.words) c.in-Some.ensures.found.named in
+    let root : c.in-Some.index.root ≡ (get_or contents.entries place nowhere).root = c.in-Some.ensures.found.root nowhere ∙ ap (λ (u : ℕ → ℕ → ℕ). (get_or (contents_of (u page)).entries place nowhere).root) (sym step.words) in
     let rising = tree_rising s2 w2 (get_or contents.entries place nowhere).root (entry_tree s2 w2 contents place nowhere version.in_hand named.in_range) in
     let key = c.key_at.ensures.key ∙ ap (λ (u : ℕ → ℕ → ℕ). (item_at (u c.in_ok-page.page) c.in_ok-page.at).key) c.in_ok-page.ensures.unchanged.words in
     is_next_key w2 contents volume name place nowhere version.spells named rising c.args.from.now c.args.after (remaining w2 self2.cursor) (Some c.key_at.result.items)
@@ -114,9 +115,9 @@ returns-in_err-page-clause-answers g c = λ volume of.
     let name = c.args.name.now in
     let place = c.in-Some.index.place in
     let s0 = g.L.Look.standing self0.look in
-    let s1 = g.L.Look.standing c.find_index.new.look in
+    let s1 = g.L.Look.standing c.known_index.new.look in
     let w0 = g.L.Look.words self0.look in
-    let w1 = g.L.Look.words c.find_index.new.look in
+    let w1 = g.L.Look.words c.known_index.new.look in
     let first = c.in-Some.ensures.unchanged in
     let self2 = c.walk_to.new.self in
     let s2 = g.L.Look.standing self2.look in
@@ -124,11 +125,12 @@ returns-in_err-page-clause-answers g c = λ volume of.
     let step = c.walk_to.ensures.unchanged in
     let version = version_since s1 s2 w1 w2 page volume step.standing step.words (version_since s0 s1 w0 w1 page volume first.standing first.words of.version) in
     let contents = contents_of (w2 page) in
-    let named = subst (λ (u : ℕ → ℕ → ℕ). IsNamedAt (contents_of (u page)).entries name place) (sym step.words) c.in-Some.ensures.found in
+    let named = subst (λ (u : ℕ → ℕ → ℕ). IsNamedAt (contents_of (u page)).entries name place) (sym step.words) c.in-Some.ensures.found.named in
     let last = c.in_err-page.ensures.unchanged in
     let now = version_since s2 (g.L.Look.standing c.step.new.look) w2 (g.L.Look.words c.step.new.look) page volume last.standing last.words version in
-    rw c.walk_to.ensures.page (record {
+    rw (c.walk_to.ensures.page, c.walk_to.ensures.known) (record {
       version = now;
+      known_is = subst (λ (u : ℕ → ℕ → ℕ). IsKnown (contents_of (u page)).entries c.known_index.new.known) (sym (last.words ∙ step.words)) c.in-Some.ensures.known;
       behind = record { can_go_on = λ lt. absurd (omega (arith, lt, now.in_hand.few)); last = λ lt. absurd (omega (arith, lt, now.in_hand.few)); rest = λ d lt. absurd (omega (arith, lt, now.in_hand.few)) };
     })
 
@@ -139,9 +141,9 @@ returns-clause-answers g c = λ volume of.
     let name = c.args.name.now in
     let place = c.in-Some.index.place in
     let s0 = g.L.Look.standing self0.look in
-    let s1 = g.L.Look.standing c.find_index.new.look in
+    let s1 = g.L.Look.standing c.known_index.new.look in
     let w0 = g.L.Look.words self0.look in
-    let w1 = g.L.Look.words c.find_index.new.look in
+    let w1 = g.L.Look.words c.known_index.new.look in
     let first = c.in-Some.ensures.unchanged in
     let self2 = c.walk_to.new.self in
     let s2 = g.L.Look.standing self2.look in
@@ -149,15 +151,16 @@ returns-clause-answers g c = λ volume of.
     let step = c.walk_to.ensures.unchanged in
     let version = version_since s1 s2 w1 w2 page volume step.standing step.words (version_since s0 s1 w0 w1 page volume first.standing first.words of.version) in
     let contents = contents_of (w2 page) in
-    let named = subst (λ (u : ℕ → ℕ → ℕ). IsNamedAt (contents_of (u page)).entries name place) (sym step.words) c.in-Some.ensures.found in
+    let named = subst (λ (u : ℕ → ℕ → ℕ). IsNamedAt (contents_of (u page)).entries name place) (sym step.words) c.in-Some.ensures.found.named in
     let s3 = g.L.Look.standing c.key_at.new.look in
     let w3 = g.L.Look.words c.key_at.new.look in
     let standing : s3 ≡ s2 = c.key_at.ensures.unchanged.standing ∙ c.in_ok-page.ensures.unchanged.standing in
     let words : w3 ≡ w2 = c.key_at.ensures.unchanged.words ∙ c.in_ok-page.ensures.unchanged.words in
     let p = c.in_ok-page.page in
     let at = c.in_ok-page.at in
-    rw c.walk_to.ensures.page (record {
+    rw (c.walk_to.ensures.page, c.walk_to.ensures.known) (record {
       version = version_since s2 s3 w2 w3 page volume standing words version;
+      known_is = subst (λ (u : ℕ → ℕ → ℕ). IsKnown (contents_of (u page)).entries c.known_index.new.known) (sym (words ∙ step.words)) c.in-Some.ensures.known;
       behind = record {
         can_go_on = λ lt. subst (λ (u : ℕ → Standing). IsCursor u w3 c.step.new.self) (sym standing) (subst (λ (u : ℕ → ℕ → ℕ). IsCursor s2 u c.step.new.self) (sym words) c.in_ok-page.ensures.cursor);
         last = λ lt. record {
@@ -166,7 +169,7 @@ returns-clause-answers g c = λ volume of.
           fits = subst (λ (u : ℕ → ℕ → ℕ). IsItem (u p) at) (sym words) c.in_ok-page.ensures.fits;
         };
         rest = λ d lt.
-            let root : c.in-Some.index.root ≡ (get_or contents.entries place d).root = c.in-Some.ensures.root d ∙ ap (λ (u : ℕ → ℕ → ℕ). (get_or (contents_of (u page)).entries place d).root) (sym step.words) in
+            let root : c.in-Some.index.root ≡ (get_or contents.entries place d).root = c.in-Some.ensures.found.root d ∙ ap (λ (u : ℕ → ℕ → ℕ). (get_or (contents_of (u page)).entries place d).root) (sym step.words) in
             let rising = tree_rising s2 w2 (get_or contents.entries place d).root (entry_tree s2 w2 contents place d version.in_hand named.in_range) in
             ap (λ (u : ℕ → ℕ → ℕ). remaining u c.step.new.self) words ∙ c.in_ok-page.ensures.remaining
             ∙ behind_next (pairs w2 (get_or contents.entries place d).root) rising c.args.from.now c.args.after (remaining w2 self2.cursor) (item_at (w2 p) at).key
