@@ -11,7 +11,7 @@ use Rattle.be_table.specs.Reading.{standing_among, word_of_page, StaysOpen}
 use Rattle.be_table.specs.Rule.{entries, reach_at}
 use Rattle.be_table.specs.Versions.{SpellsVolume}
 use Rattle.be_table.proofs.Keeping.{begun_version, keeps_exactly}
-use Rattle.be_table_tests.proofs.tests.write.Goals as goal
+use Rattle.be_table_tests.proofs.writes.write.Goals as goal
 
 pub apply_to-requires : goal.apply_to-requires
 apply_to-requires c =
