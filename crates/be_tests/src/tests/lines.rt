@@ -9,13 +9,19 @@ use std::test::Fail;
 /// The answer to a command.
 fn answer(alloc: Global, command: &str, text: &str) -> Result<String, Refusal> {
     match command {
-        "kind" => value::kind_numbered(alloc, text),
-        "number" => value::number_spelt(alloc, text),
-        "pattern" => pattern::canonical(alloc, text),
-        "matches" => pattern::matches(alloc, text),
-        "prefix" => pattern::prefix(alloc, text),
-        "decided" => pattern::is_decided_by_prefix(alloc, text),
-        "around" => pattern::around(alloc, text),
+        "journal" => journal::told_of(alloc, text),
+        "escaped" => journal::told_of_escaped(alloc),
+        "nodes" => journal::told_end(alloc),
+        "machine" => machine::is_opened(alloc, text),
+        "free" => tree::free_with(alloc, text),
+        "emptied" => tree::free_without(alloc, text),
+        _ => answer_query(alloc, command, text),
+    }
+}
+
+/// The answer to a command on a query or a predicate.
+fn answer_query(alloc: Global, command: &str, text: &str) -> Result<String, Refusal> {
+    match command {
         "query" => query::printed_twice(alloc, text),
         "leaf" => query::leaf_matches(alloc, text),
         "right" => query::right_pattern(alloc, text),
@@ -23,11 +29,21 @@ fn answer(alloc: Global, command: &str, text: &str) -> Result<String, Refusal> {
         "items" => query::printed_items(alloc, text),
         "comparison" => query::printed_comparison(alloc, text),
         "literal" => query::printed_literal(alloc, text),
-        "journal" => journal::told(alloc, text),
-        "ends" => journal::told_end(alloc, text),
-        "machine" => machine::is_opened(alloc, text),
-        "free" => tree::free_with(alloc, text),
-        "emptied" => tree::free_without(alloc, text),
+        _ => answer_pattern(alloc, command, text),
+    }
+}
+
+/// The answer to a command on a pattern or a value.
+fn answer_pattern(alloc: Global, command: &str, text: &str) -> Result<String, Refusal> {
+    match command {
+        "pattern" => pattern::canonical(alloc, text),
+        "matches" => pattern::matches(alloc, text),
+        "prefix" => pattern::prefix(alloc, text),
+        "decided" => pattern::is_decided_by_prefix(alloc, text),
+        "around" => pattern::around(alloc, text),
+        "kind" => value::kind_numbered(alloc, text),
+        "number" => value::number_spelt(alloc, text),
+        "pair" => value::key_of_pair(alloc, text),
         _ => answer_long(alloc, command, repeated(alloc, text)?.as_str()),
     }
 }

@@ -2,7 +2,10 @@
 
 use super::lines::{replies, yes_or_no};
 use arrayvec::ArrayVec;
+use be_language::Reply;
+use be_testing::{list_of, reply_lines};
 use be_value::{Kind, Name, Refusal, Value, key_of, node_of, number_of, read_key};
+use be_volume::Op;
 use std::alloc::Global;
 use std::test::Fail;
 
@@ -27,38 +30,37 @@ fn ends_with(bytes: &[u8], node: u64) -> bool {
     bytes.len() >= 8 && node_of(bytes) == node
 }
 
-/// Whether these are the bytes of the key of a pair, and are read back.
-fn is_key(bytes: &[u8], value: &Value, node: u64) -> bool {
-    key_bytes(value, node).as_slice() == bytes
-        && ends_with(bytes, node)
-        && reads_as(bytes, value, node)
+/// The bytes of the key of a pair, as a value of raw bytes has them, if they are read back.
+fn key_text(alloc: Global, value: &Value, node: u64) -> Result<String, Refusal> {
+    let key = key_bytes(value, node);
+    let bytes = key.as_slice();
+    if !ends_with(bytes, node) || !reads_as(bytes, value, node) {
+        return Ok(String::from_str(alloc, "not read back")?);
+    }
+    Ok(reply_lines(alloc, &Reply::Value(Some(Value::raw(bytes)?)))?)
 }
 
+/// The same of the value and the node that a line sets.
+pub(crate) fn key_of_pair(alloc: Global, line: &str) -> Result<String, Refusal> {
+    let ops = list_of(alloc, line)?;
+    match ops.first() {
+        Some(Op::Set(node, _, value)) => key_text(alloc, value, *node),
+        _ => Err(Refusal::BadLimits),
+    }
+}
+
+/// Numbers of 32 and of 64 bits, the least one too, and a text.
 #[test]
 fn keys_are_these_bytes(rt: HostRuntime) -> Result<(), Fail> {
-    let five = b"\x80\0\0\x05\0\0\0\0\0\0\0\x01";
-    assert!(rt; is_key(five, &Value::int32(5), 1));
-    let minus_one = b"\x7f\xff\xff\xff\0\0\0\0\0\0\0\x02";
-    assert!(rt; is_key(minus_one, &Value::int32(-1), 2));
-    let largest = b"\xff\xff\xff\xff\0\0\0\0\0\0\0\x01";
-    assert!(rt; is_key(largest, &Value::uint32(4_294_967_295), 1));
-    let text = b"ab\0\0\0\0\0\0\0\0\x02";
-    assert!(rt; is_key(text, &Value::text("ab")?, 2));
-    Ok(())
-}
-
-fn starts_key(front: &[u8], value: &Value) -> bool {
-    key_bytes(value, 1).as_slice().starts_with(front)
-}
-
-/// Numbers of 64 bits, from the least one.
-#[test]
-fn wide_keys_are_these_bytes(rt: HostRuntime) {
-    assert!(rt; starts_key(b"\0\0\0\0\0\0\0\0", &Value::int64(i64::MIN)));
-    let minus_one = b"\x7f\xff\xff\xff\xff\xff\xff\xff";
-    assert!(rt; starts_key(minus_one, &Value::int64(-1)));
-    assert!(rt; starts_key(b"\x80\0\0\0\0\0\0\x05", &Value::int64(5)));
-    assert!(rt; starts_key(b"\0\0\0\0\0\0\0\x05", &Value::uint64(5)));
+    let lines = "pair set 1 k LONG 5 => RAWT \"800000050000000000000001\"
+pair set 2 k LONG -1 => RAWT \"7fffffff0000000000000002\"
+pair set 1 k ULNG 4294967295 => RAWT \"ffffffff0000000000000001\"
+pair set 2 k CSTR ab => RAWT \"6162000000000000000002\"
+pair set 1 k LLNG -9223372036854775808 => RAWT \"00000000000000000000000000000001\"
+pair set 1 k LLNG -1 => RAWT \"7fffffffffffffff0000000000000001\"
+pair set 1 k LLNG 5 => RAWT \"80000000000000050000000000000001\"
+pair set 1 k ULLG 5 => RAWT \"00000000000000050000000000000001\"";
+    replies(rt.alloc(), lines)
 }
 
 /// How many bytes the key of a long text has.
