@@ -23,7 +23,8 @@ abbrev pub IsCounted : Option (ℕ × ℕ) → State → Type 0
 IsCounted counted volume = IfSome counted (λ last. last.1 ≡ map.len (attributes_of volume.nodes last.0))
 
 -- a reader of the contents, with what it remembers
-pub record FactsOf (standing : ℕ → Standing) (words : ℕ → ℕ → ℕ) (c : Contents) (sought : Option (ℕ × Bool)) (counted : Option (ℕ × ℕ)) (volume : State) : Type 0 where
+pub record FactsOf (standing : ℕ → Standing) (words : ℕ → ℕ → ℕ) (c : Contents)
+    (sought : Option (ℕ × Bool)) (counted : Option (ℕ × ℕ)) (volume : State) : Type 0 where
   pub told : AnswersFor standing words c volume
   pub sought_is : IsSought sought volume
   pub counted_is : IsCounted counted volume

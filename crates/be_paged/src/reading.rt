@@ -12,12 +12,12 @@ ghost use Rattle.be_paged.specs.Reading.{AreValid};
 ghost use Rattle.be_paged.specs.Version.{IsVersion};
 
 use crate::attributes::list_attributes;
-use crate::catalog::{catalog_key, read_payload};
+use crate::catalog::{catalog_key, value_at};
 use crate::entries::kinds;
 use crate::version::{Version, fill_version};
 use arrayvec::ArrayVec;
 use be_pages::Look;
-use be_tree::{find_into, has_key};
+use be_tree::{find_place, has_key};
 use be_value::{Kind, Name, Refusal, Value};
 use std::alloc::Global;
 
@@ -28,11 +28,8 @@ pub(crate) fn value_in<L: Look>(look: &mut L, catalog: u64, node: u64, name: &Na
     ensures unchanged { IsUnchanged L.kept L.standing L.words look.old look.new }
 {
     let key = catalog_key(node, name);
-    let mut payload = ArrayVec::new();
-    if !find_into(look, catalog, &key, &mut payload) {
-        return None;
-    }
-    read_payload(&payload)
+    let (page, at) = find_place(look, catalog, &key)?;
+    value_at(look, page, at)
 }
 
 /// The value of an attribute, if the node is there and has it. It costs one descent of the catalog's tree, and takes no memory.
