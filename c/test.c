@@ -227,13 +227,12 @@ static void no_page_is_free(void)
 
 static void values(void)
 {
-    static bes_batch batch;
+    static bes_batch batch = BES_BATCH_INIT;
     bes_pass pass = BES_PASS_INIT;
     uint64_t made[64], number = 0;
     bes_attribute told;
     uint8_t bytes[255];
     CHECK(bes_open(64, 1, 100, &pass) == BES_OK);
-    bes_batch_clear(&batch);
     CHECK(bes_batch_new_node(&batch) == BES_OK);
     CHECK(bes_batch_set_text(&batch, 1, "text", "h\xc3\xa9") == BES_OK);
     CHECK(bes_batch_set_mime(&batch, 1, "mime", "text/plain") == BES_OK);

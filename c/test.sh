@@ -1,6 +1,7 @@
 #!/usr/bin/env bash
-# Builds the tests in C and C++ and runs them, plain and under what finds faults of memory and of threads; then the example
-# and the tests in Python. Needs libbestore.a and libbestore.so beside it. What isn't there is skipped, and said to be.
+# Builds the tests in C and C++ and runs them, plain and under what finds faults of memory and of threads; then the examples, the
+# tests in Python, the wheel and what is installed. Needs libbestore.a and libbestore.so beside it. What isn't there is skipped,
+# and said to be.
 set -euo pipefail
 cd "$(dirname "$0")"
 warn=(-Wall -Wextra -pedantic -Werror)
@@ -19,22 +20,6 @@ run() {
 has_cpp=$(command -v c++ || true)
 [ -n "$has_cpp" ] || echo "C++: skipped, there is no c++"
 
-cat >"$work/plain.cpp" <<'END'
-#include "bestore.h"
-#include <cstdio>
-int main()
-{
-    bes_pass pass = BES_PASS_INIT;
-    if (bes_open(8, 1, 1, &pass) != BES_OK || bes_close(&pass) != BES_OK)
-        return 1;
-    std::puts("ok");
-}
-END
-if [ -n "$has_cpp" ]; then
-    c++ -std=c++17 "${warn[@]}" -I../include "$work/plain.cpp" libbestore.a -o "$work/plain"
-    run C++ "$work/plain"
-fi
-
 # The program and the library are of one version.
 program=../crates/bestore/out/bestore
 version=$(sed -n 's/^#define BES_VERSION "\(.*\)"$/\1/p' ../include/bestore.h)
@@ -44,6 +29,7 @@ if [ -x $program ] && [ "$($program --version)" != "bestore $version" ]; then
 fi
 
 build() { cc -std=c11 "${warn[@]}" -I../include "$@" libbestore.a -lpthread; }
+build_cpp() { c++ -std=c++17 "${warn[@]}" -I../include "$@" libbestore.a -lpthread; }
 
 build -O2 test.c -o "$work/test"
 run C "$work/test"
@@ -75,6 +61,18 @@ else
     echo "C, valgrind: skipped, it isn't installed"
 fi
 
+if [ -n "$has_cpp" ]; then
+    build_cpp -O2 test.cpp -o "$work/test-cpp"
+    run C++ "$work/test-cpp"
+    if [ -n "$sanitized" ]; then
+        build_cpp -g -O1 -fsanitize=address,undefined test.cpp -o "$work/sanitized-cpp"
+        run "C++, address,undefined" "$work/sanitized-cpp"
+    fi
+    if command -v valgrind >/dev/null; then
+        run "C++, valgrind" valgrind -q --leak-check=full --error-exitcode=9 "$work/test-cpp"
+    fi
+fi
+
 # Requests for memory are refused where the linker lets them come by the test.
 wrap=(-Wl,--wrap=malloc,--wrap=realloc)
 if cc "${wrap[@]}" "$work/empty.c" -o "$work/empty" 2>/dev/null; then
@@ -91,28 +89,79 @@ else
     echo "C, memory: skipped, the linker has no --wrap"
 fi
 
+build -O2 ../examples/c/first.c -o "$work/first"
+"$work/first" | cmp - <(echo "node 1")
+build -O2 ../examples/c/unread.c -o "$work/unread"
+"$work/unread" | cmp - <(printf '%s\n' "came 1" "came 2" "went 1" "came 3")
 build -O2 ../examples/c/mailbox.c -o "$work/mailbox"
-"$work/mailbox" ../examples/c/letters.mbox 'MAIL:from=="*ann*"' 'MAIL:subject=="*Seeds*" || MAIL:to=="*bob*"' 'MAIL:when>=1741046400' |
+"$work/mailbox" ../examples/c/letters.mbox 'MAIL:from=="*ann*"' 'MAIL:subject=="*Seeds*" || MAIL:to=="*bob*"' \
+    'MAIL:when>=1741046400' |
     cmp - ../examples/c/mailbox.stdout
-echo "mailbox: ok"
+echo "examples in C: ok"
 
 if [ -n "$has_cpp" ]; then
-    c++ -std=c++17 -O2 "${warn[@]}" -I../include ../examples/c/catalogue.cpp libbestore.a -o "$work/catalogue"
+    build_cpp -O2 ../examples/c/first.cpp -o "$work/first-cpp"
+    "$work/first-cpp" | cmp - <(echo "node 1, from ann")
+    build_cpp -O2 ../examples/c/catalogue.cpp -o "$work/catalogue"
     mkdir "$work/files"
     printf 12345 >"$work/files/five.txt"
     printf 123456789 >"$work/files/nine.c"
-    "$work/catalogue" "$work/files" 'size>5' 'kind==text' >"$work/said"
-    printf '2 files\nsize>5: 1\n  nine.c 9\nkind==text: 1\n  five.txt 5\n' | cmp - "$work/said"
-    echo "catalogue: ok"
+    "$work/catalogue" "$work/files" 'size>5' 'kind==text' |
+        cmp - <(printf '2 files\nsize>5: 1\n  nine.c 9\nkind==text: 1\n  five.txt 5\n')
+    echo "examples in C++: ok"
 fi
 
-if command -v python3 >/dev/null; then
-    run Python env PYTHONDONTWRITEBYTECODE=1 BESTORE_LIBRARY="$PWD/libbestore.so" python3 -W error -m unittest discover -q -s ../python
-    if [ -x $program ]; then
-        run "the library and the program" env PYTHONDONTWRITEBYTECODE=1 BESTORE_LIBRARY="$PWD/libbestore.so" python3 -W error ../python/alike.py $program
-    else
-        echo "the library and the program: skipped, crates/bestore/out/bestore isn't built"
-    fi
-else
+# What is installed is enough to build a program.
+make -s BUILT=1 DESTDIR="$work/root" PREFIX=/usr install
+cc -std=c11 -I"$work/root/usr/include" ../examples/c/first.c -L"$work/root/usr/lib" -lbestore -o "$work/installed"
+LD_LIBRARY_PATH="$work/root/usr/lib" "$work/installed" | cmp - <(echo "node 1")
+for file in include/bestore.hpp lib/pkgconfig/bestore.pc share/man/man1/bestore.1 share/man/man3/bestore.3; do
+    [ -s "$work/root/usr/$file" ] || { echo "make install: there is no $file" >&2; exit 1; }
+done
+echo "make install: ok"
+
+if ! command -v python3 >/dev/null; then
     echo "Python: skipped, python3 isn't installed"
+    exit
 fi
+export PYTHONDONTWRITEBYTECODE=1
+python=(env BESTORE_LIBRARY="$PWD/libbestore.so" PYTHONPATH=../python python3 -W error)
+run Python "${python[@]}" -m unittest discover -q -s ../python
+"${python[@]}" ../examples/python/first.py | cmp - <(echo "1 ann")
+if [ -x $program ]; then
+    run "the library and the program" "${python[@]}" ../python/alike.py $program
+else
+    echo "the library and the program: skipped, crates/bestore/out/bestore isn't built"
+fi
+python3 manual.py | cmp - ../docs/bestore.3
+if command -v mypy >/dev/null; then
+    (cd ../python && run mypy mypy --cache-dir="$work/mypy")
+else
+    echo "mypy: skipped, it isn't installed"
+fi
+
+# The wheel, in an environment that has nothing else.
+if python3 -m venv "$work/venv" >/dev/null 2>&1; then
+    "${python[@]}" ../python/backend.py "$work" >/dev/null
+    "$work/venv/bin/python" -m pip install -q --no-index "$work"/bestore-*.whl
+    (cd / && env -u BESTORE_LIBRARY "$work/venv/bin/python" -W error -c 'import bestore; bestore.open(8, 1, 1).close()')
+    echo "wheel: ok"
+else
+    echo "wheel: skipped, python3 makes no environments"
+fi
+
+# The query window, on a display in memory, and what it stands on.
+unset DISPLAY
+: >"$work/display"
+if command -v Xvfb >/dev/null && python3 -c 'import tkinter' 2>/dev/null; then
+    Xvfb -displayfd 3 -nolisten tcp 3>"$work/display" 2>/dev/null &
+    server=$!
+    trap 'kill $server 2>/dev/null; rm -rf "$work"' EXIT
+    for _ in {1..100}; do [ -s "$work/display" ] || sleep 0.1; done
+fi
+if [ -s "$work/display" ]; then
+    export DISPLAY=":$(<"$work/display")"
+else
+    echo "the query window: skipped, there is no Xvfb or no Tk"
+fi
+run "query window" "${python[@]}" -m unittest discover -q -s ../examples/python

@@ -10,7 +10,11 @@
  * THREADS. Each thread has a pass of its own, and the calls on different passes may run at the same time; none waits for
  * another. A pass takes one call at a time, and so does a prepared query. Either may be handed to another thread where that
  * thread's calls come after yours (a join, a lock, a started thread). Call nothing here from a signal handler, nor in a forked
- * child of a process with threads.
+ * child of a process with threads. No call is a cancellation point, so a thread that is cancelled in the deferred way, as threads
+ * are by default, ends between two calls: close its pass in a cleanup handler. A thread that ends inside a call, by asynchronous
+ * cancellation or a longjmp out of a signal handler, leaves a handle that may not be used again. Its pass and the memory of the
+ * call are lost, and its pin stays. Where it was writing or telling the journal, each later write and bes_journal of the store is
+ * answered BES_BUSY for good; other passes go on reading.
  *
  * ANSWERS. Each call answers BES_OK, or the number of what kept it from its work. What a call puts out is written only
  * where it answers BES_OK. Pointers must be valid and lie apart; a length of 0 needs a pointer that isn't null.
@@ -173,7 +177,8 @@ typedef struct bes_counts {
 } bes_counts;
 
 /* Opens a store in memory, and the handle as its first pass. The store has so many pages of 4 KiB (8 to 16,384), which are
- * taken at once, so many passes (1 to 64), and takes so many writes (1 to 2^32 - 1).
+ * taken at once, so many passes (1 to 64), and takes so many writes (1 to 2^32 - 1). Passes are numbered from 0 in the journal:
+ * this one has the greatest number, passes - 1, and bes_another hands out those that nobody has used downwards, to 0.
  * BES_OPEN, BES_BAD_LIMITS, BES_NO_MEMORY. */
 uint32_t bes_open(uint64_t pages, uint64_t passes, uint64_t commits, bes_pass *pass);
 
@@ -325,7 +330,8 @@ static inline const char *bes_strerror(uint32_t answer)
     return "unknown answer";
 }
 
-/* A list of operations with room for 64 of any kind. Fill it by the calls below, apply it, and clear it for the next one.
+/* A list of operations with room for 64 of any kind. It starts cleared: by BES_BATCH_INIT, which sets all its 23 KB to zero, or
+ * by bes_batch_clear, which sets two words. Fill it by the calls below, apply it, and clear it for the next one.
  * A call answers BES_BAD_COUNT where the batch has 64 operations, and BES_NAME_LENGTH or BES_DATA_LENGTH for a name of more
  * than 63 bytes or a value of more than 255; every other fault shows at bes_batch_apply. */
 typedef struct bes_batch {
@@ -334,6 +340,8 @@ typedef struct bes_batch {
     bes_operation operations[64];
     uint8_t bytes[64 * (63 + 255)];
 } bes_batch;
+
+#define BES_BATCH_INIT { 0, 0, { { 0, 0, 0, 0, 0, 0, 0, 0 } }, { 0 } }
 
 static inline void bes_batch_clear(bes_batch *batch)
 {

@@ -85,14 +85,14 @@ def one_list(chance, store, nodes):
         replies.append(f"commit {number}")
         replies += [f"node {node}" if node else "ok" for node in made]
         nodes = max([nodes] + made)
-    except bestore.Error as error:
+    except bestore.Refusal as error:
         replies.append(refused(error))
     query = f"{chance.choice(NAMES)}{chance.choice(['==', '<', '>=', '!='])}{chance.choice(['5', 'ann', '-1'])}"
     lines.append(f"query {query}")
     with store.pin() as version:
         try:
             replies.append(" ".join(["nodes"] + [str(node) for node in version.query(query)]))
-        except bestore.Error as error:
+        except bestore.Refusal as error:
             replies.append(refused(error))
         lines.append("indices")
         indices = version.indices()
@@ -104,7 +104,7 @@ def one_list(chance, store, nodes):
             attributes = version.attributes(node)
             replies.append(f"attrs {len(attributes)}")
             replies += [f'"{name}" ? {spelled(value)}' for name, value in attributes.items()]
-        except bestore.Error as error:
+        except bestore.Refusal as error:
             replies.append(refused(error))
     return lines, replies, nodes
 

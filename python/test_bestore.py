@@ -1,5 +1,8 @@
-"""Tests of bestore.py: python3 -m unittest, in this folder, once the library is built in ../c."""
+"""Tests of the module: python3 -m unittest, in this folder, once the library is built in ../c."""
 
+import os
+import subprocess
+import sys
 import threading
 import unittest
 
@@ -32,18 +35,40 @@ class Values(unittest.TestCase):
                 self.assertEqual(version.explain("size<0"), '"size"<"0" score 3')
                 self.assertEqual(version.query_items(bestore.Name("size"), -1, bestore.Operator.EQ), [node])
                 self.assertEqual(version.query_items(bestore.Name("name"), "n", bestore.Operator.CONTAINS), [node])
-                with self.assertRaises(bestore.Error):
+                with self.assertRaises(bestore.NoNode):
                     version.attributes(node + 1)
-                with self.assertRaises(bestore.Error) as fault:
+                with self.assertRaises(bestore.Refusal) as fault:
                     version.query_items(bestore.Name("size"))
                 self.assertEqual(fault.exception.number, 22)
+
+    def test_as_dicts(self):
+        with bestore.open(64, 1, 100) as store:
+            store.apply(bestore.Batch().new_node().new_node().set(1, "MAIL:from", "ann").set(1, "size", 5))
+            with store.pin() as version:
+                attributes = version[1]
+                self.assertEqual((attributes["MAIL:from"], attributes["size"]), ("ann", 5))
+                self.assertEqual(dict(attributes), version.attributes(1))
+                self.assertEqual((list(attributes), len(attributes)), (["MAIL:from", "size"], 2))
+                self.assertEqual(repr(attributes), "<attributes of node 1: {'MAIL:from': 'ann', 'size': 5}>")
+                self.assertTrue("size" in attributes and "name" not in attributes)
+                self.assertEqual((attributes.get("name", "none"), dict(version[2])), ("none", {}))
+                self.assertEqual([node in version for node in range(4)], [False, True, True, False])
+                with self.assertRaises(KeyError):
+                    attributes["name"]
+                with self.assertRaises(KeyError):
+                    len(version[3])
+                with self.assertRaises(TypeError):
+                    iter(version)
 
     def test_wrong_values(self):
         with bestore.open(64, 1, 100) as store:
             for kind, value, number in [(bestore.INT32, 2**31, 73), (bestore.STRING, "a\0b", 20), (1, "a", 72)]:
-                with self.assertRaises(bestore.Error) as fault:
+                with self.assertRaises(bestore.Refusal) as fault:
                     store.set(1, "k", value, kind)
                 self.assertEqual(fault.exception.number, number)
+            for kind, value in [(bestore.STRING, 1), (bestore.INT64, "a"), (bestore.MIME, b"a"), (None, 1.5), (None, None)]:
+                with self.assertRaises(TypeError):
+                    store.set(1, "k", value, kind)
 
 
 class Versions(unittest.TestCase):
@@ -57,6 +82,19 @@ class Versions(unittest.TestCase):
                 self.assertEqual((version.number, version.query('k == "v"'), version.query('k == "w"')), (2, [1], []))
             with other.pin() as version:
                 self.assertEqual((version.number, version.query('k == "v"'), version.query('k == "w"')), (3, [], [1]))
+
+    def test_given_up(self):
+        with bestore.open(64, 1, 100) as store:
+            first = store.pin()
+            first.unpin()
+            first.unpin()
+            store.new_node()
+            with store.pin() as second:
+                self.assertEqual((first.number, second.number), (0, 1))
+                with self.assertRaises(bestore.NotPinned):
+                    first.attributes(1)
+                first.unpin()
+                self.assertEqual(second.attributes(1), {})
 
     def test_more_than_the_first_room(self):
         with bestore.open(1024, 1, 1000) as store:
@@ -104,21 +142,21 @@ class PreparedQueries(unittest.TestCase):
 
     def test_wrong_use(self):
         for text, number in [("size <", 12), ('name=="[a"', 13)]:
-            with self.assertRaises(bestore.Error) as fault:
+            with self.assertRaises(bestore.Refusal) as fault:
                 bestore.prepare(text)
             self.assertEqual(fault.exception.number, number)
-        with self.assertRaises(bestore.Error) as fault:
+        with self.assertRaises(bestore.Refusal) as fault:
             bestore.prepare_items(bestore.Name("size"))
         self.assertEqual(fault.exception.number, 22)
         with bestore.open(64, 1, 100) as store, store.pin() as version:
             small = bestore.prepare("size < 5")
             for number, call in [(17, version.query_prepared), (17, version.refresh)]:
-                with self.assertRaises(bestore.Error) as fault:
+                with self.assertRaises(bestore.Refusal) as fault:
                     call(small)
                 self.assertEqual(fault.exception.number, number)
             small.close()
             small.close()
-            with self.assertRaises(bestore.Error) as fault:
+            with self.assertRaises(bestore.Refusal) as fault:
                 version.refresh(small)
             self.assertEqual(fault.exception.number, 64)
 
@@ -142,17 +180,29 @@ class WrongUse(unittest.TestCase):
             (67, store.pin), (68, store.another), (68, store.meet), (69, lambda: store.apply(bestore.Batch())),
             (12, lambda: version.query("k <")), (17, lambda: version.query("k == 1")), (18, lambda: version.get(1, "")),
         ]:
-            with self.assertRaises(bestore.Error) as fault:
+            with self.assertRaises(bestore.Refusal) as fault:
                 call()
             self.assertEqual(fault.exception.number, number)
+        with self.assertRaises(bestore.QuerySyntax) as syntax:
+            version.explain("k <")
+        self.assertEqual(syntax.exception.query, "k <")
+        self.assertTrue(str(syntax.exception).startswith("the query leaves the grammar\n  k <"))
         version.unpin()
-        with self.assertRaises(bestore.Error) as fault:
+        with self.assertRaises(bestore.Refusal) as fault:
             version.query("k == 1")
         self.assertEqual(fault.exception.number, 66)
         store.close()
-        with self.assertRaises(bestore.Error) as fault:
+        with self.assertRaises(bestore.Refusal) as fault:
             store.new_node()
         self.assertEqual(fault.exception.number, 64)
+
+
+class Library(unittest.TestCase):
+    def test_missing(self):
+        environment = dict(os.environ, BESTORE_LIBRARY="/nowhere/libbestore.so.0", PYTHONPATH=os.pathsep.join(sys.path))
+        said = subprocess.run([sys.executable, "-c", "import bestore"], env=environment, stderr=subprocess.PIPE, check=False)
+        self.assertIn(b"ImportError: bestore can't load its library: /nowhere/libbestore.so.0", said.stderr)
+        self.assertIn(b"Run `make` in c/", said.stderr)
 
 
 class Threads(unittest.TestCase):

@@ -100,14 +100,13 @@ static void write_mail(bes_pass *pass, bes_batch *batch, uint64_t *number)
 
 static uint64_t read_mails(bes_pass *pass, FILE *file)
 {
-    static bes_batch batch;
+    static bes_batch batch = BES_BATCH_INIT;
     static const char *const names[][2] = {
         {"From: ", "MAIL:from"}, {"To: ", "MAIL:to"}, {"Subject: ", "MAIL:subject"}
     };
     char line[4096];
     uint64_t number = 0, node = 0;
     bool in_head = false;
-    bes_batch_clear(&batch);
     while (fgets(line, sizeof line, file)) {
         if (strncmp(line, "From ", 5) == 0) {
             write_mail(pass, &batch, &number);

@@ -1,5 +1,5 @@
 //! What a command line asks for.
-use be_serving::Limits;
+use be_table::Limits;
 
 /// What a command line asks for. The limits are as given, or 1024 pages and 1000000 commits. The file `-` is standard input.
 #[derive(Drop)]

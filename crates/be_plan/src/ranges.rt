@@ -2,7 +2,7 @@
 //!
 //! A range is narrowed by bounds. A bound is given in two parts, a front and an end, such as the bytes of a literal and those of a node behind
 //! it: so its bytes need not be put together to be compared, and are written where they stay, and only if the range changes.
-ghost use Rattle.std.specs.Prelude.{◌≡◌, true, false, List, [], ◌++◌, ℕ};
+ghost use Rattle.std.specs.Prelude.{◌≡◌, ◌+◌, ◌≤◌, true, false, List, [], ◌++◌, ℕ, length};
 ghost use Rattle.std.specs.Option.{option_copied};
 ghost use Rattle.std.specs.Ordering.{is_lt, is_gt};
 ghost use Rattle.be_volume.specs.Maps.{name_cmp};
@@ -10,12 +10,86 @@ ghost use Rattle.be_plan.specs.Narrow.{IsIn, high_of, is_above};
 
 use arrayvec::ArrayVec;
 use std::cmp::Ordering;
+use std::marker::Model;
 
-/// The keys from `low` to `high`, both included; with no bound to the last key. An end has room for the bytes next above the longest key.
+/// The bytes at an end of a range, which are at most those next above the longest key. Few lie in their own room, since all room is cleared when
+/// it is made: 40 bytes are enough for numbers and for texts of 30 bytes.
+#[derive(Drop)]
+struct Bound {
+    few: ArrayVec<u8, 40>,
+    many: Option<ArrayVec<u8, 265>>,
+}
+
+impl Model for Bound {
+    ghost use Rattle.std.specs.Prelude.{ℕ};
+    ghost use Rattle.std.specs.Coded.{coded_ℕ};
+    ghost use Rattle.std.specs.Option.{option_map_or};
+    ghost use Rattle.arrayvec.specs.ArrayVec.{ArrayVec as Items, array_vec_code};
+
+    ghost Value = { Items ℕ };
+
+    ghost coded = { array_vec_code coded_ℕ };
+
+    ghost view = { λ b. record { items = option_map_or (λ many. many.items) b.many b.few.items } };
+}
+
+impl Bound {
+    /// No bytes.
+    fn new() -> Bound
+        ensures { result.items ≡ [] }
+    {
+        Bound {
+            few: ArrayVec::new(),
+            many: None,
+        }
+    }
+
+    /// The bytes.
+    fn as_slice(&self) -> &[u8]
+        ensures value { result.now ≡ self.now.items }
+    {
+        match &self.many {
+            Some(many) => many.as_slice(),
+            None => self.few.as_slice(),
+        }
+    }
+
+    /// Leaves no bytes.
+    fn clear(&mut self)
+        ensures { self.new.items ≡ [] }
+    {
+        self.few.clear();
+        self.many = None;
+    }
+
+    /// Puts a front and an end in the place of the bytes, in the room for few.
+    fn put_few(&mut self, front: &[u8], end: &[u8])
+        requires { length front.now + length end.now ≤ 40 }
+        ensures { self.new.items ≡ front.now ++ end.now }
+    {
+        self.few.clear();
+        self.few.try_extend_from_slice(front).unwrap();
+        self.few.try_extend_from_slice(end).unwrap();
+        self.many = None;
+    }
+
+    /// Puts a front and an end in the place of the bytes, in room of their own.
+    fn put_many(&mut self, front: &[u8], end: &[u8])
+        requires { length front.now + length end.now ≤ 265 }
+        ensures { self.new.items ≡ front.now ++ end.now }
+    {
+        let mut many = ArrayVec::new();
+        many.try_extend_from_slice(front).unwrap();
+        many.try_extend_from_slice(end).unwrap();
+        self.many = Some(many);
+    }
+}
+
+/// The keys from `low` to `high`, both included; with no bound to the last key.
 #[derive(Drop)]
 pub(crate) struct Range {
-    low: ArrayVec<u8, 265>,
-    high: ArrayVec<u8, 265>,
+    low: Bound,
+    high: Bound,
     bounded: bool,
 }
 
@@ -25,10 +99,18 @@ impl Range {
         ensures { (k : List ℕ) → IsIn result k }
     {
         Range {
-            low: ArrayVec::new(),
-            high: ArrayVec::new(),
+            low: Bound::new(),
+            high: Bound::new(),
             bounded: false,
         }
+    }
+
+    /// Takes all keys again. So a range is made once for all walks of a query: to clear the room for its ends takes as long as to narrow it.
+    pub(crate) fn open(&mut self)
+        ensures { (k : List ℕ) → IsIn self.new k }
+    {
+        self.low.clear();
+        self.bounded = false;
     }
 
     /// The bytes that no key of the range is below.
@@ -113,16 +195,18 @@ impl Range {
 }
 
 /// Puts a front and an end in the place of these bytes, if they fit.
-fn put(bytes: &mut ArrayVec<u8, 265>, front: &[u8], end: &[u8]) -> bool
+fn put(bytes: &mut Bound, front: &[u8], end: &[u8]) -> bool
     ensures fits { result ≡ true → bytes.new.items ≡ front.now ++ end.now }
     ensures not { result ≡ false → bytes.new ≡ bytes.old }
 {
     if front.len() > 265 || end.len() > 265 - front.len() {
         return false;
     }
-    bytes.clear();
-    bytes.try_extend_from_slice(front).unwrap();
-    bytes.try_extend_from_slice(end).unwrap();
+    if front.len() + end.len() <= 40 {
+        bytes.put_few(front, end);
+    } else {
+        bytes.put_many(front, end);
+    }
     true
 }
 

@@ -30,7 +30,7 @@ fn lines_of_values(
     count: u64,
     values: &str,
 ) -> Result<String, AllocError> {
-    format!(in alloc; "mkindex k {kind}\n{count} times new\neach k {kind} {values}")
+    format!(in alloc; "mkindex k {kind}\n{count} times new\neach k {kind}: {values}")
 }
 
 /// Of each kind seven values in rising order, with the least and the greatest, and both sides of 0 or of the middle.
@@ -132,9 +132,9 @@ fn front_ranges_are_exact(rt: HostRuntime) -> Result<(), Fail> {
 const FIVE: &str = "mkindex k ULLG
 mkindex q ULLG
 5 times new
-each k ULLG 1 2 3 4 5
-each p ULLG 1 2 3 4 5
-each q ULLG 1 2 3 4 5";
+each k ULLG: 1 2 3 4 5
+each p ULLG: 1 2 3 4 5
+each q ULLG: 1 2 3 4 5";
 
 /// Of a node that a walk finds, the key tells the value at the picked name. At other names it is asked for, and where the comparison is true of
 /// it, and the name has an index, that is searched.

@@ -1,6 +1,6 @@
 //! Worked examples, over a plain volume's source that writes down its calls.
 //!
-//! A volume is made by lines of a script, such as `set 1 n LONG 5`; `6 times new` is six of them, and `each n LONG 5 7` sets
+//! A volume is made by lines of a script, such as `set 1 n LONG 5`; `6 times new` is six of them, and `each n LONG: 5 7` sets
 //! the attribute of nodes 1, 2, .. to one of these values each. What is asked of it stands
 //! in lines `COMMAND QUERY => REPLY`. The command `explain` asks what the query is answered from, and `query` for its nodes
 //! by these picks. Digits are a command too: the nodes by these picks, a digit for each. Behind the nodes stands of which
@@ -8,39 +8,37 @@
 //! key that lies in it and one for its end: `nodes 2 3 asks nnn`. The commands `keys`, `looks` and `kinds` count what is
 //! asked for where the source tells the kinds, and `ranges` counts the ranges that answer a query whole.
 
-ghost use Rattle.std.specs.Prelude.{◌≡◌, true, IfOk};
 ghost use Rattle.be_volume.specs.Volume.{State};
-ghost use Rattle.be_plan.specs.Explain.{are_places};
 
 use crate::counting::{nodes_by, nodes_chosen};
-use be_language::{Request, read_line};
 use be_plan::{Cover, Picks, Source, choose, explain, volume_source};
 use be_query::{Query, parse};
-use be_testing::{Answers, check_lines};
+use be_testing::{Answers, check_lines, list_of};
 use be_value::{Kind, Name, Refusal, word_of};
-use be_volume::Volume;
-use std::alloc::Global;
+use be_volume::{Op, Volume};
+use std::alloc::{AllocError, Global};
 use std::test::Fail;
 
-/// Does the operation of a line, which has to be accepted.
-fn write(alloc: Global, volume: &mut Volume, line: &str) -> Result<(), Refusal> {
-    let Request::Write(op) = read_line(alloc, line.as_bytes())? else {
-        return Err(Refusal::BadLimits);
-    };
-    let op = op?;
-    if volume.next() > u64::MAX - 64 {
+/// Does a list of operations, which has to be accepted.
+fn write(volume: &mut Volume, ops: &[Op]) -> Result<(), Refusal> {
+    if ops.is_empty() || ops.len() > 64 || volume.next() > u64::MAX - 64 {
         return Err(Refusal::BadLimits);
     }
-    volume.apply(&[op])?;
+    let _dones = volume.apply(ops)?;
     Ok(())
 }
 
-/// Does the operation of a line, again where it is refused memory.
+/// Does the operations of a line, again where they are refused memory.
 fn write_line(alloc: Global, volume: &mut Volume, line: &str) -> Result<(), Refusal> {
-    match write(alloc, volume, line) {
-        Err(Refusal::OutOfMemory) => write(alloc, volume, line),
+    let ops = list_of(alloc, line)?;
+    match write(volume, &ops) {
+        Err(Refusal::OutOfMemory) => write(volume, &ops),
         done => done,
     }
+}
+
+fn set_line(alloc: Global, node: u64, attribute: &str, value: &str) -> Result<String, AllocError> {
+    format!(in alloc; "set {node} {attribute} {value}")
 }
 
 /// Sets an attribute of a node to a value.
@@ -51,8 +49,8 @@ fn set_one(
     attribute: &str,
     value: &str,
 ) -> Result<(), Refusal> {
-    let line = match format!(in alloc; "set {node} {attribute} {value}") {
-        Err(_) => format!(in alloc; "set {node} {attribute} {value}")?,
+    let line = match set_line(alloc, node, attribute, value) {
+        Err(_) => set_line(alloc, node, attribute, value)?,
         Ok(line) => line,
     };
     write_line(alloc, volume, line.as_str())
@@ -60,16 +58,11 @@ fn set_one(
 
 /// Sets an attribute of nodes 1, 2, .. to a value each. Its name and its kind stand before these.
 fn set_each(alloc: Global, volume: &mut Volume, words: &str) -> Result<(), Refusal> {
-    let (name, words) = words.split_once(" ").unwrap_or((words, ""));
-    let (kind, values) = words.split_once(" ").unwrap_or((words, ""));
-    let attribute = match format!(in alloc; "{name} {kind}") {
-        Err(_) => format!(in alloc; "{name} {kind}")?,
-        Ok(attribute) => attribute,
-    };
+    let (attribute, values) = words.split_once(": ").unwrap_or((words, ""));
     let mut node: u64 = 0;
     for value in values.split(' ') {
         node = node.wrapping_add(1);
-        set_one(alloc, volume, node, attribute.as_str(), value)?;
+        set_one(alloc, volume, node, attribute, value)?;
     }
     Ok(())
 }
@@ -170,11 +163,19 @@ fn counted(
     }
 }
 
+fn indices_of(volume: &Volume) -> Result<Vec<(Name, Kind)>, Refusal> {
+    volume.indices()
+}
+
 /// What is chosen where the volume's indices are listed.
-fn chosen(alloc: Global, volume: &Volume, query: &Query) -> Result<Cover, Refusal>
-    ensures { IfOk result (λ cover. are_places query.now cover.picks ≡ true) }
-{
-    choose(alloc, query, &volume.indices()?)
+fn chosen(alloc: Global, volume: &Volume, query: &Query) -> Result<Cover, Refusal> {
+    choose(alloc, query, &indices_of(volume)?)
+}
+
+/// The text of the same.
+fn explained(alloc: Global, volume: &Volume, query: &Query) -> Result<String, Refusal> {
+    let cover = choose(alloc, query, &indices_of(volume)?)?;
+    explain(alloc, query, &cover)
 }
 
 /// The picks of digits.
@@ -188,7 +189,7 @@ fn picked(alloc: Global, digits: &str) -> Result<Cover, Refusal> {
 /// The answer to a command.
 fn answer(alloc: Global, volume: &Volume, command: &str, query: &Query) -> Result<String, Refusal> {
     match command {
-        "explain" => explain(alloc, query, &chosen(alloc, volume, query)?),
+        "explain" => explained(alloc, volume, query),
         "keys" | "looks" | "kinds" => counted(alloc, volume, command, query),
         "ranges" => ranges(alloc, volume, query, &chosen(alloc, volume, query)?),
         "query" => found(alloc, volume, query, &chosen(alloc, volume, query)?),
@@ -291,8 +292,8 @@ explain z==1 && (b==2 || z==3) => refused 17";
 const NUMBERS: &str = "mkindex n LONG
 mkindex m LONG
 6 times new
-each n LONG 1 2 3 4 5 6
-each m LONG 6 5 4 3 2 1";
+each n LONG: 1 2 3 4 5 6
+each m LONG: 6 5 4 3 2 1";
 
 /// A walk is bounded by what stands beside its pick under `&&`, and by nothing under an `||` that the pick isn't in.
 #[test]
@@ -364,7 +365,7 @@ set 1 w ULLG 5";
 fn bounds_of_texts(rt: HostRuntime) -> Result<(), Fail> {
     let lines = "mkindex t CSTR
 6 times new
-each t CSTR a ab abc ac b é";
+each t CSTR: a ab abc ac b é";
     let requests = "0 t==ab => nodes 2 asks tt
 0 t==\"ab*\" => nodes 2 3 asks ttt
 0 t==\"a?\" => nodes 2 4 asks ttttt
@@ -408,23 +409,30 @@ const FIRST: &[u8] = b"x\0\0\0\0\0\0\0\0\x01";
 /// The key of the text x and node 3.
 const LAST: &[u8] = b"x\0\0\0\0\0\0\0\0\x03";
 
+fn kind_of(volume: &Volume, name: &Name) -> Option<Kind> {
+    kind_by(volume_source(volume), name)
+}
+
+fn is_next_in(volume: &Volume, name: &Name, from: &[u8], after: bool, key: &[u8]) -> bool {
+    is_next(volume_source(volume), name, from, after, key)
+}
+
 fn gives_kinds(volume: &Volume, index: &Name, other: &Name) -> bool {
-    matches!(kind_by(volume_source(volume), index), Some(Kind::Cstr))
-        && kind_by(volume_source(volume), other).is_none()
+    matches!(kind_of(volume, index), Some(Kind::Cstr)) && kind_of(volume, other).is_none()
 }
 
 fn gives_keys(volume: &Volume, index: &Name, other: &Name) -> bool {
-    is_next(volume_source(volume), index, FIRST, true, LAST)
-        && is_next(volume_source(volume), index, LAST, true, &[])
-        && is_next(volume_source(volume), index, LAST, false, LAST)
-        && is_next(volume_source(volume), other, LAST, false, &[])
+    is_next_in(volume, index, FIRST, true, LAST)
+        && is_next_in(volume, index, LAST, true, &[])
+        && is_next_in(volume, index, LAST, false, LAST)
+        && is_next_in(volume, other, LAST, false, &[])
 }
 
 #[test]
 fn plan_source(rt: HostRuntime) -> Result<(), Fail> {
     let lines = "mkindex k CSTR
 3 times new
-each k CSTR x x x
+each k CSTR: x x x
 drop 2
 new";
     let k = Name::new("k")?;
@@ -460,7 +468,7 @@ fn replies_of_long(alloc: Global, lines: &str, requests: &str) -> Result<(), Fai
 fn bounds_of_long_texts(rt: HostRuntime) -> Result<(), Fail> {
     let lines = "mkindex t CSTR
 4 times new
-each t CSTR a Mm Mn z";
+each t CSTR: a Mm Mn z";
     let requests = "0 t>=Mmm => nodes 3 4 asks ttt
 0 t>Mmm => nodes 3 4 asks ttt
 0 t<Mmm => nodes 1 2 asks ttt
@@ -476,7 +484,7 @@ each t CSTR a Mm Mn z";
 /// Texts around the fronts of patterns: of one, two and four bytes a character, with the least byte behind a front, and of 255 bytes.
 const BY_FRONT: &str = "mkindex t CSTR
 10 times new
-each t CSTR a a\u{1} ab aé aéz aè \u{10ffff} Mm M b";
+each t CSTR: a a\u{1} ab aé aéz aè \u{10ffff} Mm M b";
 
 /// Queries, and the number of ranges that each is answered by whole.
 const BY_RANGE: &str = "ranges t==a => 1

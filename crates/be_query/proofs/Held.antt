@@ -61,7 +61,7 @@ pub parts_kept : (ps : List Part) → pattern (canonical ps) ≡ Ok ps → list_
     → (pattern (canonical ps) ≡ Ok ps) × (has_nul (canonical ps) ≡ false) × (all_scalars (canonical ps) ≡ true)
 parts_kept ps r n s = (r, none_nul (canonical ps) (canonical_on some ps refl n), scalars_all (canonical ps) ∙ canonical_on scalar ps refl s)
 
-plain_clean : (bs : List ℕ) → has_nul bs ≡ false → has_nul (plain bs) ≡ false
+pub plain_clean : (bs : List ℕ) → has_nul bs ≡ false → has_nul (plain bs) ≡ false
 plain_clean [] h = refl
 plain_clean (b ∷ []) h = h
 plain_clean (b ∷ c ∷ bs) h =

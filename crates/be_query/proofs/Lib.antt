@@ -14,6 +14,8 @@ pub mod Printed
 pub mod Kept
 pub mod Clean
 pub mod Held
+pub mod Short
+pub mod Blocks
 pub mod Worked
 pub mod Few
 pub mod Back

@@ -1,4 +1,4 @@
--- The grammar of queries, as in
+-- The grammar of queries:
 --   or  = and { "||" and }
 --   and = not { "&&" not }
 --   not = "!" not | "(" or ")" | name op value

@@ -20,6 +20,10 @@ is_sign b = (b == 61) || (b == 33) || (b == 60) || (b == 62) || (b == 38) || (b 
 abbrev pub is_word : ℕ → Bool
 is_word b = not (is_separator b || is_quote b || is_sign b || (b == 0))
 
+-- a quoted text may end or break off at the byte, or takes the next one as it stands
+abbrev pub is_mark : ℕ → ℕ → Bool
+is_mark quote b = (b == quote) || (b == 0) || (b == 92)
+
 abbrev pub further : Span → Span
 further (Ends n) = Ends (n + 1)
 further (Breaks n) = Breaks (n + 1)

@@ -1,10 +1,14 @@
 //! How a query's text is cut into tokens. The longest token is taken; a name or value is a word or a quoted text.
-ghost use Rattle.std.specs.Prelude.{false, true, ◌||◌, ℕ, ◌≡◌, ◌≤◌, ◌<◌, ◌+◌, ◌==◌, length, drop, slice_get, slice_index, IfSome};
+ghost use Rattle.std.specs.Prelude.{false, true, ◌||◌, ℕ, ◌≡◌, ◌≤◌, ◌<◌, ◌+◌, ◌==◌, length, take, drop, slice_get, slice_index, IfSome};
+ghost use Rattle.std.specs.List.{list_any};
 ghost use Rattle.be_query.specs.View.{IsClean, IsCleanFront, token_of, IsFront, SignIs};
-ghost use Rattle.be_query.specs.Lexing.{is_quote, is_separator, is_sign, is_word, word_span, quoted_span};
+ghost use Rattle.be_query.specs.Lexing.{is_quote, is_separator, is_sign, is_word, is_mark, word_span, quoted_span};
 
 use crate::token::Token;
 use crate::tree::Cmp;
+
+/// How many bytes of a quoted text are looked at together.
+const BLOCK: usize = 16;
 
 /// How far a name or value goes.
 #[derive(Clone, Copy)]
@@ -67,55 +71,101 @@ fn is_sign(b: u8) -> bool
 fn word_span(bytes: &[u8]) -> Span
     ensures { result ≡ word_span false bytes.now }
 {
-    let mut escaped = false;
-    'word: for (i, b) in bytes.iter().enumerate() {
-        if escaped {
-            if *b == 0 {
-                return Span::Breaks(i);
+    let mut at = 0;
+    'word: while at < bytes.len() {
+        let b = bytes[at];
+        if !is_word(b) {
+            return Span::Ends(at);
+        }
+        if b == b'\\' {
+            let next = at + 1;
+            if next == bytes.len() {
+                return Span::Breaks(next);
             }
-            escaped = false;
+            if bytes[next] == 0 {
+                return Span::Breaks(next);
+            }
+            at = next + 1;
             continue 'word;
         }
-        if *b == b'\\' {
-            escaped = true;
-            continue 'word;
-        }
-        if !is_word(*b) {
-            return Span::Ends(i);
-        }
+        at += 1;
     }
-    if escaped {
-        Span::Breaks(bytes.len())
-    } else {
-        Span::Ends(bytes.len())
-    }
+    Span::Ends(at)
 }
 
 /// How far the text behind a quote goes, up to the next such quote.
 fn quoted_span(quote: u8, bytes: &[u8]) -> Span
     ensures { result ≡ quoted_span quote false bytes.now }
 {
-    let mut escaped = false;
-    'quoted: for (i, b) in bytes.iter().enumerate() {
-        if escaped {
-            if *b == 0 {
-                return Span::Breaks(i);
-            }
-            escaped = false;
-            continue 'quoted;
+    let front = unmarked_front(quote, bytes);
+    span_behind(quote, bytes, front)
+}
+
+/// How many bytes at the front, by whole blocks, are neither a backslash nor anything that ends the quoted text.
+fn unmarked_front(quote: u8, bytes: &[u8]) -> usize
+    ensures within { result ≤ length bytes.now }
+    ensures unmarked { list_any (is_mark quote) (take result bytes.now) ≡ false }
+{
+    let mut at = 0;
+    'steps: while bytes.len() - at >= BLOCK {
+        if has_mark(quote, &bytes[at..at + BLOCK]) {
+            return at;
         }
-        if *b == quote {
-            return Span::Ends(i);
-        }
-        if *b == 0 {
-            return Span::Breaks(i);
-        }
-        if *b == b'\\' {
-            escaped = true;
-            continue 'quoted;
-        }
+        at += BLOCK;
     }
-    Span::Breaks(bytes.len())
+    at
+}
+
+/// Whether a byte of the block is a backslash, or ends the quoted text.
+fn has_mark(quote: u8, block: &[u8]) -> bool
+    ensures { result ≡ list_any (is_mark quote) block.now }
+{
+    let ends = has_byte(quote, block);
+    let breaks = has_byte(0, block);
+    let escapes = has_byte(b'\\', block);
+    ends | breaks | escapes
+}
+
+/// Whether the byte is in the block. It looks at each place, so that it can look at all at once.
+fn has_byte(byte: u8, block: &[u8]) -> bool
+    ensures { result ≡ list_any (λ b. b == byte) block.now }
+{
+    let mut found = false;
+    'bytes: for b in block {
+        found |= *b == byte;
+    }
+    found
+}
+
+/// How far the text behind a quote goes, where it doesn't end in so many bytes at its front.
+fn span_behind(quote: u8, bytes: &[u8], front: usize) -> Span
+    requires within { front ≤ length bytes.now }
+    requires unmarked { list_any (is_mark quote) (take front bytes.now) ≡ false }
+    ensures { result ≡ quoted_span quote false bytes.now }
+{
+    let mut at = front;
+    'quoted: while at < bytes.len() {
+        let b = bytes[at];
+        if b == quote {
+            return Span::Ends(at);
+        }
+        if b == 0 {
+            return Span::Breaks(at);
+        }
+        if b == b'\\' {
+            let next = at + 1;
+            if next == bytes.len() {
+                return Span::Breaks(next);
+            }
+            if bytes[next] == 0 {
+                return Span::Breaks(next);
+            }
+            at = next + 1;
+            continue 'quoted;
+        }
+        at += 1;
+    }
+    Span::Breaks(at)
 }
 
 /// The token that a sign begins, before the byte behind it, and its bytes.

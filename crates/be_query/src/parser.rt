@@ -7,13 +7,13 @@ ghost use Rattle.std.specs.Prelude.{IfOk, IfErr, ◌<◌, ◌≤◌, ◌+◌, �
 ghost use Rattle.std.specs.Result.{is_ok};
 ghost use Rattle.std.specs.Str.{chars};
 ghost use Rattle.be_pattern.specs.Parse.{pattern};
-ghost use Rattle.be_value.specs.Name.{name_from};
+ghost use Rattle.be_value.specs.Name.{name_from, has_nul};
 ghost use Rattle.be_query.specs.Building.{Operands, Operators, Values, Joints, fresh, turned_operator, conjunction, joined};
 ghost use Rattle.be_query.specs.Building.{ended_level, with_side, with_operand, State};
 ghost use Rattle.be_query.specs.Grammar.{literal_of};
 ghost use Rattle.be_query.specs.Faults.{bad_pattern};
 ghost use Rattle.be_query.specs.Tokens.{is_name, plain};
-ghost use Rattle.be_query.specs.View.{IsMemory, text_len, literal, formula, level_seen, side_of, stage_of, token_of, IsCounted, TakesToken, Refuses};
+ghost use Rattle.be_query.specs.View.{IsClean, IsMemory, text_len, literal, formula, level_seen, side_of, stage_of, token_of, IsCounted, TakesToken, Refuses};
 
 use crate::token::Token;
 use crate::tree::{Cmp, Comparison, Literal, Tree};
@@ -25,6 +25,9 @@ use std::mem;
 
 /// How many `(` and `!` may be open.
 const MAX_OPEN: usize = 64;
+
+/// The longest name.
+const MAX_NAME: usize = 63;
 
 /// How many comparisons a query may have.
 pub(crate) const MAX_COMPARISONS: usize = 256;
@@ -68,8 +71,8 @@ pub(crate) struct Context {
 /// A query that was read up to a token.
 #[derive(Drop)]
 pub(crate) struct Parser<'a> {
-    stage: Stage<'a>,
-    context: Context,
+    pub(crate) stage: Stage<'a>,
+    pub(crate) context: Context,
 }
 
 impl Level {
@@ -87,11 +90,82 @@ impl Level {
     }
 }
 
+impl<'a> Stage<'a> {
+    ghost use Rattle.be_query.specs.Faults.{broken_at};
+    ghost use Rattle.be_query.specs.Building.{awaited_at};
+
+    /// The fault of a name or value at a place that breaks off so many bytes behind its first.
+    pub(crate) fn broken(&self, at: usize, len: usize) -> Refusal
+        requires { at + len < 2 ^ 64 }
+        ensures { result ≡ Refusal.Syntax (broken_at (awaited_at (stage_of self.now)) at len) }
+    {
+        match self {
+            Stage::Operand => Refusal::Syntax(at + len),
+            Stage::Value(_, _) => Refusal::Syntax(at + len),
+            Stage::Operator(_) => Refusal::Syntax(at),
+            Stage::Joint(_) => Refusal::Syntax(at),
+        }
+    }
+}
+
+impl Context {
+    ghost use Rattle.be_query.specs.Building.{awaited_at, marks_of, tree_at};
+    ghost use Rattle.be_query.specs.Faults.{ends};
+    ghost use Rattle.be_query.specs.View.{outer_of};
+
+    /// Takes a token at a place, whose text begins at another, and says what may come next.
+    pub(crate) fn take<'a>(
+        &mut self,
+        alloc: Global,
+        stage: Stage<'a>,
+        at: usize,
+        start: usize,
+        token: Token<'a>,
+    ) -> Result<Stage<'a>, Refusal>
+        requires counted { IsCounted (stage_of stage) self.now }
+        requires fits { start + text_len (token_of token) < 2 ^ 64 }
+        requires clean { IsClean (token_of token) }
+        ensures ok { IfOk result (λ s. TakesToken (stage_of stage.entry) self.old at start (token_of token.entry) s self.new) }
+        ensures err { IfErr result (Refuses (stage_of stage.entry) self.old at start (token_of token.entry)) }
+    {
+        match stage {
+            Stage::Operand => take_operand(alloc, self, at, token),
+            Stage::Operator(name) => take_operator(name, self, at, token),
+            Stage::Value(name, op) => take_value(alloc, name, op, self, at, start, token),
+            Stage::Joint(tree) => take_joint(alloc, tree, self, at, token),
+        }
+    }
+
+    /// The tree at the end of a text of so many bytes. Nothing more is taken.
+    pub(crate) fn finish(
+        &mut self,
+        alloc: Global,
+        stage: Stage<'_>,
+        len: usize,
+    ) -> Result<Box<Tree>, Refusal>
+        requires { IsCounted (stage_of stage) self.now }
+        ensures ok { IfOk result (λ t. tree_at (stage_of stage.entry) (level_seen self.old.level) (outer_of self.old) ≡ Some (formula t.value)) }
+        ensures ends { IfOk result (λ t. ends (awaited_at (stage_of stage.entry)) (marks_of (level_seen self.old.level) (outer_of self.old)) len ≡ None) }
+        ensures err { IfErr result (λ e. IsMemory e
+            (ends (awaited_at (stage_of stage.entry)) (marks_of (level_seen self.old.level) (outer_of self.old)) len ≡ Some e)) }
+    {
+        match stage {
+            Stage::Joint(tree) => {
+                if !self.outer.is_empty() {
+                    return Err(Refusal::Syntax(len));
+                }
+                Ok(end_side(alloc, &mut self.level, tree)?)
+            }
+            Stage::Operand => Err(Refusal::Syntax(len)),
+            Stage::Operator(_) => Err(Refusal::Syntax(len)),
+            Stage::Value(_, _) => Err(Refusal::Syntax(len)),
+        }
+    }
+}
+
 impl<'a> Parser<'a> {
-    ghost use Rattle.be_query.specs.Building.{nothing_built, tree_at};
-    ghost use Rattle.be_query.specs.Faults.{broken_at, ends};
-    ghost use Rattle.be_query.specs.Building.{awaited_at, marks_of};
-    ghost use Rattle.be_query.specs.View.{outer_of, parser_state};
+    ghost use Rattle.be_query.specs.Building.{nothing_built};
+    ghost use Rattle.be_query.specs.View.{parser_state};
 
     /// At the start of a text.
     pub(crate) fn new(alloc: Global) -> Parser<'a>
@@ -110,84 +184,6 @@ impl<'a> Parser<'a> {
             context,
         }
     }
-
-    /// Takes a token at a place, whose text begins at another. After a refusal nothing more is taken.
-    pub(crate) fn take(
-        &mut self,
-        alloc: Global,
-        at: usize,
-        start: usize,
-        token: Token<'a>,
-    ) -> Result<(), Refusal>
-        requires counted { IsCounted (stage_of self.now.stage) self.now.context }
-        requires fits { start + text_len (token_of token) < 2 ^ 64 }
-        ensures ok { IfOk result (λ _. TakesToken (stage_of self.old.stage) self.old.context at start (token_of token.entry) self.new.stage self.new.context) }
-        ensures err { IfErr result (Refuses (stage_of self.old.stage) self.old.context at start (token_of token.entry)) }
-    {
-        let stage = mem::replace(&mut self.stage, Stage::Operand);
-        match stage {
-            Stage::Operand => {
-                self.stage = take_operand(alloc, &mut self.context, at, token)?;
-                Ok(())
-            }
-            Stage::Operator(name) => {
-                self.stage = take_operator(name, &mut self.context, at, token)?;
-                Ok(())
-            }
-            Stage::Value(name, op) => {
-                self.stage = take_value(alloc, name, op, &mut self.context, at, start, token)?;
-                Ok(())
-            }
-            Stage::Joint(tree) => {
-                self.stage = take_joint(alloc, tree, &mut self.context, at, token)?;
-                Ok(())
-            }
-        }
-    }
-
-    /// The fault of a name or value at a place that breaks off so many bytes behind its first.
-    pub(crate) fn broken(&self, at: usize, len: usize) -> Refusal
-        requires { at + len < 2 ^ 64 }
-        ensures { result ≡ Refusal.Syntax (broken_at (awaited_at (stage_of self.now.stage)) at len) }
-    {
-        match &self.stage {
-            Stage::Operand => Refusal::Syntax(at + len),
-            Stage::Value(_, _) => Refusal::Syntax(at + len),
-            Stage::Operator(_) => Refusal::Syntax(at),
-            Stage::Joint(_) => Refusal::Syntax(at),
-        }
-    }
-
-    /// The tree at the end of a text of so many bytes.
-    pub(crate) fn finish(self, alloc: Global, len: usize) -> Result<Box<Tree>, Refusal>
-        requires { IsCounted (stage_of self.stage) self.context }
-        ensures ok { IfOk result (λ t. tree_at (stage_of self.entry.stage) (level_seen self.entry.context.level) (outer_of self.entry.context)
-            ≡ Some (formula t.value)) }
-        ensures ends { IfOk result (λ t. ends (awaited_at (stage_of self.entry.stage)) (marks_of (level_seen self.entry.context.level) (outer_of self.entry.context)) len
-            ≡ None) }
-        ensures err { IfErr result (λ e. IsMemory e
-            (ends (awaited_at (stage_of self.entry.stage)) (marks_of (level_seen self.entry.context.level) (outer_of self.entry.context)) len ≡ Some e)) }
-    {
-        let Parser { stage, context } = self;
-        let Context {
-            mut level,
-            outer,
-            depth,
-            comparisons,
-        } = context;
-        let _counts = depth.min(comparisons);
-        match stage {
-            Stage::Joint(tree) => {
-                if !outer.is_empty() {
-                    return Err(Refusal::Syntax(len));
-                }
-                Ok(end_side(alloc, &mut level, tree)?)
-            }
-            Stage::Operand => Err(Refusal::Syntax(len)),
-            Stage::Operator(_) => Err(Refusal::Syntax(len)),
-            Stage::Value(_, _) => Err(Refusal::Syntax(len)),
-        }
-    }
 }
 
 /// Takes a token where an operand begins.
@@ -197,7 +193,8 @@ fn take_operand<'a>(
     at: usize,
     token: Token<'a>,
 ) -> Result<Stage<'a>, Refusal>
-    requires { IsCounted Operands context.now }
+    requires counted { IsCounted Operands context.now }
+    requires clean { IsClean (token_of token) }
     ensures ok { IfOk result (λ s. (start : ℕ) → TakesToken Operands context.old at start (token_of token.entry) s context.new) }
     ensures err { IfErr result (λ e. (start : ℕ) → Refuses Operands context.old at start (token_of token.entry) e) }
 {
@@ -221,10 +218,13 @@ fn take_operand<'a>(
             context.depth += 1;
             Ok(Stage::Operand)
         }
-        Token::Text(raw) => match read_name(alloc, raw)? {
-            Some(_) => Ok(Stage::Operator(raw)),
-            None => Err(Refusal::Syntax(at)),
-        },
+        Token::Text(raw) => {
+            if spells_name(alloc, raw)? {
+                Ok(Stage::Operator(raw))
+            } else {
+                Err(Refusal::Syntax(at))
+            }
+        }
         Token::Close | Token::Both | Token::Either | Token::Compares(_) => Err(Refusal::Syntax(at)),
     }
 }
@@ -319,6 +319,23 @@ fn take_joint<'a>(
             Ok(Stage::Joint(tree))
         }
         Token::Open | Token::Bang | Token::Compares(_) | Token::Text(_) => Err(Refusal::Syntax(at)),
+    }
+}
+
+#[tactic(auto, using(crate::proofs::Short::short_name))]
+/// Whether a text without a NUL spells a name. Backslashes only make it shorter, so they are looked at in a long text alone.
+fn spells_name(alloc: Global, raw: &str) -> Result<bool, AllocError>
+    requires { has_nul raw.now ≡ false }
+    ensures { IfOk result (λ b. is_name raw.now ≡ b) }
+{
+    let len = raw.len();
+    if len > 0 && len <= MAX_NAME {
+        return Ok(true);
+    }
+    let text = unescape(alloc, raw)?;
+    match name_of(&text) {
+        Some(_) => Ok(true),
+        None => Ok(false),
     }
 }
 

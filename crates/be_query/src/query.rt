@@ -58,8 +58,9 @@ impl Query {
 ///
 /// The text is read in one pass, in a loop, and no tree is gone over again: a `!` costs no more than any other token.
 /// Nothing recurses, whatever the text is, not even where a refusal drops the trees that stand by then. Memory is asked
-/// for by tokens: twice for the text of a name that has a backslash, for the text of a value, for the tokens and each of the
-/// sets of a pattern that has a character of its notation, for a comparison, and for each joint that ends.
+/// for by tokens: for the text of a name that has a backslash, and of one with more than 63 bytes before that, for the text
+/// of a value, for the tokens and each of the sets of a pattern that has a character of its notation, for a comparison, and
+/// for each joint that ends.
 pub fn parse(alloc: Global, text: &str) -> Result<Query, Refusal>
     // A text without a fault is a sentence of the grammar, and this is its tree.
     ensures ok { IfOk result (λ q. (fault text.now ≡ None) × IsTextOf text.now q) }
@@ -69,20 +70,23 @@ pub fn parse(alloc: Global, text: &str) -> Result<Query, Refusal>
     if text.len() > MAX_LEN {
         return Err(Refusal::TooLong);
     }
-    let mut parser = Parser::new(alloc);
+    let Parser {
+        mut stage,
+        mut context,
+    } = Parser::new(alloc);
     let mut rest = text;
     'lexemes: while !rest.is_empty() {
         let at = text.len() - rest.len();
         match split_front(rest) {
             Front::Separator(behind) => rest = behind,
             Front::Token(token, shift, behind) => {
-                parser.take(alloc, at, at + shift, token)?;
+                stage = context.take(alloc, stage, at, at + shift, token)?;
                 rest = behind;
             }
-            Front::Broken(len) => return Err(parser.broken(at, len)),
+            Front::Broken(len) => return Err(stage.broken(at, len)),
             Front::Odd => return Err(Refusal::Syntax(at)),
         }
     }
-    let tree = parser.finish(alloc, text.len())?;
+    let tree = context.finish(alloc, stage, text.len())?;
     Ok(Query { tree })
 }

@@ -1,12 +1,9 @@
 //! Scripts: bytes in, bytes out.
 //!
 //! This is the door to scripts, and has no code of its own. be_language has the language as text, be_serving runs and
-//! races scripts, be_shell answers lines as they come, be_history reads journals back from their texts, be_command_line
-//! reads the words of a command line. The tests of these calls are here.
+//! races scripts, be_shell answers lines as they come, be_history reads journals back from their text, be_command_line
+//! reads the words of a command line.
 #![tactic(auto)]
-
-#[cfg(test)]
-mod tests;
 
 pub use be_command_line::{Task, task};
 pub use be_history::{Finding, check, dump, journal_told};

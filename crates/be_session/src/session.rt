@@ -12,6 +12,7 @@ ghost use Rattle.be_store.specs.Passes.{HasRead, IsPassOf, IsPinnedTo, volume_pi
 ghost use Rattle.be_table.specs.Rule.{IsWithin, entries, newcomer};
 ghost use Rattle.be_table.specs.Seats.{pinned_number};
 ghost use Rattle.be_table.specs.Steps.{unpins};
+ghost use Rattle.be_table.specs.Trace.{with_history};
 ghost use Rattle.be_table.specs.Works.{AreNew, IsOpenRefused};
 ghost use Rattle.be_value.specs.declared.refusals.Refusal.{Refusal as AnyRefusal};
 ghost use Rattle.be_value.specs.declared.refusals.Refusal.TheVariants.{OutOfMemory};
@@ -238,7 +239,7 @@ impl Session {
     /// Gives the pin up.
     pub fn unpin(&mut self) -> Result<(), Fault>
         ensures store { (self.new.store ≡ self.old.store) × (self.new.spare ≡ self.old.spare) }
-        ensures ok { IfOk result (λ n. self.new.knows ≡ unpins self.old.knows) }
+        ensures ok { IfOk result (λ n. self.new.knows ≡ unpins (with_history self.old.knows self.new.knows.history)) }
         ensures err { IfErr result (λ e. (self.new ≡ self.old) × (e ≡ NotPinned) × (pinned_number self.old.knows.phase ≡ None)) }
     {
         let Some(_) = self.pass.pinned() else {

@@ -1,5 +1,5 @@
 -- The only pass of a store has written all that it has seen.
-use Rattle.std.proofs.Common.{◌≡◌, ℕ, List, [], ◌∷◌, ◌++◌, length, Ok, refl, sym, ap, ◌∙◌, subst, arith, length-append}
+use Rattle.std.proofs.Common.{◌≡◌, ℕ, ◌+◌, List, [], ◌∷◌, ◌++◌, length, Ok, Some, append_assoc, refl, sym, ap, ◌∙◌, subst, arith, length-append}
 use Rattle.std.proofs.lemmas.List.{append-nil, length-map}
 use Rattle.be_core.specs.declared.event.Phase.{Phase}
 use Rattle.be_core.specs.declared.event.Phase.TheVariants.{Idle, Looked, Announced, Pinned}
@@ -9,14 +9,18 @@ use Rattle.be_table.specs.declared.pass.Commit.{Commit}
 use Rattle.be_table.specs.declared.pass.Knowledge.{Knowledge}
 use Rattle.be_table.specs.History.{AreOfPasses, StartsWith}
 use Rattle.be_table.specs.Rule.{entries}
-use Rattle.be_table.specs.Steps.{IsPass, announces, entry_by}
-use Rattle.be_table.specs.Works.{PinsCurrent}
+use Rattle.be_table.specs.Steps.{IsPass, announces, pins, entry_by}
+use Rattle.be_table.specs.Trace.{Makes, with_history}
+use Rattle.be_table.specs.Works.{Moves, PinsCurrent, SeesMore}
+use Rattle.be_table.proofs.Traces.{makes_more}
+use Rattle.be_table.specs.declared.pass.Move.TheVariants.{Look, Announce, LookAgain}
+use Rattle.be_table.specs.Seats.{pinned_number}
 use Rattle.be_table.proofs.Histories.{by_pass-append, by_pass-own}
 use Rattle.be_volume.specs.Ahead.{state_after, reached}
 use Rattle.be_volume.specs.declared.ops.Done.{Done}
 use Rattle.be_volume.specs.declared.ops.Op.{Op}
 use Rattle.be_store.specs.Alone.{IsAlone, WritesNext}
-use Rattle.be_store.specs.History.{Accepts}
+use Rattle.be_store.specs.History.{Accepts, Pins}
 use Rattle.be_store.specs.Passes.{IsBetweenCalls, volume_seen}
 use Rattle.be_store.proofs.Applied.{entries_append, nothing_more}
 
@@ -53,7 +57,7 @@ announced_in (Announced x) = x
 announced_in (Pinned x n) = 0
 
 -- The pass looks, announces what it found, and looks again. Where it is the only one, it is then pinned to what it announced.
-pub settled_pin : (passes n : ℕ) (b p c : Knowledge) → IsPass b → b.limits.passes ≡ passes → c.limits.passes ≡ passes → n ≡ length b.seen → p ≡ announces b n → PinsCurrent p c → IsBetweenCalls passes c.phase
+pub settled_pin : (passes n : ℕ) (b p c : Knowledge) → IsPass b → b.limits.passes ≡ passes → c.limits.passes ≡ passes → n ≡ length b.seen → p ≡ announces (with_history b p.history) n → PinsCurrent p c → IsBetweenCalls passes c.phase
 settled_pin passes n b p c pass limits limits_then number announced h =
     let x : ℕ = h.same.0 in
     let found : x ≡ n = sym (ap announced_in h.same.1) ∙ ap (λ (k : Knowledge). announced_in k.phase) announced in
@@ -63,6 +67,31 @@ settled_pin passes n b p c pass limits limits_then number announced h =
     subst (IsBetweenCalls passes) (sym phase) (λ one.
     let same : c.seen ≡ b.seen = same_seen b c (record { pass = pass; one = limits ∙ one }) (record { pass = h.pass; one = limits_then ∙ one }) (subst (StartsWith c.seen) seen h.more) mine in
     found ∙ (number ∙ ap length (sym same)))
+
+-- The same steps leave it pinned to what it has then seen.
+pub pins_seen : (n m : ℕ) (a b p c : Knowledge) → SeesMore a b → p ≡ announces (with_history b p.history) m → Moves b (Announce b.number ∷ []) p → PinsCurrent p c → n ≡ length c.seen → Pins a c n
+pins_seen n m a b p c looked announced told h number =
+    let number_b : b.number ≡ a.number = ap (λ (k : Knowledge). k.number) looked.same in
+    let number_p : p.number ≡ a.number = ap (λ (k : Knowledge). k.number) announced ∙ number_b in
+    let seen : p.seen ≡ b.seen = ap (λ (k : Knowledge). k.seen) announced in
+    let more : StartsWith c.seen b.seen = subst (StartsWith c.seen) seen h.more in
+    let x : ℕ = h.same.0 in
+    let phase : c.phase ≡ Pinned x (length c.seen) = ap (λ (k : Knowledge). k.phase) h.same.2 in
+    let steps : a.steps + 1 + 1 + 1 ≡ a.steps + 3 = omega arith in
+    let first : Makes a.number a.history (Look a.number ∷ []) b.history = looked.moves.made in
+    let second : Makes a.number b.history (Announce a.number ∷ []) p.history = subst (λ k. Makes k b.history (Announce k ∷ []) p.history) number_b told.made in
+    let third : Makes a.number p.history (LookAgain a.number ∷ []) c.history = subst (λ k. Makes k p.history (LookAgain k ∷ []) c.history) number_p h.moves.made in record {
+      more = (looked.more.0 ++ more.0, more.1 ∙ ap (λ l. l ++ more.0) looked.more.1 ∙ append_assoc a.seen looked.more.0 more.0);
+      number = number;
+      pin = ap pinned_number phase ∙ ap Some (sym number);
+      moves = record {
+        made = makes_more a.number a.history (Look a.number ∷ []) b.history (Announce a.number ∷ LookAgain a.number ∷ []) c.history first
+            (makes_more a.number b.history (Announce a.number ∷ []) p.history (LookAgain a.number ∷ []) c.history second third);
+        at = h.moves.at;
+      };
+      same = h.same.2 ∙ ap (λ (k : Knowledge). pins (with_history k c.history) x c.seen c.image) (announced ∙ ap (λ (k : Knowledge). announces (with_history k p.history) m) looked.same)
+          ∙ (λ j. record a { seen = c.seen; phase = sym phase j; image = c.image; steps = steps j; history = c.history });
+    }
 
 none_between : (xs ys : List Entry) (d e : Entry) → (xs ++ ys) ++ d ∷ [] ≡ xs ++ e ∷ [] → ys ≡ []
 none_between xs [] d e same = refl

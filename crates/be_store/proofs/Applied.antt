@@ -8,6 +8,7 @@ use Rattle.be_table.specs.declared.pass.Commit.{Commit}
 use Rattle.be_table.specs.declared.pass.Knowledge.{Knowledge}
 use Rattle.be_table.specs.Rule.{entries}
 use Rattle.be_table.specs.Steps.{IsPass, entry_by, without_lock}
+use Rattle.be_table.specs.Trace.{with_history}
 use Rattle.be_table.specs.Works.{TakesLock}
 use Rattle.be_table.proofs.Histories.{by_pass-append, by_pass-own}
 use Rattle.be_value.specs.declared.refusals.Refusal.{Refusal}
@@ -46,7 +47,7 @@ module _ (a w : Knowledge) (t : TakesLock a w) where
       ∙ (ap (by_pass a.number) (sym (entries_append a.seen t.more.0))
       ∙ (ap (λ l. by_pass a.number (entries l)) (sym t.more.1) ∙ own))))
 
-  pub accepts : (v c : Knowledge) (ops : List Op) (n : ℕ) (dones : List Done) → Publishes w v ops n dones → c ≡ without_lock v → IsPass c → Accepts a c ops n dones
+  pub accepts : (v c : Knowledge) (ops : List Op) (n : ℕ) (dones : List Done) → Publishes w v ops n dones → c ≡ without_lock (with_history v c.history) → IsPass c → Accepts a c ops n dones
   accepts v c ops n dones p is pass =
       let seen : c.seen ≡ w.seen ++ p.commit ∷ [] = ap (λ (k : Knowledge). k.seen) is ∙ p.seen in
       let number : c.number ≡ a.number = ap (λ (k : Knowledge). k.number) is ∙ (p.same.pass ∙ same_number) in
@@ -69,7 +70,7 @@ module _ (a w : Knowledge) (t : TakesLock a w) where
       }
 
   -- the lock is given back as it was taken
-  pub learns_only : (c : Knowledge) → c ≡ without_lock w → IsPass c → Learns a c
+  pub learns_only : (c : Knowledge) → c ≡ without_lock (with_history w c.history) → IsPass c → Learns a c
   learns_only c is pass =
       let seen : c.seen ≡ w.seen = ap (λ (k : Knowledge). k.seen) is in
       let number : c.number ≡ a.number = ap (λ (k : Knowledge). k.number) is ∙ same_number in record {
@@ -79,7 +80,7 @@ module _ (a w : Knowledge) (t : TakesLock a w) where
         pin = ap (λ (k : Knowledge). k.phase) is ∙ same_phase;
       }
 
-  pub learns : (v c : Knowledge) (ops : List Op) (e : Refusal) → IsHeldBack w v ops e → c ≡ without_lock v → IsPass c → Learns a c
+  pub learns : (v c : Knowledge) (ops : List Op) (e : Refusal) → IsHeldBack w v ops e → c ≡ without_lock (with_history v c.history) → IsPass c → Learns a c
   learns v c ops e p is pass =
       let seen : c.seen ≡ w.seen = ap (λ (k : Knowledge). k.seen) is ∙ p.seen in
       let number : c.number ≡ a.number = ap (λ (k : Knowledge). k.number) is ∙ (p.same.pass ∙ same_number) in record {
@@ -89,7 +90,7 @@ module _ (a w : Knowledge) (t : TakesLock a w) where
         pin = ap (λ (k : Knowledge). k.phase) is ∙ (p.same.pin ∙ same_phase);
       }
 
-pub reasons : (a w v c : Knowledge) (ops : List Op) (e : Refusal) → IsHeldBack w v ops e → c ≡ without_lock v → IsReason a c ops e
+pub reasons : (a w v c : Knowledge) (ops : List Op) (e : Refusal) → IsHeldBack w v ops e → c ≡ without_lock (with_history v c.history) → IsReason a c ops e
 reasons a w v c ops e p is = subst (λ (k : Knowledge). IsReason a k ops e) (sym is) (inr p.reason)
 
 pub accepted_if : {T E : Type 0} (r : Result T E) (P R : T → Type 0) (Q : E → Type 0) → MatchResult r P Q → ((x : T) → P x → R x) → IfOk r R
@@ -106,5 +107,5 @@ text_or d (Ok x) = x
 text_or d (Err e) = d
 
 -- the text that was made while the lock was held is that of what the pass has seen behind it
-pub told : (w c : Knowledge) (text : List ℕ) (made : Result (List ℕ) Refusal) → c ≡ without_lock w → made ≡ Ok (text_seen w) → made ≡ Ok text → text ≡ text_seen c
+pub told : (w c : Knowledge) (text : List ℕ) (made : Result (List ℕ) Refusal) → c ≡ without_lock (with_history w c.history) → made ≡ Ok (text_seen w) → made ≡ Ok text → text ≡ text_seen c
 told w c text made is all one = ap (text_or text) (sym one ∙ all) ∙ ap text_seen (sym is)

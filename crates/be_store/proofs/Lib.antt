@@ -5,3 +5,4 @@ pub mod Applied
 pub mod Answering
 pub mod Alone
 pub mod Retries
+pub mod Calls

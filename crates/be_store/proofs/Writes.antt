@@ -10,6 +10,7 @@ use Rattle.be_table.specs.Place.{Work}
 use Rattle.be_table.specs.Reading.{open_of, standing_among, standing_in_work, word_of_page, words_of, StaysOpen}
 use Rattle.be_table.specs.Rule.{entries, page_at, reach_at}
 use Rattle.be_table.specs.Steps.{commit_of, entry_by, publishes}
+use Rattle.be_table.specs.Trace.{with_history}
 use Rattle.be_table.specs.Versions.{at_start, SpellsVolume}
 use Rattle.be_table.specs.Works.{HasNoRoom, MakesScan, TakesLock}
 use Rattle.be_table.proofs.Standings.{swept_in}
@@ -37,7 +38,7 @@ pub begins_scanned : (old new : Work) (least : ℕ) → MakesScan old new least 
 begins_scanned old new least h b =
     let k : Knowledge = old.knows in
     let begun : (q : ℕ) → standing_among new.knows.places q ≡ at_start (has (reach_at k.seen (length k.seen)) q) = λ q. ap (λ ps. standing_among ps q) h.places ∙ swept_in least k.places q ∙ b.begun q in
-    let same : new.knows ≡ record k { scanned = 0; least = least; places = new.knows.places; held = new.knows.held; steps = new.knows.steps } = ap (λ (w : Work). w.knows) h.same in record {
+    let same : new.knows ≡ record k { scanned = 0; least = least; places = new.knows.places; held = new.knows.held; steps = new.knows.steps; history = new.knows.history } = ap (λ (w : Work). w.knows) h.same in record {
       unpublished = ap (λ (x : Knowledge). x.published) same ∙ b.unpublished;
       begun = λ q. begun q ∙ ap (λ (x : List Commit). at_start (has (reach_at x (length x)) q)) (sym (ap (λ (x : Knowledge). x.seen) same));
       spelt = subst (λ (x : List Commit × List ℕ). SpellsVolume (reach_at x.0 (length x.0)) (word_of_page x.1) (page_at x.0 (length x.0)) (replay (entries x.0)))
@@ -69,7 +70,7 @@ both_from (Ok x) P R Q S f g m = f x m
 both_from (Err e) P R Q S f g m = g e m
 
 pub published : (w v r p : Work) (ops : List Op) (page n : ℕ) (dones shown : List Done) (made : State)
-    → open_of v ≡ open_of w → r.knows ≡ v.knows → p.knows ≡ publishes r.knows (entry_by r.knows ops shown) page → shown ≡ dones
+    → open_of v ≡ open_of w → r.knows ≡ v.knows → p.knows ≡ publishes (with_history r.knows p.knows.history) (entry_by r.knows ops shown) page → shown ≡ dones
     → steps (replay (entries w.knows.seen)) ops ≡ Ok (made, dones) → n ≡ length p.knows.seen → Publishes w.knows p.knows ops n dones
 published w v r p ops page n dones shown made kept same is lent stepped number =
     let pass : r.knows.number ≡ w.knows.number = ap (λ (k : Knowledge). k.number) same ∙ ap (λ (o : StaysOpen). o.number) kept in

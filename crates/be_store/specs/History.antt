@@ -10,7 +10,8 @@ use Rattle.be_table.specs.declared.pass.Knowledge.{Knowledge}
 use Rattle.be_table.specs.History.{StartsWith}
 use Rattle.be_table.specs.Rule.{entries}
 use Rattle.be_table.specs.Steps.{entry_by}
-use Rattle.be_table.specs.Works.{FoundHeld, HasNoRoom, IsSpent}
+use Rattle.be_table.specs.declared.pass.Move.TheVariants.{Look, Announce, LookAgain}
+use Rattle.be_table.specs.Works.{MovesNow, FoundHeld, HasNoRoom, IsSpent}
 use Rattle.be_value.specs.declared.refusals.Refusal.{Refusal}
 use Rattle.be_value.specs.declared.refusals.Refusal.TheVariants.{Busy, OutOfMemory}
 use Rattle.be_volume.specs.Volume.{steps}
@@ -69,12 +70,13 @@ IsLastReason tries a c ops e =
     ((b : ℕ) × (before : List ℕ) × (e ≡ Busy b) × (b < a.limits.passes) × (b ≢ a.number) × (length before + 1 ≡ tries) × (c ≡ tried a (b ∷ before)))
     ⊎ IsRefusedAt c ops e
 
--- The pass is pinned to all that it has then seen, by three steps.
+-- The pass is pinned to all that it has then seen, by three steps, which are the moves Look, Announce and LookAgain of the reclamation machine.
 pub record Pins (a c : Knowledge) (n : ℕ) : Type 0 where
   pub more : StartsWith c.seen a.seen
   pub number : n ≡ length c.seen
   pub pin : IsPinnedTo c n
-  pub same : c ≡ record a { seen = c.seen; phase = c.phase; image = c.image; steps = a.steps + 3 }
+  pub moves : MovesNow a (Look a.number ∷ Announce a.number ∷ LookAgain a.number ∷ []) c
+  pub same : c ≡ record a { seen = c.seen; phase = c.phase; image = c.image; steps = a.steps + 3; history = c.history }
 
 -- the journal's text, as far as the pass has seen it
 abbrev pub text_seen : Knowledge → List ℕ

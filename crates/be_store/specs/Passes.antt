@@ -1,5 +1,6 @@
 -- A pass of a store, and what it can read.
 use Rattle.std.specs.Prelude.{◌≡◌, ℕ, take, Some}
+use Rattle.std.specs.Coded.{Coded-set, coded_ℕ, Unit-prop, →_prop}
 use Rattle.std.specs.Option.{option_map_or}
 use Rattle.be_core.specs.declared.event.Phase.{Phase}
 use Rattle.be_core.specs.declared.event.Phase.TheVariants.{Idle, Looked, Announced, Pinned}
@@ -17,6 +18,12 @@ IsBetweenCalls passes Idle = Unit {0}
 IsBetweenCalls passes (Looked x) = ⊥
 IsBetweenCalls passes (Announced x) = ⊥
 IsBetweenCalls passes (Pinned x n) = passes ≡ 1 → x ≡ n
+
+pub IsBetweenCalls-prop : (passes : ℕ) (p : Phase) → IsProp (IsBetweenCalls passes p)
+IsBetweenCalls-prop passes Idle = Unit-prop
+IsBetweenCalls-prop passes (Looked x) = λ a b. absurd a
+IsBetweenCalls-prop passes (Announced x) = λ a b. absurd a
+IsBetweenCalls-prop passes (Pinned x n) = →_prop (Coded-set coded_ℕ x n)
 
 -- a pass of this store
 abbrev pub IsPassOf : Opened → SeatFacts → Type 0

@@ -1,5 +1,5 @@
 //! The store, and the calls of its passes.
-ghost use Rattle.std.specs.Prelude.{◌≡◌, ◌≤◌, ◌<◌, ℕ, [], None, Some, Ok, MatchResult, IsOk, IfOk, IfErr, OnErr, length, map, string_bytes};
+ghost use Rattle.std.specs.Prelude.{◌≡◌, ◌≤◌, ◌<◌, ℕ, [], ◌∷◌, None, Some, Ok, MatchResult, IsOk, IfOk, IfErr, OnErr, length, map, string_bytes};
 ghost use Rattle.be_store.specs.Passes.{IsPassOf, IsPinnedTo, HasRead, volume_pinned};
 ghost use Rattle.be_store.specs.History.{Accepts, Learns, IsReason, IsLastReason, IsUntold, Pins, text_seen};
 
@@ -33,6 +33,8 @@ impl Model for Store {
 }
 
 impl Store {
+    ghost use Rattle.std.specs.Prelude.{All};
+    ghost use Rattle.be_store.specs.Calls.{HasWrites, ReadsFronts};
     ghost use Rattle.std.specs.List.Sorted.{IsStrictlyIncreasing};
     ghost use Rattle.be_journal.specs.Journal.{IsLegal};
     ghost use Rattle.be_table.specs.History.{StartsWith, AreOfPasses};
@@ -42,7 +44,9 @@ impl Store {
     ghost use Rattle.be_table.specs.Seats.{pinned_number};
     ghost use Rattle.be_table.specs.Steps.{Has, KeepsSeen, longer, met, unpins};
     ghost use Rattle.be_table.specs.Versions.{CanSpellEach};
-    ghost use Rattle.be_table.specs.Works.{AllAt, AreNew, IsOpenRefused, knows_of};
+    ghost use Rattle.be_table.specs.Trace.{with_history};
+    ghost use Rattle.be_table.specs.declared.pass.Move.TheVariants as moves;
+    ghost use Rattle.be_table.specs.Works.{AllAt, AreNew, IsOpenRefused, Moves, knows_of};
     ghost use Rattle.be_value.specs.Refusal.{Answers};
     ghost use Rattle.be_value.specs.declared.refusals.Refusal.TheVariants.{OutOfMemory};
     ghost use Rattle.be_volume.specs.Query.{scan};
@@ -163,7 +167,8 @@ impl Store {
         requires pass { IsPassOf self.now pass.old }
         requires pinned { (n : ℕ) × IsPinnedTo pass.old.knows n }
         ensures pass { IsPassOf self.now pass.new }
-        ensures unpinned { pass.new.knows ≡ unpins pass.old.knows }
+        ensures unpinned { pass.new.knows ≡ unpins (with_history pass.old.knows pass.new.knows.history) }
+        ensures moves { Moves pass.old.knows (moves.Unpin pass.old.knows.number ∷ []) pass.new.knows }
     {
         self.table.unpin(pass);
     }
@@ -290,12 +295,18 @@ impl Store {
     }
 
     /// The journal, once all passes are back. They may be pinned. A store whose pass was dropped can't be closed.
+    ///
+    /// `writes` and `reads` are the promise of the whole, whatever calls were made on whatever threads: a write that was
+    /// accepted with the number n is the journal's n-th entry, with its pass, its operations and its answers; and what a
+    /// pass read at a pin n was the volume after the journal's first n entries.
     pub fn close(self, passes: Vec<Pass>) -> Journal
         requires passes { AllAt self.id passes.items }
         requires all { (k : ℕ) → k < self.limits.passes → Has (map knows_of passes.items) k }
         ensures legal { IsLegal result.entries }
         ensures by { AreOfPasses self.limits.passes result.entries }
         ensures passes { KeepsSeen result.entries (map knows_of passes.items) }
+        ensures writes { All (HasWrites result.entries) (map knows_of passes.items) }
+        ensures reads { All (ReadsFronts result.entries) (map knows_of passes.items) }
         ensures volumes { CanSpellEach self.limits.pages result.entries }
         ensures limit { result.limit ≡ self.limits.commits }
     {

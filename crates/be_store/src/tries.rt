@@ -1,5 +1,5 @@
 //! Whether a write may be tried again, and how long it stands back before that.
-ghost use Rattle.std.specs.Prelude.{◌≡◌};
+ghost use Rattle.std.specs.Prelude.{◌≡◌, min};
 ghost use Rattle.be_store.specs.History.{is_busy, was_busy};
 
 use arrayvec::ArrayVec;
@@ -12,9 +12,16 @@ use std::thread;
 /// written; so one that comes in vain lets the other write on for a while.
 const LONGEST: u64 = 64;
 
+/// How often other threads may run before a further try, after so many in vain.
+fn turns_after(tries: u64) -> u64
+    ensures { result ≡ min tries 64 }
+{
+    tries.min(LONGEST)
+}
+
 /// Lets other threads run before a further try, after so many in vain.
 pub(crate) fn stand_back(tries: u64) {
-    for _ in 0..tries.min(LONGEST) {
+    for _ in 0..turns_after(tries) {
         thread::yield_now();
     }
 }

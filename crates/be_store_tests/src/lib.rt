@@ -6,4 +6,8 @@
 #[cfg(test)]
 mod calls;
 #[cfg(test)]
+mod races;
+#[cfg(test)]
+mod room;
+#[cfg(test)]
 mod tests;

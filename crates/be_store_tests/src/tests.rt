@@ -1,27 +1,38 @@
-//! Worked examples of the store, by calls.
+//! Worked examples of the store, by its public calls.
 //!
-//! A test is a store, and then a call a line with its answer. What they call stands in `calls`.
+//! A test is a room and a text of requests with their replies. `0` and `1` before a request name the pass that makes it;
+//! `head` gives the first line of what pass 0 is answered.
 
-use crate::calls::{
-    accepts_64, closed, drops_no_node, fill_alone, finds_now, first_full, for_one, for_two,
-    index_and_set, index_zero, is_bare, journal_of, listed, make_both, make_most, make_nodes,
-    opened, parsed, pin, reads_bare, reads_number, reads_text, refreshes, refuses_64, set,
-    set_both, set_many, with_zero, write, writes,
-};
-use be_store::{Done, Kind, Live, Name, Op, Refusal, Value};
-use be_testing::{OUTSIDE_LIMITS, has_hundred_by_each};
+use crate::room::{Room, for_one, for_two};
+use be_store::{Kind, Limits, Name, Op, Refusal, Store, Value};
+use be_testing::{OUTSIDE_LIMITS, check_lines, has_hundred_by_each, numbered};
+use std::alloc::{AllocError, Global};
 use std::test::Fail;
+
+/// How many passes a store with these limits has.
+fn count_passes(alloc: Global, pages: u64, passes: u64, commits: u64) -> Result<u64, Refusal> {
+    let limits = Limits {
+        pages,
+        passes,
+        commits,
+    };
+    let (_, dealt) = match Store::open(alloc, limits) {
+        Err(Refusal::OutOfMemory) => Store::open(alloc, limits)?,
+        answer => answer?,
+    };
+    Ok(dealt.len() as u64)
+}
 
 /// Limits that are out of range, and the least and the greatest ones.
 #[test]
 fn open_limits(rt: HostRuntime) -> Result<(), Fail> {
     for (pages, passes, commits) in OUTSIDE_LIMITS {
-        let refused = opened(rt.alloc(), pages, passes, commits);
-        assert!(rt; matches!(refused, Err(Refusal::BadLimits)));
+        let refused = count_passes(rt.alloc(), pages, passes, commits);
+        assert_eq!(rt; refused, Err(Refusal::BadLimits));
     }
     for (pages, passes, commits) in [(8, 1, 1), (16384, 64, 4_294_967_295)] {
-        let (_, dealt) = opened(rt.alloc(), pages, passes, commits)?;
-        assert_eq!(rt; dealt.len() as u64, passes);
+        let dealt = count_passes(rt.alloc(), pages, passes, commits);
+        assert_eq!(rt; dealt, Ok(passes));
     }
     Ok(())
 }
@@ -29,92 +40,165 @@ fn open_limits(rt: HostRuntime) -> Result<(), Fail> {
 /// A pinned pass reads the version of its pin, whatever is written after. The next pin has it.
 #[test]
 fn two_passes(rt: HostRuntime) -> Result<(), Fail> {
-    let (store, mut a, mut b) = for_two(rt.alloc(), 64, 100)?;
-    let name = Name::new("k")?;
-    let op = Op::Set(1, name.copy(), Value::text("v")?);
-    assert!(rt; writes(&store, &mut a, &[Op::New], 1, &[Done::Node(1)]));
-    assert_eq!(rt; pin(&store, &mut b), 1);
-    assert!(rt; writes(&store, &mut a, &[op], 2, &[Done::Unit]));
-    assert!(rt; is_bare(&store, rt.alloc(), &mut b, &name)?);
-    assert_eq!(rt; pin(&store, &mut b), 2);
-    assert!(rt; reads_text(&store, &mut b, &name, "v"));
-    Ok(())
+    let lines = "0 new / 1 pin / 0 set 1 k CSTR v => commit 1 / node 1 / pin 1 / commit 2 / ok
+1 get 1 k / 1 indices / 1 attrs 1 => none / indices 0 / attrs 0
+1 unpin / 1 pin / 1 get 1 k => ok / pin 2 / CSTR \"v\"";
+    check_lines(rt.alloc(), &mut for_two(rt.alloc(), 64, 100)?, lines)
 }
 
 /// An index has the pairs that were set since it was made, and finds a node once its attribute is set again.
 #[test]
 fn index_made_later(rt: HostRuntime) -> Result<(), Fail> {
-    let (store, mut a) = for_one(rt.alloc(), 64, 100)?;
-    let name = Name::new("size")?;
-    assert!(rt; writes(&store, &mut a, &[Op::New], 1, &[Done::Node(1)]));
-    assert_eq!(rt; set(&store, &mut a, &name, 5), Ok(2));
-    assert_eq!(rt;
-        write(&store, &mut a, Op::MkIndex(name.copy(), Kind::Long)),
-        Ok(3)
-    );
-    assert!(rt; finds_now(&store, rt.alloc(), &mut a, "size==5", &[]));
-    assert_eq!(rt; set(&store, &mut a, &name, 5), Ok(4));
-    assert!(rt; finds_now(&store, rt.alloc(), &mut a, "size==5", &[1]));
-    Ok(())
+    let lines =
+        "0 new / 0 set 1 size LONG 5 / 0 mkindex size LONG => commit 1 / node 1 / commit 2 / ok / commit 3 / ok
+0 pin / 0 query size==5 / 0 unpin => pin 3 / pin 3 / nodes / ok
+0 set 1 size LONG 5 / 0 pin / 0 query size==5 => commit 4 / ok / pin 4 / pin 4 / nodes 1";
+    check_lines(rt.alloc(), &mut for_one(rt.alloc(), 64, 100)?, lines)
 }
 
 /// A store of two commits: what the volume refuses is told before CommitsSpent, and reads go on.
 #[test]
 fn commits_spent(rt: HostRuntime) -> Result<(), Fail> {
-    let (store, mut a) = for_one(rt.alloc(), 64, 2)?;
-    let name = Name::new("k")?;
-    assert_eq!(rt; write(&store, &mut a, Op::New), Ok(1));
-    assert_eq!(rt; write(&store, &mut a, Op::Drop(9)), Err(Refusal::NoNode));
-    assert_eq!(rt; write(&store, &mut a, Op::MkIndex(name, Kind::Long)), Ok(2));
-    assert_eq!(rt; write(&store, &mut a, Op::New), Err(Refusal::CommitsSpent));
-    assert_eq!(rt; write(&store, &mut a, Op::Drop(9)), Err(Refusal::NoNode));
-    assert!(rt; finds_now(&store, rt.alloc(), &mut a, "k==1", &[]));
-    Ok(())
+    let lines = "0 new / 0 drop 9 => commit 1 / node 1 / refused 2 NoNode
+0 mkindex k LONG / 0 new / 0 drop 9 => commit 2 / ok / refused 9 CommitsSpent / refused 2 NoNode
+0 pin / 0 query k==1 => pin 2 / pin 2 / nodes";
+    check_lines(rt.alloc(), &mut for_one(rt.alloc(), 64, 2)?, lines)
 }
 
 /// Two passes that meet have both seen what one of them has.
 #[test]
 fn meeting(rt: HostRuntime) -> Result<(), Fail> {
-    let (store, mut a, mut b) = for_two(rt.alloc(), 64, 100)?;
-    assert_eq!(rt; write(&store, &mut a, Op::New), Ok(1));
-    assert_eq!(rt; (a.seen(), b.seen()), (1, 0));
-    assert_eq!(rt; store.meet(&mut b, &mut a), 1);
-    assert_eq!(rt; (a.seen(), b.seen()), (1, 1));
-    Ok(())
+    let lines = "0 new / seen / meet / seen => commit 1 / node 1 / seen 1 0 / met 1 / seen 1 1";
+    check_lines(rt.alloc(), &mut for_two(rt.alloc(), 64, 100)?, lines)
 }
 
 /// A live query tells which nodes came into its range, and which went, since it was last refreshed.
 #[test]
 fn live_query(rt: HostRuntime) -> Result<(), Fail> {
-    let (store, mut a) = for_one(rt.alloc(), 64, 100)?;
-    let name = Name::new("k")?;
-    let mut live = Live::new(rt.alloc(), parsed(rt.alloc(), "k>4")?);
-    assert!(rt; index_and_set(&store, &mut a, &name, 5));
-    assert!(rt; refreshes(&store, &mut a, &mut live, &[1], &[]));
-    assert!(rt; set_both(&store, &mut a, &name, 1, 9));
-    assert!(rt; refreshes(&store, &mut a, &mut live, &[2], &[1]));
-    assert!(rt; refreshes(&store, &mut a, &mut live, &[], &[]));
-    Ok(())
+    let lines =
+        "live k>4 / 0 mkindex k LONG / 0 new / 0 set 1 k LONG 5 => ok / commit 1 / ok / commit 2 / node 1 / commit 3 / ok
+0 pin / 0 refresh => pin 3 / created 1 / removed
+0 new / 0 set 1 k LONG 1 / 0 set 2 k LONG 9 => commit 4 / node 2 / commit 5 / ok / commit 6 / ok
+0 unpin / 0 pin / 0 refresh => ok / pin 6 / created 2 / removed 1
+0 unpin / 0 pin / 0 refresh => ok / pin 6 / created / removed";
+    check_lines(rt.alloc(), &mut for_one(rt.alloc(), 64, 100)?, lines)
 }
+
+/// A part so many times.
+fn times(alloc: Global, part: &str, count: u64) -> Result<String, AllocError> {
+    let mut text = String::new(alloc);
+    for _ in 0..count {
+        text.push_str(part)?;
+    }
+    Ok(text)
+}
+
+/// Sets k of node 1 to 1 to 63, and then does this.
+fn after_63(alloc: Global, last: &str) -> Result<String, AllocError> {
+    let mut text = String::new(alloc);
+    for i in 1..=63 {
+        text.push_str(format!(in alloc; "set 1 k LONG {i};")?.as_str())?;
+    }
+    text.push_str(last)?;
+    Ok(text)
+}
+
+/// A list of 64 that is accepted by pass 1, and one that is refused by pass 0, which stays pinned; and what comes between
+/// and after.
+fn lists_of_64(alloc: Global) -> Result<String, AllocError> {
+    let accepted = after_63(alloc, "set 1 k LONG 64")?;
+    let refused = after_63(alloc, "drop 9")?;
+    let oks = times(alloc, " / ok", 64)?;
+    format!(in alloc;
+        "1 {accepted} => commit 4{oks}
+0 query k==0 / 0 unpin / 0 pin / 0 query k==64 => pin 3 / nodes 1 / ok / pin 4 / pin 4 / nodes 1
+0 {refused} => refused 2 NoNode
+1 pin / 1 query k==64 => pin 4 / pin 4 / nodes 1"
+    )
+}
+
+const ZERO: &str =
+    "0 new / 0 mkindex k LONG / 0 set 1 k LONG 0 => commit 1 / node 1 / commit 2 / ok / commit 3 / ok
+1 pin => pin 3";
 
 /// The list that is accepted is by pass 1, and the one that is refused by pass 0, which stays pinned.
 #[test]
 fn batches_in_store(rt: HostRuntime) -> Result<(), Fail> {
-    let (store, mut b, mut a) = for_two(rt.alloc(), 32, 100)?;
-    let name = Name::new("k")?;
-    assert_eq!(rt; index_zero(&store, &mut a, &name)?, 3);
-    assert!(rt; accepts_64(&store, rt.alloc(), &mut a, &mut b, &name));
-    assert!(rt; refuses_64(&store, rt.alloc(), &mut b, &mut a, &name));
+    let alloc = rt.alloc();
+    let zero =
+        "1 new / 1 mkindex k LONG / 1 set 1 k LONG 0 => commit 1 / node 1 / commit 2 / ok / commit 3 / ok
+0 pin => pin 3";
+    let lists = match lists_of_64(alloc) {
+        Err(_) => lists_of_64(alloc)?,
+        Ok(lists) => lists,
+    };
+    let mut room = for_two(alloc, 32, 100)?;
+    check_lines(alloc, &mut room, zero)?;
+    check_lines(alloc, &mut room, lists.as_str())
+}
+
+/// Sets the first 64 attributes of node 1 by number.
+fn set_most(room: &mut Room) -> Result<(), Refusal> {
+    for number in 0..64u8 {
+        room.write(Op::Set(1, numbered(number)?, Value::int32(1)))?;
+    }
+    Ok(())
+}
+
+/// Makes the first 32 indices by number.
+fn index_most(room: &mut Room) -> Result<(), Refusal> {
+    for number in 0..32u8 {
+        room.write(Op::MkIndex(numbered(number)?, Kind::Long))?;
+    }
     Ok(())
 }
 
 /// The most attributes of a node and the most indices are listed.
 #[test]
 fn longest_lists(rt: HostRuntime) -> Result<(), Fail> {
-    let (store, mut a) = for_one(rt.alloc(), 256, 100)?;
-    make_most(&store, &mut a)?;
-    assert_eq!(rt; listed(&store, rt.alloc(), &mut a)?, (97, 64, 32));
-    Ok(())
+    let mut room = for_one(rt.alloc(), 256, 100)?;
+    room.write(Op::New)?;
+    set_most(&mut room)?;
+    index_most(&mut room)?;
+    let lines = "0 pin / head attrs 1 / head indices => pin 97 / attrs 64 / indices 32";
+    check_lines(rt.alloc(), &mut room, lines)
+}
+
+/// Sets k of node 1 by pass 0.
+fn set(room: &mut Room, number: i32) -> Result<u64, Refusal> {
+    room.write(Op::Set(1, Name::new("k")?, Value::int32(number)))
+}
+
+/// Sets k of node 1 to one more number. The first that found no page, if this one is answered as it should be: accepted
+/// where there is none before it, and else refused by Full. BadLimits where it is answered otherwise.
+fn set_next(room: &mut Room, number: i32, first: Option<i32>) -> Result<Option<i32>, Refusal> {
+    match set(room, number) {
+        Ok(_) if first.is_none() => Ok(None),
+        Err(Refusal::Full(3)) => Ok(first.or(Some(number))),
+        _ => Err(Refusal::BadLimits),
+    }
+}
+
+/// Sets k of node 1 to 1 to 500, with these lines after each. The first value that found no page, if each after it found
+/// none either.
+fn fill(alloc: Global, room: &mut Room, lines: &str) -> Result<i32, Fail> {
+    let mut first = None;
+    for i in 1..=500 {
+        first = set_next(room, i, first)?;
+        check_lines(alloc, room, lines)?;
+    }
+    Ok(first.unwrap_or(500))
+}
+
+/// The first value that found no page in a pool of so many, which the pinned version outlives; the write that follows
+/// the pin is accepted.
+fn first_full(alloc: Global, pages: u64) -> Result<i32, Fail> {
+    let mut room = for_two(alloc, pages, 1000)?;
+    check_lines(alloc, &mut room, ZERO)?;
+    let first = fill(alloc, &mut room, "1 query k==0 => pin 3 / nodes 1")?;
+    check_lines(alloc, &mut room, "1 unpin => ok")?;
+    set(&mut room, 0)?;
+    Ok(first)
 }
 
 /// In a small pool the writes under a pin end with Full, and the pin reads what it read.
@@ -133,48 +217,98 @@ fn early_scan(rt: HostRuntime) -> Result<(), Fail> {
     Ok(())
 }
 
+/// Makes up to 60 nodes. How many there are, if from then on each was refused, with Full of just this number.
+fn make_nodes(room: &mut Room) -> Option<u64> {
+    let mut made = None;
+    for i in 0..60 {
+        match room.write(Op::New) {
+            Ok(_) if made.is_none() => {}
+            Err(Refusal::Full(least)) if made.unwrap_or(i) == least => made = Some(least),
+            _ => return None,
+        }
+    }
+    made
+}
+
+/// What is refused and read of a full pool with so many nodes.
+fn full_lines(alloc: Global, made: u64) -> Result<String, AllocError> {
+    format!(in alloc;
+        "0 new;drop 99 => refused 2 NoNode
+0 pin / 0 get 1 k / 0 indices / 0 unpin => pin {made} / none / indices 0 / ok"
+    )
+}
+
 /// In the smallest pool writes end with Full, of the number of nodes that were made. The volume's refusals, reads and the
 /// journal go on.
 #[test]
 fn smallest_pool(rt: HostRuntime) -> Result<(), Fail> {
-    let (store, mut a) = for_one(rt.alloc(), 8, 100)?;
-    let made = make_nodes(&store, &mut a).unwrap_or(0);
+    let alloc = rt.alloc();
+    let mut room = for_one(alloc, 8, 100)?;
+    let made = make_nodes(&mut room).unwrap_or(0);
     assert!(rt; made >= 13 && made < 37);
-    assert!(rt; drops_no_node(&store, &mut a));
-    assert!(rt; reads_bare(&store, rt.alloc(), &mut a, &Name::new("k")?, made)?);
-    assert_eq!(rt; closed(rt.alloc(), store, a)?, (made, true));
+    let lines = match full_lines(alloc, made) {
+        Err(_) => full_lines(alloc, made)?,
+        Ok(lines) => lines,
+    };
+    check_lines(alloc, &mut room, lines.as_str())?;
+    assert_eq!(rt; room.close(alloc)?, (made, true));
     Ok(())
+}
+
+/// Sets k of node 1 to 1 to this. The last write's number.
+fn set_many(room: &mut Room, count: i32) -> Result<u64, Refusal> {
+    let mut last = 0;
+    for i in 1..=count {
+        last = set(room, i)?;
+    }
+    Ok(last)
 }
 
 /// Ten thousand writes go through a pool of 64 pages, where nobody is pinned.
 #[test]
 fn pages_reused(rt: HostRuntime) -> Result<(), Fail> {
-    let (store, mut a) = for_one(rt.alloc(), 64, 20_000)?;
-    let name = Name::new("k")?;
-    assert_eq!(rt; index_zero(&store, &mut a, &name)?, 3);
-    assert_eq!(rt; set_many(&store, &mut a, &name, 10_000)?, 10_003);
+    let mut room = for_one(rt.alloc(), 64, 20_000)?;
+    check_lines(
+        rt.alloc(),
+        &mut room,
+        "0 new / 0 mkindex k LONG / 0 set 1 k LONG 0 => commit 1 / node 1 / commit 2 / ok / commit 3 / ok",
+    )?;
+    assert_eq!(rt; set_many(&mut room, 10_000)?, 10_003);
     Ok(())
+}
+
+/// What is read of k where it is this number.
+fn number_lines(alloc: Global, number: i32) -> Result<String, AllocError> {
+    let pin = number.saturating_add(3);
+    let nodes = if number == 0 { " 1" } else { "" };
+    format!(in alloc;
+        "0 pin / 0 query k==0 / 0 get 1 k => pin {pin} / pin {pin} / nodes{nodes} / LONG {number}"
+    )
 }
 
 /// A pass that is dropped while it is pinned keeps its pages for good, and the other one reads on.
 #[test]
 fn dropped_pass(rt: HostRuntime) -> Result<(), Fail> {
-    let name = Name::new("k")?;
-    let (store, mut a, b) = with_zero(rt.alloc(), 64, &name)?;
-    drop(b);
-    let first = fill_alone(&store, &mut a, &name).unwrap_or(500);
+    let alloc = rt.alloc();
+    let mut room = for_two(alloc, 64, 1000)?;
+    check_lines(alloc, &mut room, ZERO)?;
+    room.lose_second();
+    let first = fill(alloc, &mut room, "")?;
     assert!(rt; first < 64);
-    assert!(rt; reads_number(&store, rt.alloc(), &mut a, first.saturating_sub(1)));
-    Ok(())
+    let number = first.saturating_sub(1);
+    let lines = match number_lines(alloc, number) {
+        Err(_) => number_lines(alloc, number)?,
+        Ok(lines) => lines,
+    };
+    check_lines(alloc, &mut room, lines.as_str())
 }
 
 /// Two threads write, and the journal has each write of both once, in an order that is legal.
 #[test]
 fn two_writers(rt: HostRuntime) -> Result<(), Fail> {
-    let (store, first, second) = for_two(rt.alloc(), 64, 1000)?;
-    let (first, second) = make_both(&rt, &store, first, second);
-    assert!(rt; first.1 && second.1);
-    let journal = journal_of(rt.alloc(), store, first.0, second.0)?;
+    let room = for_two(rt.alloc(), 64, 1000)?;
+    let (journal, is_accepted) = room.race(&rt, rt.alloc())?;
+    assert!(rt; is_accepted);
     assert!(rt; has_hundred_by_each(&journal)?);
     Ok(())
 }

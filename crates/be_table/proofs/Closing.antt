@@ -4,7 +4,8 @@ use mathlib.Core.Option.{some, none, some-injective}
 use lib.ListN.{get_elem?}
 use Rattle.atomic_table.specs.Table.{step, Enters, Final, Seen}
 use Rattle.atomic_table.specs.Seated.{TableId}
-use Rattle.be_core.specs.Machine.{Holder}
+use Rattle.be_core.specs.Machine.{World, Holder}
+use Rattle.be_table.specs.Trace.{RunsTo, AllRest}
 use Rattle.be_journal.specs.declared.entries.Entry.{Entry}
 use Rattle.be_table.specs.declared.ledger.Ledger.{Ledger}
 use Rattle.be_table.specs.declared.limits.Limits.{Limits}
@@ -13,7 +14,7 @@ use Rattle.be_journal.specs.Journal.{IsLegal, Log}
 use Rattle.be_table.specs.History.{AreOfPasses}
 use Rattle.be_table.specs.Laws.{ArrivalIsNoEvent}
 use Rattle.be_table.specs.Place.{SeatFacts}
-use Rattle.be_table.specs.Rule.{Board, entries, is_holder, IsHome, AllFit, Shows, everyone, one_step_on, seats_together}
+use Rattle.be_table.specs.Rule.{Board, entries, is_holder, IsHome, AllFit, IsTrace, Shows, everyone, one_step_on, seats_together}
 use Rattle.be_table.specs.Steps.{Arrived, Has, AllIdle, KeepsSeen}
 use Rattle.be_table.specs.Versions.{CanSpellEach}
 use Rattle.be_table.specs.Works.{AllAt, Gathered}
@@ -122,4 +123,11 @@ arrive_by limits s b h = (
 )
 
 pub arrives : (limits : Limits) (slots : ℕ) → Enters (Shows limits) slots 0 (λ n w. Arrived (step slots 0 0 0 none) (everyone limits, []) n (w, []))
-arrives limits slots s h sized fits = let d = arrive_by limits s h.0 h.1 in ([], (d.0, d.1), refl)
+arrives limits slots s h sized fits =
+    let d = arrive_by limits s h.0 h.1 in let t = h.2.0 in let tr = h.2.1 in
+    let trace : IsTrace limits d.0.world (s.views ++ [] ∷ []) t = record {
+      words = tr.words;
+      runs = subst (λ (w : World). RunsTo limits tr.words t w) (sym d.2) tr.runs;
+      rests = λ j u e. ⊎_elim (λ there. tr.rests j u there) (λ (p : (j ≡ length s.views) × ([] ≡ u)). subst (AllRest t) p.1 tt) (at_snoc_place s.views [] u j e);
+    } in
+    ([], (d.0, d.1, (t, trace)), refl)

@@ -9,7 +9,9 @@ use Rattle.std.proofs.Math.ListN.{length-set}
 use Rattle.atomic_table.specs.Table.{Me, Splits, Joins, opening}
 use Rattle.atomic_table.proofs.Lists.{at_set, set_else}
 use Rattle.atomic_table.specs.Seated.{TableId}
-use Rattle.be_core.specs.Machine.{first_state, has}
+use Rattle.be_core.specs.Machine.{World, first_state, has}
+use Rattle.be_table.specs.Trace.{RunsTo, AllRest}
+use Rattle.be_table.proofs.Traces.{rest_counted, rest_append}
 use Rattle.be_core.proofs.Schedules.{first-sound}
 use Rattle.be_table.specs.declared.ledger.Ledger.{Ledger}
 use Rattle.be_pages.specs.declared.page_pool.Place.{Place as PagePlace}
@@ -112,7 +114,23 @@ module _ (limits : Limits) where
       )
 
   pub deals : (i : ℕ) (a : Knowledge) (v : List Knowledge) → Splits (Shows limits) i (a ∷ v) (other_seats (a ∷ v)) (first_seat (a ∷ v))
-  deals i a v s h at = let d = split_by i a v s h.0 h.1 at in (d.0, d.1)
+  deals i a v s h at =
+      let d = split_by i a v s h.0 h.1 at in let t = h.2.0 in let tr = h.2.1 in
+      let all = tr.rests i (a ∷ v) at in
+      let left : (j : ℕ) (u : List Knowledge) → get_elem? (set s.views i (map one_step_on v)) j ≡ some u → AllRest t u = λ j u e. ⊎_elim
+      (λ (q : (j ≡ i) × (map one_step_on v ≡ u)). subst (AllRest t) q.1 (rest_counted t v all.1))
+      (λ (q : (j ≢ i) × (get_elem? s.views j ≡ some u)). tr.rests j u q.1) (at_set s.views i j (map one_step_on v) u e) in (
+        d.0,
+        d.1,
+        (
+          t,
+          record {
+            words = tr.words;
+            runs = subst (λ (w : World). RunsTo limits tr.words t w) (sym d.2) tr.runs;
+            rests = λ j u e. ⊎_elim (left j u) (λ (p : (j ≡ length (set s.views i (map one_step_on v))) × (one_step_on a ∷ [] ≡ u)). subst (AllRest t) p.1 (all.0, tt)) (at_snoc_place (set s.views i (map one_step_on v)) (one_step_on a ∷ []) u j e);
+          },
+        ),
+      )
 
   -- two seats become one
   pub join_by : (i : ℕ) (v : List Knowledge) (other : ℕ) (w : List Knowledge) → JoinIsNoEvent limits i v other w
@@ -138,7 +156,27 @@ module _ (limits : Limits) where
       )
 
   pub joins : (i : ℕ) (v : List Knowledge) (other : ℕ) (w : List Knowledge) → Joins (Shows limits) i v other w (seats_together v w) []
-  joins i v other w s h at ne there = let d = join_by i v other w s h.0 h.1 at ne there in (d.0, d.1)
+  joins i v other w s h at ne there =
+      let d = join_by i v other w s h.0 h.1 at ne there in let t = h.2.0 in let tr = h.2.1 in
+      let was : get_elem? s.views other ≡ some w = sym (set_else s.views i other (seats_together v w) ne) ∙ there in
+      let both : AllRest t (seats_together v w) = rest_append t (map one_step_on v) (map one_step_on w) (rest_counted t v (tr.rests i v at)) (rest_counted t w (tr.rests other w was)) in (
+        d.0,
+        d.1,
+        (
+          t,
+          record {
+            words = tr.words;
+            runs = subst (λ (u : World). RunsTo limits tr.words t u) (sym d.2) tr.runs;
+            rests = λ j u e. ⊎_elim
+                (λ (p : (j ≡ other) × ([] ≡ u)). subst (AllRest t) p.1 tt)
+                (λ (p : (j ≢ other) × (get_elem? (set s.views i (seats_together v w)) j ≡ some u)). ⊎_elim
+                (λ (q : (j ≡ i) × (seats_together v w ≡ u)). subst (AllRest t) q.1 both)
+                (λ (q : (j ≢ i) × (get_elem? s.views j ≡ some u)). tr.rests j u q.1)
+                (at_set s.views i j (seats_together v w) u p.1))
+                (at_set (set s.views i (seats_together v w)) other j [] u e);
+          },
+        ),
+      )
 
 -- the passes from k on are all different
 newcomers-absent : (limits : Limits) (j k n : ℕ) → j < k → IsAbsent j (newcomers limits 0 k n)
@@ -175,6 +213,11 @@ newcomers_fit limits words k (suc n) e = (
   newcomers_fit limits words (suc k) n (omega arith),
 )
 
+newcomers_rest : (limits : Limits) (k n : ℕ) → AllRest [] (newcomers limits 0 k n)
+unfolding newcomers
+newcomers_rest limits k zero = tt
+newcomers_rest limits k (suc n) = (([], tt, refl), newcomers_rest limits (suc k) n)
+
 zero_first : (p : ℕ) → (p == 0) ≡ has (0 ∷ []) p
 zero_first zero = refl
 zero_first (suc p) = rw (ne_eqb 0 (suc p) (λ z. absurd (omega arith)), ne_eqb (suc p) 0 (λ z. absurd (omega arith))) refl
@@ -209,8 +252,13 @@ begins limits words ledger within size blank none limit page count shown idle le
     };
     views = one;
   },
+  ([], record { words = λ p i. slice_index words (word_place p i); runs = refl; rests = λ j u e. rested j u e }),
 )
   where
+    rested : (j : ℕ) (u : List Knowledge) → get_elem? (everyone limits ∷ []) j ≡ some u → AllRest [] u
+    rested zero u e = subst (AllRest []) (some-injective (everyone limits) u e) (newcomers_rest limits 0 limits.passes)
+    rested (suc j) u e = absurd (some-ne-none u (sym e))
+
     spelt : (n : ℕ) → n ≤ 0 → SpellsVolume (reach_at [] n) (in_pages ((first_board limits words).world.image n)) (page_at [] n) (replay (take n []))
     spelt zero le = first
     spelt (suc n) le = absurd (omega arith)

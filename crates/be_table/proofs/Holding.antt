@@ -1,13 +1,13 @@
 -- Each step of the holder is its event of the machine, and keeps the rule.
-use Rattle.std.proofs.Common.{◌≡◌, ◌⊎◌, ℕ, suc, ◌+◌, ◌*◌, ◌<◌, ◌≤◌, ◌==◌, if◌then◌else◌, List, [], ◌∷◌, length, set, slice_set, Bool, true, false, ◌||◌, Option, Some, None, refl, sym, ap, ◌∙◌, subst, inl, inr, arith, slice_index, map, length-set, IsTrue}
+use Rattle.std.proofs.Common.{◌≡◌, ℕ, suc, MatchBool, ◌+◌, ◌*◌, ◌<◌, ◌≤◌, ◌==◌, if◌then◌else◌, List, [], ◌∷◌, length, set, slice_set, Bool, true, false, ◌||◌, Option, Some, None, refl, sym, ap, ◌∙◌, subst, inl, inr, arith, slice_index, map, length-set, IsTrue}
 use Rattle.std.proofs.lemmas.Bool.Decides.{eqb_tells}
 use Rattle.std.proofs.lemmas.List.{length-map}
 use mathlib.Core.Option.{some, none}
 use lib.ListN.{get_elem?}
-use Rattle.atomic_table.specs.Table.{keeps, step, stepped, Allows}
+use Rattle.atomic_table.specs.Table.{Step, keeps, step, stepped, Allows}
 use Rattle.be_core.specs.declared.event.Phase.{Phase}
 use Rattle.be_core.specs.declared.event.Phase.TheVariants.{Idle, Looked, Announced, Pinned}
-use Rattle.be_core.specs.Machine.{World, Holder, Sound, after_fill, after_return, after_scan, least_after, least_with, swept, is_below, has}
+use Rattle.be_core.specs.Machine.{World, Holder, Sound, after_fill, after_return, after_scan, scanned_by, scanned_on, scanned_out, least_after, least_with, swept, is_below, has}
 use Rattle.be_core.proofs.Writers.{after_fill-sound, after_return-sound}
 use Rattle.be_core.proofs.Scans.{part-sound, whole-sound, all_swept}
 use Rattle.be_table.specs.declared.ledger.Ledger.{Ledger}
@@ -15,13 +15,16 @@ use Rattle.be_pages.specs.declared.page_pool.Place.{Place}
 use Rattle.be_pages.specs.declared.page_pool.Place.TheVariants.{Free, Reserved, Filled, Current, GivenUp, Retired}
 use Rattle.be_table.specs.declared.limits.Limits.{Limits}
 use Rattle.be_table.specs.declared.pass.Knowledge.{Knowledge}
+use Rattle.be_table.specs.declared.pass.Move.{Move}
+use Rattle.be_table.specs.declared.pass.Move.TheVariants.{Scan, Fill, Return}
 use Rattle.be_table.specs.Laws.{AllowsBy, NoEvent, IsFill, IsReturn, IsScan}
 use Rattle.be_pages.specs.Place.{place_of, is_in_hand, is_held_page, given_place, swept_place}
 use Rattle.be_table.specs.Ledger.{shows_taken, shows_free, retired_with}
-use Rattle.be_table.specs.Rule.{Board, page_at, reach_at, announce_word, word_place, known_holder, WordsAgree, Holds, Fits, Stands, Shows, one_step_on}
-use Rattle.be_table.specs.Steps.{fills, takes_page, gives_up, least_found, least_then, pages_from, scans_on, scans_out, scans, MayBeFilled, OwnRead, FilledAt, FilledFound, PageTaken, PageGivenUp, Scanned}
+use Rattle.be_table.specs.Rule.{Board, page_at, reach_at, announce_word, word_place, known_holder, WordsAgree, Holds, Fits, Stands, Shows, Reaches, pass_of, one_step_on}
+use Rattle.be_table.specs.Steps.{fills, takes_page, gives_up, least_found, least_then, pages_from, scans_on, scans_out, scans, MayBeFilled, OwnRead, FilledAt, FilledFound, PageTaken, PageGivenUp, Scanned, FillMoves, FoundFillMoves, GiveUpMoves, ScanMoves, given_moves}
 use Rattle.be_table.proofs.Frames.{Table, Me1, views_step, fits_counted, words_load, words_fill, pages_fill, same_place, not_holder, fits_world, sound_world}
-use Rattle.be_table.proofs.Moves.{forget}
+use Rattle.be_table.specs.Trace.{Makes, AllRest, with_history}
+use Rattle.be_table.proofs.Traces.{IsOne, moving, resting, retold, one_of}
 use Rattle.be_table.proofs.Locks.{at_work, held_by, same_some, unheld_by}
 use Rattle.be_table.proofs.Ledgers.{shows-fill, shows-return, shows-place, shows-sweep}
 
@@ -48,6 +51,15 @@ module _ (limits : Limits) (s : Table) (b0 : Board) (i : ℕ) (a : Knowledge) wh
         sound = sound_world limits b w h.sound refl refl refl refl (λ g e. subst (λ (g : Holder). g.pass < limits.passes) (same_some _ _ e) fa.number) h.sound.reaches sound;
         views = views_step limits b (record b { world = w }) s.views i a c h.views at (λ j y ne f. fits_world limits b w j y refl refl (λ z. absurd (not_holder b a y ne refl z)) (λ g. g) f) fc;
       }
+
+-- a scan leaves the phases
+scan_phases : (v : World) (o : Option Holder) (j : ℕ) → (scanned_by v o j).phases ≡ v.phases
+scan_phases v None j = refl
+scan_phases v (Some h) j = by (suc j == v.passes)
+  where
+    by : (z : Bool) → (if z then scanned_out v h j else scanned_on v h j).phases ≡ v.phases
+    by true = refl
+    by false = refl
 
 fillable : (x : Place) → IsTrue (shows_taken x || shows_free x) → retired_with x ≡ None
 fillable Free h = refl
@@ -167,7 +179,7 @@ module _ (limits : Limits) (slots i : ℕ) (a : Knowledge) (carried : List (ℕ 
 
   -- a load by the holder, before which a page that it had filled goes back to the free ones
   back_by : (p : ℕ) → a.writes ≡ true → p < length a.places → place_of a.places p ≡ Filled
-      → let c : Knowledge = record a { places = slice_set a.places p Free; steps = a.steps + 1 } in AllowsBy limits slots i (a ∷ [], carried) (word_place p 0) (λ n. n) (IsReturn p) (λ n r. r ≡ (c ∷ [], carried))
+      → let c : Knowledge = record a { places = slice_set a.places p Free; steps = a.steps + 1 } in AllowsBy limits slots i (a ∷ [], carried) (word_place p 0) (λ n. n) (IsReturn a.number p) (λ n r. r ≡ (c ∷ [], carried))
   back_by p writes lp filled s b0 h0 sized at fits =
       let work = at_work limits s b0 i a h0 at writes in
       let b : Board = held_by b0 (Some (known_holder a)) in
@@ -194,7 +206,7 @@ module _ (limits : Limits) (slots i : ℕ) (a : Knowledge) (carried : List (ℕ 
                 size = m.size;
                 words = m.words;
               }),
-          unheld_by b0.world (known_holder a) (λ u. IsReturn p 0 u w) ((h0.views i (a ∷ []) at).0.whole writes).holder (in_hand, refl),
+          unheld_by b0.world (known_holder a) (λ u. IsReturn a.number p 0 u w) ((h0.views i (a ∷ []) at).0.whole writes).holder (((known_holder a, refl, refl), in_hand), refl),
         ),
         refl,
       )
@@ -207,29 +219,23 @@ module _ (limits : Limits) (slots i : ℕ) (a : Knowledge) (carried : List (ℕ 
       let y = by s b h sized at fits in
       (y.0, y.1, y.2, y.3, λ q f. let z = same_place p 0 q 0 (omega arith) (omega arith) f in y.4 ∙ ap (λ (k : Knowledge). (k ∷ [], carried)) (sym is ∙ ap c z.0))
 
-  -- a step that is one event is one of more
-  widen : (p : ℕ) (x : Place) (event more : ℕ → World → World → Type 0) → ((n : ℕ) (v w : World) → event n v w → more n v w)
-      → AllowsBy limits slots i (a ∷ [], carried) (word_place p 0) (λ n. n) event (λ n r. r ≡ (record a { places = slice_set a.places p x; steps = a.steps + 1 } ∷ [], carried))
-      → AllowsBy limits slots i (a ∷ [], carried) (word_place p 0) (λ n. n) more (λ n r. r ≡ (record a { places = slice_set a.places p x; steps = a.steps + 1 } ∷ [], carried))
-  widen p x event more g by s b h sized at fits = let y = by s b h sized at fits in (y.0, y.1, y.2, (y.3.0, y.3.1, g _ _ _ y.3.2), y.4)
-
   pub take_by : (p : ℕ) → a.writes ≡ true → p < length a.places → place_of a.places p ≡ Free → AllowsBy limits slots i (a ∷ [], carried) (word_place p 0) (λ n. n) NoEvent (PageTaken (step slots (word_place p 0) 0 0 none) (a ∷ [], carried))
   take_by p writes lp is = at_page p Reserved (takes_page a) refl NoEvent (note_by p Reserved writes lp (ap shows_free (sym is)) (ap shows_taken (sym is)) (ap retired_with (sym is)))
 
-  pub give_up_by : (p : ℕ) → a.writes ≡ true → p < length a.places → IsTrue (is_held_page (place_of a.places p)) → AllowsBy limits slots i (a ∷ [], carried) (word_place p 0) (λ n. n) (λ n v w. NoEvent n v w ⊎ IsReturn p n v w) (PageGivenUp (step slots (word_place p 0) 0 0 none) (a ∷ [], carried))
-  give_up_by p writes lp held = at_page p (given_place (place_of a.places p)) (gives_up a) refl Gives (by_place (place_of a.places p) refl held)
+  pub give_up_by : (p : ℕ) → a.writes ≡ true → p < length a.places → IsTrue (is_held_page (place_of a.places p)) → AllowsBy limits slots i (a ∷ [], carried) (word_place p 0) (λ n. n) (λ n v w. MatchBool (shows_taken (place_of a.places p)) (IsReturn a.number p n v w) (NoEvent n v w)) (PageGivenUp (step slots (word_place p 0) 0 0 none) (a ∷ [], carried))
+  give_up_by p writes lp held = at_page p (given_place (place_of a.places p)) (gives_up a) refl (Gives (place_of a.places p)) (by_place (place_of a.places p) refl held)
     where
-      Gives : ℕ → World → World → Type 0
-      Gives n v w = NoEvent n v w ⊎ IsReturn p n v w
+      Gives : Place → ℕ → World → World → Type 0
+      Gives y n v w = MatchBool (shows_taken y) (IsReturn a.number p n v w) (NoEvent n v w)
 
       noted : (x : Place) → shows_free x ≡ shows_free (place_of a.places p) → shows_taken x ≡ shows_taken (place_of a.places p) → retired_with x ≡ retired_with (place_of a.places p)
-          → AllowsBy limits slots i (a ∷ [], carried) (word_place p 0) (λ n. n) Gives (λ n r. r ≡ (record a { places = slice_set a.places p x; steps = a.steps + 1 } ∷ [], carried))
-      noted x f t r = widen p x NoEvent Gives (λ n v w e. inl e) (note_by p x writes lp f t r)
+          → AllowsBy limits slots i (a ∷ [], carried) (word_place p 0) (λ n. n) NoEvent (λ n r. r ≡ (record a { places = slice_set a.places p x; steps = a.steps + 1 } ∷ [], carried))
+      noted x f t r = note_by p x writes lp f t r
 
-      by_place : (y : Place) → place_of a.places p ≡ y → IsTrue (is_held_page y) → AllowsBy limits slots i (a ∷ [], carried) (word_place p 0) (λ n. n) Gives (λ n r. r ≡ (record a { places = slice_set a.places p (given_place y); steps = a.steps + 1 } ∷ [], carried))
+      by_place : (y : Place) → place_of a.places p ≡ y → IsTrue (is_held_page y) → AllowsBy limits slots i (a ∷ [], carried) (word_place p 0) (λ n. n) (Gives y) (λ n r. r ≡ (record a { places = slice_set a.places p (given_place y); steps = a.steps + 1 } ∷ [], carried))
       by_place Free e h = absurd (cc)
       by_place Reserved e h = noted Free (ap shows_free (sym e)) (ap shows_taken (sym e)) (ap retired_with (sym e))
-      by_place Filled e h = widen p Free (IsReturn p) Gives (λ n v w r. inr r) (back_by p writes lp e)
+      by_place Filled e h = back_by p writes lp e
       by_place Current e h = noted GivenUp (ap shows_free (sym e)) (ap shows_taken (sym e)) (ap retired_with (sym e))
       by_place GivenUp e h = absurd (cc)
       by_place (Retired r) e h = absurd (cc)
@@ -273,7 +279,7 @@ module _ (limits : Limits) (slots i : ℕ) (a : Knowledge) (carried : List (ℕ 
                       size = m.size;
                       words = m.words;
                     })),
-                unheld_by b0.world (known_holder a) (λ u. IsScan a.number j n u w) is ((m.turn, (known_holder a, (refl, refl, unpublished), refl)), event),
+                unheld_by b0.world (known_holder a) (λ u. IsScan a.number j n u w) is ((m.turn, (known_holder a, (refl, refl, unpublished), refl)), event, h.table.words.announced j m.turn),
               ),
               (
                 refl,
@@ -310,7 +316,7 @@ module _ (limits : Limits) (slots i : ℕ) (a : Knowledge) (carried : List (ℕ 
                       size = m.size;
                       words = m.words;
                     })),
-                unheld_by b0.world (known_holder a) (λ u. IsScan a.number j n u w) is ((m.turn, (known_holder a, (refl, refl, unpublished), refl)), event),
+                unheld_by b0.world (known_holder a) (λ u. IsScan a.number j n u w) is ((m.turn, (known_holder a, (refl, refl, unpublished), refl)), event, h.table.words.announced j m.turn),
               ),
               (refl, λ last. absurd (y.1 (last ∙ passes)), mine),
             )
@@ -322,33 +328,105 @@ module _ (limits : Limits) (slots i : ℕ) (a : Knowledge) (carried : List (ℕ 
       chosen_on : {passes : ℕ} → a.limits.passes ≡ passes → (suc a.scanned == passes) ≡ false → (n : ℕ) → scans a n ≡ scans_on a n
       chosen_on p e n = ap (λ (x : Bool). if x then scans_out a n else scans_on a n) (ap (λ q. suc a.scanned == q) p ∙ e)
 
+module _ (limits : Limits) (slots i : ℕ) (a : Knowledge) (carried : List (ℕ × Option Ledger)) where
+  -- the word that was filled is that of the step
+  at_word : (p j x : ℕ) → j < 512 → (h : List Move) → Makes a.number a.history (Fill a.number p j x ∷ []) h → (r : Me1) → ((q k : ℕ) → word_place p j ≡ word_place q k → k < 512 → r ≡ (fills (with_history a h) q k x ∷ [], carried))
+      → (q k : ℕ) → word_place p j ≡ word_place q k → k < 512 → (h : List Move) × Makes a.number a.history (Fill a.number q k x ∷ []) h × (r ≡ (fills (with_history a h) q k x ∷ [], carried))
+  at_word p j x lj h makes r told q k e lk =
+      let z = same_place p j q k lj lk e in
+      (h, subst (λ (y : ℕ × ℕ). Makes a.number a.history (Fill a.number y.0 y.1 x ∷ []) h) (λ o. (z.0 o, z.1 o)) makes, told q k e lk)
+
+  filling : (p j x : ℕ) → a.writes ≡ true → a.published ≡ false → MayBeFilled a.places p → j < 512 → Allows (Shows limits) slots i (a ∷ [], carried) (word_place p j) (λ _. x) (λ _. FillMoves (step slots (word_place p j) x 0 none) (a ∷ [], carried) x)
+  filling p j x writes un may lj =
+      retold limits slots i (a ∷ [], carried) (word_place p j) (λ _. x)
+      (λ n r. (h : List Move) × Makes a.number a.history (Fill a.number p j x ∷ []) h × Reaches (pass_of r.0) (λ w. Unit {0}) × FilledAt (step slots (word_place p j) x 0 none) (with_history a h ∷ [], carried) x r)
+      (λ _. FillMoves (step slots (word_place p j) x 0 none) (a ∷ [], carried) x)
+      (λ n r g. at_word p j x lj g.0 g.1 r g.3)
+      (moving limits slots i a carried (word_place p j) (λ _. x) (λ n. Fill a.number p j x) (IsFill a.number p j x) (λ h _. FilledAt (step slots (word_place p j) x 0 none) (with_history a h ∷ [], carried) x) (λ n w. Unit {0}) (λ n. refl)
+      (λ h. fill_by limits slots i (with_history a h) carried p j x writes un may lj) (λ n v w g. (g, tt)) (λ h n r t. one_of a (fills (with_history a h) p j x) h carried r (t p j refl lj) refl refl))
+
+  founding : (p j : ℕ) → a.writes ≡ true → a.published ≡ false → MayBeFilled a.places p → j < 512 → Allows (Shows limits) slots i (a ∷ [], carried) (word_place p j) (λ n. n) (FoundFillMoves (step slots (word_place p j) 0 0 none) (a ∷ [], carried))
+  founding p j writes un may lj =
+      retold limits slots i (a ∷ [], carried) (word_place p j) (λ n. n)
+      (λ n r. (h : List Move) × Makes a.number a.history (Fill a.number p j n ∷ []) h × Reaches (pass_of r.0) (λ w. Unit {0}) × FilledFound (step slots (word_place p j) 0 0 none) (with_history a h ∷ [], carried) n r)
+      (FoundFillMoves (step slots (word_place p j) 0 0 none) (a ∷ [], carried))
+      (λ n r g. (at_word p j n lj g.0 g.1 r g.3.0, g.3.1))
+      (moving limits slots i a carried (word_place p j) (λ n. n) (λ n. Fill a.number p j n) (λ n. IsFill a.number p j n n) (λ h. FilledFound (step slots (word_place p j) 0 0 none) (with_history a h ∷ [], carried)) (λ n w. Unit {0}) (λ n. refl)
+      (λ h. found_by limits slots i (with_history a h) carried p j writes un may lj) (λ n v w g. (g, tt)) (λ h n r t. one_of a (fills (with_history a h) p j n) h carried r (t.0 p j refl lj) refl refl))
+
+  -- the page that was given up is that of the step
+  at_given : (p : ℕ) (h : List Move) → Makes a.number a.history (given_moves a p) h → (r : Me1) → ((q : ℕ) → word_place p 0 ≡ word_place q 0 → r ≡ (gives_up (with_history a h) q ∷ [], carried))
+      → (q : ℕ) → word_place p 0 ≡ word_place q 0 → (h : List Move) × Makes a.number a.history (given_moves a q) h × (r ≡ (gives_up (with_history a h) q ∷ [], carried))
+  at_given p h makes r told q e = let z = same_place p 0 q 0 (omega arith) (omega arith) e in (h, subst (λ y. Makes a.number a.history (given_moves a y) h) z.0 makes, told q e)
+
+  giving : (p : ℕ) → a.writes ≡ true → p < length a.places → IsTrue (is_held_page (place_of a.places p)) → Allows (Shows limits) slots i (a ∷ [], carried) (word_place p 0) (λ n. n) (GiveUpMoves (step slots (word_place p 0) 0 0 none) (a ∷ [], carried))
+  giving p writes lp held = by (shows_taken (place_of a.places p)) refl
+    where
+      st : Step (Option Ledger)
+      st = step slots (word_place p 0) 0 0 none
+
+      Moves : Bool → List Move
+      Moves z = if z then Return a.number p ∷ [] else []
+
+      Gives : ℕ → World → World → Type 0
+      Gives n v w = MatchBool (shows_taken (place_of a.places p)) (IsReturn a.number p n v w) (NoEvent n v w)
+
+      by : (z : Bool) → shows_taken (place_of a.places p) ≡ z → Allows (Shows limits) slots i (a ∷ [], carried) (word_place p 0) (λ n. n) (GiveUpMoves st (a ∷ [], carried))
+      by true is =
+          retold limits slots i (a ∷ [], carried) (word_place p 0) (λ n. n)
+          (λ n r. (h : List Move) × Makes a.number a.history (Return a.number p ∷ []) h × Reaches (pass_of r.0) (λ w. Unit {0}) × PageGivenUp st (with_history a h ∷ [], carried) n r)
+          (GiveUpMoves st (a ∷ [], carried))
+          (λ n r g. at_given p g.0 (subst (λ z. Makes a.number a.history (Moves z) g.0) (sym is) g.1) r g.3)
+          (moving limits slots i a carried (word_place p 0) (λ n. n) (λ n. Return a.number p) Gives (λ h. PageGivenUp st (with_history a h ∷ [], carried)) (λ n w. Unit {0}) (λ n. refl)
+          (λ h. give_up_by limits slots i (with_history a h) carried p writes lp held)
+          (λ n v w g. (subst (λ z. MatchBool z (IsReturn a.number p n v w) (NoEvent n v w)) is g, tt))
+          (λ h n r t. one_of a (gives_up (with_history a h) p) h carried r (t p refl) refl refl))
+      by false is =
+          retold limits slots i (a ∷ [], carried) (word_place p 0) (λ n. n) (PageGivenUp st (a ∷ [], carried)) (GiveUpMoves st (a ∷ [], carried))
+          (λ n r g. at_given p a.history (subst (λ z. Makes a.number a.history (Moves z) a.history) (sym is) refl) r g)
+          (resting limits slots i (a ∷ []) carried (word_place p 0) (λ n. n) Gives (PageGivenUp st (a ∷ [], carried)) (give_up_by limits slots i a carried p writes lp held)
+          (λ n v w g. subst (λ z. MatchBool z (IsReturn a.number p n v w) (NoEvent n v w)) is g)
+          (λ n r t l rest. subst (AllRest l) (sym (ap (λ (m : Me1). m.0) (t p refl))) rest))
+
+  scanned_one : (h : List Move) (n : ℕ) (r : Me1) → r ≡ (scans (with_history a h) n ∷ [], carried) → IsOne a h r
+  scanned_one h n r e = one_of a (scans (with_history a h) n) h carried r e (by (suc a.scanned == a.limits.passes)).0 (by (suc a.scanned == a.limits.passes)).1
+    where
+      by : (z : Bool) → let c : Knowledge = if z then scans_out (with_history a h) n else scans_on (with_history a h) n in (c.number ≡ a.number) × (c.history ≡ h)
+      by true = (refl, refl)
+      by false = (refl, refl)
+
+  scanning : a.writes ≡ true → a.published ≡ false → Allows (Shows limits) slots i (a ∷ [], carried) (16 + 8 * a.scanned) (λ n. n) (ScanMoves (step slots (16 + 8 * a.scanned) 0 0 none) (a ∷ [], carried))
+  scanning writes un =
+      moving limits slots i a carried (16 + 8 * a.scanned) (λ n. n) (λ n. Scan a.number a.scanned) (IsScan a.number a.scanned) (λ h. Scanned (step slots (16 + 8 * a.scanned) 0 0 none) (with_history a h ∷ [], carried)) (λ n w. n ≡ announce_word (w.phases a.scanned)) (λ n. refl)
+      (λ h. scan_by limits slots i (with_history a h) carried writes un)
+      (λ n v w g. ((g.0, g.1), g.2 ∙ ap (λ f. announce_word (f a.scanned)) (sym (ap (λ (u : World). u.phases) g.1 ∙ scan_phases v v.holder a.scanned))))
+      (λ h n r t. scanned_one h n r t.0)
+
 module _ (limits : Limits) (slots i : ℕ) (a : Knowledge) (carried : List (ℕ × Option Ledger)) (me : Me1) (e : me ≡ (a ∷ [], carried)) where
   pub owns_as : (p j word : ℕ) → a.writes ≡ true → p < a.limits.pages → j < 512 → word ≡ word_place p j → Allows (Shows limits) slots i me word (λ n. n) (OwnRead (step slots word 0 0 none) me)
   owns_as p j word writes lp lj at =
       subst (λ (q : Me1 × ℕ). Allows (Shows limits) slots i q.0 q.1 (λ n. n) (OwnRead (step slots q.1 0 0 none) q.0)) (λ k. (sym e k, sym at k))
-      (forget limits slots i (a ∷ [], carried) (word_place p j) (λ n. n) NoEvent (OwnRead (step slots (word_place p j) 0 0 none) (a ∷ [], carried)) (own_by limits slots i a carried p j writes lp lj))
+      (resting limits slots i (a ∷ []) carried (word_place p j) (λ n. n) NoEvent (OwnRead (step slots (word_place p j) 0 0 none) (a ∷ [], carried)) (own_by limits slots i a carried p j writes lp lj)
+      (λ n v w g. g) (λ n r t l rest. subst (AllRest l) (sym (ap (λ (m : Me1). m.0) t.0)) rest))
 
-  pub fills_as : (p j x word : ℕ) → a.writes ≡ true → a.published ≡ false → MayBeFilled a.places p → j < 512 → word ≡ word_place p j → Allows (Shows limits) slots i me word (λ _. x) (λ _. FilledAt (step slots word x 0 none) me x)
+  pub fills_as : (p j x word : ℕ) → a.writes ≡ true → a.published ≡ false → MayBeFilled a.places p → j < 512 → word ≡ word_place p j → Allows (Shows limits) slots i me word (λ _. x) (λ _. FillMoves (step slots word x 0 none) me x)
   fills_as p j x word writes un may lj at =
-      subst (λ (q : Me1 × ℕ). Allows (Shows limits) slots i q.0 q.1 (λ _. x) (λ _. FilledAt (step slots q.1 x 0 none) q.0 x)) (λ k. (sym e k, sym at k))
-      (forget limits slots i (a ∷ [], carried) (word_place p j) (λ _. x) (IsFill a.number p j x) (λ _. FilledAt (step slots (word_place p j) x 0 none) (a ∷ [], carried) x) (fill_by limits slots i a carried p j x writes un may lj))
+      subst (λ (q : Me1 × ℕ). Allows (Shows limits) slots i q.0 q.1 (λ _. x) (λ _. FillMoves (step slots q.1 x 0 none) q.0 x)) (λ k. (sym e k, sym at k)) (filling limits slots i a carried p j x writes un may lj)
 
-  pub found_as : (p j word : ℕ) → a.writes ≡ true → a.published ≡ false → MayBeFilled a.places p → j < 512 → word ≡ word_place p j → Allows (Shows limits) slots i me word (λ n. n) (FilledFound (step slots word 0 0 none) me)
+  pub found_as : (p j word : ℕ) → a.writes ≡ true → a.published ≡ false → MayBeFilled a.places p → j < 512 → word ≡ word_place p j → Allows (Shows limits) slots i me word (λ n. n) (FoundFillMoves (step slots word 0 0 none) me)
   found_as p j word writes un may lj at =
-      subst (λ (q : Me1 × ℕ). Allows (Shows limits) slots i q.0 q.1 (λ n. n) (FilledFound (step slots q.1 0 0 none) q.0)) (λ k. (sym e k, sym at k))
-      (forget limits slots i (a ∷ [], carried) (word_place p j) (λ n. n) (λ n. IsFill a.number p j n n) (FilledFound (step slots (word_place p j) 0 0 none) (a ∷ [], carried)) (found_by limits slots i a carried p j writes un may lj))
+      subst (λ (q : Me1 × ℕ). Allows (Shows limits) slots i q.0 q.1 (λ n. n) (FoundFillMoves (step slots q.1 0 0 none) q.0)) (λ k. (sym e k, sym at k)) (founding limits slots i a carried p j writes un may lj)
 
   pub takes_as : (p word : ℕ) → a.writes ≡ true → p < length a.places → place_of a.places p ≡ Free → word ≡ word_place p 0 → Allows (Shows limits) slots i me word (λ n. n) (PageTaken (step slots word 0 0 none) me)
   takes_as p word writes lp is at =
       subst (λ (q : Me1 × ℕ). Allows (Shows limits) slots i q.0 q.1 (λ n. n) (PageTaken (step slots q.1 0 0 none) q.0)) (λ k. (sym e k, sym at k))
-      (forget limits slots i (a ∷ [], carried) (word_place p 0) (λ n. n) NoEvent (PageTaken (step slots (word_place p 0) 0 0 none) (a ∷ [], carried)) (take_by limits slots i a carried p writes lp is))
+      (resting limits slots i (a ∷ []) carried (word_place p 0) (λ n. n) NoEvent (PageTaken (step slots (word_place p 0) 0 0 none) (a ∷ [], carried)) (take_by limits slots i a carried p writes lp is)
+      (λ n v w g. g) (λ n r t l rest. subst (AllRest l) (sym (ap (λ (m : Me1). m.0) (t p refl))) rest))
 
-  pub gives_as : (p word : ℕ) → a.writes ≡ true → p < length a.places → IsTrue (is_held_page (place_of a.places p)) → word ≡ word_place p 0 → Allows (Shows limits) slots i me word (λ n. n) (PageGivenUp (step slots word 0 0 none) me)
+  pub gives_as : (p word : ℕ) → a.writes ≡ true → p < length a.places → IsTrue (is_held_page (place_of a.places p)) → word ≡ word_place p 0 → Allows (Shows limits) slots i me word (λ n. n) (GiveUpMoves (step slots word 0 0 none) me)
   gives_as p word writes lp held at =
-      subst (λ (q : Me1 × ℕ). Allows (Shows limits) slots i q.0 q.1 (λ n. n) (PageGivenUp (step slots q.1 0 0 none) q.0)) (λ k. (sym e k, sym at k))
-      (forget limits slots i (a ∷ [], carried) (word_place p 0) (λ n. n) (λ n v w. NoEvent n v w ⊎ IsReturn p n v w) (PageGivenUp (step slots (word_place p 0) 0 0 none) (a ∷ [], carried)) (give_up_by limits slots i a carried p writes lp held))
+      subst (λ (q : Me1 × ℕ). Allows (Shows limits) slots i q.0 q.1 (λ n. n) (GiveUpMoves (step slots q.1 0 0 none) q.0)) (λ k. (sym e k, sym at k)) (giving limits slots i a carried p writes lp held)
 
-  pub scans_as : (word : ℕ) → a.writes ≡ true → a.published ≡ false → word ≡ 16 + 8 * a.scanned → Allows (Shows limits) slots i me word (λ n. n) (Scanned (step slots word 0 0 none) me)
+  pub scans_as : (word : ℕ) → a.writes ≡ true → a.published ≡ false → word ≡ 16 + 8 * a.scanned → Allows (Shows limits) slots i me word (λ n. n) (ScanMoves (step slots word 0 0 none) me)
   scans_as word writes un at =
-      subst (λ (q : Me1 × ℕ). Allows (Shows limits) slots i q.0 q.1 (λ n. n) (Scanned (step slots q.1 0 0 none) q.0)) (λ k. (sym e k, sym at k))
-      (forget limits slots i (a ∷ [], carried) (16 + 8 * a.scanned) (λ n. n) (IsScan a.number a.scanned) (Scanned (step slots (16 + 8 * a.scanned) 0 0 none) (a ∷ [], carried)) (scan_by limits slots i a carried writes un))
+      subst (λ (q : Me1 × ℕ). Allows (Shows limits) slots i q.0 q.1 (λ n. n) (ScanMoves (step slots q.1 0 0 none) q.0)) (λ k. (sym e k, sym at k)) (scanning limits slots i a carried writes un)

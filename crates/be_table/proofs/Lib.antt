@@ -1,10 +1,12 @@
 pub mod Versions
 pub mod Frames
 pub mod Histories
+pub mod Traces
 pub mod Holding
 pub mod Ledgers
 pub mod Locks
 pub mod Moves
+pub mod Runs
 pub mod Pins
 pub mod Opened
 pub mod Scans
@@ -16,6 +18,7 @@ pub mod Meetings
 pub mod Closing
 pub mod Standings
 pub mod Told
+pub mod Moved
 pub mod Keeping
 pub mod Answers
 pub mod Readers

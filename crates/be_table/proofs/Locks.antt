@@ -1,5 +1,5 @@
 -- The lock is taken and given back.
-use Rattle.std.proofs.Common.{◌≡◌, ◌≢◌, ℕ, ◌+◌, ◌-◌, ◌*◌, ◌<◌, ◌≤◌, eqb, eq-eqb, ne_eqb, MatchBool, List, [], ◌∷◌, length, set, Bool, true, false, true≢false, Option, Some, None, refl, sym, ap, ◌∙◌, subst, arith, slice_index, map, take, IsTrue}
+use Rattle.std.proofs.Common.{◌≡◌, ◌≢◌, ℕ, ◌+◌, ◌-◌, ◌*◌, ◌<◌, ◌≤◌, eqb, eq-eqb, ne_eqb, MatchBool, List, [], ◌∷◌, ◌++◌, length, set, Bool, true, false, true≢false, Option, Some, None, refl, sym, ap, ◌∙◌, subst, arith, slice_index, map, take, IsTrue}
 use Rattle.std.proofs.lemmas.List.{length-map}
 use mathlib.Core.Option.{some, none}
 use mathlib.Core.Logic.{dite}
@@ -14,11 +14,12 @@ use Rattle.be_table.specs.declared.limits.Limits.{Limits}
 use Rattle.be_journal.specs.Journal.{replay}
 use Rattle.be_table.specs.declared.pass.Commit.{Commit}
 use Rattle.be_table.specs.declared.pass.Knowledge.{Knowledge}
+use Rattle.be_table.specs.declared.pass.Move.TheVariants.{Lock, Unlock}
 use Rattle.be_table.specs.Laws.{AllowsBy, IsLock, IsUnlock}
 use Rattle.be_pages.specs.Place.{undone_place}
 use Rattle.be_table.specs.Ledger.{ShowsPlaces}
 use Rattle.be_table.specs.Rule.{ledger_places, LeftAreRetired, Board, entries, reach_at, page_at, word_place, lock_word, is_holder, known_holder, IsHome, IsSoundBoard, Holds, Fits, Stands, Shows}
-use Rattle.be_table.specs.Steps.{takes_lock, finds_held, without_lock, Gets, LockIsHeld, Locked, Unlocked}
+use Rattle.be_table.specs.Steps.{takes_lock, finds_held, without_lock, Gets, LockIsHeld, Locked, Unlocked, Moving, LockMoves, UnlockMoves}
 use Rattle.be_table.proofs.Histories.{starts_itself}
 use Rattle.be_table.proofs.Frames.{Table, Me1, views_step, fits_late, longer_seen, is_pass, in_time_later, words_load, words_lock, not_holder, fits_world, not_other, sound_world}
 use Rattle.std.proofs.Math.Nat.{le_refl}
@@ -26,7 +27,8 @@ use Rattle.be_table.specs.Versions.{at_start, in_pages, SpellsVolume}
 use Rattle.be_table.specs.Reading.{word_of_page}
 use Rattle.be_table.proofs.Versions.{spells_same, clipped, take_all}
 use Rattle.be_table.proofs.Standings.{begun}
-use Rattle.be_table.proofs.Moves.{forget}
+use Rattle.be_table.specs.Trace.{AllRest, with_history}
+use Rattle.be_table.proofs.Traces.{Goes, dated, stands_dated, set_at, moved, rested, moving, one_of}
 use Rattle.be_table.proofs.Ledgers.{shows-unlock, idle-idle}
 
 pub same_some : (g k : Holder) → Some g ≡ Some k → g ≡ k
@@ -50,10 +52,6 @@ pub at_work : (limits : Limits) (s : Table) (b : Board) (i : ℕ) (a : Knowledge
 at_work limits s b i a h at writes =
     let f = (h.views i (a ∷ []) at).0 in let r = f.whole writes in
     subst (λ (o : Option Holder). Stands limits s (held_by b o) × Holds (held_by b o) a) r.holder (h, r)
-
--- what a step owes
-abbrev pub Goes : Limits → Table → Board → ℕ → ℕ → ℕ → List (ℕ × Option Ledger) → (World → World → Type 0) → (Me1 → Type 0) → Type 0
-Goes limits s b word n i carried event then = (w : List Knowledge) × (x : Act (Option Ledger)) × Valid s.homes carried x × ((d : Board) × Stands limits (stepped s word n i carried w x) d × event b.world d.world) × then (w, carried_after carried x)
 
 -- the table's words spell the volume after the journal
 now_spelt : (limits : Limits) (s : Table) (b : Board) → Stands limits s b → SpellsVolume (reach_at b.log (length b.log)) (word_of_page s.words) (page_at b.log (length b.log)) (replay (entries b.log))
@@ -204,23 +202,53 @@ module _ (limits : Limits) (slots i : ℕ) (a : Knowledge) (ledger : Ledger) whe
         refl,
       )
 
+module _ (limits : Limits) (slots i : ℕ) (a : Knowledge) (carried : List (ℕ × Option Ledger)) where
+  -- a try is the move Lock where it finds the lock free, and else none
+  pub locking : a.writes ≡ false → Allows (Shows limits) slots i (a ∷ [], carried) 0 (λ n. either (eqb n 0) (a.number + 1) n) (LockMoves (step slots 0 0 (a.number + 1) none) (a ∷ [], carried))
+  locking idle s h sized at fits =
+      let n = slice_index s.words 0 in
+      let hist = h.2.0 ++ Lock a.number ∷ [] in
+      dite (ℕ_discrete n 0)
+      (λ is0.
+      let yes : eqb n 0 ≡ true = eq-eqb n 0 is0 in
+      let y = lock_by limits slots i (with_history a hist) carried idle (dated s i a hist) h.0 (stands_dated limits s h.0 i a hist h.1 at) sized (set_at s.views i (a ∷ []) (with_history a hist ∷ []) at) fits in
+      let m = moved limits s h 0 (either (eqb n 0) (a.number + 1) n) i a carried at (Lock a.number) refl (λ v w. IsLock a.number n v w) (λ l r. MatchBool (eqb n 0) (Gets (with_history a l ∷ [], carried) r) (LockIsHeld (with_history a l ∷ [], carried) n r)) (λ w. Unit {0}) y
+      (λ v w g. (subst (λ b. MatchBool b (MayLock v a.number × (w ≡ after_lock v a.number)) (w ≡ v)) yes g, tt))
+      (λ r g. let x : Gets (with_history a hist ∷ [], carried) r = subst (λ b. MatchBool b (Gets (with_history a hist ∷ [], carried) r) (LockIsHeld (with_history a hist ∷ [], carried) n r)) yes g in
+      one_of a (takes_lock (with_history a hist) x.1 (ledger_places x.0) x.2) hist ((0, Some x.0) ∷ carried) r x.3.0 refl refl) in (
+        m.0,
+        m.1,
+        m.2,
+        m.3,
+        subst (λ b. MatchBool b (Moving (Lock a.number) (λ w. Unit {0}) Gets (a ∷ [], carried) (m.0, carried_after carried m.1)) (LockIsHeld (a ∷ [], carried) n (m.0, carried_after carried m.1))) (sym yes)
+            (m.4.0, m.4.1, m.4.2, subst (λ b. MatchBool b (Gets (with_history a m.4.0 ∷ [], carried) (m.0, carried_after carried m.1)) (LockIsHeld (with_history a m.4.0 ∷ [], carried) n (m.0, carried_after carried m.1))) yes m.4.3),
+      ))
+      (λ other.
+      let no : eqb n 0 ≡ false = ne_eqb n 0 other in
+      let y = lock_by limits slots i a carried idle s h.0 h.1 sized at fits in
+      let told : (r : Me1) → MatchBool (eqb n 0) (Gets (a ∷ [], carried) r) (LockIsHeld (a ∷ [], carried) n r) → LockIsHeld (a ∷ [], carried) n r = λ r g. subst (λ b. MatchBool b (Gets (a ∷ [], carried) r) (LockIsHeld (a ∷ [], carried) n r)) no g in
+      let m = rested limits s h 0 (either (eqb n 0) (a.number + 1) n) i (a ∷ []) carried at (λ v w. IsLock a.number n v w) (λ r. MatchBool (eqb n 0) (Gets (a ∷ [], carried) r) (LockIsHeld (a ∷ [], carried) n r)) y
+      (λ v w g. subst (λ b. MatchBool b (MayLock v a.number × (w ≡ after_lock v a.number)) (w ≡ v)) no g)
+      (λ r g l rest. subst (AllRest l) (sym (ap (λ (m : Me1). m.0) (told r g).0)) rest) in
+      (m.0, m.1, m.2, m.3, subst (λ b. MatchBool b (Moving (Lock a.number) (λ w. Unit {0}) Gets (a ∷ [], carried) (m.0, carried_after carried m.1)) (LockIsHeld (a ∷ [], carried) n (m.0, carried_after carried m.1))) (sym no) (told _ m.4)))
+
 module _ (limits : Limits) (slots i : ℕ) (a : Knowledge) (carried : List (ℕ × Option Ledger)) (me : Me1) where
-  pub locks_as : me ≡ (a ∷ [], carried) → (new : ℕ) → a.writes ≡ false → new ≡ a.number + 1 → Allows (Shows limits) slots i me 0 (λ n. either (eqb n 0) new n) (Locked (step slots 0 0 new none) me)
+  pub locks_as : me ≡ (a ∷ [], carried) → (new : ℕ) → a.writes ≡ false → new ≡ a.number + 1 → Allows (Shows limits) slots i me 0 (λ n. either (eqb n 0) new n) (LockMoves (step slots 0 0 new none) me)
   locks_as e new idle is =
-      subst (λ (p : Me1 × ℕ). Allows (Shows limits) slots i p.0 0 (λ n. either (eqb n 0) p.1 n) (Locked (step slots 0 0 p.1 none) p.0)) (λ k. (sym e k, sym is k))
-      (forget limits slots i (a ∷ [], carried) 0 (λ n. either (eqb n 0) (a.number + 1) n) (IsLock a.number) (Locked (step slots 0 0 (a.number + 1) none) (a ∷ [], carried)) (lock_by limits slots i a carried idle))
+      subst (λ (p : Me1 × ℕ). Allows (Shows limits) slots i p.0 0 (λ n. either (eqb n 0) p.1 n) (LockMoves (step slots 0 0 p.1 none) p.0)) (λ k. (sym e k, sym is k)) (locking limits slots i a carried idle)
 
   pub unlocks_as : (ledger : Ledger) → me ≡ (a ∷ [], (0, Some ledger) ∷ []) → a.writes ≡ true → ledger.journal.entries ≡ entries a.seen → ledger.journal.limit ≡ a.limits.commits → ledger.page ≡ page_at a.seen (length a.seen) → (ledger_places ledger) ≡ map undone_place a.places → LeftAreRetired ledger
-      → Allows (Shows limits) slots i me 0 (λ _. 0) (λ _. Unlocked (step slots 0 0 0 none) me 0)
+      → Allows (Shows limits) slots i me 0 (λ _. 0) (λ _. UnlockMoves (step slots 0 0 0 none) me 0)
   unlocks_as ledger e writes journal limit page places left =
-      subst (λ (m : Me1). Allows (Shows limits) slots i m 0 (λ _. 0) (λ _. Unlocked (step slots 0 0 0 none) m 0)) (sym e)
-      (forget limits slots i (a ∷ [], (0, Some ledger) ∷ []) 0 (λ _. 0) (IsUnlock a.number) (λ _. Unlocked (step slots 0 0 0 none) (a ∷ [], (0, Some ledger) ∷ []) 0) (unlock_by limits slots i a ledger writes journal limit page places left))
+      subst (λ (m : Me1). Allows (Shows limits) slots i m 0 (λ _. 0) (λ _. UnlockMoves (step slots 0 0 0 none) m 0)) (sym e)
+      (moving limits slots i a ((0, Some ledger) ∷ []) 0 (λ _. 0) (λ n. Unlock a.number) (IsUnlock a.number) (λ h _. Unlocked (step slots 0 0 0 none) (with_history a h ∷ [], (0, Some ledger) ∷ []) 0) (λ n w. Unit {0}) (λ n. refl)
+      (λ h. unlock_by limits slots i (with_history a h) ledger writes journal limit page places left) (λ n v w g. (g, tt)) (λ h n r t. one_of a (without_lock (with_history a h)) h [] r t refl refl))
 
-pub got : (m : Me1) (n : ℕ) (r : Me1) → MatchBool (eqb n 0) (Gets m r) (LockIsHeld m n r) → n ≡ 0 → Gets m r
-got m n r l e = subst (λ (b : Bool). MatchBool b (Gets m r) (LockIsHeld m n r)) (eq-eqb n 0 e) l
+pub gained : (m : Me1) (n : ℕ) (r : Me1) (k : ℕ) → MatchBool (eqb n 0) (Moving (Lock k) (λ w. Unit {0}) Gets m r) (LockIsHeld m n r) → n ≡ 0 → Moving (Lock k) (λ w. Unit {0}) Gets m r
+gained m n r k l e = subst (λ (b : Bool). MatchBool b (Moving (Lock k) (λ w. Unit {0}) Gets m r) (LockIsHeld m n r)) (eq-eqb n 0 e) l
 
-pub late : (m : Me1) (n : ℕ) (r : Me1) → MatchBool (eqb n 0) (Gets m r) (LockIsHeld m n r) → n ≢ 0 → LockIsHeld m n r
-late m n r l ne = subst (λ (b : Bool). MatchBool b (Gets m r) (LockIsHeld m n r)) (ne_eqb n 0 ne) l
+pub late : (m : Me1) (n : ℕ) (r : Me1) (k : ℕ) → MatchBool (eqb n 0) (Moving (Lock k) (λ w. Unit {0}) Gets m r) (LockIsHeld m n r) → n ≢ 0 → LockIsHeld m n r
+late m n r k l ne = subst (λ (b : Bool). MatchBool b (Moving (Lock k) (λ w. Unit {0}) Gets m r) (LockIsHeld m n r)) (ne_eqb n 0 ne) l
 
 -- the slot taken last is the first of the list
 pub is_out : (l rest : List (ℕ × Option Ledger)) (x : ℕ × Option Ledger) → l ≡ x ∷ rest → l ≡ x ∷ Rattle.atomic_table.specs.Table.rest l

@@ -18,7 +18,8 @@ use Rattle.be_table.specs.Steps.{IsPass, Compared, having_seen, longer}
 use Rattle.be_table.proofs.Histories.{starts_itself, by_pass-between}
 use Rattle.be_table.proofs.Deals.{deals}
 use Rattle.be_table.proofs.Frames.{Me1, views_change, entries-start, longer_seen, is_pass, in_time_later, words_load}
-use Rattle.be_table.proofs.Moves.{forget}
+use Rattle.be_table.specs.Trace.{AllRest}
+use Rattle.be_table.proofs.Traces.{resting}
 use Rattle.be_table.proofs.PinMarks.{pin_stays}
 use Rattle.be_table.proofs.Told.{told_as, stepped_pass}
 
@@ -87,7 +88,8 @@ joined_pair a c m n r e f g = g ∙ (λ k. (seats_together ((e k).0) ((f k).0), 
 pub compares_as : (limits : Limits) (slots i : ℕ) (a c : Knowledge) (me : Me1) → me ≡ (a ∷ c ∷ [], []) → a.writes ≡ false → c.writes ≡ false → Allows (Shows limits) slots i me 0 (λ n. n) (Compared (step slots 0 0 0 none) me)
 compares_as limits slots i a c me e idle idle' =
     subst (λ (m : Me1). Allows (Shows limits) slots i m 0 (λ n. n) (Compared (step slots 0 0 0 none) m)) (sym e)
-    (forget limits slots i (a ∷ c ∷ [], []) 0 (λ n. n) NoEvent (Compared (step slots 0 0 0 none) (a ∷ c ∷ [], [])) (compare_by limits slots i a c [] idle idle'))
+    (resting limits slots i (a ∷ c ∷ []) [] 0 (λ n. n) NoEvent (Compared (step slots 0 0 0 none) (a ∷ c ∷ [], [])) (compare_by limits slots i a c [] idle idle')
+    (λ n v w g. g) (λ n r t l rest. subst (AllRest l) (sym (ap (λ (m : Me1). m.0) t.0)) rest))
 
 pub deals_as : (limits : Limits) (i : ℕ) (a : Knowledge) (v u : List Knowledge) → u ≡ a ∷ v → Splits (Shows limits) i u (other_seats u) (first_seat u)
 deals_as limits i a v u e = subst (λ (w : List Knowledge). Splits (Shows limits) i w (other_seats w) (first_seat w)) (sym e) (deals limits i a v)

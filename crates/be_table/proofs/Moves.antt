@@ -10,9 +10,12 @@ use Rattle.be_table.specs.declared.ledger.Ledger.{Ledger}
 use Rattle.be_table.specs.declared.limits.Limits.{Limits}
 use Rattle.be_table.specs.declared.pass.Knowledge.{Knowledge}
 use Rattle.be_table.specs.Laws.{AllowsBy, IsLook, IsAnnounce, IsLookAgain, IsRead, IsUnpin}
-use Rattle.be_table.specs.Rule.{reach_at, page_at, current_word, announce_word, word_place, Shows, one_step_on}
-use Rattle.be_table.specs.Steps.{looks, announces, pins, unpins, LookTold, Told, PinnedAt, Unpinned, PinnedRead}
+use Rattle.be_table.specs.declared.pass.Move.TheVariants.{Look, Announce, LookAgain, Unpin}
+use Rattle.be_table.specs.Rule.{reach_at, page_at, current_word, HasCurrent, announce_word, word_place, Shows, one_step_on}
+use Rattle.be_table.specs.Steps.{looks, announces, pins, unpins, LookTold, Told, PinnedAt, Unpinned, PinnedRead, LookMoves, AnnounceMoves, LookAgainMoves, UnpinMoves}
+use Rattle.be_table.specs.Trace.{AllRest, with_history}
 use Rattle.be_table.proofs.Histories.{starts_itself}
+use Rattle.be_table.proofs.Traces.{moving, resting, as_me, one_of}
 use Rattle.be_table.proofs.Frames.{Me1, views_step, fits_counted, longer_seen, reach-front, is_pass, words_load, words_phase, words_announce, stands_phase}
 
 look_pin : (p : Phase) (seen log : ℕ) → seen ≤ log → InTime seen p → InTime log (phase_after_look p log)
@@ -36,14 +39,6 @@ same_pin (Pinned b m) c a n e = e
 pin_number : (a n x m : ℕ) → Pinned a n ≡ Pinned x m → n ≡ m
 pin_number a n x m e = cc
 
--- the step at a seat whose pass is known
-pub as_me : (limits : Limits) (slots i : ℕ) (a : Knowledge) (carried : List (ℕ × Option Ledger)) (me : Me1) (word : ℕ) (f : ℕ → ℕ) (then : Me1 → ℕ → Me1 → Type 0) → me ≡ (a ∷ [], carried) → Allows (Shows limits) slots i (a ∷ [], carried) word f (then (a ∷ [], carried)) → Allows (Shows limits) slots i me word f (then me)
-as_me limits slots i a carried me word f then e x = subst (λ (m : Me1). Allows (Shows limits) slots i m word f (then m)) (sym e) x
-
--- what a step owes of the table, without its event
-pub forget : (limits : Limits) (slots id : ℕ) (me : Me1) (i : ℕ) (f : ℕ → ℕ) (event : ℕ → World → World → Type 0) (then : ℕ → Me1 → Type 0) → AllowsBy limits slots id me i f event then → Allows (Shows limits) slots id me i f then
-forget limits slots id me i f event then x s h sized at fits = let r = x s h.0 h.1 sized at fits in (r.0, r.1, r.2, (r.3.0, r.3.1), r.4)
-
 module _ (limits : Limits) (slots i : ℕ) (a : Knowledge) (carried : List (ℕ × Option Ledger)) where
   pub look_by : AllowsBy limits slots i (a ∷ [], carried) 8 (λ n. n) (IsLook a.number) (LookTold (step slots 8 0 0 none) (a ∷ [], carried))
   look_by s b h sized at fits =
@@ -61,7 +56,7 @@ module _ (limits : Limits) (slots i : ℕ) (a : Knowledge) (carried : List (ℕ 
         looks a b.log ∷ [],
         keeps,
         tt,
-        (record b { world = after_look b.world k }, r.0, (below, refl)),
+        (record b { world = after_look b.world k }, r.0, (below, refl, (page_at b.log (length b.log), t.words.current, h.sound.page))),
         (b.log, (refl, fa.seen, is_pass limits _ i (looks a b.log) r.0.sound r.1, t.words.current ∙ ap (λ n. current_word n (page_at b.log (length b.log))) t.version, h.sound.page)),
       )
 
@@ -106,7 +101,7 @@ module _ (limits : Limits) (slots i : ℕ) (a : Knowledge) (carried : List (ℕ 
         c ∷ [],
         keeps,
         tt,
-        (record b { world = after_look_again b.world k }, r.0, ((below, (x, announced)), refl)),
+        (record b { world = after_look_again b.world k }, r.0, ((below, (x, announced)), refl, (page_at b.log (length b.log), t.words.current, h.sound.page))),
         (b.log, x, s.words, (is, refl, fa.seen, is_pass limits _ i c r.0.sound r.1, t.words.current ∙ ap (λ n. current_word n (page_at b.log (length b.log))) t.version, h.sound.page)),
       )
 
@@ -151,23 +146,34 @@ module _ (limits : Limits) (slots i : ℕ) (a : Knowledge) (carried : List (ℕ 
       )
 
 module _ (limits : Limits) (slots i : ℕ) (a : Knowledge) (carried : List (ℕ × Option Ledger)) (me : Me1) (e : me ≡ (a ∷ [], carried)) where
-  pub looks_as : Allows (Shows limits) slots i me 8 (λ n. n) (LookTold (step slots 8 0 0 none) me)
-  looks_as = as_me limits slots i a carried me 8 (λ n. n) (λ m. LookTold (step slots 8 0 0 none) m) e (forget limits slots i (a ∷ [], carried) 8 (λ n. n) (IsLook a.number) (LookTold (step slots 8 0 0 none) (a ∷ [], carried)) (look_by limits slots i a carried))
+  pub looks_as : Allows (Shows limits) slots i me 8 (λ n. n) (LookMoves (step slots 8 0 0 none) me)
+  looks_as = as_me limits slots i a carried me 8 (λ n. n) (λ m. LookMoves (step slots 8 0 0 none) m) e
+      (moving limits slots i a carried 8 (λ n. n) (λ n. Look a.number) (IsLook a.number) (λ h. LookTold (step slots 8 0 0 none) (with_history a h ∷ [], carried)) HasCurrent (λ n. refl)
+      (λ h. look_by limits slots i (with_history a h) carried)
+      (λ n v w x. ((x.0, x.1), (x.2.0, x.2.1 ∙ ap (λ (u : World). current_word u.current x.2.0) (sym x.1), x.2.2)))
+      (λ h n r x. one_of a (looks (with_history a h) x.0) h carried r x.1.0 refl refl))
 
-  pub announces_as : (x word new : ℕ) → a.phase ≡ Looked x → word ≡ 16 + 8 * a.number → new ≡ x + 1 → Allows (Shows limits) slots i me word (λ _. new) (λ _. Told (step slots word new 0 none) me new)
+  pub announces_as : (x word new : ℕ) → a.phase ≡ Looked x → word ≡ 16 + 8 * a.number → new ≡ x + 1 → Allows (Shows limits) slots i me word (λ _. new) (λ _. AnnounceMoves (step slots word new 0 none) me new)
   announces_as x word new is at to =
-      subst (λ (p : Me1 × ℕ × ℕ). Allows (Shows limits) slots i p.0 p.1 (λ _. p.2) (λ _. Told (step slots p.1 p.2 0 none) p.0 p.2)) (λ k. (sym e k, sym at k, sym to k))
-      (forget limits slots i (a ∷ [], carried) (16 + 8 * a.number) (λ _. x + 1) (IsAnnounce a.number) (λ _. Told (step slots (16 + 8 * a.number) (x + 1) 0 none) (a ∷ [], carried) (x + 1)) (announce_by limits slots i a carried x is))
+      subst (λ (p : Me1 × ℕ × ℕ). Allows (Shows limits) slots i p.0 p.1 (λ _. p.2) (λ _. AnnounceMoves (step slots p.1 p.2 0 none) p.0 p.2)) (λ k. (sym e k, sym at k, sym to k))
+      (moving limits slots i a carried (16 + 8 * a.number) (λ _. x + 1) (λ n. Announce a.number) (IsAnnounce a.number) (λ h _. Told (step slots (16 + 8 * a.number) (x + 1) 0 none) (with_history a h ∷ [], carried) (x + 1)) (λ n w. Unit {0}) (λ n. refl)
+      (λ h. announce_by limits slots i (with_history a h) carried x is) (λ n v w g. (g, tt)) (λ h n r t. one_of a (announces (with_history a h) (x + 1 - 1)) h carried r t refl refl))
 
-  pub looks_again_as : (x : ℕ) → a.phase ≡ Announced x → Allows (Shows limits) slots i me 8 (λ n. n) (PinnedAt (step slots 8 0 0 none) me)
-  looks_again_as x is = as_me limits slots i a carried me 8 (λ n. n) (λ m. PinnedAt (step slots 8 0 0 none) m) e (forget limits slots i (a ∷ [], carried) 8 (λ n. n) (IsLookAgain a.number) (PinnedAt (step slots 8 0 0 none) (a ∷ [], carried)) (look_again_by limits slots i a carried x is))
+  pub looks_again_as : (x : ℕ) → a.phase ≡ Announced x → Allows (Shows limits) slots i me 8 (λ n. n) (LookAgainMoves (step slots 8 0 0 none) me)
+  looks_again_as x is = as_me limits slots i a carried me 8 (λ n. n) (λ m. LookAgainMoves (step slots 8 0 0 none) m) e
+      (moving limits slots i a carried 8 (λ n. n) (λ n. LookAgain a.number) (IsLookAgain a.number) (λ h. PinnedAt (step slots 8 0 0 none) (with_history a h ∷ [], carried)) HasCurrent (λ n. refl)
+      (λ h. look_again_by limits slots i (with_history a h) carried x is)
+      (λ n v w x. ((x.0, x.1), (x.2.0, x.2.1 ∙ ap (λ (u : World). current_word u.current x.2.0) (sym x.1), x.2.2)))
+      (λ h n r t. one_of a (pins (with_history a h) t.1 t.0 t.2) h carried r t.3.1 refl refl))
 
-  pub unpins_as : (x n word : ℕ) → a.phase ≡ Pinned x n → word ≡ 16 + 8 * a.number → Allows (Shows limits) slots i me word (λ _. 0) (λ _. Unpinned (step slots word 0 0 none) me 0)
+  pub unpins_as : (x n word : ℕ) → a.phase ≡ Pinned x n → word ≡ 16 + 8 * a.number → Allows (Shows limits) slots i me word (λ _. 0) (λ _. UnpinMoves (step slots word 0 0 none) me 0)
   unpins_as x n word is at =
-      subst (λ (p : Me1 × ℕ). Allows (Shows limits) slots i p.0 p.1 (λ _. 0) (λ _. Unpinned (step slots p.1 0 0 none) p.0 0)) (λ k. (sym e k, sym at k))
-      (forget limits slots i (a ∷ [], carried) (16 + 8 * a.number) (λ _. 0) (IsUnpin a.number) (λ _. Unpinned (step slots (16 + 8 * a.number) 0 0 none) (a ∷ [], carried) 0) (unpin_by limits slots i a carried x n is))
+      subst (λ (p : Me1 × ℕ). Allows (Shows limits) slots i p.0 p.1 (λ _. 0) (λ _. UnpinMoves (step slots p.1 0 0 none) p.0 0)) (λ k. (sym e k, sym at k))
+      (moving limits slots i a carried (16 + 8 * a.number) (λ _. 0) (λ n. Unpin a.number) (IsUnpin a.number) (λ h _. Unpinned (step slots (16 + 8 * a.number) 0 0 none) (with_history a h ∷ [], carried) 0) (λ n w. Unit {0}) (λ n. refl)
+      (λ h. unpin_by limits slots i (with_history a h) carried x n is) (λ n v w g. (g, tt)) (λ h n r t. one_of a (unpins (with_history a h)) h carried r t refl refl))
 
   pub pinned_as : (x n p j word : ℕ) → a.phase ≡ Pinned x n → IsTrue (has (reach_at a.seen n) p) → j < 512 → word ≡ word_place p j → Allows (Shows limits) slots i me word (λ n. n) (PinnedRead (step slots word 0 0 none) me)
   pinned_as x n p j word is r lt at =
       subst (λ (q : Me1 × ℕ). Allows (Shows limits) slots i q.0 q.1 (λ n. n) (PinnedRead (step slots q.1 0 0 none) q.0)) (λ k. (sym e k, sym at k))
-      (forget limits slots i (a ∷ [], carried) (word_place p j) (λ n. n) (IsRead a.number n p j) (PinnedRead (step slots (word_place p j) 0 0 none) (a ∷ [], carried)) (pinned_by limits slots i a carried x n p j is r lt))
+      (resting limits slots i (a ∷ []) carried (word_place p j) (λ n. n) (IsRead a.number n p j) (PinnedRead (step slots (word_place p j) 0 0 none) (a ∷ [], carried)) (pinned_by limits slots i a carried x n p j is r lt)
+      (λ m v w g. g.1) (λ m q t l rest. subst (AllRest l) (sym (ap (λ (m : Me1). m.0) t.0)) rest))

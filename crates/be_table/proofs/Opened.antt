@@ -13,6 +13,7 @@ use Rattle.be_core.specs.Machine.{has}
 use Rattle.be_table.specs.Place.{Work}
 use Rattle.be_table.specs.Works.{MakesScan, HasNoRoom}
 use Rattle.be_table.proofs.Ledgers.{place-map}
+use Rattle.be_table.proofs.Traces.{pass_history}
 use Rattle.be_table.proofs.Listed.{listed, tested}
 use Rattle.be_pages.specs.declared.page_pool.Place.{Place}
 use Rattle.be_pages.specs.declared.page_pool.Place.TheVariants.{Free, Reserved, Filled, Current, GivenUp, Retired}
@@ -78,7 +79,7 @@ has_room a log e l lt = let long : length log.entries ≡ length a.seen = ap len
 
 -- a write goes on: the pass, the places and the page words change, and the journal and the version page stay
 pub reopened : (w v : Inside) (c : Knowledge) → let a = pass_of w.base.me.0 in IsOpen w → v.table.now ≡ w.table.now → v.marks ≡ w.marks → v.reserved ≡ w.reserved → v.ledger.journal ≡ w.ledger.journal → v.ledger.page ≡ w.ledger.page
-    → v.base.table_id ≡ w.base.table_id → v.base.me ≡ (c ∷ [], (0, None) ∷ []) → c ≡ record a { scanned = c.scanned; least = c.least; places = c.places; words = c.words; held = c.held; steps = c.steps }
+    → v.base.table_id ≡ w.base.table_id → v.base.me ≡ (c ∷ [], (0, None) ∷ []) → c ≡ record a { scanned = c.scanned; least = c.least; places = c.places; words = c.words; held = c.held; steps = c.steps; history = c.history }
     → c.scanned ≡ 0 → length c.words ≡ length a.words → length c.places ≡ length a.places → ledger_places v.ledger ≡ c.places → LeftAreRetired v.ledger → IsOpen v
 reopened w v c i table marks reserved journal page id me same turn size count places left =
     let a = pass_of w.base.me.0 in
@@ -100,7 +101,7 @@ reopened w v c i table marks reserved journal page id me same turn size count pl
       size = ap (λ (x : Knowledge). length x.words) k ∙ size ∙ i.size ∙ ap (λ l. 528 + 512 * l.pages) (sym limits);
       turn = ap (λ (x : Knowledge). x.scanned) k ∙ turn;
       pin = ap (λ m. m.pin) marks ∙ i.pin ∙ (λ n. pin_of (sym phase n) (sym seen n));
-      pass = subst IsPass (sym (k ∙ same)) (going_pass a c.scanned c.least c.places c.words c.held c.steps i.pass);
+      pass = subst IsPass (sym (k ∙ same)) (pass_history (record a { scanned = c.scanned; least = c.least; places = c.places; words = c.words; held = c.held; steps = c.steps }) c.history (going_pass a c.scanned c.least c.places c.words c.held c.steps i.pass));
       limit = ap (λ j. j.limit) journal ∙ i.limit ∙ ap (λ l. l.commits) (sym limits);
       left = left;
       room = λ some. let r = i.room (subst (λ n. 0 < n) reserved some) in

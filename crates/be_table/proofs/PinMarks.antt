@@ -1,6 +1,7 @@
 -- The pin that a seat tells stays while its pass sees more.
 use Rattle.std.proofs.Common.{◌≡◌, ℕ, List, [], ◌∷◌, length, Option, Some, refl, sym, ap, ◌∙◌, subst}
-use Rattle.atomic_table.specs.Table.{Step}
+use mathlib.Core.Option.{none}
+use Rattle.atomic_table.specs.Table.{Step, step}
 use Rattle.be_core.specs.declared.event.Phase.{Phase}
 use Rattle.be_core.specs.declared.event.Phase.TheVariants.{Idle, Looked, Announced, Pinned}
 use Rattle.be_core.specs.Machine.{InTime, phase_after_look}
@@ -11,8 +12,13 @@ use Rattle.be_table.specs.declared.pass.Knowledge.{Knowledge}
 use Rattle.be_table.specs.History.{StartsWith}
 use Rattle.be_table.specs.Rule.{pass_of}
 use Rattle.be_table.specs.Seats.{pin_of}
-use Rattle.be_table.specs.Steps.{IsPass, LookTold, Gets}
+use Rattle.be_table.specs.Steps.{IsPass, Gets, Moving, LookMoves}
+use Rattle.be_table.specs.declared.pass.Move.TheVariants.{Lock}
 use Rattle.be_table.proofs.Frames.{Me1, page-front}
+
+-- what a step tells reads nothing of the step but its word
+abbrev pub any : Step (Option Ledger)
+any = step 0 0 0 0 none
 
 abbrev pub pinned : ℕ → ℕ → Option PinnedVersion
 pinned n page = Some record { number = n; page = page }
@@ -34,12 +40,12 @@ abbrev pub pin_in : Me1 → Option PinnedVersion
 pin_in m = pin_of (pass_of m.0).phase (pass_of m.0).seen
 
 module _ (me r : Me1) (a : Knowledge) (pin : Option PinnedVersion) (e : me ≡ (a ∷ [], [])) (pass : IsPass a) (is : pin ≡ pin_of a.phase a.seen) where
-  pub looked_pin : (st : Step (Option Ledger)) (n : ℕ) → LookTold st me n r → pin ≡ pin_in r
-  looked_pin st n told =
-      let t : LookTold st (a ∷ [], []) n r = subst (λ (m : Me1). LookTold st m n r) e told in
-      is ∙ sym (pin_looks a.phase a.seen t.0 (length t.0) pass.pin t.1.1) ∙ ap pin_in (sym t.1.0)
+  pub looked_pin : (n : ℕ) → LookMoves any me n r → pin ≡ pin_in r
+  looked_pin n told =
+      let t : LookMoves any (a ∷ [], []) n r = subst (λ (m : Me1). LookMoves any m n r) e told in
+      is ∙ sym (pin_looks a.phase a.seen t.3.0 (length t.3.0) pass.pin t.3.1.1) ∙ ap pin_in (sym t.3.1.0)
 
-  pub locked_pin : Gets me r → pin ≡ pin_in r
-  locked_pin told =
-      let t : Gets (a ∷ [], []) r = subst (λ (m : Me1). Gets m r) e told in
-      is ∙ sym (pin_stays a.phase a.seen t.1 pass.pin t.3.1) ∙ ap pin_in (sym t.3.0)
+  pub locked_pin : (k : ℕ) → Moving (Lock k) (λ w. Unit {0}) Gets me r → pin ≡ pin_in r
+  locked_pin k told =
+      let t : Moving (Lock k) (λ w. Unit {0}) Gets (a ∷ [], []) r = subst (λ (m : Me1). Moving (Lock k) (λ w. Unit {0}) Gets m r) e told in
+      is ∙ sym (pin_stays a.phase a.seen t.3.1 pass.pin t.3.3.1) ∙ ap pin_in (sym t.3.3.0)

@@ -15,19 +15,22 @@ use Rattle.be_pages.specs.declared.page_pool.Place.TheVariants.{Free, Reserved, 
 use Rattle.be_table.specs.declared.limits.Limits.{Limits}
 use Rattle.be_table.specs.declared.pass.Commit.{Commit}
 use Rattle.be_table.specs.declared.pass.Knowledge.{Knowledge}
+use Rattle.be_table.specs.declared.pass.Move.{Move}
+use Rattle.be_table.specs.declared.pass.Move.TheVariants.{Publish}
 use Rattle.be_journal.specs.Journal.{by_pass, replay}
 use Rattle.be_table.specs.History.{AreOfPasses, StartsWith, IsHistory}
 use Rattle.be_table.specs.Laws.{AllowsBy, IsPublish}
 use Rattle.be_pages.specs.Place.{retired_number, place_of, published_place}
 use Rattle.be_table.specs.Ledger.{ShowsPlaces, shows_free, shows_taken, is_current, is_of_next, is_given, retired_with}
 use Rattle.be_table.specs.Rule.{Board, entries, nothing, reach_at, page_at, word_place, current_word, known_holder, WordsAgree, IsSoundBoard, ImageIs, Fits, Shows}
-use Rattle.be_table.specs.Steps.{pages_from, commit_of, publishes, MayPublish, Published, NoneRetiredLater}
+use Rattle.be_table.specs.Steps.{pages_from, commit_of, publishes, MayPublish, Published, PublishMoves, NoneRetiredLater, given_of}
 use Rattle.be_table.specs.Reading.{word_of_page}
 use Rattle.be_table.specs.Versions.{in_pages, SpellsVolume}
 use Rattle.be_table.proofs.Versions.{spells_same, clipped, take_front, take_all}
 use Rattle.be_table.proofs.Histories.{starts_itself, starts_more, by_pass-own, by_pass-other, legal-push, below-push}
 use Rattle.be_table.proofs.Frames.{Me1, views_step, entries-append, reach-append, page-append, is_pass, in_time_later, longer_seen, not_holder, pages_else}
-use Rattle.be_table.proofs.Moves.{as_me, forget}
+use Rattle.be_table.specs.Trace.{with_history}
+use Rattle.be_table.proofs.Traces.{moving, as_me, one_of}
 use Rattle.be_table.proofs.Locks.{at_work, held_by, same_some, unheld_by}
 use Rattle.be_table.proofs.Ledgers.{place-map}
 use Rattle.be_table.proofs.Standings.{reach_shown, reach_past}
@@ -298,7 +301,11 @@ module _ (limits : Limits) (slots i : ℕ) (a : Knowledge) (carried : List (ℕ 
       )
 
 module _ (limits : Limits) (slots i : ℕ) (a : Knowledge) (carried : List (ℕ × Option Ledger)) (me : Me1) (m : me ≡ (a ∷ [], carried)) where
-  pub publishes_as : (e : Entry) (v new : ℕ) → MayPublish limits a e v → new ≡ current_word (length a.seen + 1) v → Allows (Shows limits) slots i me 8 (λ _. new) (λ _. Published e v (step slots 8 new 0 none) me new)
+  pub publishes_as : (e : Entry) (v new : ℕ) → MayPublish limits a e v → new ≡ current_word (length a.seen + 1) v → Allows (Shows limits) slots i me 8 (λ _. new) (λ _. PublishMoves e v (step slots 8 new 0 none) me new)
   publishes_as e v new may is =
-      as_me limits slots i a carried me 8 (λ _. new) (λ m _. Published e v (step slots 8 new 0 none) m new) m
-      (forget limits slots i (a ∷ [], carried) 8 (λ _. new) (IsPublish a.number v (pages_from is_given 0 a.places)) (λ _. Published e v (step slots 8 new 0 none) (a ∷ [], carried) new) (publish_by limits slots i a carried e v new may is))
+      as_me limits slots i a carried me 8 (λ _. new) (λ m _. PublishMoves e v (step slots 8 new 0 none) m new) m
+      (moving limits slots i a carried 8 (λ _. new) (λ n. Publish a.number v (given_of a)) (IsPublish a.number v (pages_from is_given 0 a.places)) (λ h _. Published e v (step slots 8 new 0 none) (with_history a h ∷ [], carried) new) (λ n w. Unit {0}) (λ n. refl)
+      (λ h. publish_by limits slots i (with_history a h) carried e v new (dated_may h) is) (λ n u w g. (g, tt)) (λ h n r t. one_of a (publishes (with_history a h) e v) h carried r t.0 refl refl))
+    where
+      dated_may : (h : List Move) → MayPublish limits (with_history a h) e v
+      dated_may h = record { writes = may.writes; unpublished = may.unpublished; by = may.by; agrees = may.agrees; operations = may.operations; room = may.room; inside = may.inside; filled = may.filled; spelt = may.spelt }

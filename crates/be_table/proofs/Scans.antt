@@ -1,18 +1,25 @@
 -- A scan, announcement by announcement.
 use Rattle.std.proofs.Common.{◌≡◌, ◌≢◌, ℕ, suc, Bool, map, ◌+◌, ◌<◌, ◌≤◌, eq-eqb, ne_eqb, List, [], ◌∷◌, ◌++◌, length, cond, refl, sym, ap, ◌∙◌, subst, arith}
-use Rattle.std.proofs.Common.{zero, inl, inr, ⊎_elim}
+use Rattle.std.proofs.Common.{zero, true, false, inl, inr, ⊎_elim, ◌==◌, if◌then◌else◌, slice_index, length-append, append_assoc}
 use Rattle.std.proofs.Math.Nat.{le_refl, min-eq_left, min-eq_right}
 use Rattle.std.proofs.lemmas.Bool.Decides.{leb_tells}
 use Rattle.std.proofs.lemmas.List.Elements.{Contains-append_left, Contains-push, Contains-push_cases}
 use mathlib.Core.Logic.{dite}
 use native.Mathlib.Decide.{ℕ_discrete}
+use Rattle.be_table.specs.declared.limits.Limits.{Limits}
 use Rattle.be_table.specs.declared.pass.Knowledge.{Knowledge}
+use Rattle.be_table.specs.declared.pass.Move.{Move}
+use Rattle.be_table.specs.declared.pass.Move.TheVariants.{Scan}
+use Rattle.be_table.specs.History.{StartsWith}
+use Rattle.be_table.specs.Trace.{RunsTo, Makes, with_history}
+use Rattle.be_table.proofs.Histories.{starts_itself}
+use Rattle.be_table.proofs.Traces.{makes_more}
 use Rattle.std.proofs.Common.{Option}
 use Rattle.atomic_table.specs.Table.{Me}
 use Rattle.be_table.specs.declared.ledger.Ledger.{Ledger}
-use Rattle.be_table.specs.Rule.{announce_word, pass_of}
+use Rattle.be_table.specs.Rule.{Reaches, announce_word, pass_of}
 use Rattle.be_pages.specs.Place.{swept_place, is_in_hand}
-use Rattle.be_table.specs.Steps.{scans, scans_on, scans_out, scans_all, scan_from, least_found, IsLeastAnnounced, least_then, pages_from, IsPart, IsOwnLeast, own_least, UnreachedAreFree}
+use Rattle.be_table.specs.Steps.{scans, scans_on, scans_out, scans_all, scan_from, least_found, IsLeastAnnounced, least_then, pages_from, IsPart, IsOwnLeast, own_least, UnreachedAreFree, FoundAt, AreFound, scans_of}
 
 pub scans_all-push : (a : Knowledge) (ns : List ℕ) (n : ℕ) → scans_all a (ns ++ n ∷ []) ≡ scans (scans_all a ns) n
 scans_all-push a [] n = refl
@@ -101,7 +108,7 @@ part_next passes a s j l n lt limits h leaves =
     let least : least_then s n ≡ least_found l n = ap (λ x. least_found x n) from in
     dite (ℕ_discrete (j + 1) passes)
     (λ last. subst (λ x. IsPart passes a x (j + 1) (least_found l n)) (sym (chosen_out s n (omega arith))) (record {
-      same = λ k. record (h.same k) { scanned = 0; least = least_then s n; places = (scans_out s n).places; held = (scans_out s n).held; steps = s.steps + 1 };
+      same = λ k. record (h.same k) { scanned = 0; least = least_then s n; places = (scans_out s n).places; held = (scans_out s n).held; steps = s.steps + 1; history = s.history };
       turn = λ more. absurd (omega arith);
       waits = λ more. absurd (omega arith);
       whole = λ _. (refl, (λ k. map (swept_place (least k)) (h.waits lt k)), ap (pages_from is_in_hand 0) (h.waits lt), leaves (omega arith));
@@ -109,7 +116,7 @@ part_next passes a s j l n lt limits h leaves =
       so_far = λ _. least;
     }))
     (λ inside. subst (λ x. IsPart passes a x (j + 1) (least_found l n)) (sym (chosen_on s n (λ e. inside (omega arith)))) (record {
-      same = λ k. record (h.same k) { scanned = suc s.scanned; least = least_then s n; places = s.places; held = s.held; steps = s.steps + 1 };
+      same = λ k. record (h.same k) { scanned = suc s.scanned; least = least_then s n; places = s.places; held = s.held; steps = s.steps + 1; history = s.history };
       turn = λ more. omega arith;
       waits = λ more. h.waits lt;
       whole = λ e. absurd (inside e);
@@ -117,11 +124,82 @@ part_next passes a s j l n lt limits h leaves =
       so_far = λ _. least;
     }))
 
+-- the same of a pass with another history
+part_history : (passes : ℕ) (a s : Knowledge) (j l : ℕ) (h : List Move) → IsPart passes a s j l → IsPart passes a (with_history s h) j l
+part_history passes a s j l h p = record { same = λ k. record (p.same k) { history = h }; turn = p.turn; waits = p.waits; whole = λ e. let w = p.whole e in (w.0, w.1, w.2, w.3); begins = p.begins; so_far = p.so_far }
+
+pub scans_limits : (a : Knowledge) (n : ℕ) → (scans a n).limits ≡ a.limits
+scans_limits a n = by (suc a.scanned == a.limits.passes)
+  where
+    by : (z : Bool) → (if z then scans_out a n else scans_on a n).limits ≡ a.limits
+    by true = refl
+    by false = refl
+
+pub scans_history : (a : Knowledge) (n : ℕ) (h : List Move) → scans (with_history a h) n ≡ with_history (scans a n) h
+scans_history a n h = by (suc a.scanned == a.limits.passes)
+  where
+    by : (z : Bool) → (if z then scans_out (with_history a h) n else scans_on (with_history a h) n) ≡ with_history (if z then scans_out a n else scans_on a n) h
+    by true = refl
+    by false = refl
+
 abbrev pub Me3 : Type 0
 Me3 = Me (Option Ledger) (List Knowledge)
 
-pub me_next : (a : Knowledge) (ns : List ℕ) (n : ℕ) (m r b : Me3) → m ≡ (scans_all a ns ∷ [], b.1) → r ≡ (scans (pass_of m.0) n ∷ [], m.1) → r ≡ (scans_all a (ns ++ n ∷ []) ∷ [], b.1)
-me_next a ns n m r b e f = f ∙ ap (λ (x : Me3). (scans (pass_of x.0) n ∷ [], x.1)) e ∙ ap (λ (s : Knowledge). (s ∷ [], b.1)) (sym (scans_all-push a ns n))
+-- the seat has read the announcements ns, and reads n
+pub me_next : (a : Knowledge) (ns : List ℕ) (n : ℕ) (m r b : Me3) → m ≡ (with_history (scans_all a ns) (pass_of m.0).history ∷ [], b.1) → r ≡ (scans (with_history (pass_of m.0) (pass_of r.0).history) n ∷ [], m.1)
+    → r ≡ (with_history (scans_all a (ns ++ n ∷ [])) (pass_of r.0).history ∷ [], b.1)
+me_next a ns n m r b e f =
+    let h = (pass_of r.0).history in
+    let before : with_history (pass_of m.0) h ≡ with_history (scans_all a ns) h = ap (λ (x : Me3). with_history (pass_of x.0) h) e in
+    let after : scans (with_history (pass_of m.0) h) n ≡ with_history (scans_all a (ns ++ n ∷ [])) h =
+    ap (λ (k : Knowledge). scans k n) before ∙ scans_history (scans_all a ns) n h ∙ ap (λ (k : Knowledge). with_history k h) (sym (scans_all-push a ns n)) in
+    f ∙ (λ k. (after k ∷ [], ap (λ (x : Me3). x.1) e k))
 
-pub part_step : (passes : ℕ) (a : Knowledge) (m r : Me3) (j l n : ℕ) → j < passes → a.limits.passes ≡ passes → IsPart passes a (pass_of m.0) j l → r ≡ (scans (pass_of m.0) n ∷ [], m.1) → (suc (pass_of m.0).scanned ≡ (pass_of m.0).limits.passes → UnreachedAreFree (scans_out (pass_of m.0) n)) → IsPart passes a (pass_of r.0) (j + 1) (least_found l n)
-part_step passes a m r j l n lt limits h f leaves = subst (λ (x : Me3). IsPart passes a (pass_of x.0) (j + 1) (least_found l n)) (sym f) (part_next passes a (pass_of m.0) j l n lt limits h leaves)
+pub part_step : (passes : ℕ) (a : Knowledge) (m r : Me3) (j l n : ℕ) → j < passes → a.limits.passes ≡ passes → IsPart passes a (pass_of m.0) j l → r ≡ (scans (with_history (pass_of m.0) (pass_of r.0).history) n ∷ [], m.1)
+    → (suc (pass_of m.0).scanned ≡ (pass_of m.0).limits.passes → UnreachedAreFree (scans_out (pass_of m.0) n)) → IsPart passes a (pass_of r.0) (j + 1) (least_found l n)
+part_step passes a m r j l n lt limits h f leaves =
+    let s = with_history (pass_of m.0) (pass_of r.0).history in
+    subst (λ (x : Knowledge). IsPart passes a x (j + 1) (least_found l n)) (sym (ap (λ (x : Me3). pass_of x.0) f)) (part_next passes a s j l n lt limits (part_history passes a (pass_of m.0) j l (pass_of r.0).history h) leaves)
+
+-- what the scans so far have found is found still
+found_on : (limits : Limits) (k : ℕ) (before after more : List Move) (j word : ℕ) → StartsWith more after → FoundAt limits k before after j word → FoundAt limits k before more j word
+found_on limits k before after more j word s f = record { upto = f.upto; front = starts_all f.upto after more f.front s; scans = f.scans; words = f.words; world = f.world; runs = f.runs; found = f.found }
+  where
+    starts_all : (x y z : List Move) → StartsWith y x → StartsWith z y → StartsWith z x
+    starts_all x y z p q = (p.0 ++ q.0, q.1 ∙ ap (λ l. l ++ q.0) p.1 ∙ append_assoc x p.0 q.0)
+
+-- one more is found by the scan whose turn it is
+pub found_more : (limits : Limits) (k j : ℕ) (before mid after : List Move) (ns : List ℕ) (n : ℕ) → length ns ≡ j → AreFound limits k before mid ns → StartsWith after mid → FoundAt limits k before after j n → AreFound limits k before after (ns ++ n ∷ [])
+found_more limits k j before mid after ns n long all s new i lt = dite (ℕ_discrete i j)
+    (λ e. subst (λ (p : ℕ × ℕ). FoundAt limits k before after p.0 p.1) (λ q. (sym e q, sym (ap (slice_index (ns ++ n ∷ [])) (e ∙ sym long) ∙ at_end ns n) q)) new)
+    (λ ne. let low : i < length ns = (let z = length-append ns (n ∷ []) in omega (arith, lt, long, z)) in
+    subst (λ w. FoundAt limits k before after i w) (sym (in_front ns n i low)) (found_on limits k before mid after i (slice_index ns i) s (all i low)))
+  where
+    at_end : (ns : List ℕ) (n : ℕ) → slice_index (ns ++ n ∷ []) (length ns) ≡ n
+    at_end [] n = refl
+    at_end (x ∷ xs) n = at_end xs n
+
+    in_front : (ns : List ℕ) (n i : ℕ) → i < length ns → slice_index (ns ++ n ∷ []) i ≡ slice_index ns i
+    in_front [] n i lt = absurd (omega arith)
+    in_front (x ∷ xs) n zero lt = refl
+    in_front (x ∷ xs) n (suc i) lt = in_front xs n i (omega arith)
+
+-- the scan whose turn it is
+pub found_now : (limits : Limits) (k j n : ℕ) (before mid : List Move) (c : Knowledge) → c.limits ≡ limits → Makes k before (scans_of k j) mid → Makes k mid (Scan k j ∷ []) c.history → Reaches c (λ w. n ≡ announce_word (w.phases j))
+    → FoundAt limits k before c.history j n
+found_now limits k j n before mid c same scans one r = record {
+  upto = c.history;
+  front = starts_itself c.history;
+  scans = makes_more k before (scans_of k j) mid (Scan k j ∷ []) c.history scans one;
+  words = r.words;
+  world = r.world;
+  runs = subst (λ (l : Limits). RunsTo l r.words c.history r.world) same r.runs;
+  found = r.so;
+}
+
+-- a history goes on from what it was
+pub makes_starts : (k : ℕ) (old own new : List Move) → Makes k old own new → StartsWith new old
+makes_starts k old [] new m = subst (λ (l : List Move). StartsWith l old) (sym m) (starts_itself old)
+makes_starts k old (x ∷ own) new m =
+    let s = makes_starts k ((old ++ m.0) ++ x ∷ []) own new m.2 in
+    ((m.0 ++ x ∷ []) ++ s.0, s.1 ∙ ap (λ l. l ++ s.0) (append_assoc old m.0 (x ∷ [])) ∙ append_assoc old (m.0 ++ x ∷ []) s.0)

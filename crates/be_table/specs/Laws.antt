@@ -1,19 +1,24 @@
 -- What a step on a word is allowed to do, with the event that it is.
-use Rattle.std.specs.Prelude.{◌≡◌, ◌⊎◌, ℕ, ◌+◌, ◌*◌, ◌<◌, ◌==◌, List, [], ◌∷◌, ◌++◌, length, map, slice_index, slice_set, Option, Some, true, false, IsTrue, MatchBool}
+use Rattle.std.specs.Prelude.{◌≡◌, ℕ, ◌+◌, ◌*◌, ◌<◌, ◌==◌, List, [], ◌∷◌, ◌++◌, length, map, slice_index, slice_set, Option, Some, true, false, IsTrue, MatchBool}
 use prog.Atomic.{either}
 use mathlib.Core.Option.{some, none}
 use lib.ListN.{get_elem?}
 use Rattle.atomic_table.specs.Table.{State, Me, Act, Valid, step, stepped, carried_after}
 use Rattle.be_core.specs.declared.event.Phase.TheVariants.{Looked, Announced, Pinned}
-use Rattle.be_core.specs.Machine.{World, has, MayLook, MayAnnounce, MayLookAgain, MayRead, MayUnpin, MayLock, MayScan, MayFill, MayPublish as MayPublishAt, MayUnlock, after_look, after_announce, after_look_again, after_unpin, after_lock, after_scan, after_fill, after_publish, after_return, after_unlock}
+use Rattle.be_core.specs.declared.event.Event.{Event}
+use Rattle.be_core.specs.declared.event.Event.TheVariants as events
+use Rattle.be_table.specs.declared.pass.Move.{Move}
+use Rattle.be_table.specs.declared.pass.Move.TheVariants as moves
+use Rattle.be_core.specs.Machine.{World, Sound, Protected, Allowed, after_event, has, MayLook, MayAnnounce, MayLookAgain, MayRead, MayUnpin, MayLock, MayScan, MayFill, MayPublish as MayPublishAt, MayUnlock, after_look, after_announce, after_look_again, after_unpin, after_lock, after_scan, after_fill, after_publish, after_return, after_unlock}
 use Rattle.be_table.specs.declared.ledger.Ledger.{Ledger}
 use Rattle.be_table.specs.declared.limits.Limits.{Limits}
 use Rattle.be_table.specs.declared.pass.Knowledge.{Knowledge}
 use Rattle.be_journal.specs.declared.entries.Entry.{Entry}
 use Rattle.be_pages.specs.declared.page_pool.Place.TheVariants.{Free}
 use Rattle.be_pages.specs.Place.{undone_place, is_held_page, place_of}
-use Rattle.be_table.specs.Ledger.{is_given}
-use Rattle.be_table.specs.Rule.{ledger_places, LeftAreRetired, Board, Stands, entries, page_at, reach_at, word_place, current_word, one_step_on, seats_together}
+use Rattle.be_table.specs.Ledger.{is_given, shows_taken}
+use Rattle.be_table.specs.Trace.{MayReturn, Run, RunsTo}
+use Rattle.be_table.specs.Rule.{ledger_places, LeftAreRetired, Board, Stands, IsWithin, entries, page_at, reach_at, word_place, announce_word, current_word, HasCurrent, one_step_on, seats_together}
 use Rattle.be_table.specs.Steps.{LookTold, Told, PinnedAt, Unpinned, PinnedRead, Locked, Unlocked, Scanned, OwnRead, FilledAt, FilledFound, PageTaken, PageGivenUp, MayBeFilled, MayPublish, Published, Compared, pages_from}
 
 -- ## The events: what a step that found the number n does to the machine
@@ -21,14 +26,15 @@ use Rattle.be_table.specs.Steps.{LookTold, Told, PinnedAt, Unpinned, PinnedRead,
 abbrev pub NoEvent : ℕ → World → World → Type 0
 NoEvent n v w = w ≡ v
 
+-- a look finds the current number
 abbrev pub IsLook : ℕ → ℕ → World → World → Type 0
-IsLook k n v w = MayLook v k × (w ≡ after_look v k)
+IsLook k n v w = MayLook v k × (w ≡ after_look v k) × HasCurrent n v
 
 abbrev pub IsAnnounce : ℕ → ℕ → World → World → Type 0
 IsAnnounce k n v w = MayAnnounce v k × (w ≡ after_announce v k)
 
 abbrev pub IsLookAgain : ℕ → ℕ → World → World → Type 0
-IsLookAgain k n v w = MayLookAgain v k × (w ≡ after_look_again v k)
+IsLookAgain k n v w = MayLookAgain v k × (w ≡ after_look_again v k) × HasCurrent n v
 
 -- a read of a page of the pinned version m finds the word of its image
 abbrev pub IsRead : (k m p i : ℕ) → ℕ → World → World → Type 0
@@ -44,15 +50,16 @@ IsLock k n v w = MatchBool (n == 0) (MayLock v k × (w ≡ after_lock v k)) (w �
 abbrev pub IsUnlock : ℕ → ℕ → World → World → Type 0
 IsUnlock k n v w = MayUnlock v k × (w ≡ after_unlock v)
 
+-- a scan finds the announcement of the pass whose turn it is
 abbrev pub IsScan : (k j : ℕ) → ℕ → World → World → Type 0
-IsScan k j n v w = MayScan v k j × (w ≡ after_scan v j)
+IsScan k j n v w = MayScan v k j × (w ≡ after_scan v j) × (n ≡ announce_word (v.phases j))
 
 abbrev pub IsFill : (k p i word : ℕ) → ℕ → World → World → Type 0
 IsFill k p i word n v w = MayFill v k p i × (w ≡ after_fill v p i word)
 
 -- a page that the write had filled goes back to the free ones
-abbrev pub IsReturn : ℕ → ℕ → World → World → Type 0
-IsReturn p n v w = IsTrue (v.taken p) × (w ≡ after_return v p)
+abbrev pub IsReturn : (k p : ℕ) → ℕ → World → World → Type 0
+IsReturn k p n v w = MayReturn v k p × (w ≡ after_return v p)
 
 abbrev pub IsPublish : (k page : ℕ) → List ℕ → ℕ → World → World → Type 0
 IsPublish k page given n v w = MayPublishAt v k page given × (w ≡ after_publish v given)
@@ -118,7 +125,7 @@ module _ (limits : Limits) (slots id : ℕ) (a : Knowledge) (carried : List (ℕ
   -- a page that the write had filled goes back to the free ones, and else nothing happens
   abbrev pub GiveUpIsNoEvent : Type 0
   GiveUpIsNoEvent = (p : ℕ) → a.writes ≡ true → p < length a.places → IsTrue (is_held_page (place_of a.places p))
-      → AllowsBy limits slots id (a ∷ [], carried) (word_place p 0) (λ n. n) (λ n v w. NoEvent n v w ⊎ IsReturn p n v w) (PageGivenUp (step slots (word_place p 0) 0 0 none) (a ∷ [], carried))
+      → AllowsBy limits slots id (a ∷ [], carried) (word_place p 0) (λ n. n) (λ n v w. MatchBool (shows_taken (place_of a.places p)) (IsReturn a.number p n v w) (NoEvent n v w)) (PageGivenUp (step slots (word_place p 0) 0 0 none) (a ∷ [], carried))
 
   abbrev pub PublishIsItsEvent : Type 0
   PublishIsItsEvent = (e : Entry) (page new : ℕ) → MayPublish limits a e page → new ≡ current_word (length a.seen + 1) page
@@ -157,3 +164,30 @@ JoinIsNoEvent limits id v other w =
 -- there is one seat more, with no pass
 abbrev pub ArrivalIsNoEvent : Limits → Type 0
 ArrivalIsNoEvent limits = (s : State (Option Ledger) (List Knowledge)) (b : Board) → Stands limits s b → StaysShown limits b (with_views s (s.views ++ [] ∷ []))
+
+-- ## The moves
+
+-- an event as moves: a read changes nothing, and is none
+abbrev pub moves_of : Event → List Move
+moves_of (events.Look k) = moves.Look k ∷ []
+moves_of (events.Announce k) = moves.Announce k ∷ []
+moves_of (events.LookAgain k) = moves.LookAgain k ∷ []
+moves_of (events.Read k p i) = []
+moves_of (events.Unpin k) = moves.Unpin k ∷ []
+moves_of (events.Lock k) = moves.Lock k ∷ []
+moves_of (events.Scan k j) = moves.Scan k j ∷ []
+moves_of (events.Fill k p i word) = moves.Fill k p i word ∷ []
+moves_of (events.Publish k page given) = moves.Publish k page given.items ∷ []
+moves_of (events.Unlock k) = moves.Unlock k ∷ []
+
+-- an event that is allowed leads where its moves lead
+abbrev pub EventsAreMoves : Type 0
+EventsAreMoves = (w : World) (e : Event) → Allowed w e → Run w (moves_of e) (after_event w e)
+
+-- wherever moves lead from the start of a table, the machine's invariant holds: no page of a pinned version is free, taken or changed
+abbrev pub RunsAreSound : Type 0
+RunsAreSound = (limits : Limits) (words : ℕ → ℕ → ℕ) (ms : List Move) (w : World) → IsWithin limits → RunsTo limits words ms w → Sound w × Protected w
+
+-- each beginning of a run is a run
+abbrev pub FrontsRun : Type 0
+FrontsRun = (limits : Limits) (words : ℕ → ℕ → ℕ) (front rest : List Move) (w : World) → RunsTo limits words (front ++ rest) w → (mid : World) × RunsTo limits words front mid × Run mid rest w

@@ -13,10 +13,12 @@ use Rattle.be_pages.specs.declared.page_pool.Place.{Place}
 use Rattle.be_table.specs.declared.limits.Limits.{Limits}
 use Rattle.be_table.specs.declared.pass.Commit.{Commit}
 use Rattle.be_table.specs.declared.pass.Knowledge.{Knowledge}
+use Rattle.be_table.specs.declared.pass.Move.{Move}
 use Rattle.be_pages.specs.Place.{is_retired, undone_place}
 use Rattle.be_table.specs.Ledger.{ShowsPlaces}
 use Rattle.be_journal.specs.Journal.{by_pass, replay}
 use Rattle.be_table.specs.History.{StartsWith, AreOfPasses, IsHistory}
+use Rattle.be_table.specs.Trace.{RunsTo, AllRest}
 use Rattle.be_table.specs.Versions.{in_pages, SpellsVolume}
 
 -- what the table shows: the journal with its versions, the machine, and which seat each pass has
@@ -53,6 +55,10 @@ announce_word (Pinned a n) = suc a
 
 abbrev pub current_word : ℕ → ℕ → ℕ
 current_word version page = version * 4294967296 + page
+
+-- the word has the machine's current number
+abbrev pub HasCurrent : ℕ → World → Type 0
+HasCurrent n w = (page : ℕ) × (n ≡ current_word w.current page) × (page < 4294967296)
 
 -- word i of the page p
 abbrev pub word_place : ℕ → ℕ → ℕ
@@ -188,17 +194,42 @@ AllFit limits b seat (a ∷ v) = Fits limits b seat a × IsAbsent a.number v × 
 abbrev pub ViewsFit : Limits → Board → List (List Knowledge) → Type 0
 ViewsFit limits b views = (seat : ℕ) (v : List Knowledge) → get_elem? views seat ≡ some v → AllFit limits b seat v
 
+-- ## The fourth part: the trace
+
+-- The moves lead from the first state to this one, and none after the history of a pass is by it.
+pub record IsTrace (limits : Limits) (w : World) (views : List (List Knowledge)) (trace : List Move) : Type 0 where
+  pub words : ℕ → ℕ → ℕ
+  pub runs : RunsTo limits words trace w
+  pub rests : (seat : ℕ) (v : List Knowledge) → get_elem? views seat ≡ some v → AllRest trace v
+
 pub record Stands (limits : Limits) (s : State (Option Ledger) (List Knowledge)) (b : Board) : Type 0 where
   pub table : ShowsBoard b s
   pub sound : IsSoundBoard limits b
   pub views : ViewsFit limits b s.views
 
 abbrev pub Shows : Limits → State (Option Ledger) (List Knowledge) → Type 0
-Shows limits s = (b : Board) × Stands limits s b
+Shows limits s = (b : Board) × Stands limits s b × ((trace : List Move) × IsTrace limits b.world s.views trace)
+
+-- ## What a history tells
+
+-- the machine is as the pass knows it
+pub record IsAt (a : Knowledge) (w : World) : Type 0 where
+  pub phase : w.phases a.number ≡ a.phase
+  pub writes : a.writes ≡ is_holder w.holder a.number
+  pub holds : a.writes ≡ true → w.holder ≡ Some (known_holder a)
+  pub seen : length a.seen ≤ w.current
+
+-- the machine after the history of the pass is as the pass knows it, and P is so of it
+pub record Reaches (a : Knowledge) (P : World → Type 0) : Type 0 where
+  pub words : ℕ → ℕ → ℕ
+  pub world : World
+  pub runs : RunsTo a.limits words a.history world
+  pub known : IsAt a world
+  pub so : P world
 
 -- a pass that has seen nothing
 abbrev pub newcomer : Limits → ℕ → ℕ → Knowledge
-newcomer limits steps k = record { number = k; limits = limits; seen = []; mine = []; phase = Idle; image = []; writes = false; scanned = 0; least = 0; published = false; places = []; words = []; held = []; holders = []; steps = steps }
+newcomer limits steps k = record { number = k; limits = limits; seen = []; mine = []; phase = Idle; image = []; writes = false; scanned = 0; least = 0; published = false; places = []; words = []; held = []; holders = []; steps = steps; history = [] }
 
 -- the passes from k on, so many
 unfoldable pub newcomers : Limits → ℕ → ℕ → ℕ → List Knowledge

@@ -3,7 +3,7 @@ use Rattle.std.specs.Prelude.{◌≡◌, ◌≢◌, ◌⊎◌, ℕ, zero, suc, �
 use lib.Dec.{ltb}
 use Rattle.atomic_table.specs.Table.{Me, Step}
 use Rattle.be_core.specs.declared.event.Phase.TheVariants.{Idle, Announced, Pinned}
-use Rattle.be_core.specs.Machine.{InTime, phase_after_look, has}
+use Rattle.be_core.specs.Machine.{World, InTime, phase_after_look, has}
 use Rattle.be_journal.specs.declared.entries.Entry.{Entry}
 use Rattle.be_table.specs.declared.ledger.Ledger.{Ledger}
 use Rattle.be_pages.specs.declared.page_pool.Place.{Place}
@@ -13,13 +13,16 @@ use Rattle.be_volume.specs.declared.ops.Op.{Op}
 use Rattle.be_table.specs.declared.limits.Limits.{Limits}
 use Rattle.be_table.specs.declared.pass.Commit.{Commit}
 use Rattle.be_table.specs.declared.pass.Knowledge.{Knowledge}
+use Rattle.be_table.specs.declared.pass.Move.{Move}
+use Rattle.be_table.specs.declared.pass.Move.TheVariants.{Look, Announce, LookAgain, Unpin, Lock, Scan, Fill, Publish, Unlock, Return}
 use Rattle.be_pages.specs.Place.{retired_at, swept_place, is_in_hand, given_place, published_place, place_of, undone_place}
-use Rattle.be_table.specs.Ledger.{shows_taken, shows_free, is_of_next}
+use Rattle.be_table.specs.Ledger.{shows_taken, shows_free, is_of_next, is_given}
 use Rattle.be_journal.specs.Journal.{HasOperations, Agrees, by_pass, replay}
 use Rattle.be_table.specs.History.{StartsWith, AreOfPasses, IsHistory}
 use Rattle.be_table.specs.Reading.{standing_among, word_of_page}
 use Rattle.be_table.specs.Versions.{at_start, CanSpellEach, SpellsVolume}
-use Rattle.be_table.specs.Rule.{announce_word, ledger_places, LeftAreRetired, IsWithin, AreInside, OwnPages, pass_of, one_step_on, current_word, page_at, reach_at, entries, word_place}
+use Rattle.be_table.specs.Trace.{RunsTo, Makes, with_history}
+use Rattle.be_table.specs.Rule.{Reaches, HasCurrent, announce_word, ledger_places, LeftAreRetired, IsWithin, AreInside, OwnPages, pass_of, one_step_on, current_word, page_at, reach_at, entries, word_place}
 
 -- what is always so of a pass
 pub record IsPass (a : Knowledge) : Type 0 where
@@ -268,7 +271,7 @@ PageGivenUp st m n r = let a = pass_of m.0 in (p : ℕ) → st.word ≡ word_pla
 
 -- the pass s is what a became by j announcements of a scan, of which this is the least
 pub record IsPart (passes : ℕ) (a s : Knowledge) (j least : ℕ) : Type 0 where
-  pub same : s ≡ record a { scanned = s.scanned; least = s.least; places = s.places; held = s.held; steps = s.steps }
+  pub same : s ≡ record a { scanned = s.scanned; least = s.least; places = s.places; held = s.held; steps = s.steps; history = s.history }
   pub turn : j < passes → s.scanned ≡ j
   pub waits : j < passes → s.places ≡ a.places
   pub whole : j ≡ passes → (s.scanned ≡ 0) × (s.places ≡ map (swept_place least) a.places) × (s.held ≡ pages_from is_in_hand 0 a.places) × UnreachedAreFree s
@@ -289,3 +292,80 @@ NoneRetiredLater a = (q : ℕ) → retired_at a.places q ≤ length a.seen
 
 abbrev pub Published : Entry → ℕ → Step (Option Ledger) → Me (Option Ledger) (List Knowledge) → ℕ → Me (Option Ledger) (List Knowledge) → Type 0
 Published e v st m n r = let a = pass_of m.0 in (r ≡ (publishes a e v ∷ [], m.1)) × IsPass (publishes a e v) × NoneRetiredLater a
+
+-- ## The moves of the steps
+
+-- A step makes this move: the history of the pass ends with it, the machine is then as the pass knows it, and the rest is told of the pass with this history
+abbrev pub Moving : Move → (World → Type 0) → (Me (Option Ledger) (List Knowledge) → Me (Option Ledger) (List Knowledge) → Type 0) → Me (Option Ledger) (List Knowledge) → Me (Option Ledger) (List Knowledge) → Type 0
+Moving move so told m r =
+    let a = pass_of m.0 in (h : List Move) × Makes a.number a.history (move ∷ []) h × Reaches (pass_of r.0) so × told (with_history a h ∷ [], m.1) r
+
+abbrev pub LookMoves : Step (Option Ledger) → Me (Option Ledger) (List Knowledge) → ℕ → Me (Option Ledger) (List Knowledge) → Type 0
+LookMoves st m n r = Moving (Look (pass_of m.0).number) (HasCurrent n) (λ m r. LookTold st m n r) m r
+
+abbrev pub AnnounceMoves : Step (Option Ledger) → Me (Option Ledger) (List Knowledge) → ℕ → Me (Option Ledger) (List Knowledge) → Type 0
+AnnounceMoves st m n r = Moving (Announce (pass_of m.0).number) (λ w. Unit {0}) (λ m r. Told st m n r) m r
+
+abbrev pub LookAgainMoves : Step (Option Ledger) → Me (Option Ledger) (List Knowledge) → ℕ → Me (Option Ledger) (List Knowledge) → Type 0
+LookAgainMoves st m n r = Moving (LookAgain (pass_of m.0).number) (HasCurrent n) (λ m r. PinnedAt st m n r) m r
+
+abbrev pub UnpinMoves : Step (Option Ledger) → Me (Option Ledger) (List Knowledge) → ℕ → Me (Option Ledger) (List Knowledge) → Type 0
+UnpinMoves st m n r = Moving (Unpin (pass_of m.0).number) (λ w. Unit {0}) (λ m r. Unpinned st m n r) m r
+
+-- a try that finds the lock held is no move
+abbrev pub LockMoves : Step (Option Ledger) → Me (Option Ledger) (List Knowledge) → ℕ → Me (Option Ledger) (List Knowledge) → Type 0
+LockMoves st m n r = MatchBool (n == 0) (Moving (Lock (pass_of m.0).number) (λ w. Unit {0}) Gets m r) (LockIsHeld m n r)
+
+-- the number found is the announcement of the pass whose turn it is
+abbrev pub ScanMoves : Step (Option Ledger) → Me (Option Ledger) (List Knowledge) → ℕ → Me (Option Ledger) (List Knowledge) → Type 0
+ScanMoves st m n r = let a = pass_of m.0 in Moving (Scan a.number a.scanned) (λ w. n ≡ announce_word (w.phases a.scanned)) (λ m r. Scanned st m n r) m r
+
+abbrev pub FillMoves : Step (Option Ledger) → Me (Option Ledger) (List Knowledge) → ℕ → Me (Option Ledger) (List Knowledge) → Type 0
+FillMoves st m n r =
+    let a = pass_of m.0 in (p i : ℕ) → st.word ≡ word_place p i → i < 512
+    → (h : List Move) × Makes a.number a.history (Fill a.number p i n ∷ []) h × (r ≡ (fills (with_history a h) p i n ∷ [], m.1))
+
+abbrev pub FoundFillMoves : Step (Option Ledger) → Me (Option Ledger) (List Knowledge) → ℕ → Me (Option Ledger) (List Knowledge) → Type 0
+FoundFillMoves st m n r = FillMoves st m n r × (n ≡ slice_index (pass_of m.0).words st.word)
+
+-- a word of a page is filled with what is there, and then with x where that is another
+abbrev pub fill_moves : Knowledge → ℕ → ℕ → ℕ → List Move
+fill_moves a p i x = let found = slice_index a.words (word_place p i) in Fill a.number p i found ∷ (if found == x then [] else Fill a.number p i x ∷ [])
+
+-- a page that the write had filled goes back to the free ones, and of another that is given up the machine knows nothing yet
+abbrev pub given_moves : Knowledge → ℕ → List Move
+given_moves a p = if shows_taken (place_of a.places p) then Return a.number p ∷ [] else []
+
+abbrev pub GiveUpMoves : Step (Option Ledger) → Me (Option Ledger) (List Knowledge) → ℕ → Me (Option Ledger) (List Knowledge) → Type 0
+GiveUpMoves st m n r =
+    let a = pass_of m.0 in (p : ℕ) → st.word ≡ word_place p 0
+    → (h : List Move) × Makes a.number a.history (given_moves a p) h × (r ≡ (gives_up (with_history a h) p ∷ [], m.1))
+
+-- the pages that the write gives up
+abbrev pub given_of : Knowledge → List ℕ
+given_of a = pages_from is_given 0 a.places
+
+abbrev pub PublishMoves : Entry → ℕ → Step (Option Ledger) → Me (Option Ledger) (List Knowledge) → ℕ → Me (Option Ledger) (List Knowledge) → Type 0
+PublishMoves e v st m n r = let a = pass_of m.0 in Moving (Publish a.number v (given_of a)) (λ w. Unit {0}) (λ m r. Published e v st m n r) m r
+
+abbrev pub UnlockMoves : Step (Option Ledger) → Me (Option Ledger) (List Knowledge) → ℕ → Me (Option Ledger) (List Knowledge) → Type 0
+UnlockMoves st m n r = Moving (Unlock (pass_of m.0).number) (λ w. Unit {0}) (λ m r. Unlocked st m n r) m r
+
+-- the scans of the pass k, up to the announcement before the j-th
+abbrev pub scans_of : ℕ → ℕ → List Move
+scans_of k zero = []
+scans_of k (suc j) = scans_of k j ++ Scan k j ∷ []
+
+-- The j-th of the scans that the pass k made after `before` finds this word: it is the announcement of the pass j in the machine after the moves up to that scan.
+pub record FoundAt (limits : Limits) (k : ℕ) (before after : List Move) (j word : ℕ) : Type 0 where
+  pub upto : List Move
+  pub front : StartsWith after upto
+  pub scans : Makes k before (scans_of k (suc j)) upto
+  pub words : ℕ → ℕ → ℕ
+  pub world : World
+  pub runs : RunsTo limits words upto world
+  pub found : word ≡ announce_word (world.phases j)
+
+-- each of these words is found by its scan
+abbrev pub AreFound : Limits → ℕ → List Move → List Move → List ℕ → Type 0
+AreFound limits k before after found = (j : ℕ) → j < length found → FoundAt limits k before after j (slice_index found j)

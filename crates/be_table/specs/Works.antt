@@ -4,6 +4,8 @@ use Rattle.atomic_table.specs.Seated.{TableId}
 use Rattle.be_journal.specs.declared.entries.Entry.{Entry}
 use Rattle.be_table.specs.declared.limits.Limits.{Limits}
 use Rattle.be_table.specs.declared.pass.Knowledge.{Knowledge}
+use Rattle.be_table.specs.declared.pass.Move.{Move}
+use Rattle.be_table.specs.declared.pass.Move.TheVariants.{Look, LookAgain, Lock}
 use Rattle.be_core.specs.Machine.{has}
 use Rattle.be_core.specs.declared.event.Phase.TheVariants.{Announced}
 use Rattle.be_value.specs.declared.refusals.Refusal.{Refusal}
@@ -15,8 +17,9 @@ use Rattle.be_table.specs.Place.{SeatFacts, Opened, Work}
 use Rattle.be_table.specs.Reading.{standing_among, word_of_page}
 use Rattle.be_table.specs.Versions.{at_start, SpellsVolume}
 use Rattle.be_journal.specs.Journal.{replay}
-use Rattle.be_table.specs.Rule.{AreBad, IsWithin, entries, page_at, reach_at, newcomer}
-use Rattle.be_table.specs.Steps.{Has, AllIdle, KeepsSeen, IsPass, looks, finds_held, takes_lock, pins, takes_page, scans_all, IsLeastAnnounced, IsOwnLeast, pages_from, UnreachedAreFree, NoCommitReaches}
+use Rattle.be_table.specs.Trace.{Makes, with_history}
+use Rattle.be_table.specs.Rule.{Reaches, AreBad, IsWithin, entries, page_at, reach_at, newcomer}
+use Rattle.be_table.specs.Steps.{Has, AllIdle, KeepsSeen, IsPass, looks, finds_held, takes_lock, pins, takes_page, scans_all, IsLeastAnnounced, IsOwnLeast, pages_from, UnreachedAreFree, NoCommitReaches, AreFound, scans_of}
 
 -- a seat of this table
 abbrev pub IsSeatOf : Opened → SeatFacts → Type 0
@@ -38,17 +41,29 @@ AllAt id (s ∷ ss) = ((s.blank ≡ false) × (s.table ≡ id)) × AllAt id ss
 abbrev pub knows_of : SeatFacts → Knowledge
 knows_of s = s.knows
 
+-- from a to c the pass has made these moves, in this order, and the machine is then as it knows it
+pub record Moves (a : Knowledge) (own : List Move) (c : Knowledge) : Type 0 where
+  pub made : Makes a.number a.history own c.history
+  pub at : Reaches c (λ w. Unit {0})
+
+-- the same, where the pass has seen the journal up to the current number
+pub record MovesNow (a : Knowledge) (own : List Move) (c : Knowledge) : Type 0 where
+  pub made : Makes a.number a.history own c.history
+  pub at : Reaches c (λ w. w.current ≡ length c.seen)
+
 -- the pass has looked: it has seen a journal that contains what it had seen
 pub record SeesMore (a c : Knowledge) : Type 0 where
   pub more : StartsWith c.seen a.seen
-  pub same : c ≡ looks a c.seen
+  pub moves : MovesNow a (Look a.number ∷ []) c
+  pub same : c ≡ looks (with_history a c.history) c.seen
   pub pass : IsPass c
 
 -- the same, and it now holds the lock
 pub record TakesLock (a c : Knowledge) : Type 0 where
   pub before : IsPass a
   pub more : StartsWith c.seen a.seen
-  pub same : c ≡ takes_lock a c.seen c.places c.words
+  pub moves : Moves a (Lock a.number ∷ []) c
+  pub same : c ≡ takes_lock (with_history a c.history) c.seen c.places c.words
   pub idle : map undone_place c.places ≡ c.places
   pub begun : (q : ℕ) → standing_among c.places q ≡ at_start (has (reach_at c.seen (length c.seen)) q)
   pub spelt : SpellsVolume (reach_at c.seen (length c.seen)) (word_of_page c.words) (page_at c.seen (length c.seen)) (replay (entries c.seen))
@@ -57,7 +72,8 @@ pub record TakesLock (a c : Knowledge) : Type 0 where
 -- the pass, which had announced x, is pinned at the current number
 pub record PinsCurrent (a c : Knowledge) : Type 0 where
   pub more : StartsWith c.seen a.seen
-  pub same : (x : ℕ) × (a.phase ≡ Announced x) × (c ≡ pins a x c.seen c.image)
+  pub moves : MovesNow a (LookAgain a.number ∷ []) c
+  pub same : (x : ℕ) × (a.phase ≡ Announced x) × (c ≡ pins (with_history a c.history) x c.seen c.image)
   pub pass : IsPass c
 
 -- the pass made one try, which found that another pass of the table holds the lock; the refusal names that pass
@@ -70,14 +86,16 @@ HasNoRoom r a = ((r ≡ CommitsSpent) × (length a.seen ≡ a.limits.commits)) �
 
 -- the write has made a whole scan, with this least
 pub record MakesScan (old new : Work) (least : ℕ) : Type 0 where
-  pub by : (found : List ℕ) × (length found ≡ old.knows.limits.passes) × (new.knows ≡ scans_all old.knows found) × IsLeastAnnounced (length old.knows.seen) found least
+  pub by : (found : List ℕ) × (length found ≡ old.knows.limits.passes) × (new.knows ≡ with_history (scans_all old.knows found) new.knows.history) × IsLeastAnnounced (length old.knows.seen) found least
+      × AreFound old.knows.limits old.knows.number old.knows.history new.knows.history found
+  pub moves : Makes old.knows.number old.knows.history (scans_of old.knows.number old.knows.limits.passes) new.knows.history
   pub least_is : new.knows.least ≡ least
   pub own : IsOwnLeast old.knows least
   pub places : new.knows.places ≡ map (swept_place least) old.knows.places
   pub held : new.knows.held ≡ pages_from is_in_hand 0 old.knows.places
   pub leaves : UnreachedAreFree new.knows
   pub left : new.left ≡ count_by is_retired new.knows.places
-  pub same : new ≡ record old { knows = record old.knows { scanned = 0; least = least; places = new.knows.places; held = new.knows.held; steps = new.knows.steps }; left = new.left }
+  pub same : new ≡ record old { knows = record old.knows { scanned = 0; least = least; places = new.knows.places; held = new.knows.held; steps = new.knows.steps; history = new.knows.history }; left = new.left }
 
 -- no page is free
 abbrev pub HasNoFree : Work → Type 0

@@ -12,7 +12,7 @@ ghost use Rattle.be_table.specs.declared.pass.Knowledge.{Knowledge};
 ghost use Rattle.be_table.specs.Laws.{LookIsItsEvent, AnnounceIsItsEvent, LookAgainIsItsEvent, UnpinIsItsEvent, PinnedReadIsItsEvent};
 ghost use Rattle.be_table.specs.Laws.{LockIsItsEvent, ScanIsItsEvent, FillIsItsEvent, FoundFillIsItsEvent, OwnReadIsNoEvent, TakeIsNoEvent};
 ghost use Rattle.be_table.specs.Laws.{GiveUpIsNoEvent, PublishIsItsEvent, UnlockIsItsEvent, CompareIsNoEvent, SplitIsNoEvent};
-ghost use Rattle.be_table.specs.Laws.{JoinIsNoEvent, ArrivalIsNoEvent};
+ghost use Rattle.be_table.specs.Laws.{JoinIsNoEvent, ArrivalIsNoEvent, EventsAreMoves, RunsAreSound, FrontsRun};
 
 /// A load of the current number is Look.
 pub fn look()
@@ -103,4 +103,16 @@ pub fn join()
 /// The load by which a seat with no pass is made is no event.
 pub fn arrive()
     ensures { (limits : Limits) → ArrivalIsNoEvent limits }
+{}
+
+/// The moves of a trace are the events of the machine, but for a read, which changes nothing and isn't among them.
+pub fn events_are_moves()
+    ensures { EventsAreMoves }
+{}
+
+/// Wherever the moves of a trace lead, no page of a pinned version is free, taken or changed; and each beginning of them
+/// led somewhere.
+pub fn runs()
+    ensures sound { RunsAreSound }
+    ensures fronts { FrontsRun }
 {}

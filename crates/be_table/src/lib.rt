@@ -24,10 +24,11 @@
 //! of the whole journal.
 //!
 //! # What is proved
-//! Between any two steps one rule holds (`specs/Rule.antt`), in three parts: the words and the slot show a state of
+//! Between any two steps one rule holds (`specs/Rule.antt`), in four parts: the words and the slot show a state of
 //! be_core's machine and the journal; the journal is legal, each version spells its volume, and the machine's invariant
-//! holds; what each pass knows is so. Each step keeps it. That it is the event of the machine that `laws` names is seen in
-//! its proof, by the lemma that the law has too; no clause of a call names its event.
+//! holds; what each pass knows is so; and the trace, a list of moves of the machine, leads from its first state to the one
+//! that is shown (`specs/Trace.antt`). Each step keeps it. A pass knows the trace up to its own last move as its history,
+//! so the contract of a call names the events that its steps are.
 #![tactic(auto)]
 
 mod deal;

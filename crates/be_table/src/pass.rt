@@ -16,6 +16,25 @@ pub struct Commit {
     pub reach: LinkedList<u64>,
 }
 
+/// A move of the reclamation machine, by the pass that is its first number: one of its events, or the holder's return of
+/// a page. A read changes nothing there, so it isn't among them.
+pub enum Move {
+    Look(u64),
+    Announce(u64),
+    LookAgain(u64),
+    Unpin(u64),
+    Lock(u64),
+    /// Reads the announcement of the second pass.
+    Scan(u64, u64),
+    /// Writes a word to a page at a place.
+    Fill(u64, u64, u64, u64),
+    /// Publishes a version page, and gives up the pages of the list.
+    Publish(u64, u64, LinkedList<u64>),
+    Unlock(u64),
+    /// A page that the write had filled goes back to the free ones.
+    Return(u64, u64),
+}
+
 pub struct Knowledge {
     pub number: u64,
     /// The limits of the table.
@@ -44,6 +63,8 @@ pub struct Knowledge {
     pub holders: LinkedList<u64>,
     /// The number of its steps on words.
     pub steps: u64,
+    /// The moves of the machine, of all passes, up to its own last one.
+    pub history: LinkedList<Move>,
 }
 
 /// The knowledge of one pass, of several while seats are cut or joined, or of none.

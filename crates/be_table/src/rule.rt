@@ -4,8 +4,8 @@
 //! its pass is the definition that its name carries.
 ghost use Rattle.std.specs.Prelude.{[]};
 ghost use Rattle.be_table.specs.Rule.{Shows, everyone, first_seat, other_seats, seats_together};
-ghost use Rattle.be_table.specs.Steps.{LookTold, Locked, Unlocked, Compared, Arrived, Told, PinnedAt, Unpinned, Scanned, PinnedRead};
-ghost use Rattle.be_table.specs.Steps.{OwnRead, FilledAt, FilledFound, PageTaken, PageGivenUp, Published};
+ghost use Rattle.be_table.specs.Steps.{LookMoves, LockMoves, UnlockMoves, Compared, Arrived, AnnounceMoves, LookAgainMoves, UnpinMoves};
+ghost use Rattle.be_table.specs.Steps.{ScanMoves, PinnedRead, OwnRead, FillMoves, FoundFillMoves, PageTaken, GiveUpMoves, PublishMoves};
 
 use crate::ledger::Ledger;
 use crate::limits::Limits;
@@ -24,19 +24,19 @@ impl TableRule<Option<Ledger>, View, Limits> for Law {
 pub(crate) struct Look;
 
 impl Play<Option<Ledger>, View> for Look {
-    ghost then = { LookTold };
+    ghost then = { LookMoves };
 }
 
 pub(crate) struct Lock;
 
 impl Play<Option<Ledger>, View> for Lock {
-    ghost then = { Locked };
+    ghost then = { LockMoves };
 }
 
 pub(crate) struct Unlock;
 
 impl Play<Option<Ledger>, View> for Unlock {
-    ghost then = { Unlocked };
+    ghost then = { UnlockMoves };
 }
 
 /// The first pass of the view gets a seat of its own.
@@ -71,25 +71,25 @@ impl Play<Option<Ledger>, View> for Arrive {
 pub(crate) struct Announce;
 
 impl Play<Option<Ledger>, View> for Announce {
-    ghost then = { Told };
+    ghost then = { AnnounceMoves };
 }
 
 pub(crate) struct LookAgain;
 
 impl Play<Option<Ledger>, View> for LookAgain {
-    ghost then = { PinnedAt };
+    ghost then = { LookAgainMoves };
 }
 
 pub(crate) struct Unpin;
 
 impl Play<Option<Ledger>, View> for Unpin {
-    ghost then = { Unpinned };
+    ghost then = { UnpinMoves };
 }
 
 pub(crate) struct Scan;
 
 impl Play<Option<Ledger>, View> for Scan {
-    ghost then = { Scanned };
+    ghost then = { ScanMoves };
 }
 
 pub(crate) struct PinnedWord;
@@ -107,14 +107,14 @@ impl Play<Option<Ledger>, View> for OwnWord {
 pub(crate) struct Fill;
 
 impl Play<Option<Ledger>, View> for Fill {
-    ghost then = { FilledAt };
+    ghost then = { FillMoves };
 }
 
 /// A load that fills a word with what is there.
 pub(crate) struct FoundFill;
 
 impl Play<Option<Ledger>, View> for FoundFill {
-    ghost then = { FilledFound };
+    ghost then = { FoundFillMoves };
 }
 
 pub(crate) struct TakePage;
@@ -126,7 +126,7 @@ impl Play<Option<Ledger>, View> for TakePage {
 pub(crate) struct GiveUp;
 
 impl Play<Option<Ledger>, View> for GiveUp {
-    ghost then = { PageGivenUp };
+    ghost then = { GiveUpMoves };
 }
 
 /// The entry and the version page that a publishing step tells. Each call picks them.
@@ -150,5 +150,5 @@ pub(crate) struct Publish<E> {
 }
 
 impl<E: NextVersion> Play<Option<Ledger>, View> for Publish<E> {
-    ghost then = { Published E.entry E.page };
+    ghost then = { PublishMoves E.entry E.page };
 }

@@ -59,12 +59,14 @@ impl Model for VersionTable {
 }
 
 impl VersionTable {
-    ghost use Rattle.be_table.specs.Works.{IsSeatOf, SeesMore, TakesLock, FoundHeld, PinsCurrent, AreNew, IsOpenRefused, AllAt, knows_of};
+    ghost use Rattle.be_table.specs.Works.{IsSeatOf, SeesMore, TakesLock, FoundHeld, PinsCurrent, Moves, AreNew, IsOpenRefused, AllAt, knows_of};
     ghost use Rattle.be_table.specs.Steps.{announces, unpins, met, longer, Has, KeepsSeen};
     ghost use Rattle.be_core.specs.declared.event.Phase.TheVariants.{Pinned};
     ghost use Rattle.be_journal.specs.Journal.{IsLegal, replay};
     ghost use Rattle.be_table.specs.Reading.{pinned_standing, word_of_page};
     ghost use Rattle.be_table.specs.Rule.{IsWithin, entries};
+    ghost use Rattle.be_table.specs.Trace.{with_history};
+    ghost use Rattle.be_table.specs.declared.pass.Move.TheVariants as moves;
     ghost use Rattle.be_table.specs.History.{StartsWith, AreOfPasses};
     ghost use Rattle.std.specs.Prelude.{[], ◌∷◌, take};
     ghost use Rattle.be_table.specs.Versions.{at_start, CanSpellEach};
@@ -141,7 +143,8 @@ impl VersionTable {
         requires seat { IsSeatOf self.now seat.old }
         requires looked { seat.old.knows.phase ≡ Phase.Looked number }
         ensures seat { IsSeatOf self.now seat.new }
-        ensures pass { seat.new.knows ≡ announces seat.old.knows number }
+        ensures pass { seat.new.knows ≡ announces (with_history seat.old.knows seat.new.knows.history) number }
+        ensures moves { Moves seat.old.knows (moves.Announce seat.old.knows.number ∷ []) seat.new.knows }
     {
         let (mut base, marks) = seat.move_out().into_base();
         let word = ANNOUNCE + 8 * marks.number as usize;
@@ -176,7 +179,8 @@ impl VersionTable {
         requires seat { IsSeatOf self.now seat.old }
         requires pinned { (x : ℕ) × (n : ℕ) × (seat.old.knows.phase ≡ Phase.Pinned x n) }
         ensures seat { IsSeatOf self.now seat.new }
-        ensures pass { seat.new.knows ≡ unpins seat.old.knows }
+        ensures pass { seat.new.knows ≡ unpins (with_history seat.old.knows seat.new.knows.history) }
+        ensures moves { Moves seat.old.knows (moves.Unpin seat.old.knows.number ∷ []) seat.new.knows }
     {
         let (mut base, mut marks) = seat.move_out().into_base();
         let word = ANNOUNCE + 8 * marks.number as usize;

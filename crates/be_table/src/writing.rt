@@ -9,7 +9,11 @@ ghost use Rattle.be_volume.specs.Sound.{IsOperation};
 ghost use Rattle.be_pages.specs.declared.room.Standing.TheVariants.{Taken, Filled as Full};
 ghost use Rattle.be_table.specs.Reading.{standing_among};
 ghost use Rattle.be_pages.specs.Place.{is_in_hand, is_held_page, is_retired, place_of, given_place};
-ghost use Rattle.be_table.specs.Rule.{announce_word, pass_of, one_step_on, word_place, current_word};
+ghost use Rattle.be_table.specs.Rule.{Reaches, announce_word, pass_of, one_step_on, word_place, current_word};
+ghost use Rattle.be_table.specs.Trace.{Makes, with_history};
+ghost use Rattle.be_table.specs.Works.{Moves};
+ghost use Rattle.be_table.specs.Steps.{AreFound, fill_moves, given_moves, given_of, scans_of};
+ghost use Rattle.be_table.specs.declared.pass.Move.TheVariants as moves;
 ghost use Rattle.be_table.specs.Steps.{NoneRetiredLater, IsPass, IsFound, MayPublish, publishes, MayBeFilled, MayReadAnnouncement, IsPart, fills_word};
 ghost use Rattle.be_table.specs.Steps.{takes_page, gives_up, scans, scans_out, scans_all, least_found, IsLeastAnnounced, IsOwnLeast, UnreachedAreFree};
 
@@ -123,7 +127,8 @@ impl<'a> Writing<'a> {
         requires open { self.old.knows.published ≡ false }
         requires taken { (page < length self.old.knows.places) × IsTrue (is_in_hand (place_of self.old.knows.places page)) }
         requires place { i < 512 }
-        ensures write { self.new ≡ record self.old { knows = fills_word self.old.knows page i word } }
+        ensures write { self.new ≡ record self.old { knows = fills_word (with_history self.old.knows self.new.knows.history) page i word } }
+        ensures moves { Makes self.old.knows.number self.old.knows.history (fill_moves self.old.knows page i word) self.new.knows.history }
         ensures inside { word_place page i < length self.old.knows.words }
     {
         fill_word(self.table, &mut self.base, page, i, word);
@@ -135,7 +140,8 @@ impl<'a> Writing<'a> {
     pub fn give_up(&mut self, page: u64)
         requires open { self.old.knows.published ≡ false }
         requires held { (page < length self.old.knows.places) × IsTrue (is_held_page (place_of self.old.knows.places page)) }
-        ensures write { self.new ≡ record self.old { knows = gives_up self.old.knows page } }
+        ensures write { self.new ≡ record self.old { knows = gives_up (with_history self.old.knows self.new.knows.history) page } }
+        ensures moves { Makes self.old.knows.number self.old.knows.history (given_moves self.old.knows page) self.new.knows.history }
     {
         // The load tells that the page is given up.
         let table = self.table;
@@ -235,7 +241,11 @@ impl<'a> Writing<'a> {
         requires volume { IsVersion (standing_among self.old.knows.places) (word_of_page self.old.knows.words)
             page (state_after (replay (entries self.old.knows.seen)) ops.now) }
         requires exact { (q : ℕ) → times q (reach (word_of_page self.old.knows.words) page) ≡ bit (is_kept (standing_among self.old.knows.places q)) }
-        ensures write { self.new ≡ record self.old { knows = publishes self.old.knows (entry_by self.old.knows ops.now dones.now) page; reserved = 0 } }
+        ensures write { self.new ≡ record self.old {
+          knows = publishes (with_history self.old.knows self.new.knows.history) (entry_by self.old.knows ops.now dones.now) page;
+          reserved = 0;
+        } }
+        ensures moves { Moves self.old.knows (moves.Publish self.old.knows.number page (given_of self.old.knows) ∷ []) self.new.knows }
         ensures result { result ≡ length self.new.knows.seen }
     {
         all_valid(ops);
@@ -253,7 +263,8 @@ impl<'a> Writing<'a> {
     /// Gives the ledger and the lock back. What wasn't published is undone. One store.
     pub fn unlock(self) -> Seat
         ensures seat { IsSeatOf self.entry.table result }
-        ensures pass { result.knows ≡ without_lock self.entry.knows }
+        ensures pass { result.knows ≡ without_lock (with_history self.entry.knows result.knows.history) }
+        ensures moves { Moves self.entry.knows (moves.Unlock self.entry.knows.number ∷ []) result.knows }
     {
         let Writing {
             table,
@@ -295,8 +306,10 @@ fn store_version<E: NextVersion>(
     requires pass { (base.old.me.0 ≡ pass_of base.old.me.0 ∷ []) × MayPublish table.now.limits (pass_of base.old.me.0) E.entry page }
     requires word { word ≡ current_word (length (pass_of base.old.me.0).seen + 1) page }
     ensures seat { (base.new.table_id ≡ base.old.table_id) × (base.new.id ≡ base.old.id) }
-    ensures me { base.new.me ≡ (publishes (pass_of base.old.me.0) E.entry page ∷ [], base.old.me.1) }
-    ensures pass { IsPass (publishes (pass_of base.old.me.0) E.entry page) }
+    ensures me { base.new.me ≡ (publishes (with_history (pass_of base.old.me.0) (pass_of base.new.me.0).history) E.entry page ∷ [], base.old.me.1) }
+    ensures moves { Moves (pass_of base.old.me.0) (moves.Publish (pass_of base.old.me.0).number page (given_of (pass_of base.old.me.0)) ∷ [])
+        (pass_of base.new.me.0) }
+    ensures pass { IsPass (pass_of base.new.me.0) }
     ensures newest { NoneRetiredLater (pass_of base.old.me.0) }
 {
     table.table.shared.store::<Publish<E>>(base, CURRENT, word)
@@ -324,7 +337,9 @@ fn fill_word(table: &VersionTable, base: &mut Base, page: u64, i: usize, word: u
     requires page { (page < table.now.limits.pages) × MayBeFilled (pass_of base.old.me.0).places page }
     requires place { i < 512 }
     ensures seat { (base.new.table_id ≡ base.old.table_id) × (base.new.id ≡ base.old.id) }
-    ensures me { base.new.me ≡ (fills_word (pass_of base.old.me.0) page i word ∷ [], base.old.me.1) }
+    ensures me { base.new.me ≡ (fills_word (with_history (pass_of base.old.me.0) (pass_of base.new.me.0).history) page i word ∷ [], base.old.me.1) }
+    ensures moves { Makes (pass_of base.old.me.0).number (pass_of base.old.me.0).history (fill_moves (pass_of base.old.me.0) page i word)
+        (pass_of base.new.me.0).history }
 {
     let shared = &table.table.shared;
     let at = PAGES + 512 * page as usize + i;
@@ -339,7 +354,10 @@ fn read_announcement(table: &VersionTable, base: &mut Base, pass: u64) -> u64
     requires seat { base.old.table_id ≡ table.now.id }
     requires pass { MayReadAnnouncement table.now.limits base.old.me pass }
     ensures seat { (base.new.table_id ≡ base.old.table_id) × (base.new.id ≡ base.old.id) }
-    ensures me { base.new.me ≡ (scans (pass_of base.old.me.0) result ∷ [], base.old.me.1) }
+    ensures me { base.new.me ≡ (scans (with_history (pass_of base.old.me.0) (pass_of base.new.me.0).history) result ∷ [], base.old.me.1) }
+    ensures moves { Makes (pass_of base.old.me.0).number (pass_of base.old.me.0).history
+        (moves.Scan (pass_of base.old.me.0).number (pass_of base.old.me.0).scanned ∷ []) (pass_of base.new.me.0).history }
+    ensures found { Reaches (pass_of base.new.me.0) (λ w. result ≡ announce_word (w.phases (pass_of base.old.me.0).scanned)) }
     ensures leaves { suc (pass_of base.old.me.0).scanned ≡ (pass_of base.old.me.0).limits.passes → UnreachedAreFree (scans_out (pass_of base.old.me.0) result) }
     ensures own { (pass_of base.old.me.0).scanned ≡ (pass_of base.old.me.0).number → result ≡ announce_word (pass_of base.old.me.0).phase }
 {
@@ -366,7 +384,11 @@ fn read_all(table: &VersionTable, base: &mut Base, current: u64) -> u64
     requires current { ((pass_of base.old.me.0).limits ≡ table.now.limits) × (current ≡ length (pass_of base.old.me.0).seen) }
     ensures seat { (base.new.table_id ≡ base.old.table_id) × (base.new.id ≡ base.old.id) }
     ensures me { (found : List ℕ) × (length found ≡ table.now.limits.passes)
-        × (base.new.me ≡ (scans_all (pass_of base.old.me.0) found ∷ [], base.old.me.1)) × IsLeastAnnounced current found result }
+        × (base.new.me ≡ (with_history (scans_all (pass_of base.old.me.0) found) (pass_of base.new.me.0).history ∷ [], base.old.me.1))
+        × IsLeastAnnounced current found result
+        × AreFound (pass_of base.old.me.0).limits (pass_of base.old.me.0).number (pass_of base.old.me.0).history (pass_of base.new.me.0).history found }
+    ensures moves { Makes (pass_of base.old.me.0).number (pass_of base.old.me.0).history
+        (scans_of (pass_of base.old.me.0).number table.now.limits.passes) (pass_of base.new.me.0).history }
     ensures part { IsPart table.now.limits.passes (pass_of base.old.me.0) (pass_of base.new.me.0) table.now.limits.passes result }
     ensures own { IsOwnLeast (pass_of base.old.me.0) result }
 {

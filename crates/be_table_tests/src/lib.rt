@@ -4,4 +4,14 @@
 #![tactic(auto)]
 
 #[cfg(test)]
+mod calls;
+#[cfg(test)]
+mod races;
+#[cfg(test)]
+mod reads;
+#[cfg(test)]
+mod room;
+#[cfg(test)]
 mod tests;
+#[cfg(test)]
+mod writes;

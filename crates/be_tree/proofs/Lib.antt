@@ -11,3 +11,4 @@ pub mod Shape
 pub mod Putting
 pub mod Removing
 pub mod Reading
+pub mod Searching

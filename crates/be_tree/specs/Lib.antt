@@ -7,3 +7,4 @@ pub mod Stop
 pub mod Range
 pub mod Cursor
 pub mod Forest
+pub mod Words

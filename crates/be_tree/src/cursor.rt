@@ -15,14 +15,14 @@ ghost use Rattle.be_tree.specs.Cursor.{IsCursor, IsPath, IsPlace, pairs_along, p
 ghost use Rattle.be_tree.specs.Page.{IsItem, IsPage, item_at, items_of};
 ghost use Rattle.be_tree.specs.Range.{pair_in, pairs_from};
 ghost use Rattle.be_tree.specs.Tree.{IsTree, IsTreeAt, pairs, pairs_at};
+ghost use Rattle.be_tree.specs.Words.{AreFirst};
 
-use crate::lookup::rank;
-use crate::page::{HEADER_WORDS, ITEM_WORDS, child_at, cmp_at};
+use crate::lookup::{rank_by, search};
+use crate::page::{FirstWords, HEADER_WORDS, ITEM_WORDS, child_at, first_words};
 use crate::payload::fill_payload;
 use crate::walk::{TreeItem, fill_key, key_at};
 use arrayvec::ArrayVec;
 use be_pages::Look;
-use std::cmp::Ordering;
 
 /// A place in a page of a level: the number of the item that comes next. It is kept small, since a cursor has room for 14.
 #[derive(Clone, Copy)]
@@ -72,10 +72,11 @@ impl Cursor {
         if root == 0 {
             return;
         }
+        let words = first_words(from);
         let mut page = root - 1;
         let mut level = look.word(page, 0);
         while level > 0 {
-            let at = rank(look, page, from).saturating_sub(1);
+            let at = rank_by(look, page, from, words).saturating_sub(1);
             let child = child_at(look, page, HEADER_WORDS + ITEM_WORDS * at);
             self.path.push(Place {
                 page: page as u32,
@@ -85,7 +86,7 @@ impl Cursor {
             page = child;
             level -= 1;
         }
-        let next = leaf_from(look, page, from, after);
+        let next = leaf_from(look, page, from, words, after);
         self.path.push(Place {
             page: page as u32,
             next: next as u8,
@@ -145,16 +146,18 @@ impl Cursor {
         None
     }
 
-    /// The page and the place of the item that comes next, and a step past it. Nothing of the item is read.
-    pub fn step<L: Look>(&mut self, look: &mut L) -> Option<(u64, usize)>
+    /// Takes the place of the pair that comes next off the path: a place in a leaf, which has an item left.
+    fn take_place<L: Look>(&mut self, look: &mut L) -> Option<Place>
         requires cursor { IsCursor (L.standing look.old) (L.words look.old) self.old }
         ensures none { IfNone result (remaining (L.words look.old) self.old ≡ []) }
-        ensures item { IfSome result (λ at. slice_get (remaining (L.words look.old) self.old) 0 ≡ Some (item_at (L.words look.old at.0) at.1)) }
-        ensures readable { IfSome result (λ at. IsTrue (is_readable (L.standing look.old at.0))) }
-        ensures in_page { IfSome result (λ at. at.1 + 42 ≤ 512) }
-        ensures fits { IfSome result (λ at. IsItem (L.words look.old at.0) at.1) }
+        ensures empty { IfNone result (remaining (L.words look.old) self.new ≡ []) }
+        ensures place { IfSome result (IsPlace (L.standing look.old) (L.words look.old)) }
+        ensures leaf { IfSome result (λ place. place.level ≡ 0) }
+        ensures left { IfSome result (λ place. place.next < L.words look.old place.page 1) }
+        ensures short { IfSome result (λ place. place.level + length self.new.path.items ≤ 13) }
+        ensures parts { IfSome result (λ place. remaining (L.words look.old) self.old
+            ≡ pairs_past (L.words look.old) place ++ remaining (L.words look.old) self.new) }
         ensures cursor { IsCursor (L.standing look.old) (L.words look.old) self.new }
-        ensures remaining { remaining (L.words look.old) self.new ≡ drop 1 (remaining (L.words look.old) self.old) }
         ensures unchanged { IsUnchanged L.kept L.standing L.words look.old look.new }
     {
         let mut place = self.pop_spent(look)?;
@@ -174,6 +177,22 @@ impl Cursor {
                 level: place.level - 1,
             };
         }
+        Some(place)
+    }
+
+    /// The page and the place of the item that comes next, and a step past it. Nothing of the item is read.
+    pub fn step<L: Look>(&mut self, look: &mut L) -> Option<(u64, usize)>
+        requires cursor { IsCursor (L.standing look.old) (L.words look.old) self.old }
+        ensures none { IfNone result (remaining (L.words look.old) self.old ≡ []) }
+        ensures item { IfSome result (λ at. slice_get (remaining (L.words look.old) self.old) 0 ≡ Some (item_at (L.words look.old at.0) at.1)) }
+        ensures readable { IfSome result (λ at. IsTrue (is_readable (L.standing look.old at.0))) }
+        ensures in_page { IfSome result (λ at. at.1 + 42 ≤ 512) }
+        ensures fits { IfSome result (λ at. IsItem (L.words look.old at.0) at.1) }
+        ensures cursor { IsCursor (L.standing look.old) (L.words look.old) self.new }
+        ensures remaining { remaining (L.words look.old) self.new ≡ drop 1 (remaining (L.words look.old) self.old) }
+        ensures unchanged { IsUnchanged L.kept L.standing L.words look.old look.new }
+    {
+        let place = self.take_place(look)?;
         self.path.push(Place {
             next: place.next + 1,
             ..place
@@ -183,19 +202,33 @@ impl Cursor {
             HEADER_WORDS + ITEM_WORDS * place.next as usize,
         ))
     }
+
+    /// The leaf of the pair that comes next, with the number of the pair's item in it, and a step past all of the leaf's pairs.
+    pub(crate) fn step_leaf<L: Look>(&mut self, look: &mut L) -> Option<(u64, usize)>
+        requires cursor { IsCursor (L.standing look.old) (L.words look.old) self.old }
+        ensures none { IfNone result (remaining (L.words look.old) self.old ≡ []) }
+        ensures leaf { IfSome result (λ at. IsTreeAt 0 1 (L.standing look.old) (L.words look.old) at.0) }
+        ensures left { IfSome result (λ at. at.1 < L.words look.old at.0 1) }
+        ensures parts { IfSome result (λ at. remaining (L.words look.old) self.old
+            ≡ drop at.1 (items_of (L.words look.old at.0)) ++ remaining (L.words look.old) self.new) }
+        ensures cursor { IsCursor (L.standing look.old) (L.words look.old) self.new }
+        ensures unchanged { IsUnchanged L.kept L.standing L.words look.old look.new }
+    {
+        let place = self.take_place(look)?;
+        Some((place.page as u64, place.next as usize))
+    }
 }
 
 /// How many of a leaf's items stand before the pairs at or after a key.
-fn leaf_from<L: Look>(look: &mut L, page: u64, from: &[u8], after: bool) -> usize
+fn leaf_from<L: Look>(look: &mut L, page: u64, from: &[u8], words: FirstWords, after: bool) -> usize
     requires tree { IsTreeAt 0 1 (L.standing look.old) (L.words look.old) page }
+    requires words { AreFirst from.now words }
     ensures in_range { result ≤ length (items_of (L.words look.old page)) }
     ensures rest { drop result (items_of (L.words look.old page)) ≡ pairs_from (items_of (L.words look.old page)) from.now after }
     ensures unchanged { IsUnchanged L.kept L.standing L.words look.old look.new }
 {
-    let at = rank(look, page, from).saturating_sub(1);
-    match cmp_at(look, page, HEADER_WORDS + ITEM_WORDS * at, from) {
-        Ordering::Less => at + 1,
-        Ordering::Equal => if after { at + 1 } else { at },
-        Ordering::Greater => at,
+    match search(look, page, from, words) {
+        Ok(at) => if after { at + 1 } else { at },
+        Err(at) => at,
     }
 }

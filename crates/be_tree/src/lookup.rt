@@ -3,17 +3,17 @@
 //! On each level the items of one page are asked one after the other, where they stand, up to the first whose key is
 //! greater. A page has 12 at most, mostly their first words decide, and a processor reads ahead along them, while the steps
 //! of a binary search wait for each other.
-ghost use Rattle.std.specs.Prelude.{◌≡◌, [], ◌+◌, ◌-◌, ◌<◌, ◌≤◌, true, false, length, map, slice_index, option_map, is_some, IfNone, IfSome, None, Some};
+ghost use Rattle.std.specs.Prelude.{◌≡◌, [], ◌+◌, ◌-◌, ◌<◌, ◌≤◌, true, false, length, option_map, is_some, IfNone, IfSome, IfOk, IfErr, None, Some};
 ghost use Rattle.std.specs.Prelude.{IsTrue};
-ghost use Rattle.std.specs.Int.{to_be_bytes, w64};
-ghost use Rattle.std.specs.List.{range_with_len};
 ghost use Rattle.std.specs.Ordering.{is_eq, is_gt};
 ghost use Rattle.be_pages.specs.Pages.{IsUnchanged, is_readable};
-ghost use Rattle.be_tree.specs.Page.{IsItem, IsPage, item_at, items_of};
-ghost use Rattle.be_tree.specs.Key.{IsRank, key_cmp, payload_at};
+ghost use Rattle.std.specs.declared.cmp.Ordering.TheVariants.{Equal};
+ghost use Rattle.be_tree.specs.Page.{IsItem, IsPage, item_at, item_place, items_of};
+ghost use Rattle.be_tree.specs.Key.{IsGap, IsRank, key_cmp, payload_at};
+ghost use Rattle.be_tree.specs.Words.{AreFirst};
 ghost use Rattle.be_tree.specs.Tree.{IsTree, pairs};
 
-use crate::page::{HEADER_WORDS, ITEM_WORDS, child_at, cmp_at, word_from};
+use crate::page::{FirstWords, HEADER_WORDS, ITEM_WORDS, child_at, cmp_at, first_words, least_of};
 use crate::payload::fill_payload;
 use arrayvec::ArrayVec;
 use be_pages::Look;
@@ -78,17 +78,17 @@ pub fn find_place<L: Look>(look: &mut L, root: u64, key: &[u8]) -> Option<(u64, 
     if root == 0 {
         return None;
     }
+    let words = first_words(key);
     let mut page = root - 1;
     let mut level = look.word(page, 0);
     while level > 0 {
-        let at = rank(look, page, key).saturating_sub(1);
+        let at = rank_by(look, page, key, words).saturating_sub(1);
         page = child_at(look, page, HEADER_WORDS + ITEM_WORDS * at);
         level -= 1;
     }
-    let at = rank(look, page, key).saturating_sub(1);
-    match cmp_at(look, page, HEADER_WORDS + ITEM_WORDS * at, key) {
-        Ordering::Equal => Some((page, HEADER_WORDS + ITEM_WORDS * at)),
-        Ordering::Less | Ordering::Greater => None,
+    match search(look, page, key, words) {
+        Ok(at) => Some((page, HEADER_WORDS + ITEM_WORDS * at)),
+        Err(_) => None,
     }
 }
 
@@ -110,31 +110,105 @@ pub(crate) fn rank<L: Look>(look: &mut L, page: u64, key: &[u8]) -> usize
     ensures rank { IsRank key.now (items_of (L.words look.old page)) result }
     ensures unchanged { IsUnchanged L.kept L.standing L.words look.old look.new }
 {
-    let first = word_from(key, 0);
+    rank_by(look, page, key, first_words(key))
+}
+
+/// The same of a key whose first words are at hand.
+pub(crate) fn rank_by<L: Look>(look: &mut L, page: u64, key: &[u8], words: FirstWords) -> usize
+    requires readable { IsTrue (is_readable (L.standing look.old page)) }
+    requires page { IsPage (L.words look.old page) }
+    requires words { AreFirst key.now words }
+    ensures rank { IsRank key.now (items_of (L.words look.old page)) result }
+    ensures unchanged { IsUnchanged L.kept L.standing L.words look.old look.new }
+{
     let count = look.word(page, 1) as usize;
     for at in 0..count {
-        if is_above(look, page, HEADER_WORDS + ITEM_WORDS * at, key, first) {
+        if is_above(look, page, HEADER_WORDS + ITEM_WORDS * at, key, words) {
             return at;
         }
     }
     count
 }
 
-/// Whether the key of the item at a place is greater than a key whose first word is at hand.
-fn is_above<L: Look>(look: &mut L, page: u64, at: usize, key: &[u8], first: u64) -> bool
+/// Where a key stands among a page's items: the number of the item that has it, or how many have lesser keys.
+pub(crate) fn search<L: Look>(
+    look: &mut L,
+    page: u64,
+    key: &[u8],
+    words: FirstWords,
+) -> Result<usize, usize>
+    requires readable { IsTrue (is_readable (L.standing look.old page)) }
+    requires page { IsPage (L.words look.old page) }
+    requires words { AreFirst key.now words }
+    ensures found { IfOk result (λ at. at < L.words look.old page 1) }
+    ensures same { IfOk result (λ at. key_cmp (item_at (L.words look.old page) (item_place at)).key key.now ≡ Equal) }
+    ensures absent { IfErr result (IsGap key.now (items_of (L.words look.old page))) }
+    ensures unchanged { IsUnchanged L.kept L.standing L.words look.old look.new }
+{
+    let count = look.word(page, 1) as usize;
+    for at in 0..count {
+        let order = order_at(look, page, HEADER_WORDS + ITEM_WORDS * at, key, words);
+        if order.is_eq() {
+            return Ok(at);
+        }
+        if order.is_gt() {
+            return Err(at);
+        }
+    }
+    Err(count)
+}
+
+/// Whether the key of the item at a place is greater than a key whose first words are at hand.
+pub(crate) fn is_above<L: Look>(
+    look: &mut L,
+    page: u64,
+    at: usize,
+    key: &[u8],
+    words: FirstWords,
+) -> bool
     requires readable { IsTrue (is_readable (L.standing look.old page)) }
     requires in_page { at + 42 ≤ 512 }
     requires item { IsItem (L.words look.old page) at }
-    requires first { to_be_bytes w64 first ≡ map (λ k. slice_index key.now k) (range_with_len 0 8) }
+    requires words { AreFirst key.now words }
     ensures above { result ≡ is_gt (key_cmp (item_at (L.words look.old page) at).key key.now) }
     ensures unchanged { IsUnchanged L.kept L.standing L.words look.old look.new }
 {
-    let len = look.word(page, at) >> 32;
-    if len >= 8 {
-        let mine = look.word(page, at + 1);
-        if mine != first {
-            return mine.cmp(&first).is_gt();
-        }
+    order_at(look, page, at, key, words).is_gt()
+}
+
+/// How the key of the item at a place compares with a key whose first words are at hand: mostly these decide.
+fn order_at<L: Look>(look: &mut L, page: u64, at: usize, key: &[u8], words: FirstWords) -> Ordering
+    requires readable { IsTrue (is_readable (L.standing look.old page)) }
+    requires in_page { at + 42 ≤ 512 }
+    requires item { IsItem (L.words look.old page) at }
+    requires words { AreFirst key.now words }
+    ensures order { result ≡ key_cmp (item_at (L.words look.old page) at).key key.now }
+    ensures unchanged { IsUnchanged L.kept L.standing L.words look.old look.new }
+{
+    let len = (look.word(page, at) >> 32) as usize;
+    if len < 8 {
+        return cmp_at(look, page, at, key);
     }
-    cmp_at(look, page, at, key).is_gt()
+    let mine = look.word(page, at + 1);
+    if mine != words.first {
+        return mine.cmp(&words.first);
+    }
+    let common = least_of(len, key.len());
+    if common < 8 {
+        return cmp_at(look, page, at, key);
+    }
+    if common == 8 {
+        return len.cmp(&key.len());
+    }
+    let rest = least_of(common - 8, 8);
+    let second = look.word(page, at + 2);
+    let mine_rest = second >> (64 - 8 * rest);
+    let other_rest = words.second >> (64 - 8 * rest);
+    if mine_rest != other_rest {
+        return mine_rest.cmp(&other_rest);
+    }
+    if common > 16 {
+        return cmp_at(look, page, at, key);
+    }
+    len.cmp(&key.len())
 }

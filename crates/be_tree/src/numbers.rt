@@ -1,16 +1,20 @@
 //! The numbers that keys end with.
 //!
 //! An index has a key for each of its entries, whose last eight bytes tell whose entry it is. A reader who wants just that of a
-//! range of keys gets it here: the words of each key are compared with the bound where they stand, and no key is unpacked.
-ghost use Rattle.std.specs.Prelude.{◌≡◌, ◌+◌, ◌≤◌, ◌++◌, false, IsTrue, OnOk, length};
+//! range of keys gets it here: the words of each key are compared with the bound where they stand, and no key is unpacked. Of the
+//! leaves after the first, the last key is compared before the others: where it isn't above the bound, none of its leaf is.
+ghost use Rattle.std.specs.Prelude.{◌≡◌, ◌+◌, ◌<◌, ◌≤◌, ◌++◌, false, IsTrue, IfOk, OnOk, length, drop};
+ghost use Rattle.std.specs.List.{list_any};
 ghost use Rattle.std.specs.Option.{option_copied};
 ghost use Rattle.be_pages.specs.Pages.{IsUnchanged, is_readable};
-ghost use Rattle.be_tree.specs.Page.{IsItem, item_at};
+ghost use Rattle.be_tree.specs.Cursor.{IsCursor, remaining};
+ghost use Rattle.be_tree.specs.Page.{IsItem, item_at, items_of};
 ghost use Rattle.be_tree.specs.Range.{AreLong, HasFirst, is_past, number_of, numbers_to, pairs_from};
-ghost use Rattle.be_tree.specs.Tree.{IsTree, pairs};
+ghost use Rattle.be_tree.specs.Tree.{IsTree, IsTreeAt, pairs};
 
 use crate::cursor::Cursor;
-use crate::page::{cmp_at, number_behind};
+use crate::lookup::is_above;
+use crate::page::{HEADER_WORDS, ITEM_WORDS, first_words, number_behind};
 use be_pages::Look;
 use std::alloc::AllocError;
 
@@ -33,14 +37,92 @@ pub fn numbers_within<L: Look>(
 {
     let mut cursor = Cursor::new();
     cursor.seek(look, root, low, false);
-    'pairs: while let Some((page, at)) = cursor.step(look) {
-        if is_past_at(look, page, at, high) {
+    let Some((page, from)) = cursor.step_leaf(look) else {
+        return Ok(());
+    };
+    let is_last = push_to(look, page, from, high, found)?;
+    if is_last {
+        return Ok(());
+    }
+    push_rest(look, &mut cursor, high, found)
+}
+
+/// Adds the numbers of the keys that a cursor has still to give, up to the bound, leaf by leaf.
+fn push_rest<L: Look>(
+    look: &mut L,
+    cursor: &mut Cursor,
+    high: Option<&[u8]>,
+    found: &mut Vec<u64>,
+) -> Result<(), AllocError>
+    requires cursor { IsCursor (L.standing look.old) (L.words look.old) cursor.old }
+    requires long { AreLong (remaining (L.words look.old) cursor.old) }
+    ensures first { HasFirst found.old.items (numbers_to (remaining (L.words look.old) cursor.old) (option_copied high.entry)) found.new.items }
+    ensures found { OnOk result (found.new.items
+        ≡ found.old.items ++ numbers_to (remaining (L.words look.old) cursor.old) (option_copied high.entry)) }
+    ensures unchanged { IsUnchanged L.kept L.standing L.words look.old look.new }
+{
+    'leaves: while let Some((page, from)) = cursor.step_leaf(look) {
+        let is_last = push_leaf(look, page, from, high, found)?;
+        if is_last {
             return Ok(());
         }
-        let number = number_at(look, page, at);
-        found.push(number)?;
     }
     Ok(())
+}
+
+/// Adds the numbers of a leaf's keys, from the item of a number on, up to the bound, and tells whether a key is above it. If the last
+/// key isn't, no other is compared.
+fn push_leaf<L: Look>(
+    look: &mut L,
+    page: u64,
+    from: usize,
+    high: Option<&[u8]>,
+    found: &mut Vec<u64>,
+) -> Result<bool, AllocError>
+    requires leaf { IsTreeAt 0 1 (L.standing look.old) (L.words look.old) page }
+    requires left { from < L.words look.old page 1 }
+    requires long { AreLong (drop from (items_of (L.words look.old page))) }
+    ensures first { HasFirst found.old.items (numbers_to (drop from (items_of (L.words look.old page))) (option_copied high.entry)) found.new.items }
+    ensures found { OnOk result (found.new.items
+        ≡ found.old.items ++ numbers_to (drop from (items_of (L.words look.old page))) (option_copied high.entry)) }
+    ensures past { IfOk result (λ past. past ≡ list_any (λ x. is_past (option_copied high.entry) x.key) (drop from (items_of (L.words look.old page)))) }
+    ensures unchanged { IsUnchanged L.kept L.standing L.words look.old look.new }
+{
+    let count = look.word(page, 1) as usize;
+    if is_past_at(look, page, HEADER_WORDS + ITEM_WORDS * (count - 1), high) {
+        push_to(look, page, from, high, found)
+    } else {
+        push_to(look, page, from, None, found)
+    }
+}
+
+/// Adds the numbers of a leaf's keys, from the item of a number on, up to the bound, and tells whether a key is above it.
+fn push_to<L: Look>(
+    look: &mut L,
+    page: u64,
+    from: usize,
+    high: Option<&[u8]>,
+    found: &mut Vec<u64>,
+) -> Result<bool, AllocError>
+    requires leaf { IsTreeAt 0 1 (L.standing look.old) (L.words look.old) page }
+    requires left { from < L.words look.old page 1 }
+    requires long { AreLong (drop from (items_of (L.words look.old page))) }
+    ensures first { HasFirst found.old.items (numbers_to (drop from (items_of (L.words look.old page))) (option_copied high.entry)) found.new.items }
+    ensures found { OnOk result (found.new.items
+        ≡ found.old.items ++ numbers_to (drop from (items_of (L.words look.old page))) (option_copied high.entry)) }
+    ensures past { IfOk result (λ past. past ≡ list_any (λ x. is_past (option_copied high.entry) x.key) (drop from (items_of (L.words look.old page)))) }
+    ensures unchanged { IsUnchanged L.kept L.standing L.words look.old look.new }
+{
+    let count = look.word(page, 1) as usize;
+    for at in from..count {
+        let place = HEADER_WORDS + ITEM_WORDS * at;
+        if is_past_at(look, page, place, high) {
+            return Ok(true);
+        }
+        let number = number_at(look, page, place);
+        found.push(number)?;
+    }
+    Ok(false)
 }
 
 /// Whether the key of the item at a place is above the bound.
@@ -52,7 +134,7 @@ fn is_past_at<L: Look>(look: &mut L, page: u64, at: usize, high: Option<&[u8]>) 
     ensures unchanged { IsUnchanged L.kept L.standing L.words look.old look.new }
 {
     match high {
-        Some(high) => cmp_at(look, page, at, high).is_gt(),
+        Some(high) => is_above(look, page, at, high, first_words(high)),
         None => false,
     }
 }

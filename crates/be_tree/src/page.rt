@@ -10,6 +10,7 @@ ghost use Rattle.std.specs.Prelude.{◌^◌, ◌⊎◌};
 ghost use Rattle.be_tree.specs.declared.slot.Slot.TheVariants.{At};
 ghost use Rattle.be_tree.specs.Slot.{IsBeside, IsReady, branch_to, pair_of, pairs_of};
 ghost use Rattle.be_tree.specs.Key.{key_cmp};
+ghost use Rattle.be_tree.specs.Words.{AreFirst};
 ghost use Rattle.be_tree.specs.Tree.{child};
 
 use crate::item::Item;
@@ -100,7 +101,7 @@ pub(crate) fn cmp_at<L: Look>(look: &mut L, page: u64, at: usize, key: &[u8]) ->
 }
 
 /// The lesser of two numbers.
-fn least_of(a: usize, b: usize) -> usize
+pub(crate) fn least_of(a: usize, b: usize) -> usize
     ensures at_most { (result ≤ a) × (result ≤ b) }
     ensures one { (result ≡ a) ⊎ (result ≡ b) }
 {
@@ -170,6 +171,17 @@ fn whole_word(bytes: &[u8], from: usize) -> u64
     ])
 }
 
+/// The bytes from one of the last seven on, as a word, with zeros past the end: the last eight in one load, moved up.
+fn last_word(bytes: &[u8], from: usize) -> u64
+    requires some { 8 ≤ length bytes.now }
+    requires within { from < length bytes.now }
+    requires past { length bytes.now < from + 8 }
+    ensures { to_be_bytes w64 result ≡ map (λ k. slice_index bytes.now k) (range_with_len from 8) }
+{
+    let last = bytes.len() - 8;
+    whole_word(bytes, last) << (8 * (from - last))
+}
+
 /// The eight bytes from a place on, as a word, with zeros past the end.
 pub(crate) fn word_from(bytes: &[u8], from: usize) -> u64
     requires { from ≤ 328 }
@@ -177,6 +189,9 @@ pub(crate) fn word_from(bytes: &[u8], from: usize) -> u64
 {
     if from + 8 <= bytes.len() {
         return whole_word(bytes, from);
+    }
+    if bytes.len() >= 8 && from < bytes.len() {
+        return last_word(bytes, from);
     }
     u64::from_be_bytes([
         byte_or_zero(bytes, from),
@@ -188,6 +203,23 @@ pub(crate) fn word_from(bytes: &[u8], from: usize) -> u64
         byte_or_zero(bytes, from + 6),
         byte_or_zero(bytes, from + 7),
     ])
+}
+
+/// The first two words of a key, with zeros behind a short one. A descent makes them once.
+#[derive(Clone, Copy)]
+pub(crate) struct FirstWords {
+    pub(crate) first: u64,
+    pub(crate) second: u64,
+}
+
+/// The first two words of a key.
+pub(crate) fn first_words(key: &[u8]) -> FirstWords
+    ensures { AreFirst key.now result }
+{
+    FirstWords {
+        first: word_from(key, 0),
+        second: word_from(key, 8),
+    }
 }
 
 /// Writes bytes into the words from a place on, of a page that has a word filled, eight in a word, and zeros after the

@@ -13,6 +13,7 @@ ghost use Rattle.be_store.specs.History.{Pins};
 ghost use Rattle.be_store.specs.Passes.{HasRead, volume_pinned};
 ghost use Rattle.be_table.specs.Seats.{pinned_number};
 ghost use Rattle.be_table.specs.Steps.{unpins};
+ghost use Rattle.be_table.specs.Trace.{with_history};
 ghost use Rattle.be_volume.specs.Reading.{attributes_at, index_kinds};
 ghost use Rattle.bestore_c.specs.Calls.{AnswersWhetherOpen, Calls, Explains, Finds, FindsBuilt, FindsPrepared, GivesAnother, Listed, MovesHandle, Opens};
 ghost use Rattle.bestore_c.specs.Calls.{Prepares, Reads, RefreshesPrepared, ShowsChanges, TellsJournal, WritesSpelled};
@@ -187,7 +188,7 @@ pub extern "C" fn bes_pin(pass: &mut Handle, number: &mut u64) -> u32
 #[unsafe(no_mangle)]
 pub extern "C" fn bes_unpin(pass: &mut Handle) -> u32
     ensures pass { Calls pass.old.owned.value pass.new.owned.value result
-        (λ s t. ((result ≡ 0) × (t.knows ≡ unpins s.knows)) ⊎ ((result ≡ 66) × (t ≡ s) × (pinned_number s.knows.phase ≡ None))) }
+        (λ s t. ((result ≡ 0) × (t.knows ≡ unpins (with_history s.knows t.knows.history))) ⊎ ((result ≡ 66) × (t ≡ s) × (pinned_number s.knows.phase ≡ None))) }
 {
     if !pass.live {
         return CLOSED;

@@ -23,9 +23,7 @@ fn first_letters<R: AllocGlobal>(rt: &R) -> Result<(Vec<u64>, Journal), Refusal>
     store.apply(&mut pass, &[index, Op::New, sender])?;
 
     let query = parse(rt.alloc(), "MAIL:from==A*")?;
-    store.pin(&mut pass);
-    let answer = store.query(rt.alloc(), &mut pass, &query)?;
-    store.unpin(&mut pass);
+    let answer = store.pinned(&mut pass).query(rt.alloc(), &query)?;
 
     passes.push(pass)?;
     Ok((answer.nodes, store.close(passes)))

@@ -1,14 +1,15 @@
 -- A number whose eight bytes stand in two words.
-use Rattle.std.proofs.Common.{◌≡◌, ℕ, zero, suc, ◌+◌, ◌-◌, ◌*◌, ◌/◌, ◌%◌, ◌^◌, ◌<◌, ◌≤◌, List, [], ◌∷◌, ◌++◌, length, map, take, drop, ap, sym, subst, ◌∙◌, refl, arith, pow-add}
+use Rattle.std.proofs.Common.{◌≡◌, ℕ, zero, suc, ◌+◌, ◌-◌, ◌*◌, ◌/◌, ◌%◌, ◌^◌, ◌<◌, ◌≤◌, List, [], ◌∷◌, ◌++◌, length, map, take, drop, get_or, ap, sym, subst, ◌∙◌, refl, arith, pow-add}
 use Rattle.std.specs.Int.{byte_at, bytes_high_first, from_be_bytes, to_be_bytes, w32, w64}
 use Rattle.std.specs.List.{flat_map, range_with_len}
-use Rattle.std.proofs.Math.Nat.{add-mul-div_right, add-mul-mod_self_right, add-mul, div-add-mod, div-div-eq-div-mul, div-lt_iff_lt-mul, mul_assoc, mul_comm, pow-suc}
-use Rattle.std.proofs.Math.Seq.{take-append-add}
-use Rattle.std.proofs.lemmas.List.{append-nil, drop-append-le, drop-take, length-drop}
+use Rattle.std.proofs.Math.Nat.{add-mul-div_right, add-mul-mod_self_right, add-mul, div-add-mod, div-div-eq-div-mul, div-lt_iff_lt-mul, mul_assoc, mul_comm, pow-suc, zero-div}
+use Rattle.std.proofs.Math.Seq.{drop-append_seam, take-append-add}
+use Rattle.std.proofs.lemmas.List.{append-nil, drop-append-le, drop-take, get_or_past, length-drop}
+use Rattle.std.proofs.lemmas.List.FromFn.{length-map-range_with_len, take-map-range_with_len}
 use Rattle.std.proofs.lemmas.Nat.{div-mul-add, from_be_bytes-to_be_bytes_4, from_be_bytes-to_be_bytes_8, mod-mul-add, mul-add-lt, pow_pos}
 use Rattle.be_tree.specs.Page.{bytes_at, words_for}
 use Rattle.be_tree.proofs.Bytes.Words.{byte_is, pow256}
-use Rattle.be_tree.proofs.Codec.{bytes_at_prefix, word_bytes}
+use Rattle.be_tree.proofs.Codec.{bytes_at_prefix, map_range_append, map_same, word_bytes}
 
 rejoined : (n m : ℕ) → n / m * m + n % m ≡ n
 rejoined n m = ap (λ (k : ℕ). k + n % m) (mul_comm (n / m) m) ∙ div-add-mod n m
@@ -197,3 +198,33 @@ four_of_one w from r le =
     ∙ low)
     ∙ from_be_bytes-to_be_bytes_4 (y % 2 ^ 32) fits
     ∙ ap (λ (n : ℕ). n % 2 ^ 32) shift
+
+-- a range without its first places
+drop_map_range : (f : ℕ → ℕ) (a s n : ℕ) → drop s (map f (range_with_len a (s + n))) ≡ map f (range_with_len (a + s) n)
+drop_map_range f a s n =
+    let front = map f (range_with_len a s) in
+    let len : s ≡ length front = sym (length-map-range_with_len f a s) in
+    ap (drop s) (map_range_append f a s n)
+    ∙ ap (λ (k : ℕ). drop k (front ++ map f (range_with_len (a + s) n))) len
+    ∙ drop-append_seam front (map f (range_with_len (a + s) n))
+
+past_zeros : (bs : List ℕ) (a n : ℕ) → length bs ≤ a → map (λ (k : ℕ). get_or bs k 0) (range_with_len a n) ≡ map (λ (k : ℕ). 0) (range_with_len a n)
+past_zeros bs a n le = map_same (λ (k : ℕ). get_or bs k 0) (λ (k : ℕ). 0) a n (λ k ge lt. get_or_past bs k 0 (omega (arith, le, ge)))
+
+-- the last eight bytes, moved up with zeros behind them
+pub moved_up : (bs : List ℕ) (x from s last : ℕ) → last + 8 ≡ length bs → last + s ≡ from → 0 < s → s < 8 → to_be_bytes w64 x ≡ map (λ (k : ℕ). get_or bs k 0) (range_with_len last 8)
+    → to_be_bytes w64 (x * 2 ^ (8 * s) % 2 ^ 64) ≡ map (λ (k : ℕ). get_or bs k 0) (range_with_len from 8)
+moved_up bs x from s last end place some lt bytes =
+    let b = λ (k : ℕ). get_or bs k 0 in
+    let sixteen : 8 + 8 ≡ s + (16 - s) = omega (arith, lt) in
+    let none : x * 2 ^ (8 * s) % 2 ^ 64 ≡ x * 2 ^ (8 * s) % 2 ^ 64 + 0 / 2 ^ (64 - 8 * s) = omega (arith, zero-div (2 ^ (64 - 8 * s))) in
+    let zeros : to_be_bytes w64 0 ≡ map b (range_with_len (last + 8) 8) = sym (past_zeros bs (last + 8) 8 (omega (arith, end))) in
+    ap (to_be_bytes w64) none
+    ∙ sym (straddled_is x 0 s lt (omega arith))
+    ∙ ap (λ (xs : List ℕ). take 8 (drop s (xs ++ to_be_bytes w64 0))) bytes
+    ∙ ap (λ (ys : List ℕ). take 8 (drop s (map b (range_with_len last 8) ++ ys))) zeros
+    ∙ ap (λ (zs : List ℕ). take 8 (drop s zs)) (sym (map_range_append b last 8 8))
+    ∙ ap (λ (n : ℕ). take 8 (drop s (map b (range_with_len last n)))) sixteen
+    ∙ ap (take 8) (drop_map_range b last s (16 - s))
+    ∙ take-map-range_with_len b (last + s) (16 - s) 8 (omega (arith, lt))
+    ∙ ap (λ (a : ℕ). map b (range_with_len a 8)) place

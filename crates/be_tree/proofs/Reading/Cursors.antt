@@ -48,6 +48,12 @@ module _ (standing : ℕ → Standing) (words : ℕ → ℕ → ℕ) (path : Lis
     short = λ i d lt. subst (λ (p : Place). p.level + i ≤ 13) (get_or_append_left path (place ∷ []) d i lt) (is_path.short i d (omega (arith, lt, length-append path (place ∷ []))));
   }
 
+pub nothing_past : (xs : List Pair) (i : ℕ) → length xs ≤ i → drop i xs ≡ []
+nothing_past [] zero le = refl
+nothing_past [] (suc i) le = refl
+nothing_past (x ∷ xs) zero le = absurd (omega (arith, le))
+nothing_past (x ∷ xs) (suc i) le = nothing_past xs i (omega (arith, le))
+
 -- nothing stands past a place at its page's end
 pub past_end : (words : ℕ → ℕ → ℕ) (place : Place) → length (items_of (words place.page)) ≤ place.next → pairs_past words place ≡ []
 past_end words place end = ap (λ xs. pairs_below place.level words xs) (nothing_past (items_of (words place.page)) place.next end) ∙ none place.level
@@ -55,12 +61,6 @@ past_end words place end = ap (λ xs. pairs_below place.level words xs) (nothing
     none : (level : ℕ) → pairs_below level words [] ≡ []
     none zero = refl
     none (suc level) = refl
-
-    nothing_past : (xs : List Pair) (i : ℕ) → length xs ≤ i → drop i xs ≡ []
-    nothing_past [] zero le = refl
-    nothing_past [] (suc i) le = refl
-    nothing_past (x ∷ xs) zero le = absurd (omega (arith, le))
-    nothing_past (x ∷ xs) (suc i) le = nothing_past xs i (omega (arith, le))
 
 -- an item's place in a page
 module _ (standing : ℕ → Standing) (words : ℕ → ℕ → ℕ) (level least page next : ℕ) (tree : IsTreeAt level least standing words page) (lt : next < words page 1) where
@@ -80,6 +80,12 @@ module _ (standing : ℕ → Standing) (words : ℕ → ℕ → ℕ) (level leas
   -- the pair at a place of a leaf stands before those past it
   pub leaf_step : level ≡ 0 → pairs_below level words (drop next (items_of (words page))) ≡ item_at (words page) (item_place next) ∷ pairs_below level words (drop (next + 1) (items_of (words page)))
   leaf_step e = subst (λ l. pairs_below l words (drop next (items_of (words page))) ≡ item_at (words page) (item_place next) ∷ pairs_below l words (drop (next + 1) (items_of (words page)))) (sym e) at_rest
+
+-- the pairs from a place of a leaf on: the item there, and the others
+pub step_parts : (standing : ℕ → Standing) (words : ℕ → ℕ → ℕ) (place : Place) (all rest : List Pair) → IsPlace standing words place → place.next < words place.page 1 → place.level ≡ 0
+    → all ≡ pairs_past words place ++ rest
+    → all ≡ item_at (words place.page) (item_place place.next) ∷ (pairs_below place.level words (drop (place.next + 1) (items_of (words place.page))) ++ rest)
+step_parts standing words place all rest is lt leaf e = e ∙ ap (λ xs. xs ++ rest) (leaf_step standing words place.level 1 place.page place.next is.tree lt leaf)
 
 -- what the branch at a place of an inner node leads to
 pub record LeadsDown (level below : ℕ) (standing : ℕ → Standing) (words : ℕ → ℕ → ℕ) (page next : ℕ) (branch : Pair) : Type 0 where

@@ -33,7 +33,7 @@ returns-clause-has g c =
     on_ok c.walk.result (λ within. has_reached g.volume f c.args.pick (comparison_of c.in-Some.comparison.now) c.in-Some-kind_of.kind low high c.walk.new.found.items
     (g.met.S.Source.sound c.args.source.now g.volume c.requires.1.1.1.0) (there_in f part c.args.pick c.args.from stands ∙ sym c.in-Some.ensures)
     (sym (c.in-Some-kind_of.ensures.answer g.volume c.requires.1.1.1.0))
-    (λ v n p h. c.narrow_all.ensures.keeps v n p (stands.under.allows c.args.pick c.in-Some.comparison.now.name v stands.first stands.last h) (c.whole-range.ensures (key v n))) within)
+    (λ v n p h. c.narrow_all.ensures.keeps v n p (stands.under.allows c.args.pick c.in-Some.comparison.now.name v stands.first stands.last h) (c.open.ensures (key v n))) within)
     c.walk.ensures.has
 
 pub unreachable-requires-in_default-narrow_all : goal.unreachable-requires-in_default-narrow_all

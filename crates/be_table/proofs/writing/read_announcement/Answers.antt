@@ -1,6 +1,7 @@
 use Rattle.std.proofs.Common.{◌≡◌, ◌+◌, ◌*◌, sym, ap, ◌∙◌, arith}
 use Rattle.be_table.specs.Rule.{pass_of}
 use Rattle.be_table.proofs.Holding.{scans_as}
+use Rattle.be_table.proofs.Moved.{scan_makes}
 use Rattle.be_table.proofs.writing.read_announcement.Goals as goal
 
 pub load-requires : goal.load-requires
@@ -11,3 +12,18 @@ load-requires c =
       omega (arith, i.0, r.4, e, few),
       scans_as _ _ _ (pass_of m.0) m.1 m (λ k. (r.0 k, m.1)) _ r.1 r.2 (ap (λ n. 16 + 8 * n) (sym r.3)),
     )
+
+pub returns-clause-me : goal.returns-clause-me
+returns-clause-me c = (scan_makes c.load.result c.args.base.now.me c.load.new.seat.me c.load.ensures.2).0
+
+pub returns-clause-moves : goal.returns-clause-moves
+returns-clause-moves c = (scan_makes c.load.result c.args.base.now.me c.load.new.seat.me c.load.ensures.2).1
+
+pub returns-clause-found : goal.returns-clause-found
+returns-clause-found c = (scan_makes c.load.result c.args.base.now.me c.load.new.seat.me c.load.ensures.2).2
+
+pub returns-clause-leaves : goal.returns-clause-leaves
+returns-clause-leaves c = c.load.ensures.2.3.1
+
+pub returns-clause-own : goal.returns-clause-own
+returns-clause-own c = c.load.ensures.2.3.2

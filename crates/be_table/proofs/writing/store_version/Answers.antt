@@ -1,7 +1,11 @@
-use Rattle.std.proofs.Common.{◌+◌, length, sym, ap, ◌∙◌, subst, arith, ℕ}
+use Rattle.std.proofs.Common.{[], ◌∷◌, ◌+◌, length, sym, ap, ◌∙◌, subst, arith, ℕ}
 use Rattle.be_table.specs.declared.limits.Limits.{Limits}
 use Rattle.be_table.specs.Rule.{pass_of, current_word}
-use Rattle.be_table.specs.Steps.{MayPublish}
+use Rattle.be_table.specs.declared.pass.Move.TheVariants.{Publish}
+use Rattle.be_table.specs.Steps.{MayPublish, given_of, publishes}
+use Rattle.be_table.specs.Trace.{with_history}
+use Rattle.be_table.specs.Works.{Moves}
+use Rattle.be_table.proofs.Moved.{publish_makes}
 use Rattle.be_table.proofs.Publishing.{publishes_as}
 use Rattle.be_table.proofs.writing.store_version.Goals as goal
 
@@ -14,3 +18,25 @@ store-requires g c =
           (subst (λ (p : Limits × ℕ). MayPublish p.0 (pass_of m.0) g.E.NextVersion.entry p.1) (λ k. (sym (ap (λ t. t.limits) t) k, c.requires.told.1 k)) r.1)
           (c.requires.word ∙ ap (current_word (length (pass_of m.0).seen + 1)) c.requires.told.1),
     )
+
+pub returns-clause-me : goal.returns-clause-me
+returns-clause-me g c =
+    let m = c.args.base.now.me in let r = c.store.new.seat.me in
+    (publish_makes g.E.NextVersion.entry g.E.NextVersion.page m r c.store.ensures.2).0
+    ∙ ap (λ p. (publishes (with_history (pass_of m.0) (pass_of r.0).history) g.E.NextVersion.entry p ∷ [], m.1)) (sym c.requires.told.1)
+
+pub returns-clause-moves : goal.returns-clause-moves
+returns-clause-moves g c =
+    let m = c.args.base.now.me in let r = c.store.new.seat.me in
+    subst (λ p. Moves (pass_of m.0) (Publish (pass_of m.0).number p (given_of (pass_of m.0)) ∷ []) (pass_of r.0)) (sym c.requires.told.1)
+    (publish_makes g.E.NextVersion.entry g.E.NextVersion.page m r c.store.ensures.2).1
+
+pub returns-clause-pass : goal.returns-clause-pass
+returns-clause-pass g c =
+    let m = c.args.base.now.me in
+    (publish_makes g.E.NextVersion.entry g.E.NextVersion.page m c.store.new.seat.me c.store.ensures.2).2
+
+pub returns-clause-newest : goal.returns-clause-newest
+returns-clause-newest g c =
+    let m = c.args.base.now.me in
+    (publish_makes g.E.NextVersion.entry g.E.NextVersion.page m c.store.new.seat.me c.store.ensures.2).3

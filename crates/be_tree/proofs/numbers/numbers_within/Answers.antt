@@ -1,85 +1,150 @@
-use Rattle.std.proofs.Common.{◌≡◌, ◌∙◌, ◌≤◌, ℕ, List, [], true, false, Some, length, drop, ap, sym, subst}
-use Rattle.std.specs.List.{slice_get}
+use Rattle.std.proofs.Common.{◌≡◌, ◌∙◌, ◌<◌, ◌≤◌, ◌++◌, ℕ, List, [], false, length, drop, refl, ap, sym, subst}
 use Rattle.std.specs.Option.{option_copied}
 use Rattle.std.proofs.lemmas.List.{append-nil}
 use Rattle.std.proofs.lemmas.List.Elements.{All-filter}
+use Rattle.std.proofs.lemmas.Result.{IfOk-weaker}
 use Rattle.be_pages.specs.declared.room.Standing.{Standing}
 use Rattle.be_tree.specs.Cursor.{IsCursor, remaining}
 use Rattle.be_tree.specs.Pair.{Pair}
-use Rattle.be_tree.specs.Page.{item_at}
-use Rattle.be_tree.specs.Range.{AreLong, is_from, is_past, number_of, numbers_to, pairs_from}
+use Rattle.be_tree.specs.Page.{items_of}
+use Rattle.be_tree.specs.Range.{AreLong, HasFirst, HasGot, is_from, numbers_to, pairs_from}
 use Rattle.be_tree.specs.Tree.{pairs}
-use Rattle.be_tree.proofs.Frame.{unchanged_trans}
-use Rattle.be_tree.proofs.Reading.LastBytes.{got_one, got_all, past_bound, first_long, others_long, fewer}
+use Rattle.be_tree.proofs.Reading.Leaves.{any_past, first_of_two, got_first, got_rest, last_leaf, leaf_same, long_left, long_right, whole_leaf}
+use Rattle.be_tree.proofs.numbers.numbers_within.Given.{Over}
 use Rattle.be_tree.proofs.numbers.numbers_within.Goals as goal
+use Rattle.be_tree.proofs.numbers.numbers_within.Goals.{After-push_to, After-step_leaf}
 
-pub pairs-init : goal.pairs-init
-pairs-init g c =
-    let words = g.L.Look.words c.args.look.now in
-    let all = pairs words c.args.root in
-    let rest = c.seek.ensures.remaining in
-    record {
-      cursor = c.seek.ensures.cursor;
-      long = subst AreLong (sym rest) (All-filter (λ (x : Pair). is_from c.args.low.now false x.key) (λ (x : Pair). 8 ≤ length x.key) all c.requires.long);
-      has = record {
-        got = [];
-        parts = ap (λ (ps : List Pair). numbers_to ps (option_copied c.args.high)) (sym rest);
-        is = sym (append-nil c.args.found.now.items);
-      };
-      unchanged = c.seek.ensures.unchanged;
-    }
+-- the pairs from the key on are those that the cursor has to give
+all_from : (g : Over) (c : After-step_leaf g) → pairs_from (pairs (g.L.Look.words c.args.look.now) c.args.root) c.args.low.now false ≡ remaining (g.L.Look.words c.seek.new.look) c.seek.new.self
+all_from g c = sym c.seek.ensures.remaining ∙ sym (ap (λ (w : ℕ → ℕ → ℕ). remaining w c.seek.new.self) c.seek.ensures.unchanged.words)
 
-pub pairs-smaller : goal.pairs-smaller
-pairs-smaller g c =
-    let words = g.L.Look.words c.args.look.now in
-    let same = c.pairs.invariant.unchanged.words in
-    let item = c.in-Some.ensures.item in
-    fewer (remaining words c.pairs.cursor) (remaining words c.step.new.self) (item_at (words c.in-Some.page) c.in-Some.at)
-    (subst (λ (w : ℕ → ℕ → ℕ). slice_get (remaining w c.pairs.cursor) 0 ≡ Some (item_at (w c.in-Some.page) c.in-Some.at)) same item)
-    (subst (λ (w : ℕ → ℕ → ℕ). remaining w c.step.new.self ≡ drop 1 (remaining w c.pairs.cursor)) same c.step.ensures.remaining)
+all_long : (g : Over) (c : After-step_leaf g) → AreLong (remaining (g.L.Look.words c.seek.new.look) c.seek.new.self)
+all_long g c =
+    let all = pairs (g.L.Look.words c.args.look.now) c.args.root in
+    subst AreLong (all_from g c) (All-filter (λ (x : Pair). is_from c.args.low.now false x.key) (λ (x : Pair). 8 ≤ length x.key) all c.requires.long)
 
-pub number_at-number-requires-clause-long : goal.number_at-number-requires-clause-long
-number_at-number-requires-clause-long g c =
-    let words = g.L.Look.words c.args.look.now in
-    let same = c.pairs.invariant.unchanged.words in
-    let first = first_long (remaining words c.pairs.cursor) (item_at (words c.in-Some.page) c.in-Some.at) c.pairs.invariant.long
-    (subst (λ (w : ℕ → ℕ → ℕ). slice_get (remaining w c.pairs.cursor) 0 ≡ Some (item_at (w c.in-Some.page) c.in-Some.at)) same c.in-Some.ensures.item) in
-    subst (λ (w : ℕ → ℕ → ℕ). 8 ≤ length (item_at (w c.in-Some.page) c.in-Some.at).key) (sym (c.is_past_at.ensures.unchanged.words ∙ c.step.ensures.unchanged.words ∙ same)) first
+pub returns-in_default-clause-first : goal.returns-in_default-clause-first
+returns-in_default-clause-first g c = record {
+  left = numbers_to (pairs_from (pairs (g.L.Look.words c.args.look.now) c.args.root) c.args.low.now false) (option_copied c.args.high);
+  has = record { got = []; parts = refl; is = sym (append-nil c.args.found.now.items) };
+}
 
-pub pairs-preserved : goal.pairs-preserved
-pairs-preserved g c =
-    let words = g.L.Look.words c.args.look.now in
-    let same = c.pairs.invariant.unchanged.words in
-    let read = c.step.ensures.unchanged.words ∙ same in
+pub returns-in_default-clause-found : goal.returns-in_default-clause-found
+returns-in_default-clause-found g c =
+    let at = (goal.at.returns-in_default-clause-found g c).After-step_leaf in
+    sym (ap (λ (ps : List Pair). c.args.found.now.items ++ numbers_to ps (option_copied c.args.high)) (all_from g at ∙ c.in_default.ensures.none) ∙ append-nil c.args.found.now.items)
+
+pub push_to-requires-clause-leaf : goal.push_to-requires-clause-leaf
+push_to-requires-clause-leaf g c =
+    leaf_same (g.L.Look.standing c.seek.new.look) (g.L.Look.standing c.step_leaf.new.look) (g.L.Look.words c.seek.new.look) (g.L.Look.words c.step_leaf.new.look) c.in-Some.page
+    c.step_leaf.ensures.unchanged.standing c.step_leaf.ensures.unchanged.words c.in-Some.ensures.leaf
+
+pub push_to-requires-clause-left : goal.push_to-requires-clause-left
+push_to-requires-clause-left g c = subst (λ (w : ℕ → ℕ → ℕ). c.in-Some.from < w c.in-Some.page 1) (sym c.step_leaf.ensures.unchanged.words) c.in-Some.ensures.left
+
+pub push_to-requires-clause-long : goal.push_to-requires-clause-long
+push_to-requires-clause-long g c =
+    let at = (goal.at.push_to-requires-clause-long g c).After-step_leaf in
+    let words = g.L.Look.words c.seek.new.look in
+    subst (λ (w : ℕ → ℕ → ℕ). AreLong (drop c.in-Some.from (items_of (w c.in-Some.page)))) (sym c.step_leaf.ensures.unchanged.words)
+    (long_left (drop c.in-Some.from (items_of (words c.in-Some.page))) (remaining words c.step_leaf.new.self) (subst AreLong c.in-Some.ensures.parts (all_long g at)))
+
+-- before the first leaf, nothing is there
+has : (g : Over) (c : After-push_to g) → HasGot c.args.found.now.items (numbers_to (pairs_from (pairs (g.L.Look.words c.args.look.now) c.args.root) c.args.low.now false) (option_copied c.args.high))
+    (numbers_to (drop c.in-Some.from (items_of (g.L.Look.words c.seek.new.look c.in-Some.page)) ++ remaining (g.L.Look.words c.seek.new.look) c.step_leaf.new.self) (option_copied c.args.high)) c.args.found.now.items
+has g c = record {
+  got = [];
+  parts = ap (λ (ps : List Pair). numbers_to ps (option_copied c.args.high))
+      (sym c.seek.ensures.remaining ∙ sym (ap (λ (w : ℕ → ℕ → ℕ). remaining w c.seek.new.self) c.seek.ensures.unchanged.words) ∙ c.in-Some.ensures.parts);
+  is = sym (append-nil c.args.found.now.items);
+}
+
+first : (g : Over) (c : After-push_to g)
+    → HasFirst c.args.found.now.items (numbers_to (pairs_from (pairs (g.L.Look.words c.args.look.now) c.args.root) c.args.low.now false) (option_copied c.args.high)) c.push_to.new.found.items
+first g c =
+    let words = g.L.Look.words c.seek.new.look in
     let high = option_copied c.args.high in
-    let x = item_at (words c.in-Some.page) c.in-Some.at in
-    let rest = remaining words c.pairs.cursor in
-    let next = remaining words c.step.new.self in
-    let first = subst (λ (w : ℕ → ℕ → ℕ). slice_get (remaining w c.pairs.cursor) 0 ≡ Some (item_at (w c.in-Some.page) c.in-Some.at)) same c.in-Some.ensures.item in
-    let others = subst (λ (w : ℕ → ℕ → ℕ). remaining w c.step.new.self ≡ drop 1 (remaining w c.pairs.cursor)) same c.step.ensures.remaining in
-    let within : is_past high x.key ≡ false = sym (ap (λ (w : ℕ → ℕ → ℕ). is_past high (item_at (w c.in-Some.page) c.in-Some.at).key) read) ∙ sym c.is_past_at.ensures.past ∙ c.if-is_past_at.false in
-    let number : c.number_at-number.result ≡ number_of x.key = c.number_at-number.ensures.number ∙ ap (λ (w : ℕ → ℕ → ℕ). number_of (item_at (w c.in-Some.page) c.in-Some.at).key) (c.is_past_at.ensures.unchanged.words ∙ read) in
-    let all = numbers_to (pairs_from (pairs words c.args.root) c.args.low.now false) high in
-    record {
-      cursor = subst (λ (w : ℕ → ℕ → ℕ). IsCursor (g.L.Look.standing c.args.look.now) w c.step.new.self) same
-          (subst (λ (s : ℕ → Standing). IsCursor s (g.L.Look.words c.pairs.look) c.step.new.self) c.pairs.invariant.unchanged.standing c.step.ensures.cursor);
-      long = others_long rest next others c.pairs.invariant.long;
-      has = got_one c.args.found.now.items all c.pairs.found.items c.push.new.self.items rest next high x c.number_at-number.result first others within number c.in_ok-push.ensures.items c.pairs.invariant.has;
-      unchanged = unchanged_trans g.L.Look.kept g.L.Look.standing g.L.Look.words c.args.look.now c.is_past_at.new.look c.number_at-number.new.look
-          (unchanged_trans g.L.Look.kept g.L.Look.standing g.L.Look.words c.args.look.now c.step.new.look c.is_past_at.new.look
-          (unchanged_trans g.L.Look.kept g.L.Look.standing g.L.Look.words c.args.look.now c.pairs.look c.step.new.look c.pairs.invariant.unchanged c.step.ensures.unchanged)
-          c.is_past_at.ensures.unchanged)
-          c.number_at-number.ensures.unchanged;
-    }
+    let before = c.args.found.now.items in
+    let xs = drop c.in-Some.from (items_of (words c.in-Some.page)) in
+    let ys = remaining words c.step_leaf.new.self in
+    got_first before (numbers_to (pairs_from (pairs (g.L.Look.words c.args.look.now) c.args.root) c.args.low.now false) high) (numbers_to (xs ++ ys) high) before c.push_to.new.found.items (has g c)
+    (first_of_two before c.push_to.new.found.items xs ys high
+    (subst (λ (w : ℕ → ℕ → ℕ). HasFirst before (numbers_to (drop c.in-Some.from (items_of (w c.in-Some.page))) high) c.push_to.new.found.items) c.step_leaf.ensures.unchanged.words c.push_to.ensures.first))
 
-pub returns-then-is_past_at-clause-found : goal.returns-then-is_past_at-clause-found
-returns-then-is_past_at-clause-found g c =
-    let words = g.L.Look.words c.args.look.now in
-    let same = c.pairs.invariant.unchanged.words in
-    let read = c.step.ensures.unchanged.words ∙ same in
+pub returns-in_err-is_last-clause-first : goal.returns-in_err-is_last-clause-first
+returns-in_err-is_last-clause-first g c = first g (goal.at.returns-in_err-is_last-clause-first g c).After-push_to
+
+pub returns-then-is_last-clause-first : goal.returns-then-is_last-clause-first
+returns-then-is_last-clause-first g c = first g (goal.at.returns-then-is_last-clause-first g c).After-push_to
+
+pub returns-then-is_last-clause-found : goal.returns-then-is_last-clause-found
+returns-then-is_last-clause-found g c =
+    let at = (goal.at.returns-then-is_last-clause-found g c).After-push_to in
+    let words = g.L.Look.words c.seek.new.look in
     let high = option_copied c.args.high in
-    let x = item_at (words c.in-Some.page) c.in-Some.at in
-    let rest = remaining words c.pairs.cursor in
-    let first = subst (λ (w : ℕ → ℕ → ℕ). slice_get (remaining w c.pairs.cursor) 0 ≡ Some (item_at (w c.in-Some.page) c.in-Some.at)) same c.in-Some.ensures.item in
-    let past : is_past high x.key ≡ true = sym (ap (λ (w : ℕ → ℕ → ℕ). is_past high (item_at (w c.in-Some.page) c.in-Some.at).key) read) ∙ sym c.is_past_at.ensures.past ∙ c.if-is_past_at.true in
-    got_all c.args.found.now.items (numbers_to (pairs_from (pairs words c.args.root) c.args.low.now false) high) (numbers_to rest high) c.pairs.found.items (past_bound rest high x first past) c.pairs.invariant.has
+    let same = c.step_leaf.ensures.unchanged.words in
+    let before = c.args.found.now.items in
+    last_leaf before (numbers_to (pairs_from (pairs (g.L.Look.words c.args.look.now) c.args.root) c.args.low.now false) high) before c.push_to.new.found.items
+    (drop c.in-Some.from (items_of (words c.in-Some.page))) (remaining words c.step_leaf.new.self) high (has g at)
+    (sym c.if-is_last.true ∙ c.in_ok-is_last.ensures.past ∙ ap (λ (w : ℕ → ℕ → ℕ). any_past high (drop c.in-Some.from (items_of (w c.in-Some.page)))) same)
+    (c.in_ok-is_last.ensures.found ∙ ap (λ (w : ℕ → ℕ → ℕ). before ++ numbers_to (drop c.in-Some.from (items_of (w c.in-Some.page))) high) same)
+
+-- the words are read only
+read : (g : Over) (c : After-push_to g) → g.L.Look.words c.push_to.new.look ≡ g.L.Look.words c.seek.new.look
+read g c = c.push_to.ensures.unchanged.words ∙ c.step_leaf.ensures.unchanged.words
+
+pub push_rest-requires-clause-cursor : goal.push_rest-requires-clause-cursor
+push_rest-requires-clause-cursor g c =
+    let at = (goal.at.push_rest-requires-clause-cursor g c).After-push_to in
+    subst (λ (w : ℕ → ℕ → ℕ). IsCursor (g.L.Look.standing c.push_to.new.look) w c.step_leaf.new.self) (sym (read g at))
+    (subst (λ (s : ℕ → Standing). IsCursor s (g.L.Look.words c.seek.new.look) c.step_leaf.new.self) (sym (c.push_to.ensures.unchanged.standing ∙ c.step_leaf.ensures.unchanged.standing)) c.step_leaf.ensures.cursor)
+
+pub push_rest-requires-clause-long : goal.push_rest-requires-clause-long
+push_rest-requires-clause-long g c =
+    let at = (goal.at.push_rest-requires-clause-long g c).After-push_to in
+    let begun = (goal.at.push_rest-requires-clause-long g c).After-step_leaf in
+    let words = g.L.Look.words c.seek.new.look in
+    subst (λ (w : ℕ → ℕ → ℕ). AreLong (remaining w c.step_leaf.new.self)) (sym (read g at))
+    (long_right (drop c.in-Some.from (items_of (words c.in-Some.page))) (remaining words c.step_leaf.new.self) (subst AreLong c.in-Some.ensures.parts (all_long g begun)))
+
+-- once the first leaf's numbers are there, those past it are left
+later : (g : Over) (c : After-push_to g) → false ≡ any_past (option_copied c.args.high) (drop c.in-Some.from (items_of (g.L.Look.words c.seek.new.look c.in-Some.page)))
+    → c.push_to.new.found.items ≡ c.args.found.now.items ++ numbers_to (drop c.in-Some.from (items_of (g.L.Look.words c.seek.new.look c.in-Some.page))) (option_copied c.args.high)
+    → HasGot c.args.found.now.items (numbers_to (pairs_from (pairs (g.L.Look.words c.args.look.now) c.args.root) c.args.low.now false) (option_copied c.args.high))
+    (numbers_to (remaining (g.L.Look.words c.seek.new.look) c.step_leaf.new.self) (option_copied c.args.high)) c.push_to.new.found.items
+later g c past push =
+    let words = g.L.Look.words c.seek.new.look in
+    let high = option_copied c.args.high in
+    whole_leaf c.args.found.now.items (numbers_to (pairs_from (pairs (g.L.Look.words c.args.look.now) c.args.root) c.args.low.now false) high) c.args.found.now.items c.push_to.new.found.items
+    (drop c.in-Some.from (items_of (words c.in-Some.page))) (remaining words c.step_leaf.new.self) high (has g c) past push
+
+pub returns-clause-first : goal.returns-clause-first
+returns-clause-first g c =
+    let at = (goal.at.returns-clause-first g c).After-push_to in
+    let words = g.L.Look.words c.seek.new.look in
+    let high = option_copied c.args.high in
+    let same = c.step_leaf.ensures.unchanged.words in
+    let before = c.args.found.now.items in
+    let mid = c.push_to.new.found.items in
+    let left = later g at
+    (sym c.if-is_last.false ∙ c.in_ok-is_last.ensures.past ∙ ap (λ (w : ℕ → ℕ → ℕ). any_past high (drop c.in-Some.from (items_of (w c.in-Some.page)))) same)
+    (c.in_ok-is_last.ensures.found ∙ ap (λ (w : ℕ → ℕ → ℕ). before ++ numbers_to (drop c.in-Some.from (items_of (w c.in-Some.page))) high) same) in
+    got_first before (numbers_to (pairs_from (pairs (g.L.Look.words c.args.look.now) c.args.root) c.args.low.now false) high) (numbers_to (remaining words c.step_leaf.new.self) high) mid c.push_rest.new.found.items left
+    (subst (λ (w : ℕ → ℕ → ℕ). HasFirst mid (numbers_to (remaining w c.step_leaf.new.self) high) c.push_rest.new.found.items) (read g at) c.push_rest.ensures.first)
+
+pub returns-clause-found : goal.returns-clause-found
+returns-clause-found g c =
+    let at = (goal.at.returns-clause-found g c).After-push_to in
+    let words = g.L.Look.words c.seek.new.look in
+    let high = option_copied c.args.high in
+    let same = c.step_leaf.ensures.unchanged.words in
+    let before = c.args.found.now.items in
+    let mid = c.push_to.new.found.items in
+    let now = c.push_rest.new.found.items in
+    let all = numbers_to (pairs_from (pairs (g.L.Look.words c.args.look.now) c.args.root) c.args.low.now false) high in
+    let left = later g at
+    (sym c.if-is_last.false ∙ c.in_ok-is_last.ensures.past ∙ ap (λ (w : ℕ → ℕ → ℕ). any_past high (drop c.in-Some.from (items_of (w c.in-Some.page)))) same)
+    (c.in_ok-is_last.ensures.found ∙ ap (λ (w : ℕ → ℕ → ℕ). before ++ numbers_to (drop c.in-Some.from (items_of (w c.in-Some.page))) high) same) in
+    IfOk-weaker c.push_rest.result (λ _. now ≡ mid ++ numbers_to (remaining (g.L.Look.words c.push_to.new.look) c.step_leaf.new.self) high) (λ _. now ≡ before ++ all)
+    (λ _ h. got_rest before all (numbers_to (remaining words c.step_leaf.new.self) high) mid now left (h ∙ ap (λ (w : ℕ → ℕ → ℕ). mid ++ numbers_to (remaining w c.step_leaf.new.self) high) (read g at)))
+    c.push_rest.ensures.found

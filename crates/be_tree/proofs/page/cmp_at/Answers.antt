@@ -1,7 +1,8 @@
-use Rattle.std.proofs.Common.{◌≡◌, ℕ, ◌+◌, ◌-◌, ◌*◌, ◌/◌, ◌%◌, ◌^◌, ◌⊎◌, inl, inr, ap, sym, subst, ◌∙◌, refl, drop, length, arith}
+use Rattle.std.proofs.Common.{◌≡◌, ℕ, ◌+◌, ◌-◌, ◌*◌, ◌/◌, ◌%◌, ◌^◌, ap, sym, subst, ◌∙◌, refl, drop, length, arith}
 use Rattle.std.specs.Ordering.{nat_cmp, ordering_then}
 use Rattle.be_tree.specs.Key.{key_cmp}
 use Rattle.be_tree.specs.Page.{item_at, key_len}
+use Rattle.be_tree.proofs.Bytes.Beginnings.{either_is}
 use Rattle.be_tree.proofs.Bytes.Words.{next_word, last_word, at_end, then_same, then_other}
 use Rattle.be_tree.proofs.page.cmp_at.Given.{Over}
 use Rattle.be_tree.proofs.page.cmp_at.Goals as goal
@@ -29,10 +30,6 @@ loop-i-preserved g c = record {
     words = c.word-mine.ensures.words ∙ c.loop-i.invariant.unchanged.words;
   };
 }
-
-either_is : {a b c d e : ℕ} → a ≡ b → c ≡ d → ((b ≡ c) ⊎ (b ≡ e)) → (a ≡ d) ⊎ (a ≡ e)
-either_is ab cd (inl bc) = inl (ab ∙ bc ∙ cd)
-either_is ab cd (inr be) = inr (ab ∙ be)
 
 pub returns-then-rest-eq0-clause-order : goal.returns-then-rest-eq0-clause-order
 returns-then-rest-eq0-clause-order g c =

@@ -1,5 +1,5 @@
 use Rattle.std.proofs.Common.{◌+◌, ◌-◌, Some, sym, ap, ◌∙◌, arith}
-use Rattle.be_table.proofs.Locks.{locks_as, got, late, is_out}
+use Rattle.be_table.proofs.Locks.{locks_as, gained, late, is_out}
 use Rattle.be_table.specs.Rule.{pass_of}
 use Rattle.be_table.specs.Steps.{finds_held}
 use Rattle.be_table.proofs.Told.{told_as, late_pass}
@@ -14,13 +14,13 @@ pub exchange-requires : goal.exchange-requires
 exchange-requires c =
     let p = c.into_base-base.ensures.pass in
     let e = c.compare_exchange-found.ensures in
-    let g = got c.into_base-base.result.0.me c.compare_exchange-found.result c.compare_exchange-found.new.seat.me e.2 c.if-found-eq0.true in
+    let g = (gained c.into_base-base.result.0.me c.compare_exchange-found.result c.compare_exchange-found.new.seat.me _ e.2 c.if-found-eq0.true).3 in
     (e.0 ∙ p.0 ∙ c.requires.1 ∙ sym (ap (λ t. t.id) c.self.view_is), (Some g.0, is_out _ _ (0, Some g.0) (ap (λ m. m.1) g.3.0)))
 
 pub of-requires-else-found-eq0-clause-told : goal.of-requires-else-found-eq0-clause-told
 of-requires-else-found-eq0-clause-told c =
     let t = c.into_base-base.ensures.told.1 in
-    let l = late c.into_base-base.result.0.me c.compare_exchange-found.result c.compare_exchange-found.new.seat.me c.compare_exchange-found.ensures.2 c.if-found-eq0.false in
+    let l = late c.into_base-base.result.0.me c.compare_exchange-found.result c.compare_exchange-found.new.seat.me _ c.compare_exchange-found.ensures.2 c.if-found-eq0.false in
     let b = c.compare_exchange-found.result - 1 in
     told_as (finds_held c.args.seat.knows b) c.compare_exchange-found.new.seat.me c.into_base-base.result.1.number c.into_base-base.result.1.seen
     (ap (λ m. pass_of m.0) l.0 ∙ ap (λ m. finds_held (pass_of m.0) b) c.into_base-base.ensures.pass.1)

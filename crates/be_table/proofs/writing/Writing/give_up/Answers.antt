@@ -2,7 +2,10 @@ use Rattle.std.proofs.Common.{refl, [], ◌∷◌, ◌≡◌, ◌<◌, length, I
 use Rattle.be_table.specs.declared.pass.Knowledge.{Knowledge}
 use Rattle.be_pages.specs.Place.{given_place, is_held_page, place_of}
 use Rattle.be_table.specs.Rule.{ledger_places, pass_of}
-use Rattle.be_table.specs.Steps.{gives_up}
+use Rattle.be_table.specs.Place.{Work}
+use Rattle.be_table.specs.Steps.{gives_up, given_moves}
+use Rattle.be_table.specs.Trace.{Makes, with_history}
+use Rattle.be_table.specs.Writes.{work_of}
 use Rattle.be_table.proofs.Holding.{gives_as}
 use Rattle.be_table.proofs.Ledgers.{left-give}
 use Rattle.be_table.proofs.Opened.{reopened}
@@ -25,8 +28,25 @@ pub invariant_of-self : goal.invariant_of-self
 invariant_of-self c =
     let i = c.self.invariant in let w = c.self.inside in let a = pass_of w.base.me.0 in
     let s = c.load.ensures in
-    let b = gives_up a c.args.page in
-    let m = s.2 c.args.page (omega arith) in
+    let g = s.2 c.args.page (omega arith) in
+    let b = gives_up (with_history a g.0) c.args.page in
+    let m = g.2 in
     reopened w _ b i refl refl refl refl refl s.0 (m ∙ ap (λ l. (b ∷ [], l)) (ap (λ m. m.1) i.me_is)) refl i.turn refl (length-set a.places c.args.page (given_place (place_of a.places c.args.page)))
     (c.give_up.ensures ∙ ap (λ l. slice_set l c.args.page (given_place (place_of l c.args.page))) i.places)
     (left-give w.ledger.left (ledger_places w.ledger) c.args.self.now.knows.places _ c.args.page _ (i.places ∙ ap (λ (x : Rattle.be_table.specs.Place.Work). x.knows.places) c.self.view_is) c.give_up.ensures c.requires.held.0 c.requires.held.1 i.left)
+
+pub returns-clause-write : goal.returns-clause-write
+returns-clause-write c =
+    let w = c.self.inside in let a = pass_of w.base.me.0 in let n = pass_of c.load.new.seat.me.0 in
+    let g = c.load.ensures.2 c.args.page (omega arith) in
+    let k : n ≡ gives_up (with_history a g.0) c.args.page = ap (λ m. pass_of m.0) g.2 in
+    let h : n.history ≡ g.0 = ap (λ (x : Knowledge). x.history) k in
+    ap (λ (x : Knowledge). record (work_of w) { knows = x }) (k ∙ ap (λ l. gives_up (with_history a l) c.args.page) (sym h))
+    ∙ ap (λ (x : Work). record x { knows = gives_up (with_history x.knows n.history) c.args.page }) c.self.view_is
+
+pub returns-clause-moves : goal.returns-clause-moves
+returns-clause-moves c =
+    let w = c.self.inside in let a = pass_of w.base.me.0 in let n = pass_of c.load.new.seat.me.0 in
+    let g = c.load.ensures.2 c.args.page (omega arith) in
+    let h : n.history ≡ g.0 = ap (λ m. (pass_of m.0).history) g.2 in
+    subst (λ (x : Knowledge). Makes x.number x.history (given_moves x c.args.page) n.history) (ap (λ (x : Work). x.knows) c.self.view_is) (subst (Makes a.number a.history (given_moves a c.args.page)) (sym h) g.1)

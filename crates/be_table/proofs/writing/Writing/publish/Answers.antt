@@ -10,6 +10,7 @@ use Rattle.be_table.specs.Seats.{pin_of}
 use Rattle.be_table.specs.Ledger.{is_of_next}
 use Rattle.be_table.specs.Reading.{word_of_page}
 use Rattle.be_table.specs.Steps.{IsPass, commit_of, pages_from, publishes}
+use Rattle.be_table.specs.Trace.{with_history}
 use Rattle.be_table.specs.Versions.{SpellsVolume}
 use Rattle.be_table.proofs.Keeping.{spells_kept}
 use Rattle.be_table.proofs.Ledgers.{left-publish}
@@ -48,7 +49,7 @@ pub invariant_of-self : goal.invariant_of-self
 invariant_of-self c =
     let i = c.self.invariant in let w = c.self.inside in let a = pass_of w.base.me.0 in
     let e : Entry = record { by = w.marks.number; ops = c.args.ops.now; dones = c.args.dones.now } in
-    let b = publishes a e c.args.page in
+    let b = publishes (with_history a (pass_of c.store_version.new.base.me.0).history) e c.args.page in
     let commit = commit_of a e c.args.page in
     let m : c.store_version.new.base.me ≡ (b ∷ [], (0, None) ∷ []) = c.store_version.ensures.me ∙ ap (λ l. (b ∷ [], l)) (ap (λ m. m.1) i.me_is) in
     let k : pass_of c.store_version.new.base.me.0 ≡ b = ap (λ m. pass_of m.0) m in
@@ -68,7 +69,7 @@ invariant_of-self c =
       size = ap (λ (x : Knowledge). length x.words) k ∙ i.size;
       turn = ap (λ (x : Knowledge). x.scanned) k ∙ i.turn;
       pin = i.pin ∙ sym (pin_stays a.phase a.seen b.seen i.pass.pin (commit ∷ [], refl)) ∙ sym (ap (λ (x : Knowledge). pin_of x.phase x.seen) k);
-      pass = subst IsPass (sym k) c.store_version.ensures.pass;
+      pass = c.store_version.ensures.pass;
       limit = ap (λ j. j.limit) c.append.ensures.journal ∙ i.limit;
       left = subst (λ n. n ≤ count_by is_retired (ledger_places c.append.new.self)) (sym c.append.ensures.left)
           (left-publish w.ledger.left (length w.ledger.journal.entries) (ledger_places w.ledger) (ledger_places c.append.new.self) places i.left);

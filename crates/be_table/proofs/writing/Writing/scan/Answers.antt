@@ -14,7 +14,7 @@ invariant_of-self c =
     let z = ap (λ m. pass_of m.0) r.me.2 in
     let words = ap (λ (x : Knowledge). x.words) part.same in
     reopened w _ s i refl refl refl c.sweep.ensures.kept.0 c.sweep.ensures.kept.1 r.seat.0 (r.me.2 ∙ (λ k. (sym z k ∷ [], ap (λ m. m.1) i.me_is k)))
-    (part.same ∙ ap (λ ws. record a { scanned = s.scanned; least = s.least; places = s.places; words = ws; held = s.held; steps = s.steps }) (sym words))
+    (part.same ∙ ap (λ ws. record a { scanned = s.scanned; least = s.least; places = s.places; words = ws; held = s.held; steps = s.steps; history = s.history }) (sym words))
     whole.0 (ap length words) (ap length whole.1 ∙ length-map a.places (swept_place c.read_all-least.result)) (c.sweep.ensures.kept.2 ∙ ap (map (swept_place c.read_all-least.result)) i.places ∙ sym whole.1) (let left = c.sweep.ensures.left in omega (arith, left))
 
 pub read_all-least-requires-clause-number : goal.read_all-least-requires-clause-number

@@ -4,6 +4,8 @@ use Rattle.be_table.specs.Rule.{ledger_places, pass_of}
 use Rattle.be_table.proofs.Frames.{Me1}
 use Rattle.be_pages.specs.Place.{is_retired, undone_place}
 use Rattle.be_table.specs.Steps.{without_lock}
+use Rattle.be_table.specs.Trace.{with_history}
+use Rattle.be_table.proofs.Traces.{pass_history}
 use Rattle.be_table.proofs.Ledgers.{left-undo}
 use Rattle.be_table.proofs.Locks.{unlocks_as}
 use Rattle.be_table.proofs.Opened.{seen_length}
@@ -23,6 +25,7 @@ store-requires c =
 pub of-requires-clause-told : goal.of-requires-clause-told
 of-requires-clause-told c =
     let i = c.self.invariant in let w = c.self.inside in let a = pass_of w.base.me.0 in
-    told_as (without_lock a) c.store.new.seat.me w.marks.number c.len.result
-    (ap (λ m. pass_of m.0) c.store.ensures.2 ∙ ap (λ m. without_lock (pass_of m.0)) c.exchange.ensures.3)
-    (record { number_is = i.number_is; seen_is = sym (seen_length a.seen) ∙ sym (ap length i.journal) ∙ sym c.len.ensures.len; writes = refl; pass = left_pass a i.pass })
+    let t = c.store.ensures.2 in
+    told_as (without_lock (with_history a t.0)) c.store.new.seat.me w.marks.number c.len.result
+    (ap (λ m. pass_of m.0) t.3 ∙ ap (λ m. without_lock (with_history (pass_of m.0) t.0)) c.exchange.ensures.3)
+    (record { number_is = i.number_is; seen_is = sym (seen_length a.seen) ∙ sym (ap length i.journal) ∙ sym c.len.ensures.len; writes = refl; pass = left_pass (with_history a t.0) (pass_history a t.0 i.pass) })

@@ -51,11 +51,11 @@ loop-level-init g c =
     }
 
 -- the room after the search in a page is as at first
-words_same : (g : Over) (c : After-saturating_sub-at g) → g.L.Look.words c.rank.new.look ≡ g.L.Look.words c.args.look.now
-words_same g c = c.rank.ensures.unchanged.words ∙ c.loop-level.invariant.unchanged.words
+words_same : (g : Over) (c : After-saturating_sub-at g) → g.L.Look.words c.rank_by.new.look ≡ g.L.Look.words c.args.look.now
+words_same g c = c.rank_by.ensures.unchanged.words ∙ c.loop-level.invariant.unchanged.words
 
-ranked : (g : Over) (c : After-saturating_sub-at g) → IsRank c.args.from.now (items_of (g.L.Look.words c.args.look.now c.loop-level.page)) c.rank.result
-ranked g c = subst (λ (w : ℕ → ℕ → ℕ). IsRank c.args.from.now (items_of (w c.loop-level.page)) c.rank.result) c.loop-level.invariant.unchanged.words c.rank.ensures.rank
+ranked : (g : Over) (c : After-saturating_sub-at g) → IsRank c.args.from.now (items_of (g.L.Look.words c.args.look.now c.loop-level.page)) c.rank_by.result
+ranked g c = subst (λ (w : ℕ → ℕ → ℕ). IsRank c.args.from.now (items_of (w c.loop-level.page)) c.rank_by.result) c.loop-level.invariant.unchanged.words c.rank_by.ensures.rank
 
 at_item : (g : Over) (c : After-saturating_sub-at g) → c.saturating_sub-at.result < g.L.Look.words c.args.look.now c.loop-level.page 1
 at_item g c = omega (arith, c.saturating_sub-at.ensures, (ranked g c).in_range, c.loop-level.invariant.tree.node.enough, c.loop-level.invariant.some, items_count (g.L.Look.words c.args.look.now c.loop-level.page))
@@ -133,11 +133,11 @@ loop-level-preserved g c =
           ∙ ap (λ ps. here ++ pairs_along words ps) c.push.ensures.items
           ∙ ap (λ xs. here ++ xs) (along_push words path place)
           ∙ sym (append_assoc here (pairs_past words place) (pairs_along words path))
-          ∙ ap (λ xs. xs ++ pairs_along words path) (sym (from_branch level down standing words c.loop-level.invariant.least page c.args.from.now c.rank.result next c.args.after
+          ∙ ap (λ xs. xs ++ pairs_along words path) (sym (from_branch level down standing words c.loop-level.invariant.least page c.args.from.now c.rank_by.result next c.args.after
           (omega (arith, c.loop-level-test.true)) c.loop-level.invariant.tree c.loop-level.invariant.some (ranked g at) c.saturating_sub-at.ensures (at_item g at)))
           ∙ c.loop-level.invariant.same;
-      unchanged = unchanged_trans g.L.Look.kept g.L.Look.standing g.L.Look.words c.args.look.now c.rank.new.look c.child_at-child.new.look
-          (unchanged_trans g.L.Look.kept g.L.Look.standing g.L.Look.words c.args.look.now c.loop-level.look c.rank.new.look c.loop-level.invariant.unchanged c.rank.ensures.unchanged) c.child_at-child.ensures.unchanged;
+      unchanged = unchanged_trans g.L.Look.kept g.L.Look.standing g.L.Look.words c.args.look.now c.rank_by.new.look c.child_at-child.new.look
+          (unchanged_trans g.L.Look.kept g.L.Look.standing g.L.Look.words c.args.look.now c.loop-level.look c.rank_by.new.look c.loop-level.invariant.unchanged c.rank_by.ensures.unchanged) c.child_at-child.ensures.unchanged;
     }
 
 pub returns-clause-cursor : goal.returns-clause-cursor

@@ -1,89 +1,35 @@
-use Rattle.std.proofs.Common.{◌≡◌, ℕ, [], ◌∷◌, ◌++◌, ◌+◌, ◌-◌, ◌*◌, ◌<◌, length, drop, ap, sym, subst, ◌∙◌, arith, append_assoc}
+use Rattle.std.proofs.Common.{List, ◌+◌, drop, ap, sym, subst, ◌∙◌, arith}
 use Rattle.std.specs.List.{slice_get}
-use Rattle.std.proofs.lemmas.List.{length-append}
 use Rattle.be_tree.specs.declared.cursor.Place.{Place}
-use Rattle.be_tree.specs.Cursor.{IsPath, pairs_along, pairs_past}
-use Rattle.be_tree.specs.Page.{items_of, item_at}
-use Rattle.be_tree.specs.Tree.{IsTreeAt, child, pairs_at, pairs_below}
-use Rattle.be_tree.proofs.Reading.Cursors.{along_push, path_push, leads_down, leaf_step}
-use Rattle.be_tree.proofs.Frame.{unchanged_trans}
-use Rattle.be_tree.proofs.Shape.Levels.{kept_not_free}
+use Rattle.be_tree.specs.Pair.{Pair}
+use Rattle.be_tree.specs.Cursor.{IsPath, pairs_along}
+use Rattle.be_tree.proofs.Reading.Cursors.{along_push, path_push, step_parts}
 use Rattle.be_tree.proofs.Nodes.Slots.{items_count}
-use Rattle.be_tree.proofs.cursor.Cursor.step.Given.{Over}
 use Rattle.be_tree.proofs.cursor.Cursor.step.Goals as goal
-use Rattle.be_tree.proofs.cursor.Cursor.step.Goals.{After-loop-place}
-
-pub child_at-child-requires-clause-names_page : goal.child_at-child-requires-clause-names_page
-child_at-child-requires-clause-names_page g c =
-    let place = c.loop-place.place in
-    let i = c.loop-place.invariant in
-    let lead = leads_down place.level (place.level - 1) (g.L.Look.standing c.args.look.now) (g.L.Look.words c.args.look.now) 1 place.page place.next (omega (arith, c.loop-place-test.true)) i.place.tree i.left in
-    subst (λ (w : ℕ → ℕ → ℕ). length (item_at (w place.page) (2 + 42 * place.next)).payload ≡ 8) (sym i.unchanged.words) lead.names_page
-
--- the child is in use, so its number is small
-pub overflow_cast-place-in-loop-place-2 : goal.overflow_cast-place-in-loop-place-2
-overflow_cast-place-in-loop-place-2 g c =
-    let standing = g.L.Look.standing c.args.look.now in
-    let words = g.L.Look.words c.args.look.now in
-    let place = c.loop-place.place in
-    let i = c.loop-place.invariant in
-    let lead = leads_down place.level (place.level - 1) standing words 1 place.page place.next (omega (arith, c.loop-place-test.true)) i.place.tree i.left in
-    let branch = item_at (words place.page) (2 + 42 * place.next) in
-    let is = c.child_at-child.ensures.child ∙ ap (λ (w : ℕ → ℕ → ℕ). child (item_at (w place.page) (2 + 42 * place.next))) i.unchanged.words in
-    omega (arith, is, g.met.L.Look.pages_small c.args.look.now (child branch) (kept_not_free (standing (child branch)) lead.tree.page_in_use))
-
-pub loop-place-preserved : goal.loop-place-preserved
-loop-place-preserved g c =
-    let standing = g.L.Look.standing c.args.look.now in
-    let words = g.L.Look.words c.args.look.now in
-    let place = c.loop-place.place in
-    let path = c.loop-place.self.path.items in
-    let i = c.loop-place.invariant in
-    let down = place.level - 1 in
-    let lead = leads_down place.level down standing words 1 place.page place.next (omega (arith, c.loop-place-test.true)) i.place.tree i.left in
-    let branch = item_at (words place.page) (2 + 42 * place.next) in
-    let is = c.child_at-child.ensures.child ∙ ap (λ (w : ℕ → ℕ → ℕ). child (item_at (w place.page) (2 + 42 * place.next))) i.unchanged.words in
-    let past : Place = record { page = place.page; next = place.next + 1; level = place.level } in
-    record {
-      place = record { tree = subst (λ p. IsTreeAt down 1 standing words p) (sym is) lead.tree; in_range = omega arith };
-      left = subst (λ p. 0 < words p 1) (sym is) lead.some;
-      path = subst (IsPath standing words) (sym c.push.ensures.items) (path_push standing words path past i.path (record { tree = i.place.tree; in_range = omega (arith, i.left, items_count (words place.page)) }) i.short);
-      short = omega (arith, i.short, c.loop-place-test.true, ap length c.push.ensures.items, length-append path (past ∷ []));
-      same = ap (λ p. pairs_at down words p ++ pairs_along words c.push.new.self.items) is
-          ∙ ap (λ ps. pairs_at down words (child branch) ++ pairs_along words ps) c.push.ensures.items
-          ∙ ap (λ xs. pairs_at down words (child branch) ++ xs) (along_push words path past)
-          ∙ sym (append_assoc (pairs_at down words (child branch)) (pairs_past words past) (pairs_along words path))
-          ∙ ap (λ xs. xs ++ pairs_along words path) (sym lead.parts)
-          ∙ i.same;
-      unchanged = unchanged_trans g.L.Look.kept g.L.Look.standing g.L.Look.words c.args.look.now c.loop-place.look c.child_at-child.new.look i.unchanged c.child_at-child.ensures.unchanged;
-    }
-
--- the pairs from the place on: the item there, and the others
-parts : (g : Over) (c : After-loop-place g) → c.loop-place.place.level ≡ 0 → pairs_along (g.L.Look.words c.args.look.now) c.args.self.now.path.items
-    ≡ item_at (g.L.Look.words c.args.look.now c.loop-place.place.page) (2 + 42 * c.loop-place.place.next)
-    ∷ (pairs_below c.loop-place.place.level (g.L.Look.words c.args.look.now) (drop (c.loop-place.place.next + 1) (items_of (g.L.Look.words c.args.look.now c.loop-place.place.page))) ++ pairs_along (g.L.Look.words c.args.look.now) c.loop-place.self.path.items)
-parts g c leaf =
-    let words = g.L.Look.words c.args.look.now in
-    let place = c.loop-place.place in
-    let i = c.loop-place.invariant in
-    sym i.same ∙ ap (λ xs. xs ++ pairs_along words c.loop-place.self.path.items) (leaf_step (g.L.Look.standing c.args.look.now) words place.level 1 place.page place.next i.place.tree i.left leaf)
 
 pub returns-clause-item : goal.returns-clause-item
-returns-clause-item g c = ap (λ xs. slice_get xs 0) (parts g (goal.at.returns-clause-item g c).After-loop-place (omega (arith, c.loop-place-test.false)))
+returns-clause-item g c =
+    let words = g.L.Look.words c.args.look.now in
+    let i = c.in_ok-place.ensures in
+    ap (λ (xs : List Pair). slice_get xs 0)
+    (step_parts (g.L.Look.standing c.args.look.now) words c.in_ok-place.place (pairs_along words c.args.self.now.path.items) (pairs_along words c.take_place.new.self.path.items) i.place i.left i.leaf i.parts)
 
 pub returns-clause-cursor : goal.returns-clause-cursor
 returns-clause-cursor g c =
+    let standing = g.L.Look.standing c.args.look.now in
     let words = g.L.Look.words c.args.look.now in
-    let place = c.loop-place.place in
-    let i = c.loop-place.invariant in
+    let place = c.in_ok-place.place in
+    let i = c.in_ok-place.ensures in
     let past : Place = record { page = place.page; next = place.next + 1; level = place.level } in
-    subst (IsPath (g.L.Look.standing c.args.look.now) words) (sym c.push-2.ensures.items) (path_push (g.L.Look.standing c.args.look.now) words c.loop-place.self.path.items past i.path
+    subst (IsPath standing words) (sym c.push.ensures.items) (path_push standing words c.take_place.new.self.path.items past c.take_place.ensures.cursor
     (record { tree = i.place.tree; in_range = omega (arith, i.left, items_count (words place.page)) }) i.short)
 
 pub returns-clause-remaining : goal.returns-clause-remaining
 returns-clause-remaining g c =
     let words = g.L.Look.words c.args.look.now in
-    let place = c.loop-place.place in
+    let place = c.in_ok-place.place in
+    let i = c.in_ok-place.ensures in
     let past : Place = record { page = place.page; next = place.next + 1; level = place.level } in
-    ap (pairs_along words) c.push-2.ensures.items ∙ along_push words c.loop-place.self.path.items past
-    ∙ sym (ap (λ xs. drop 1 xs) (parts g (goal.at.returns-clause-remaining g c).After-loop-place (omega (arith, c.loop-place-test.false))))
+    ap (pairs_along words) c.push.ensures.items ∙ along_push words c.take_place.new.self.path.items past
+    ∙ sym (ap (λ (xs : List Pair). drop 1 xs)
+    (step_parts (g.L.Look.standing c.args.look.now) words place (pairs_along words c.args.self.now.path.items) (pairs_along words c.take_place.new.self.path.items) i.place i.left i.leaf i.parts))

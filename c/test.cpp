@@ -1,0 +1,255 @@
+// The objects of bestore.hpp: what they answer, that they close themselves, and what they throw.
+#include "bestore.hpp"
+#include <cstdio>
+#include <cstdlib>
+#include <limits>
+#include <thread>
+
+#define CHECK(...) \
+    do { \
+        if (!(__VA_ARGS__)) { \
+            std::fprintf(stderr, "%s:%d: %s\n", __FILE__, __LINE__, #__VA_ARGS__); \
+            std::exit(1); \
+        } \
+    } while (0)
+
+using namespace bestore;
+using Nodes = std::vector<Node>;
+
+// That the call is refused with this number.
+template <class Call> void refused(std::uint32_t number, Call call)
+{
+    try {
+        call();
+    } catch (const Refusal &refusal) {
+        CHECK(refusal.number() == number && std::string(refusal.what()) == bes_strerror(number) && !refusal.carried());
+        return;
+    }
+    CHECK(!"refused");
+}
+
+template <class T> constexpr bool moves_only = std::is_nothrow_move_constructible_v<T> && std::is_nothrow_move_assignable_v<T> &&
+                                               !std::is_copy_constructible_v<T> && !std::is_copy_assignable_v<T>;
+static_assert(moves_only<Store> && moves_only<Pass> && moves_only<Pin> && moves_only<Prepared> && moves_only<Live>);
+
+static void c_header()
+{
+    bes_batch batch = BES_BATCH_INIT;
+    bes_pass pass = BES_PASS_INIT;
+    std::uint64_t made[64] = {7}, number = 7;
+    CHECK(bes_open(64, 1, 1, &pass) == BES_OK && bes_batch_new_node(&batch) == BES_OK);
+    CHECK(bes_batch_apply(&pass, &batch, 1, made, 64, &number) == BES_OK && made[0] == 1 && number == 1);
+    CHECK(bes_close(&pass) == BES_OK);
+}
+
+// A value of each kind comes back as it was.
+template <class T> void comes_back(Pass &pass, const Input &value, const T &expected)
+{
+    pass.set(1, "k", value);
+    auto pin = pass.pin();
+    CHECK(pin.get<T>(1, "k") == expected && std::get<T>(*pin.get(1, "k")) == expected);
+    CHECK(pin.attributes(1).size() == 1 && std::get<T>(pin.attributes(1)[0].value) == expected);
+    CHECK(!pin.get(2, "k") && !pin.get(1, "none"));
+}
+
+static void values()
+{
+    Store store({64, 1, 100});
+    CHECK(store.new_node() == 1);
+    comes_back<std::string>(store, "h\xc3\xa9", "h\xc3\xa9");
+    comes_back<std::string>(store, std::string_view(), "");
+    comes_back<std::string>(store, std::string(255, 'x'), std::string(255, 'x'));
+    comes_back<Mime>(store, Mime{"text/plain"}, {"text/plain"});
+    comes_back<Raw>(store, Raw{0, 255}, {0, 255});
+    comes_back<Raw>(store, Raw(), {});
+    comes_back<std::int32_t>(store, std::numeric_limits<std::int32_t>::min(), std::numeric_limits<std::int32_t>::min());
+    comes_back<std::int64_t>(store, std::numeric_limits<std::int64_t>::min(), std::numeric_limits<std::int64_t>::min());
+    comes_back<std::uint32_t>(store, std::numeric_limits<std::uint32_t>::max(), std::numeric_limits<std::uint32_t>::max());
+    comes_back<std::uint64_t>(store, std::numeric_limits<std::uint64_t>::max(), std::numeric_limits<std::uint64_t>::max());
+    comes_back<std::int64_t>(store, -1LL, -1);
+    comes_back<std::uint64_t>(store, 1ULL, 1);
+    comes_back<std::int32_t>(store, static_cast<short>(-1), -1);
+    comes_back<std::string>(store, Value("ann"), "ann");
+    comes_back<std::int32_t>(store, Value(-5), -5);
+    auto pin = store.pin();
+    CHECK(!pin.get<std::string>(1, "k"));
+}
+
+static void writes()
+{
+    Store store({64, 1, 8});
+    Batch batch;
+    CHECK(batch.empty());
+    batch.make_index("size", Kind::int32).new_node().set(1, "size", -1).set(1, "name", "ann").new_node();
+    const auto written = store.apply(batch, 0);
+    CHECK(batch.size() == 5 && written.number == 1 && written.made == Nodes{0, 1, 0, 0, 2});
+    batch.clear();
+    refused(BES_BAD_COUNT, [&] { store.apply(batch); });
+    store.apply(batch.unset(1, "size").remove_node(1).remove_index("size"), 1);
+    store.make_index("name", Kind::string);
+    store.remove_index("name");
+    store.unset((store.set(2, "name", "bob"), 2), "name");
+    refused(BES_NO_NODE, [&] { store.remove_node(1); });
+    refused(BES_NAME_LENGTH, [&] { store.set(2, "", 1); });
+    refused(BES_DATA_LENGTH, [&] { store.set(2, "k", std::string(256, 'x')); });
+    refused(BES_NOT_INDEXABLE, [&] { store.make_index("k", Kind::raw); });
+    refused(BES_NOT_UTF8, [&] { store.set(2, "k", "\xff"); });
+    refused(BES_HAS_NUL, [&] { store.set(2, "k", std::string_view("a\0b", 3)); });
+    store.remove_node(2);
+    CHECK(store.new_node() == 3);
+    refused(BES_COMMITS_SPENT, [&] { store.new_node(); });
+    refused(BES_BAD_LIMITS, [] { Store({7, 1, 1}); });
+    const auto journal = store.journal();
+    CHECK(journal.rfind("1 by 0 mkindex \"size\" LONG; new; set 1 \"size\" LONG -1;", 0) == 0);
+    CHECK(journal.substr(journal.rfind('\n', journal.size() - 2) + 1) == "8 by 0 new -> node 3\n");
+}
+
+// Three hundred nodes with the numbers 1 to 300.
+static Store numbered()
+{
+    Store store({1024, 2, 1000});
+    store.make_index("n", Kind::int64);
+    store.make_index("name", Kind::string);
+    for (Node node = 1; node <= 300; node++)
+        store.apply(Batch().new_node().set(node, "n", static_cast<std::int64_t>(node)).set(node, "name", std::to_string(node)));
+    return store;
+}
+
+static void queries()
+{
+    Store store = numbered();
+    auto pin = store.pin();
+    Nodes all(300);
+    for (Node node = 1; node <= 300; node++)
+        all[node - 1] = node;
+    CHECK(pin.number() == 302 && pin.query("n>0") == all && pin.query("n<0").empty());
+    CHECK(pin.explain("n<5") == "\"n\"<\"5\" score 3");
+    std::string many = "n==1";
+    for (int n = 2; n <= 100; n++)
+        many += "||n==" + std::to_string(n);
+    CHECK(pin.query(many).size() == 100 && pin.explain(many).size() > 256);
+    CHECK(pin.indices().size() == 2 && pin.indices()[0].name == "n" && pin.indices()[0].kind == Kind::int64);
+    CHECK(pin.attributes(7).size() == 2 && pin.attributes(7)[1].name == "name");
+    CHECK(std::get<std::string>(pin.attributes(7)[1].value) == "7");
+    refused(BES_NO_NODE, [&] { pin.attributes(301); });
+    refused(BES_SYNTAX, [&] { pin.query("n<"); });
+    refused(BES_SYNTAX, [&] { pin.query(std::string_view()); });
+    refused(BES_BAD_PATTERN, [&] { pin.explain("name==\"[a\""); });
+    refused(BES_NOT_COVERED, [&] { pin.query("size==1"); });
+    Prepared prepared("n>=299");
+    CHECK(pin.query(prepared) == Nodes{299, 300});
+    Prepared other = std::move(prepared);
+    CHECK(pin.query(other) == Nodes{299, 300});
+    refused(BES_CLOSED, [&] { pin.query(prepared); });
+    refused(BES_SYNTAX, [] { Prepared("n>="); });
+}
+
+static void predicates()
+{
+    Store store = numbered();
+    auto pin = store.pin();
+    Predicate predicate;
+    predicate.PushAttr("n").PushInt32(3).PushOp(B_LT);
+    CHECK(pin.query(predicate) == Nodes{1, 2});
+    predicate.PushAttr("name").PushString("30").PushOp(B_BEGINS_WITH).PushOp(B_OR);
+    CHECK(pin.query(predicate) == Nodes{1, 2, 30, 300});
+    predicate.PushAttr("n").PushUInt32(30).PushOp(B_NE).PushOp(B_AND);
+    CHECK(pin.query(predicate) == Nodes{1, 2, 300});
+    Prepared prepared(predicate);
+    predicate.Clear();
+    CHECK(pin.query(prepared) == Nodes{1, 2, 300});
+    refused(BES_BAD_RPN, [&] { pin.query(predicate); });
+    CHECK(pin.query(predicate.PushAttr("n").PushUInt64(2).PushOp(B_LE).PushOp(B_NOT)).size() == 298);
+    CHECK(pin.query(Predicate().PushAttr("n").PushInt64(300).PushOp(B_GE)) == Nodes{300});
+    CHECK(pin.query(Predicate().PushAttr("n").PushInt64(299).PushOp(B_GT)) == Nodes{300});
+    CHECK(pin.query(Predicate().PushAttr("n").PushInt64(-1).PushOp(B_EQ)).empty());
+    CHECK(pin.query(Predicate().PushAttr("name").PushString("99").PushOp(B_ENDS_WITH)) == Nodes{99, 199, 299});
+    CHECK(pin.query(Predicate().PushAttr("name").PushString("00").PushOp(B_CONTAINS)) == Nodes{100, 200, 300});
+    refused(BES_BAD_RPN, [] { Prepared(Predicate().PushAttr("n")); });
+    refused(BES_NAME_LENGTH, [] { Prepared(Predicate().PushAttr("").PushInt32(1).PushOp(B_EQ)); });
+}
+
+static void live_queries()
+{
+    Store store({64, 1, 100});
+    store.make_index("status", Kind::string);
+    Live unread("status==New"), all(Predicate().PushAttr("status").PushString("").PushOp(B_GE));
+    for (Node node = 1; node <= 3; node++)
+        store.apply(Batch().new_node().set(node, "status", "New"));
+    {
+        auto pin = store.pin();
+        const auto first = unread.refresh(pin);
+        CHECK(first.created == Nodes{1, 2, 3} && first.removed.empty() && all.refresh(pin).created.size() == 3);
+        CHECK(pin.query(unread).size() == 3);
+    }
+    store.set(2, "status", "Read");
+    Live moved = std::move(unread);
+    auto pin = store.pin();
+    const auto next = moved.refresh(pin);
+    CHECK(next.created.empty() && next.removed == Nodes{2});
+    CHECK(all.refresh(pin).created.empty() && all.refresh(pin).removed.empty());
+    refused(BES_CLOSED, [&] { unread.refresh(pin); });
+    pin.unpin();
+    refused(BES_NOT_PINNED, [&] { moved.refresh(pin); });
+}
+
+// A pin goes with its scope, and reads on where its pass is moved.
+static void pins()
+{
+    Store store({64, 2, 100});
+    Pass other = store.another();
+    refused(BES_NO_PASS, [&] { store.another(); });
+    refused(BES_NO_PASS, [&] { store.meet(); });
+    store.make_index("k", Kind::string);
+    store.apply(Batch().new_node().set(1, "k", "v"));
+    auto pin = other.pin();
+    refused(BES_PINNED, [&] { (void)other.pin(); });
+    Pass moved = std::move(other);
+    refused(BES_CLOSED, [&] { other.new_node(); });
+    store.set(1, "k", "w");
+    CHECK(pin.number() == 2 && pin.query("k==v") == Nodes{1});
+    Pin last = std::move(pin);
+    refused(BES_NOT_PINNED, [&] { pin.query("k==v"); });
+    CHECK(last.query("k==v") == Nodes{1});
+    last.unpin();
+    last.unpin();
+    { CHECK(moved.pin().query("k==w") == Nodes{1}); }
+    moved.close();
+    CHECK(store.meet() == 3);
+    Pass again = store.another();
+    CHECK(again.pin().number() == 3);
+}
+
+// The store goes with its last pass, which needn't be its first.
+static void last_pass()
+{
+    Pass other = Store({64, 2, 100}).another();
+    CHECK(other.new_node() == 1 && other.pin().number() == 1);
+}
+
+static void threads()
+{
+    constexpr int writes = 200;
+    Store store({1024, 3, 1000});
+    auto write = [](Pass pass) {
+        for (int i = 0; i < writes; i++)
+            pass.new_node();
+    };
+    std::thread first(write, store.another()), second(write, store.another());
+    first.join();
+    second.join();
+    CHECK(store.pin().number() == 2 * writes);
+}
+
+int main()
+{
+    c_header();
+    values();
+    writes();
+    queries();
+    predicates();
+    live_queries();
+    pins();
+    last_pass();
+    threads();
+}

@@ -1,0 +1,513 @@
+//! Races: scripts at once, each on a thread of its own.
+use be_serving::{Gate, Limits, OpenGate, RunFault, race};
+use be_testing::{Narrow, longest_list};
+use be_value::word_of;
+use std::alloc::{AllocError, Global};
+use std::io::Write;
+use std::sync::Wait;
+use std::sync::atomic::AtomicU64;
+use std::sync::atomic::Ordering::SeqCst;
+use std::test::Fail;
+use std::thread;
+use std::thread::Threads;
+
+/// Fails with what was written unless it is as expected.
+pub fn expect(is_as_expected: bool, written: &str) -> Result<(), Fail> {
+    if is_as_expected {
+        return Ok(());
+    }
+    Err(Fail::new(written))
+}
+
+/// The scripts as a race takes them.
+fn scripts_of(alloc: Global, texts: &[&str]) -> Result<Vec<Vec<u8>>, AllocError> {
+    let mut scripts = Vec::new(alloc);
+    for text in texts {
+        scripts.push(text.as_bytes().to_vec(alloc)?)?;
+    }
+    Ok(scripts)
+}
+
+/// Races scripts on a store of so many pages and a thousand commits.
+fn race_on<R: Threads + Wait, G: Gate + Sync, W: Write>(
+    rt: &R,
+    scripts: Vec<Vec<u8>>,
+    pages: u64,
+    gate: &G,
+    writer: &mut W,
+) -> Result<bool, RunFault> {
+    let alloc = *scripts.allocator();
+    let limits = Limits {
+        pages,
+        passes: scripts.len() as u64,
+        commits: 1000,
+    };
+    if scripts.len() < 2 || scripts.len() > 4 {
+        return Err(RunFault::Limits);
+    }
+    race(rt, alloc, scripts, limits, gate, writer)
+}
+
+/// The text of what was written, or None where a line was refused for want of memory.
+fn text_of(written: Vec<u8>) -> Option<String> {
+    let text = String::from_utf8(written).ok()?;
+    if text.contains("refused 10 OutOfMemory\n") {
+        return None;
+    }
+    Some(text)
+}
+
+/// What a race on so many pages writes, or None where memory was wanted.
+fn raced_on<R: Threads + Wait, G: Gate + Sync>(
+    rt: &R,
+    alloc: Global,
+    texts: &[&str],
+    pages: u64,
+    gate: &G,
+) -> Result<Option<String>, RunFault> {
+    let Ok(scripts) = scripts_of(alloc, texts) else {
+        return Ok(None);
+    };
+    let mut written = Vec::new(alloc);
+    match race_on(rt, scripts, pages, gate, &mut written) {
+        Ok(true) => Ok(text_of(written)),
+        Ok(false) => Err(RunFault::Limits),
+        // A vector that can't grow is a write that fails.
+        Err(RunFault::Memory | RunFault::Write) => Ok(None),
+        Err(fault) => Err(fault),
+    }
+}
+
+/// The same on 256 pages.
+pub fn raced<R: Threads + Wait, G: Gate + Sync>(
+    rt: &R,
+    alloc: Global,
+    texts: &[&str],
+    gate: &G,
+) -> Result<Option<String>, RunFault> {
+    raced_on(rt, alloc, texts, 256, gate)
+}
+
+/// What a race writes, raced again where memory was wanted.
+fn outcome_of<R: Threads + Wait, G: Gate + Sync>(
+    rt: &R,
+    alloc: Global,
+    texts: &[&str],
+    gate: &G,
+) -> Result<String, Fail> {
+    if let Some(written) = raced(rt, alloc, texts, gate)? {
+        return Ok(written);
+    }
+    match raced(rt, alloc, texts, gate)? {
+        Some(written) => Ok(written),
+        None => Err(Fail::new("out of memory")),
+    }
+}
+
+const OF_TWO: &str = "pass 0\nnode 1\npass 1\njournal 1\n1 by 0 new -> node 1\nreplay ok\n";
+
+#[test]
+fn race_of_two(rt: HostRuntime) -> Result<(), Fail> {
+    let written = outcome_of(&rt, rt.alloc(), &["new\n", ""], &OpenGate)?;
+    expect(written.as_str() == OF_TWO, written.as_str())
+}
+
+/// What a gate was told of the lines of one pass.
+#[derive(Drop)]
+struct Calls {
+    /// The line that began last, and the one that ended last.
+    begun: AtomicU64,
+    ended: AtomicU64,
+    /// How many calls were out of their turn.
+    strays: AtomicU64,
+}
+
+impl Calls {
+    fn new() -> Calls {
+        Calls {
+            begun: AtomicU64::new(0),
+            ended: AtomicU64::new(0),
+            strays: AtomicU64::new(0),
+        }
+    }
+
+    /// A line begins. It is in its turn behind the end of the one before it.
+    fn begin(&self, line: u64) {
+        let begun = self.begun.swap(line, SeqCst);
+        if begun != self.ended.load(SeqCst) || line != begun.wrapping_add(1) {
+            self.strays.fetch_add(1, SeqCst);
+        }
+    }
+
+    /// A line ends. It is in its turn where it began last, and hasn't ended.
+    fn end(&self, line: u64) {
+        let ended = self.ended.swap(line, SeqCst);
+        if line != self.begun.load(SeqCst) || line != ended.wrapping_add(1) {
+            self.strays.fetch_add(1, SeqCst);
+        }
+    }
+
+    /// Whether the calls were just these: for each of so many lines from 1 on one before it, and then one after it.
+    fn are_of(&self, lines: u64) -> bool {
+        self.strays.load(SeqCst) == 0
+            && self.begun.load(SeqCst) == lines
+            && self.ended.load(SeqCst) == lines
+    }
+}
+
+/// What a gate was told of each of two passes.
+#[derive(Drop)]
+struct Record {
+    first: Calls,
+    second: Calls,
+}
+
+impl Record {
+    fn new() -> Record {
+        Record {
+            first: Calls::new(),
+            second: Calls::new(),
+        }
+    }
+
+    fn calls(&self, pass: u64) -> &Calls {
+        if pass == 0 { &self.first } else { &self.second }
+    }
+}
+
+impl Gate for Record {
+    fn before(&self, pass: u64, line: u64) {
+        self.calls(pass).begin(line);
+    }
+
+    fn after(&self, pass: u64, line: u64) {
+        self.calls(pass).end(line);
+    }
+}
+
+/// A flag for each of two passes. Before its second line a pass raises its own and waits until the other's is up.
+#[derive(Drop)]
+struct Meeting {
+    flags: [AtomicU64; 2],
+    /// How many waits reached their limit.
+    missed: AtomicU64,
+    record: Record,
+}
+
+impl Meeting {
+    fn new() -> Meeting {
+        Meeting {
+            flags: [AtomicU64::new(0), AtomicU64::new(0)],
+            missed: AtomicU64::new(0),
+            record: Record::new(),
+        }
+    }
+
+    /// Whether the other pass's flag is up after at most 100,000,000 turns.
+    fn meets(&self, pass: u64) -> bool {
+        let [first, second] = &self.flags;
+        let (mine, other) = if pass == 0 {
+            (first, second)
+        } else {
+            (second, first)
+        };
+        mine.store(1, SeqCst);
+        for _ in 0..100_000_000 {
+            if other.load(SeqCst) == 1 {
+                return true;
+            }
+            thread::yield_now();
+        }
+        false
+    }
+}
+
+impl Gate for Meeting {
+    fn before(&self, pass: u64, line: u64) {
+        self.record.before(pass, line);
+        if line == 2 && !self.meets(pass) {
+            self.missed.fetch_add(1, SeqCst);
+        }
+    }
+
+    fn after(&self, pass: u64, line: u64) {
+        self.record.after(pass, line);
+    }
+}
+
+/// Whether each of two passes was told of its two lines, and found the other one in the middle of its script.
+fn have_met(gate: &Meeting) -> bool {
+    gate.missed.load(SeqCst) == 0 && gate.record.first.are_of(2) && gate.record.second.are_of(2)
+}
+
+/// Two threads are in the middle of their scripts at once. One thread can't pass, in whatever order it takes the lines.
+#[test]
+fn both_threads_run(rt: HostRuntime) -> Result<(), Fail> {
+    let gate = Meeting::new();
+    let written = outcome_of(&rt, rt.alloc(), &["new\nnew\n", "new\nnew\n"], &gate)?;
+    assert!(rt; have_met(&gate));
+    let written = written.as_str();
+    expect(
+        written.contains("\njournal 4\n") && written.ends_with("\nreplay ok\n"),
+        written,
+    )
+}
+
+/// Whether a gate is told of so many lines of a script, and of none of an empty one beside it; None where memory was wanted.
+fn tells_lines<R: Threads + Wait>(
+    rt: &R,
+    alloc: Global,
+    script: &str,
+    lines: u64,
+) -> Result<Option<bool>, RunFault> {
+    let record = Record::new();
+    match raced(rt, alloc, &[script, ""], &record)? {
+        Some(_) => Ok(Some(record.first.are_of(lines) && record.second.are_of(0))),
+        None => Ok(None),
+    }
+}
+
+/// Fails unless a gate is told of as many lines of a script as stand before it, in which a `|` is an LF.
+fn check_lines<R: Threads + Wait>(rt: &R, alloc: Global, line: &str) -> Result<(), Fail> {
+    let (count, script) = line.split_once(" ").unwrap_or(("0", line));
+    let lines = word_of(count.as_bytes()).unwrap_or(0);
+    let script = match script.replace(alloc, "|", "\n") {
+        Ok(script) => script,
+        Err(_) => script.replace(alloc, "|", "\n")?,
+    };
+    let told = match tells_lines(rt, alloc, script.as_str(), lines)? {
+        None => tells_lines(rt, alloc, script.as_str(), lines)?,
+        told => told,
+    };
+    expect(told == Some(true), line)
+}
+
+/// Blank lines, comments and bad ones count, and what follows the last LF where it isn't empty.
+#[test]
+fn lines_at_the_gate(rt: HostRuntime) -> Result<(), Fail> {
+    let lines = "1 new\n1 new|\n1 |\n2 ||\n4 # a||new\r|sett|\n2 new| ";
+    for line in lines.lines() {
+        check_lines(&rt, rt.alloc(), line)?;
+    }
+    Ok(())
+}
+
+/// Lines that write, read, pin and fail, and a batch.
+const MIXED: &str =
+    "new\nmkindex k LONG\nset 1 k LONG 5\nset 2 k LONG 6\nquery k>4\nbegin\nnew\nset 3 k LONG 7\nnew\ncommit\npin\ndrop 1\nquery k>4\n\
+    unpin\nset 2 k LONG 8\nlive k==8\nrefresh\nrmindex k\ndrop 99\nset 2 \"\" CSTR x\nsett\n# a comment\nnew\n";
+
+/// Fails unless a race of so many such scripts ends with a right replay.
+fn check_race<R: Threads + Wait>(rt: &R, alloc: Global, count: usize) -> Result<(), Fail> {
+    let texts = [MIXED; 4];
+    if count > 4 {
+        return Ok(());
+    }
+    let written = outcome_of(rt, alloc, &texts[..count], &OpenGate)?;
+    let written = written.as_str();
+    expect(
+        written.starts_with("pass 0\n")
+            && written.contains("\njournal ")
+            && written.ends_with("\nreplay ok\n"),
+        written,
+    )
+}
+
+#[test]
+fn races_of_two_to_four(rt: HostRuntime) -> Result<(), Fail> {
+    for count in 2..=4 {
+        check_race(&rt, rt.alloc(), count)?;
+    }
+    Ok(())
+}
+
+/// A text so many times. It is made again where memory is refused.
+fn repeated(alloc: Global, text: &str, count: usize) -> Result<String, AllocError> {
+    match text.repeat(alloc, count) {
+        Err(_) => text.repeat(alloc, count),
+        texts => texts,
+    }
+}
+
+/// Whether these are 100 entries of two nodes each, and nothing was refused.
+fn has_batches(written: &str) -> bool {
+    !written.contains("refused")
+        && written.contains("\njournal 100\n")
+        && written.contains("\n100 by ")
+        && written.matches("new; new -> node ").count() == 100
+        && written.ends_with("\nreplay ok\n")
+}
+
+/// Batches of two scripts, which find each other writing: each is committed whole, as one entry.
+#[test]
+fn batches_at_once(rt: HostRuntime) -> Result<(), Fail> {
+    let script = repeated(rt.alloc(), "begin\nnew\nnew\ncommit\n", 50)?;
+    let script = script.as_str();
+    let written = outcome_of(&rt, rt.alloc(), &[script, script], &OpenGate)?;
+    expect(has_batches(written.as_str()), written.as_str())
+}
+
+/// A reply is written whole among the replies of a race, however long it is.
+#[test]
+fn longest_replies(rt: HostRuntime) -> Result<(), Fail> {
+    let (script, replies) = longest_list(rt.alloc())?;
+    let written = outcome_of(&rt, rt.alloc(), &[script.as_str(), ""], &OpenGate)?;
+    assert!(rt; written.as_str().contains(replies.as_str()));
+    Ok(())
+}
+
+/// The words for how a race ended, and whether anything was written.
+fn words_of(ended: Result<bool, RunFault>, has_written: bool) -> &'static str {
+    match (ended, has_written) {
+        (Ok(true), true) => "right, written",
+        (Ok(true), false) => "right",
+        (Ok(false), _) => "wrong",
+        (Err(RunFault::Memory | RunFault::Write), _) => "memory",
+        (Err(RunFault::Limits), false) => "limits",
+        (Err(RunFault::TooLong), false) => "too long",
+        (Err(RunFault::Read), false) => "read",
+        (Err(_), true) => "a fault, written",
+    }
+}
+
+/// How a race of these scripts on so many pages ends.
+fn end_of<R: Threads + Wait>(rt: &R, scripts: Vec<Vec<u8>>, pages: u64) -> &'static str {
+    let mut written: Vec<u8> = Vec::new(*scripts.allocator());
+    let ended = race_on(rt, scripts, pages, &OpenGate, &mut written);
+    words_of(ended, !written.is_empty())
+}
+
+/// The same of an empty script and one of so many bytes.
+fn end_of_length<R: Threads + Wait>(rt: &R, alloc: Global, length: usize) -> &'static str {
+    let (Ok(mut scripts), Ok(long)) = (scripts_of(alloc, &[""]), vec![in alloc; b'#'; length])
+    else {
+        return "memory";
+    };
+    if scripts.push(long).is_err() {
+        return "memory";
+    }
+    end_of(rt, scripts, 64)
+}
+
+/// Fails unless it ends so, at the second race where memory was wanted at the first.
+fn check_length<R: Threads + Wait>(
+    rt: &R,
+    alloc: Global,
+    length: usize,
+    end: &str,
+) -> Result<(), Fail> {
+    let ended = match end_of_length(rt, alloc, length) {
+        "memory" => end_of_length(rt, alloc, length),
+        ended => ended,
+    };
+    expect(ended == end, ended)
+}
+
+/// A script that is too long, behind one that is empty: nothing is written. A byte less, and it is run.
+#[test]
+fn longest_scripts(rt: HostRuntime) -> Result<(), Fail> {
+    check_length(&rt, rt.alloc(), 1_048_577, "too long")?;
+    check_length(&rt, rt.alloc(), 1_048_576, "right, written")
+}
+
+/// How a race of two short scripts on so many pages ends.
+fn end_on<R: Threads + Wait>(rt: &R, alloc: Global, pages: u64) -> &'static str {
+    match scripts_of(alloc, &["new\n", ""]) {
+        Ok(scripts) => end_of(rt, scripts, pages),
+        Err(_) => "memory",
+    }
+}
+
+/// Fails unless so many pages are told to be out of range, at the second race where memory was wanted at the first.
+fn check_limits<R: Threads + Wait>(rt: &R, alloc: Global, pages: u64) -> Result<(), Fail> {
+    let ended = match end_on(rt, alloc, pages) {
+        "memory" => end_on(rt, alloc, pages),
+        ended => ended,
+    };
+    expect(ended == "limits", ended)
+}
+
+/// A limit that is out of its range is told first, and nothing is written.
+#[test]
+fn limits_of_a_race(rt: HostRuntime) -> Result<(), Fail> {
+    check_limits(&rt, rt.alloc(), 7)?;
+    check_limits(&rt, rt.alloc(), 16385)
+}
+
+/// How many nodes the second script of a race made, and how many of its lines were refused by Full with this number of
+/// entries.
+fn count_fulls(alloc: Global, written: &str) -> Result<(usize, usize), AllocError> {
+    let entries = written.matches(" by 1 new -> node ").count();
+    let full = format!(in alloc; "refused 11 Full {entries}")?;
+    let full = full.as_str();
+    let fulls = written.lines().filter(|line| *line == full).count();
+    Ok((entries, fulls))
+}
+
+/// The same of a race of an empty script and this one, on so many pages; None where memory was wanted.
+fn fulls_on<R: Threads + Wait>(
+    rt: &R,
+    alloc: Global,
+    script: &str,
+    pages: u64,
+) -> Result<Option<(usize, usize)>, RunFault> {
+    match raced_on(rt, alloc, &["", script], pages, &OpenGate)? {
+        Some(written) => Ok(count_fulls(alloc, written.as_str()).ok()),
+        None => Ok(None),
+    }
+}
+
+/// Fails unless so many pages take 60 nodes, or refuse those that they don't take.
+fn check_fulls<R: Threads + Wait>(
+    rt: &R,
+    alloc: Global,
+    script: &str,
+    pages: u64,
+    are_refused: bool,
+) -> Result<(), Fail> {
+    let counted = match fulls_on(rt, alloc, script, pages)? {
+        None => fulls_on(rt, alloc, script, pages)?,
+        counted => counted,
+    };
+    let (entries, fulls) = counted.unwrap_or((0, 0));
+    if fulls == 60_usize.saturating_sub(entries) && (fulls > 0) == are_refused {
+        return Ok(());
+    }
+    Err(Fail::new(pages))
+}
+
+/// A race has as many pages as its limits say: 8 refuse some of 60 nodes, and tell the current version where nothing is
+/// pinned; 64 take them all.
+#[test]
+fn pages_of_a_race(rt: HostRuntime) -> Result<(), Fail> {
+    let script = repeated(rt.alloc(), "new\n", 60)?;
+    check_fulls(&rt, rt.alloc(), script.as_str(), 8, true)?;
+    check_fulls(&rt, rt.alloc(), script.as_str(), 64, false)
+}
+
+/// Whether a race writes as many bytes as there is room for, and then ends with `Write`; or with success, where there is
+/// room for all. It may say no where memory was wanted, which isn't told as `Write`.
+fn fills<R: Threads + Wait>(rt: &R, alloc: Global, room: usize) -> Result<bool, RunFault> {
+    let Ok(scripts) = scripts_of(alloc, &["new\n", ""]) else {
+        return Ok(false);
+    };
+    let mut writer = Narrow::new(OF_TWO.as_bytes(), room, true);
+    match race_on(rt, scripts, 64, &OpenGate, &mut writer) {
+        Ok(legal) => Ok(legal && writer.has_all()),
+        Err(RunFault::Write) if writer.is_full() => Ok(writer.is_cut_short()),
+        Err(RunFault::Memory) => Ok(false),
+        Err(fault) => Err(fault),
+    }
+}
+
+/// A writer that fails at each place: a front is written.
+#[test]
+fn failing_writer_of_a_race(rt: HostRuntime) -> Result<(), Fail> {
+    let alloc = rt.alloc();
+    for room in 0..=OF_TWO.len() {
+        if !fills(&rt, alloc, room)? && !fills(&rt, alloc, room)? {
+            return Err(Fail::new(room));
+        }
+    }
+    Ok(())
+}

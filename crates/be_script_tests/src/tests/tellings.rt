@@ -1,0 +1,112 @@
+//! Runs that tell their journal, and the script that makes the journal again.
+use super::LIMITS;
+use be_history::{Finding, check, dump, journal_told};
+use be_serving::{Limits, RunFault, run_and_tell};
+use be_testing::Narrow;
+use std::alloc::{AllocError, Global};
+use std::test::Fail;
+
+const SCRIPT: &str = "new\nset 1 k LONG 5\nbegin\nnew\nset 2 k LONG 6\ncommit\nget 1 k\ndrop 9\n";
+
+const TOLD: &str =
+    "node 1\nok\nok\nqueued\nqueued\ncommit 3\nnode 2\nok\nLONG 5\nrefused 2 NoNode\njournal 3\n\
+1 by 0 new -> node 1\n2 by 0 set 1 \"k\" LONG 5 -> ok\n3 by 0 new; set 2 \"k\" LONG 6 -> node 2; ok\nreplay ok\n";
+
+const DUMPED: &str = "new\nset 1 \"k\" LONG 5\nbegin\nnew\nset 2 \"k\" LONG 6\ncommit\n";
+
+const TOLD_AGAIN: &str = "node 1\nok\nok\nqueued\nqueued\ncommit 3\nnode 2\nok\njournal 3\n\
+1 by 0 new -> node 1\n2 by 0 set 1 \"k\" LONG 5 -> ok\n3 by 0 new; set 2 \"k\" LONG 6 -> node 2; ok\nreplay ok\n";
+
+/// Whether a run of a script that tells its journal writes this, at the second run where memory may have been wanted at the
+/// first. It is told that the journal is legal.
+fn tells(alloc: Global, script: &str, told: &str) -> Result<bool, Fail> {
+    Ok(tells_at_once(alloc, script, told)? || tells_at_once(alloc, script, told)?)
+}
+
+fn tells_at_once(alloc: Global, script: &str, told: &str) -> Result<bool, Fail> {
+    let mut written: Vec<u8> = Vec::new(alloc);
+    match run_and_tell(alloc, &mut script.as_bytes(), &mut written, LIMITS) {
+        Ok(true) => Ok(written.as_slice() == told.as_bytes()),
+        Ok(false) => Err(Fail::new("the journal isn't legal")),
+        // A vector that can't grow is a write that fails.
+        Err(RunFault::Memory | RunFault::Write) => Ok(false),
+        Err(fault) => Err(fault.into()),
+    }
+}
+
+fn dump_told(alloc: Global, told: &str) -> Result<String, AllocError> {
+    match journal_told(alloc, told.as_bytes())? {
+        Some(entries) => dump(alloc, &entries),
+        None => Ok(String::new(alloc)),
+    }
+}
+
+fn is_right(alloc: Global, told: &str) -> Result<bool, AllocError> {
+    Ok(matches!(&check(alloc, told.as_bytes())?, Finding::Right))
+}
+
+/// A script's journal is told behind its replies, and a run of the journal's script tells the same.
+#[test]
+fn journal_is_made_again(rt: HostRuntime) -> Result<(), Fail> {
+    assert!(rt; tells(rt.alloc(), SCRIPT, TOLD)?);
+    assert!(rt; tells(rt.alloc(), DUMPED, TOLD_AGAIN)?);
+    Ok(())
+}
+
+/// What was told is checked as right, and this script makes it again.
+#[test]
+fn journal_is_read(rt: HostRuntime) -> Result<(), Fail> {
+    let alloc = rt.alloc();
+    assert!(rt;
+        matches!(is_right(alloc, TOLD), Ok(true)) || matches!(is_right(alloc, TOLD), Ok(true))
+    );
+    let dumped = match dump_told(alloc, TOLD) {
+        Ok(text) => text,
+        Err(_) => dump_told(alloc, TOLD)?,
+    };
+    assert!(rt; dumped.as_str() == DUMPED, "{dumped}");
+    Ok(())
+}
+
+/// Whether a run that tells its journal writes as many bytes as there is room for, and then ends with `Write`; or with
+/// success, where there is room for all. It may say no where memory was wanted, which isn't told as `Write`.
+fn fills(alloc: Global, room: usize) -> Result<bool, RunFault> {
+    let mut writer = Narrow::new(TOLD.as_bytes(), room, true);
+    match run_and_tell(alloc, &mut SCRIPT.as_bytes(), &mut writer, LIMITS) {
+        Ok(legal) => Ok(legal && writer.has_all()),
+        Err(RunFault::Write) if writer.is_full() => Ok(writer.is_cut_short()),
+        Err(RunFault::Memory) => Ok(false),
+        Err(fault) => Err(fault),
+    }
+}
+
+/// A writer that fails at each place: a front is written.
+#[test]
+fn failing_writer_of_a_telling(rt: HostRuntime) -> Result<(), Fail> {
+    let alloc = rt.alloc();
+    for room in 0..=TOLD.len() {
+        if !fills(alloc, room)? && !fills(alloc, room)? {
+            return Err(Fail::new(room));
+        }
+    }
+    Ok(())
+}
+
+/// Whether a run whose limits are out of range ends with that, and leaves nothing written, nor read.
+fn leaves_all(alloc: Global, limits: Limits) -> bool {
+    let mut script = SCRIPT.as_bytes();
+    let mut written: Vec<u8> = Vec::new(alloc);
+    let ran = run_and_tell(alloc, &mut script, &mut written, limits);
+    matches!(ran, Err(RunFault::Limits)) && script == SCRIPT.as_bytes() && written.is_empty()
+}
+
+/// A limit that is out of its range leaves nothing written, nor read.
+#[test]
+fn limits_are_looked_at(rt: HostRuntime) -> Result<(), Fail> {
+    let limits = Limits {
+        commits: 0,
+        ..LIMITS
+    };
+    assert!(rt; leaves_all(rt.alloc(), limits));
+    Ok(())
+}

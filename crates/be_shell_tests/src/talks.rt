@@ -1,0 +1,293 @@
+//! Conversations: with a peer that looks at the order of calls and fails at each of them, and with a reader and a writer.
+ghost use Rattle.std.specs.Prelude.{⊤};
+
+use be_serving::{Limits, RunFault};
+use be_shell::{Ends, Line, Peer, shell};
+use be_testing::longest_list;
+use std::alloc::{AllocError, Global};
+use std::io::{self, Write};
+use std::test::Fail;
+
+const LIMITS: Limits = Limits {
+    pages: 128,
+    passes: 1,
+    commits: 1_000_000,
+};
+
+/// How many rows there are.
+const ROWS: usize = 8;
+
+/// A line with its reply. The batch stays open between them.
+fn row(place: usize) -> Option<(&'static str, &'static str)> {
+    match place {
+        0 => Some(("new", "node 1\n")),
+        1 => Some(("# a comment", "")),
+        2 => Some(("begin", "ok\n")),
+        3 => Some(("set 1 k LONG 5\r", "queued\n")),
+        4 => Some(("sett", "bad line\n")),
+        5 => Some(("commit", "commit 2\nok\n")),
+        6 => Some(("get 1 k", "LONG 5\n")),
+        7 => Some(("", "")),
+        _ => None,
+    }
+}
+
+/// What a peer waits for.
+#[derive(Clone, Copy, PartialEq, Eq)]
+enum Awaits {
+    Hear,
+    Say,
+    Flush,
+}
+
+/// Has the lines of the rows, and looks whether each call comes in its turn and each reply is that of its row. It fails at
+/// a call, if there are so many.
+#[derive(Drop)]
+struct Strict {
+    row: usize,
+    awaits: Awaits,
+    is_in_order: bool,
+    calls_left: usize,
+}
+
+impl Strict {
+    fn new(calls_left: usize) -> Strict {
+        Strict {
+            row: 0,
+            awaits: Awaits::Hear,
+            is_in_order: true,
+            calls_left,
+        }
+    }
+
+    /// Notes a call, and tells whether it is to fail.
+    fn fails_at(&mut self, call: Awaits) -> bool {
+        if self.awaits != call {
+            self.is_in_order = false;
+        }
+        if self.calls_left == 0 {
+            return true;
+        }
+        self.calls_left -= 1;
+        false
+    }
+}
+
+fn line_of(alloc: Global, text: &str) -> Result<Line, AllocError> {
+    let mut bytes = Vec::new(alloc);
+    bytes.extend_from_slice(text.as_bytes())?;
+    Ok(Line::Short(bytes))
+}
+
+impl Peer for Strict {
+    ghost does = { λ _ _ _. ⊤ };
+
+    fn hear(&mut self, alloc: Global, _is_batch_open: bool) -> Result<Option<Line>, RunFault> {
+        if self.fails_at(Awaits::Hear) {
+            return Err(RunFault::Read);
+        }
+        let Some((text, _)) = row(self.row) else {
+            return Ok(None);
+        };
+        match line_of(alloc, text) {
+            Ok(line) => {
+                self.awaits = Awaits::Say;
+                Ok(Some(line))
+            }
+            Err(_) => Err(RunFault::Memory),
+        }
+    }
+
+    fn say(&mut self, reply: &[u8]) -> Result<(), RunFault> {
+        if self.fails_at(Awaits::Say) {
+            return Err(RunFault::Write);
+        }
+        match row(self.row) {
+            Some((_, expected)) if expected.as_bytes() == reply => {}
+            _ => self.is_in_order = false,
+        }
+        self.awaits = Awaits::Flush;
+        Ok(())
+    }
+
+    fn flush(&mut self) -> Result<(), RunFault> {
+        if self.fails_at(Awaits::Flush) {
+            return Err(RunFault::Write);
+        }
+        self.row = self.row.saturating_add(1);
+        self.awaits = Awaits::Hear;
+        Ok(())
+    }
+}
+
+/// A conversation with this peer, behind no other.
+fn talk(alloc: Global, peer: &mut Strict) -> Result<(), RunFault> {
+    let mut written: Vec<u8> = Vec::new(alloc);
+    let mut nothing = Ends::new(b"".as_slice(), &mut written);
+    shell(alloc, &mut nothing, peer, LIMITS)
+}
+
+/// How many calls a whole conversation makes: three a line, and one that hears the end.
+const CALLS: usize = 3 * ROWS + 1;
+
+/// Whether a conversation that fails at this call ends there with its fault, all before it in order; or to its end, where
+/// none fails.
+fn ends_at(alloc: Global, call: usize) -> bool {
+    let mut peer = Strict::new(call);
+    let ended = talk(alloc, &mut peer);
+    let is_right = match ended {
+        Ok(()) => call == CALLS,
+        Err(RunFault::Read) => call < CALLS && call % 3 == 0,
+        Err(RunFault::Write) => call < CALLS && call % 3 != 0,
+        Err(_) => false,
+    };
+    is_right && peer.is_in_order && peer.calls_left == 0 && peer.row == call / 3
+}
+
+/// A peer that fails at each of its calls, and one that fails at none.
+#[test]
+fn failing_peer(rt: HostRuntime) -> Result<(), Fail> {
+    for call in 0..CALLS + 1 {
+        if !ends_at(rt.alloc(), call) && !ends_at(rt.alloc(), call) {
+            return Err(Fail::new(call));
+        }
+    }
+    Ok(())
+}
+
+/// What a shell says to the bytes of a reader, behind those of a first one.
+fn said_to(alloc: Global, first: &[u8], bytes: &[u8]) -> Result<Vec<u8>, RunFault> {
+    let mut early: Vec<u8> = Vec::new(alloc);
+    let mut late: Vec<u8> = Vec::new(alloc);
+    shell(
+        alloc,
+        &mut Ends::new(first, &mut early),
+        &mut Ends::new(bytes, &mut late),
+        LIMITS,
+    )?;
+    match early.extend_from_slice(&late) {
+        Ok(()) => Ok(early),
+        Err(_) => Err(RunFault::Memory),
+    }
+}
+
+/// Fails unless a shell says this, asked again where memory was wanted.
+fn check(alloc: Global, first: &[u8], bytes: &[u8], replies: &str) -> Result<(), Fail> {
+    for _ in 0..2 {
+        if let Ok(said) = said_to(alloc, first, bytes) {
+            if said.as_slice() == replies.as_bytes() {
+                return Ok(());
+            }
+        }
+    }
+    Err(Fail::new(replies))
+}
+
+/// The end of the last line, a CR, and a byte that is no UTF-8.
+#[test]
+fn ends_of_lines(rt: HostRuntime) -> Result<(), Fail> {
+    let alloc = rt.alloc();
+    check(alloc, b"", b"", "")?;
+    check(alloc, b"", b"\n\n", "")?;
+    check(alloc, b"", b"new\nnew", "node 1\nnode 2\n")?;
+    check(alloc, b"", b"new\r\nnew\r", "node 1\nnode 2\n")?;
+    check(alloc, b"", b"new\xff\nnew\n", "bad line\nnode 1\n")
+}
+
+/// The end of the first peer's last line, and a batch that goes on from the first peer to the other.
+#[test]
+fn two_peers(rt: HostRuntime) -> Result<(), Fail> {
+    let alloc = rt.alloc();
+    check(alloc, b"new", b"new", "node 1\nnode 2\n")?;
+    let replies = "ok\nqueued\ncommit 1\nnode 1\n";
+    check(alloc, b"begin\nnew\n", b"commit\n", replies)
+}
+
+/// A comment of as many bytes as a line may have, and one of a byte more, before a line that is answered.
+fn commented(alloc: Global, len: usize) -> Result<Vec<u8>, AllocError> {
+    let mut bytes: Vec<u8> = vec![in alloc; b'#'; len]?;
+    bytes.extend_from_slice(b"\nnew\n")?;
+    Ok(bytes)
+}
+
+/// A reply is said whole, however long it is.
+#[test]
+fn longest_replies(rt: HostRuntime) -> Result<(), Fail> {
+    let (script, replies) = longest_list(rt.alloc())?;
+    check(rt.alloc(), b"", script.as_bytes(), &replies)
+}
+
+/// Fails unless a shell says this to a comment of so many bytes before a line that is answered.
+fn check_comment(alloc: Global, len: usize, replies: &str) -> Result<(), Fail> {
+    let bytes = match commented(alloc, len) {
+        Ok(bytes) => bytes,
+        Err(_) => commented(alloc, len)?,
+    };
+    check(alloc, b"", &bytes, replies)
+}
+
+/// The longest line, and longer ones.
+#[test]
+fn long_lines(rt: HostRuntime) -> Result<(), Fail> {
+    check_comment(rt.alloc(), 65_536, "node 1\n")?;
+    check_comment(rt.alloc(), 65_537, "bad line\nnode 1\n")?;
+    check_comment(rt.alloc(), 1_100_000, "bad line\nnode 1\n")
+}
+
+/// Holds what it is given until a flush sends it, and fails at each flush behind so many.
+#[derive(Drop)]
+struct Sending {
+    held: u64,
+    flushes: u64,
+    flushes_left: u64,
+}
+
+impl Write for Sending {
+    fn write(&mut self, buf: &[u8]) -> io::Result<usize> {
+        self.held = self.held.saturating_add(buf.len() as u64);
+        Ok(buf.len())
+    }
+
+    fn flush(&mut self) -> io::Result<()> {
+        if self.flushes_left == 0 {
+            return Err(io::Error::from(io::ErrorKind::Other));
+        }
+        self.held = 0;
+        self.flushes = self.flushes.saturating_add(1);
+        self.flushes_left -= 1;
+        Ok(())
+    }
+}
+
+/// Whether a conversation of three lines over a writer that sends so many replies ends with `Write` behind them; or well,
+/// where it sends each.
+fn sends(alloc: Global, most: u64) -> bool {
+    let mut early: Vec<u8> = Vec::new(alloc);
+    let mut late = Sending {
+        held: 0,
+        flushes: 0,
+        flushes_left: most,
+    };
+    let ended = shell(
+        alloc,
+        &mut Ends::new(b"".as_slice(), &mut early),
+        &mut Ends::new(b"new\nbad\nnew\n".as_slice(), &mut late),
+        LIMITS,
+    );
+    match ended {
+        Ok(()) => most >= 3 && late.flushes == 3 && late.held == 0,
+        Err(RunFault::Write) => most < 3 && late.flushes == most && late.held > 0,
+        Err(_) => false,
+    }
+}
+
+/// A writer that fails at each flush.
+#[test]
+fn failing_flush(rt: HostRuntime) -> Result<(), Fail> {
+    for most in 0..5u64 {
+        if !sends(rt.alloc(), most) && !sends(rt.alloc(), most) {
+            return Err(Fail::new(most));
+        }
+    }
+    Ok(())
+}

@@ -1,0 +1,91 @@
+-- What a pass has seen stays a beginning of the journal through all its calls.
+use Rattle.std.proofs.Common.{◌≡◌, ◌≤◌, ◌-◌, ℕ, inl, inr, List, [], ◌∷◌, ◌++◌, length, take, Option, Some, refl, sym, ap, ◌∙◌, subst, arith, length-append}
+use Rattle.std.specs.Prelude.{All, map, slice_get}
+use Rattle.std.proofs.Math.Seq.{get_or-append_seam}
+use Rattle.std.proofs.lemmas.List.{append_assoc, append-nil, length-map, take-append-le}
+use Rattle.std.proofs.lemmas.List.Elements.{All-cons, All-nil}
+use Rattle.std.proofs.lemmas.Option.{slice_get-get_or}
+use Rattle.std.specs.Option.{option_map_or}
+use Rattle.be_core.specs.declared.event.Phase.TheVariants.{Pinned}
+use Rattle.be_core.specs.Machine.{InTime}
+use Rattle.be_journal.specs.declared.entries.Entry.{Entry}
+use Rattle.be_journal.specs.Journal.{replay}
+use Rattle.be_table.specs.declared.pass.Commit.{Commit}
+use Rattle.be_table.specs.declared.pass.Knowledge.{Knowledge}
+use Rattle.be_table.specs.History.{StartsWith}
+use Rattle.be_table.specs.Rule.{entries}
+use Rattle.be_table.specs.Steps.{IsPass, KeepsSeen, entry_by}
+use Rattle.be_volume.specs.Volume.{empty}
+use Rattle.be_volume.specs.declared.ops.Done.{Done}
+use Rattle.be_volume.specs.declared.ops.Op.{Op}
+use Rattle.be_store.specs.Calls.{Call, Calls, HasWrites, ReadsFronts}
+use Rattle.be_store.specs.History.{Accepts}
+use Rattle.be_store.specs.Passes.{IsPinnedTo, volume_pinned}
+use Rattle.be_store.proofs.Applied.{entries_append}
+use Rattle.be_store.proofs.Passes.{pinned_phase}
+
+starts_refl : {A : Type 0} (xs : List A) → StartsWith xs xs
+starts_refl xs = ([], sym (append-nil xs))
+
+starts_trans : {A : Type 0} (xs ys zs : List A) → StartsWith zs ys → StartsWith ys xs → StartsWith zs xs
+starts_trans xs ys zs more first = (first.0 ++ more.0, more.1 ∙ (ap (λ l. l ++ more.0) first.1 ∙ append_assoc xs first.0 more.0))
+
+same_starts : (a c : Knowledge) → c.seen ≡ a.seen → StartsWith c.seen a.seen
+same_starts a c same = subst (λ l. StartsWith l a.seen) (sym same) (starts_refl a.seen)
+
+call_seen : (a c : Knowledge) → Call a c → StartsWith c.seen a.seen
+call_seen a c (inl (ops, n, dones, h)) = (h.others ++ h.commit ∷ [], h.seen ∙ append_assoc a.seen h.others (h.commit ∷ []))
+call_seen a c (inr (inl h)) = h.more
+call_seen a c (inr (inr (inl (n, h)))) = h.more
+call_seen a c (inr (inr (inr (inl h)))) = same_starts a c (ap (λ (k : Knowledge). k.seen) h)
+call_seen a c (inr (inr (inr (inr (inl h))))) = same_starts a c (ap (λ (k : Knowledge). k.seen) h)
+call_seen a c (inr (inr (inr (inr (inr (log, more, h)))))) = subst (λ l. StartsWith l a.seen) (sym (ap (λ (k : Knowledge). k.seen) h)) more
+
+calls_seen : (a : Knowledge) (cs : List Knowledge) (z : Knowledge) → Calls a cs z → StartsWith z.seen a.seen
+calls_seen a [] z h = same_starts a z (ap (λ (k : Knowledge). k.seen) (sym h))
+calls_seen a (c ∷ cs) z h = starts_trans a.seen c.seen z.seen (calls_seen c cs z h.1) (call_seen a c h.0)
+
+entries_start : (log seen : List Commit) → StartsWith log seen → StartsWith (entries log) (entries seen)
+entries_start log seen h = (entries h.0, ap entries h.1 ∙ entries_append seen h.0)
+
+-- the journal begins with what the pass had seen behind any of its calls
+reaches : (log : List Entry) (a : Knowledge) (cs : List Knowledge) (z : Knowledge) → StartsWith log (entries z.seen) → Calls a cs z → StartsWith log (entries a.seen)
+reaches log a cs z more h = starts_trans (entries a.seen) (entries z.seen) log more (entries_start z.seen a.seen (calls_seen a cs z h))
+
+stands_at_seam : {A : Type 0} (log xs : List A) (y : A) (rest : List A) → log ≡ xs ++ y ∷ rest → slice_get log (length xs) ≡ Some y
+stands_at_seam log xs y rest is =
+    let l = length-append xs (y ∷ rest) in
+    ap (λ k. slice_get k (length xs)) is
+    ∙ (slice_get-get_or (xs ++ y ∷ rest) (length xs) y (omega (arith, l)) ∙ ap Some (get_or-append_seam xs y rest y))
+
+has_writes : (log : List Entry) (z : Knowledge) → StartsWith log (entries z.seen) → HasWrites log z
+has_writes log z more a c cs ops n dones h calls =
+    let front = entries (a.seen ++ h.others) in
+    let own : entries c.seen ≡ front ++ entry_by a ops dones ∷ [] =
+    ap entries h.seen ∙ (entries_append (a.seen ++ h.others) (h.commit ∷ []) ∙ ap (λ e. front ++ e ∷ []) h.entry) in
+    let begun = reaches log c cs z more calls in
+    let is : log ≡ front ++ entry_by a ops dones ∷ begun.0 =
+    begun.1 ∙ (ap (λ l. l ++ begun.0) own ∙ append_assoc front (entry_by a ops dones ∷ []) begun.0) in
+    let long = ap length h.seen in
+    let parts = length-append (a.seen ++ h.others) (h.commit ∷ []) in
+    let counted = length-map (a.seen ++ h.others) (λ (x : Commit). x.entry) in
+    let at : n - 1 ≡ length front = omega (arith, h.number, long, parts, counted) in
+    ap (slice_get log) at ∙ stands_at_seam log front (entry_by a ops dones) begun.0 is
+
+reads_fronts : (log : List Entry) (z : Knowledge) → StartsWith log (entries z.seen) → ReadsFronts log z
+reads_fronts log z more a cs n pass pin calls =
+    let at = pinned_phase a.phase n pin in
+    let inside : InTime (length a.seen) (Pinned at.0 n) = subst (InTime (length a.seen)) at.1 pass.pin in
+    let counted = length-map a.seen (λ (x : Commit). x.entry) in
+    let below : n ≤ length (entries a.seen) = omega (arith, inside.1, counted) in
+    let begun = reaches log a cs z more calls in
+    let read : volume_pinned a ≡ replay (take n (entries a.seen)) = ap (λ o. option_map_or (λ m. replay (take m (entries a.seen))) o empty) pin in
+    read ∙ ap replay (sym (take-append-le n (entries a.seen) begun.0 below) ∙ ap (take n) (sym begun.1))
+
+pub all_writes : (log : List Entry) (passes : List Knowledge) → KeepsSeen log passes → All (HasWrites log) passes
+all_writes log [] kept = All-nil (HasWrites log)
+all_writes log (a ∷ passes) kept = All-cons (HasWrites log) a passes (has_writes log a kept.0) (all_writes log passes kept.2)
+
+pub all_fronts : (log : List Entry) (passes : List Knowledge) → KeepsSeen log passes → All (ReadsFronts log) passes
+all_fronts log [] kept = All-nil (ReadsFronts log)
+all_fronts log (a ∷ passes) kept = All-cons (ReadsFronts log) a passes (reads_fronts log a kept.0) (all_fronts log passes kept.2)

@@ -1,0 +1,10 @@
+use Rattle.std.specs.Prelude.{map}
+use Rattle.be_store.proofs.Calls.{all_fronts, all_writes}
+use Rattle.be_table.specs.Works.{knows_of}
+use Rattle.be_store.proofs.store.Store.close.Goals as goal
+
+pub returns-clause-writes : goal.returns-clause-writes
+returns-clause-writes c = all_writes c.close.result.entries (map knows_of c.args.passes.items) c.close.ensures.seats
+
+pub returns-clause-reads : goal.returns-clause-reads
+returns-clause-reads c = all_fronts c.close.result.entries (map knows_of c.args.passes.items) c.close.ensures.seats

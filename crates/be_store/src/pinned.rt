@@ -1,0 +1,133 @@
+//! A pass while it is pinned.
+//!
+//! A pin that is forgotten holds its version's pages for as long as the store lives. So a program that leaves a function by
+//! `?` asks through a `Pinned`, which unpins when it goes.
+ghost use Rattle.std.specs.Prelude.{◌≡◌, ◌⊎◌, ℕ, None, Ok, Err, IsOk, IfOk, IfErr};
+ghost use Rattle.std.specs.List.Sorted.{IsStrictlyIncreasing};
+ghost use Rattle.be_store.specs.History.{Pins};
+ghost use Rattle.be_store.specs.Live.{Refreshes};
+ghost use Rattle.be_store.specs.Passes.{IsBetweenCalls, IsBetweenCalls-prop, IsPassOf, IsPinnedTo, HasRead, volume_pinned};
+ghost use Rattle.be_table.specs.Works.{IsSeatOf};
+ghost use Rattle.be_table.specs.Seats.{pinned_number};
+ghost use Rattle.be_table.specs.Steps.{unpins};
+ghost use Rattle.be_table.specs.Trace.{with_history};
+ghost use Rattle.be_value.specs.Refusal.{Answers};
+ghost use Rattle.be_value.specs.declared.refusals.Refusal.TheVariants.{OutOfMemory};
+ghost use Rattle.be_volume.specs.Query.{scan};
+ghost use Rattle.be_volume.specs.Reading.{attribute, attributes_at, index_kinds};
+
+use crate::answers::{Answer, Updates};
+use crate::{Live, Pass, Store};
+use be_query::Query;
+use be_value::{Kind, Name, Refusal, Value};
+use std::alloc::Global;
+
+/// A pass that is pinned for as long as this lives. Whichever way it goes, the pass is unpinned then.
+pub struct Pinned<'a> {
+    store: &'a Store,
+    pass: &'a mut Pass,
+    number: u64,
+    ghost seat: { IsSeatOf store.now pass.now },
+    ghost between: { IsBetweenCalls store.now.limits.passes pass.now.knows.phase } by { IsBetweenCalls-prop store.now.limits.passes pass.now.knows.phase },
+}
+
+impl Store {
+    /// Pins the version that is current, as `pin` does, until what it gives goes. Three steps, and one at the end.
+    pub fn pinned<'a>(&'a self, pass: &'a mut Pass) -> Pinned<'a>
+        requires pass { IsPassOf self.now pass.old }
+        requires unpinned { pinned_number pass.old.knows.phase ≡ None }
+        ensures same_reference { result.pass.ghost_name ≡ pass.entry.ghost_name }
+        ensures store { result.store.now ≡ self.now }
+        ensures pin { Pins pass.old.knows result.pass.now.knows result.number }
+    {
+        let number = self.pin(pass);
+        Pinned {
+            store: self,
+            pass,
+            number,
+        }
+    }
+}
+
+impl Pinned<'_> {
+    /// How many entries of the journal the version has that is read.
+    pub fn number(&self) -> u64
+        ensures { result ≡ self.now.number }
+    {
+        self.number
+    }
+
+    /// As `Store::query`.
+    pub fn query(&mut self, alloc: Global, query: &Query) -> Result<Answer, Refusal>
+        requires pinned { (n : ℕ) × IsPinnedTo self.old.pass.now.knows n }
+        ensures same_reference { self.new.pass.ghost_name ≡ self.old.pass.ghost_name }
+        ensures store { (self.new.store.now ≡ self.old.store.now) × (self.new.number ≡ self.old.number) }
+        ensures read { HasRead self.old.pass.now.knows self.new.pass.now.knows }
+        ensures nodes { Answers (λ a. a.nodes.items) result (scan (volume_pinned self.old.pass.now.knows) query.now) }
+        ensures rising { IfOk result (λ a. IsStrictlyIncreasing a.nodes.items) }
+        ensures pin { IfOk result (λ a. IsPinnedTo self.old.pass.now.knows a.pin) }
+    {
+        self.store.query(alloc, self.pass, query)
+    }
+
+    /// As `Store::get`.
+    pub fn get(&mut self, node: u64, name: &Name) -> Option<Value>
+        requires pinned { (n : ℕ) × IsPinnedTo self.old.pass.now.knows n }
+        ensures same_reference { self.new.pass.ghost_name ≡ self.old.pass.ghost_name }
+        ensures store { (self.new.store.now ≡ self.old.store.now) × (self.new.number ≡ self.old.number) }
+        ensures read { HasRead self.old.pass.now.knows self.new.pass.now.knows }
+        ensures value { result ≡ attribute (volume_pinned self.old.pass.now.knows) node name.now }
+    {
+        self.store.get(self.pass, node, name)
+    }
+
+    /// As `Store::attrs`.
+    pub fn attrs(&mut self, alloc: Global, node: u64) -> Result<Vec<(Name, Value)>, Refusal>
+        requires pinned { (n : ℕ) × IsPinnedTo self.old.pass.now.knows n }
+        ensures same_reference { self.new.pass.ghost_name ≡ self.old.pass.ghost_name }
+        ensures store { (self.new.store.now ≡ self.old.store.now) × (self.new.number ≡ self.old.number) }
+        ensures read { HasRead self.old.pass.now.knows self.new.pass.now.knows }
+        ensures list { Answers (λ list. list.items) result (attributes_at (volume_pinned self.old.pass.now.knows) node) }
+        ensures wanted { IfErr result (λ e. e ≡ OutOfMemory → IsOk (attributes_at (volume_pinned self.old.pass.now.knows) node)) }
+    {
+        self.store.attrs(alloc, self.pass, node)
+    }
+
+    /// As `Store::indices`.
+    pub fn indices(&mut self, alloc: Global) -> Result<Vec<(Name, Kind)>, Refusal>
+        requires pinned { (n : ℕ) × IsPinnedTo self.old.pass.now.knows n }
+        ensures same_reference { self.new.pass.ghost_name ≡ self.old.pass.ghost_name }
+        ensures store { (self.new.store.now ≡ self.old.store.now) × (self.new.number ≡ self.old.number) }
+        ensures read { HasRead self.old.pass.now.knows self.new.pass.now.knows }
+        ensures list { Answers (λ list. list.items) result (Ok (index_kinds (volume_pinned self.old.pass.now.knows))) }
+    {
+        self.store.indices(alloc, self.pass)
+    }
+
+    /// As `Live::refresh`.
+    pub fn refresh(&mut self, live: &mut Live) -> Result<Updates, Refusal>
+        requires pinned { (n : ℕ) × IsPinnedTo self.old.pass.now.knows n }
+        ensures same_reference { self.new.pass.ghost_name ≡ self.old.pass.ghost_name }
+        ensures store { (self.new.store.now ≡ self.old.store.now) × (self.new.number ≡ self.old.number) }
+        ensures read { HasRead self.old.pass.now.knows self.new.pass.now.knows }
+        ensures ok { IfOk result (λ u. Refreshes (volume_pinned self.old.pass.now.knows) live.old live.new u.created.items u.removed.items) }
+        ensures err { IfErr result (λ e. (live.new ≡ live.old) × ((e ≡ OutOfMemory) ⊎ (scan (volume_pinned self.old.pass.now.knows) live.old.query ≡ Err e))) }
+    {
+        live.refresh(self.store, self.pass)
+    }
+}
+
+impl Drop for Pinned<'_> {
+    fn drop(self)
+        requires pinned { (n : ℕ) × IsPinnedTo self.pass.now.knows n }
+        ensures pass { IsPassOf self.entry.store.now self.exit.1.0.now }
+        ensures unpinned { self.exit.1.0.now.knows ≡ unpins (with_history self.entry.pass.now.knows self.exit.1.0.now.knows.history) }
+    {
+        let Pinned {
+            store,
+            pass,
+            number: _,
+        } = self;
+        store.unpin(pass);
+    }
+}

@@ -1,0 +1,80 @@
+-- The trace of a table: the moves that its machine has made so far.
+use Rattle.std.specs.Prelude.{◌≡◌, ◌≢◌, ℕ, List, [], ◌∷◌, ◌++◌, Some, IsTrue}
+use Rattle.be_core.specs.Machine.{World, Holder, first_state, MayLook, MayAnnounce, MayLookAgain, MayUnpin, MayLock, MayScan, MayFill, MayPublish, MayUnlock, after_look, after_announce, after_look_again, after_unpin, after_lock, after_scan, after_fill, after_publish, after_unlock, after_return}
+use Rattle.be_table.specs.declared.limits.Limits.{Limits}
+use Rattle.be_table.specs.declared.pass.Knowledge.{Knowledge}
+use Rattle.be_table.specs.declared.pass.Move.{Move}
+use Rattle.be_table.specs.declared.pass.Move.TheVariants.{Look, Announce, LookAgain, Unpin, Lock, Scan, Fill, Publish, Unlock, Return}
+
+-- the pass that makes the move
+abbrev pub mover : Move → ℕ
+mover (Look k) = k
+mover (Announce k) = k
+mover (LookAgain k) = k
+mover (Unpin k) = k
+mover (Lock k) = k
+mover (Scan k j) = k
+mover (Fill k p i word) = k
+mover (Publish k page given) = k
+mover (Unlock k) = k
+mover (Return k p) = k
+
+-- the pass holds the lock, and has taken the page
+abbrev pub MayReturn : World → ℕ → ℕ → Type 0
+MayReturn w k p = ((h : Holder) × (w.holder ≡ Some h) × (h.pass ≡ k)) × IsTrue (w.taken p)
+
+abbrev pub MayMove : World → Move → Type 0
+MayMove w (Look k) = MayLook w k
+MayMove w (Announce k) = MayAnnounce w k
+MayMove w (LookAgain k) = MayLookAgain w k
+MayMove w (Unpin k) = MayUnpin w k
+MayMove w (Lock k) = MayLock w k
+MayMove w (Scan k j) = MayScan w k j
+MayMove w (Fill k p i word) = MayFill w k p i
+MayMove w (Publish k page given) = MayPublish w k page given
+MayMove w (Unlock k) = MayUnlock w k
+MayMove w (Return k p) = MayReturn w k p
+
+abbrev pub after_move : World → Move → World
+after_move w (Look k) = after_look w k
+after_move w (Announce k) = after_announce w k
+after_move w (LookAgain k) = after_look_again w k
+after_move w (Unpin k) = after_unpin w k
+after_move w (Lock k) = after_lock w k
+after_move w (Scan k j) = after_scan w j
+after_move w (Fill k p i word) = after_fill w p i word
+after_move w (Publish k page given) = after_publish w given
+after_move w (Unlock k) = after_unlock w
+after_move w (Return k p) = after_return w p
+
+-- the moves, one after another, lead from w to w', and each is allowed where it stands
+abbrev pub Run : World → List Move → World → Type 0
+Run w [] w' = w' ≡ w
+Run w (m ∷ ms) w' = MayMove w m × Run (after_move w m) ms w'
+
+-- from the start of a table with these words in its pages
+abbrev pub RunsTo : Limits → (ℕ → ℕ → ℕ) → List Move → World → Type 0
+RunsTo limits words moves w = Run (first_state limits.pages limits.passes limits.commits words) moves w
+
+-- none of the moves is by the pass k
+abbrev pub NoneBy : ℕ → List Move → Type 0
+NoneBy k [] = Unit {0}
+NoneBy k (m ∷ ms) = (mover m ≢ k) × NoneBy k ms
+
+-- The pass k makes these moves one after another, each after moves of others, and so its history goes from `old` to `new`.
+abbrev pub Makes : ℕ → List Move → List Move → List Move → Type 0
+Makes k old [] new = new ≡ old
+Makes k old (m ∷ ms) new = (others : List Move) × NoneBy k others × Makes k ((old ++ others) ++ m ∷ []) ms new
+
+-- since its history the pass k has made no move
+abbrev pub Rests : ℕ → List Move → List Move → Type 0
+Rests k history trace = (others : List Move) × NoneBy k others × (trace ≡ history ++ others)
+
+-- the same of each of these passes
+abbrev pub AllRest : List Move → List Knowledge → Type 0
+AllRest trace [] = Unit {0}
+AllRest trace (a ∷ v) = Rests a.number a.history trace × AllRest trace v
+
+-- the pass with this history
+abbrev pub with_history : Knowledge → List Move → Knowledge
+with_history a history = record a { history = history }

@@ -1,0 +1,137 @@
+//! What a pass does while it holds the lock. Lists of operations go through be_paged over the open write.
+ghost use Rattle.std.specs.Prelude.{◌≡◌, ◌≤◌, ◌<◌, ◌+◌, ◌^◌, ℕ, false, length, IfErr, IfOk};
+ghost use Rattle.be_table.specs.declared.pass.Knowledge.{Knowledge};
+ghost use Rattle.be_paged.specs.Changes.{Applies};
+ghost use Rattle.be_paged.specs.Version.{IsVersion};
+ghost use Rattle.be_volume.specs.Volume.{State};
+ghost use Rattle.be_table.specs.Reading.{open_of, standing_among, word_of_page, standing_in_work, words_of};
+ghost use Rattle.be_table.specs.Works.{TakesLock};
+ghost use Rattle.be_table_tests.specs.Resting.{IsResting, StaysSeat};
+
+use arrayvec::ArrayVec;
+use be_paged::apply;
+use be_table::{Seat, VersionTable, Writing};
+use be_value::Refusal;
+use be_volume::{Done, Op};
+
+/// Makes room for so many operations, at the second call where memory is refused at the first.
+fn make_room(writing: &mut Writing<'_>, count: usize) -> Result<(), Refusal>
+    requires open { writing.old.knows.published ≡ false }
+    requires count { (1 ≤ count) × (count ≤ 64) }
+    ensures knows { writing.new.knows ≡ writing.old.knows }
+    ensures table { writing.new.table ≡ writing.old.table }
+    ensures reserved { IfOk result (λ _. writing.new.reserved ≡ count) }
+{
+    match writing.reserve(count) {
+        Err(Refusal::OutOfMemory) => writing.reserve(count),
+        answer => answer,
+    }
+}
+
+/// Applies a list of operations to a version in an open write.
+fn apply_to(
+    writing: &mut Writing<'_>,
+    page: u64,
+    ops: &[Op],
+) -> Result<(u64, ArrayVec<Done, 64>), Refusal>
+    ghost volume: { State }
+    requires version { IsVersion (standing_among writing.old.knows.places) (word_of_page writing.old.knows.words) page volume }
+    requires count { (1 ≤ length ops.now) × (length ops.now ≤ 64) }
+    requires fits { volume.next + 64 < 2 ^ 64 }
+    requires open { writing.old.knows.published ≡ false }
+    ensures ok { IfOk result (λ r. Applies open_of standing_in_work words_of page r.0 volume ops.now r.1.items writing.old writing.new) }
+    ensures err { IfErr result (λ e. open_of writing.new ≡ open_of writing.old) }
+{
+    apply(writing, page, ops)
+}
+
+/// Applies a list of operations to the current version, and publishes the version that it makes. Answers the journal's
+/// length.
+fn write(writing: &mut Writing<'_>, ops: &[Op]) -> Result<u64, Refusal>
+    requires begun { (a : Knowledge) × TakesLock a writing.old.knows }
+    requires count { (1 ≤ length ops.now) × (length ops.now ≤ 64) }
+    ensures table { writing.new.table ≡ writing.old.table }
+    ensures pass { (writing.new.knows.number ≡ writing.old.knows.number) × (writing.new.knows.phase ≡ writing.old.knows.phase) }
+{
+    let (_, old) = writing.current();
+    let (page, dones) = apply_to(writing, old, ops)?;
+    make_room(writing, ops.len())?;
+    Ok(writing.publish(page, ops, dones.as_slice()))
+}
+
+/// The least of a scan, whether one is due, or 0.
+fn look_round(writing: &mut Writing<'_>, words: &str) -> u64
+    requires open { writing.old.knows.published ≡ false }
+    ensures table { writing.new.table ≡ writing.old.table }
+    ensures pass { (writing.new.knows.number ≡ writing.old.knows.number) × (writing.new.knows.phase ≡ writing.old.knows.phase) }
+{
+    match words {
+        "scan" => writing.scan(),
+        "due" => writing.is_scan_due() as u64,
+        _ => 0,
+    }
+}
+
+/// Writes a list, or looks round where it is empty. BadLimits where it has more than 64 operations.
+pub(crate) fn act(writing: &mut Writing<'_>, ops: &[Op], words: &str) -> Result<u64, Refusal>
+    requires begun { (a : Knowledge) × TakesLock a writing.old.knows }
+    ensures table { writing.new.table ≡ writing.old.table }
+    ensures pass { (writing.new.knows.number ≡ writing.old.knows.number) × (writing.new.knows.phase ≡ writing.old.knows.phase) }
+{
+    if ops.is_empty() {
+        return Ok(look_round(writing, words));
+    }
+    if ops.len() > 64 {
+        return Err(Refusal::BadLimits);
+    }
+    write(writing, ops)
+}
+
+/// Locks, acts, and unlocks.
+pub(crate) fn in_write(
+    table: &VersionTable,
+    seat: &mut Seat,
+    ops: &[Op],
+    words: &str,
+) -> Result<u64, Refusal>
+    requires { IsResting table.now seat.old }
+    ensures { StaysSeat table.now seat.old seat.new }
+{
+    let mut writing = match table.lock(seat.move_out()) {
+        Ok(writing) => writing,
+        Err((kept, refusal)) => {
+            *seat = kept;
+            return Err(refusal);
+        }
+    };
+    let answer = act(&mut writing, ops, words);
+    *seat = writing.unlock();
+    answer
+}
+
+/// Enters a node, at a later try while another pass has the lock. Whether it did.
+fn enter_at_last(table: &VersionTable, seat: &mut Seat) -> bool
+    requires { IsResting table.now seat.old }
+    ensures { StaysSeat table.now seat.old seat.new }
+{
+    for _ in 0..10_000_000 {
+        match in_write(table, seat, &[Op::New], "") {
+            Err(Refusal::Busy(_)) => {}
+            answer => return answer.is_ok(),
+        }
+    }
+    false
+}
+
+/// Enters so many nodes. Whether it did.
+pub(crate) fn enter_many(table: &VersionTable, seat: &mut Seat, count: u64) -> bool
+    requires { IsResting table.now seat.old }
+    ensures { StaysSeat table.now seat.old seat.new }
+{
+    for _ in 0..count {
+        if !enter_at_last(table, seat) {
+            return false;
+        }
+    }
+    true
+}

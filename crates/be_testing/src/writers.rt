@@ -1,0 +1,61 @@
+//! A writer that fails.
+use std::io::{self, Write};
+
+/// Takes a byte a write while it has room, then fails or takes nothing. It needs no memory: it looks whether each byte is
+/// the one that is expected.
+#[derive(Drop)]
+pub struct Narrow<'a> {
+    expected: &'a [u8],
+    room: usize,
+    fails: bool,
+    is_as_expected: bool,
+}
+
+impl Narrow<'_> {
+    pub fn new(expected: &[u8], room: usize, fails: bool) -> Narrow<'_> {
+        Narrow {
+            expected,
+            room,
+            fails,
+            is_as_expected: true,
+        }
+    }
+
+    pub fn is_full(&self) -> bool {
+        self.room == 0
+    }
+
+    /// Whether it was given all that is expected.
+    pub fn has_all(&self) -> bool {
+        self.is_as_expected && self.expected.is_empty()
+    }
+
+    /// Whether it was given a front of what is expected, and not all.
+    pub fn is_cut_short(&self) -> bool {
+        self.is_as_expected && !self.expected.is_empty()
+    }
+}
+
+impl Write for Narrow<'_> {
+    fn write(&mut self, buf: &[u8]) -> io::Result<usize> {
+        let Some(byte) = buf.first() else {
+            return Ok(0);
+        };
+        if self.room == 0 {
+            if self.fails {
+                return Err(io::Error::from(io::ErrorKind::Other));
+            }
+            return Ok(0);
+        }
+        self.room -= 1;
+        match self.expected.split_first() {
+            Some((expected, rest)) if *expected == *byte => self.expected = rest,
+            _ => self.is_as_expected = false,
+        }
+        Ok(1)
+    }
+
+    fn flush(&mut self) -> io::Result<()> {
+        Ok(())
+    }
+}

@@ -1,0 +1,91 @@
+use Rattle.std.proofs.Common.{◌≡◌, ◌∙◌, ◌<◌, ◌≤◌, ◌+◌, ◌*◌, ◌||◌, ℕ, List, [], false, length, drop, refl, ap, sym, subst, arith}
+use Rattle.std.specs.List.{slice_get}
+use Rattle.std.specs.Option.{option_copied}
+use Rattle.std.proofs.lemmas.List.{append-nil}
+use Rattle.be_tree.specs.Pair.{Pair}
+use Rattle.be_tree.specs.Page.{item_at, items_of}
+use Rattle.be_tree.specs.Range.{is_past, number_of, numbers_to}
+use Rattle.be_tree.proofs.Frame.{unchanged_trans}
+use Rattle.be_tree.proofs.Reading.LastBytes.{got_one, got_all, past_bound}
+use Rattle.be_tree.proofs.Reading.Leaves.{any_past, long_at, none_left, rest_at}
+use Rattle.be_tree.proofs.numbers.push_to.Given.{Over}
+use Rattle.be_tree.proofs.numbers.push_to.Goals as goal
+use Rattle.be_tree.proofs.numbers.push_to.Goals.{After-is_past_at}
+
+pub loop-at-init : goal.loop-at-init
+loop-at-init g c = record {
+  has = record { got = []; parts = refl; is = sym (append-nil c.args.found.now.items) };
+  same = refl;
+  unchanged = record { kept = c.word-count.ensures.kept; standing = c.word-count.ensures.standing; words = c.word-count.ensures.words };
+}
+
+here : (g : Over) (c : After-is_past_at g) → c.loop-at.at < g.L.Look.words c.args.look.now c.args.page 1
+here g c = omega (arith, c.loop-at-test.true, c.word-count.ensures.value)
+
+-- whether the item is above the bound
+asked : (g : Over) (c : After-is_past_at g) → is_past (option_copied c.args.high) (item_at (g.L.Look.words c.args.look.now c.args.page) (2 + 42 * c.loop-at.at)).key ≡ c.is_past_at.result
+asked g c =
+    sym (ap (λ (w : ℕ → ℕ → ℕ). is_past (option_copied c.args.high) (item_at (w c.args.page) (2 + 42 * c.loop-at.at)).key) c.loop-at.invariant.unchanged.words) ∙ sym c.is_past_at.ensures.past
+
+pub number_at-number-requires-clause-long : goal.number_at-number-requires-clause-long
+number_at-number-requires-clause-long g c =
+    let at = (goal.at.number_at-number-requires-clause-long g c).After-is_past_at in
+    subst (λ (w : ℕ → ℕ → ℕ). 8 ≤ length (item_at (w c.args.page) (2 + 42 * c.loop-at.at)).key) (sym (c.is_past_at.ensures.unchanged.words ∙ c.loop-at.invariant.unchanged.words))
+    (long_at (g.L.Look.words c.args.look.now c.args.page) c.args.from c.loop-at.at c.loop-at.auto.at (here g at) c.requires.long)
+
+pub loop-at-preserved : goal.loop-at-preserved
+loop-at-preserved g c =
+    let at = (goal.at.loop-at-preserved g c).After-is_past_at in
+    let words = g.L.Look.words c.args.look.now in
+    let same = c.loop-at.invariant.unchanged.words in
+    let high = option_copied c.args.high in
+    let items = items_of (words c.args.page) in
+    let place = c.loop-at.at in
+    let x = item_at (words c.args.page) (2 + 42 * place) in
+    let parts = rest_at (words c.args.page) place (here g at) in
+    let within : is_past high x.key ≡ false = asked g at ∙ c.if-is_past_at.false in
+    let number : c.number_at-number.result ≡ number_of x.key =
+    c.number_at-number.ensures.number ∙ ap (λ (w : ℕ → ℕ → ℕ). number_of (item_at (w c.args.page) (2 + 42 * place)).key) (c.is_past_at.ensures.unchanged.words ∙ same) in
+    record {
+      has = got_one c.args.found.now.items (numbers_to (drop c.args.from items) high) c.loop-at.found.items c.push.new.self.items (drop place items) (drop (place + 1) items) high x c.number_at-number.result
+          (ap (λ (xs : List Pair). slice_get xs 0) parts) (sym (ap (λ (xs : List Pair). drop 1 xs) parts)) within number c.in_ok-push.ensures.items c.loop-at.invariant.has;
+      same = c.loop-at.invariant.same ∙ ap (any_past high) parts ∙ ap (λ b. b || any_past high (drop (place + 1) items)) within;
+      unchanged = unchanged_trans g.L.Look.kept g.L.Look.standing g.L.Look.words c.args.look.now c.is_past_at.new.look c.number_at-number.new.look
+          (unchanged_trans g.L.Look.kept g.L.Look.standing g.L.Look.words c.args.look.now c.loop-at.look c.is_past_at.new.look c.loop-at.invariant.unchanged c.is_past_at.ensures.unchanged)
+          c.number_at-number.ensures.unchanged;
+    }
+
+-- the bound stands here
+pub returns-then-is_past_at-clause-found : goal.returns-then-is_past_at-clause-found
+returns-then-is_past_at-clause-found g c =
+    let at = (goal.at.returns-then-is_past_at-clause-found g c).After-is_past_at in
+    let high = option_copied c.args.high in
+    let items = items_of (g.L.Look.words c.args.look.now c.args.page) in
+    let place = c.loop-at.at in
+    let x = item_at (g.L.Look.words c.args.look.now c.args.page) (2 + 42 * place) in
+    let parts = rest_at (g.L.Look.words c.args.look.now c.args.page) place (here g at) in
+    got_all c.args.found.now.items (numbers_to (drop c.args.from items) high) (numbers_to (drop place items) high) c.loop-at.found.items
+    (past_bound (drop place items) high x (ap (λ (xs : List Pair). slice_get xs 0) parts) (asked g at ∙ c.if-is_past_at.true)) c.loop-at.invariant.has
+
+pub returns-then-is_past_at-clause-past : goal.returns-then-is_past_at-clause-past
+returns-then-is_past_at-clause-past g c =
+    let at = (goal.at.returns-then-is_past_at-clause-past g c).After-is_past_at in
+    let high = option_copied c.args.high in
+    let items = items_of (g.L.Look.words c.args.look.now c.args.page) in
+    let place = c.loop-at.at in
+    let parts = rest_at (g.L.Look.words c.args.look.now c.args.page) place (here g at) in
+    sym (c.loop-at.invariant.same ∙ ap (any_past high) parts ∙ ap (λ b. b || any_past high (drop (place + 1) items)) (asked g at ∙ c.if-is_past_at.true))
+
+-- no key is above it
+pub returns-clause-found : goal.returns-clause-found
+returns-clause-found g c =
+    let high = option_copied c.args.high in
+    let items = items_of (g.L.Look.words c.args.look.now c.args.page) in
+    let none = none_left (g.L.Look.words c.args.look.now c.args.page) c.loop-at.at (omega (arith, c.loop-at-test.false, c.word-count.ensures.value)) in
+    got_all c.args.found.now.items (numbers_to (drop c.args.from items) high) (numbers_to (drop c.loop-at.at items) high) c.loop-at.found.items
+    (ap (λ (xs : List Pair). numbers_to xs high) none) c.loop-at.invariant.has
+
+pub returns-clause-past : goal.returns-clause-past
+returns-clause-past g c =
+    let none = none_left (g.L.Look.words c.args.look.now c.args.page) c.loop-at.at (omega (arith, c.loop-at-test.false, c.word-count.ensures.value)) in
+    sym (c.loop-at.invariant.same ∙ ap (any_past (option_copied c.args.high)) none)

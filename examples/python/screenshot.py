@@ -1,0 +1,99 @@
+"""Makes a picture of the query window, on a display in memory: needs Xvfb.
+
+    PYTHONPATH=python python3 examples/python/screenshot.py FILE.png FOLDER [QUERY]
+"""
+
+from __future__ import annotations
+
+import contextlib
+import os
+import shutil
+import struct
+import subprocess
+import sys
+import tempfile
+import time
+import zlib
+from typing import Iterator, List, NamedTuple
+
+SIZE = "940x560"
+PROGRAM = os.path.join(os.path.dirname(os.path.abspath(__file__)), "queries.py")
+
+
+class Screen(NamedTuple):
+    """A display in memory: its name, and the file that has its pixels."""
+
+    name: str
+    path: str
+
+
+@contextlib.contextmanager
+def display() -> Iterator[Screen]:
+    """A display in memory, which goes at the end of the `with`."""
+    server = shutil.which("Xvfb")
+    if server is None:
+        raise FileNotFoundError("Xvfb isn't installed")
+    with tempfile.TemporaryDirectory() as folder:
+        words = [server, "-displayfd", "1", "-screen", "0", f"{SIZE}x24", "-fbdir", folder, "-nolisten", "tcp"]
+        with subprocess.Popen(words, stdout=subprocess.PIPE, stderr=subprocess.DEVNULL, text=True) as running:
+            try:
+                assert running.stdout is not None
+                yield Screen(f":{running.stdout.readline().strip()}", os.path.join(folder, "Xvfb_screen0"))
+            finally:
+                running.terminate()
+
+
+def pixels_of(path: str) -> bytes:
+    with open(path, "rb") as file:
+        return file.read()
+
+
+def drawn(path: str, seconds: float = 2, most: float = 120) -> bytes:
+    """The pixels of a screen, once something was drawn on it and has stayed the same for so long."""
+    end, last, since = time.monotonic() + most, pixels_of(path), float("inf")
+    while time.monotonic() < end and time.monotonic() < since + seconds:
+        time.sleep(0.1)
+        pixels = pixels_of(path)
+        if pixels != last:
+            last, since = pixels, time.monotonic()
+    return last
+
+
+def png(screen: bytes) -> bytes:
+    """A PNG file of a screen that Xvfb keeps as an XWD file, of 32 bits a pixel: blue, green, red and none."""
+    head = struct.unpack(">25I", screen[:100])
+    size, width, height, line, colours = head[0], head[4], head[5], head[12], head[19]
+    begin, rows = size + 12 * colours, []
+    for y in range(height):
+        row, pixels = screen[begin + y * line:begin + y * line + 4 * width], bytearray(3 * width)
+        pixels[0::3], pixels[1::3], pixels[2::3] = row[2::4], row[1::4], row[0::4]
+        rows.append(b"\0" + pixels)
+
+    def chunk(kind: bytes, data: bytes) -> bytes:
+        return struct.pack(">I", len(data)) + kind + data + struct.pack(">I", zlib.crc32(kind + data))
+
+    return b"".join([
+        b"\x89PNG\r\n\x1a\n", chunk(b"IHDR", struct.pack(">IIBBBBB", width, height, 8, 2, 0, 0, 0)),
+        chunk(b"IDAT", zlib.compress(b"".join(rows), 9)), chunk(b"IEND", b""),
+    ])
+
+
+def main(words: List[str]) -> int:
+    if not 2 <= len(words) <= 3:
+        print(__doc__, file=sys.stderr)
+        return 2
+    with display() as screen:
+        program = [sys.executable, PROGRAM, *words[1:]]
+        with subprocess.Popen(program, env={**os.environ, "DISPLAY": screen.name}) as window:
+            pixels = drawn(screen.path)
+            has_ended = window.poll() is not None
+            window.terminate()
+    if has_ended:
+        return 1
+    with open(words[0], "wb") as file:
+        file.write(png(pixels))
+    return 0
+
+
+if __name__ == "__main__":
+    sys.exit(main(sys.argv[1:]))

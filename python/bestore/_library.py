@@ -1,0 +1,124 @@
+"""The shared object, as bestore.h declares it."""
+
+from __future__ import annotations
+
+import ctypes
+import os
+from typing import Any, List, Optional
+
+from .refusals import refusal
+
+SONAME = "libbestore.so.0"
+
+
+class Handle(ctypes.Structure):
+    """A bes_pass or a bes_prepared, which begin alike."""
+
+    _fields_ = [("live", ctypes.c_bool), ("at", ctypes.c_void_p)]
+
+
+class Operation(ctypes.Structure):
+    kind: int
+    code: int
+    node: int
+    number: int
+    name_at: int
+    name_length: int
+    value_at: int
+    value_length: int
+    _fields_ = [
+        ("kind", ctypes.c_uint32), ("code", ctypes.c_uint32), ("node", ctypes.c_uint64), ("number", ctypes.c_uint64),
+        ("name_at", ctypes.c_uint32), ("name_length", ctypes.c_uint32),
+        ("value_at", ctypes.c_uint32), ("value_length", ctypes.c_uint32),
+    ]
+
+
+class Item(ctypes.Structure):
+    _fields_ = [("kind", ctypes.c_uint32), ("at", ctypes.c_uint32), ("length", ctypes.c_uint32), ("number", ctypes.c_uint64)]
+
+
+class Attribute(ctypes.Structure):
+    code: int
+    length: int
+    number: int
+    _fields_ = [("code", ctypes.c_uint32), ("length", ctypes.c_uint64), ("number", ctypes.c_uint64)]
+
+
+class Updates(ctypes.Structure):
+    created: int
+    removed: int
+    _fields_ = [("created", ctypes.c_uint64), ("removed", ctypes.c_uint64)]
+
+
+class Counts(ctypes.Structure):
+    operations: int
+    bytes: int
+    _fields_ = [("operations", ctypes.c_uint64), ("bytes", ctypes.c_uint64)]
+
+
+def _arguments() -> dict[str, List[Any]]:
+    """What each call takes."""
+    handle, word, size, text = ctypes.POINTER(Handle), ctypes.c_uint64, ctypes.c_size_t, ctypes.c_char_p
+    words = ctypes.POINTER(ctypes.c_uint64)
+    write = [handle, ctypes.POINTER(Operation), size, text, size]
+    items = [ctypes.POINTER(Item), size, text, size]
+    put_out = [words, size, words]
+    listed = [ctypes.POINTER(Counts), ctypes.POINTER(Operation), size, text, size]
+    return {
+        "bes_open": [word, word, word, handle],
+        "bes_another": [handle, handle],
+        "bes_close": [handle],
+        "bes_meet": [handle, words],
+        "bes_pin": [handle, words],
+        "bes_unpin": [handle],
+        "bes_apply_or_retry": [*write, ctypes.c_uint32, *put_out],
+        "bes_query": [handle, text, size, *put_out],
+        "bes_query_items": [handle, *items, *put_out],
+        "bes_prepare": [text, size, handle],
+        "bes_prepare_items": [*items, handle],
+        "bes_release": [handle],
+        "bes_query_prepared": [handle, handle, *put_out],
+        "bes_refresh": [handle, handle, ctypes.POINTER(Updates)],
+        "bes_changes": [handle, words, size, words, size],
+        "bes_explain": [handle, text, size, text, size, words],
+        "bes_get": [handle, word, text, size, ctypes.POINTER(Attribute), text, size],
+        "bes_attributes": [handle, word, *listed],
+        "bes_indices": [handle, *listed],
+        "bes_journal": [handle, text, size, words],
+    }
+
+
+def _path() -> str:
+    """Where the shared object is: what BESTORE_LIBRARY names, inside the package, in c/ of the repository, or where the system
+    looks."""
+    here = os.path.dirname(os.path.abspath(__file__))
+    named = os.environ.get("BESTORE_LIBRARY")
+    if named:
+        return named
+    for folder in (here, os.path.join(here, "..", "..", "c")):
+        if os.path.exists(os.path.join(folder, SONAME)):
+            return os.path.join(folder, SONAME)
+    return SONAME
+
+
+def _load() -> ctypes.CDLL:
+    path = _path()
+    try:
+        loaded = ctypes.CDLL(path)
+        for name, arguments in _arguments().items():
+            call = getattr(loaded, name)
+            call.argtypes, call.restype = arguments, ctypes.c_uint32
+    except (OSError, AttributeError) as error:
+        raise ImportError(
+            f"bestore can't load its library: {error}. Run `make` in c/ of the repository, and import bestore from python/ "
+            f"there or install its wheel (`make wheel`); or name {SONAME} by the variable BESTORE_LIBRARY.", path=path) from error
+    return loaded
+
+
+calls = _load()
+
+
+def check(answer: int, query: Optional[str] = None) -> None:
+    """Raises what the answer of a call says, if it did nothing."""
+    if answer != 0:
+        raise refusal(answer, query=query)

@@ -1,0 +1,283 @@
+"""Writes, passes and versions of a store."""
+
+from __future__ import annotations
+
+import ctypes
+from types import TracebackType
+from typing import Any, Callable, Dict, Iterator, List, Mapping, Optional, Tuple, Type
+
+from ._library import Attribute, Counts, Operation, Updates, calls, check
+from .queries import Item, Owner, Prepared, spelled_items
+from .refusals import Busy, NoAttribute, NoNode, NotPinned
+from .values import Kind, Value, spelled, value_of
+
+_NEW, _REMOVE, _SET, _UNSET, _MAKE_INDEX, _REMOVE_INDEX = range(6)
+
+
+def _words(count: int) -> "ctypes.Array[ctypes.c_uint64]":
+    """Room for so many numbers, and for one at least: the library wants a pointer also to nothing."""
+    return (ctypes.c_uint64 * max(count, 1))()
+
+
+class Batch:
+    """Up to 64 operations, to be applied all or none by `Pass.apply`. Its calls answer the batch, so they can be chained."""
+
+    def __init__(self) -> None:
+        self._operations: List[Operation] = []
+        self._bytes = b""
+
+    def __len__(self) -> int:
+        return len(self._operations)
+
+    def _add(self, kind: int, node: int = 0, name: str = "", code: int = 0, number: int = 0, value: bytes = b"") -> Batch:
+        called = name.encode()
+        at = len(self._bytes)
+        self._operations.append(Operation(kind, code, node, number, at, len(called), at + len(called), len(value)))
+        self._bytes += called + value
+        return self
+
+    def new_node(self) -> Batch:
+        """Makes a node."""
+        return self._add(_NEW)
+
+    def remove_node(self, node: int) -> Batch:
+        """Removes a node and all its attributes."""
+        return self._add(_REMOVE, node)
+
+    def set(self, node: int, name: str, value: Value, kind: Optional[int] = None) -> Batch:
+        """Sets an attribute. Without a kind a str is STRING, bytes are RAW and an int is INT64."""
+        code, number, taken = spelled(value, kind)
+        return self._add(_SET, node, name, code, number, taken)
+
+    def unset(self, node: int, name: str) -> Batch:
+        """Removes an attribute."""
+        return self._add(_UNSET, node, name)
+
+    def make_index(self, name: str, kind: int) -> Batch:
+        """Makes an index of this name, for values of this kind."""
+        return self._add(_MAKE_INDEX, 0, name, kind)
+
+    def remove_index(self, name: str) -> Batch:
+        """Removes the index of this name."""
+        return self._add(_REMOVE_INDEX, 0, name)
+
+
+class Pass(Owner):
+    """One user's place in a store. `open` makes the first, and `another` the others."""
+
+    def another(self) -> Pass:
+        """A pass of the same store for another thread. Those that nobody has used wait with the pass that `open` answered; one
+        that was closed is given by each pass of the store."""
+        other = Pass()
+        check(calls.bes_another(ctypes.byref(self._handle), ctypes.byref(other._handle)))
+        return other
+
+    def close(self) -> None:
+        """Closes the pass, if it is open, and gives it back: `another` may give it out again. The store goes with its last pass."""
+        calls.bes_close(ctypes.byref(self._handle))
+
+    def meet(self) -> int:
+        """Meets a pass that was closed: both have then seen what either had. Answers how much of the journal that is. `NoPass`
+        where none is there, or another thread is at it."""
+        seen = ctypes.c_uint64()
+        check(calls.bes_meet(ctypes.byref(self._handle), ctypes.byref(seen)))
+        return seen.value
+
+    def apply(self, batch: Batch, tries: int = 1_000_000) -> Tuple[int, List[int]]:
+        """Applies a batch, all or none, with so many tries at most while another pass is writing (one at least). Answers the
+        write's number, and for each operation the new node's number or 0."""
+        count = len(batch)
+        operations = (Operation * max(count, 1))(*batch._operations)
+        made, number = _words(count), ctypes.c_uint64()
+        check(calls.bes_apply_or_retry(
+            ctypes.byref(self._handle), operations, count, batch._bytes, len(batch._bytes), max(tries, 1) - 1, made, count,
+            ctypes.byref(number)))
+        return number.value, made[:count]
+
+    def new_node(self) -> int:
+        """Makes a node, and answers its number."""
+        return self.apply(Batch().new_node())[1][0]
+
+    def remove_node(self, node: int) -> None:
+        """Removes a node and all its attributes."""
+        self.apply(Batch().remove_node(node))
+
+    def set(self, node: int, name: str, value: Value, kind: Optional[int] = None) -> None:
+        """Sets an attribute. Without a kind a str is STRING, bytes are RAW and an int is INT64."""
+        self.apply(Batch().set(node, name, value, kind))
+
+    def unset(self, node: int, name: str) -> None:
+        """Removes an attribute."""
+        self.apply(Batch().unset(node, name))
+
+    def make_index(self, name: str, kind: int) -> None:
+        """Makes an index of this name, for values of this kind."""
+        self.apply(Batch().make_index(name, kind))
+
+    def remove_index(self, name: str) -> None:
+        """Removes the index of this name."""
+        self.apply(Batch().remove_index(name))
+
+    def journal(self, tries: int = 1_000_000) -> str:
+        """The journal up to now, with so many tries at most while another pass is writing: a line for each write, with the pass
+        that wrote it, its operations and their answers."""
+        count, room = ctypes.c_uint64(), 65536
+        while True:
+            said = ctypes.create_string_buffer(room)
+            answer = calls.bes_journal(ctypes.byref(self._handle), said, room, ctypes.byref(count))
+            if answer == Busy.number and tries > 1:
+                tries -= 1
+                continue
+            check(answer)
+            if count.value <= room:
+                return said.raw[:count.value].decode()
+            room = 2 * count.value
+
+    def pin(self) -> Version:
+        """Pins the current version: `with store.pin() as version:` reads it, and gives the pin up at the end."""
+        return Version(self)
+
+
+class Version:
+    """The version that was current when the pass was pinned. It is read until the pin is given up. `version[node]` has a node's
+    attributes, and `node in version` tells whether the node is there."""
+
+    def __init__(self, user: Pass) -> None:
+        number = ctypes.c_uint64()
+        check(calls.bes_pin(ctypes.byref(user._handle), ctypes.byref(number)))
+        self._user: Optional[Pass] = user
+        self.number: int = number.value
+        """How many writes the version contains."""
+
+    def __enter__(self) -> Version:
+        return self
+
+    def __exit__(self, kind: Optional[Type[BaseException]], value: Optional[BaseException],
+                 trace: Optional[TracebackType]) -> None:
+        self.unpin()
+
+    def unpin(self) -> None:
+        """Gives the pin up, if it is still there."""
+        if self._user is not None:
+            calls.bes_unpin(ctypes.byref(self._user._handle))
+            self._user = None
+
+    def _pass(self) -> Any:
+        """The pinned pass, as calls take it."""
+        if self._user is None:
+            raise NotPinned()
+        return ctypes.byref(self._user._handle)
+
+    def _find(self, call: Callable[..., int], *query: Any, text: Optional[str] = None) -> List[int]:
+        room = 256
+        while True:
+            nodes, count = _words(room), ctypes.c_uint64()
+            check(call(self._pass(), *query, nodes, room, ctypes.byref(count)), text)
+            if count.value <= room:
+                return nodes[:count.value]
+            room = count.value
+
+    def query(self, text: str) -> List[int]:
+        """The nodes that meet the query, ascending."""
+        taken = text.encode()
+        return self._find(calls.bes_query, taken, len(taken), text=text)
+
+    def query_items(self, *items: Item) -> List[int]:
+        """The nodes that meet the query which items in reverse Polish order build: names, texts, numbers and operators.
+
+            version.query_items(bestore.Name("size"), 5, bestore.Operator.LT)
+        """
+        return self._find(calls.bes_query_items, *spelled_items(items))
+
+    def query_prepared(self, prepared: Prepared) -> List[int]:
+        """The nodes that meet a prepared query, ascending. What its last refresh told stays."""
+        return self._find(calls.bes_query_prepared, ctypes.byref(prepared._handle))
+
+    def refresh(self, prepared: Prepared) -> Tuple[List[int], List[int]]:
+        """Which nodes came and which went since the prepared query was refreshed last: two lists, ascending. At first all of
+        its nodes come. Refresh a query in versions of one store only."""
+        updates, query = Updates(), ctypes.byref(prepared._handle)
+        check(calls.bes_refresh(self._pass(), query, ctypes.byref(updates)))
+        created, removed = _words(updates.created), _words(updates.removed)
+        check(calls.bes_changes(query, created, updates.created, removed, updates.removed))
+        return created[:updates.created], removed[:updates.removed]
+
+    def explain(self, text: str) -> str:
+        """What the query would be answered from: the comparisons that are picked, and a score."""
+        taken, count, room = text.encode(), ctypes.c_uint64(), 256
+        while True:
+            said = ctypes.create_string_buffer(room)
+            check(calls.bes_explain(self._pass(), taken, len(taken), said, room, ctypes.byref(count)), text)
+            if count.value <= room:
+                return said.raw[:count.value].decode()
+            room = count.value
+
+    def _list(self, call: Callable[..., int], *node: int) -> Iterator[Tuple[Operation, str, bytes]]:
+        """The operations that a list is told as, each with its name and the bytes of its value."""
+        counts, operations_room, bytes_room = Counts(), 64, 4096
+        while True:
+            operations, texts = (Operation * operations_room)(), ctypes.create_string_buffer(bytes_room)
+            check(call(self._pass(), *node, ctypes.byref(counts), operations, operations_room, texts, bytes_room))
+            if counts.operations <= operations_room and counts.bytes <= bytes_room:
+                break
+            operations_room, bytes_room = max(counts.operations, 1), max(counts.bytes, 1)
+        for told in operations[:counts.operations]:
+            yield (told, texts.raw[told.name_at:told.name_at + told.name_length].decode(),
+                   texts.raw[told.value_at:told.value_at + told.value_length])
+
+    def attributes(self, node: int) -> Dict[str, Value]:
+        """A node's attributes: a dict of names and values, by ascending names."""
+        return {name: value_of(told.code, told.number, value)
+                for told, name, value in self._list(calls.bes_attributes, node)}
+
+    def indices(self) -> Dict[str, Kind]:
+        """The indices: a dict of names and kinds, by ascending names."""
+        return {name: Kind(told.code) for told, name, _ in self._list(calls.bes_indices)}
+
+    def get(self, node: int, name: str) -> Optional[Value]:
+        """A node's attribute, or None: a str, bytes or an int."""
+        try:
+            return self[node][name]
+        except NoAttribute:
+            return None
+
+    def __getitem__(self, node: int) -> Attributes:
+        """A node's attributes, each of which is read when it is asked for."""
+        return Attributes(self, node)
+
+    def __contains__(self, node: int) -> bool:
+        try:
+            self.attributes(node)
+        except NoNode:
+            return False
+        return True
+
+    __iter__: None = None  # no call lists the nodes
+
+
+class Attributes(Mapping[str, Value]):
+    """A node's attributes in a version. An attribute that isn't there is `NoAttribute`, which is a KeyError."""
+
+    def __init__(self, version: Version, node: int) -> None:
+        self._version, self.node = version, node
+
+    def __getitem__(self, name: str) -> Value:
+        called, told, room = name.encode(), Attribute(), ctypes.create_string_buffer(255)
+        check(calls.bes_get(self._version._pass(), self.node, called, len(called), ctypes.byref(told), room, 255))
+        return value_of(told.code, told.number, room.raw[:told.length])
+
+    def __iter__(self) -> Iterator[str]:
+        return iter(self._version.attributes(self.node))
+
+    def __len__(self) -> int:
+        return len(self._version.attributes(self.node))
+
+    def __repr__(self) -> str:
+        return f"<attributes of node {self.node}: {self._version.attributes(self.node)}>"
+
+
+def open(pages: int = 4096, passes: int = 8, commits: int = 2**32 - 1) -> Pass:
+    """A new store, as its first pass: so many pages of 4 KiB, passes, and writes at most."""
+    user = Pass()
+    check(calls.bes_open(pages, passes, commits, ctypes.byref(user._handle)))
+    return user

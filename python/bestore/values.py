@@ -1,0 +1,68 @@
+"""Values and their kinds."""
+
+from __future__ import annotations
+
+import enum
+import operator
+from typing import Optional, Tuple, Union
+
+from .refusals import NoKind, NoValue
+
+Value = Union[str, bytes, int]
+"""A text, raw bytes, or a number."""
+
+
+class Kind(enum.IntEnum):
+    """The kinds of values, by the type codes of BeOS."""
+
+    STRING = 0x43535452
+    INT32 = 0x4C4F4E47
+    INT64 = 0x4C4C4E47
+    MIME = 0x4D494D53
+    RAW = 0x52415754
+    UINT32 = 0x554C4E47
+    UINT64 = 0x554C4C47
+
+
+_RANGES = {
+    Kind.INT32: range(-(2**31), 2**31),
+    Kind.INT64: range(-(2**63), 2**63),
+    Kind.UINT32: range(2**32),
+    Kind.UINT64: range(2**64),
+}
+
+
+def spelled(value: Value, kind: Optional[int] = None) -> Tuple[Kind, int, bytes]:
+    """A value's kind, its number and its bytes. Without a kind a str is STRING, bytes are RAW and an int is INT64."""
+    if isinstance(value, str):
+        return _fitting(kind, (Kind.STRING, Kind.MIME)), 0, value.encode()
+    if isinstance(value, (bytes, bytearray)):
+        return _fitting(kind, (Kind.RAW,)), 0, bytes(value)
+    code = _fitting(kind, (Kind.INT64, Kind.INT32, Kind.UINT32, Kind.UINT64))
+    number = operator.index(value)
+    if number not in _RANGES[code]:
+        raise NoValue()
+    return code, number % 2**64, b""
+
+
+def _fitting(kind: Optional[int], kinds: Tuple[Kind, ...]) -> Kind:
+    """The kind that is said, or the first of these, which a value may have."""
+    if kind is None:
+        return kinds[0]
+    for fitting in kinds:
+        if fitting == kind:
+            return fitting
+    if kind in list(Kind):
+        raise TypeError(f"a value of the kind {Kind(kind).name} can't be made from this type")
+    raise NoKind()
+
+
+def value_of(code: int, number: int, value: bytes) -> Value:
+    """The value that these spell."""
+    if code in (Kind.STRING, Kind.MIME):
+        return value.decode()
+    if code == Kind.RAW:
+        return value
+    if code in (Kind.INT32, Kind.INT64) and number >= 2**63:
+        return number - 2**64
+    return number
