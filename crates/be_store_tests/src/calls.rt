@@ -4,6 +4,7 @@
 //! its number. Whether it is pinned, the helpers ask it.
 ghost use Rattle.std.specs.Prelude.{◌≡◌, ◌≤◌, ℕ, None, length};
 ghost use Rattle.be_store.specs.Passes.{IsPassOf, IsPinnedTo};
+ghost use Rattle.be_store.specs.Seats.{pinned_number};
 ghost use Rattle.be_store_tests.specs.Staying.{StaysPass};
 
 use be_language::{Reply, Request, read_line};
@@ -132,6 +133,42 @@ fn read(
     }
 }
 
+/// Reads by a pass that isn't pinned, at a pin that goes with the read.
+fn read_once(
+    store: &Store,
+    alloc: Global,
+    pass: &mut Pass,
+    live: &mut Option<Live>,
+    request: &Request,
+) -> Result<String, Refusal>
+    requires pass { IsPassOf store.now pass.old }
+    requires unpinned { pinned_number pass.old.knows.phase ≡ None }
+    ensures { StaysPass store.now pass.old pass.new }
+{
+    let mut version = store.pinned(pass);
+    match request {
+        Request::Query(text) => {
+            let query = parse(alloc, text.as_str())?;
+            let Answer { pin: _, nodes } = version.query(alloc, &query)?;
+            nodes_text(
+                alloc,
+                Ok(Answer {
+                    pin: version.number(),
+                    nodes,
+                }),
+            )
+        }
+        Request::Get(node, Ok(name)) => text_of(alloc, Reply::Value(version.get(*node, name))),
+        Request::Attrs(node) => attributes_text(alloc, version.attrs(alloc, *node)),
+        Request::Indices => kinds_text(alloc, version.indices(alloc)),
+        Request::Refresh => match live {
+            Some(live) => updates_text(alloc, version.refresh(live)),
+            None => text_of(alloc, Reply::NoLiveQuery),
+        },
+        _ => text_of(alloc, Reply::BadLine),
+    }
+}
+
 /// What isn't a write.
 fn ask(
     store: &Store,
@@ -146,8 +183,10 @@ fn ask(
     match request {
         Request::Pin => pin(store, alloc, pass),
         Request::Unpin => unpin(store, alloc, pass),
-        _ if pass.pinned().is_some() => read(store, alloc, pass, live, request),
-        _ => text_of(alloc, Reply::NotPinned),
+        _ => match pass.pinned() {
+            Some(_) => read(store, alloc, pass, live, request),
+            None => read_once(store, alloc, pass, live, request),
+        },
     }
 }
 

@@ -84,6 +84,17 @@ fn live_query(rt: HostRuntime) -> Result<(), Fail> {
     check_lines(rt.alloc(), &mut for_one(rt.alloc(), 64, 100)?, lines)
 }
 
+/// A pass that isn't pinned reads at a pin that goes with the read, also where the read is refused.
+#[test]
+fn pinned_for_a_read(rt: HostRuntime) -> Result<(), Fail> {
+    let lines =
+        "0 mkindex k LONG / live k>1 / 0 new;set 1 k LONG 5 => commit 1 / ok / ok / commit 2 / node 1 / ok
+0 query k==5 / 0 get 1 k / 0 get 1 j => pin 2 / nodes 1 / LONG 5 / none
+0 attrs 1 / 0 indices / 0 refresh => attrs 1 / \"k\" LONG 5 / indices 1 / \"k\" LONG / created 1 / removed
+0 query j==5 / 0 attrs 9 / 0 unpin => refused 17 NotCovered / refused 2 NoNode / not pinned";
+    check_lines(rt.alloc(), &mut for_one(rt.alloc(), 64, 100)?, lines)
+}
+
 /// A part so many times.
 fn times(alloc: Global, part: &str, count: u64) -> Result<String, AllocError> {
     let mut text = String::new(alloc);
