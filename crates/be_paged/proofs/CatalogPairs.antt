@@ -2,5 +2,7 @@
 pub mod Finding
 pub mod Validity
 pub mod Segments
+pub mod NodeKeys
+pub mod Payloads
 pub mod Items
 pub mod FactValues

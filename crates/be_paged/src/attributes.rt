@@ -2,22 +2,22 @@
 //!
 //! In the catalog a node's mark comes first and its attributes follow by ascending names, so a walk begins behind the mark and ends at the
 //! first key of another node. A node has at most 64 attributes, which bounds the walk.
-ghost use Rattle.std.specs.Prelude.{◌≡◌, ◌≤◌, ◌<◌, ℕ, IfOk, IfSome, length, option_map, drop, slice_get, is_some, true, Some, None, List};
+ghost use Rattle.std.specs.Prelude.{◌≡◌, ◌+◌, ◌≤◌, ◌<◌, ℕ, IsTrue, IfOk, IfSome, IfNone, length, option_map, drop, slice_get, is_some, true, Some, None, List};
 ghost use Rattle.std.specs.FinMap as map;
-ghost use Rattle.be_pages.specs.Pages.{IsUnchanged};
+ghost use Rattle.be_pages.specs.Pages.{IsUnchanged, is_readable};
 ghost use Rattle.be_value.specs.Key.{IsValue};
 ghost use Rattle.be_value.specs.declared.values.Value.{Value as AnyValue};
 ghost use Rattle.be_tree.specs.Cursor.{IsCursor, remaining};
-ghost use Rattle.be_tree.specs.Range.{pair_in};
+ghost use Rattle.be_tree.specs.Page.{IsItem, item_at};
 ghost use Rattle.be_tree.specs.Tree.{IsTree, pairs};
 ghost use Rattle.be_volume.specs.Maps.{Nodes as AllNodes, attributes_of};
 ghost use Rattle.be_volume.specs.Sound.{IsName};
-ghost use Rattle.be_paged.specs.Catalog.{IsCatalog};
-ghost use Rattle.be_paged.specs.Reading.{AreValid, attribute_pair, front_of_node};
+ghost use Rattle.be_paged.specs.Catalog.{IsCatalog, catalog_key};
+ghost use Rattle.be_paged.specs.Reading.{AreValid, attribute_pair, front_of_node, is_of};
 
-use crate::catalog::read_payload;
+use crate::catalog::value_at;
 use be_pages::Look;
-use be_tree::{Cursor, TreeItem};
+use be_tree::{Cursor, key_at};
 use be_value::{Name, Value};
 use std::alloc::{AllocError, Global};
 use std::str;
@@ -25,24 +25,43 @@ use std::str;
 /// The most attributes that a node has.
 const MAX_ATTRIBUTES: usize = 64;
 
-/// The pair of the node's next attribute, and a step past it; none once all were given.
-fn next_attribute<L: Look>(look: &mut L, cursor: &mut Cursor, node: u64) -> Option<TreeItem>
+/// Whether the key of the item at a place begins with the node. Its first word tells.
+fn is_of_node<L: Look>(look: &mut L, page: u64, at: usize, node: u64) -> bool
+    requires readable { IsTrue (is_readable (L.standing look.old page)) }
+    requires in_page { at + 42 ≤ 512 }
+    requires item { IsItem (L.words look.old page) at }
+    ensures of_node { result ≡ is_of node (item_at (L.words look.old page) at).key }
+    ensures unchanged { IsUnchanged L.kept L.standing L.words look.old look.new }
+{
+    let key_len = look.word(page, at) >> 32;
+    if key_len < 8 {
+        return false;
+    }
+    look.word(page, at + 1) == node
+}
+
+/// The page and the place of the node's next attribute, and a step past it; none once all were given.
+fn next_attribute<L: Look>(look: &mut L, cursor: &mut Cursor, node: u64) -> Option<(u64, usize)>
     requires cursor { IsCursor (L.standing look.old) (L.words look.old) cursor.old }
-    ensures item { option_map pair_in result ≡ slice_get (front_of_node node (remaining (L.words look.old) cursor.old)) 0 }
+    ensures none { IfNone result (slice_get (front_of_node node (remaining (L.words look.old) cursor.old)) 0 ≡ None) }
+    ensures item { IfSome result (λ at. slice_get (front_of_node node (remaining (L.words look.old) cursor.old)) 0
+        ≡ Some (item_at (L.words look.old at.0) at.1)) }
+    ensures readable { IfSome result (λ at. IsTrue (is_readable (L.standing look.old at.0))) }
+    ensures in_page { IfSome result (λ at. at.1 + 42 ≤ 512) }
+    ensures fits { IfSome result (λ at. IsItem (L.words look.old at.0) at.1) }
     ensures cursor { IsCursor (L.standing look.old) (L.words look.old) cursor.new }
     ensures rest { IfSome result (λ _. front_of_node node (remaining (L.words look.old) cursor.new)
         ≡ drop 1 (front_of_node node (remaining (L.words look.old) cursor.old))) }
     ensures unchanged { IsUnchanged L.kept L.standing L.words look.old look.new }
 {
-    let item = cursor.next(look)?;
-    if item.key.starts_with(&node.to_be_bytes()) {
-        Some(item)
-    } else {
-        None
+    let (page, at) = cursor.step(look)?;
+    if !is_of_node(look, page, at, node) {
+        return None;
     }
+    Some((page, at))
 }
 
-/// Whether the node has a next attribute, and a step past it. Its key alone is read.
+/// Whether the node has a next attribute, and a step past it. Nothing of it is copied.
 fn pass_attribute<L: Look>(look: &mut L, cursor: &mut Cursor, node: u64) -> bool
     requires cursor { IsCursor (L.standing look.old) (L.words look.old) cursor.old }
     ensures found { result ≡ is_some (slice_get (front_of_node node (remaining (L.words look.old) cursor.old)) 0) }
@@ -51,13 +70,10 @@ fn pass_attribute<L: Look>(look: &mut L, cursor: &mut Cursor, node: u64) -> bool
         ≡ drop 1 (front_of_node node (remaining (L.words look.old) cursor.old)) }
     ensures unchanged { IsUnchanged L.kept L.standing L.words look.old look.new }
 {
-    match cursor.next_key(look) {
-        Some(key) => key.starts_with(&node.to_be_bytes()),
-        None => false,
-    }
+    next_attribute(look, cursor, node).is_some()
 }
 
-/// How many attributes the node has. It walks over their keys.
+/// How many attributes the node has. It walks over the first words of their keys.
 pub(crate) fn attribute_count<L: Look>(look: &mut L, catalog: u64, node: u64) -> usize
     requires tree { IsTree (L.standing look.old) (L.words look.old) catalog }
     ensures count { (nodes : AllNodes) → IsCatalog (pairs (L.words look.old) catalog) nodes → AreValid nodes →
@@ -74,13 +90,29 @@ pub(crate) fn attribute_count<L: Look>(look: &mut L, catalog: u64, node: u64) ->
     MAX_ATTRIBUTES
 }
 
-/// The attribute that a pair of the catalog tells.
-fn read_attribute(item: &TreeItem) -> Option<(Name, Value)>
-    ensures { (node : ℕ) (name : List ℕ) (value : AnyValue) → IsName name → IsValue value →
-        pair_in item.now ≡ attribute_pair node (name, value) → result ≡ Some (name, value) }
+/// The name in the key of the item at a place of the catalog, behind its node.
+fn name_at<L: Look>(look: &mut L, page: u64, at: usize) -> Option<Name>
+    requires readable { IsTrue (is_readable (L.standing look.old page)) }
+    requires in_page { at + 42 ≤ 512 }
+    requires item { IsItem (L.words look.old page) at }
+    ensures name { (node : ℕ) (name : List ℕ) → IsName name → (item_at (L.words look.old page) at).key ≡ catalog_key node name → result ≡ Some name }
+    ensures unchanged { IsUnchanged L.kept L.standing L.words look.old look.new }
 {
-    let name = Name::new(str::from_utf8(item.key.get(8..)?).ok()?).ok()?;
-    let value = read_payload(&item.payload)?;
+    let key = key_at(look, page, at);
+    Name::new(str::from_utf8(key.get(8..)?).ok()?).ok()
+}
+
+/// The attribute that the item at a place of the catalog tells.
+fn read_attribute<L: Look>(look: &mut L, page: u64, at: usize) -> Option<(Name, Value)>
+    requires readable { IsTrue (is_readable (L.standing look.old page)) }
+    requires in_page { at + 42 ≤ 512 }
+    requires item { IsItem (L.words look.old page) at }
+    ensures attribute { (node : ℕ) (name : List ℕ) (value : AnyValue) → IsName name → IsValue value →
+        item_at (L.words look.old page) at ≡ attribute_pair node (name, value) → result ≡ Some (name, value) }
+    ensures unchanged { IsUnchanged L.kept L.standing L.words look.old look.new }
+{
+    let name = name_at(look, page, at)?;
+    let value = value_at(look, page, at)?;
     Some((name, value))
 }
 
@@ -96,8 +128,8 @@ fn next_value<L: Look>(look: &mut L, cursor: &mut Cursor, node: u64) -> Option<(
         ≡ drop 1 (front_of_node node (remaining (L.words look.old) cursor.old))) }
     ensures unchanged { IsUnchanged L.kept L.standing L.words look.old look.new }
 {
-    let item = next_attribute(look, cursor, node)?;
-    read_attribute(&item)
+    let (page, at) = next_attribute(look, cursor, node)?;
+    read_attribute(look, page, at)
 }
 
 /// The node's attributes by ascending names, in a vector.

@@ -1,15 +1,20 @@
 //! Keys and payloads of the catalog.
-ghost use Rattle.std.specs.Prelude.{◌≡◌, ◌≤◌, ◌<◌, ◌^◌, ℕ, length, Ok, Some, IsUtf8};
-ghost use Rattle.std.specs.Int.{to_be_bytes, cast_unsigned, w32, w64};
-ghost use Rattle.std.specs.Int.RustNames.{FitsSigned};
-ghost use lib.IntN.{ℤ};
+ghost use Rattle.std.specs.Prelude.{◌≡◌, ◌+◌, ◌≤◌, ◌<◌, ◌^◌, ℕ, List, ◌∷◌, length, Ok, Some, IsTrue, IsUtf8};
+ghost use Rattle.std.specs.Int.{to_be_bytes, w32, w64};
+ghost use Rattle.be_pages.specs.Pages.{IsUnchanged, is_readable};
+ghost use Rattle.be_tree.specs.Page.{IsItem, item_at};
 ghost use Rattle.be_value.specs.Key.{IsValue};
 ghost use Rattle.be_value.specs.Name.{name_from, text_from};
+ghost use Rattle.be_value.specs.Value.{kind_of};
 ghost use Rattle.be_value.specs.declared.values.Value.{Value as AnyValue};
 ghost use Rattle.be_paged.specs.Catalog.{catalog_key as key_in_catalog, payload_of as payload};
 
 use arrayvec::ArrayVec;
-use be_value::{Bytes, Name, Text, Value};
+use be_pages::Look;
+use be_tree::{
+    fill_payload, payload_byte_at, payload_len_at, payload_number_at, payload_number32_at,
+};
+use be_value::{Bytes, Kind, Name, Text, Value};
 use std::str;
 
 /// The key of a node's attribute.
@@ -24,67 +29,111 @@ pub(crate) fn catalog_key(node: u64, name: &Name) -> ArrayVec<u8, 72>
     key
 }
 
-fn read_text(bytes: &[u8]) -> Option<Text>
-    ensures { text_from bytes.now ≡ Ok bytes.now → IsUtf8 bytes.now → result ≡ Some bytes.now }
+/// The value that the payload of the item at a place tells, if it tells one. It is read where it stands: an integer from its one or two words, and a
+/// text is filled once before the value has it.
+pub(crate) fn value_at<L: Look>(look: &mut L, page: u64, at: usize) -> Option<Value>
+    requires readable { IsTrue (is_readable (L.standing look.old page)) }
+    requires in_page { at + 42 ≤ 512 }
+    requires item { IsItem (L.words look.old page) at }
+    ensures value { (v : AnyValue) → IsValue v → (item_at (L.words look.old page) at).payload ≡ payload v → result ≡ Some v }
+    ensures unchanged { IsUnchanged L.kept L.standing L.words look.old look.new }
 {
-    Text::new(str::from_utf8(bytes).ok()?).ok()
-}
-
-fn read32(bytes: &[u8]) -> Option<u32>
-    ensures { (n : ℕ) → n < 2 ^ 32 → bytes.now ≡ to_be_bytes w32 n → result ≡ Some n }
-{
-    if bytes.len() != 4 {
-        return None;
-    }
-    Some(u32::from_be_bytes([bytes[0], bytes[1], bytes[2], bytes[3]]))
-}
-
-fn read64(bytes: &[u8]) -> Option<u64>
-    ensures { (n : ℕ) → n < 2 ^ 64 → bytes.now ≡ to_be_bytes w64 n → result ≡ Some n }
-{
-    if bytes.len() != 8 {
-        return None;
-    }
-    Some(u64::from_be_bytes([
-        bytes[0], bytes[1], bytes[2], bytes[3], bytes[4], bytes[5], bytes[6], bytes[7],
-    ]))
-}
-
-fn read_signed32(bytes: &[u8]) -> Option<i32>
-    ensures { (n : ℤ) → FitsSigned w32 n → bytes.now ≡ to_be_bytes w32 (cast_unsigned w32 n) → result ≡ Some n }
-{
-    if bytes.len() != 4 {
-        return None;
-    }
-    Some(i32::from_be_bytes([bytes[0], bytes[1], bytes[2], bytes[3]]))
-}
-
-fn read_signed64(bytes: &[u8]) -> Option<i64>
-    ensures { (n : ℤ) → FitsSigned w64 n → bytes.now ≡ to_be_bytes w64 (cast_unsigned w64 n) → result ≡ Some n }
-{
-    if bytes.len() != 8 {
-        return None;
-    }
-    Some(i64::from_be_bytes([
-        bytes[0], bytes[1], bytes[2], bytes[3], bytes[4], bytes[5], bytes[6], bytes[7],
-    ]))
-}
-
-/// The value that a payload tells, if it tells one.
-pub(crate) fn read_payload(bytes: &[u8]) -> Option<Value>
-    ensures { (v : AnyValue) → IsValue v → bytes.now ≡ payload v → result ≡ Some v }
-{
-    let (kind, data) = bytes.split_first()?;
+    let kind = kind_at(look, page, at)?;
     match kind {
-        1 => Some(Value::Cstr(read_text(data)?)),
-        2 => Some(Value::Long(read_signed32(data)?)),
-        3 => Some(Value::Llng(read_signed64(data)?)),
-        4 => Some(Value::Mims(read_text(data)?)),
-        5 => Some(Value::Rawt(Bytes::new(data).ok()?)),
-        6 => Some(Value::Ulng(read32(data)?)),
-        7 => Some(Value::Ullg(read64(data)?)),
-        _ => None,
+        Kind::Cstr => Some(Value::Cstr(text_at(look, page, at)?)),
+        Kind::Long => Some(Value::Long(number32_at(look, page, at)?.cast_signed())),
+        Kind::Llng => Some(Value::Llng(number64_at(look, page, at)?.cast_signed())),
+        Kind::Mims => Some(Value::Mims(text_at(look, page, at)?)),
+        Kind::Rawt => Some(Value::Rawt(bytes_at(look, page, at)?)),
+        Kind::Ulng => Some(Value::Ulng(number32_at(look, page, at)?)),
+        Kind::Ullg => Some(Value::Ullg(number64_at(look, page, at)?)),
     }
+}
+
+/// The kind that a payload's first byte numbers, if it numbers one.
+pub(crate) fn kind_at<L: Look>(look: &mut L, page: u64, at: usize) -> Option<Kind>
+    requires readable { IsTrue (is_readable (L.standing look.old page)) }
+    requires in_page { at + 42 ≤ 512 }
+    requires item { IsItem (L.words look.old page) at }
+    ensures kind { (v : AnyValue) → (item_at (L.words look.old page) at).payload ≡ payload v → result ≡ Some (kind_of v) }
+    ensures unchanged { IsUnchanged L.kept L.standing L.words look.old look.new }
+{
+    let len = payload_len_at(look, page, at);
+    if len == 0 {
+        return None;
+    }
+    let number = payload_byte_at(look, page, at, 0);
+    Kind::numbered(number)
+}
+
+/// The number behind a payload's first byte, where that has four bytes.
+pub(crate) fn number32_at<L: Look>(look: &mut L, page: u64, at: usize) -> Option<u32>
+    requires readable { IsTrue (is_readable (L.standing look.old page)) }
+    requires in_page { at + 42 ≤ 512 }
+    requires item { IsItem (L.words look.old page) at }
+    ensures number { (k n : ℕ) → n < 2 ^ 32 → (item_at (L.words look.old page) at).payload ≡ k ∷ to_be_bytes w32 n → result ≡ Some n }
+    ensures unchanged { IsUnchanged L.kept L.standing L.words look.old look.new }
+{
+    let len = payload_len_at(look, page, at);
+    if len != 5 {
+        return None;
+    }
+    Some(payload_number32_at(look, page, at, 1))
+}
+
+/// The number behind a payload's first byte, where that has eight bytes.
+pub(crate) fn number64_at<L: Look>(look: &mut L, page: u64, at: usize) -> Option<u64>
+    requires readable { IsTrue (is_readable (L.standing look.old page)) }
+    requires in_page { at + 42 ≤ 512 }
+    requires item { IsItem (L.words look.old page) at }
+    ensures number { (k n : ℕ) → n < 2 ^ 64 → (item_at (L.words look.old page) at).payload ≡ k ∷ to_be_bytes w64 n → result ≡ Some n }
+    ensures unchanged { IsUnchanged L.kept L.standing L.words look.old look.new }
+{
+    let len = payload_len_at(look, page, at);
+    if len != 9 {
+        return None;
+    }
+    Some(payload_number_at(look, page, at, 1))
+}
+
+/// The text behind a payload's first byte, if it is one of a value.
+fn text_at<L: Look>(look: &mut L, page: u64, at: usize) -> Option<Text>
+    requires readable { IsTrue (is_readable (L.standing look.old page)) }
+    requires in_page { at + 42 ≤ 512 }
+    requires item { IsItem (L.words look.old page) at }
+    ensures text { (k : ℕ) (t : List ℕ) → text_from t ≡ Ok t → IsUtf8 t → (item_at (L.words look.old page) at).payload ≡ k ∷ t → result ≡ Some t }
+    ensures unchanged { IsUnchanged L.kept L.standing L.words look.old look.new }
+{
+    let mut payload = ArrayVec::new();
+    fill_payload(look, page, at, &mut payload);
+    text_of(&payload)
+}
+
+fn text_of(payload: &[u8]) -> Option<Text>
+    ensures { (k : ℕ) (t : List ℕ) → text_from t ≡ Ok t → IsUtf8 t → payload.now ≡ k ∷ t → result ≡ Some t }
+{
+    let (_, text) = payload.split_first()?;
+    Text::new(str::from_utf8(text).ok()?).ok()
+}
+
+/// The bytes behind a payload's first byte, if they are few enough for a value.
+fn bytes_at<L: Look>(look: &mut L, page: u64, at: usize) -> Option<Bytes>
+    requires readable { IsTrue (is_readable (L.standing look.old page)) }
+    requires in_page { at + 42 ≤ 512 }
+    requires item { IsItem (L.words look.old page) at }
+    ensures bytes { (k : ℕ) (bytes : List ℕ) → length bytes ≤ 255 → (item_at (L.words look.old page) at).payload ≡ k ∷ bytes → result ≡ Some bytes }
+    ensures unchanged { IsUnchanged L.kept L.standing L.words look.old look.new }
+{
+    let mut payload = ArrayVec::new();
+    fill_payload(look, page, at, &mut payload);
+    bytes_of(&payload)
+}
+
+fn bytes_of(payload: &[u8]) -> Option<Bytes>
+    ensures { (k : ℕ) (bytes : List ℕ) → length bytes ≤ 255 → payload.now ≡ k ∷ bytes → result ≡ Some bytes }
+{
+    let (_, bytes) = payload.split_first()?;
+    Bytes::new(bytes).ok()
 }
 
 /// The payload of a value.

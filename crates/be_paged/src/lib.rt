@@ -17,6 +17,7 @@
 mod attributes;
 mod catalog;
 mod changes;
+mod comparing;
 mod edits;
 mod entries;
 mod entry;

@@ -16,10 +16,11 @@ ghost use Rattle.be_paged.specs.Version.{IsVersion};
 ghost use Rattle.be_paged.specs.Entry.{Entry as AnyEntry};
 
 use crate::on_page::{FoundIndex, KnownName, known_index};
-use crate::reading::get;
+use crate::reading::{get, holds_in};
 use arrayvec::ArrayVec;
 use be_pages::Look;
 use be_plan::Source;
+use be_query::Comparison;
 use be_tree::{Cursor, has_key, is_key_at, key_at, numbers_within};
 use be_value::{Kind, Name, Refusal, Value};
 
@@ -141,5 +142,9 @@ impl<L: Look> Source for PagedSource<L> {
 
     fn value(&mut self, node: u64, name: &Name) -> Option<Value> {
         get(&mut self.look, self.page, node, name)
+    }
+
+    fn holds(&mut self, node: u64, comparison: &Comparison) -> bool {
+        holds_in(&mut self.look, self.page, node, comparison)
     }
 }

@@ -1,10 +1,13 @@
 //! Reading a volume from its version page.
-ghost use Rattle.std.specs.Prelude.{◌≡◌, IsOk, IfErr, Ok};
+ghost use Rattle.std.specs.Prelude.{◌≡◌, IsOk, IfErr, Ok, false};
+ghost use Rattle.std.specs.Option.{option_map_or};
 ghost use Rattle.be_pages.specs.Pages.{IsUnchanged};
+ghost use Rattle.be_query.specs.View.{literal};
 ghost use Rattle.be_tree.specs.Tree.{IsTree, pairs};
 ghost use Rattle.be_volume.specs.Maps.{Nodes as AllNodes};
 ghost use Rattle.be_value.specs.Refusal.{Answers};
 ghost use Rattle.be_value.specs.declared.refusals.Refusal.TheVariants.{OutOfMemory};
+ghost use Rattle.be_volume.specs.Query.{holds};
 ghost use Rattle.be_volume.specs.Reading.{attribute, attributes_at, index_kinds};
 ghost use Rattle.be_volume.specs.Volume.{State};
 ghost use Rattle.be_paged.specs.Catalog.{IsCatalog, value_at};
@@ -12,12 +15,14 @@ ghost use Rattle.be_paged.specs.Reading.{AreValid};
 ghost use Rattle.be_paged.specs.Version.{IsVersion};
 
 use crate::attributes::list_attributes;
-use crate::catalog::{catalog_key, read_payload};
+use crate::catalog::{catalog_key, value_at};
+use crate::comparing::holds_at;
 use crate::entries::kinds;
 use crate::version::{Version, fill_version};
 use arrayvec::ArrayVec;
 use be_pages::Look;
-use be_tree::{find_into, has_key};
+use be_query::Comparison;
+use be_tree::{find_place, has_key};
 use be_value::{Kind, Name, Refusal, Value};
 use std::alloc::Global;
 
@@ -28,11 +33,28 @@ pub(crate) fn value_in<L: Look>(look: &mut L, catalog: u64, node: u64, name: &Na
     ensures unchanged { IsUnchanged L.kept L.standing L.words look.old look.new }
 {
     let key = catalog_key(node, name);
-    let mut payload = ArrayVec::new();
-    if !find_into(look, catalog, &key, &mut payload) {
-        return None;
-    }
-    read_payload(&payload)
+    let (page, at) = find_place(look, catalog, &key)?;
+    value_at(look, page, at)
+}
+
+/// Whether a comparison is true of a node's value at its name; of none it is false. No value is made.
+pub(crate) fn holds_in<L: Look>(
+    look: &mut L,
+    version_page: u64,
+    node: u64,
+    comparison: &Comparison,
+) -> bool
+    requires version { (volume : State) × IsVersion (L.standing look.old) (L.words look.old) version_page volume }
+    ensures answer { (volume : State) → IsVersion (L.standing look.old) (L.words look.old) version_page volume →
+        result ≡ option_map_or (λ value. holds comparison.now.op value (literal comparison.now.literal)) (attribute volume node comparison.now.name) false }
+    ensures unchanged { IsUnchanged L.kept L.standing L.words look.old look.new }
+{
+    let catalog = look.word(version_page, 3);
+    let key = catalog_key(node, &comparison.name);
+    let Some((page, at)) = find_place(look, catalog, &key) else {
+        return false;
+    };
+    holds_at(look, page, at, comparison)
 }
 
 /// The value of an attribute, if the node is there and has it. It costs one descent of the catalog's tree, and takes no memory.

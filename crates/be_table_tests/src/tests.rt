@@ -83,26 +83,42 @@ fn enter_until_due(room: &mut Room) -> Result<u64, Refusal> {
     Err(Refusal::BadLimits)
 }
 
-/// What is read and found under the lock after so many writes.
+/// How many writes make a scan due, and how many more do so once more, under a pin and with a scan between.
+fn count_until_due(alloc: Global, room: &mut Room) -> Result<(u64, u64), Fail> {
+    check_lines(alloc, room, "1 pin => pin 0")?;
+    let before = enter_until_due(room)?;
+    check_lines(alloc, room, "0 scan => 0")?;
+    Ok((before, enter_until_due(room)?))
+}
+
 fn scanned(alloc: Global, written: u64) -> Result<String, AllocError> {
     format!(in alloc; "1 read / 1 unpin / 0 scan / 0 due => 1 / ok / {written} / 0")
+}
+
+/// What is read and found under the lock after so many writes.
+fn check_scanned(alloc: Global, room: &mut Room, written: u64) -> Result<(), Fail> {
+    let lines = match scanned(alloc, written) {
+        Err(_) => scanned(alloc, written)?,
+        Ok(lines) => lines,
+    };
+    check_lines(alloc, room, lines.as_str())
+}
+
+fn is_early(written: u64) -> bool {
+    written >= 64 && written < 128
+}
+
+fn scans_early(alloc: Global, room: &mut Room) -> Result<bool, Fail> {
+    let (before, beyond) = count_until_due(alloc, room)?;
+    check_scanned(alloc, room, before.saturating_add(beyond))?;
+    Ok(is_early(before) && is_early(beyond))
 }
 
 /// A scan is due once 256 pages are retired, and, where a pin keeps them, again once there are 256 more.
 #[test]
 fn scan_due(rt: HostRuntime) -> Result<(), Fail> {
-    let mut room = opened(rt.alloc(), 1024)?;
-    check_lines(rt.alloc(), &mut room, "1 pin => pin 0")?;
-    let before = enter_until_due(&mut room)?;
-    check_lines(rt.alloc(), &mut room, "0 scan => 0")?;
-    let beyond = enter_until_due(&mut room)?;
-    assert!(rt; before >= 64 && before < 128 && beyond >= 64 && beyond < 128);
-    let written = before.saturating_add(beyond);
-    let lines = match scanned(rt.alloc(), written) {
-        Err(_) => scanned(rt.alloc(), written)?,
-        Ok(lines) => lines,
-    };
-    check_lines(rt.alloc(), &mut room, lines.as_str())
+    assert!(rt; scans_early(rt.alloc(), &mut opened(rt.alloc(), 1024)?)?);
+    Ok(())
 }
 
 #[test]

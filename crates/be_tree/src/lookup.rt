@@ -1,14 +1,14 @@
 //! Look-ups of a key.
 //!
 //! On each level the items of one page are asked one after the other, where they stand, up to the first whose key is
-//! greater. A page has 12 at most, mostly their first words decide, and a processor reads ahead along them, while the steps
-//! of a binary search wait for each other.
+//! greater, or in a leaf up to the one that has the key. A page has 12 at most, mostly their first words decide, and a
+//! processor reads ahead along them, while the steps of a binary search wait for each other.
 ghost use Rattle.std.specs.Prelude.{◌≡◌, [], ◌+◌, ◌-◌, ◌<◌, ◌≤◌, true, false, length, option_map, is_some, IfNone, IfSome, IfOk, IfErr, None, Some};
 ghost use Rattle.std.specs.Prelude.{IsTrue};
 ghost use Rattle.std.specs.Ordering.{is_eq, is_gt};
 ghost use Rattle.be_pages.specs.Pages.{IsUnchanged, is_readable};
 ghost use Rattle.std.specs.declared.cmp.Ordering.TheVariants.{Equal};
-ghost use Rattle.be_tree.specs.Page.{IsItem, IsPage, item_at, item_place, items_of};
+ghost use Rattle.be_tree.specs.Page.{IsItem, IsPage, item_at, item_place, items_of, key_len};
 ghost use Rattle.be_tree.specs.Key.{IsGap, IsRank, key_cmp, payload_at};
 ghost use Rattle.be_tree.specs.Words.{AreFirst};
 ghost use Rattle.be_tree.specs.Tree.{IsTree, pairs};
@@ -193,6 +193,27 @@ fn order_at<L: Look>(look: &mut L, page: u64, at: usize, key: &[u8], words: Firs
     if mine != words.first {
         return mine.cmp(&words.first);
     }
+    order_behind(look, page, at, key, words)
+}
+
+/// The same where the key's first word is that of the item. It stands by itself, so that what mostly happens stays short.
+fn order_behind<L: Look>(
+    look: &mut L,
+    page: u64,
+    at: usize,
+    key: &[u8],
+    words: FirstWords,
+) -> Ordering
+    requires readable { IsTrue (is_readable (L.standing look.old page)) }
+    requires in_page { at + 42 ≤ 512 }
+    requires item { IsItem (L.words look.old page) at }
+    requires words { AreFirst key.now words }
+    requires long { 8 ≤ key_len (L.words look.old page) at }
+    requires same { words.first ≡ L.words look.old page (at + 1) }
+    ensures order { result ≡ key_cmp (item_at (L.words look.old page) at).key key.now }
+    ensures unchanged { IsUnchanged L.kept L.standing L.words look.old look.new }
+{
+    let len = (look.word(page, at) >> 32) as usize;
     let common = least_of(len, key.len());
     if common < 8 {
         return cmp_at(look, page, at, key);

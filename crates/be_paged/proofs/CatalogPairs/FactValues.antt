@@ -1,5 +1,5 @@
 -- What the trees of a version in hand answer about its volume.
-use Rattle.std.proofs.Common.{◌≡◌, ℕ, ◌<◌, ◌^◌, true, false, unwrap_or, List, [], ◌∷◌, length, Some, None, Ok, Err, ap, sym, ◌∙◌, refl, is_some}
+use Rattle.std.proofs.Common.{◌≡◌, ℕ, ◌<◌, ◌^◌, Bool, true, false, unwrap_or, List, [], ◌∷◌, length, Some, None, Ok, Err, ap, sym, ◌∙◌, refl, is_some}
 use Rattle.std.specs.Int.{to_be_bytes, w64}
 use Rattle.std.specs.Option.{option_map, option_map_or}
 use Rattle.std.specs.Result.{IfOk, IfErr, is_ok}
@@ -101,3 +101,13 @@ bare_counted (Some x) last volume node is of bare told =
 
 pub no_attribute : (nodes : Nodes) (node : ℕ) (name : List ℕ) → fin.len (attributes_of nodes node) ≡ 0 → fin.contains_key (attributes_of nodes node) name ≡ false
 no_attribute nodes node name bare = ap (λ (a : Attributes). is_some (fin.get a name)) (fin.empty_of_len (attributes_of nodes node) bare) ∙ ap is_some (fin.get-empty name_cmp name)
+
+-- what is true of each value whose payload stands is true of the node's value, and of none it is false
+pub holds_read : (items : List Pair) (nodes : Nodes) (node : ℕ) (name k payload : List ℕ) (told : Bool) (holds : Value → Bool) → IsCatalog items nodes → AreValid nodes → node < 2 ^ 64 → name_from name ≡ Ok name
+    → k ≡ catalog_key node name → payload_at items k ≡ Some payload → ((v : Value) → IsValue v → payload ≡ payload_of v → told ≡ holds v) → told ≡ option_map_or holds (value_at nodes node name) false
+holds_read items nodes node name k payload told holds catalog valid fits ok e there tells =
+    by (value_at nodes node name) (λ v is. (valid node name v is).1) (sym there ∙ stored_at items nodes node name k catalog fits ok e)
+  where
+    by : (v : Option Value) → ((w : Value) → v ≡ Some w → IsValue w) → Some payload ≡ option_map payload_of v → told ≡ option_map_or holds v false
+    by None all h = cc
+    by (Some v) all h = tells v (all v refl) (ap (λ o. unwrap_or o []) h)
