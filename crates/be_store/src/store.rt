@@ -10,7 +10,7 @@ use crate::writing::write;
 use crate::{Limits, Pass};
 use arrayvec::ArrayVec;
 use be_journal::Journal;
-use be_paged::{attrs, first_page, get, indices};
+use be_paged::{attrs, first_page, get, indices, nodes};
 use be_query::Query;
 use be_table::{PinnedLook, VersionTable};
 use be_value::{Kind, Name, Refusal, Value};
@@ -38,6 +38,7 @@ impl Store {
     ghost use Rattle.std.specs.List.Sorted.{IsStrictlyIncreasing};
     ghost use Rattle.be_journal.specs.Journal.{IsLegal};
     ghost use Rattle.be_table.specs.History.{StartsWith, AreOfPasses};
+    ghost use Rattle.be_paged.specs.Nodes.{nodes_from};
     ghost use Rattle.be_paged.specs.Version.{IsVersion};
     ghost use Rattle.be_table.specs.Reading.{pinned_standing, word_of_page};
     ghost use Rattle.be_table.specs.Rule.{IsWithin};
@@ -246,6 +247,26 @@ impl Store {
     {
         let (mut look, page) = self.reader(pass);
         let list = indices(alloc, &mut look, page);
+        *pass = look.into_seat();
+        list
+    }
+
+    /// The nodes of the pinned version from a number on, ascending, and so many of them at most. OutOfMemory where a growth
+    /// was refused. It costs one descent, and a step for each node that it gives and for each of their attributes.
+    pub fn nodes(
+        &self,
+        alloc: Global,
+        pass: &mut Pass,
+        from: u64,
+        most: usize,
+    ) -> Result<Vec<u64>, Refusal>
+        requires pass { IsPassOf self.now pass.old }
+        requires pinned { (n : ℕ) × IsPinnedTo pass.old.knows n }
+        ensures pass { IsPassOf self.now pass.new × HasRead pass.old.knows pass.new.knows }
+        ensures list { Answers (λ list. list.items) result (Ok (nodes_from (volume_pinned pass.old.knows) from most)) }
+    {
+        let (mut look, page) = self.reader(pass);
+        let list = nodes(alloc, &mut look, page, from, most);
         *pass = look.into_seat();
         list
     }
