@@ -32,12 +32,7 @@ fn nodes_pages(
 }
 
 /// The nodes of the form over pages, with both forms as they were.
-fn nodes_of(
-    alloc: Global,
-    both: Both,
-    from: u64,
-    most: usize,
-) -> Result<(Both, Vec<u64>), Fail> {
+fn nodes_of(alloc: Global, both: Both, from: u64, most: usize) -> Result<(Both, Vec<u64>), Fail> {
     let Both {
         plain,
         mut room,
