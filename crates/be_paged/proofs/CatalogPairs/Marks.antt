@@ -206,15 +206,15 @@ fewer [] x e = none_some x e
 fewer (y ∷ xs) x e = omega arith
 
 pub passed : (xs : List Pair) (x : Pair) → slice_get xs 0 ≡ Some x → is_mark x.key ≡ false → marked (drop 1 xs) ≡ marked xs
-passed [] x e no = none_some x e
-passed (y ∷ xs) x e no =
-    sym (ap (λ b. cond b (from_be_bytes w64 y.key ∷ marked xs) (marked xs)) (ap (λ (z : Pair). is_mark z.key) (some_same y x e) ∙ no))
+passed [] x e bare = none_some x e
+passed (y ∷ xs) x e bare =
+    sym (ap (λ b. cond b (from_be_bytes w64 y.key ∷ marked xs) (marked xs)) (ap (λ (z : Pair). is_mark z.key) (some_same y x e) ∙ bare))
 
 pub met : (xs : List Pair) (x : Pair) → slice_get xs 0 ≡ Some x → is_mark x.key ≡ true → marked xs ≡ from_be_bytes w64 x.key ∷ marked (drop 1 xs)
-met [] x e yes = none_some x e
-met (y ∷ xs) x e yes =
+met [] x e mark = none_some x e
+met (y ∷ xs) x e mark =
     let same = some_same y x e in
-    ap (λ b. cond b (from_be_bytes w64 y.key ∷ marked xs) (marked xs)) (ap (λ (z : Pair). is_mark z.key) same ∙ yes)
+    ap (λ b. cond b (from_be_bytes w64 y.key ∷ marked xs) (marked xs)) (ap (λ (z : Pair). is_mark z.key) same ∙ mark)
     ∙ ap (λ (z : Pair). from_be_bytes w64 z.key ∷ marked xs) same
 
 -- whether an item is a mark: its first word tells, and the second is the node
