@@ -301,9 +301,9 @@ impl Store {
 
     /// How full the store is, and whose pin is the oldest, while passes are in use. A pin stays.
     ///
-    /// Busy, and nothing else, where the call's one try finds another pass holding the lock. The lock is held for a look at
-    /// each announcement, which frees the pages that no announcement holds: so `retired` counts just those that wait. It
-    /// takes no memory.
+    /// Busy, and nothing else, where the call's one try finds another pass holding the lock. While it holds the lock it looks
+    /// at each announcement, and frees the retired pages that none of them holds: so those that it counts as retired are
+    /// held. It takes no memory.
     pub fn status(&self, pass: &mut Pass) -> Result<Status, Refusal>
         requires pass { IsPassOf self.now pass.old }
         ensures pass { IsPassOf self.now pass.new }

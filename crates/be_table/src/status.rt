@@ -2,10 +2,10 @@
 ghost use Rattle.std.specs.Prelude.{◌≡◌, ◌++◌, ◌∷◌, [], ℕ, List, length};
 ghost use Rattle.be_table.specs.Statuses.{IsOldest};
 
-/// A pass that has announced a version, from which on no page is freed until the pass unpins.
+/// An announced version number, and the pass that has announced it.
 #[derive(Clone, Copy)]
 pub struct Announcement {
-    /// The announced number. A pass is pinned to that version or to a later one.
+    /// The number. The pass is pinned to that version or to a later one, or is about to be.
     pub number: u64,
     /// The number of the pass.
     pub pass: u64,
@@ -18,14 +18,13 @@ pub struct Status {
     pub pages: u64,
     /// The pages that a write may take.
     pub free: u64,
-    /// The pages of older versions that wait for a pass. A write that needs more than are free is refused by Full.
+    /// The pages of older versions that no write may take, since a pass has announced such a version or an older one.
     pub retired: u64,
     /// The entries of the journal.
     pub entries: u64,
     /// The most entries that it may have.
     pub commits: u64,
-    /// The least announced number, and the first of the passes that have announced it. Where it is the number of the
-    /// current version, no page waits.
+    /// The least announced number, and the first of the passes that have announced it. None where none has.
     pub oldest: Option<Announcement>,
 }
 

@@ -236,8 +236,8 @@ impl<'a> Writing<'a> {
         }
     }
 
-    /// Scans, and tells how full the table is then, and the oldest of the announcements that the scan found. The pages that
-    /// are still retired are those that an announcement holds. It costs what `scan` does.
+    /// Scans, and tells how full the table is then, and the oldest of the announcements that the scan found. It costs what
+    /// `scan` does.
     pub fn status(&mut self) -> Status
         requires open { self.old.knows.published ≡ false }
         ensures scan { (least : ℕ) × MakesScan self.old self.new least }
