@@ -50,15 +50,17 @@ fn attributes(alloc: Global, both: &mut Both, node: u64) -> Result<Result<Reply,
     }
 }
 
-/// What both forms answer to a read.
-fn read(alloc: Global, both: &mut Both, asked: Request) -> Result<Result<Reply, Refusal>, Fail> {
-    match asked {
-        Request::Get(node, name) => Ok(Ok(attribute(both, node, name)?)),
-        Request::Attrs(node) => attributes(alloc, both, node),
-        Request::Indices => Ok(Ok(Reply::Kinds(both.indices(alloc)?))),
-        Request::Malformed => Ok(Ok(Reply::BadLine)),
-        _ => Err(Fail::new("no request")),
-    }
+/// The reply of both forms to a read.
+fn read(alloc: Global, both: Both, asked: Request) -> Result<(Both, String), Fail> {
+    let mut both = both;
+    let answer = match asked {
+        Request::Get(node, name) => Ok(attribute(&mut both, node, name)?),
+        Request::Attrs(node) => attributes(alloc, &mut both, node)?,
+        Request::Indices => Ok(Reply::Kinds(both.indices(alloc)?)),
+        Request::Malformed => Ok(Reply::BadLine),
+        _ => return Err(Fail::new("no request")),
+    };
+    Ok((both, answer_text(alloc, answer)?))
 }
 
 /// The reply of both forms to a line of a script.
@@ -67,11 +69,7 @@ fn line_reply(alloc: Global, both: Both, line: &str) -> Result<(Both, String), F
         Request::Write(Ok(op)) => write(alloc, both, &[op]),
         Request::Write(Err(refusal)) => Ok((both, refused(alloc, refusal)?)),
         Request::Query(text) => query(alloc, both, text.as_str(), None),
-        asked => {
-            let mut both = both;
-            let answer = read(alloc, &mut both, asked)?;
-            Ok((both, answer_text(alloc, answer)?))
-        }
+        asked => read(alloc, both, asked),
     }
 }
 
