@@ -23,16 +23,17 @@ fn count_passes(alloc: Global, pages: u64, passes: u64, commits: u64) -> Result<
     Ok(dealt.len() as u64)
 }
 
-/// Limits that are out of range, and the least and the greatest ones.
+/// Limits that are out of range, the greatest ones, and each number of passes.
 #[test]
 fn open_limits(rt: HostRuntime) -> Result<(), Fail> {
     for (pages, passes, commits) in OUTSIDE_LIMITS {
         let refused = count_passes(rt.alloc(), pages, passes, commits);
         assert_eq!(rt; refused, Err(Refusal::BadLimits));
     }
-    for (pages, passes, commits) in [(8, 1, 1), (16384, 64, 4_294_967_295)] {
-        let dealt = count_passes(rt.alloc(), pages, passes, commits);
-        assert_eq!(rt; dealt, Ok(passes));
+    let dealt = count_passes(rt.alloc(), 16384, 64, 4_294_967_295);
+    assert_eq!(rt; dealt, Ok(64));
+    for passes in 1..=64 {
+        assert_eq!(rt; count_passes(rt.alloc(), 8, passes, 1), Ok(passes));
     }
     Ok(())
 }
@@ -114,14 +115,16 @@ fn after_63(alloc: Global, last: &str) -> Result<String, AllocError> {
     Ok(text)
 }
 
-/// A list of 64 that is accepted by pass 1, and one that is refused by pass 0, which stays pinned; and what comes between
-/// and after.
+/// Three writes by pass 1, and a pin; then a list of 64 that is accepted by pass 1, and one that is refused by pass 0, which
+/// stays pinned; and what comes between and after.
 fn lists_of_64(alloc: Global) -> Result<String, AllocError> {
     let accepted = after_63(alloc, "set 1 k LONG 64")?;
     let refused = after_63(alloc, "drop 9")?;
     let oks = times(alloc, " / ok", 64)?;
     format!(in alloc;
-        "1 {accepted} => commit 4{oks}
+        "1 new / 1 mkindex k LONG / 1 set 1 k LONG 0 => commit 1 / node 1 / commit 2 / ok / commit 3 / ok
+0 pin => pin 3
+1 {accepted} => commit 4{oks}
 0 query k==0 / 0 unpin / 0 pin / 0 query k==64 => pin 3 / nodes 1 / ok / pin 4 / pin 4 / nodes 1
 0 {refused} => refused 2 NoNode
 1 pin / 1 query k==64 => pin 4 / pin 4 / nodes 1"
@@ -291,10 +294,10 @@ fn smallest_pool(rt: HostRuntime) -> Result<(), Fail> {
     Ok(())
 }
 
-/// Sets k of node 1 to 1 to 10,000. The last write's number.
-fn set_many(room: &mut Room) -> Result<u64, Refusal> {
+/// Sets k of node 1 to 1 to this. The last write's number.
+fn set_many(room: &mut Room, count: i32) -> Result<u64, Refusal> {
     let mut last = 0;
-    for i in 1..=10_000 {
+    for i in 1..=count {
         last = set(room, i)?;
     }
     Ok(last)
@@ -304,7 +307,7 @@ fn write_many(alloc: Global, room: &mut Room) -> Result<u64, Fail> {
     let lines =
         "0 new / 0 mkindex k LONG / 0 set 1 k LONG 0 => commit 1 / node 1 / commit 2 / ok / commit 3 / ok";
     check_lines(alloc, room, lines)?;
-    Ok(set_many(room)?)
+    Ok(set_many(room, 10_000)?)
 }
 
 /// Ten thousand writes go through a pool of 64 pages, where nobody is pinned.
@@ -312,6 +315,21 @@ fn write_many(alloc: Global, room: &mut Room) -> Result<u64, Fail> {
 fn pages_reused(rt: HostRuntime) -> Result<(), Fail> {
     let last = write_many(rt.alloc(), &mut for_one(rt.alloc(), 64, 20_000)?)?;
     assert_eq!(rt; last, 10_003);
+    Ok(())
+}
+
+/// Makes node 1, and sets its k. Whether each of so many writes had its number, and none is accepted behind them.
+fn spend(room: &mut Room, commits: u64, sets: i32) -> Result<bool, Refusal> {
+    room.write(Op::New)?;
+    Ok(set_many(room, sets)? == commits && room.write(Op::New) == Err(Refusal::CommitsSpent))
+}
+
+/// Two hundred thousand commits, the journal of which is legal.
+#[test]
+fn many_commits(rt: HostRuntime) -> Result<(), Fail> {
+    let mut room = for_one(rt.alloc(), 64, 200_000)?;
+    assert!(rt; spend(&mut room, 200_000, 199_999)?);
+    assert_eq!(rt; room.close(rt.alloc()), Ok((200_000, true)));
     Ok(())
 }
 
