@@ -353,13 +353,15 @@ static void many_entries(void)
     OK(bes_open(64, 1, MOST_ENTRIES, &pass));
     AT_EACH_SIZE(1, MOST_ENTRIES) {
         for (; written < size; written++) {
-            if (written == 0)
+            char *end = expected + length;
+            size_t room = sizeof expected - length;
+            if (written == 0) {
                 OK(bes_new_node(&pass, &node));
-            else
+                length += (size_t)snprintf(end, room, "1 by 0 new -> node 1\n");
+            } else {
                 OK(bes_set_uint64(&pass, node, "n", written));
-            length += (size_t)snprintf(expected + length, sizeof expected - length,
-                                       written == 0 ? "1 by 0 new -> node 1\n" : "%d by 0 set 1 \"n\" ULLG %d -> ok\n",
-                                       (int)written + 1, (int)written);
+                length += (size_t)snprintf(end, room, "%d by 0 set 1 \"n\" ULLG %d -> ok\n", (int)written + 1, (int)written);
+            }
         }
         memset(told, 7, sizeof told);
         OK(bes_journal(&pass, told, sizeof told, &count));
