@@ -45,8 +45,7 @@ head indices / 0 pin / head indices => indices @ / pin 1 / indices @
 0 get 1 k / 0 query k==x{x} / 0 pin / 0 get 1 r => CSTR \"x{x}\" / pin 1 / nodes 1 / pin 1 / MIMS \"x{x}\"";
 
 /// Appends a part once for each number from 2 to the size.
-fn push_each(text: &mut String, part: &str, size: u64) -> Result<(), AllocError> {
-    let alloc = *text.allocator();
+fn push_each(alloc: Global, text: &mut String, part: &str, size: u64) -> Result<(), AllocError> {
     for number in 2..=size {
         let number = format!(in alloc; "{number}")?;
         text.push_str(part.replace(alloc, "#", number.as_str())?.as_str())?;
@@ -62,7 +61,7 @@ fn lines_at(alloc: Global, row: &str, size: u64) -> Result<String, AllocError> {
     for part in row.as_str().split('}') {
         let (once, each) = part.split_once("{").unwrap_or((part, ""));
         text.push_str(once)?;
-        push_each(&mut text, each, size)?;
+        push_each(alloc, &mut text, each, size)?;
     }
     Ok(text)
 }
