@@ -4,7 +4,7 @@
 //! `{PART}` the part once for each number from 2 to the size, with the number in place of `#`: so what stands before it, and
 //! it, are as many as the size says.
 
-use crate::room::{Room, for_one};
+use crate::room::for_one;
 use be_testing::check_lines;
 use be_value::word_of;
 use std::alloc::{AllocError, Global};
