@@ -4,13 +4,12 @@ use be_testing::{Narrow, longest_list};
 use be_value::word_of;
 use std::alloc::{AllocError, Global};
 use std::io::Write;
-use std::str;
 use std::sync::Wait;
 use std::sync::atomic::AtomicU64;
 use std::sync::atomic::Ordering::SeqCst;
 use std::test::Fail;
-use std::thread;
 use std::thread::Threads;
+use std::{str, thread};
 
 /// Fails with what was written unless it is as expected.
 pub fn expect(is_as_expected: bool, written: &str) -> Result<(), Fail> {
@@ -514,8 +513,7 @@ fn failing_writer_of_a_race(rt: HostRuntime) -> Result<(), Fail> {
 }
 
 /// What is written where the one line of a race is refused for want of memory.
-const OF_NONE: &str =
-    "pass 0\nrefused 10 OutOfMemory\npass 1\njournal 0\nreplay ok\n";
+const OF_NONE: &str = "pass 0\nrefused 10 OutOfMemory\npass 1\njournal 0\nreplay ok\n";
 
 /// Whether a race that ended so may have written this: all, or for want of memory a front.
 fn may_write(ended: Result<bool, RunFault>, written: &str) -> bool {

@@ -264,7 +264,8 @@ fn make_nodes(room: &mut Room) -> Option<u64> {
 /// accepted.
 #[test]
 fn list_at_full(rt: HostRuntime) -> Result<(), Fail> {
-    let lines = "1 pin / 0 new / 0 new / 0 new => pin 0 / commit 1 / node 1 / commit 2 / node 2 / commit 3 / node 3
+    let lines =
+        "1 pin / 0 new / 0 new / 0 new => pin 0 / commit 1 / node 1 / commit 2 / node 2 / commit 3 / node 3
 0 new;new / 0 drop 1;new;new / 0 new;drop 9 => refused 11 Full 0 / refused 11 Full 0 / refused 2 NoNode
 1 unpin / 0 new;new => ok / commit 4 / node 4 / node 5";
     check_lines(rt.alloc(), &mut for_two(rt.alloc(), 8, 100)?, lines)

@@ -95,6 +95,7 @@ fn failing_writer_of_a_telling(rt: HostRuntime) -> Result<(), Fail> {
 
 /// What a run of a line tells, and what it tells where the line is refused for want of memory.
 const OF_ONE: &str = "node 1\njournal 1\n1 by 0 new -> node 1\nreplay ok\n";
+
 const OF_NONE: &str = "refused 10 OutOfMemory\njournal 0\nreplay ok\n";
 
 /// Whether a run that ended so may have told this: all, or for want of memory a front.
