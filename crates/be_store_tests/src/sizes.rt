@@ -4,21 +4,15 @@
 //! `{PART}` the part once for each number from 2 to the size, with the number in place of `#`: so what stands before it, and
 //! it, are as many as the size says.
 
-use crate::room::for_one;
+use crate::room::{Room, for_one};
 use be_testing::check_lines;
 use be_value::word_of;
 use std::alloc::{AllocError, Global};
 use std::test::Fail;
 
-/// Nodes of an answer and of a live query, comparisons, operations and attributes, indices, bytes of a query, of a name and of
-/// a value; each is read of the version of a pin that goes with the read, and of one that stands.
-const ROWS: &str = "10000
-0 mkindex k LONG;new;set 1 k LONG 7{ / 0 new;set # k LONG 7} => commit 1 / ok / node 1 / ok{ / commit # / node # / ok}
-live k==7 / 0 refresh / 0 query k==7 => ok / created 1{ #} / removed / pin @ / nodes 1{ #}
-live k>6 / 0 pin / 0 refresh / 0 query k==7 => ok / pin @ / created 1{ #} / removed / pin @ / nodes 1{ #}
-0 refresh / 0 query k==7 && k!=8 || k==9 => created / removed / pin @ / nodes 1{ #}
-
-256
+/// Comparisons, operations and attributes, indices, bytes of a query, of a name and of a value; each is read of the version of a
+/// pin that goes with the read, and of one that stands.
+const ROWS: &str = "256
 0 mkindex k LONG;new;set 1 k LONG 0 => commit 1 / ok / node 1 / ok
 0 query k==0{||k==#} / 0 query k<1{&&k<#} => pin 1 / nodes 1 / pin 1 / nodes 1
 live k==0{||k==#} / 0 pin / 0 refresh / 0 query k!=1{&&k!=#} => ok / pin 1 / created 1 / removed / pin 1 / nodes 1
@@ -98,4 +92,56 @@ fn sizes(rt: HostRuntime) -> Result<(), Fail> {
         check_row(rt.alloc(), row)?;
     }
     Ok(())
+}
+
+/// How many nodes there are when a query and a live one are asked.
+const COUNTS: &str =
+    "2 3 6 16 40 100 251 631 1000 1585 2000 3000 3981 5000 6000 7000 8000 9000 10000";
+
+const FOUND: &str =
+    "live k==7 / 0 refresh / 0 query k==7 => ok / created 1{ #} / removed / pin @ / nodes 1{ #}
+live k>6 / 0 pin / 0 refresh / 0 query k==7 => ok / pin @ / created 1{ #} / removed / pin @ / nodes 1{ #}
+0 refresh / 0 query k==7 && k!=8 || k==9 / 0 unpin => created / removed / pin @ / nodes 1{ #} / ok";
+
+fn node_line(alloc: Global, node: u64) -> Result<String, AllocError> {
+    format!(in alloc; "0 new;set {node} k LONG 7 => commit {node} / node {node} / ok")
+}
+
+fn make_node(alloc: Global, room: &mut Room, node: u64) -> Result<(), Fail> {
+    let line = match node_line(alloc, node) {
+        Err(_) => node_line(alloc, node)?,
+        Ok(line) => line,
+    };
+    check_lines(alloc, room, line.as_str())
+}
+
+/// Makes the nodes behind so many of this store, up to a count, and looks at what finds all of them.
+fn find_nodes(alloc: Global, room: &mut Room, made: u64, count: u64) -> Result<(), Fail> {
+    for node in made.saturating_add(1)..=count {
+        make_node(alloc, room, node)?;
+    }
+    let lines = match lines_at(alloc, FOUND, count) {
+        Err(_) => lines_at(alloc, FOUND, count)?,
+        Ok(lines) => lines,
+    };
+    check_lines(alloc, room, lines.as_str())
+}
+
+/// Makes node 1, and further ones.
+fn find_growing(alloc: Global, room: &mut Room) -> Result<(), Fail> {
+    let first = "0 mkindex k LONG;new;set 1 k LONG 7 => commit 1 / ok / node 1 / ok";
+    check_lines(alloc, room, first)?;
+    let mut made = 1;
+    for count in COUNTS.split(' ') {
+        let count = word_of(count.as_bytes()).unwrap_or(0);
+        find_nodes(alloc, room, made, count)?;
+        made = count;
+    }
+    Ok(())
+}
+
+/// Nodes of an answer and of a live query.
+#[test]
+fn many_nodes(rt: HostRuntime) -> Result<(), Fail> {
+    find_growing(rt.alloc(), &mut for_one(rt.alloc(), 16384, 20_000)?)
 }

@@ -305,10 +305,10 @@ fn smallest_pool(rt: HostRuntime) -> Result<(), Fail> {
     Ok(())
 }
 
-/// Sets k of node 1 to 1 to this. The last write's number.
-fn set_many(room: &mut Room, count: i32) -> Result<u64, Refusal> {
+/// Sets k of node 1 to 1 to 10,000. The last write's number.
+fn set_many(room: &mut Room) -> Result<u64, Refusal> {
     let mut last = 0;
-    for i in 1..=count {
+    for i in 1..=10_000 {
         last = set(room, i)?;
     }
     Ok(last)
@@ -318,7 +318,7 @@ fn write_many(alloc: Global, room: &mut Room) -> Result<u64, Fail> {
     let lines =
         "0 new / 0 mkindex k LONG / 0 set 1 k LONG 0 => commit 1 / node 1 / commit 2 / ok / commit 3 / ok";
     check_lines(alloc, room, lines)?;
-    Ok(set_many(room, 10_000)?)
+    Ok(set_many(room)?)
 }
 
 /// Ten thousand writes go through a pool of 64 pages, where nobody is pinned.
@@ -326,21 +326,6 @@ fn write_many(alloc: Global, room: &mut Room) -> Result<u64, Fail> {
 fn pages_reused(rt: HostRuntime) -> Result<(), Fail> {
     let last = write_many(rt.alloc(), &mut for_one(rt.alloc(), 64, 20_000)?)?;
     assert_eq!(rt; last, 10_003);
-    Ok(())
-}
-
-/// Makes node 1, and sets its k. Whether each of so many writes had its number, and none is accepted behind them.
-fn spend(room: &mut Room, commits: u64, sets: i32) -> Result<bool, Refusal> {
-    room.write(Op::New)?;
-    Ok(set_many(room, sets)? == commits && room.write(Op::New) == Err(Refusal::CommitsSpent))
-}
-
-/// Two hundred thousand commits, the journal of which is legal.
-#[test]
-fn many_commits(rt: HostRuntime) -> Result<(), Fail> {
-    let mut room = for_one(rt.alloc(), 64, 200_000)?;
-    assert!(rt; spend(&mut room, 200_000, 199_999)?);
-    assert_eq!(rt; room.close(rt.alloc()), Ok((200_000, true)));
     Ok(())
 }
 
