@@ -5,6 +5,7 @@
 //! it, are as many as the size says.
 
 use crate::room::{Room, for_one};
+use be_store::{Name, Op, Refusal, Value};
 use be_testing::check_lines;
 use be_value::word_of;
 use std::alloc::{AllocError, Global};
@@ -96,42 +97,43 @@ fn sizes(rt: HostRuntime) -> Result<(), Fail> {
 
 /// How many nodes there are when a query and a live one are asked.
 const COUNTS: &str =
-    "2 3 6 16 40 100 251 631 1000 1585 2000 3000 3981 5000 6000 7000 8000 9000 10000";
+    "1 3 6 16 40 100 251 631 1000 1585 2000 3000 3981 5000 6000 7000 8000 9000 10000";
 
-const FOUND: &str =
-    "live k==7 / 0 refresh / 0 query k==7 => ok / created 1{ #} / removed / pin @ / nodes 1{ #}
-live k>6 / 0 pin / 0 refresh / 0 query k==7 => ok / pin @ / created 1{ #} / removed / pin @ / nodes 1{ #}
-0 refresh / 0 query k==7 && k!=8 || k==9 / 0 unpin => created / removed / pin @ / nodes 1{ #} / ok";
-
-fn node_line(alloc: Global, node: u64) -> Result<String, AllocError> {
-    format!(in alloc; "0 new;set {node} k LONG 7 => commit {node} / node {node} / ok")
+/// What finds all of so many nodes, by the version after this many writes.
+fn found_lines(alloc: Global, count: u64, pin: u64) -> Result<String, AllocError> {
+    let mut nodes = String::from_str(alloc, "1")?;
+    push_each(alloc, &mut nodes, " #", count)?;
+    format!(in alloc;
+        "live k==7 / 0 refresh / 0 query k==7 => ok / created {nodes} / removed / pin {pin} / nodes {nodes}
+0 pin / 0 refresh / 0 query k>6 && k!=8 || k==9 => pin {pin} / created / removed / pin {pin} / nodes {nodes}
+live k>6 / 0 refresh / 0 unpin => ok / created {nodes} / removed / ok"
+    )
 }
 
-fn make_node(alloc: Global, room: &mut Room, node: u64) -> Result<(), Fail> {
-    let line = match node_line(alloc, node) {
-        Err(_) => node_line(alloc, node)?,
-        Ok(line) => line,
-    };
-    check_lines(alloc, room, line.as_str())
-}
-
-/// Makes the nodes behind so many of this store, up to a count, and looks at what finds all of them.
-fn find_nodes(alloc: Global, room: &mut Room, made: u64, count: u64) -> Result<(), Fail> {
+/// Makes the nodes behind so many, up to a count.
+fn make_nodes(room: &mut Room, made: u64, count: u64) -> Result<(), Refusal> {
     for node in made.saturating_add(1)..=count {
-        make_node(alloc, room, node)?;
+        room.write(Op::New)?;
+        room.write(Op::Set(node, Name::new("k")?, Value::int32(7)))?;
     }
-    let lines = match lines_at(alloc, FOUND, count) {
-        Err(_) => lines_at(alloc, FOUND, count)?,
+    Ok(())
+}
+
+/// The same, and looks at what finds all of them.
+fn find_nodes(alloc: Global, room: &mut Room, made: u64, count: u64) -> Result<(), Fail> {
+    make_nodes(room, made, count)?;
+    let pin = count.saturating_mul(2).saturating_add(1);
+    let lines = match found_lines(alloc, count, pin) {
+        Err(_) => found_lines(alloc, count, pin)?,
         Ok(lines) => lines,
     };
     check_lines(alloc, room, lines.as_str())
 }
 
-/// Makes node 1, and further ones.
+/// Makes an index and then nodes, up to each count.
 fn find_growing(alloc: Global, room: &mut Room) -> Result<(), Fail> {
-    let first = "0 mkindex k LONG;new;set 1 k LONG 7 => commit 1 / ok / node 1 / ok";
-    check_lines(alloc, room, first)?;
-    let mut made = 1;
+    check_lines(alloc, room, "0 mkindex k LONG => commit 1 / ok")?;
+    let mut made = 0;
     for count in COUNTS.split(' ') {
         let count = word_of(count.as_bytes()).unwrap_or(0);
         find_nodes(alloc, room, made, count)?;
@@ -143,5 +145,5 @@ fn find_growing(alloc: Global, room: &mut Room) -> Result<(), Fail> {
 /// Nodes of an answer and of a live query.
 #[test]
 fn many_nodes(rt: HostRuntime) -> Result<(), Fail> {
-    find_growing(rt.alloc(), &mut for_one(rt.alloc(), 16384, 20_000)?)
+    find_growing(rt.alloc(), &mut for_one(rt.alloc(), 16384, 30_000)?)
 }
