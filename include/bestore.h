@@ -225,10 +225,10 @@ uint32_t bes_unpin(bes_pass *pass);
  * a look at each pass and work for each page that is free again. Where the answer is BES_BUSY it took one step on a shared word,
  * and the memory for the operations.
  * BES_BUSY: another pass is writing, and number is that pass: call again. BES_CLOSED, BES_BAD_COUNT, BES_NO_MEMORY: nothing has
- * happened. BES_NO_OPERATION, BES_BAD_PART, BES_NOT_UTF8, BES_NAME_LENGTH, BES_DATA_LENGTH, BES_HAS_NUL, BES_NO_KIND and
- * BES_NO_VALUE: nothing either, and number is the first operation that can't be read. BES_NO_NODE to BES_NOT_INDEXABLE: an
- * operation is refused, and none is done. BES_COMMITS_SPENT, BES_FULL: there is no room, and number of BES_FULL is the oldest
- * version that a pass may still reach. */
+ * happened. BES_NO_OPERATION, BES_BAD_PART, BES_NOT_UTF8, BES_NAME_LENGTH, BES_DATA_LENGTH, BES_HAS_NUL, BES_NO_KIND, BES_NO_VALUE:
+ * nothing either, and number is the first operation that can't be read. BES_NO_NODE to BES_NOT_INDEXABLE: an operation is refused,
+ * and none is done. BES_COMMITS_SPENT, BES_FULL: there is no room, and number of BES_FULL is the oldest version that a pass may
+ * still reach. */
 uint32_t bes_apply(bes_pass *pass, const bes_operation *operations, size_t operations_count, const uint8_t *bytes,
                    size_t bytes_count, uint64_t *made, size_t made_room, uint64_t *number);
 
@@ -248,9 +248,9 @@ uint32_t bes_query(bes_pass *pass, const uint8_t *text, size_t text_length, uint
                    uint64_t *count);
 
 /* Asks the query that items in reverse Polish order build, as bes_query does, and takes what that does; nothing is parsed.
- * BES_NO_ITEM, BES_BAD_PART, BES_NOT_UTF8, BES_NAME_LENGTH, BES_HAS_NUL: count is the first item that can't be read. BES_BAD_RPN and
- * BES_BAD_PATTERN: the items build no query, and count is the item at which that shows, or how many they are where it shows at
- * their end. BES_TOO_DEEP, BES_TOO_MANY: they build too large a one. Other faults are those of bes_query. */
+ * BES_NO_ITEM, BES_BAD_PART, BES_NOT_UTF8, BES_NAME_LENGTH, BES_HAS_NUL: count is the first item that can't be read.
+ * BES_BAD_RPN, BES_BAD_PATTERN: the items build no query, and count is the item at which that shows, or how many they are where it
+ * shows at their end. BES_TOO_DEEP, BES_TOO_MANY: they build too large a one. Other faults are those of bes_query. */
 uint32_t bes_query_items(bes_pass *pass, const bes_item *items, size_t items_count, const uint8_t *bytes, size_t bytes_count,
                          uint64_t *nodes, size_t nodes_room, uint64_t *count);
 
