@@ -11,7 +11,7 @@ NAME = r"(?:bes|BES)_\w+"
 
 HEAD = """\
 .\\" Made from include/bestore.h by c/manual.py.
-.Dd November 25, 2026
+.Dd November 26, 2026
 .Dt BESTORE 3
 .Os
 .Sh NAME

@@ -22,16 +22,21 @@ static void closed_handle(void)
     bes_item item = {0, 0, 0, 0};
     bes_operation op;
     memset(&op, 0, sizeof op);
-    CHECK(bes_pin(&pass, &number) == BES_CLOSED && number == 7);
+    CHECK(bes_pin(&pass, &number) == BES_CLOSED && number == 0);
     CHECK(bes_unpin(&pass) == BES_CLOSED);
     CHECK(bes_close(&pass) == BES_CLOSED);
     CHECK(bes_another(&pass, &other) == BES_CLOSED);
-    CHECK(bes_meet(&pass, &number) == BES_CLOSED && number == 7);
+    number = 7;
+    CHECK(bes_meet(&pass, &number) == BES_CLOSED && number == 0);
     CHECK(bes_move(&pass, &other) == BES_CLOSED);
-    CHECK(bes_explain(&pass, (const uint8_t *)"a==1", 4, bytes, 2, &number) == BES_CLOSED && number == 7 && bytes[0] == 7);
-    CHECK(bes_apply(&pass, &op, 1, bytes, 0, nodes, 2, &number) == BES_CLOSED && nodes[0] == 7);
-    CHECK(bes_find(&pass, "a==1", nodes, 2, &number) == BES_CLOSED && number == 7);
-    CHECK(bes_query_items(&pass, &item, 1, bytes, 0, nodes, 2, &number) == BES_CLOSED && number == 7);
+    number = 7;
+    CHECK(bes_explain(&pass, (const uint8_t *)"a==1", 4, bytes, 2, &number) == BES_CLOSED && number == 0 && bytes[0] == 7);
+    number = 7;
+    CHECK(bes_apply(&pass, &op, 1, bytes, 0, nodes, 2, &number) == BES_CLOSED && number == 0 && nodes[0] == 7);
+    number = 7;
+    CHECK(bes_find(&pass, "a==1", nodes, 2, &number) == BES_CLOSED && number == 0);
+    number = 7;
+    CHECK(bes_query_items(&pass, &item, 1, bytes, 0, nodes, 2, &number) == BES_CLOSED && number == 0);
     CHECK(bes_read(&pass, 1, "a", &told, bytes, 2) == BES_CLOSED && told.code == 7 && bytes[0] == 7);
     CHECK(bes_apply_or_retry(&pass, &op, 1, bytes, 0, 1, nodes, 2, &number) == BES_CLOSED && nodes[0] == 7);
 }
@@ -42,18 +47,23 @@ static void closed_prepared(void)
     bes_pass pass = BES_PASS_INIT;
     bes_prepared prepared = BES_PREPARED_INIT;
     bes_updates updates = {7, 7};
-    uint64_t number = 7, count = 7, nodes[2] = {7, 7}, more[2] = {7, 7};
+    uint64_t number = 7, count = 7, place = 7, nodes[2] = {7, 7}, more[2] = {7, 7};
     CHECK(bes_release(&prepared) == BES_CLOSED);
     CHECK(bes_changes(&prepared, nodes, 2, more, 2) == BES_CLOSED && nodes[0] == 7 && more[0] == 7);
-    CHECK(bes_query_prepared(&pass, &prepared, nodes, 2, &count) == BES_CLOSED && count == 7);
+    CHECK(bes_query_prepared(&pass, &prepared, nodes, 2, &count) == BES_CLOSED && count == 0);
     CHECK(bes_open(8, 1, 10, &pass) == BES_OK && bes_pin(&pass, &number) == BES_OK);
-    CHECK(bes_query_prepared(&pass, &prepared, nodes, 2, &count) == BES_CLOSED && count == 7 && nodes[0] == 7);
+    count = 7;
+    CHECK(bes_query_prepared(&pass, &prepared, nodes, 2, &count) == BES_CLOSED && count == 0 && nodes[0] == 7);
     CHECK(bes_refresh(&pass, &prepared, &updates) == BES_CLOSED && updates.created == 7 && updates.removed == 7);
-    CHECK(bes_prepare_text("size<", &prepared) == BES_SYNTAX);
-    CHECK(bes_prepare_text("\xff", &prepared) == BES_NOT_UTF8);
-    CHECK(bes_prepare_text("size<1", &prepared) == BES_OK && bes_prepare_text("size<2", &prepared) == BES_OPEN);
+    CHECK(bes_prepare_text("size<", &prepared, &place) == BES_SYNTAX && place == 5);
+    CHECK(bes_prepare_text("\xff", &prepared, &place) == BES_NOT_UTF8 && place == 0);
+    place = 7;
+    CHECK(bes_prepare_text("size<1", &prepared, &place) == BES_OK && place == 0);
+    place = 7;
+    CHECK(bes_prepare_text("size<2", &prepared, &place) == BES_OPEN && place == 0);
     CHECK(bes_close(&pass) == BES_OK);
-    CHECK(bes_query_prepared(&pass, &prepared, nodes, 2, &count) == BES_CLOSED && count == 7);
+    count = 7;
+    CHECK(bes_query_prepared(&pass, &prepared, nodes, 2, &count) == BES_CLOSED && count == 0);
     CHECK(bes_refresh(&pass, &prepared, &updates) == BES_CLOSED && updates.created == 7);
     CHECK(bes_release(&prepared) == BES_OK && bes_release(&prepared) == BES_CLOSED);
 }
@@ -65,7 +75,7 @@ static void opening(void)
     CHECK(bes_open(7, 2, 10, &mine) == BES_BAD_LIMITS && bes_open(16385, 2, 10, &mine) == BES_BAD_LIMITS);
     CHECK(bes_open(8, 0, 10, &mine) == BES_BAD_LIMITS && bes_open(8, 65, 10, &mine) == BES_BAD_LIMITS);
     CHECK(bes_open(8, 2, 0, &mine) == BES_BAD_LIMITS && bes_open(8, 2, 1ull << 32, &mine) == BES_BAD_LIMITS);
-    CHECK(bes_pin(&mine, &number) == BES_CLOSED && number == 7);
+    CHECK(bes_pin(&mine, &number) == BES_CLOSED && number == 0);
     CHECK(bes_open(8, 2, 10, &mine) == BES_OK);
     CHECK(bes_open(8, 2, 10, &mine) == BES_OPEN);
     CHECK(bes_another(&mine, &theirs) == BES_OK);
@@ -76,7 +86,8 @@ static void opening(void)
     CHECK(bes_pin(&theirs, &number) == BES_OK && number == 0);
     CHECK(bes_move(&theirs, &third) == BES_OK);
     CHECK(bes_unpin(&theirs) == BES_CLOSED);
-    CHECK(bes_pin(&third, &number) == BES_PINNED);
+    number = 7;
+    CHECK(bes_pin(&third, &number) == BES_PINNED && number == 0);
     CHECK(bes_move(&third, &theirs) == BES_OK);
     CHECK(bes_close(&mine) == BES_OK && bes_close(&mine) == BES_CLOSED);
     CHECK(bes_close(&theirs) == BES_OK);
@@ -103,7 +114,7 @@ static void meeting(void)
     bes_pass mine = BES_PASS_INIT, theirs = BES_PASS_INIT, third = BES_PASS_INIT;
     uint64_t number = 7, node = 0;
     CHECK(bes_open(64, 3, 10, &mine) == BES_OK && bes_another(&mine, &theirs) == BES_OK);
-    CHECK(bes_another(&mine, &third) == BES_OK && bes_meet(&mine, &number) == BES_NO_PASS && number == 7);
+    CHECK(bes_another(&mine, &third) == BES_OK && bes_meet(&mine, &number) == BES_NO_PASS && number == 0);
     CHECK(bes_close(&third) == BES_OK && bes_meet(&theirs, &number) == BES_OK && number == 0);
     CHECK(bes_new_node(&mine, &node) == BES_OK && bes_pin(&theirs, &number) == BES_OK && number == 1);
     CHECK(bes_unpin(&theirs) == BES_OK && bes_new_node(&mine, &node) == BES_OK);
@@ -112,26 +123,39 @@ static void meeting(void)
     CHECK(bes_close(&mine) == BES_OK && bes_close(&theirs) == BES_OK);
 }
 
-static uint32_t wrong(bes_pass *pass, bes_operation op, size_t count, size_t size)
+/* So many operations, the first `right` of which can be read, and the others are this one: what is answered. Where that is a fault of
+ * the list, the first of the others goes with it. */
+static uint32_t wrong_behind(bes_pass *pass, size_t right, bes_operation op, size_t count, size_t size)
 {
     static const uint8_t bytes[300] = "k\0\xff";
+    static const bes_operation new_node = {BES_NEW_NODE, 0, 0, 0, 0, 0, 0, 0};
     bes_operation ops[65];
-    uint64_t made[2] = {7, 7}, number = 7;
+    uint64_t made[2] = {7, 7}, number = 7, place;
     uint32_t answer;
     for (size_t i = 0; i < 65; i++)
-        ops[i] = op;
+        ops[i] = i < right ? new_node : op;
     look(pass, &before);
     answer = bes_apply(pass, ops, count, bytes, size, made, 2, &number);
-    CHECK(made[0] == 7 && made[1] == 7 && number == 7);
-    CHECK(bes_apply_or_retry(pass, ops, count, bytes, size, 3, made, 2, &number) == answer && made[0] == 7 && number == 7);
+    place = answer == BES_BAD_COUNT || answer == BES_NOT_INDEXABLE ? 0 : right;
+    CHECK(made[0] == 7 && made[1] == 7 && number == place);
+    number = 7;
+    CHECK(bes_apply_or_retry(pass, ops, count, bytes, size, 3, made, 2, &number) == answer && made[0] == 7 && number == place);
     CHECK(is_as_it_was(pass, &before));
+    return answer;
+}
+
+static uint32_t wrong(bes_pass *pass, bes_operation op, size_t count, size_t size)
+{
+    uint32_t answer = wrong_behind(pass, 0, op, count, size);
+    if (count == 1 && answer != BES_NOT_INDEXABLE)
+        CHECK(wrong_behind(pass, 1, op, 2, size) == answer && wrong_behind(pass, 63, op, 64, size) == answer);
     return answer;
 }
 
 static void wrong_writes(void)
 {
     bes_pass pass = BES_PASS_INIT;
-    uint64_t number = 0;
+    uint64_t number = 7, made = 7;
     bes_operation new_node = {BES_NEW_NODE, 0, 0, 0, 0, 0, 0, 0};
     bes_operation none = {6, 0, 0, 0, 0, 1, 0, 0};
     bes_operation no_kind = {BES_SET, 1, 1, 0, 0, 1, 0, 0};
@@ -147,6 +171,9 @@ static void wrong_writes(void)
     CHECK(bes_open(64, 1, 100, &pass) == BES_OK);
     CHECK(wrong(&pass, new_node, 0, 0) == BES_BAD_COUNT);
     CHECK(wrong(&pass, new_node, 65, 0) == BES_BAD_COUNT);
+    /* How many there are is looked at before they are read. */
+    CHECK(wrong(&pass, none, 65, 0) == BES_BAD_COUNT);
+    CHECK(bes_apply(&pass, &none, (size_t)1 << 40, (const uint8_t *)"", 0, &made, 1, &number) == BES_BAD_COUNT && number == 0);
     CHECK(wrong(&pass, none, 1, 300) == BES_NO_OPERATION);
     CHECK(wrong(&pass, no_kind, 1, 300) == BES_NO_KIND);
     CHECK(wrong(&pass, no_value, 1, 300) == BES_NO_VALUE);
@@ -185,7 +212,7 @@ static void most(void)
     CHECK(bes_batch_new_node(&batch) == BES_OK && bes_batch_set_int32(&batch, 1, "a64", 64) == BES_OK);
     made[0] = 7;
     LEAVES(&pass, bes_batch_apply(&pass, &batch, 1, made, 64, &number), BES_TOO_MANY_ATTRS);
-    CHECK(made[0] == 7 && number == 2);
+    CHECK(made[0] == 7 && number == 0);
     CHECK(bes_unset(&pass, 1, "a0") == BES_OK && bes_set_int32(&pass, 1, "a64", 64) == BES_OK);
     for (int i = 0; i < 32; i++) {
         snprintf(name, sizeof name, "i%d", i);
@@ -210,6 +237,7 @@ static void most(void)
 /* A pin keeps the pages of its version, until no page is free for a write. */
 static void no_page_is_free(void)
 {
+    static bes_batch batch;
     bes_pass pass = BES_PASS_INIT;
     uint64_t node = 0, number = 7, count = 7;
     uint32_t answer;
@@ -221,6 +249,11 @@ static void no_page_is_free(void)
     CHECK(answer == BES_FULL);
     LEAVES(&pass, bes_new_node(&pass, &count), BES_FULL);
     CHECK(count == 7);
+    /* The version that is pinned goes with the answer. */
+    bes_batch_clear(&batch);
+    CHECK(bes_batch_new_node(&batch) == BES_OK);
+    LEAVES(&pass, bes_batch_apply(&pass, &batch, 1, &count, 1, &number), BES_FULL);
+    CHECK(number == 2 && count == 7);
     CHECK(bes_unpin(&pass) == BES_OK && bes_new_node(&pass, &count) == BES_OK && count == node + 1);
     CHECK(bes_close(&pass) == BES_OK);
 }
@@ -244,7 +277,7 @@ static void values(void)
     CHECK(bes_batch_apply(&pass, &batch, 1, made, 64, &number) == BES_OK && number == 1 && made[0] == 1 && made[7] == 0);
     CHECK(bes_read(&pass, 1, "text", &told, bytes, 255) == BES_NOT_PINNED);
     CHECK(bes_pin(&pass, &number) == BES_OK && number == 1);
-    CHECK(bes_pin(&pass, &number) == BES_PINNED);
+    CHECK(bes_pin(&pass, &number) == BES_PINNED && number == 0);
     CHECK(bes_read(&pass, 1, "text", &told, bytes, 255) == BES_OK && told.code == BES_STRING_TYPE && told.length == 3);
     CHECK(memcmp(bytes, "h\xc3\xa9", 3) == 0);
     memset(bytes, 7, sizeof bytes);
@@ -326,42 +359,45 @@ static void queries(void)
     CHECK(nodes[2] == 7);
     CHECK(bes_query_items(&pass, less, 3, (const uint8_t *)"size", 4, nodes, 4, &count) == BES_OK && count == 2 && nodes[0] == 2);
     CHECK(bes_query_items(&pass, less, 2, (const uint8_t *)"size", 4, nodes, 4, &count) == BES_BAD_RPN && count == 2);
-    CHECK(bes_query_items(&pass, less, 3, (const uint8_t *)"size", 3, nodes, 4, &count) == BES_BAD_PART);
-    CHECK(bes_query_items(&pass, &none, 1, (const uint8_t *)"", 0, nodes, 4, &count) == BES_NO_ITEM);
-    CHECK(bes_find(&pass, "size<", nodes, 4, &count) == BES_SYNTAX && count == 2);
+    CHECK(bes_query_items(&pass, less, 3, (const uint8_t *)"size", 3, nodes, 4, &count) == BES_BAD_PART && count == 0);
+    count = 7;
+    CHECK(bes_query_items(&pass, &none, 1, (const uint8_t *)"", 0, nodes, 4, &count) == BES_NO_ITEM && count == 0);
+    CHECK(bes_find(&pass, "size<", nodes, 4, &count) == BES_SYNTAX && count == 5);
     CHECK(bes_explain(&pass, (const uint8_t *)"size<0", 6, text, 2, &length) == BES_OK && length == 18 && text[2] == 7);
     CHECK(bes_explain(&pass, (const uint8_t *)"size<0", 6, text, 32, &length) == BES_OK && length == 18);
     CHECK(memcmp(text, "\"size\"<\"0\" score 3\7", 19) == 0);
-    CHECK(bes_explain(&pass, (const uint8_t *)"name==1", 7, text, 32, &length) == BES_NOT_COVERED && length == 18);
-    CHECK(bes_find(&pass, "name==1", nodes, 4, &count) == BES_NOT_COVERED);
-    CHECK(bes_find(&pass, "\xff", nodes, 4, &count) == BES_NOT_UTF8);
+    CHECK(bes_explain(&pass, (const uint8_t *)"name==1", 7, text, 32, &length) == BES_NOT_COVERED && length == 0);
+    CHECK(bes_find(&pass, "name==1", nodes, 4, &count) == BES_NOT_COVERED && count == 0);
+    count = 7;
+    CHECK(bes_find(&pass, "\xff", nodes, 4, &count) == BES_NOT_UTF8 && count == 0);
     CHECK(bes_remove_index(&pass, "size") == BES_OK && bes_remove_index(&pass, "size") == BES_NO_INDEX);
     CHECK(bes_find(&pass, "size<-1", nodes, 4, &count) == BES_OK && count == 2);
     CHECK(bes_close(&pass) == BES_OK);
 }
 
-/* A text that is no query: each call that reads it answers so, and puts out nothing. */
-static void no_query(bes_pass *pass, const char *text, size_t length, uint32_t answer)
+/* A text that is no query: each call that reads it answers so, and puts out nothing but the byte that is at fault. */
+static void no_query(bes_pass *pass, const char *text, size_t length, uint32_t answer, uint64_t byte)
 {
     const uint8_t *query = (const uint8_t *)text;
     bes_prepared prepared = BES_PREPARED_INIT;
-    uint64_t count = 7, nodes[2] = {7, 7};
+    uint64_t count = 7, said_count = 7, place = 7, nodes[2] = {7, 7};
     uint8_t said[2] = {7, 7};
     LEAVES(pass, bes_query(pass, query, length, nodes, 2, &count), answer);
-    LEAVES(pass, bes_explain(pass, query, length, said, 2, &count), answer);
-    CHECK(count == 7 && nodes[0] == 7 && said[0] == 7);
-    CHECK(bes_prepare(query, length, &prepared) == answer && bes_release(&prepared) == BES_CLOSED);
+    LEAVES(pass, bes_explain(pass, query, length, said, 2, &said_count), answer);
+    CHECK(count == byte && said_count == byte && nodes[0] == 7 && said[0] == 7);
+    CHECK(bes_prepare(query, length, &prepared, &place) == answer && place == byte && bes_release(&prepared) == BES_CLOSED);
 }
 
-/* The same of items. */
-static void no_items(bes_pass *pass, const bes_item *items, size_t items_count, const char *bytes, uint32_t answer)
+/* The same of items: this one is at fault. */
+static void no_items(bes_pass *pass, const bes_item *items, size_t items_count, const char *bytes, uint32_t answer, uint64_t item)
 {
     const uint8_t *parts = (const uint8_t *)bytes;
     bes_prepared prepared = BES_PREPARED_INIT;
-    uint64_t count = 7, nodes[2] = {7, 7};
+    uint64_t count = 7, place = 7, nodes[2] = {7, 7};
     LEAVES(pass, bes_query_items(pass, items, items_count, parts, 64, nodes, 2, &count), answer);
-    CHECK(count == 7 && nodes[0] == 7);
-    CHECK(bes_prepare_items(items, items_count, parts, 64, &prepared) == answer && bes_release(&prepared) == BES_CLOSED);
+    CHECK(count == item && nodes[0] == 7);
+    CHECK(bes_prepare_items(items, items_count, parts, 64, &prepared, &place) == answer && place == item);
+    CHECK(bes_release(&prepared) == BES_CLOSED);
 }
 
 static void no_queries(void)
@@ -375,41 +411,44 @@ static void no_queries(void)
     CHECK(bes_open(64, 1, 100, &pass) == BES_OK && bes_make_index(&pass, "size", BES_INT32_TYPE) == BES_OK);
     CHECK(bes_new_node(&pass, &number) == BES_OK && bes_set_int32(&pass, number, "size", 0) == BES_OK);
     CHECK(bes_pin(&pass, &number) == BES_OK);
-    no_query(&pass, "size<", 5, BES_SYNTAX);
-    no_query(&pass, "\xff", 1, BES_NOT_UTF8);
-    no_query(&pass, "size<1\0", 7, BES_SYNTAX);
-    no_query(&pass, "size==[a", 8, BES_BAD_PATTERN);
+    no_query(&pass, "size<", 5, BES_SYNTAX, 5);
+    no_query(&pass, "", 0, BES_SYNTAX, 0);
+    no_query(&pass, "h\xc3\xa9==\"\xc3\xa9\"||!", 12, BES_SYNTAX, 12);
+    no_query(&pass, "\xff", 1, BES_NOT_UTF8, 0);
+    no_query(&pass, "size<1\0", 7, BES_SYNTAX, 6);
+    no_query(&pass, "size==[a", 8, BES_BAD_PATTERN, 6);
     memset(text, ' ', sizeof text);
     memcpy(text, "size<1", 6);
     CHECK(bes_query(&pass, (const uint8_t *)text, 4096, nodes, 2, &count) == BES_OK && count == 1);
-    no_query(&pass, text, 4097, BES_TOO_LONG);
+    no_query(&pass, text, 4097, BES_TOO_LONG, 0);
     memset(text, '(', 65);
     memcpy(text + 65, "size<1", 6);
     memset(text + 71, ')', 65);
     CHECK(bes_query(&pass, (const uint8_t *)text + 1, 64 + 6 + 64, nodes, 2, &count) == BES_OK && count == 1);
-    no_query(&pass, text, 65 + 6 + 65, BES_TOO_DEEP);
+    no_query(&pass, text, 65 + 6 + 65, BES_TOO_DEEP, 0);
     for (int i = 0; i < 257; i++, length += 8)
         memcpy(text + length, "size<1||", 8);
     CHECK(bes_query(&pass, (const uint8_t *)text, 256 * 8 - 2, nodes, 2, &count) == BES_OK && count == 1);
-    no_query(&pass, text, 257 * 8 - 2, BES_TOO_MANY);
+    no_query(&pass, text, 257 * 8 - 2, BES_TOO_MANY, 0);
 
     /* Items: a value that is no pattern, 65 that stand on one another, 257 comparisons, and parts of bytes that are none. */
     items[0] = size, items[1] = (bes_item){BES_ITEM_TEXT, 4, 2, 0}, items[2] = (bes_item){BES_ITEM_EQ, 0, 0, 0};
-    no_items(&pass, items, 3, bytes, BES_BAD_PATTERN);
+    no_items(&pass, items, 3, bytes, BES_BAD_PATTERN, 2);
     items[1].at = 6, items[1].length = 1;
-    no_items(&pass, items, 3, bytes, BES_NOT_UTF8);
+    no_items(&pass, items, 3, bytes, BES_NOT_UTF8, 1);
     items[1].at = 64;
-    no_items(&pass, items, 3, bytes, BES_BAD_PART);
+    no_items(&pass, items, 3, bytes, BES_BAD_PART, 1);
     items[1] = one, items[2].kind = 16;
-    no_items(&pass, items, 3, bytes, BES_NO_ITEM);
+    no_items(&pass, items, 3, bytes, BES_NO_ITEM, 2);
     items[0].length = 0;
-    no_items(&pass, items, 3, bytes, BES_NAME_LENGTH);
+    no_items(&pass, items, 3, bytes, BES_NAME_LENGTH, 0);
     items[0].at = 7, items[0].length = 1;
-    no_items(&pass, items, 3, bytes, BES_HAS_NUL);
-    no_items(&pass, &size, 1, bytes, BES_BAD_RPN);
+    no_items(&pass, items, 3, bytes, BES_HAS_NUL, 0);
+    no_items(&pass, &size, 1, bytes, BES_BAD_RPN, 1);
+    no_items(&pass, &less, 1, bytes, BES_BAD_RPN, 0);
     for (int i = 0; i < 65; i++)
         items[i] = size;
-    no_items(&pass, items, 65, bytes, BES_TOO_DEEP);
+    no_items(&pass, items, 65, bytes, BES_TOO_DEEP, 0);
     for (int i = 0; i < 257; i++) {
         items[4 * i] = size, items[4 * i + 1] = one, items[4 * i + 2] = less;
         items[4 * i + 3] = (bes_item){BES_ITEM_OR, 0, 0, 0};
@@ -417,7 +456,7 @@ static void no_queries(void)
     /* The first has nothing before it to be joined with. */
     items[3] = (bes_item){BES_ITEM_NOT, 0, 0, 0};
     CHECK(bes_query_items(&pass, items, 4 * 256, (const uint8_t *)bytes, 64, nodes, 2, &count) == BES_OK && count == 1);
-    no_items(&pass, items, 4 * 257, bytes, BES_TOO_MANY);
+    no_items(&pass, items, 4 * 257, bytes, BES_TOO_MANY, 0);
     CHECK(bes_close(&pass) == BES_OK);
 }
 
@@ -427,14 +466,17 @@ static void prepared_queries(void)
     bes_pass pass = BES_PASS_INIT;
     bes_prepared small = BES_PREPARED_INIT, other = BES_PREPARED_INIT;
     bes_updates updates = {7, 7};
-    uint64_t node = 0, number = 0, count = 7, nodes[4] = {7, 7, 7, 7}, came[2] = {7, 7}, went[2] = {7, 7};
+    uint64_t node = 0, number = 0, count = 7, place = 7, nodes[4] = {7, 7, 7, 7}, came[2] = {7, 7}, went[2] = {7, 7};
     bes_item less[3] = {{BES_ITEM_ATTRIBUTE, 0, 4, 0}, {BES_ITEM_INT64, 0, 0, (uint64_t)-1}, {BES_ITEM_LT, 0, 0, 0}};
     CHECK(bes_open(64, 1, 100, &pass) == BES_OK);
-    CHECK(bes_prepare_text("size<0", &small) == BES_OK);
-    CHECK(bes_prepare_items(less, 2, (const uint8_t *)"size", 4, &other) == BES_BAD_RPN);
-    CHECK(bes_prepare_items(less, 3, (const uint8_t *)"size", 3, &other) == BES_BAD_PART);
-    CHECK(bes_prepare_items(less, 3, (const uint8_t *)"size", 4, &other) == BES_OK);
-    CHECK(bes_query_prepared(&pass, &small, nodes, 4, &count) == BES_NOT_PINNED && count == 7);
+    CHECK(bes_prepare_text("size<0", &small, &place) == BES_OK);
+    CHECK(bes_prepare_items(less, 2, (const uint8_t *)"size", 4, &other, &place) == BES_BAD_RPN && place == 2);
+    CHECK(bes_prepare_items(less, 3, (const uint8_t *)"size", 3, &other, &place) == BES_BAD_PART && place == 0);
+    place = 7;
+    CHECK(bes_prepare_items(less, 3, (const uint8_t *)"size", 4, &other, &place) == BES_OK && place == 0);
+    place = 7;
+    CHECK(bes_prepare_items(less, 3, (const uint8_t *)"size", 4, &other, &place) == BES_OPEN && place == 0);
+    CHECK(bes_query_prepared(&pass, &small, nodes, 4, &count) == BES_NOT_PINNED && count == 0);
     CHECK(bes_refresh(&pass, &small, &updates) == BES_NOT_PINNED && updates.created == 7);
     CHECK(bes_pin(&pass, &number) == BES_OK);
     CHECK(bes_refresh(&pass, &small, &updates) == BES_NOT_COVERED && updates.created == 7);
@@ -468,7 +510,7 @@ static void journal(void)
     uint64_t node = 0, count = 7;
     uint8_t text[128];
     memset(text, 7, sizeof text);
-    CHECK(bes_journal(&pass, text, 128, &count) == BES_CLOSED && count == 7 && text[0] == 7);
+    CHECK(bes_journal(&pass, text, 128, &count) == BES_CLOSED && count == 0 && text[0] == 7);
     CHECK(bes_open(64, 1, 10, &pass) == BES_OK);
     CHECK(bes_journal(&pass, text, 128, &count) == BES_OK && count == 0 && text[0] == 7);
     CHECK(bes_new_node(&pass, &node) == BES_OK && bes_set_text(&pass, node, "k", "v") == BES_OK);
@@ -490,6 +532,7 @@ static void spent(void)
     CHECK(strcmp(bes_strerror(BES_COMMITS_SPENT), "the journal is at its limit") == 0);
     CHECK(strcmp(bes_strerror(BES_BAD_PART), "a part isn't within the bytes") == 0);
     CHECK(strcmp(bes_strerror(63), "unknown answer") == 0);
+    CHECK(bes_version() == BES_VERSION_NUMBER && strcmp(BES_VERSION, "0.1.0") == 0);
 }
 
 /* Four threads, one pass each: two write, and two ask. Each writer has nodes of its own in pairs, one of which is from ann and
@@ -562,8 +605,8 @@ static void *reader(void *arg)
     user *it = arg;
     bes_prepared prepared = BES_PREPARED_INIT;
     bes_updates updates = {0, 0};
-    uint64_t seen = 0, number = 0, count = 0, again = 0, nodes[NODES], same[NODES];
-    CHECK(bes_prepare_text("MAIL:from==\"ann\"", &prepared) == BES_OK);
+    uint64_t seen = 0, number = 0, count = 0, again = 0, place = 0, nodes[NODES], same[NODES];
+    CHECK(bes_prepare_text("MAIL:from==\"ann\"", &prepared, &place) == BES_OK);
     do {
         CHECK(bes_pin(&it->pass, &number) == BES_OK && number >= seen);
         seen = number;
@@ -619,40 +662,139 @@ static void threads(void)
            (unsigned long long)(users[2].rounds + users[3].rounds), seconds);
 }
 
-/* Takes the pass that no thread has, writes through it and gives it back, and so on. Answers how many writes that were. */
+/* Takes all passes that this one is given, or gives them all back. Answers how many they were. */
+static int take_all(bes_pass *pass, bes_pass *taken)
+{
+    for (int i = 0;; i++) {
+        uint32_t answer = bes_another(pass, &taken[i]);
+        if (answer == BES_NO_PASS)
+            return i;
+        CHECK(answer == BES_OK && i < 64);
+    }
+}
+
+static void close_all(bes_pass *taken, int count)
+{
+    for (int i = 0; i < count; i++)
+        CHECK(bes_close(&taken[i]) == BES_OK);
+}
+
+/* No pass is lost that is closed, or met: 64 are taken, closed and taken again, by the first handle and by another one. */
+static void all_passes(void)
+{
+    static bes_pass taken[65];
+    bes_pass first = BES_PASS_INIT, last = BES_PASS_INIT;
+    uint64_t number = 0;
+    CHECK(bes_open(64, 64, 10, &first) == BES_OK);
+    CHECK(take_all(&first, taken) == 63);
+    for (int i = 0; i < 63; i += 2)
+        CHECK(bes_pin(&taken[i], &number) == BES_OK);
+    close_all(taken, 63);
+    for (int i = 0; i < 200; i++)
+        CHECK(bes_meet(&first, &number) == BES_OK);
+    CHECK(take_all(&first, taken) == 63);
+    CHECK(bes_meet(&first, &number) == BES_NO_PASS);
+    CHECK(bes_move(&taken[40], &last) == BES_OK);
+    close_all(taken, 40);
+    close_all(taken + 41, 22);
+    CHECK(bes_close(&first) == BES_OK);
+    CHECK(take_all(&last, taken) == 63);
+    close_all(taken, 63);
+    CHECK(bes_close(&last) == BES_OK);
+    /* Those that nobody has used are given back with the handle that they wait with. */
+    CHECK(bes_open(64, 64, 10, &first) == BES_OK && bes_another(&first, &last) == BES_OK && bes_close(&first) == BES_OK);
+    CHECK(take_all(&last, taken) == 63);
+    close_all(taken, 63);
+    CHECK(bes_close(&last) == BES_OK);
+}
+
+/* Takes a pass that no thread has, writes through it and gives it back, and so on. Answers how many writes that were. */
 static void *taker(void *arg)
 {
     user *it = arg;
     bes_pass taken = BES_PASS_INIT;
+    uint64_t seen = 0;
     for (int64_t i = 0; i < 5000; i++) {
         uint32_t answer = bes_another(&it->pass, &taken);
         if (answer == BES_NO_PASS)
             continue;
         CHECK(answer == BES_OK && bes_set_int64(&taken, 1, "n", i) == BES_OK && bes_close(&taken) == BES_OK);
+        answer = bes_meet(&it->pass, &seen);
+        CHECK(answer == BES_OK || answer == BES_NO_PASS);
         it->rounds++;
     }
     return NULL;
 }
 
-/* Four threads take one pass in turn, each once another has given it back. */
-static void takers(void)
+/* Four threads take so many passes in turn, each once another has given it back. All are there at the end. */
+static void takers(int count)
 {
     static user users[4];
+    static bes_pass taken[65];
     pthread_t running[4];
-    bes_pass taken = BES_PASS_INIT;
     uint64_t number = 0, node = 0;
-    CHECK(bes_open(64, 5, 100000, &users[0].pass) == BES_OK && bes_new_node(&users[0].pass, &node) == BES_OK);
+    memset(users, 0, sizeof users);
+    CHECK(bes_open(64, 4 + (uint64_t)count, 100000, &users[0].pass) == BES_OK && bes_new_node(&users[0].pass, &node) == BES_OK);
     for (int i = 1; i < 4; i++)
         CHECK(bes_another(&users[0].pass, &users[i].pass) == BES_OK);
-    CHECK(bes_another(&users[0].pass, &taken) == BES_OK && bes_close(&taken) == BES_OK);
+    CHECK(take_all(&users[0].pass, taken) == count);
+    close_all(taken, count);
     for (int i = 0; i < 4; i++)
         CHECK(pthread_create(&running[i], NULL, taker, &users[i]) == 0);
     for (int i = 0; i < 4; i++)
         CHECK(pthread_join(running[i], NULL) == 0);
     CHECK(bes_pin(&users[0].pass, &number) == BES_OK);
     CHECK(number == 1 + users[0].rounds + users[1].rounds + users[2].rounds + users[3].rounds);
+    CHECK(take_all(&users[3].pass, taken) == count);
+    close_all(taken, count);
     for (int i = 0; i < 4; i++)
         CHECK(bes_close(&users[i].pass) == BES_OK);
+}
+
+/* A prepared query that goes from thread to thread, each with a pass of its own. */
+typedef struct handed {
+    bes_pass pass;
+    bes_prepared prepared;
+} handed;
+
+static void *refresher(void *arg)
+{
+    handed *it = arg;
+    bes_updates updates = {0, 0};
+    uint64_t number = 0, count = 0, nodes[4] = {0, 0, 0, 0};
+    CHECK(bes_pin(&it->pass, &number) == BES_OK && bes_refresh(&it->pass, &it->prepared, &updates) == BES_OK);
+    CHECK(updates.created == 3 && updates.removed == 0);
+    CHECK(bes_query_prepared(&it->pass, &it->prepared, nodes, 4, &count) == BES_OK && count == 3 && nodes[2] == 3);
+    CHECK(bes_unpin(&it->pass) == BES_OK);
+    return NULL;
+}
+
+static void *releaser(void *arg)
+{
+    handed *it = arg;
+    uint64_t came[4] = {0, 0, 0, 0}, went[1] = {7};
+    CHECK(bes_changes(&it->prepared, came, 4, went, 1) == BES_OK && came[2] == 3 && came[3] == 0 && went[0] == 7);
+    CHECK(bes_release(&it->prepared) == BES_OK && bes_close(&it->pass) == BES_OK);
+    return NULL;
+}
+
+/* Made here, refreshed in a second thread, and released in a third. */
+static void handed_on(void)
+{
+    static handed it;
+    bes_pass mine = BES_PASS_INIT;
+    void *(*const calls[])(void *) = {refresher, releaser};
+    uint64_t node = 0, place = 0;
+    CHECK(bes_open(64, 2, 100, &mine) == BES_OK && bes_another(&mine, &it.pass) == BES_OK);
+    CHECK(bes_make_index(&mine, "size", BES_INT64_TYPE) == BES_OK);
+    for (int64_t i = 1; i <= 3; i++)
+        CHECK(bes_new_node(&mine, &node) == BES_OK && bes_set_int64(&mine, node, "size", i) == BES_OK);
+    CHECK(bes_prepare_text("size>0", &it.prepared, &place) == BES_OK);
+    for (int i = 0; i < 2; i++) {
+        pthread_t running;
+        CHECK(pthread_create(&running, NULL, calls[i], &it) == 0 && pthread_join(running, NULL) == 0);
+    }
+    CHECK(bes_release(&it.prepared) == BES_CLOSED && bes_close(&it.pass) == BES_CLOSED && bes_close(&mine) == BES_OK);
 }
 
 int main(int argc, char **argv)
@@ -674,7 +816,10 @@ int main(int argc, char **argv)
     prepared_queries();
     journal();
     spent();
+    all_passes();
     threads();
-    takers();
+    takers(1);
+    takers(60);
+    handed_on();
     return 0;
 }

@@ -16,16 +16,51 @@
 using namespace bestore;
 using Nodes = std::vector<Node>;
 
-// That the call is refused with this number.
-template <class Call> void refused(std::uint32_t number, Call call)
+using Carried = std::optional<std::uint64_t>;
+
+// What goes with a refusal.
+struct With {
+    Carried offset = {}, item = {}, operation = {}, least = {}, pass_number = {};
+};
+
+// That the call is refused with this number, and what goes with that.
+template <class Call> void refused(std::uint32_t number, const With &with, Call call)
 {
     try {
         call();
     } catch (const Refusal &refusal) {
-        CHECK(refusal.number() == number && std::string(refusal.what()) == bes_strerror(number) && !refusal.carried());
+        CHECK(refusal.number() == number && std::string(refusal.what()) == bes_strerror(number));
+        CHECK(refusal.offset() == with.offset && refusal.item() == with.item && refusal.operation() == with.operation);
+        CHECK(refusal.least() == with.least && refusal.pass_number() == with.pass_number);
         return;
     }
     CHECK(!"refused");
+}
+
+template <class Call> void refused(std::uint32_t number, Call call)
+{
+    refused(number, With(), call);
+}
+
+static With at_byte(std::uint64_t offset)
+{
+    With with;
+    with.offset = offset;
+    return with;
+}
+
+static With at_item(std::uint64_t item)
+{
+    With with;
+    with.item = item;
+    return with;
+}
+
+static With at_operation(std::uint64_t operation)
+{
+    With with;
+    with.operation = operation;
+    return with;
 }
 
 template <class T> constexpr bool moves_only = std::is_nothrow_move_constructible_v<T> && std::is_nothrow_move_assignable_v<T> &&
@@ -39,7 +74,7 @@ static void c_header()
     std::uint64_t made[64] = {7}, number = 7;
     CHECK(bes_open(64, 1, 1, &pass) == BES_OK && bes_batch_new_node(&batch) == BES_OK);
     CHECK(bes_batch_apply(&pass, &batch, 1, made, 64, &number) == BES_OK && made[0] == 1 && number == 1);
-    CHECK(bes_close(&pass) == BES_OK);
+    CHECK(bes_close(&pass) == BES_OK && bes_version() == BES_VERSION_NUMBER);
 }
 
 // A value of each kind comes back as it was.
@@ -90,11 +125,14 @@ static void writes()
     store.remove_index("name");
     store.unset((store.set(2, "name", "bob"), 2), "name");
     refused(BES_NO_NODE, [&] { store.remove_node(1); });
-    refused(BES_NAME_LENGTH, [&] { store.set(2, "", 1); });
-    refused(BES_DATA_LENGTH, [&] { store.set(2, "k", std::string(256, 'x')); });
+    refused(BES_NAME_LENGTH, at_operation(0), [&] { store.set(2, "", 1); });
+    refused(BES_DATA_LENGTH, at_operation(0), [&] { store.set(2, "k", std::string(256, 'x')); });
     refused(BES_NOT_INDEXABLE, [&] { store.make_index("k", Kind::raw); });
-    refused(BES_NOT_UTF8, [&] { store.set(2, "k", "\xff"); });
-    refused(BES_HAS_NUL, [&] { store.set(2, "k", std::string_view("a\0b", 3)); });
+    refused(BES_NO_KIND, at_operation(0), [&] { store.make_index("k", static_cast<Kind>(1)); });
+    refused(BES_NOT_UTF8, at_operation(1), [&] { store.apply(Batch().new_node().set(2, "k", "\xff").unset(2, "\xff")); });
+    refused(BES_HAS_NUL, at_operation(2), [&] {
+        store.apply(Batch().new_node().new_node().set(2, "k", std::string_view("a\0b", 3)));
+    });
     store.remove_node(2);
     CHECK(store.new_node() == 3);
     refused(BES_COMMITS_SPENT, [&] { store.new_node(); });
@@ -132,16 +170,17 @@ static void queries()
     CHECK(pin.attributes(7).size() == 2 && pin.attributes(7)[1].name == "name");
     CHECK(std::get<std::string>(pin.attributes(7)[1].value) == "7");
     refused(BES_NO_NODE, [&] { pin.attributes(301); });
-    refused(BES_SYNTAX, [&] { pin.query("n<"); });
-    refused(BES_SYNTAX, [&] { pin.query(std::string_view()); });
-    refused(BES_BAD_PATTERN, [&] { pin.explain("name==\"[a\""); });
+    refused(BES_SYNTAX, at_byte(2), [&] { pin.query("n<"); });
+    refused(BES_SYNTAX, at_byte(0), [&] { pin.query(std::string_view()); });
+    refused(BES_SYNTAX, at_byte(9), [&] { pin.query("name==h\xc3\xa9)"); });
+    refused(BES_BAD_PATTERN, at_byte(7), [&] { pin.explain("name==\"[a\""); });
     refused(BES_NOT_COVERED, [&] { pin.query("size==1"); });
     Prepared prepared("n>=299");
     CHECK(pin.query(prepared) == Nodes{299, 300});
     Prepared other = std::move(prepared);
     CHECK(pin.query(other) == Nodes{299, 300});
     refused(BES_CLOSED, [&] { pin.query(prepared); });
-    refused(BES_SYNTAX, [] { Prepared("n>="); });
+    refused(BES_SYNTAX, at_byte(3), [] { Prepared("n>="); });
 }
 
 static void predicates()
@@ -158,15 +197,16 @@ static void predicates()
     Prepared prepared(predicate);
     predicate.Clear();
     CHECK(pin.query(prepared) == Nodes{1, 2, 300});
-    refused(BES_BAD_RPN, [&] { pin.query(predicate); });
+    refused(BES_BAD_RPN, at_item(0), [&] { pin.query(predicate); });
     CHECK(pin.query(predicate.PushAttr("n").PushUInt64(2).PushOp(B_LE).PushOp(B_NOT)).size() == 298);
     CHECK(pin.query(Predicate().PushAttr("n").PushInt64(300).PushOp(B_GE)) == Nodes{300});
     CHECK(pin.query(Predicate().PushAttr("n").PushInt64(299).PushOp(B_GT)) == Nodes{300});
     CHECK(pin.query(Predicate().PushAttr("n").PushInt64(-1).PushOp(B_EQ)).empty());
     CHECK(pin.query(Predicate().PushAttr("name").PushString("99").PushOp(B_ENDS_WITH)) == Nodes{99, 199, 299});
     CHECK(pin.query(Predicate().PushAttr("name").PushString("00").PushOp(B_CONTAINS)) == Nodes{100, 200, 300});
-    refused(BES_BAD_RPN, [] { Prepared(Predicate().PushAttr("n")); });
-    refused(BES_NAME_LENGTH, [] { Prepared(Predicate().PushAttr("").PushInt32(1).PushOp(B_EQ)); });
+    refused(BES_BAD_RPN, at_item(1), [] { Prepared(Predicate().PushAttr("n")); });
+    refused(BES_NAME_LENGTH, at_item(0), [] { Prepared(Predicate().PushAttr("").PushInt32(1).PushOp(B_EQ)); });
+    refused(BES_BAD_PATTERN, at_item(2), [] { Prepared(Predicate().PushAttr("n").PushString("[").PushOp(B_EQ)); });
 }
 
 static void live_queries()
@@ -220,6 +260,19 @@ static void pins()
     CHECK(again.pin().number() == 3);
 }
 
+// A store that is full tells the version that is pinned.
+static void full()
+{
+    Store store({8, 1, 1000});
+    const auto pin = store.pin();
+    With with;
+    with.least = 0;
+    refused(BES_FULL, with, [&] {
+        for (int i = 0; i < 100; i++)
+            store.new_node();
+    });
+}
+
 // The store goes with its last pass, which needn't be its first.
 static void last_pass()
 {
@@ -250,6 +303,7 @@ int main()
     predicates();
     live_queries();
     pins();
+    full();
     last_pass();
     threads();
 }

@@ -16,8 +16,12 @@
  * call are lost, and its pin stays. Where it was writing or telling the journal, each later write and bes_journal of the store is
  * answered BES_BUSY for good; other passes go on reading.
  *
- * ANSWERS. Each call answers BES_OK, or the number of what kept it from its work. What a call puts out is written only
- * where it answers BES_OK. Pointers must be valid and lie apart; a length of 0 needs a pointer that isn't null.
+ * ANSWERS. Each call answers BES_OK, or the number of what kept it from its work. What a call puts out is written only where it
+ * answers BES_OK, but for its number (number, count, seen or place): with another answer that is what goes with the answer, or 0.
+ * The pass that is writing goes with BES_BUSY, the oldest version that a pass may still reach with BES_FULL, and the byte of the
+ * query's text, from 0, with BES_SYNTAX and BES_BAD_PATTERN. Where a list can't be read, or its items build no query, the operation
+ * or the item goes with that, from 0. Pointers must be valid and lie apart; a length of 0 needs a pointer that isn't null, since
+ * the library takes references, which never are.
  *
  * VERSIONS. A read needs a pin, and reads the version that was current when the pass was pinned, however much is written
  * meanwhile. A pin keeps the pages of its version from being used again: give it up soon. What is pinned by a thread that
@@ -37,7 +41,9 @@ extern "C" {
 
 #define BES_VERSION_MAJOR 0
 #define BES_VERSION_MINOR 1
+#define BES_VERSION_PATCH 0
 #define BES_VERSION "0.1.0"
+#define BES_VERSION_NUMBER (BES_VERSION_MAJOR * 1000000 + BES_VERSION_MINOR * 1000 + BES_VERSION_PATCH)
 
 /* Both fields are the library's. */
 typedef struct bes_pass {
@@ -213,13 +219,16 @@ uint32_t bes_pin(bes_pass *pass, uint64_t *number);
 uint32_t bes_unpin(bes_pass *pass);
 
 /* Writes 1 to 64 operations, all or none. Puts out the number of this write, and in made[i] the number of the node that
- * operation i made, or 0, as far as made has room. A pin stays where it is. Takes memory for the operations and for their
+ * operation i made, or 0, as far as made has room. A pin stays where it is. How many operations there are is looked at before
+ * anything else. Takes memory for the operations and for their
  * entry in the journal, and new pages on the way to each change of a tree; where none is free, or 256 or more were given up, also
  * a look at each pass and work for each page that is free again. Where the answer is BES_BUSY it took one step on a shared word,
  * and the memory for the operations.
- * BES_BUSY: another pass is writing, call again. BES_CLOSED, BES_BAD_COUNT, BES_NO_OPERATION, BES_BAD_PART, BES_NOT_UTF8,
- * BES_NAME_LENGTH, BES_DATA_LENGTH, BES_HAS_NUL, BES_NO_KIND, BES_NO_VALUE, BES_NO_MEMORY: nothing has happened. BES_NO_NODE
- * to BES_NOT_INDEXABLE: an operation is refused, and none is done. BES_COMMITS_SPENT, BES_FULL: there is no room. */
+ * BES_BUSY: another pass is writing, and number is that pass: call again. BES_CLOSED, BES_BAD_COUNT, BES_NO_MEMORY: nothing has
+ * happened. BES_NO_OPERATION, BES_BAD_PART, BES_NOT_UTF8, BES_NAME_LENGTH, BES_DATA_LENGTH, BES_HAS_NUL, BES_NO_KIND, BES_NO_VALUE:
+ * nothing either, and number is the first operation that can't be read. BES_NO_NODE to BES_NOT_INDEXABLE: an operation is refused,
+ * and none is done. BES_COMMITS_SPENT, BES_FULL: there is no room, and number of BES_FULL is the oldest version that a pass may
+ * still reach. */
 uint32_t bes_apply(bes_pass *pass, const bes_operation *operations, size_t operations_count, const uint8_t *bytes,
                    size_t bytes_count, uint64_t *made, size_t made_room, uint64_t *number);
 
@@ -233,24 +242,27 @@ uint32_t bes_apply_or_retry(bes_pass *pass, const bes_operation *operations, siz
  * nodes has room: where count is more than the room, the same query with more room answers the same. Takes the time to parse
  * the text, a descent of a tree for each comparison that is picked, and a walk over the range of keys that it leaves; where the
  * range doesn't decide the query, look-ups for the other names at each key. Takes memory for the plan and the whole answer.
- * BES_CLOSED, BES_NOT_PINNED, BES_NOT_UTF8, BES_SYNTAX to BES_NOT_COVERED, BES_NO_MEMORY. */
+ * BES_CLOSED, BES_NOT_PINNED, BES_NOT_UTF8, BES_SYNTAX to BES_NOT_COVERED, BES_NO_MEMORY: of BES_SYNTAX and BES_BAD_PATTERN count
+ * is the byte of the text that is at fault. */
 uint32_t bes_query(bes_pass *pass, const uint8_t *text, size_t text_length, uint64_t *nodes, size_t nodes_room,
                    uint64_t *count);
 
 /* Asks the query that items in reverse Polish order build, as bes_query does, and takes what that does; nothing is parsed.
- * BES_NO_ITEM, BES_BAD_PART, BES_NOT_UTF8, BES_NAME_LENGTH, BES_HAS_NUL: an item is misspelt. BES_BAD_RPN, BES_BAD_PATTERN,
- * BES_TOO_DEEP, BES_TOO_MANY: the items build no query. Other faults are those of bes_query. */
+ * BES_NO_ITEM, BES_BAD_PART, BES_NOT_UTF8, BES_NAME_LENGTH, BES_HAS_NUL: count is the first item that can't be read.
+ * BES_BAD_RPN, BES_BAD_PATTERN: the items build no query, and count is the item at which that shows, or how many they are where it
+ * shows at their end. BES_TOO_DEEP, BES_TOO_MANY: they build too large a one. Other faults are those of bes_query. */
 uint32_t bes_query_items(bes_pass *pass, const bes_item *items, size_t items_count, const uint8_t *bytes, size_t bytes_count,
                          uint64_t *nodes, size_t nodes_room, uint64_t *count);
 
-/* Parses the query of this text, and opens the handle with it. Takes memory, until bes_release gives it back.
+/* Parses the query of this text, and opens the handle with it. Puts out in place what count of bes_query is where the text is at
+ * fault, and else 0. Takes memory, until bes_release gives it back.
  * BES_OPEN, BES_NOT_UTF8, BES_SYNTAX to BES_TOO_MANY, BES_NO_MEMORY: the handle stays as it was. */
-uint32_t bes_prepare(const uint8_t *text, size_t text_length, bes_prepared *prepared);
+uint32_t bes_prepare(const uint8_t *text, size_t text_length, bes_prepared *prepared, uint64_t *place);
 
-/* Opens the handle with the query that items in reverse Polish order build. Faults are BES_OPEN and those that bes_query_items
- * has of its items. */
+/* Opens the handle with the query that items in reverse Polish order build. Puts out in place what count of bes_query_items is
+ * where the items are at fault, and else 0. Faults are BES_OPEN and those that bes_query_items has of its items. */
 uint32_t bes_prepare_items(const bes_item *items, size_t items_count, const uint8_t *bytes, size_t bytes_count,
-                           bes_prepared *prepared);
+                           bes_prepared *prepared, uint64_t *place);
 
 /* Closes the handle, and gives its memory back: the query, and what its last refresh found. BES_CLOSED. */
 uint32_t bes_release(bes_prepared *prepared);
@@ -303,8 +315,12 @@ uint32_t bes_indices(bes_pass *pass, bes_counts *counts, bes_operation *operatio
  * behind it), and its first bytes, as far as bytes has room. The journal only grows: what was told once stands at its beginning
  * for good. Writes of other passes are answered BES_BUSY while the text is made, which takes as long as the journal is, and memory
  * for all of it.
- * BES_BUSY: another pass is writing, call again. BES_CLOSED, BES_NO_MEMORY. */
+ * BES_BUSY: another pass is writing, and count is that pass: call again. BES_CLOSED, BES_NO_MEMORY. */
 uint32_t bes_journal(bes_pass *pass, uint8_t *bytes, size_t bytes_room, uint64_t *count);
+
+/* The version of the library that runs, which is BES_VERSION_NUMBER of the header that it came with. A program that finds the
+ * library as it starts compares the two. */
+uint32_t bes_version(void);
 
 /* What an answer means, in English. */
 static inline const char *bes_strerror(uint32_t answer)
@@ -445,7 +461,8 @@ static inline uint32_t bes_batch_apply(bes_pass *pass, const bes_batch *batch, u
                               made_room, number);
 }
 
-/* Single operations, each a write of its own, as bes_batch_apply with so many tries as BES_TRIES. */
+/* Single operations, each a write of its own, as bes_batch_apply with so many tries as BES_TRIES. They don't tell what goes with an
+ * answer. */
 #ifndef BES_TRIES
 #define BES_TRIES 1000000u
 #endif
@@ -555,9 +572,9 @@ static inline uint32_t bes_find(bes_pass *pass, const char *text, uint64_t *node
 }
 
 /* bes_prepare for a text that ends with a zero byte. */
-static inline uint32_t bes_prepare_text(const char *text, bes_prepared *prepared)
+static inline uint32_t bes_prepare_text(const char *text, bes_prepared *prepared, uint64_t *place)
 {
-    return bes_prepare((const uint8_t *)text, strlen(text), prepared);
+    return bes_prepare((const uint8_t *)text, strlen(text), prepared, place);
 }
 
 /* bes_get for a name that ends with a zero byte. */

@@ -8,7 +8,8 @@
 //     for (bestore::Node found : pin.query("MAIL:from==ann"))
 //         std::cout << found << '\n';
 //
-// What bestore.h says of each call holds here too. A call that the library refuses throws a Refusal, and has done nothing.
+// What bestore.h says of each call holds here too. A call that the library refuses throws a Refusal, which tells the number that goes
+// with the answer, and has done nothing.
 // Store, Pass, Pin, Prepared and Live can be moved and not copied. A Pin has to go before the pass that it was made by; the pass
 // may be moved meanwhile. Each thread has a Pass of its own, and an object takes one call at a time.
 #ifndef BESTORE_HPP
@@ -33,24 +34,76 @@ namespace bestore {
 // The number of a node: the first is 1, and none is used again.
 using Node = std::uint64_t;
 
+namespace detail {
+
+// What the number that goes with an answer counts, in the call that answered: bytes of a text, or items, or operations.
+enum class Place { none, byte, item, operation };
+
+// Whether a place goes with the answer, where there is one.
+inline bool has_place(std::uint32_t answer, Place place)
+{
+    switch (answer) {
+    case BES_SYNTAX:
+        return place == Place::byte;
+    case BES_BAD_PATTERN:
+        return place == Place::byte || place == Place::item;
+    case BES_BAD_RPN:
+    case BES_NO_ITEM:
+        return place == Place::item;
+    case BES_NAME_LENGTH:
+    case BES_HAS_NUL:
+    case BES_NOT_UTF8:
+    case BES_BAD_PART:
+        return place == Place::item || place == Place::operation;
+    case BES_DATA_LENGTH:
+    case BES_NO_OPERATION:
+    case BES_NO_KIND:
+    case BES_NO_VALUE:
+        return place == Place::operation;
+    default:
+        return false;
+    }
+}
+
+} // namespace detail
+
 // Why a call did nothing.
 class Refusal : public std::runtime_error {
 public:
-    explicit Refusal(std::uint32_t number, std::optional<std::uint64_t> carried = std::nullopt)
-        : std::runtime_error(bes_strerror(number)), number_(number), carried_(carried)
+    explicit Refusal(std::uint32_t number, std::uint64_t carried = 0, detail::Place place = detail::Place::none)
+        : std::runtime_error(bes_strerror(number)), number_(number), carried_(carried), place_(place)
     {
     }
 
     // The answer as bestore.h lists it, BES_BUSY to BES_NO_ITEM.
     std::uint32_t number() const noexcept { return number_; }
 
-    // What the refusal carries, where the call tells it: the pass that is writing of BES_BUSY, the least version that is
-    // pinned of BES_FULL, the byte or the item of a faulty query.
-    std::optional<std::uint64_t> carried() const noexcept { return carried_; }
+    // Of BES_BUSY: the pass that is writing.
+    std::optional<std::uint64_t> pass_number() const noexcept { return carried_if(number_ == BES_BUSY); }
+
+    // Of BES_FULL: the oldest version that a pass may still reach.
+    std::optional<std::uint64_t> least() const noexcept { return carried_if(number_ == BES_FULL); }
+
+    // Of BES_SYNTAX and BES_BAD_PATTERN: the byte of the query's text, from 0, that is at fault.
+    std::optional<std::uint64_t> offset() const noexcept { return carried_if(is_at(detail::Place::byte)); }
+
+    // The item of a Predicate, from 0, that can't be read or at which it builds no query.
+    std::optional<std::uint64_t> item() const noexcept { return carried_if(is_at(detail::Place::item)); }
+
+    // The operation of a Batch, from 0, that can't be read.
+    std::optional<std::uint64_t> operation() const noexcept { return carried_if(is_at(detail::Place::operation)); }
 
 private:
+    bool is_at(detail::Place place) const noexcept { return place_ == place && detail::has_place(number_, place); }
+
+    std::optional<std::uint64_t> carried_if(bool carries) const noexcept
+    {
+        return carries ? std::optional<std::uint64_t>(carried_) : std::nullopt;
+    }
+
     std::uint32_t number_;
-    std::optional<std::uint64_t> carried_;
+    std::uint64_t carried_;
+    detail::Place place_;
 };
 
 // The kinds of values.
@@ -90,10 +143,11 @@ struct Index {
 
 namespace detail {
 
-inline void check(std::uint32_t answer)
+// Throws what the answer of a call says, if it did nothing: with the number that it put out, and what that counts.
+inline void check(std::uint32_t answer, std::uint64_t carried = 0, Place place = Place::none)
 {
     if (answer != BES_OK)
-        throw Refusal(answer);
+        throw Refusal(answer, carried, place);
 }
 
 // The library wants a pointer that isn't null, also to nothing.
@@ -149,12 +203,13 @@ inline Value value_of(std::uint32_t code, std::uint64_t number, std::string_view
 }
 
 // All that a call puts out which counts what there is, and writes as much as there is room for. It is asked again with more.
-template <class List, class Call> List whole(std::size_t room, Call call)
+template <class List, class Call> List whole(std::size_t room, Place place, Call call)
 {
     for (;;) {
         List list(room, typename List::value_type{});
         std::uint64_t count = 0;
-        check(call(list.data(), room, &count));
+        const std::uint32_t answer = call(list.data(), room, &count);
+        check(answer, count, place);
         if (count <= room) {
             list.resize(count);
             return list;
@@ -308,13 +363,17 @@ class Prepared {
 public:
     explicit Prepared(std::string_view text) : handle_(new bes_prepared BES_PREPARED_INIT)
     {
-        detail::check(bes_prepare(detail::bytes_of(text), text.size(), handle_.get()));
+        std::uint64_t at = 0;
+        const auto answer = bes_prepare(detail::bytes_of(text), text.size(), handle_.get(), &at);
+        detail::check(answer, at, detail::Place::byte);
     }
 
     explicit Prepared(const Predicate &predicate) : handle_(new bes_prepared BES_PREPARED_INIT)
     {
-        detail::check(bes_prepare_items(detail::begin_of(predicate.items_), predicate.items_.size(),
-                                        detail::bytes_of(predicate.bytes_), predicate.bytes_.size(), handle_.get()));
+        std::uint64_t at = 0;
+        const auto answer = bes_prepare_items(detail::begin_of(predicate.items_), predicate.items_.size(),
+                                              detail::bytes_of(predicate.bytes_), predicate.bytes_.size(), handle_.get(), &at);
+        detail::check(answer, at, detail::Place::item);
     }
 
 protected:
@@ -372,9 +431,10 @@ public:
     Written apply(const Batch &batch, std::uint32_t tries = BES_TRIES)
     {
         Written written{0, std::vector<Node>(batch.size() + 1)};
-        detail::check(bes_apply_or_retry(handle(), detail::begin_of(batch.operations_), batch.size(),
-                                         detail::bytes_of(batch.bytes_), batch.bytes_.size(), tries > 0 ? tries - 1 : 0,
-                                         written.made.data(), batch.size(), &written.number));
+        const auto answer = bes_apply_or_retry(handle(), detail::begin_of(batch.operations_), batch.size(),
+                                               detail::bytes_of(batch.bytes_), batch.bytes_.size(), tries > 0 ? tries - 1 : 0,
+                                               written.made.data(), batch.size(), &written.number);
+        detail::check(answer, written.number, detail::Place::operation);
         written.made.resize(batch.size());
         return written;
     }
@@ -390,7 +450,7 @@ public:
     // The journal up to now: a line for each write.
     std::string journal(std::uint32_t tries = BES_TRIES)
     {
-        return detail::whole<std::string>(1 << 16, [&](char *text, std::size_t room, std::uint64_t *count) {
+        return detail::whole<std::string>(1 << 16, detail::Place::none, [&](char *text, std::size_t room, std::uint64_t *count) {
             std::uint32_t answer = BES_BUSY;
             for (std::uint32_t left = tries > 0 ? tries : 1; answer == BES_BUSY && left > 0; left--)
                 answer = bes_journal(handle(), reinterpret_cast<std::uint8_t *>(text), room, count);
@@ -446,14 +506,14 @@ public:
     // The nodes that meet the query, ascending.
     std::vector<Node> query(std::string_view text)
     {
-        return nodes([&](Node *nodes, std::size_t room, std::uint64_t *count) {
+        return nodes(detail::Place::byte, [&](Node *nodes, std::size_t room, std::uint64_t *count) {
             return bes_query(handle(), detail::bytes_of(text), text.size(), nodes, room, count);
         });
     }
 
     std::vector<Node> query(const Predicate &predicate)
     {
-        return nodes([&](Node *nodes, std::size_t room, std::uint64_t *count) {
+        return nodes(detail::Place::item, [&](Node *nodes, std::size_t room, std::uint64_t *count) {
             return bes_query_items(handle(), detail::begin_of(predicate.items_), predicate.items_.size(),
                                    detail::bytes_of(predicate.bytes_), predicate.bytes_.size(), nodes, room, count);
         });
@@ -461,7 +521,7 @@ public:
 
     std::vector<Node> query(Prepared &prepared)
     {
-        return nodes([&](Node *nodes, std::size_t room, std::uint64_t *count) {
+        return nodes(detail::Place::none, [&](Node *nodes, std::size_t room, std::uint64_t *count) {
             return bes_query_prepared(handle(), prepared.handle(), nodes, room, count);
         });
     }
@@ -469,7 +529,7 @@ public:
     // What the query would be answered from: the comparisons that are picked, and a score.
     std::string explain(std::string_view text)
     {
-        return detail::whole<std::string>(256, [&](char *said, std::size_t room, std::uint64_t *count) {
+        return detail::whole<std::string>(256, detail::Place::byte, [&](char *said, std::size_t room, std::uint64_t *count) {
             return bes_explain(handle(), detail::bytes_of(text), text.size(), reinterpret_cast<std::uint8_t *>(said), room, count);
         });
     }
@@ -533,7 +593,10 @@ private:
         return pass_.get();
     }
 
-    template <class Call> std::vector<Node> nodes(Call call) { return detail::whole<std::vector<Node>>(256, call); }
+    template <class Call> std::vector<Node> nodes(detail::Place place, Call call)
+    {
+        return detail::whole<std::vector<Node>>(256, place, call);
+    }
 
     // Hands each operation that a list is told as to `take`, with its name and the bytes of its value.
     template <class Call, class Take> void list(Call call, Take take)

@@ -38,9 +38,9 @@ Tag: {tag}
 
 def version() -> str:
     """The version that the package says it has."""
-    found = re.search(r'^__version__ = "(.+)"$', read(os.path.join(PACKAGE, "__init__.py")).decode(), re.MULTILINE)
+    found = re.search(r'^VERSION = "(.+)"$', read(os.path.join(PACKAGE, "_library.py")).decode(), re.MULTILINE)
     if found is None:
-        raise ValueError("bestore/__init__.py has no __version__")
+        raise ValueError("bestore/_library.py has no VERSION")
     return found[1]
 
 

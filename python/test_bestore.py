@@ -37,9 +37,12 @@ class Values(unittest.TestCase):
                 self.assertEqual(version.query_items(bestore.Name("name"), "n", bestore.Operator.CONTAINS), [node])
                 with self.assertRaises(bestore.NoNode):
                     version.attributes(node + 1)
-                with self.assertRaises(bestore.Refusal) as fault:
+                with self.assertRaises(bestore.BadItems) as fault:
                     version.query_items(bestore.Name("size"))
-                self.assertEqual(fault.exception.number, 22)
+                self.assertEqual((fault.exception.number, fault.exception.item), (22, 1))
+                with self.assertRaises(bestore.NameLength) as fault:
+                    version.query_items(bestore.Name("size"), 1, bestore.Name(""))
+                self.assertEqual(fault.exception.item, 2)
 
     def test_as_dicts(self):
         with bestore.open(64, 1, 100) as store:
@@ -145,9 +148,9 @@ class PreparedQueries(unittest.TestCase):
             with self.assertRaises(bestore.Refusal) as fault:
                 bestore.prepare(text)
             self.assertEqual(fault.exception.number, number)
-        with self.assertRaises(bestore.Refusal) as fault:
-            bestore.prepare_items(bestore.Name("size"))
-        self.assertEqual(fault.exception.number, 22)
+        with self.assertRaises(bestore.BadItems) as fault:
+            bestore.prepare_items(bestore.Name("size"), 1, bestore.Operator.AND)
+        self.assertEqual((fault.exception.number, fault.exception.item), (22, 2))
         with bestore.open(64, 1, 100) as store, store.pin() as version:
             small = bestore.prepare("size < 5")
             for number, call in [(17, version.query_prepared), (17, version.refresh)]:
@@ -183,10 +186,15 @@ class WrongUse(unittest.TestCase):
             with self.assertRaises(bestore.Refusal) as fault:
                 call()
             self.assertEqual(fault.exception.number, number)
-        with self.assertRaises(bestore.QuerySyntax) as syntax:
-            version.explain("k <")
-        self.assertEqual(syntax.exception.query, "k <")
-        self.assertTrue(str(syntax.exception).startswith("the query leaves the grammar\n  k <"))
+        for call in (version.query, version.explain, bestore.prepare):
+            with self.assertRaises(bestore.QuerySyntax) as syntax:
+                call("k <")
+            self.assertEqual((syntax.exception.query, syntax.exception.offset), ("k <", 3))
+            self.assertEqual(str(syntax.exception), "the query leaves the grammar\n  k <\n     ^")
+            with self.assertRaises(bestore.BadPattern) as pattern:
+                call("größe == [é")
+            self.assertEqual((pattern.exception.offset, pattern.exception.column), (11, 9))
+            self.assertEqual(str(pattern.exception), "a pattern is malformed\n  größe == [é\n           ^")
         version.unpin()
         with self.assertRaises(bestore.Refusal) as fault:
             version.query("k == 1")
@@ -197,12 +205,59 @@ class WrongUse(unittest.TestCase):
         self.assertEqual(fault.exception.number, 64)
 
 
+class WhatIsCarried(unittest.TestCase):
+    def test_operations(self):
+        with bestore.open(64, 1, 100) as store:
+            for kind, batch in [
+                (bestore.NameLength, bestore.Batch().new_node().new_node().unset(1, "")),
+                (bestore.HasNul, bestore.Batch().new_node().new_node().set(1, "k", "\0")),
+                (bestore.DataLength, bestore.Batch().new_node().new_node().set(1, "k", bytes(256))),
+                (bestore.NoKind, bestore.Batch().new_node().new_node().make_index("k", 1)),
+            ]:
+                with self.assertRaises(kind) as fault:
+                    store.apply(batch)
+                self.assertEqual(fault.exception.operation, 2)
+            with self.assertRaises(bestore.NoNode) as none:
+                store.apply(bestore.Batch().new_node().unset(2, "k"))
+            self.assertIsNone(none.exception.operation)
+
+    def test_full(self):
+        with bestore.open(8, 1, 1000) as store:
+            store.new_node()
+            with store.pin(), self.assertRaises(bestore.Full) as full:
+                for _ in range(100):
+                    store.new_node()
+            self.assertEqual(full.exception.least, 1)
+
+    def test_busy(self):
+        """The pass that is writing is the other one, which has the number 1, where there is one at all."""
+        with bestore.open(64, 2) as store, store.another() as other:
+            node, holders = store.new_node(), set()
+
+            def write():
+                for number in range(3000):
+                    try:
+                        other.apply(bestore.Batch().set(node, "k", number), tries=1)
+                    except bestore.Busy as busy:
+                        holders.add(busy.pass_number)
+            running = threading.Thread(target=write)
+            running.start()
+            while running.is_alive():
+                store.set(node, "k", 0)
+            running.join()
+            self.assertEqual(holders - {1}, set())
+
+
 class Library(unittest.TestCase):
     def test_missing(self):
         environment = dict(os.environ, BESTORE_LIBRARY="/nowhere/libbestore.so.0", PYTHONPATH=os.pathsep.join(sys.path))
         said = subprocess.run([sys.executable, "-c", "import bestore"], env=environment, stderr=subprocess.PIPE, check=False)
         self.assertIn(b"ImportError: bestore can't load its library: /nowhere/libbestore.so.0", said.stderr)
         self.assertIn(b"Run `make` in c/", said.stderr)
+
+    def test_version(self):
+        self.assertEqual(bestore._library._dotted(bestore._library.calls.bes_version()), bestore.__version__)
+        self.assertEqual(bestore._library._dotted(12003045), "12.3.45")
 
 
 class Threads(unittest.TestCase):

@@ -29,10 +29,14 @@ class Refusals(unittest.TestCase):
     def test_what_is_carried(self):
         self.assertEqual(refusals.refusal(1, 3).pass_number, 3)
         self.assertEqual(refusals.refusal(11, 7).least, 7)
-        self.assertEqual(refusals.refusal(22, 2).item, 2)
+        self.assertEqual(refusals.refusal(22, 2, listed="item").item, 2)
         self.assertIsNone(refusals.refusal(1).pass_number)
-        fault = refusals.refusal(13, 4)
-        self.assertEqual((fault.item, fault.offset), (4, None))
+        fault = refusals.refusal(13, 4, listed="item")
+        self.assertEqual((fault.item, fault.offset, str(fault)), (4, None, "a pattern is malformed (item 4, counted from 0)"))
+        fault = refusals.refusal(18, 5, listed="operation")
+        self.assertEqual((fault.item, fault.operation), (None, 5))
+        self.assertEqual(str(fault), "a name has not 1 to 63 bytes (operation 5, counted from 0)")
+        self.assertIsNone(refusals.refusal(69, 0, listed="operation").operation)
         self.assertEqual((refusals.refusal(99).number, str(refusals.refusal(99))), (99, "unknown answer"))
 
     def test_caret(self):
@@ -53,6 +57,7 @@ class Refusals(unittest.TestCase):
     def test_pickled(self):
         fault = pickle.loads(pickle.dumps(refusals.refusal(12, 6, "size <")))
         self.assertEqual((type(fault), fault.offset, fault.query), (bestore.QuerySyntax, 6, "size <"))
+        self.assertEqual(pickle.loads(pickle.dumps(refusals.refusal(70, 3, listed="operation"))).operation, 3)
 
     def test_subclass_of_a_program(self):
         class Mine(bestore.Busy):

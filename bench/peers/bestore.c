@@ -132,7 +132,8 @@ void unpin(struct pass *pass) { must_do(bes_unpin(&pass->held)); }
 
 void parse(struct query *query, struct text text) {
     bes_prepared *prepared = calloc(1, sizeof *prepared);
-    must_do(bes_prepare((const uint8_t *)text.bytes, text.length, prepared));
+    uint64_t place;
+    must_do(bes_prepare((const uint8_t *)text.bytes, text.length, prepared, &place));
     query->prepared = prepared;
 }
 

@@ -33,8 +33,8 @@ static void *watcher(void *arg)
     struct watch *watch = arg;
     bes_prepared query = BES_PREPARED_INIT;
     bes_updates updates = {0, 0};
-    uint64_t version = 0, until = 0;
-    stop_at(watch->query, bes_prepare_text(watch->query, &query));
+    uint64_t version = 0, until = 0, place = 0;
+    stop_at(watch->query, bes_prepare_text(watch->query, &query, &place));
     do {
         pthread_mutex_lock(&watch->lock);
         until = watch->last_version;

@@ -32,11 +32,12 @@ static uint32_t write_letter(bes_pass *pass)
 
 static uint32_t run(bes_pass *pass, bes_prepared *unread)
 {
+    uint64_t place = 0;
     uint32_t answer = bes_open(64, 1, 100, pass);
     if (answer == BES_OK)
         answer = bes_make_index(pass, "MAIL:status", BES_STRING_TYPE);
     if (answer == BES_OK)
-        answer = bes_prepare_text("MAIL:status==New", unread);
+        answer = bes_prepare_text("MAIL:status==New", unread, &place);
     for (int i = 0; i < 2 && answer == BES_OK; i++)
         answer = write_letter(pass);
     if (answer == BES_OK)

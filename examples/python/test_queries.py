@@ -157,7 +157,7 @@ class Windows(unittest.TestCase):
             self.assertTrue(wait_for(lambda: is_shown(*names)))
             self.assertIn('"size"<"450"', str(window.told["text"]))
             window.ask("size<")
-            self.assertIn("the query leaves the grammar", str(window.told["text"]))
+            self.assertIn("     ^ the query leaves the grammar", str(window.told["text"]))
             self.assertTrue(is_shown(*names))
             window.ask("size==450")
             self.assertTrue(wait_for(lambda: is_shown("450.txt")))

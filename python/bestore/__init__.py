@@ -17,6 +17,7 @@ which each answer has a class of its own, as `Busy` or `QuerySyntax`.
 The package has its shared object inside. In the repository it is the one in c/, and BESTORE_LIBRARY names another.
 """
 
+from ._library import VERSION as __version__
 from .queries import Item, Name, Operator, Prepared, prepare, prepare_items
 from .refusals import (
     BadCount, BadItems, BadLimits, BadPart, BadPattern, Busy, Closed, CommitsSpent, DataLength, Full, HasNul, IndexExists,
@@ -25,8 +26,6 @@ from .refusals import (
 )
 from .store import Attributes, Batch, Pass, Version, open
 from .values import Kind, Value
-
-__version__ = "0.1.0"
 
 STRING, INT32, INT64, MIME, RAW, UINT32, UINT64 = (
     Kind.STRING, Kind.INT32, Kind.INT64, Kind.MIME, Kind.RAW, Kind.UINT32, Kind.UINT64)

@@ -9,6 +9,7 @@ from typing import Any, List, Optional
 from .refusals import refusal
 
 SONAME = "libbestore.so.0"
+VERSION = "0.1.0"
 
 
 class Handle(ctypes.Structure):
@@ -74,8 +75,8 @@ def _arguments() -> dict[str, List[Any]]:
         "bes_apply_or_retry": [*write, ctypes.c_uint32, *put_out],
         "bes_query": [handle, text, size, *put_out],
         "bes_query_items": [handle, *items, *put_out],
-        "bes_prepare": [text, size, handle],
-        "bes_prepare_items": [*items, handle],
+        "bes_prepare": [text, size, handle, words],
+        "bes_prepare_items": [*items, handle, words],
         "bes_release": [handle],
         "bes_query_prepared": [handle, handle, *put_out],
         "bes_refresh": [handle, handle, ctypes.POINTER(Updates)],
@@ -85,6 +86,7 @@ def _arguments() -> dict[str, List[Any]]:
         "bes_attributes": [handle, word, *listed],
         "bes_indices": [handle, *listed],
         "bes_journal": [handle, text, size, words],
+        "bes_version": [],
     }
 
 
@@ -101,6 +103,11 @@ def _path() -> str:
     return SONAME
 
 
+def _dotted(version: int) -> str:
+    """A version as the library tells it, as text."""
+    return f"{version // 1000000}.{version // 1000 % 1000}.{version % 1000}"
+
+
 def _load() -> ctypes.CDLL:
     path = _path()
     try:
@@ -108,6 +115,9 @@ def _load() -> ctypes.CDLL:
         for name, arguments in _arguments().items():
             call = getattr(loaded, name)
             call.argtypes, call.restype = arguments, ctypes.c_uint32
+        found = _dotted(loaded.bes_version())
+        if found != VERSION:
+            raise OSError(f"{path} has the version {found}, and the package is of {VERSION}")
     except (OSError, AttributeError) as error:
         raise ImportError(
             f"bestore can't load its library: {error}. Run `make` in c/ of the repository, and import bestore from python/ "
@@ -118,7 +128,8 @@ def _load() -> ctypes.CDLL:
 calls = _load()
 
 
-def check(answer: int, query: Optional[str] = None) -> None:
-    """Raises what the answer of a call says, if it did nothing."""
+def check(answer: int, carried: Optional[int] = None, query: Optional[str] = None, listed: Optional[str] = None) -> None:
+    """Raises what the answer of a call says, if it did nothing, with the number that goes with the answer, the text of the query
+    that was asked, and what the call takes a list of."""
     if answer != 0:
-        raise refusal(answer, query=query)
+        raise refusal(answer, carried, query, listed)

@@ -83,13 +83,15 @@ class Prepared(Owner):
 
 def prepare(text: str) -> Prepared:
     """The query of this text, parsed once."""
-    prepared, taken = Prepared(), text.encode()
-    check(calls.bes_prepare(taken, len(taken), ctypes.byref(prepared._handle)), text)
+    prepared, taken, place = Prepared(), text.encode(), ctypes.c_uint64()
+    answer = calls.bes_prepare(taken, len(taken), ctypes.byref(prepared._handle), ctypes.byref(place))
+    check(answer, place.value, text)
     return prepared
 
 
 def prepare_items(*items: Item) -> Prepared:
     """The query that items in reverse Polish order build, as `Version.query_items` takes them."""
-    prepared = Prepared()
-    check(calls.bes_prepare_items(*spelled_items(items), ctypes.byref(prepared._handle)))
+    prepared, place = Prepared(), ctypes.c_uint64()
+    answer = calls.bes_prepare_items(*spelled_items(items), ctypes.byref(prepared._handle), ctypes.byref(place))
+    check(answer, place.value, listed="item")
     return prepared

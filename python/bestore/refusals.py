@@ -1,4 +1,5 @@
-"""Why a call did nothing: a class for each answer that bestore.h lists, so that it can be caught by its name."""
+"""Why a call did nothing: a class for each answer that bestore.h lists, so that it can be caught by its name, with what goes
+with the answer."""
 
 from __future__ import annotations
 
@@ -19,18 +20,24 @@ class Refusal(Exception):
         if "number" in vars(cls):
             Refusal._classes[cls.number] = cls
 
-    def __init__(self, carried: Optional[int] = None, query: Optional[str] = None) -> None:
-        super().__init__(carried, query)
+    def __init__(self, carried: Optional[int] = None, query: Optional[str] = None, listed: Optional[str] = None) -> None:
+        super().__init__(carried, query, listed)
         self.query = query
         """The text of the query, where one was asked by its text."""
         self.pass_number: Optional[int] = None
         """Of `Busy`: the number of the pass that is writing."""
         self.least: Optional[int] = None
-        """Of `Full`: no page is kept for a version before this one, which somebody may have pinned."""
+        """Of `Full`: the oldest version that a pass may still reach. Pages are kept for it."""
         self.offset: Optional[int] = None
-        """Of `QuerySyntax` and `BadPattern`: the byte of the text, from 0, at which the fault is."""
+        """Of `QuerySyntax` and `BadPattern`: the byte of the text, in UTF-8 and from 0, at which the fault is."""
         self.item: Optional[int] = None
-        """Of `BadItems` and `BadPattern`: the item, from 0, at which the fault is."""
+        """Of items that can't be read or build no query: the item, from 0, at which that shows."""
+        self.operation: Optional[int] = None
+        """Of a batch that can't be read: the first operation, from 0, that can't."""
+        self._carry(carried, listed)
+
+    def _carry(self, carried: Optional[int], listed: Optional[str]) -> None:
+        """Keeps what goes with the answer, if anything does. `listed` says what the call takes a list of: "item" or "operation"."""
 
     def __str__(self) -> str:
         return self.meaning
@@ -43,22 +50,35 @@ class Refusal(Exception):
         return len(self.query.encode()[:self.offset].decode(errors="ignore"))
 
 
-def refusal(number: int, carried: Optional[int] = None, query: Optional[str] = None) -> Refusal:
-    """The refusal with this number, what it carries, and the query that it is of."""
+def refusal(number: int, carried: Optional[int] = None, query: Optional[str] = None, listed: Optional[str] = None) -> Refusal:
+    """The refusal with this number, what goes with it, the text of the query that it is of, and what the call takes a list of."""
     found = Refusal._classes.get(number)
     if found is not None:
-        return found(carried, query)
-    unknown = Refusal(carried, query)
+        return found(carried, query, listed)
+    unknown = Refusal(carried, query, listed)
     unknown.number = number
     return unknown
+
+
+class _OfList(Refusal):
+    """A fault of an operation or of an item, where the call takes a list of them."""
+
+    def _carry(self, carried: Optional[int], listed: Optional[str]) -> None:
+        if listed is not None:
+            setattr(self, listed, carried)
+
+    def __str__(self) -> str:
+        for listed, place in (("operation", self.operation), ("item", self.item)):
+            if place is not None:
+                return f"{self.meaning} ({listed} {place}, counted from 0)"
+        return self.meaning
 
 
 class Busy(Refusal):
     number = 1
     meaning = "another pass is writing"
 
-    def __init__(self, carried: Optional[int] = None, query: Optional[str] = None) -> None:
-        super().__init__(carried, query)
+    def _carry(self, carried: Optional[int], listed: Optional[str]) -> None:
         self.pass_number = carried
 
 
@@ -111,25 +131,23 @@ class Full(Refusal):
     number = 11
     meaning = "no page is free"
 
-    def __init__(self, carried: Optional[int] = None, query: Optional[str] = None) -> None:
-        super().__init__(carried, query)
+    def _carry(self, carried: Optional[int], listed: Optional[str]) -> None:
         self.least = carried
 
 
-class _AtPlace(Refusal):
+class _AtPlace(_OfList):
     """A fault of a query that has a place: a byte of its text, or one of its items."""
 
-    def __init__(self, carried: Optional[int] = None, query: Optional[str] = None) -> None:
-        super().__init__(carried, query)
-        if query is None:
-            self.item = carried
+    def _carry(self, carried: Optional[int], listed: Optional[str]) -> None:
+        if self.query is None:
+            super()._carry(carried, listed)
         else:
             self.offset = carried
 
     def __str__(self) -> str:
         """What the fault is, and the query, with a caret under its byte where that is known."""
         if self.query is None:
-            return self.meaning
+            return super().__str__()
         shown = "".join(character if character.isprintable() else " " for character in self.query)
         if self.column is None:
             return f"{self.meaning}\n  {shown}"
@@ -166,17 +184,17 @@ class NotCovered(Refusal):
     meaning = "no index serves the query"
 
 
-class NameLength(Refusal, ValueError):
+class NameLength(_OfList, ValueError):
     number = 18
     meaning = "a name has not 1 to 63 bytes"
 
 
-class DataLength(Refusal, ValueError):
+class DataLength(_OfList, ValueError):
     number = 19
     meaning = "a value has more than 255 bytes"
 
 
-class HasNul(Refusal, ValueError):
+class HasNul(_OfList, ValueError):
     number = 20
     meaning = "a text has a zero byte"
 
@@ -221,31 +239,31 @@ class BadCount(Refusal, ValueError):
     meaning = "a write has not 1 to 64 operations"
 
 
-class NotUTF8(Refusal, ValueError):
+class NotUTF8(_OfList, ValueError):
     number = 70
     meaning = "the bytes are no UTF-8"
 
 
-class NoOperation(Refusal, ValueError):
+class NoOperation(_OfList, ValueError):
     number = 71
     meaning = "no such operation"
 
 
-class NoKind(Refusal, ValueError):
+class NoKind(_OfList, ValueError):
     number = 72
     meaning = "no such kind"
 
 
-class NoValue(Refusal, ValueError):
+class NoValue(_OfList, ValueError):
     number = 73
     meaning = "the number doesn't fit the kind"
 
 
-class BadPart(Refusal, ValueError):
+class BadPart(_OfList, ValueError):
     number = 74
     meaning = "a part isn't within the bytes"
 
 
-class NoItem(Refusal, ValueError):
+class NoItem(_OfList, ValueError):
     number = 75
     meaning = "no such item"

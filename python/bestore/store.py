@@ -89,9 +89,10 @@ class Pass(Owner):
         count = len(batch)
         operations = (Operation * max(count, 1))(*batch._operations)
         made, number = _words(count), ctypes.c_uint64()
-        check(calls.bes_apply_or_retry(
+        answer = calls.bes_apply_or_retry(
             ctypes.byref(self._handle), operations, count, batch._bytes, len(batch._bytes), max(tries, 1) - 1, made, count,
-            ctypes.byref(number)))
+            ctypes.byref(number))
+        check(answer, number.value, listed="operation")
         return number.value, made[:count]
 
     def new_node(self) -> int:
@@ -128,7 +129,7 @@ class Pass(Owner):
             if answer == Busy.number and tries > 1:
                 tries -= 1
                 continue
-            check(answer)
+            check(answer, count.value)
             if count.value <= room:
                 return said.raw[:count.value].decode()
             room = 2 * count.value
@@ -168,11 +169,12 @@ class Version:
             raise NotPinned()
         return ctypes.byref(self._user._handle)
 
-    def _find(self, call: Callable[..., int], *query: Any, text: Optional[str] = None) -> List[int]:
+    def _find(self, call: Callable[..., int], *query: Any, text: Optional[str] = None, listed: Optional[str] = None) -> List[int]:
         room = 256
         while True:
             nodes, count = _words(room), ctypes.c_uint64()
-            check(call(self._pass(), *query, nodes, room, ctypes.byref(count)), text)
+            answer = call(self._pass(), *query, nodes, room, ctypes.byref(count))
+            check(answer, count.value, text, listed)
             if count.value <= room:
                 return nodes[:count.value]
             room = count.value
@@ -187,7 +189,7 @@ class Version:
 
             version.query_items(bestore.Name("size"), 5, bestore.Operator.LT)
         """
-        return self._find(calls.bes_query_items, *spelled_items(items))
+        return self._find(calls.bes_query_items, *spelled_items(items), listed="item")
 
     def query_prepared(self, prepared: Prepared) -> List[int]:
         """The nodes that meet a prepared query, ascending. What its last refresh told stays."""
@@ -207,7 +209,8 @@ class Version:
         taken, count, room = text.encode(), ctypes.c_uint64(), 256
         while True:
             said = ctypes.create_string_buffer(room)
-            check(calls.bes_explain(self._pass(), taken, len(taken), said, room, ctypes.byref(count)), text)
+            answer = calls.bes_explain(self._pass(), taken, len(taken), said, room, ctypes.byref(count))
+            check(answer, count.value, text)
             if count.value <= room:
                 return said.raw[:count.value].decode()
             room = count.value

@@ -3,8 +3,6 @@
 
 mod command_line;
 mod tasks;
-#[cfg(test)]
-mod tests;
 
 pub use command_line::task;
 pub use tasks::Task;

@@ -6,3 +6,4 @@ pub mod NodeKeys
 pub mod Payloads
 pub mod Items
 pub mod FactValues
+pub mod Marks

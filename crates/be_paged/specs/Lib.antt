@@ -3,6 +3,7 @@ pub mod Page
 pub mod Catalog
 pub mod Version
 pub mod Reading
+pub mod Nodes
 pub mod Facts
 pub mod Changes
 pub mod Source

@@ -24,6 +24,7 @@ mod entry;
 mod facts;
 mod first;
 pub mod laws;
+mod marks;
 mod on_page;
 mod paged_source;
 mod reading;
@@ -33,6 +34,6 @@ mod writes;
 
 pub use first::first_page;
 pub use paged_source::{PagedSource, source};
-pub use reading::{attrs, get, indices};
+pub use reading::{attrs, get, indices, nodes};
 pub use spelling::one_spelling;
 pub use writes::{apply, apply_into};

@@ -11,6 +11,7 @@ ghost use Rattle.be_volume.specs.Query.{holds};
 ghost use Rattle.be_volume.specs.Reading.{attribute, attributes_at, index_kinds};
 ghost use Rattle.be_volume.specs.Volume.{State};
 ghost use Rattle.be_paged.specs.Catalog.{IsCatalog, value_at};
+ghost use Rattle.be_paged.specs.Nodes.{nodes_from};
 ghost use Rattle.be_paged.specs.Reading.{AreValid};
 ghost use Rattle.be_paged.specs.Version.{IsVersion};
 
@@ -18,6 +19,7 @@ use crate::attributes::list_attributes;
 use crate::catalog::{catalog_key, value_at};
 use crate::comparing::holds_at;
 use crate::entries::kinds;
+use crate::marks::list_nodes;
 use crate::version::{Version, fill_version};
 use arrayvec::ArrayVec;
 use be_pages::Look;
@@ -108,4 +110,22 @@ pub fn indices<L: Look>(
     };
     fill_version(look, version_page, &mut version);
     Ok(kinds(alloc, &version.entries)?)
+}
+
+/// The nodes from a number on, ascending, and so many of them at most; refused with OutOfMemory alone. It costs one descent
+/// of the catalog's tree, and a step for each node that it gives and for each of their attributes.
+pub fn nodes<L: Look>(
+    alloc: Global,
+    look: &mut L,
+    version_page: u64,
+    from: u64,
+    most: usize,
+) -> Result<Vec<u64>, Refusal>
+    requires version { (volume : State) × IsVersion (L.standing look.old) (L.words look.old) version_page volume }
+    ensures answer { (volume : State) → IsVersion (L.standing look.old) (L.words look.old) version_page volume →
+        Answers (λ list. list.items) result (Ok (nodes_from volume from most)) }
+    ensures unchanged { IsUnchanged L.kept L.standing L.words look.old look.new }
+{
+    let catalog = look.word(version_page, 3);
+    Ok(list_nodes(alloc, look, catalog, from, most)?)
 }

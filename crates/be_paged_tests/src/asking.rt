@@ -1,9 +1,11 @@
 //! Reads of each form of a volume.
 //!
 //! What is refused memory is asked again: so each test passes with any one request for memory refused.
-ghost use Rattle.std.specs.Prelude.{◌≡◌, IfOk};
+ghost use Rattle.std.specs.Prelude.{◌≡◌, true, IfOk};
 ghost use Rattle.be_pages.specs.Pages.{IsUnchanged};
+ghost use Rattle.be_volume.specs.Query.{has_index};
 ghost use Rattle.be_volume.specs.Volume.{State};
+ghost use Rattle.be_plan.specs.Cover.{covers};
 ghost use Rattle.be_paged.specs.Version.{IsVersion};
 
 use crate::same::same_lists;
@@ -42,6 +44,22 @@ fn cover_of(
     })
 }
 
+/// The nodes of a query that a cover covers.
+fn walked<S: Source>(
+    alloc: Global,
+    query: &Query,
+    cover: &Cover,
+    source: &mut S,
+) -> Result<Vec<u64>, Refusal>
+    ghost volume: { State }
+    requires answers { S.answers_for source.old volume }
+    requires covers { covers (has_index volume) cover.now.picks query.now ≡ true }
+    ensures answers { S.answers_for source.new volume }
+    ensures stays { S.kept source.new ≡ S.kept source.old }
+{
+    run(alloc, cover, query, source)
+}
+
 /// The nodes of a query. The plain volume isn't asked: it tells for which volume the source answers.
 fn ask<S: Source>(
     alloc: Global,
@@ -58,7 +76,7 @@ fn ask<S: Source>(
     if !covers(cover, query, source) {
         return Err(Refusal::BadLimits);
     }
-    run(alloc, cover, query, source)
+    walked(alloc, query, cover, source)
 }
 
 /// The nodes of a query over pages, and the look as it was.

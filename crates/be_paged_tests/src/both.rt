@@ -106,15 +106,17 @@ impl Both {
         Ok((Both { plain, room, page }, answer))
     }
 
-    /// The same by a reader that has counted so many calls, and how many it has counted then.
+    /// The same by a reader that counts its calls, and how many it has counted.
     pub(crate) fn query_counting(
         self,
         alloc: Global,
         query: &Query,
-        reads: u64,
     ) -> Result<(Both, Result<Vec<u64>, Refusal>, u64), Fail> {
         let Both { plain, room, page } = self;
-        let counting = Counting { look: room, reads };
+        let counting = Counting {
+            look: room,
+            reads: 0,
+        };
         let (counting, answer) = query_both(alloc, &plain, counting, page, query, None)?;
         let Counting { look: room, reads } = counting;
         Ok((Both { plain, room, page }, answer, reads))

@@ -10,6 +10,8 @@ mod lines;
 #[cfg(test)]
 mod look_tests;
 #[cfg(test)]
+mod nodes;
+#[cfg(test)]
 mod random_lists;
 #[cfg(test)]
 mod same;

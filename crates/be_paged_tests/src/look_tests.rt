@@ -6,11 +6,12 @@ ghost use Rattle.be_paged.specs.Version.{IsVersion};
 
 use crate::asking::{query_both, read_query};
 use crate::both::Both;
-use crate::lines::is_answer;
+use crate::lines::nodes_text;
 use crate::test_looks::Before;
-use crate::tests::{expect, run_lines};
+use crate::tests::run_lines;
 use crate::writing::{accepts, apply_pages};
 use be_pages::{Look, VecRoom};
+use be_testing::EQUAL_VALUES;
 use be_value::{Name, Refusal, Value};
 use be_volume::{Op, Volume};
 use std::alloc::Global;
@@ -35,18 +36,29 @@ fn hundred(alloc: Global) -> Result<Both, Fail> {
     Ok(both)
 }
 
+/// Fails unless a query finds so many nodes, by more reads than the one bound and fewer than the other.
+fn expect_reads(
+    alloc: Global,
+    both: Both,
+    text: &str,
+    nodes: usize,
+    above: u64,
+    below: u64,
+) -> Result<Both, Fail> {
+    let query = read_query(alloc, text)?;
+    let (both, answer, reads) = both.query_counting(alloc, &query)?;
+    if answer?.len() != nodes || reads <= above || reads >= below {
+        return Err(Fail::new(text));
+    }
+    Ok(both)
+}
+
 /// A walk over a hundred keys reads some words for each, and the look comes back with its count. The version stands.
 #[test]
 fn counting_look(rt: HostRuntime) -> Result<(), Fail> {
     let both = hundred(rt.alloc())?;
-    let query = read_query(rt.alloc(), "k>=0")?;
-    let (both, answer, reads) = both.query_counting(rt.alloc(), &query, 0)?;
-    assert_eq!(rt; answer?.len(), 100);
-    assert!(rt; reads > 100 && reads < 100 * 200);
-    let query = read_query(rt.alloc(), "k==7")?;
-    let (_both, answer, more) = both.query_counting(rt.alloc(), &query, reads)?;
-    assert!(rt; is_answer(&answer, "nodes 8"));
-    assert!(rt; more > reads && more < reads + 1000);
+    let both = expect_reads(rt.alloc(), both, "k>=0", 100, 100, 100 * 200)?;
+    let _both = expect_reads(rt.alloc(), both, "k==7", 1, 0, 1000)?;
     Ok(())
 }
 
@@ -64,8 +76,10 @@ fn expect_look<L: Look + Drop>(
 {
     let query = read_query(alloc, text)?;
     let (look, answer) = query_both(alloc, plain, look, page, &query, None)?;
-    expect(is_answer(&answer, expected), text)?;
-    Ok(look)
+    if nodes_text(alloc, answer)?.as_str() == expected {
+        return Ok(look);
+    }
+    Err(Fail::new(text))
 }
 
 /// An equal volume, copied again where memory is refused.
@@ -108,8 +122,8 @@ fn read_copies(
     requires version { IsVersion (⟦<VecRoom as Look>⟧.standing room) (⟦<VecRoom as Look>⟧.words room) new_page copy.now }
     ensures version { IfOk result (λ r. IsVersion (⟦<VecRoom as Look>⟧.standing r) (⟦<VecRoom as Look>⟧.words r) new_page copy.now) }
 {
-    let room = expect_before(alloc, original, room, page, "k==x", "nodes 1 3")?;
-    let room = expect_look(alloc, copy, room, new_page, "k==x", "nodes 3")?;
+    let room = expect_before(alloc, original, room, page, "k==x", "nodes 1 3\n")?;
+    let room = expect_look(alloc, copy, room, new_page, "k==x", "nodes 3\n")?;
     Ok(room)
 }
 
@@ -144,7 +158,7 @@ fn read_kept(alloc: Global, copy: &Volume, mut room: VecRoom, page: u64) -> Resu
     requires version { IsVersion (⟦<VecRoom as Look>⟧.standing room) (⟦<VecRoom as Look>⟧.words room) page copy.now }
 {
     room.keep();
-    let _room = expect_look(alloc, copy, room, page, "k==x", "nodes 3")?;
+    let _room = expect_look(alloc, copy, room, page, "k==x", "nodes 3\n")?;
     Ok(())
 }
 
@@ -163,15 +177,6 @@ fn drop_of_copy(alloc: Global, both: Both) -> Result<(), Fail> {
 
 #[test]
 fn volume_copy(rt: HostRuntime) -> Result<(), Fail> {
-    let lines = "mkindex k CSTR => ok
-new => node 1
-new => node 2
-new => node 3
-set 1 k CSTR x => ok
-set 2 k CSTR x => ok
-set 3 k CSTR x => ok
-drop 2 => ok
-query k==x => nodes 1 3";
-    let both = run_lines(rt.alloc(), Both::new(rt.alloc(), 64)?, lines)?;
+    let both = run_lines(rt.alloc(), Both::new(rt.alloc(), 64)?, EQUAL_VALUES)?;
     drop_of_copy(rt.alloc(), both)
 }

@@ -1,5 +1,5 @@
-//! The greatest sizes, by the plain volume and by the one over pages: a list of 64 operations is taken, 64 attributes of a node and 32 indices
-//! are taken and listed whole, and one attribute and one index more are refused.
+//! The greatest sizes, by the plain volume and by the one over pages: a list of 64 operations is taken, 64 attributes of a node
+//! and 32 indices are taken and listed whole, and one attribute and one index more are refused.
 use crate::both::Both;
 use be_value::{Kind, Name, Refusal, Value};
 use be_volume::Op;
@@ -49,20 +49,54 @@ fn accepted(both: Both, ops: &[Op]) -> Result<Both, Fail> {
     Ok(both)
 }
 
+/// Fails unless a write of one operation is refused so.
+fn refused(both: Both, op: Op, refusal: Refusal) -> Result<(), Fail> {
+    let (_both, answer) = both.write(&[op])?;
+    match answer {
+        Err(other) if other == refusal => Ok(()),
+        _ => Err(Fail::new("one more is taken, or refused otherwise")),
+    }
+}
+
+/// Both forms once they have taken a list of so many operations.
+fn with_list(alloc: Global, ops: &[Op], count: usize) -> Result<Both, Fail> {
+    if ops.len() != count {
+        return Err(Fail::new("another number of operations"));
+    }
+    accepted(Both::new(alloc, 64)?, ops)
+}
+
+/// Fails unless both forms list so many attributes of node 1.
+fn lists_attributes(alloc: Global, both: &mut Both, count: usize) -> Result<(), Fail> {
+    if both.attrs(alloc, 1)??.len() == count {
+        return Ok(());
+    }
+    Err(Fail::new("another number of attributes"))
+}
+
+/// Fails unless both forms list so many indices.
+fn lists_indices(alloc: Global, both: &mut Both, count: usize) -> Result<(), Fail> {
+    if both.indices(alloc)?.len() == count {
+        return Ok(());
+    }
+    Err(Fail::new("another number of indices"))
+}
+
+/// Both forms with a node of 64 attributes, 63 of which came by the list that made it.
+fn with_attributes(alloc: Global, ops: &[Op]) -> Result<Both, Fail> {
+    let both = with_list(alloc, ops, 64)?;
+    accepted(both, &[sized(63)?])
+}
+
 #[test]
 fn most_operations_and_attributes(rt: HostRuntime) -> Result<(), Fail> {
     let ops = match node_list(rt.alloc()) {
         Err(Refusal::OutOfMemory) => node_list(rt.alloc())?,
         ops => ops?,
     };
-    assert_eq!(rt; ops.len(), 64);
-    let both = accepted(Both::new(rt.alloc(), 64)?, &ops)?;
-    let mut both = accepted(both, &[sized(63)?])?;
-    let listed = both.attrs(rt.alloc(), 1)?;
-    assert_eq!(rt; listed?.len(), 64);
-    let (_both, answer) = both.write(&[sized(64)?])?;
-    assert!(rt; matches!(answer, Err(Refusal::TooManyAttrs)));
-    Ok(())
+    let mut both = with_attributes(rt.alloc(), &ops)?;
+    lists_attributes(rt.alloc(), &mut both, 64)?;
+    refused(both, sized(64)?, Refusal::TooManyAttrs)
 }
 
 #[test]
@@ -71,10 +105,7 @@ fn most_indices(rt: HostRuntime) -> Result<(), Fail> {
         Err(Refusal::OutOfMemory) => index_list(rt.alloc())?,
         ops => ops?,
     };
-    let mut both = accepted(Both::new(rt.alloc(), 64)?, &ops)?;
-    let listed = both.indices(rt.alloc())?;
-    assert_eq!(rt; listed.len(), 32);
-    let (_both, answer) = both.write(&[index(32)?])?;
-    assert!(rt; matches!(answer, Err(Refusal::TooManyIndices)));
-    Ok(())
+    let mut both = with_list(rt.alloc(), &ops, 32)?;
+    lists_indices(rt.alloc(), &mut both, 32)?;
+    refused(both, index(32)?, Refusal::TooManyIndices)
 }

@@ -1,246 +1,173 @@
-//! The same requests to both forms of a volume, each a line `REQUEST => REPLY`.
+//! The same requests to both forms of a volume: lines `REQUEST => REPLY` in the words of scripts, with ` / ` between several
+//! requests and between the lines of replies.
 //!
-//! A request is a list of operations; `get NODE NAME`, `attrs NODE`, `indices`; `query TEXT`, and `pick PLACE TEXT` for a query by one pick;
-//! or `free`, which the room alone answers.
+//! A list of several operations has `;` between them. `pick PLACE TEXT` is a query by one pick, and `free` the number of free
+//! pages, which the room alone answers.
 use crate::asking::read_query;
 use crate::both::Both;
-use crate::lines::{
-    are_indices, is_answer, is_attribute, is_list, is_number, is_written, read_number, read_ops,
-};
-use be_value::Name;
+use crate::lines::{answer_text, nodes_text, refused, request_of, written_text};
+use be_language::{Reply, Request};
+use be_testing::{EXAMPLES, LISTS, TWO_INDICES, behind, list_of};
+use be_value::{Name, Refusal, word_of};
 use be_volume::Op;
 use std::alloc::Global;
 use std::test::Fail;
 
-/// Fails with a text unless a reply is the one that is expected.
-pub(crate) fn expect(holds: bool, text: &str) -> Result<(), Fail> {
-    if holds { Ok(()) } else { Err(Fail::new(text)) }
+/// The reply of both forms to a list of operations.
+fn write(alloc: Global, both: Both, ops: &[Op]) -> Result<(Both, String), Fail> {
+    let (both, answer) = both.write(ops)?;
+    Ok((both, written_text(alloc, answer)?))
 }
 
-/// Fails unless both forms give this attribute: `NODE NAME` stand in the text.
-fn expect_attribute(both: &mut Both, text: &str, expected: &str) -> Result<(), Fail> {
-    let Some((node, name)) = text.split_once(" ") else {
-        return Err(Fail::new(text));
-    };
-    let Some(node) = read_number(node) else {
-        return Err(Fail::new(text));
-    };
-    let value = both.get(node, &Name::new(name)?)?;
-    expect(is_attribute(&value, expected), text)
-}
-
-/// Fails unless both forms give these attributes.
-fn expect_attributes(
-    alloc: Global,
-    both: &mut Both,
-    node: &str,
-    expected: &str,
-) -> Result<(), Fail> {
-    let Some(number) = read_number(node) else {
-        return Err(Fail::new(node));
-    };
-    let list = both.attrs(alloc, number)?;
-    expect(is_list(&list, expected), node)
-}
-
-/// Fails unless both forms give these indices.
-fn expect_indices(alloc: Global, both: &mut Both, expected: &str) -> Result<(), Fail> {
-    let list = both.indices(alloc)?;
-    expect(are_indices(&list, expected), "other indices")
-}
-
-/// Fails unless both forms give this answer to a query.
-fn expect_nodes(
+/// The reply of both forms to a query, from one pick or from what is chosen.
+fn query(
     alloc: Global,
     both: Both,
     text: &str,
     pick: Option<usize>,
-    expected: &str,
-) -> Result<Both, Fail> {
+) -> Result<(Both, String), Fail> {
     let query = read_query(alloc, text)?;
     let (both, answer) = both.query(alloc, &query, pick)?;
-    expect(is_answer(&answer, expected), text)?;
-    Ok(both)
+    Ok((both, nodes_text(alloc, answer)?))
 }
 
-/// The same of a query by one pick, whose place stands before it in the text.
-fn expect_picked(alloc: Global, both: Both, text: &str, expected: &str) -> Result<Both, Fail> {
-    let Some((place, query)) = text.split_once(" ") else {
-        return Err(Fail::new(text));
+/// The same from the pick whose place stands before the query.
+fn picked(alloc: Global, both: Both, text: &str) -> Result<(Both, String), Fail> {
+    let (place, text) = text.split_once(" ").unwrap_or(("0", text));
+    let place = word_of(place.as_bytes()).unwrap_or(99) as usize;
+    query(alloc, both, text, Some(place))
+}
+
+fn attribute(both: &mut Both, node: u64, name: Result<Name, Refusal>) -> Result<Reply, Fail> {
+    let value = both.get(node, &name?)?;
+    Ok(Reply::Value(value))
+}
+
+fn attributes(alloc: Global, both: &mut Both, node: u64) -> Result<Result<Reply, Refusal>, Fail> {
+    match both.attrs(alloc, node)? {
+        Ok(list) => Ok(Ok(Reply::Attributes(list))),
+        Err(refusal) => Ok(Err(refusal)),
+    }
+}
+
+/// The reply of both forms to a read.
+fn read(alloc: Global, both: Both, asked: Request) -> Result<(Both, String), Fail> {
+    let mut both = both;
+    let answer = match asked {
+        Request::Get(node, name) => Ok(attribute(&mut both, node, name)?),
+        Request::Attrs(node) => attributes(alloc, &mut both, node)?,
+        Request::Indices => Ok(Reply::Kinds(both.indices(alloc)?)),
+        Request::Malformed => Ok(Reply::BadLine),
+        _ => return Err(Fail::new("no request")),
     };
-    let Some(place) = read_number(place) else {
-        return Err(Fail::new(text));
-    };
-    expect_nodes(alloc, both, query, Some(usize::try_from(place)?), expected)
+    Ok((both, answer_text(alloc, answer)?))
 }
 
-/// Fails unless both forms give this reply to a list of operations.
-fn expect_write(alloc: Global, both: Both, request: &str, expected: &str) -> Result<Both, Fail> {
-    let ops = read_ops(alloc, request)?;
-    let (both, answer) = both.write(&ops)?;
-    expect(is_written(&answer, expected), request)?;
-    Ok(both)
+/// The reply of both forms to a line of a script.
+fn line_reply(alloc: Global, both: Both, line: &str) -> Result<(Both, String), Fail> {
+    match request_of(alloc, line)? {
+        Request::Write(Ok(op)) => write(alloc, both, &[op]),
+        Request::Write(Err(refusal)) => Ok((both, refused(alloc, refusal)?)),
+        Request::Query(text) => query(alloc, both, text.as_str(), None),
+        asked => read(alloc, both, asked),
+    }
 }
 
-/// Fails unless both forms give this reply to a list, to a query or, the room alone, of how many pages are free.
-fn reply_moved(alloc: Global, both: Both, request: &str, expected: &str) -> Result<Both, Fail> {
-    if let Some(text) = request.strip_prefix("query ") {
-        return expect_nodes(alloc, both, text, None, expected);
+fn number_text(alloc: Global, number: u64) -> Result<String, Refusal> {
+    Ok(format!(in alloc; "{number}\n")?)
+}
+
+/// How many pages are free.
+fn free_text(alloc: Global, both: &Both) -> Result<String, Refusal> {
+    match number_text(alloc, both.room.free()) {
+        Err(_) => number_text(alloc, both.room.free()),
+        text => text,
+    }
+}
+
+/// The reply to a request.
+fn reply(alloc: Global, both: Both, request: &str) -> Result<(Both, String), Fail> {
+    if request.contains(';') {
+        return write(alloc, both, &list_of(alloc, request)?);
     }
     if let Some(text) = request.strip_prefix("pick ") {
-        return expect_picked(alloc, both, text, expected);
+        return picked(alloc, both, text);
     }
     if request == "free" {
-        expect(
-            is_number(both.room.free(), expected),
-            "another number of pages is free",
-        )?;
-        return Ok(both);
+        let free = free_text(alloc, &both)?;
+        return Ok((both, free));
     }
-    expect_write(alloc, both, request, expected)
+    line_reply(alloc, both, request)
 }
 
-/// Fails unless both forms give this reply.
-fn reply(alloc: Global, both: Both, request: &str, expected: &str) -> Result<Both, Fail> {
+/// Does the requests of a line, each of which has to have its reply.
+fn run_line(alloc: Global, both: Both, line: &str) -> Result<Both, Fail> {
+    let (requests, expected) = line.split_once(" => ").unwrap_or((line, "no reply"));
     let mut both = both;
-    if let Some(text) = request.strip_prefix("get ") {
-        expect_attribute(&mut both, text, expected)?;
+    let mut expected = expected;
+    for request in requests.split(" / ") {
+        let (next, text) = reply(alloc, both, request)?;
+        both = next;
+        expected = match behind(expected, text.as_str()) {
+            Some(rest) => rest,
+            None => return Err(Fail::new(line)),
+        };
+    }
+    if expected.is_empty() {
         return Ok(both);
     }
-    if let Some(node) = request.strip_prefix("attrs ") {
-        expect_attributes(alloc, &mut both, node, expected)?;
-        return Ok(both);
-    }
-    if request == "indices" {
-        expect_indices(alloc, &mut both, expected)?;
-        return Ok(both);
-    }
-    reply_moved(alloc, both, request, expected)
+    Err(Fail::new(line))
 }
 
 /// Does the requests, and gives what stands then.
 pub(crate) fn run_lines(alloc: Global, both: Both, lines: &str) -> Result<Both, Fail> {
     let mut both = both;
     for line in lines.lines() {
-        let Some((request, expected)) = line.split_once(" => ") else {
-            return Err(Fail::new("no reply"));
-        };
-        both = reply(alloc, both, request, expected)?;
+        both = run_line(alloc, both, line)?;
     }
     Ok(both)
 }
 
-/// Fails unless both forms give these replies, the one in a room of so many pages.
-fn runs(alloc: Global, pages: u64, lines: &str) -> Result<(), Fail> {
-    let both = Both::new(alloc, pages)?;
-    let _both = run_lines(alloc, both, lines)?;
+/// Fails unless both forms give these replies, the one in a room of 64 pages. Gives what stands then.
+fn runs(alloc: Global, lines: &str) -> Result<Both, Fail> {
+    let both = Both::new(alloc, 64)?;
+    run_lines(alloc, both, lines)
+}
+
+/// The examples that every form of a volume answers alike.
+#[test]
+fn examples(rt: HostRuntime) -> Result<(), Fail> {
+    for lines in EXAMPLES {
+        let _both = runs(rt.alloc(), lines)?;
+    }
+    Ok(())
+}
+
+/// What a query is answered from, of each pick.
+#[test]
+fn picks(rt: HostRuntime) -> Result<(), Fail> {
+    let both = runs(rt.alloc(), TWO_INDICES)?;
+    let lines = "pick 0 a==1 && b==2 / pick 1 a==1 && b==2 => nodes 2 / nodes 2";
+    let _both = run_lines(rt.alloc(), both, lines)?;
+    Ok(())
+}
+
+/// Lists of several operations, and the pages that they leave free.
+#[test]
+fn batches(rt: HostRuntime) -> Result<(), Fail> {
+    let both = runs(rt.alloc(), LISTS)?;
+    let _both = run_lines(rt.alloc(), both, "free => 61")?;
     Ok(())
 }
 
 /// An index takes no page before it has a pair, and gives up all that it has.
 #[test]
 fn paged_pool(rt: HostRuntime) -> Result<(), Fail> {
-    let lines = "free => 63
-new => node 1
-free => 62
-mkindex k LONG => ok
-free => 62
-set 1 k LONG 0 => ok
-free => 61
-rmindex k => ok
-free => 62
-drop 1 => ok
-free => 63";
-    runs(rt.alloc(), 64, lines)
-}
-
-#[test]
-fn equal_values(rt: HostRuntime) -> Result<(), Fail> {
-    let lines = "mkindex k CSTR => ok
-new => node 1
-new => node 2
-new => node 3
-set 1 k CSTR x => ok
-set 2 k CSTR x => ok
-set 3 k CSTR x => ok
-query k==x => nodes 1 2 3
-drop 2 => ok
-query k==x => nodes 1 3
-get 2 k => none
-attrs 2 => refused 2
-new => node 4
-attrs 4 => nothing";
-    runs(rt.alloc(), 64, lines)
-}
-
-#[test]
-fn two_indices(rt: HostRuntime) -> Result<(), Fail> {
-    let lines = "new => node 1
-set 1 a LONG 1 => ok
-mkindex a LONG => ok
-mkindex b LONG => ok
-new => node 2
-set 1 b LONG 2 => ok
-set 2 a LONG 1 => ok
-set 2 b LONG 2 => ok
-query a==1 && b==2 => nodes 2
-pick 0 a==1 && b==2 => nodes 2
-pick 1 a==1 && b==2 => nodes 2
-query b==2 => nodes 1 2
-query a==1 || b==2 => nodes 1 2";
-    runs(rt.alloc(), 64, lines)
-}
-
-#[test]
-fn kind_change(rt: HostRuntime) -> Result<(), Fail> {
-    let lines = "mkindex k LONG => ok
-new => node 1
-set 1 k LONG 5 => ok
-query k==5 => nodes 1
-set 1 k CSTR 5 => ok
-query k==5 => nodes
-get 1 k => CSTR 5
-attrs 1 => k CSTR 5
-indices => k LONG
-set 1 k LONG 7 => ok
-query k>=5 => nodes 1
-unset 1 k => ok
-query k>=5 => nodes
-unset 1 k => refused 3";
-    runs(rt.alloc(), 64, lines)
-}
-
-#[test]
-fn index_removed(rt: HostRuntime) -> Result<(), Fail> {
-    let lines = "mkindex k LONG => ok
-new => node 1
-set 1 k LONG 5 => ok
-rmindex k => ok
-indices => nothing
-query k==5 => refused 17
-mkindex k LONG => ok
-mkindex k CSTR => refused 5
-query k==5 => nodes
-set 1 k LONG 5 => ok
-query k==5 => nodes 1
-rmindex q => refused 6
-drop 9 => refused 2
-mkindex r RAWT => refused 8";
-    runs(rt.alloc(), 64, lines)
-}
-
-#[test]
-fn batches(rt: HostRuntime) -> Result<(), Fail> {
-    let lines = "mkindex k LONG => ok
-new;set 1 k LONG 5 => node 1;ok
-set 1 k LONG 6;drop 9 => refused 2
-query k==5 => nodes 1
-get 1 k => LONG 5
-set 1 m CSTR x;new;drop 1;new;set 3 k LONG 7 => ok;node 2;ok;node 3;ok
-query k>=5 => nodes 3
-attrs 3 => k LONG 7
-free => 61";
-    runs(rt.alloc(), 64, lines)
+    let lines = "free / new / free => 63 / node 1 / 62
+mkindex k LONG / free / set 1 k LONG 0 / free => ok / 62 / ok / 61
+rmindex k / free / drop 1 / free => ok / 62 / ok / 63";
+    let _both = runs(rt.alloc(), lines)?;
+    Ok(())
 }
 
 /// Makes nodes, one list after the other, until one is refused. Gives how many there are.
@@ -261,12 +188,8 @@ fn make_nodes(both: Both, most: u64) -> Result<(Both, u64), Fail> {
 fn smallest_pool(rt: HostRuntime) -> Result<(), Fail> {
     let (both, made) = make_nodes(Both::new(rt.alloc(), 8)?, 37)?;
     assert!(rt; made >= 13 && made < 37);
-    let lines = "new => refused 11
-get 1 k => none
-attrs 1 => nothing
-indices => nothing
-new;drop 99 => refused 2
-new => refused 11";
+    let lines = "new / get 1 k / attrs 1 / indices => refused 11 Full 0 / none / attrs 0 / indices 0
+new;drop 99 / new => refused 2 NoNode / refused 11 Full 0";
     let _both = run_lines(rt.alloc(), both, lines)?;
     Ok(())
 }

@@ -8,8 +8,8 @@ use std::sync::Wait;
 use std::sync::atomic::AtomicU64;
 use std::sync::atomic::Ordering::SeqCst;
 use std::test::Fail;
-use std::thread;
 use std::thread::Threads;
+use std::{str, thread};
 
 /// Fails with what was written unless it is as expected.
 pub fn expect(is_as_expected: bool, written: &str) -> Result<(), Fail> {
@@ -509,5 +509,34 @@ fn failing_writer_of_a_race(rt: HostRuntime) -> Result<(), Fail> {
             return Err(Fail::new(room));
         }
     }
+    Ok(())
+}
+
+/// What is written where the one line of a race is refused for want of memory.
+const OF_NONE: &str = "pass 0\nrefused 10 OutOfMemory\npass 1\njournal 0\nreplay ok\n";
+
+/// Whether a race that ended so may have written this: all, or for want of memory a front.
+fn may_write(ended: Result<bool, RunFault>, written: &str) -> bool {
+    match ended {
+        Ok(legal) => legal && (written == OF_TWO || written == OF_NONE),
+        Err(RunFault::Memory) => OF_TWO.starts_with(written) || OF_NONE.starts_with(written),
+        Err(_) => false,
+    }
+}
+
+/// A request for memory that is refused is told as Memory, or by the line, over a writer that needs none.
+#[test]
+fn refused_memory(rt: HostRuntime) -> Result<(), Fail> {
+    let alloc = rt.alloc();
+    let mut written: Vec<u8> = match Vec::with_capacity(alloc, 256) {
+        Ok(room) => room,
+        Err(_) => Vec::with_capacity(alloc, 256)?,
+    };
+    let scripts = match scripts_of(alloc, &["new\n", ""]) {
+        Ok(scripts) => scripts,
+        Err(_) => scripts_of(alloc, &["new\n", ""])?,
+    };
+    let ended = race_on(&rt, scripts, 64, &OpenGate, &mut written);
+    assert!(rt; may_write(ended, str::from_utf8(&written)?));
     Ok(())
 }

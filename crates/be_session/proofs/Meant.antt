@@ -1,8 +1,9 @@
--- One operation more.
-use Rattle.std.proofs.Common.{ℕ, List, [], ◌∷◌, ◌++◌, ◌<◌, ◌+◌, take, length, get_or, subst, sym}
+-- One operation more, or one that means none.
+use Rattle.std.proofs.Common.{◌≡◌, ℕ, List, [], ◌∷◌, ◌++◌, ◌<◌, ◌+◌, take, length, get_or, inl, inr, subst, sym}
 use Rattle.std.proofs.lemmas.List.{take_more}
 use Rattle.be_volume.specs.declared.ops.Op.{Op}
-use Rattle.be_session.specs.Operations.{AreMeant, IsMeantBy}
+use Rattle.be_session.specs.Operations.{AreMeant, IsFirstMisspelt, IsMeantBy, IsMisspelt, IsMisspeltAt, IsWriteCount}
+use Rattle.be_session.specs.declared.faults.Fault.{Fault}
 use Rattle.be_session.specs.declared.lists.Operation.{Operation}
 
 pub meant_more : (os : List Operation) (o : Operation) (bytes : List ℕ) (ops : List Op) (op : Op) → AreMeant os bytes ops → IsMeantBy o bytes op
@@ -16,3 +17,9 @@ pub meant_next : (os : List Operation) (i : ℕ) (d : Operation) (bytes : List �
     → AreMeant (take i os) bytes ops → IsMeantBy (get_or os i d) bytes op → AreMeant (take (i + 1) os) bytes (ops ++ op ∷ [])
 meant_next os i d bytes ops op low are is =
     subst (λ xs. AreMeant xs bytes (ops ++ op ∷ [])) (sym (take_more os i d low)) (meant_more (take i os) (get_or os i d) bytes ops op are is)
+
+-- those before it mean some, and it means none: its place is told
+pub misspelt_here : (os : List Operation) (i : ℕ) (d : Operation) (bytes : List ℕ) (ops : List Op) (e : Fault) (place : ℕ) → place ≡ i → IsWriteCount (length os) → i < length os
+    → AreMeant (take i os) bytes ops → IsMisspeltAt (get_or os i d) bytes e → IsMisspelt os bytes e place
+misspelt_here os i d bytes ops e place is fits low are why =
+    inr (fits, subst (IsFirstMisspelt os bytes e) (sym is) (inl (get_or os i d, ops, take_more os i d low, are, why)))

@@ -1,6 +1,6 @@
 -- The numbers of faults.
-use Rattle.std.specs.Prelude.{ℕ}
-use Rattle.be_value.specs.Refusal.{refusal_number}
+use Rattle.std.specs.Prelude.{ℕ, unwrap_or}
+use Rattle.be_value.specs.Refusal.{carried, refusal_number}
 use Rattle.be_session.specs.declared.faults.Fault.{Fault}
 use Rattle.be_session.specs.declared.faults.Fault.TheVariants.{NotPinned, AlreadyPinned, NoPass, BadCount}
 use Rattle.be_session.specs.declared.faults.Fault.TheVariants.{NotUtf8, NoOperation, NoKind, NoValue, BadPart, NoItem, Refused}
@@ -18,3 +18,17 @@ fault_code NoValue = 73
 fault_code BadPart = 74
 fault_code NoItem = 75
 fault_code (Refused e) = refusal_number e
+
+-- the number that goes with a fault: what a refusal carries, and 0 where there is none
+abbrev pub fault_carried : Fault → ℕ
+fault_carried NotPinned = 0
+fault_carried AlreadyPinned = 0
+fault_carried NoPass = 0
+fault_carried BadCount = 0
+fault_carried NotUtf8 = 0
+fault_carried NoOperation = 0
+fault_carried NoKind = 0
+fault_carried NoValue = 0
+fault_carried BadPart = 0
+fault_carried NoItem = 0
+fault_carried (Refused e) = unwrap_or (carried e) 0

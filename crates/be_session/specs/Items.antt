@@ -1,5 +1,5 @@
 -- What a predicate in reverse Polish order means, as other languages spell it.
-use Rattle.std.specs.Prelude.{◌≡◌, ◌⊎◌, ◌+◌, ◌++◌, ◌<◌, ℕ, true, false, List, [], ◌∷◌, length, take, IsUtf8, Ok, Err}
+use Rattle.std.specs.Prelude.{◌≡◌, ◌⊎◌, ◌+◌, ◌++◌, ◌<◌, ◌==◌, ℕ, true, false, if◌then◌else◌, List, [], ◌∷◌, length, take, IsUtf8, Ok, Err}
 use Rattle.std.specs.Fmt.{decimal, signed_decimal}
 use Rattle.std.specs.Int.{cast_signed, w64}
 use Rattle.be_query.specs.Grammar.{Formula}
@@ -8,6 +8,7 @@ use Rattle.be_query.specs.View.{IsMemory}
 use Rattle.be_query.specs.declared.tree.Cmp.TheVariants.{Eq, Ne, Lt, Le, Gt, Ge}
 use Rattle.be_value.specs.declared.refusals.Refusal.{Refusal}
 use Rattle.be_value.specs.declared.refusals.Refusal.TheVariants.{OutOfMemory}
+use Rattle.be_session.specs.Fault.{fault_carried, fault_code}
 use Rattle.be_session.specs.Meaning.{IsNoName}
 use Rattle.be_session.specs.Operations.{part}
 use Rattle.be_session.specs.declared.faults.Fault.{Fault}
@@ -52,18 +53,26 @@ AreItemsMeant (s ∷ ss) bytes (item ∷ items) = IsItemMeant s.kind s.number (p
 abbrev pub IsItemMisspelt : PredicateItem → List ℕ → Fault → Type 0
 IsItemMisspelt s bytes e = ((e ≡ BadPart) × (length bytes < s.at + s.length)) ⊎ IsNoItem s.kind (part bytes s.at s.length) e
 
--- why these mean no items: the one behind the first n, which mean some, means none, or a growth was refused
-abbrev pub AreItemsMisspelt : List PredicateItem → List ℕ → Fault → Type 0
-AreItemsMisspelt ss bytes e =
-    ((n : ℕ) × (s : PredicateItem) × (items : List Item) × (take (n + 1) ss ≡ take n ss ++ s ∷ []) × AreItemsMeant (take n ss) bytes items × IsItemMisspelt s bytes e)
-    ⊎ (e ≡ Refused OutOfMemory)
+-- what is told of the fault of the item at a place: the place, but 0 where memory was refused
+abbrev pub item_told : Fault → ℕ → ℕ
+item_told e n = if fault_code e == 10 then 0 else n
+
+-- Why these mean no items, and the place that is told of it: the one behind the first n, which mean some, means none; or memory was
+-- refused, and 0 is told.
+abbrev pub AreItemsMisspelt : List PredicateItem → List ℕ → Fault → ℕ → Type 0
+AreItemsMisspelt ss bytes e place =
+    ((n : ℕ) × (place ≡ item_told e n) × (s : PredicateItem) × (items : List Item) × (take (n + 1) ss ≡ take n ss ++ s ∷ [])
+    × AreItemsMeant (take n ss) bytes items × IsItemMisspelt s bytes e)
+    ⊎ ((e ≡ Refused OutOfMemory) × (place ≡ 0))
 
 -- the query that the items which are spelled here build
 abbrev pub IsBuilt : List PredicateItem → List ℕ → Formula → Type 0
 IsBuilt ss bytes query = (items : List Item) × AreItemsMeant ss bytes items × (rpn items ≡ Ok query)
 
--- why there is none: an item is misspelt, or the items build none, or a growth was refused
-abbrev pub IsUnbuilt : List PredicateItem → List ℕ → Fault → Type 0
-IsUnbuilt ss bytes e =
-    AreItemsMisspelt ss bytes e
-    ⊎ ((items : List Item) × AreItemsMeant ss bytes items × (why : Refusal) × (e ≡ Refused why) × IsMemory why (rpn items ≡ Err why))
+-- Why there is none, and the place that is told of it: an item is misspelt; or the items build none, and what that refusal carries is
+-- told; or memory was refused.
+abbrev pub IsUnbuilt : List PredicateItem → List ℕ → Fault → ℕ → Type 0
+IsUnbuilt ss bytes e place =
+    AreItemsMisspelt ss bytes e place
+    ⊎ ((items : List Item) × AreItemsMeant ss bytes items × (why : Refusal) × (e ≡ Refused why) × (place ≡ fault_carried (Refused why))
+    × IsMemory why (rpn items ≡ Err why))

@@ -7,7 +7,7 @@ use Rattle.be_volume.specs.declared.ops.Op.{Op}
 use Rattle.be_volume.specs.declared.ops.Op.TheVariants.{Set, MkIndex}
 use Rattle.be_session.specs.Meaning.{IsMeant, IsNoOperation}
 use Rattle.be_session.specs.declared.faults.Fault.{Fault}
-use Rattle.be_session.specs.declared.faults.Fault.TheVariants.{BadPart, Refused}
+use Rattle.be_session.specs.declared.faults.Fault.TheVariants.{BadCount, BadPart, Refused}
 use Rattle.be_session.specs.declared.lists.Operation.{Operation}
 
 -- so many of the bytes, from this one on
@@ -63,8 +63,23 @@ IsMisspeltAt o bytes e =
     ((e ≡ BadPart) × ((length bytes < o.name_at + o.name_length) ⊎ (length bytes < o.value_at + o.value_length)))
     ⊎ IsNoOperation o.kind (part bytes o.name_at o.name_length) o.code o.number (part bytes o.value_at o.value_length) e
 
--- why these mean no operations: the one behind the first n, which mean some, means none, or a growth was refused
-abbrev pub IsMisspelt : List Operation → List ℕ → Fault → Type 0
-IsMisspelt os bytes e =
-    ((n : ℕ) × (o : Operation) × (ops : List Op) × (take (n + 1) os ≡ take n os ++ o ∷ []) × AreMeant (take n os) bytes ops × IsMisspeltAt o bytes e)
-    ⊎ (e ≡ Refused OutOfMemory)
+-- so many operations make a write
+abbrev pub IsWriteCount : ℕ → Type 0
+IsWriteCount n = (1 ≤ n) × (n ≤ 64)
+
+-- so many don't
+abbrev pub IsBadCount : ℕ → Type 0
+IsBadCount n = (n ≡ 0) ⊎ (64 < n)
+
+-- the first of these that means no operation stands at this place, counted from 0, and this is why; or memory was refused, and 0 is told
+abbrev pub IsFirstMisspelt : List Operation → List ℕ → Fault → ℕ → Type 0
+IsFirstMisspelt os bytes e place =
+    ((o : Operation) × (ops : List Op) × (take (place + 1) os ≡ take place os ++ o ∷ []) × AreMeant (take place os) bytes ops × IsMisspeltAt o bytes e)
+    ⊎ ((e ≡ Refused OutOfMemory) × (place ≡ 0))
+
+-- Why these mean no write, and the place that is told of it: how many there are decides before anything else is looked at, and 0 is told;
+-- else it is the first that means no operation.
+abbrev pub IsMisspelt : List Operation → List ℕ → Fault → ℕ → Type 0
+IsMisspelt os bytes e place =
+    (IsBadCount (length os) × (e ≡ BadCount) × (place ≡ 0))
+    ⊎ (IsWriteCount (length os) × IsFirstMisspelt os bytes e place)

@@ -1,6 +1,6 @@
 //! Why a call of a session did nothing.
 ghost use Rattle.std.specs.Prelude.{◌≡◌};
-ghost use Rattle.be_session.specs.Fault.{fault_code};
+ghost use Rattle.be_session.specs.Fault.{fault_carried, fault_code};
 ghost use Rattle.be_session.specs.declared.faults.Fault.TheVariants.{Refused};
 ghost use Rattle.be_value.specs.declared.refusals.Refusal.TheVariants.{OutOfMemory};
 
@@ -50,6 +50,25 @@ impl Fault {
             Fault::NoItem => 75,
         }
     }
+
+    /// The number that goes with the fault: what its refusal carries, as the pass that is writing or the byte of a text, and 0
+    /// where it carries nothing.
+    pub fn carried(&self) -> u64
+        ensures { result ≡ fault_carried self.now }
+    {
+        match self {
+            Fault::Refused(refusal) => refusal.carried().unwrap_or(0),
+            _ => 0,
+        }
+    }
+}
+
+/// Why a list of operations or items means nothing.
+#[derive(Clone, Copy, Debug, PartialEq, Eq)]
+pub struct ListFault {
+    pub fault: Fault,
+    /// Which of the list, from 0, has the fault. Where the list has it as a whole, this is what the fault carries, or 0.
+    pub place: u64,
 }
 
 impl From<Refusal> for Fault {
@@ -73,5 +92,50 @@ impl From<AllocError> for Fault {
 
     fn from(_failed: AllocError) -> Fault {
         Fault::Refused(Refusal::OutOfMemory)
+    }
+}
+
+impl From<Fault> for ListFault {
+    ghost from_gives = { λ fault e. (e.fault ≡ fault) × (e.place ≡ fault_carried fault) };
+
+    fn from(fault: Fault) -> ListFault {
+        ListFault {
+            fault,
+            place: fault.carried(),
+        }
+    }
+}
+
+impl From<Refusal> for ListFault {
+    ghost from_gives = { λ refusal e. (e.fault ≡ Refused refusal) × (e.place ≡ fault_carried (Refused refusal)) };
+
+    fn from(refusal: Refusal) -> ListFault {
+        let fault = Fault::Refused(refusal);
+        ListFault {
+            fault,
+            place: fault.carried(),
+        }
+    }
+}
+
+impl<T: Drop> From<AllocFailed<T>> for ListFault {
+    ghost from_gives = { λ _ e. (e.fault ≡ Refused OutOfMemory) × (e.place ≡ 0) };
+
+    fn from(_failed: AllocFailed<T>) -> ListFault {
+        ListFault {
+            fault: Fault::Refused(Refusal::OutOfMemory),
+            place: 0,
+        }
+    }
+}
+
+impl From<AllocError> for ListFault {
+    ghost from_gives = { λ _ e. (e.fault ≡ Refused OutOfMemory) × (e.place ≡ 0) };
+
+    fn from(_failed: AllocError) -> ListFault {
+        ListFault {
+            fault: Fault::Refused(Refusal::OutOfMemory),
+            place: 0,
+        }
     }
 }

@@ -2,12 +2,13 @@
 ghost use Rattle.std.specs.Prelude.{◌≡◌, ◌<◌, ℕ, List, IfOk, IfErr, map};
 ghost use Rattle.be_query.specs.Rpn.{item_of};
 ghost use Rattle.be_session.specs.Items.{AreItemsMeant, AreItemsMisspelt, IsBuilt, IsItemMeant, IsItemMisspelt, IsNoItem, IsUnbuilt};
+ghost use Rattle.be_session.specs.Items.{item_told};
 ghost use Rattle.be_session.specs.Operations.{part};
 ghost use Rattle.be_session.specs.declared.faults.Fault.TheVariants.{NoItem};
 
-use crate::Fault;
 use crate::lists::part;
 use crate::meanings::{name, text};
+use crate::{Fault, ListFault};
 use be_store::{Item, Query, from_rpn};
 use std::alloc::Global;
 
@@ -69,27 +70,42 @@ fn one_item(alloc: Global, spelled: &PredicateItem, bytes: &[u8]) -> Result<Item
     }
 }
 
-fn items(alloc: Global, spelled: &[PredicateItem], bytes: &[u8]) -> Result<Vec<Item>, Fault>
+/// What is told of the fault of the item at this place.
+fn told(fault: &Fault, place: usize) -> u64
+    ensures { result ≡ item_told fault.now place }
+{
+    if fault.code() == 10 {
+        return 0;
+    }
+    place as u64
+}
+
+fn items(alloc: Global, spelled: &[PredicateItem], bytes: &[u8]) -> Result<Vec<Item>, ListFault>
     ensures ok { IfOk result (λ items. AreItemsMeant spelled.now bytes.now (map item_of items.items)) }
-    ensures err { IfErr result (λ e. AreItemsMisspelt spelled.now bytes.now e) }
+    ensures err { IfErr result (λ e. AreItemsMisspelt spelled.now bytes.now e.fault e.place) }
 {
     let mut items = Vec::new(alloc);
     for next in spelled {
-        let item = one_item(alloc, next, bytes)?;
-        items.push(item)?;
+        match one_item(alloc, next, bytes) {
+            Ok(item) => items.push(item)?,
+            Err(fault) => {
+                let place = told(&fault, items.len());
+                return Err(ListFault { fault, place });
+            }
+        }
     }
     Ok(items)
 }
 
-/// The query that items in reverse Polish order build. A fault of spelling is that of the first item that has one; else it
-/// is as of `be_query::from_rpn`.
+/// The query that items in reverse Polish order build. A fault of spelling is that of the first item that has one, with its
+/// place; else it is as of `be_query::from_rpn`, with the item that it names.
 pub fn query_of_items(
     alloc: Global,
     spelled: &[PredicateItem],
     bytes: &[u8],
-) -> Result<Query, Fault>
+) -> Result<Query, ListFault>
     ensures ok { IfOk result (λ query. IsBuilt spelled.now bytes.now query) }
-    ensures err { IfErr result (λ e. IsUnbuilt spelled.now bytes.now e) }
+    ensures err { IfErr result (λ e. IsUnbuilt spelled.now bytes.now e.fault e.place) }
 {
     let items = items(alloc, spelled, bytes)?;
     Ok(from_rpn(alloc, items.as_slice())?)

@@ -16,7 +16,7 @@ mod session;
 mod shared;
 mod spellings;
 
-pub use faults::Fault;
+pub use faults::{Fault, ListFault};
 pub use items::{PredicateItem, query_of_items};
 pub use lists::{Operation, operations};
 pub use meanings::{kind_of_code, name, operation, spelled, value};

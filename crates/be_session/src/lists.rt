@@ -1,8 +1,8 @@
 //! Lists of operations as other languages spell them.
 ghost use Rattle.std.specs.Prelude.{◌≡◌, ◌+◌, ◌<◌, ◌≤◌, IfOk, IfErr, IfSome, IfNone, length};
-ghost use Rattle.be_session.specs.Operations.{AreMeant, IsMisspelt, IsMisspeltAt, IsMeantBy, part};
+ghost use Rattle.be_session.specs.Operations.{AreMeant, IsMisspelt, IsMisspeltAt, IsMeantBy, IsWriteCount, part};
 
-use crate::{Fault, operation};
+use crate::{Fault, ListFault, operation};
 use be_store::Op;
 use std::alloc::Global;
 
@@ -57,16 +57,27 @@ fn one(spelled: &Operation, bytes: &[u8]) -> Result<Op, Fault>
     )
 }
 
-/// The operations that are spelled here, in their order. A fault is that of the first that is misspelt, or OutOfMemory.
-pub fn operations(alloc: Global, spelled: &[Operation], bytes: &[u8]) -> Result<Vec<Op>, Fault>
+/// The 1 to 64 operations that are spelled here, in their order. BadCount where there are more or none: then no memory is taken,
+/// and nothing is read. Else a fault is that of the first that is misspelt, with its place, or OutOfMemory.
+pub fn operations(alloc: Global, spelled: &[Operation], bytes: &[u8]) -> Result<Vec<Op>, ListFault>
+    ensures count { IfOk result (λ _. IsWriteCount (length spelled.now)) }
     ensures ok { IfOk result (λ ops. AreMeant spelled.now bytes.now ops.items) }
-    ensures err { IfErr result (λ e. IsMisspelt spelled.now bytes.now e) }
+    ensures err { IfErr result (λ e. IsMisspelt spelled.now bytes.now e.fault e.place) }
 {
+    if spelled.is_empty() || 64 < spelled.len() {
+        return Err(ListFault {
+            fault: Fault::BadCount,
+            place: 0,
+        });
+    }
     let mut ops = Vec::with_capacity(alloc, spelled.len())?;
     for next in spelled {
         match one(next, bytes) {
             Ok(op) => ops.push_reserved(op),
-            Err(fault) => return Err(fault),
+            Err(fault) => {
+                let place = ops.len() as u64;
+                return Err(ListFault { fault, place });
+            }
         }
     }
     Ok(ops)

@@ -4,17 +4,15 @@ ghost use Rattle.be_query.specs.Grammar.{Formula, IsTextOf};
 ghost use Rattle.be_session.specs.Items.{IsBuilt, IsUnbuilt};
 ghost use Rattle.be_session.specs.Prepared.{IsUnasked};
 ghost use Rattle.be_session.specs.Sitting.{AtPin, IsNoQuery, IsUnrefreshed, ReadAnswers};
-ghost use Rattle.be_session.specs.declared.faults.Fault.TheVariants.{Refused};
 ghost use Rattle.be_store.specs.Live.{Refreshes};
 ghost use Rattle.be_store.specs.Passes.{HasRead, IsPinnedTo, volume_pinned};
 ghost use Rattle.be_table.specs.Seats.{pinned_number};
-ghost use Rattle.be_value.specs.declared.refusals.Refusal.TheVariants.{OutOfMemory};
 ghost use Rattle.be_volume.specs.Query.{scan};
 
 use crate::session::{Session, query_of};
-use crate::{Fault, PredicateItem, query_of_items};
-use be_store::{Live, Query, Refusal, Updates};
-use std::alloc::Global;
+use crate::{Fault, ListFault, PredicateItem, query_of_items};
+use be_store::{Live, Query, Updates};
+use std::alloc::{AllocError, Global};
 use std::marker::Model;
 
 /// A query that is parsed once and kept, with its answer at the last refresh, and with which nodes came and which went then.
@@ -82,9 +80,8 @@ impl Prepared {
     }
 }
 
-fn in_box(alloc: Global, query: Query) -> Result<Box<Prepared, Global>, Fault>
-    ensures ok { IfOk result (λ p. IsUnasked query p.value) }
-    ensures err { IfErr result (λ e. e ≡ Refused OutOfMemory) }
+fn in_box(alloc: Global, query: Query) -> Result<Box<Prepared, Global>, AllocError>
+    ensures { IfOk result (λ p. IsUnasked query p.value) }
 {
     let prepared = Prepared {
         live: Live::new(alloc, query),
@@ -95,7 +92,7 @@ fn in_box(alloc: Global, query: Query) -> Result<Box<Prepared, Global>, Fault>
     };
     match Box::new(alloc, prepared) {
         Ok(prepared) => Ok(prepared),
-        Err(_) => Err(Fault::Refused(Refusal::OutOfMemory)),
+        Err(_) => Err(AllocError),
     }
 }
 
@@ -113,9 +110,9 @@ pub fn prepare_items(
     alloc: Global,
     spelled: &[PredicateItem],
     bytes: &[u8],
-) -> Result<Box<Prepared, Global>, Fault>
+) -> Result<Box<Prepared, Global>, ListFault>
     ensures ok { IfOk result (λ p. (query : Formula) × IsBuilt spelled.now bytes.now query × IsUnasked query p.value) }
-    ensures err { IfErr result (λ e. IsUnbuilt spelled.now bytes.now e) }
+    ensures err { IfErr result (λ e. IsUnbuilt spelled.now bytes.now e.fault e.place) }
 {
     let query = query_of_items(alloc, spelled, bytes)?;
     Ok(in_box(alloc, query)?)

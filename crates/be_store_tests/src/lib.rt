@@ -10,4 +10,6 @@ mod races;
 #[cfg(test)]
 mod room;
 #[cfg(test)]
+mod sizes;
+#[cfg(test)]
 mod tests;

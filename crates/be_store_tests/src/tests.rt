@@ -23,16 +23,17 @@ fn count_passes(alloc: Global, pages: u64, passes: u64, commits: u64) -> Result<
     Ok(dealt.len() as u64)
 }
 
-/// Limits that are out of range, and the least and the greatest ones.
+/// Limits that are out of range, the greatest ones, and each number of passes.
 #[test]
 fn open_limits(rt: HostRuntime) -> Result<(), Fail> {
     for (pages, passes, commits) in OUTSIDE_LIMITS {
         let refused = count_passes(rt.alloc(), pages, passes, commits);
         assert_eq!(rt; refused, Err(Refusal::BadLimits));
     }
-    for (pages, passes, commits) in [(8, 1, 1), (16384, 64, 4_294_967_295)] {
-        let dealt = count_passes(rt.alloc(), pages, passes, commits);
-        assert_eq!(rt; dealt, Ok(passes));
+    let dealt = count_passes(rt.alloc(), 16384, 64, 4_294_967_295);
+    assert_eq!(rt; dealt, Ok(64));
+    for passes in 1..=64 {
+        assert_eq!(rt; count_passes(rt.alloc(), 8, passes, 1), Ok(passes));
     }
     Ok(())
 }
@@ -114,14 +115,16 @@ fn after_63(alloc: Global, last: &str) -> Result<String, AllocError> {
     Ok(text)
 }
 
-/// A list of 64 that is accepted by pass 1, and one that is refused by pass 0, which stays pinned; and what comes between
-/// and after.
+/// Three writes by pass 1, and a pin; then a list of 64 that is accepted by pass 1, and one that is refused by pass 0, which
+/// stays pinned; and what comes between and after.
 fn lists_of_64(alloc: Global) -> Result<String, AllocError> {
     let accepted = after_63(alloc, "set 1 k LONG 64")?;
     let refused = after_63(alloc, "drop 9")?;
     let oks = times(alloc, " / ok", 64)?;
     format!(in alloc;
-        "1 {accepted} => commit 4{oks}
+        "1 new / 1 mkindex k LONG / 1 set 1 k LONG 0 => commit 1 / node 1 / commit 2 / ok / commit 3 / ok
+0 pin => pin 3
+1 {accepted} => commit 4{oks}
 0 query k==0 / 0 unpin / 0 pin / 0 query k==64 => pin 3 / nodes 1 / ok / pin 4 / pin 4 / nodes 1
 0 {refused} => refused 2 NoNode
 1 pin / 1 query k==64 => pin 4 / pin 4 / nodes 1"
@@ -132,20 +135,23 @@ const ZERO: &str =
     "0 new / 0 mkindex k LONG / 0 set 1 k LONG 0 => commit 1 / node 1 / commit 2 / ok / commit 3 / ok
 1 pin => pin 3";
 
+/// The same, told again where memory is refused.
+fn lines_of_64(alloc: Global) -> Result<String, AllocError> {
+    match lists_of_64(alloc) {
+        Err(_) => lists_of_64(alloc),
+        lines => lines,
+    }
+}
+
 /// The list that is accepted is by pass 1, and the one that is refused by pass 0, which stays pinned.
 #[test]
 fn batches_in_store(rt: HostRuntime) -> Result<(), Fail> {
-    let alloc = rt.alloc();
-    let zero =
-        "1 new / 1 mkindex k LONG / 1 set 1 k LONG 0 => commit 1 / node 1 / commit 2 / ok / commit 3 / ok
-0 pin => pin 3";
-    let lists = match lists_of_64(alloc) {
-        Err(_) => lists_of_64(alloc)?,
-        Ok(lists) => lists,
-    };
-    let mut room = for_two(alloc, 32, 100)?;
-    check_lines(alloc, &mut room, zero)?;
-    check_lines(alloc, &mut room, lists.as_str())
+    let lines = lines_of_64(rt.alloc())?;
+    check_lines(
+        rt.alloc(),
+        &mut for_two(rt.alloc(), 32, 100)?,
+        lines.as_str(),
+    )
 }
 
 /// Sets the first 64 attributes of node 1 by number.
@@ -164,15 +170,24 @@ fn index_most(room: &mut Room) -> Result<(), Refusal> {
     Ok(())
 }
 
+/// Makes node 1, its 64 attributes and 32 indices.
+fn make_most(room: &mut Room) -> Result<(), Refusal> {
+    room.write(Op::New)?;
+    set_most(room)?;
+    index_most(room)
+}
+
+/// Writes them, and lists them.
+fn list_most(alloc: Global, room: &mut Room) -> Result<(), Fail> {
+    make_most(room)?;
+    let lines = "0 pin / head attrs 1 / head indices => pin 97 / attrs 64 / indices 32";
+    check_lines(alloc, room, lines)
+}
+
 /// The most attributes of a node and the most indices are listed.
 #[test]
 fn longest_lists(rt: HostRuntime) -> Result<(), Fail> {
-    let mut room = for_one(rt.alloc(), 256, 100)?;
-    room.write(Op::New)?;
-    set_most(&mut room)?;
-    index_most(&mut room)?;
-    let lines = "0 pin / head attrs 1 / head indices => pin 97 / attrs 64 / indices 32";
-    check_lines(rt.alloc(), &mut room, lines)
+    list_most(rt.alloc(), &mut for_one(rt.alloc(), 256, 100)?)
 }
 
 /// Sets k of node 1 by pass 0.
@@ -201,15 +216,19 @@ fn fill(alloc: Global, room: &mut Room, lines: &str) -> Result<i32, Fail> {
     Ok(first.unwrap_or(500))
 }
 
-/// The first value that found no page in a pool of so many, which the pinned version outlives; the write that follows
-/// the pin is accepted.
-fn first_full(alloc: Global, pages: u64) -> Result<i32, Fail> {
-    let mut room = for_two(alloc, pages, 1000)?;
-    check_lines(alloc, &mut room, ZERO)?;
-    let first = fill(alloc, &mut room, "1 query k==0 => pin 3 / nodes 1")?;
-    check_lines(alloc, &mut room, "1 unpin => ok")?;
-    set(&mut room, 0)?;
+/// The first value that found no page in the room, which the pinned version outlives; the write that follows the pin is
+/// accepted.
+fn fill_pinned(alloc: Global, room: &mut Room) -> Result<i32, Fail> {
+    check_lines(alloc, room, ZERO)?;
+    let first = fill(alloc, room, "1 query k==0 => pin 3 / nodes 1")?;
+    check_lines(alloc, room, "1 unpin => ok")?;
+    set(room, 0)?;
     Ok(first)
+}
+
+/// The same in a pool of so many pages.
+fn first_full(alloc: Global, pages: u64) -> Result<i32, Fail> {
+    fill_pinned(alloc, &mut for_two(alloc, pages, 1000)?)
 }
 
 /// In a small pool the writes under a pin end with Full, and the pin reads what it read.
@@ -241,6 +260,17 @@ fn make_nodes(room: &mut Room) -> Option<u64> {
     made
 }
 
+/// A list of several operations that finds no page is refused by Full, though there is memory; once the pin is gone it is
+/// accepted.
+#[test]
+fn list_at_full(rt: HostRuntime) -> Result<(), Fail> {
+    let lines =
+        "1 pin / 0 new / 0 new / 0 new => pin 0 / commit 1 / node 1 / commit 2 / node 2 / commit 3 / node 3
+0 new;new / 0 drop 1;new;new / 0 new;drop 9 => refused 11 Full 0 / refused 11 Full 0 / refused 2 NoNode
+1 unpin / 0 new;new => ok / commit 4 / node 4 / node 5";
+    check_lines(rt.alloc(), &mut for_two(rt.alloc(), 8, 100)?, lines)
+}
+
 /// What is refused and read of a full pool with so many nodes.
 fn full_lines(alloc: Global, made: u64) -> Result<String, AllocError> {
     format!(in alloc;
@@ -249,42 +279,53 @@ fn full_lines(alloc: Global, made: u64) -> Result<String, AllocError> {
     )
 }
 
-/// In the smallest pool writes end with Full, of the number of nodes that were made. The volume's refusals, reads and the
-/// journal go on.
-#[test]
-fn smallest_pool(rt: HostRuntime) -> Result<(), Fail> {
-    let alloc = rt.alloc();
-    let mut room = for_one(alloc, 8, 100)?;
-    let made = make_nodes(&mut room).unwrap_or(0);
-    assert!(rt; made >= 13 && made < 37);
+fn check_full(alloc: Global, room: &mut Room, made: u64) -> Result<(), Fail> {
     let lines = match full_lines(alloc, made) {
         Err(_) => full_lines(alloc, made)?,
         Ok(lines) => lines,
     };
-    check_lines(alloc, &mut room, lines.as_str())?;
-    assert_eq!(rt; room.close(alloc)?, (made, true));
+    check_lines(alloc, room, lines.as_str())
+}
+
+/// Fills the room with nodes. How many there are.
+fn fill_with_nodes(alloc: Global, room: &mut Room) -> Result<u64, Fail> {
+    let made = make_nodes(room).unwrap_or(0);
+    check_full(alloc, room, made)?;
+    Ok(made)
+}
+
+/// In the smallest pool writes end with Full, of the number of nodes that were made. The volume's refusals, reads and the
+/// journal go on.
+#[test]
+fn smallest_pool(rt: HostRuntime) -> Result<(), Fail> {
+    let mut room = for_one(rt.alloc(), 8, 100)?;
+    let made = fill_with_nodes(rt.alloc(), &mut room)?;
+    assert!(rt; made >= 13 && made < 37);
+    assert_eq!(rt; room.close(rt.alloc()), Ok((made, true)));
     Ok(())
 }
 
-/// Sets k of node 1 to 1 to this. The last write's number.
-fn set_many(room: &mut Room, count: i32) -> Result<u64, Refusal> {
+/// Sets k of node 1 to 1 to 10,000. The last write's number.
+fn set_many(room: &mut Room) -> Result<u64, Refusal> {
     let mut last = 0;
-    for i in 1..=count {
+    for i in 1..=10_000 {
         last = set(room, i)?;
     }
     Ok(last)
 }
 
+fn write_many(alloc: Global, room: &mut Room) -> Result<u64, Fail> {
+    let lines =
+        "0 new / 0 mkindex k LONG / 0 set 1 k LONG 0 => commit 1 / node 1 / commit 2 / ok / commit 3 / ok";
+    check_lines(alloc, room, lines)?;
+    Ok(set_many(room)?)
+}
+
 /// Ten thousand writes go through a pool of 64 pages, where nobody is pinned.
 #[test]
 fn pages_reused(rt: HostRuntime) -> Result<(), Fail> {
-    let mut room = for_one(rt.alloc(), 64, 20_000)?;
-    check_lines(
-        rt.alloc(),
-        &mut room,
-        "0 new / 0 mkindex k LONG / 0 set 1 k LONG 0 => commit 1 / node 1 / commit 2 / ok / commit 3 / ok",
-    )?;
-    assert_eq!(rt; set_many(&mut room, 10_000)?, 10_003);
+    let last = write_many(rt.alloc(), &mut for_one(rt.alloc(), 64, 20_000)?)?;
+    assert_eq!(rt; last, 10_003);
     Ok(())
 }
 
@@ -297,21 +338,29 @@ fn number_lines(alloc: Global, number: i32) -> Result<String, AllocError> {
     )
 }
 
-/// A pass that is dropped while it is pinned keeps its pages for good, and the other one reads on.
-#[test]
-fn dropped_pass(rt: HostRuntime) -> Result<(), Fail> {
-    let alloc = rt.alloc();
-    let mut room = for_two(alloc, 64, 1000)?;
-    check_lines(alloc, &mut room, ZERO)?;
-    room.lose_second();
-    let first = fill(alloc, &mut room, "")?;
-    assert!(rt; first < 64);
-    let number = first.saturating_sub(1);
+fn check_number(alloc: Global, room: &mut Room, number: i32) -> Result<(), Fail> {
     let lines = match number_lines(alloc, number) {
         Err(_) => number_lines(alloc, number)?,
         Ok(lines) => lines,
     };
-    check_lines(alloc, &mut room, lines.as_str())
+    check_lines(alloc, room, lines.as_str())
+}
+
+/// The first value that found no page in the room once its pinned pass is dropped; the one before it is read.
+fn fill_alone(alloc: Global, room: &mut Room) -> Result<i32, Fail> {
+    check_lines(alloc, room, ZERO)?;
+    room.lose_second();
+    let first = fill(alloc, room, "")?;
+    check_number(alloc, room, first.saturating_sub(1))?;
+    Ok(first)
+}
+
+/// A pass that is dropped while it is pinned keeps its pages for good, and the other one reads on.
+#[test]
+fn dropped_pass(rt: HostRuntime) -> Result<(), Fail> {
+    let first = fill_alone(rt.alloc(), &mut for_two(rt.alloc(), 64, 1000)?)?;
+    assert!(rt; first < 64);
+    Ok(())
 }
 
 /// Two threads write, and the journal has each write of both once, in an order that is legal.

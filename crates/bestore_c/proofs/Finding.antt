@@ -1,13 +1,11 @@
 -- What a query's answer is to C.
-use Rattle.std.proofs.Common.{◌≡◌, ◌⊎◌, ℕ, List, length, Option, Some, None, Result, Ok, Err, inl, inr, ap, sym, subst, ◌∙◌}
-use Rattle.be_session.specs.Fault.{fault_code}
+use Rattle.std.proofs.Common.{◌≡◌, ◌⊎◌, ℕ, List, length, Option, Some, None, Result, Ok, Err, inl, inr, ap, sym, subst}
 use Rattle.be_session.specs.Sitting.{AtPin, ReadAnswers}
 use Rattle.be_session.specs.declared.faults.Fault.{Fault}
-use Rattle.be_session.specs.declared.faults.Fault.TheVariants.{NotPinned}
-use Rattle.be_value.specs.Refusal.{refusal_number}
+use Rattle.be_session.specs.declared.faults.Fault.TheVariants.{NotPinned, Refused}
 use Rattle.be_value.specs.declared.refusals.Refusal.{Refusal}
 use Rattle.be_value.specs.declared.refusals.Refusal.TheVariants.{OutOfMemory}
-use Rattle.bestore_c.specs.Calls.{PutsOutAtPin, PutsOutAnswer}
+use Rattle.bestore_c.specs.Calls.{PutsOutAtPin, PutsOutAnswer, Refuses}
 use Rattle.bestore_c.specs.Places.{over}
 
 -- an answer that was told
@@ -25,15 +23,17 @@ fault_in (Err e) = e
 
 -- a fault in place of one
 pub found_fault : {X : Type 0} (view : X → List ℕ) (pin : Option ℕ) (e : Fault) (meant : Result (List ℕ) Refusal) (places filled : List ℕ) (count code : ℕ)
-    → AtPin {X = X} pin (Err e) (ReadAnswers view (Err e) meant) → code ≡ fault_code e
+    → AtPin {X = X} pin (Err e) (ReadAnswers view (Err e) meant) → Refuses e count code
     → PutsOutAtPin pin meant places filled count code
-found_fault {X} view None e meant places filled count code pinned is = is ∙ ap (λ (r : Result X Fault). fault_code (fault_in r)) pinned
+found_fault {X} view None e meant places filled count code pinned is =
+    let same : e ≡ NotPinned = ap (λ (r : Result X Fault). fault_in r) pinned in
+    subst (λ f. Refuses f count code) same is
 found_fault {X} view (Some n) e meant places filled count code pinned is =
-    let coded : code ≡ refusal_number pinned.0 = is ∙ ap fault_code pinned.1 in
+    let refused : Refuses (Refused pinned.0) count code = subst (λ f. Refuses f count code) pinned.1 is in
     let known : (pinned.0 ≡ OutOfMemory) ⊎ (meant ≡ Err pinned.0) = pinned.2 in
     elim known [
-      | inl none ↦ inl (coded ∙ ap refusal_number none)
-      | inr told ↦ inr (subst (λ m. PutsOutAnswer m places filled count code) (sym told) coded)
+      | inl none ↦ inl (subst (λ why. Refuses (Refused why) count code) none refused)
+      | inr told ↦ inr (subst (λ m. PutsOutAnswer m places filled count code) (sym told) refused)
     ]
 
 -- the same of an answer that is known to be one or the other
@@ -46,6 +46,6 @@ found_ok {X} view pin answer x meant places filled count code is pinned =
 
 pub found_err : {X : Type 0} (view : X → List ℕ) (pin : Option ℕ) (answer : Result X Fault) (e : Fault) (meant : Result (List ℕ) Refusal)
     (places filled : List ℕ) (count code : ℕ)
-    → answer ≡ Err e → AtPin pin answer (ReadAnswers view answer meant) → code ≡ fault_code e → PutsOutAtPin pin meant places filled count code
+    → answer ≡ Err e → AtPin pin answer (ReadAnswers view answer meant) → Refuses e count code → PutsOutAtPin pin meant places filled count code
 found_err {X} view pin answer e meant places filled count code is pinned =
     found_fault view pin e meant places filled count code (subst (λ (a : Result X Fault). AtPin pin a (ReadAnswers view a meant)) is pinned)

@@ -9,7 +9,7 @@ use Rattle.bestore_c.specs.Calls.{Prepares}
 use Rattle.std.specs.Prelude.{is_some}
 
 -- its handle is closed, and stays so
-pub prepares_none : (is_meant : Formula → Type 0) (is_fault : Fault → Type 0) (o : Option PreparedQuery) (e : Fault) (code : ℕ) → is_some o ≡ false
-    → code ≡ fault_code e → is_fault e → Prepares is_meant is_fault o o code
-prepares_none is_meant is_fault None e code lacking is why = (e, is, why)
-prepares_none is_meant is_fault (Some q) e code lacking is why = absurd (true≢false lacking)
+pub prepares_none : (is_meant : Formula → Type 0) (is_fault : Fault → ℕ → Type 0) (o : Option PreparedQuery) (e : Fault) (place code : ℕ) → is_some o ≡ false
+    → code ≡ fault_code e → is_fault e place → Prepares is_meant is_fault o o place code
+prepares_none is_meant is_fault None e place code lacking is why = (e, is, why)
+prepares_none is_meant is_fault (Some q) e place code lacking is why = absurd (true≢false lacking)

@@ -3,14 +3,15 @@ use Rattle.std.specs.Prelude.{◌≡◌, ◌⊎◌, ℕ, ◌+◌, List, length, 
 use Rattle.std.specs.declared.result.Result.{Result}
 use Rattle.be_journal.specs.Journal.{IsLegal}
 use Rattle.be_query.specs.Grammar.{Formula, IsTextOf}
-use Rattle.be_session.specs.Fault.{fault_code}
+use Rattle.be_session.specs.Fault.{fault_carried, fault_code}
 use Rattle.be_session.specs.Items.{IsBuilt, IsUnbuilt}
 use Rattle.be_session.specs.Meaning.{HasNoMore, IsNoName, IsValueMeant}
-use Rattle.be_session.specs.Operations.{AreMeant, AreSpelled, IsMisspelt}
+use Rattle.be_session.specs.Operations.{AreMeant, AreSpelled, IsMisspelt, IsWriteCount}
 use Rattle.be_session.specs.Explained.{explanation_in}
 use Rattle.be_session.specs.Prepared.{IsUnasked, PreparedQuery}
 use Rattle.be_session.specs.Sitting.{IsHandedOut, IsNoQuery, IsOpened, IsUnrefreshed, Sitting}
 use Rattle.be_session.specs.declared.faults.Fault.{Fault}
+use Rattle.be_session.specs.declared.faults.Fault.TheVariants.{NotPinned, Refused}
 use Rattle.be_session.specs.declared.items.PredicateItem.{PredicateItem}
 use Rattle.be_session.specs.declared.lists.Operation.{Operation}
 use Rattle.be_store.specs.History.{Accepts, IsUntold, Learns, text_seen}
@@ -23,6 +24,7 @@ use Rattle.be_table.specs.declared.limits.Limits.{Limits}
 use Rattle.be_table.specs.declared.pass.Knowledge.{Knowledge}
 use Rattle.be_value.specs.Refusal.{refusal_number}
 use Rattle.be_value.specs.declared.refusals.Refusal.{Refusal}
+use Rattle.be_value.specs.declared.refusals.Refusal.TheVariants.{OutOfMemory}
 use Rattle.be_value.specs.declared.values.Value.{Value}
 use Rattle.be_volume.specs.Query.{scan}
 use Rattle.be_volume.specs.Reading.{attribute}
@@ -33,13 +35,21 @@ use Rattle.bestore_c.specs.declared.handle.Attribute.{Attribute}
 use Rattle.bestore_c.specs.declared.handle.Counts.{Counts}
 use Rattle.bestore_c.specs.declared.handle.UpdateCounts.{UpdateCounts}
 
--- A call of a handle that is closed leaves it closed and answers 64. One of a handle that is open leaves it open with a session
+-- A call of a handle that is closed leaves it closed and answers so. One of a handle that is open leaves it open with a session
 -- of the same store, with which as many passes wait, and what it makes of its session is this.
-abbrev pub Calls : Option Sitting → Option Sitting → ℕ → (Sitting → Sitting → Type 0) → Type 0
-Calls None None code does = code ≡ 64
-Calls None (Some t) code does = ⊥
-Calls (Some s) None code does = ⊥
-Calls (Some s) (Some t) code does = (t.store ≡ s.store) × (t.spare ≡ s.spare) × does s t
+abbrev pub Calls : Option Sitting → Option Sitting → Type 0 → (Sitting → Sitting → Type 0) → Type 0
+Calls None None closed does = closed
+Calls None (Some t) closed does = ⊥
+Calls (Some s) None closed does = ⊥
+Calls (Some s) (Some t) closed does = (t.store ≡ s.store) × (t.spare ≡ s.spare) × does s t
+
+-- what a call answers that puts out a number, where a handle is closed: 64, and 0 is put out
+abbrev pub IsClosed : ℕ → ℕ → Type 0
+IsClosed number code = (code ≡ 64) × (number ≡ 0)
+
+-- a fault is answered, and the number that is put out is what it carries
+abbrev pub Refuses : Fault → ℕ → ℕ → Type 0
+Refuses e number code = (code ≡ fault_code e) × (number ≡ fault_carried e)
 
 -- 64 of a handle that is closed, and 0 of one that is open
 abbrev pub AnswersWhetherOpen : {A : Type 0} → Option A → ℕ → Type 0
@@ -78,28 +88,29 @@ MovesHandle (Some s) None from to code = (code ≡ 0) × (from ≡ None) × (to 
 
 -- A write: what is spelled is misspelt, and then nothing has happened; or it means operations, which the session accepted, and
 -- the numbers of the new nodes and the length of the journal are put out, or which it did not write, for a reason of this kind.
+-- The number that is put out is the length, or the place of what is misspelt, or what the refusal carries.
 abbrev pub WritesSpelled : (Knowledge → Knowledge → List Op → Fault → Type 0) → Sitting → Sitting → List Operation → List ℕ → List ℕ → List ℕ → ℕ → ℕ → Type 0
-WritesSpelled is_unwritten s t spelled bytes places filled entries code =
-    ((e : Fault) × (code ≡ fault_code e) × IsMisspelt spelled bytes e × (t ≡ s))
-    ⊎ ((ops : List Op) × AreMeant spelled bytes ops ×
-    (((code ≡ 0) × (dones : List Done) × Accepts s.knows t.knows ops entries dones × (filled ≡ over (map node_of dones) places))
-    ⊎ ((e : Fault) × (code ≡ fault_code e) × is_unwritten s.knows t.knows ops e)))
+WritesSpelled is_unwritten s t spelled bytes places filled number code =
+    ((e : Fault) × (code ≡ fault_code e) × IsMisspelt spelled bytes e number × (t ≡ s))
+    ⊎ (IsWriteCount (length spelled) × (ops : List Op) × AreMeant spelled bytes ops ×
+    (((code ≡ 0) × (dones : List Done) × Accepts s.knows t.knows ops number dones × (filled ≡ over (map node_of dones) places))
+    ⊎ ((e : Fault) × Refuses e number code × is_unwritten s.knows t.knows ops e)))
 
 -- What a version answers, a list of nodes or of a text's bytes: how many they are, and as many of them as there are places; or
--- why there is no answer.
+-- why there is no answer, with what that carries.
 abbrev pub PutsOutAnswer : Result (List ℕ) Refusal → List ℕ → List ℕ → ℕ → ℕ → Type 0
 PutsOutAnswer (Ok nodes) places filled count code = (code ≡ 0) × (count ≡ length nodes) × (filled ≡ over nodes places)
-PutsOutAnswer (Err why) places filled count code = code ≡ refusal_number why
+PutsOutAnswer (Err why) places filled count code = Refuses (Refused why) count code
 
 -- what it answers in the pinned version, if there is a pin; 10 where a growth was refused
 abbrev pub PutsOutAtPin : Option ℕ → Result (List ℕ) Refusal → List ℕ → List ℕ → ℕ → ℕ → Type 0
-PutsOutAtPin None answer places filled count code = code ≡ 66
-PutsOutAtPin (Some n) answer places filled count code = (code ≡ 10) ⊎ PutsOutAnswer answer places filled count code
+PutsOutAtPin None answer places filled count code = Refuses NotPinned count code
+PutsOutAtPin (Some n) answer places filled count code = Refuses (Refused OutOfMemory) count code ⊎ PutsOutAnswer answer places filled count code
 
 -- A query by its text: the bytes are no query, and then nothing has happened; or they are one, and its answer is put out.
 abbrev pub Finds : Sitting → Sitting → List ℕ → List ℕ → List ℕ → ℕ → ℕ → Type 0
 Finds s t text places filled count code =
-    ((e : Fault) × (code ≡ fault_code e) × IsNoQuery text e × (t ≡ s))
+    ((e : Fault) × Refuses e count code × IsNoQuery text e × (t ≡ s))
     ⊎ ((query : Formula) × IsTextOf text query × HasRead s.knows t.knows
     × PutsOutAtPin (pinned_number s.knows.phase) (scan (volume_pinned s.knows) query) places filled count code)
 
@@ -107,14 +118,14 @@ Finds s t text places filled count code =
 -- what is said of it is put out.
 abbrev pub Explains : Sitting → Sitting → List ℕ → List ℕ → List ℕ → ℕ → ℕ → Type 0
 Explains s t text places filled count code =
-    ((e : Fault) × (code ≡ fault_code e) × IsNoQuery text e × (t ≡ s))
+    ((e : Fault) × Refuses e count code × IsNoQuery text e × (t ≡ s))
     ⊎ ((query : Formula) × IsTextOf text query × HasRead s.knows t.knows
     × PutsOutAtPin (pinned_number s.knows.phase) (explanation_in (volume_pinned s.knows) query) places filled count code)
 
 -- A query by its items: they are none, and then nothing has happened; or they build one, and its answer is put out.
 abbrev pub FindsBuilt : Sitting → Sitting → List PredicateItem → List ℕ → List ℕ → List ℕ → ℕ → ℕ → Type 0
 FindsBuilt s t spelled bytes places filled count code =
-    ((e : Fault) × (code ≡ fault_code e) × IsUnbuilt spelled bytes e × (t ≡ s))
+    ((e : Fault) × (code ≡ fault_code e) × IsUnbuilt spelled bytes e count × (t ≡ s))
     ⊎ ((query : Formula) × IsBuilt spelled bytes query × HasRead s.knows t.knows
     × PutsOutAtPin (pinned_number s.knows.phase) (scan (volume_pinned s.knows) query) places filled count code)
 
@@ -150,17 +161,21 @@ Listed makes None meant counts places filled byte_places bytes code = code ≡ 6
 Listed makes (Some n) (Err why) counts places filled byte_places bytes code = (code ≡ 10) ⊎ (code ≡ refusal_number why)
 Listed makes (Some n) (Ok list) counts places filled byte_places bytes code = IsPutOut (map makes list) counts places filled byte_places bytes code
 
+-- why a text is no query, and what that carries
+abbrev pub IsTextFault : List ℕ → Fault → ℕ → Type 0
+IsTextFault text e place = IsNoQuery text e × (place ≡ fault_carried e)
+
 -- A query is prepared: an open handle stays as it was and answers 65; a closed one holds a query that is meant here and was
--- never refreshed, or stays closed where this fault says why.
-abbrev pub Prepares : (Formula → Type 0) → (Fault → Type 0) → Option PreparedQuery → Option PreparedQuery → ℕ → Type 0
-Prepares is_meant is_fault (Some p) (Some q) code = (code ≡ 65) × (q ≡ p)
-Prepares is_meant is_fault (Some p) None code = ⊥
-Prepares is_meant is_fault None (Some q) code = (code ≡ 0) × (query : Formula) × is_meant query × IsUnasked query q
-Prepares is_meant is_fault None None code = (e : Fault) × (code ≡ fault_code e) × is_fault e
+-- never refreshed, or stays closed where this fault says why. The number that is put out goes with the fault, and else is 0.
+abbrev pub Prepares : (Formula → Type 0) → (Fault → ℕ → Type 0) → Option PreparedQuery → Option PreparedQuery → ℕ → ℕ → Type 0
+Prepares is_meant is_fault (Some p) (Some q) place code = (code ≡ 65) × (q ≡ p) × (place ≡ 0)
+Prepares is_meant is_fault (Some p) None place code = ⊥
+Prepares is_meant is_fault None (Some q) place code = (code ≡ 0) × (place ≡ 0) × (query : Formula) × is_meant query × IsUnasked query q
+Prepares is_meant is_fault None None place code = (e : Fault) × (code ≡ fault_code e) × is_fault e place
 
 -- A prepared query: its handle is closed, and then nothing has happened; or its answer in the pinned version is put out.
 abbrev pub FindsPrepared : Sitting → Sitting → Option PreparedQuery → List ℕ → List ℕ → ℕ → ℕ → Type 0
-FindsPrepared s t None places filled count code = (code ≡ 64) × (t ≡ s)
+FindsPrepared s t None places filled count code = IsClosed count code × (t ≡ s)
 FindsPrepared s t (Some p) places filled count code =
     HasRead s.knows t.knows × PutsOutAtPin (pinned_number s.knows.phase) (scan (volume_pinned s.knows) p.live.query) places filled count code
 
@@ -187,9 +202,9 @@ ShowsChanges (Some p) created_places created removed_places removed code =
     (code ≡ 0) × (created ≡ over p.came created_places) × (removed ≡ over p.went removed_places)
 
 -- The journal, as far as the pass has then seen it, is legal, and its text is told: how many bytes it has, and as many of them
--- as there are places; or why it isn't told.
+-- as there are places; or why it isn't told, with what that carries.
 abbrev pub TellsJournal : Sitting → Sitting → List ℕ → List ℕ → ℕ → ℕ → Type 0
 TellsJournal s t places filled count code =
     Learns s.knows t.knows × IsLegal (entries t.knows.seen)
     × (((code ≡ 0) × (count ≡ length (text_seen t.knows)) × (filled ≡ over (text_seen t.knows) places))
-    ⊎ ((why : Refusal) × (code ≡ refusal_number why) × IsUntold s.knows t.knows why))
+    ⊎ ((why : Refusal) × Refuses (Refused why) count code × IsUntold s.knows t.knows why))

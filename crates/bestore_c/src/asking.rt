@@ -12,16 +12,17 @@ ghost use Rattle.bestore_c.specs.Places.{over};
 
 use crate::handle::UpdateCounts;
 use crate::places::put;
+use crate::refusing::refuse;
 use be_session::{Fault, Prepared, Session};
 use std::alloc::Global;
 
-/// Puts out how many nodes a session found, and as many of them as there is room for. What that says of the version is known of
-/// what the session told.
+/// Puts out how many nodes a session found, and as many of them as there is room for; or what its fault carries. What that says of
+/// the version is known of what the session told.
 pub(crate) fn tell(answer: Result<Vec<u64>, Fault>, nodes: &mut [u64], count: &mut u64) -> u32
     ensures found { (pin : AnyOption ℕ) (meant : AnyResult (List ℕ) AnyRefusal)
         → AtPin pin answer (ReadAnswers (λ found. found.items) answer meant)
         → PutsOutAtPin pin meant nodes.old nodes.new count.new result }
-    ensures kept { (result ≡ 0) ⊎ ((count.new ≡ count.old) × (nodes.new ≡ nodes.old)) }
+    ensures kept { (result ≡ 0) ⊎ (nodes.new ≡ nodes.old) }
 {
     match answer {
         Ok(found) => {
@@ -29,7 +30,7 @@ pub(crate) fn tell(answer: Result<Vec<u64>, Fault>, nodes: &mut [u64], count: &m
             put(nodes, found.as_slice());
             0
         }
-        Err(fault) => fault.code(),
+        Err(fault) => refuse(fault, count),
     }
 }
 
@@ -47,14 +48,14 @@ pub(crate) fn tell_text(answer: Result<String, Fault>, bytes: &mut [u8], count: 
     ensures found { (pin : AnyOption ℕ) (meant : AnyResult (List ℕ) AnyRefusal)
         → AtPin pin answer (ReadAnswers string_bytes answer meant)
         → PutsOutAtPin pin meant bytes.old bytes.new count.new result }
-    ensures kept { (result ≡ 0) ⊎ ((count.new ≡ count.old) × (bytes.new ≡ bytes.old)) }
+    ensures kept { (result ≡ 0) ⊎ (bytes.new ≡ bytes.old) }
 {
     match answer {
         Ok(text) => {
             put_text(text.as_str(), bytes, count);
             0
         }
-        Err(fault) => fault.code(),
+        Err(fault) => refuse(fault, count),
     }
 }
 
@@ -70,7 +71,7 @@ pub(crate) fn find_prepared(
     ensures read { HasRead session.old.knows session.new.knows }
     ensures found { PutsOutAtPin (pinned_number session.old.knows.phase) (scan (volume_pinned session.old.knows) prepared.now.live.query)
         nodes.old nodes.new count.new result }
-    ensures kept { (result ≡ 0) ⊎ ((count.new ≡ count.old) × (nodes.new ≡ nodes.old)) }
+    ensures kept { (result ≡ 0) ⊎ (nodes.new ≡ nodes.old) }
 {
     let answer = prepared.find(alloc, session);
     tell(answer, nodes, count)

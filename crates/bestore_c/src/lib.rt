@@ -8,15 +8,16 @@ ghost use Rattle.std.specs.Prelude.{◌≡◌, ◌⊎◌, ◌+◌, None, Ok};
 ghost use Rattle.be_query.specs.Grammar.{IsTextOf};
 ghost use Rattle.be_session.specs.Items.{IsBuilt, IsUnbuilt};
 ghost use Rattle.be_session.specs.Operations.{makes, sets};
-ghost use Rattle.be_session.specs.Sitting.{HasMet, IsPinned, IsUnwritten, IsUnwrittenAtLast, IsNoQuery};
+ghost use Rattle.be_session.specs.Sitting.{HasMet, IsPinned, IsUnwritten, IsUnwrittenAtLast};
+ghost use Rattle.be_session.specs.declared.faults.Fault.TheVariants.{AlreadyPinned, NoPass};
 ghost use Rattle.be_store.specs.History.{Pins};
 ghost use Rattle.be_store.specs.Passes.{HasRead, volume_pinned};
 ghost use Rattle.be_table.specs.Seats.{pinned_number};
 ghost use Rattle.be_table.specs.Steps.{unpins};
 ghost use Rattle.be_table.specs.Trace.{with_history};
 ghost use Rattle.be_volume.specs.Reading.{attributes_at, index_kinds};
-ghost use Rattle.bestore_c.specs.Calls.{AnswersWhetherOpen, Calls, Explains, Finds, FindsBuilt, FindsPrepared, GivesAnother, Listed, MovesHandle, Opens};
-ghost use Rattle.bestore_c.specs.Calls.{Prepares, Reads, RefreshesPrepared, ShowsChanges, TellsJournal, WritesSpelled};
+ghost use Rattle.bestore_c.specs.Calls.{AnswersWhetherOpen, Calls, Explains, Finds, FindsBuilt, FindsPrepared, GivesAnother, IsClosed};
+ghost use Rattle.bestore_c.specs.Calls.{IsTextFault, Listed, MovesHandle, Opens, Prepares, Reads, RefreshesPrepared, Refuses, ShowsChanges, TellsJournal, WritesSpelled};
 
 mod asking;
 mod handle;
@@ -26,6 +27,7 @@ mod owned;
 mod owned_query;
 mod places;
 mod reading;
+mod refusing;
 #[cfg(test)]
 mod tests;
 
@@ -41,6 +43,7 @@ use owned::Owned;
 use owned_query::OwnedQuery;
 use places::{put, put_nodes};
 use reading::read;
+use refusing::{refuse, refuse_list};
 use std::alloc::Global;
 use std::mem;
 
@@ -54,6 +57,14 @@ const CLOSED: u32 = 64;
 
 /// The handle that is to be opened is open.
 const OPEN: u32 = 65;
+
+/// The version of the library: of 0.1.0 it is 1,000, a million for each first number and a thousand for each second.
+#[unsafe(no_mangle)]
+pub extern "C" fn bes_version() -> u32
+    ensures { result ≡ 1000 }
+{
+    1000
+}
 
 /// Opens a store, and the handle as its first pass.
 #[unsafe(no_mangle)]
@@ -149,11 +160,11 @@ pub extern "C" fn bes_close(alloc: Global, pass: &mut Handle) -> u32
 /// Meets a pass that was given back: both have then seen what either had. Puts out how much that is.
 #[unsafe(no_mangle)]
 pub extern "C" fn bes_meet(pass: &mut Handle, seen: &mut u64) -> u32
-    ensures pass { Calls pass.old.owned.value pass.new.owned.value result
-        (λ s t. ((result ≡ 0) × HasMet s.store s.knows t.knows seen.new) ⊎ ((result ≡ 68) × (t ≡ s))) }
-    ensures kept { (result ≡ 0) ⊎ (seen.new ≡ seen.old) }
+    ensures pass { Calls pass.old.owned.value pass.new.owned.value (IsClosed seen.new result)
+        (λ s t. ((result ≡ 0) × HasMet s.store s.knows t.knows seen.new) ⊎ (Refuses NoPass seen.new result × (t ≡ s))) }
 {
     if !pass.live {
+        *seen = 0;
         return CLOSED;
     }
     match pass.owned.lent().meet() {
@@ -161,18 +172,18 @@ pub extern "C" fn bes_meet(pass: &mut Handle, seen: &mut u64) -> u32
             *seen = n;
             DONE
         }
-        Err(fault) => fault.code(),
+        Err(fault) => refuse(fault, seen),
     }
 }
 
 /// Pins the current version, and puts out its number.
 #[unsafe(no_mangle)]
 pub extern "C" fn bes_pin(pass: &mut Handle, number: &mut u64) -> u32
-    ensures pass { Calls pass.old.owned.value pass.new.owned.value result
-        (λ s t. ((result ≡ 0) × Pins s.knows t.knows number.new) ⊎ ((result ≡ 67) × (t ≡ s) × IsPinned s.knows)) }
-    ensures kept { (result ≡ 0) ⊎ (number.new ≡ number.old) }
+    ensures pass { Calls pass.old.owned.value pass.new.owned.value (IsClosed number.new result)
+        (λ s t. ((result ≡ 0) × Pins s.knows t.knows number.new) ⊎ (Refuses AlreadyPinned number.new result × (t ≡ s) × IsPinned s.knows)) }
 {
     if !pass.live {
+        *number = 0;
         return CLOSED;
     }
     match pass.owned.lent().pin() {
@@ -180,14 +191,14 @@ pub extern "C" fn bes_pin(pass: &mut Handle, number: &mut u64) -> u32
             *number = n;
             DONE
         }
-        Err(fault) => fault.code(),
+        Err(fault) => refuse(fault, number),
     }
 }
 
 /// Gives the pin up.
 #[unsafe(no_mangle)]
 pub extern "C" fn bes_unpin(pass: &mut Handle) -> u32
-    ensures pass { Calls pass.old.owned.value pass.new.owned.value result
+    ensures pass { Calls pass.old.owned.value pass.new.owned.value (result ≡ 64)
         (λ s t. ((result ≡ 0) × (t.knows ≡ unpins (with_history s.knows t.knows.history))) ⊎ ((result ≡ 66) × (t ≡ s) × (pinned_number s.knows.phase ≡ None))) }
 {
     if !pass.live {
@@ -210,16 +221,17 @@ pub extern "C" fn bes_apply(
     made: &mut [u64],
     entries: &mut u64,
 ) -> u32
-    ensures pass { Calls pass.old.owned.value pass.new.owned.value result
+    ensures pass { Calls pass.old.owned.value pass.new.owned.value (IsClosed entries.new result)
         (λ s t. WritesSpelled IsUnwritten s t spelled.now bytes.now made.old made.new entries.new result) }
-    ensures kept { (result ≡ 0) ⊎ ((entries.new ≡ entries.old) × (made.new ≡ made.old)) }
+    ensures kept { (result ≡ 0) ⊎ (made.new ≡ made.old) }
 {
     if !pass.live {
+        *entries = 0;
         return CLOSED;
     }
     let ops = match operations(alloc, spelled, bytes) {
         Ok(ops) => ops,
-        Err(fault) => return fault.code(),
+        Err(misspelt) => return refuse_list(misspelt, entries),
     };
     let mut dones = ArrayVec::new();
     let answer = pass.owned.lent().apply(ops.as_slice(), &mut dones);
@@ -229,7 +241,7 @@ pub extern "C" fn bes_apply(
             put_nodes(made, dones.as_slice());
             DONE
         }
-        Err(fault) => fault.code(),
+        Err(fault) => refuse(fault, entries),
     }
 }
 
@@ -244,16 +256,17 @@ pub extern "C" fn bes_apply_or_retry(
     made: &mut [u64],
     entries: &mut u64,
 ) -> u32
-    ensures pass { Calls pass.old.owned.value pass.new.owned.value result
+    ensures pass { Calls pass.old.owned.value pass.new.owned.value (IsClosed entries.new result)
         (λ s t. WritesSpelled (IsUnwrittenAtLast (retries + 1)) s t spelled.now bytes.now made.old made.new entries.new result) }
-    ensures kept { (result ≡ 0) ⊎ ((entries.new ≡ entries.old) × (made.new ≡ made.old)) }
+    ensures kept { (result ≡ 0) ⊎ (made.new ≡ made.old) }
 {
     if !pass.live {
+        *entries = 0;
         return CLOSED;
     }
     let ops = match operations(alloc, spelled, bytes) {
         Ok(ops) => ops,
-        Err(fault) => return fault.code(),
+        Err(misspelt) => return refuse_list(misspelt, entries),
     };
     let mut dones = ArrayVec::new();
     let answer = pass
@@ -266,7 +279,7 @@ pub extern "C" fn bes_apply_or_retry(
             put_nodes(made, dones.as_slice());
             DONE
         }
-        Err(fault) => fault.code(),
+        Err(fault) => refuse(fault, entries),
     }
 }
 
@@ -280,15 +293,16 @@ pub extern "C" fn bes_query(
     nodes: &mut [u64],
     count: &mut u64,
 ) -> u32
-    ensures pass { Calls pass.old.owned.value pass.new.owned.value result (λ s t. Finds s t text.now nodes.old nodes.new count.new result) }
-    ensures kept { (result ≡ 0) ⊎ ((count.new ≡ count.old) × (nodes.new ≡ nodes.old)) }
+    ensures pass { Calls pass.old.owned.value pass.new.owned.value (IsClosed count.new result) (λ s t. Finds s t text.now nodes.old nodes.new count.new result) }
+    ensures kept { (result ≡ 0) ⊎ (nodes.new ≡ nodes.old) }
 {
     if !pass.live {
+        *count = 0;
         return CLOSED;
     }
     let query = match query_of(alloc, text) {
         Ok(query) => query,
-        Err(fault) => return fault.code(),
+        Err(fault) => return refuse(fault, count),
     };
     let answer = pass.owned.lent().query(alloc, &query);
     tell(answer, nodes, count)
@@ -304,15 +318,16 @@ pub extern "C" fn bes_query_items(
     nodes: &mut [u64],
     count: &mut u64,
 ) -> u32
-    ensures pass { Calls pass.old.owned.value pass.new.owned.value result (λ s t. FindsBuilt s t spelled.now bytes.now nodes.old nodes.new count.new result) }
-    ensures kept { (result ≡ 0) ⊎ ((count.new ≡ count.old) × (nodes.new ≡ nodes.old)) }
+    ensures pass { Calls pass.old.owned.value pass.new.owned.value (IsClosed count.new result) (λ s t. FindsBuilt s t spelled.now bytes.now nodes.old nodes.new count.new result) }
+    ensures kept { (result ≡ 0) ⊎ (nodes.new ≡ nodes.old) }
 {
     if !pass.live {
+        *count = 0;
         return CLOSED;
     }
     let built = match query_of_items(alloc, spelled, bytes) {
         Ok(query) => query,
-        Err(fault) => return fault.code(),
+        Err(misspelt) => return refuse_list(misspelt, count),
     };
     let answer = pass.owned.lent().query(alloc, &built);
     tell(answer, nodes, count)
@@ -328,15 +343,16 @@ pub extern "C" fn bes_explain(
     bytes: &mut [u8],
     count: &mut u64,
 ) -> u32
-    ensures pass { Calls pass.old.owned.value pass.new.owned.value result (λ s t. Explains s t text.now bytes.old bytes.new count.new result) }
-    ensures kept { (result ≡ 0) ⊎ ((count.new ≡ count.old) × (bytes.new ≡ bytes.old)) }
+    ensures pass { Calls pass.old.owned.value pass.new.owned.value (IsClosed count.new result) (λ s t. Explains s t text.now bytes.old bytes.new count.new result) }
+    ensures kept { (result ≡ 0) ⊎ (bytes.new ≡ bytes.old) }
 {
     if !pass.live {
+        *count = 0;
         return CLOSED;
     }
     let query = match query_of(alloc, text) {
         Ok(query) => query,
-        Err(fault) => return fault.code(),
+        Err(fault) => return refuse(fault, count),
     };
     let answer = pass.owned.lent().explain(alloc, &query);
     tell_text(answer, bytes, count)
@@ -352,7 +368,7 @@ pub extern "C" fn bes_get(
     attribute: &mut Attribute,
     bytes: &mut [u8],
 ) -> u32
-    ensures pass { Calls pass.old.owned.value pass.new.owned.value result (λ s t. Reads s t node name_bytes.now attribute.new bytes.old bytes.new result) }
+    ensures pass { Calls pass.old.owned.value pass.new.owned.value (result ≡ 64) (λ s t. Reads s t node name_bytes.now attribute.new bytes.old bytes.new result) }
     ensures kept { (result ≡ 0) ⊎ ((attribute.new ≡ attribute.old) × (bytes.new ≡ bytes.old)) }
 {
     if !pass.live {
@@ -375,7 +391,7 @@ pub extern "C" fn bes_attributes(
     listed: &mut [Operation],
     bytes: &mut [u8],
 ) -> u32
-    ensures pass { Calls pass.old.owned.value pass.new.owned.value result
+    ensures pass { Calls pass.old.owned.value pass.new.owned.value (result ≡ 64)
         (λ s t. HasRead s.knows t.knows × Listed (sets node) (pinned_number s.knows.phase)
         (attributes_at (volume_pinned s.knows) node) counts.new listed.old listed.new bytes.old bytes.new result) }
     ensures kept { (result ≡ 0) ⊎ ((counts.new ≡ counts.old) × (listed.new ≡ listed.old) × (bytes.new ≡ bytes.old)) }
@@ -396,7 +412,7 @@ pub extern "C" fn bes_indices(
     listed: &mut [Operation],
     bytes: &mut [u8],
 ) -> u32
-    ensures pass { Calls pass.old.owned.value pass.new.owned.value result
+    ensures pass { Calls pass.old.owned.value pass.new.owned.value (result ≡ 64)
         (λ s t. HasRead s.knows t.knows × Listed makes (pinned_number s.knows.phase)
         (Ok (index_kinds (volume_pinned s.knows))) counts.new listed.old listed.new bytes.old bytes.new result) }
     ensures kept { (result ≡ 0) ⊎ ((counts.new ≡ counts.old) × (listed.new ≡ listed.old) × (bytes.new ≡ bytes.old)) }
@@ -410,9 +426,15 @@ pub extern "C" fn bes_indices(
 
 /// Parses the query of this text, and opens the handle with it.
 #[unsafe(no_mangle)]
-pub extern "C" fn bes_prepare(alloc: Global, text: &[u8], prepared: &mut PreparedHandle) -> u32
-    ensures { Prepares (IsTextOf text.now) (IsNoQuery text.now) prepared.old.owned.value prepared.new.owned.value result }
+pub extern "C" fn bes_prepare(
+    alloc: Global,
+    text: &[u8],
+    prepared: &mut PreparedHandle,
+    place: &mut u64,
+) -> u32
+    ensures { Prepares (IsTextOf text.now) (IsTextFault text.now) prepared.old.owned.value prepared.new.owned.value place.new result }
 {
+    *place = 0;
     if prepared.live {
         return OPEN;
     }
@@ -424,7 +446,7 @@ pub extern "C" fn bes_prepare(alloc: Global, text: &[u8], prepared: &mut Prepare
             };
             DONE
         }
-        Err(fault) => fault.code(),
+        Err(fault) => refuse(fault, place),
     }
 }
 
@@ -435,9 +457,12 @@ pub extern "C" fn bes_prepare_items(
     spelled: &[PredicateItem],
     bytes: &[u8],
     prepared: &mut PreparedHandle,
+    place: &mut u64,
 ) -> u32
-    ensures { Prepares (IsBuilt spelled.now bytes.now) (IsUnbuilt spelled.now bytes.now) prepared.old.owned.value prepared.new.owned.value result }
+    ensures { Prepares (IsBuilt spelled.now bytes.now) (IsUnbuilt spelled.now bytes.now)
+        prepared.old.owned.value prepared.new.owned.value place.new result }
 {
+    *place = 0;
     if prepared.live {
         return OPEN;
     }
@@ -449,7 +474,7 @@ pub extern "C" fn bes_prepare_items(
             };
             DONE
         }
-        Err(fault) => fault.code(),
+        Err(misspelt) => refuse_list(misspelt, place),
     }
 }
 
@@ -477,15 +502,17 @@ pub extern "C" fn bes_query_prepared(
     nodes: &mut [u64],
     count: &mut u64,
 ) -> u32
-    ensures pass { Calls pass.old.owned.value pass.new.owned.value result
+    ensures pass { Calls pass.old.owned.value pass.new.owned.value (IsClosed count.new result)
         (λ s t. FindsPrepared s t prepared.old.owned.value nodes.old nodes.new count.new result) }
     ensures prepared { prepared.new.owned.value ≡ prepared.old.owned.value }
-    ensures kept { (result ≡ 0) ⊎ ((count.new ≡ count.old) × (nodes.new ≡ nodes.old)) }
+    ensures kept { (result ≡ 0) ⊎ (nodes.new ≡ nodes.old) }
 {
     if !pass.live {
+        *count = 0;
         return CLOSED;
     }
     if !prepared.live {
+        *count = 0;
         return CLOSED;
     }
     let query = prepared.owned.lent();
@@ -500,7 +527,7 @@ pub extern "C" fn bes_refresh(
     prepared: &mut PreparedHandle,
     counts: &mut UpdateCounts,
 ) -> u32
-    ensures pass { Calls pass.old.owned.value pass.new.owned.value result
+    ensures pass { Calls pass.old.owned.value pass.new.owned.value (result ≡ 64)
         (λ s t. RefreshesPrepared s t prepared.old.owned.value prepared.new.owned.value counts.new result) }
     ensures kept { (result ≡ 0) ⊎ ((counts.new ≡ counts.old) × (prepared.new.owned.value ≡ prepared.old.owned.value)) }
 {
@@ -537,10 +564,11 @@ pub extern "C" fn bes_changes(
 /// Tells the journal's text up to now. Puts out how many bytes it has, and as many of them as there is room for.
 #[unsafe(no_mangle)]
 pub extern "C" fn bes_journal(pass: &mut Handle, bytes: &mut [u8], count: &mut u64) -> u32
-    ensures pass { Calls pass.old.owned.value pass.new.owned.value result (λ s t. TellsJournal s t bytes.old bytes.new count.new result) }
-    ensures kept { (result ≡ 0) ⊎ ((count.new ≡ count.old) × (bytes.new ≡ bytes.old)) }
+    ensures pass { Calls pass.old.owned.value pass.new.owned.value (IsClosed count.new result) (λ s t. TellsJournal s t bytes.old bytes.new count.new result) }
+    ensures kept { (result ≡ 0) ⊎ (bytes.new ≡ bytes.old) }
 {
     if !pass.live {
+        *count = 0;
         return CLOSED;
     }
     match pass.owned.lent().journal_text() {
@@ -548,6 +576,6 @@ pub extern "C" fn bes_journal(pass: &mut Handle, bytes: &mut [u8], count: &mut u
             put_text(text.as_str(), bytes, count);
             DONE
         }
-        Err(fault) => fault.code(),
+        Err(fault) => refuse(fault, count),
     }
 }

@@ -5,15 +5,17 @@
 
 mod calls;
 mod desk;
+mod passes;
 
 use desk::check;
+use passes::check_passes;
 use std::test::Fail;
 
 #[test]
 fn closed_handles(rt: HostRuntime) -> Result<(), Fail> {
-    let lines = "0 items kv => 64 7 9 9
-0 pin => 64 7
-0 journal => 64 7 9 9 9 9 9 9 9 9 9 9 9 9 9 9 9 9 9 9 9 9 9 9";
+    let lines = "0 items kv => 64 0 9 9
+0 pin => 64 0
+0 journal => 64 0 9 9 9 9 9 9 9 9 9 9 9 9 9 9 9 9 9 9 9 9 9 9";
     check(rt.alloc(), lines)
 }
 
@@ -22,7 +24,7 @@ fn writes_and_asks(rt: HostRuntime) -> Result<(), Fail> {
     let lines = "0 open 2 => 0
 another => 0
 0 write kv 40,00,21 => 0 1 0 1 0 9
-1 query k==\"v\" => 66 7 9 9
+1 query k==\"v\" => 66 0 9 9
 1 pin => 0 1
 1 query k==\"v\" => 0 1 1 9";
     check(rt.alloc(), lines)
@@ -44,7 +46,7 @@ fn reads_and_closes(rt: HostRuntime) -> Result<(), Fail> {
 #[test]
 fn gives_back_and_meets(rt: HostRuntime) -> Result<(), Fail> {
     let lines = "0 open 2 => 0
-0 meet => 68 7
+0 meet => 68 0
 another => 0
 1 write kv 00 => 0 1 1 9 9 9
 1 close => 0
@@ -55,10 +57,16 @@ another => 0
 }
 
 #[test]
+fn loses_no_pass(rt: HostRuntime) -> Result<(), Fail> {
+    check_passes(rt.alloc(), 2)?;
+    check_passes(rt.alloc(), 64)
+}
+
+#[test]
 fn moves_and_lists(rt: HostRuntime) -> Result<(), Fail> {
     let lines = "0 open 1 => 0
 move => 0
-0 pin => 64 7
+0 pin => 64 0
 1 write kv 40 => 0 1 0 9 9 9
 1 pin => 0 1
 1 indices => 0 1 1 4 0 0 107 9 9
@@ -70,10 +78,11 @@ move => 0
 fn asks_what_is_prepared(rt: HostRuntime) -> Result<(), Fail> {
     let lines = "0 open 1 => 0
 0 pin => 0 0
-0 ask => 64 7 9 9
-prepare k== => 12
-build => 0
-prepare k==\"v\" => 65
+0 ask => 64 0 9 9
+prepare k== => 12 3
+prepare k==\"[v\" => 13 4
+build => 0 0
+prepare k==\"v\" => 65 0
 0 unpin => 0
 0 retry kv 40,00,21 => 0 1 0 1 0 9
 0 pin => 0 1
@@ -87,7 +96,7 @@ release => 64";
 fn tells_what_came_and_went(rt: HostRuntime) -> Result<(), Fail> {
     let lines = "0 open 1 => 0
 0 write kv 40,00,21 => 0 1 0 1 0 9
-prepare k==\"v\" => 0
+prepare k==\"v\" => 0 0
 0 refresh => 66 7 7
 0 pin => 0 1
 0 refresh => 0 1 0
@@ -112,9 +121,9 @@ fn tells_its_journal(rt: HostRuntime) -> Result<(), Fail> {
 fn asks_by_items(rt: HostRuntime) -> Result<(), Fail> {
     let lines = "0 open 1 => 0
 0 write kv 40,00,21 => 0 1 0 1 0 9
-0 items kv => 66 7 9 9
+0 items kv => 66 0 9 9
 0 pin => 0 1
-0 items k => 74 7 9 9
+0 items k => 74 1 9 9
 0 items kv => 0 1 1 9";
     check(rt.alloc(), lines)
 }
@@ -131,14 +140,15 @@ fn lists_attributes(rt: HostRuntime) -> Result<(), Fail> {
     check(rt.alloc(), lines)
 }
 
-/// `?` is a byte that is no UTF-8.
+/// `?` is a byte that is no UTF-8. The second number is that of the operation, or of the byte.
 #[test]
 fn refuses_what_is_misspelt(rt: HostRuntime) -> Result<(), Fail> {
     let lines = "0 open 1 => 0
-0 write kv 00*65 => 69 7 9 9 9 9
-0 write k? 21 => 70 7 9 9 9 9
-0 write k 21 => 74 7 9 9 9 9
-0 query ? => 70 7 9 9
+0 write kv 00*65 => 69 0 9 9 9 9
+0 write k? 00,00,21,71 => 70 2 9 9 9 9
+0 write k 21 => 74 0 9 9 9 9
+0 query ? => 70 0 9 9
+0 query k==1|| => 12 6 9 9
 0 pin => 0 0";
     check(rt.alloc(), lines)
 }

@@ -19,7 +19,7 @@ part_of bs a (suc r) le =
     ap (take (suc r)) (drop-cons bs a 0 (omega (arith, le))) ∙ ap (λ ys. get_or bs a 0 ∷ ys) (ap (λ n. take r (drop n bs)) e ∙ part_of bs (a + 1) r (omega (arith, le)))
 
 module _ (words : ℕ → ℕ) (at node : ℕ) where
-  begins : 8 ≤ key_len words at → (item_at words at).key ≡ catalog_key (words (at + 1)) (drop 8 (item_at words at).key)
+  pub begins : 8 ≤ key_len words at → (item_at words at).key ≡ catalog_key (words (at + 1)) (drop 8 (item_at words at).key)
   begins long =
       let k = (item_at words at).key in
       sym (take-append-drop 8 k) ∙ ap (λ bs. bs ++ drop 8 k) (part_of k 0 8 (omega (arith, item_key_length words at, long)) ∙ sym (first_bytes words at long))

@@ -17,6 +17,16 @@ const REPLIES: &str =
     "node 1\nok\nok\nok\nnodes 1\n\"k\"==\"6\" score 1\nLONG 6\nattrs 1\n\"k\" LONG 6\nindices 1\n\"k\" LONG\npin 4\nok\n\
     ok\nqueued\nqueued\ncommit 5\nok\nok\ncreated 1\nremoved\nok\ncreated\nremoved 1\nok\nok\nok\nok\nbad line\n";
 
+/// An error of one of four kinds.
+fn some_error(number: usize) -> io::Error {
+    io::Error::from(match number % 4 {
+        0 => io::ErrorKind::OutOfMemory,
+        1 => io::ErrorKind::Interrupted,
+        2 => io::ErrorKind::UnexpectedEof,
+        _ => io::ErrorKind::Other,
+    })
+}
+
 /// Gives its bytes one at a time, then fails where it is to, and counts its reads.
 #[derive(Drop)]
 struct Dripping<'a> {
@@ -30,7 +40,7 @@ impl Read for Dripping<'_> {
         self.reads = self.reads.saturating_add(1);
         let Some((byte, rest)) = self.bytes.split_first() else {
             if self.fails {
-                return Err(io::Error::from(io::ErrorKind::Other));
+                return Err(some_error(self.reads));
             }
             return Ok(0);
         };
@@ -93,7 +103,7 @@ fn fails_behind(alloc: Global, bytes: &[u8]) -> bool {
     outcome.end == "read" && outcome.written == 0
 }
 
-/// A reader that fails at each place, the end too: nothing is written.
+/// A reader that fails at each place, the end too, by errors of four kinds: nothing is written.
 #[test]
 fn failing_reader(rt: HostRuntime) -> Result<(), Fail> {
     let script = SCRIPT.as_bytes();

@@ -4,6 +4,7 @@ use be_history::{Finding, check, dump, journal_told};
 use be_serving::{Limits, RunFault, run_and_tell};
 use be_testing::Narrow;
 use std::alloc::{AllocError, Global};
+use std::str;
 use std::test::Fail;
 
 const SCRIPT: &str = "new\nset 1 k LONG 5\nbegin\nnew\nset 2 k LONG 6\ncommit\nget 1 k\ndrop 9\n";
@@ -89,6 +90,33 @@ fn failing_writer_of_a_telling(rt: HostRuntime) -> Result<(), Fail> {
             return Err(Fail::new(room));
         }
     }
+    Ok(())
+}
+
+/// What a run of a line tells, and what it tells where the line is refused for want of memory.
+const OF_ONE: &str = "node 1\njournal 1\n1 by 0 new -> node 1\nreplay ok\n";
+
+const OF_NONE: &str = "refused 10 OutOfMemory\njournal 0\nreplay ok\n";
+
+/// Whether a run that ended so may have told this: all, or for want of memory a front.
+fn may_tell(ended: Result<bool, RunFault>, told: &str) -> bool {
+    match ended {
+        Ok(legal) => legal && (told == OF_ONE || told == OF_NONE),
+        Err(RunFault::Memory) => OF_ONE.starts_with(told) || OF_NONE.starts_with(told),
+        Err(_) => false,
+    }
+}
+
+/// A request for memory that is refused is told as Memory, or by the line, over a writer that needs none.
+#[test]
+fn refused_memory_of_a_telling(rt: HostRuntime) -> Result<(), Fail> {
+    let alloc = rt.alloc();
+    let mut told: Vec<u8> = match Vec::with_capacity(alloc, 256) {
+        Ok(room) => room,
+        Err(_) => Vec::with_capacity(alloc, 256)?,
+    };
+    let ended = run_and_tell(alloc, &mut b"new\n".as_slice(), &mut told, LIMITS);
+    assert!(rt; may_tell(ended, str::from_utf8(&told)?));
     Ok(())
 }
 

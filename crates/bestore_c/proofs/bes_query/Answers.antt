@@ -2,14 +2,14 @@ use Rattle.std.proofs.Common.{◌≡◌, Some, inr, refl}
 use Rattle.be_table.specs.Seats.{pinned_number}
 use Rattle.be_store.specs.Passes.{volume_pinned}
 use Rattle.be_volume.specs.Query.{scan}
-use Rattle.bestore_c.specs.Calls.{Finds}
+use Rattle.bestore_c.specs.Calls.{Finds, IsClosed}
 use Rattle.bestore_c.proofs.Called.{called}
 use Rattle.bestore_c.proofs.bes_query.Goals as goal
 
 pub returns-clause-pass : goal.returns-clause-pass
 returns-clause-pass c =
     let was : c.args.pass.now.owned.value ≡ Some c.lent.result.now = c.lent.ensures.value in
-    called c.args.pass.now.owned.value _ c.lent.result.now c.query-answer.new.self c.tell.result
+    called c.args.pass.now.owned.value _ c.lent.result.now c.query-answer.new.self (IsClosed c.tell.new.count c.tell.result)
     (λ s t. Finds s t c.args.text.now c.args.nodes.now c.tell.new.nodes c.tell.new.count c.tell.result) was refl c.query-answer.ensures.store.0
     c.query-answer.ensures.store.1
     (inr (

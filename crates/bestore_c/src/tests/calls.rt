@@ -244,11 +244,15 @@ pub(crate) fn journal(alloc: Global, pass: &mut Handle) -> Told {
 }
 
 pub(crate) fn prepare(alloc: Global, kept: &mut PreparedHandle, words: &str) -> Told {
-    answer_text(alloc, bes_prepare(alloc, words.as_bytes(), kept))
+    let mut place = 7;
+    let answer = bes_prepare(alloc, words.as_bytes(), kept, &mut place);
+    number_text(alloc, answer, place)
 }
 
 pub(crate) fn prepare_items(alloc: Global, kept: &mut PreparedHandle) -> Told {
-    answer_text(alloc, bes_prepare_items(alloc, &items(), b"kv", kept))
+    let mut place = 7;
+    let answer = bes_prepare_items(alloc, &items(), b"kv", kept, &mut place);
+    number_text(alloc, answer, place)
 }
 
 pub(crate) fn query_prepared(alloc: Global, pass: &mut Handle, kept: &mut PreparedHandle) -> Told {

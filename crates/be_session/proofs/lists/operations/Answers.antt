@@ -1,12 +1,12 @@
-use Rattle.std.proofs.Common.{◌≤◌, ◌+◌, ap, inl, length, subst, sym, take, ◌∙◌}
-use Rattle.std.proofs.lemmas.List.{take_more}
+use Rattle.std.proofs.Common.{◌≤◌, ◌+◌, ap, length, subst, sym, take, ◌∙◌}
 use Rattle.be_session.specs.Operations.{AreMeant}
-use Rattle.be_session.proofs.Meant.{meant_next}
+use Rattle.be_session.proofs.Meant.{meant_next, misspelt_here}
 use Rattle.be_session.proofs.lists.operations.Goals as goal
 
 pub returns-in-Err-clause-err : goal.returns-in-Err-clause-err
 returns-in-Err-clause-err c =
-    inl (c.loop-next.next-index, _, c.loop-next.ops.items, take_more c.args.spelled.now c.loop-next.next-index _ c.loop-next-test.true, c.loop-next.invariant.meant, c.in-Err.ensures.err)
+    misspelt_here c.args.spelled.now c.loop-next.next-index _ c.args.bytes.now c.loop-next.ops.items c.in-Err.fault _
+    (c.len-place.ensures ∙ c.loop-next.invariant.count) c.loop-next.invariant.fits c.loop-next-test.true c.loop-next.invariant.meant c.in-Err.ensures.err
 
 pub loop-next-preserved : goal.loop-next-preserved
 loop-next-preserved c = record {
@@ -15,4 +15,5 @@ loop-next-preserved c = record {
       c.loop-next.invariant.meant c.in-Ok.ensures.ok);
   count = c.push_reserved.ensures.len ∙ ap (λ n. n + 1) c.loop-next.invariant.count;
   room = subst (λ n. length c.args.spelled.now ≤ n) (sym c.push_reserved.ensures.capacity) c.loop-next.invariant.room;
+  fits = c.loop-next.invariant.fits;
 }

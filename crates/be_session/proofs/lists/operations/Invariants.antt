@@ -1,5 +1,5 @@
 use Rattle.std.proofs.Common.{◌≡◌, ◌≤◌, length, take, vec_capacity, vec_len}
-use Rattle.be_session.specs.Operations.{AreMeant}
+use Rattle.be_session.specs.Operations.{AreMeant, IsWriteCount}
 use Rattle.be_session.proofs.lists.operations.Given as goal
 
 abbrev pub invariant-loop-next : goal.invariant-loop-next
@@ -7,4 +7,5 @@ invariant-loop-next l = record {
   meant : AreMeant (take l.next-index l.spelled) l.bytes l.ops.items;
   count : vec_len l.ops ≡ l.next-index;
   room : length l.spelled ≤ vec_capacity l.ops;
+  fits : IsWriteCount (length l.spelled);
 }

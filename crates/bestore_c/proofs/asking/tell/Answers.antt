@@ -11,4 +11,4 @@ returns-in-Ok-clause-found c = λ pin meant pinned.
 
 pub returns-in-Err-clause-found : goal.returns-in-Err-clause-found
 returns-in-Err-clause-found c = λ pin meant pinned.
-    found_err (λ v. v.items) pin c.args.answer c.in-Err.fault meant c.args.nodes.now c.args.nodes.now _ _ c.in-Err.is pinned c.code.ensures
+    found_err (λ v. v.items) pin c.args.answer c.in-Err.fault meant c.args.nodes.now c.args.nodes.now _ _ c.in-Err.is pinned c.refuse.ensures

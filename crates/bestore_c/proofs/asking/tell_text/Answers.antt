@@ -10,4 +10,4 @@ returns-in-Ok-clause-found c = λ pin meant pinned.
 
 pub returns-in-Err-clause-found : goal.returns-in-Err-clause-found
 returns-in-Err-clause-found c = λ pin meant pinned.
-    found_err string_bytes pin c.args.answer c.in-Err.fault meant c.args.bytes.now c.args.bytes.now _ _ c.in-Err.is pinned c.code.ensures
+    found_err string_bytes pin c.args.answer c.in-Err.fault meant c.args.bytes.now c.args.bytes.now _ _ c.in-Err.is pinned c.refuse.ensures

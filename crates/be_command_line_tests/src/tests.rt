@@ -1,7 +1,7 @@
 //! Command lines, a line `WORDS => TASK` each: the task's command, its pages, passes and commits, and its files in their order;
 //! or the kind of the fault. A command line that is refused memory is read again: so each test passes with any one request
 //! for memory refused.
-use crate::{Task, task};
+use be_command_line::{Task, task};
 use clap::Error;
 use clap::error::ErrorKind;
 use std::alloc::{AllocError, Global};
