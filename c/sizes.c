@@ -6,7 +6,7 @@
 
 enum { MOST_NODES = 10000, MOST_ENTRIES = 20000, MOST_COMMITS = 200000 };
 
-static uint64_t sizes[80], nodes[MOST_NODES + 1], others[MOST_NODES + 1];
+static uint64_t place, sizes[80], nodes[MOST_NODES + 1], others[MOST_NODES + 1];
 static char text[4097], name[64], expected[1 << 20];
 static uint8_t told[1 << 20];
 
@@ -62,7 +62,7 @@ static void found(bes_pass *pass, const char *query, const bes_item *items, size
     OK(bes_pin(pass, &number));
     OK(bes_find(pass, query, nodes, MOST_NODES, &told_count));
     CHECK(told_count == count && are_from_one(nodes, count));
-    OK(bes_prepare_text(query, &prepared));
+    OK(bes_prepare_text(query, &prepared, &place));
     OK(bes_query_prepared(pass, &prepared, nodes, MOST_NODES, &told_count));
     CHECK(told_count == count && are_from_one(nodes, count));
     for (uint64_t created = count, i = 0; i < 2; created = 0, i++) {
@@ -74,7 +74,7 @@ static void found(bes_pass *pass, const char *query, const bes_item *items, size
     if (items_count > 0) {
         OK(bes_query_items(pass, items, items_count, (const uint8_t *)"k", 1, nodes, MOST_NODES, &told_count));
         CHECK(told_count == count && are_from_one(nodes, count));
-        OK(bes_prepare_items(items, items_count, (const uint8_t *)"k", 1, &other));
+        OK(bes_prepare_items(items, items_count, (const uint8_t *)"k", 1, &other, &place));
         OK(bes_query_prepared(pass, &other, nodes, MOST_NODES, &told_count));
         CHECK(told_count == count && are_from_one(nodes, count));
         OK(bes_release(&other));
@@ -117,7 +117,7 @@ static void many_nodes(void)
         }
         found(&pass, "k==7", items, 3, size);
         found(&pass, "k!=8||k==7", items, 0, size);
-        OK(bes_prepare_text("k>6&&k<8", &live) || bes_pin(&pass, &number) || bes_refresh(&pass, &live, &updates));
+        OK(bes_prepare_text("k>6&&k<8", &live, &place) || bes_pin(&pass, &number) || bes_refresh(&pass, &live, &updates));
         CHECK(updates.created == size && updates.removed == 0);
         OK(bes_unpin(&pass) || bes_batch_remove_index(&batch, "k") || bes_batch_make_index(&batch, "k", BES_INT32_TYPE));
         write_list(&pass, &batch);

@@ -33,6 +33,8 @@ build_cpp() { c++ -std=c++17 "${warn[@]}" -I../include "$@" libbestore.a -lpthre
 
 build -O2 test.c -o "$work/test"
 run C "$work/test"
+build -O2 sizes.c -o "$work/sizes"
+run "C, sizes" "$work/sizes"
 cc -std=c11 "${warn[@]}" -I../include test.c -L. -lbestore -lpthread -o "$work/shared"
 run "C, shared object" env LD_LIBRARY_PATH=. "$work/shared"
 
