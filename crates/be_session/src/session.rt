@@ -59,19 +59,16 @@ impl Model for Session {
 fn seated(
     alloc: Global,
     limits: Limits,
-    store: Store,
+    shared: Shared,
     pass: Pass,
     spare: Vec<Pass>,
 ) -> Result<Session, Fault>
-    requires limits { (store.limits ≡ limits) × IsWithin limits }
-    requires pass { IsPassOf store pass × (pass.knows ≡ newcomer limits (vec_len spare + 1) (vec_len spare)) }
-    requires spare { AreNew store 0 spare.items × (vec_len spare + 1 ≡ limits.passes) }
+    requires limits { (shared.limits ≡ limits) × IsWithin limits }
+    requires pass { IsPassOf shared pass × (pass.knows ≡ newcomer limits (vec_len spare + 1) (vec_len spare)) }
+    requires spare { AreNew shared 0 spare.items × (vec_len spare + 1 ≡ limits.passes) }
     ensures ok { IfOk result (λ s. IsOpened limits s) }
     ensures err { IfErr result (λ e. (why : AnyRefusal) × (e ≡ Refused why) × IsOpenRefused limits why) }
 {
-    let Ok(shared) = Shared::new(alloc, store, limits.passes) else {
-        return Err(Fault::Refused(Refusal::OutOfMemory));
-    };
     match Arc::new(alloc, shared) {
         Ok(shared) => Ok(Session {
             shared,
@@ -153,10 +150,13 @@ impl Session {
             Ok(opened) => opened,
             Err(refusal) => return Err(Fault::Refused(refusal)),
         };
-        let Some(pass) = take_last(&store, &mut passes) else {
+        let Ok(shared) = Shared::new(alloc, store, passes.as_slice()) else {
+            return Err(Fault::Refused(Refusal::OutOfMemory));
+        };
+        let Some(pass) = take_last(shared.store(), &mut passes) else {
             unreachable!()
         };
-        seated(alloc, limits, store, pass, passes)
+        seated(alloc, limits, shared, pass, passes)
     }
 
     /// A session of the same store, in a box: with the last pass that waits here, or where none does, with one that was given
@@ -193,7 +193,7 @@ impl Session {
             pass,
             spare,
         } = self;
-        shared.give_back(pass);
+        drop(shared.give_back(pass));
         shared.give_back_all(spare);
     }
 
@@ -210,7 +210,7 @@ impl Session {
             return Err(Fault::NoPass);
         };
         let length = self.shared.store().meet(&mut self.pass, &mut other);
-        self.shared.give_back(other);
+        drop(self.shared.give_back(other));
         Ok(length)
     }
 
