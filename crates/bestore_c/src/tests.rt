@@ -5,8 +5,10 @@
 
 mod calls;
 mod desk;
+mod passes;
 
 use desk::check;
+use passes::check_passes;
 use std::test::Fail;
 
 #[test]
@@ -52,6 +54,12 @@ another => 0
 another => 0
 1 pin => 0 1";
     check(rt.alloc(), lines)
+}
+
+#[test]
+fn loses_no_pass(rt: HostRuntime) -> Result<(), Fail> {
+    check_passes(rt.alloc(), 2)?;
+    check_passes(rt.alloc(), 64)
 }
 
 #[test]

@@ -18,7 +18,7 @@ struct Desk {
     kept: PreparedHandle,
 }
 
-fn closed(alloc: Global) -> Handle {
+pub(crate) fn closed(alloc: Global) -> Handle {
     Handle {
         live: false,
         owned: Owned::none(alloc),

@@ -19,8 +19,8 @@ returns-in-Err-clause-err c =
 
 pub loop-next-preserved : goal.loop-next-preserved
 loop-next-preserved c = record {
-  meant = subst (λ xs. AreItemsMeant (take (c.loop-next.next-index + 1) c.args.spelled.now) c.args.bytes.now (map item_of xs)) (sym c.in_ok-push.ensures.items)
+  meant = subst (λ xs. AreItemsMeant (take (c.loop-next.next-index + 1) c.args.spelled.now) c.args.bytes.now (map item_of xs)) (sym c.in_ok-push-in-Ok.ensures.items)
       (items_next c.args.spelled.now c.loop-next.next-index _ c.args.bytes.now c.loop-next.items.items c.in-Ok.item c.loop-next-test.true
       c.loop-next.invariant.meant c.in-Ok.ensures.ok);
-  count = c.in_ok-push.ensures.len ∙ ap (λ n. n + 1) c.loop-next.invariant.count;
+  count = c.in_ok-push-in-Ok.ensures.len ∙ ap (λ n. n + 1) c.loop-next.invariant.count;
 }
