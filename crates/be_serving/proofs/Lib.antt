@@ -1,4 +1,3 @@
-pub mod CoverLemmas
 pub mod DumpLemmas
 pub mod EndLemmas
 pub mod FileLemmas

@@ -8,10 +8,10 @@ use Rattle.be_value.specs.declared.refusals.Refusal.TheVariants.{Busy, OutOfMemo
 use Rattle.be_query.specs.Faults.{fault}
 use Rattle.be_query.specs.Grammar.{Formula, Spells}
 use Rattle.be_query.specs.Lexing.{tokens}
-use Rattle.be_plan.specs.Cover.{chosen, is_listed}
+use Rattle.be_plan.specs.Cover.{chosen}
 use Rattle.be_plan.specs.Explain.{explanation}
 use Rattle.be_store.specs.Live.{LiveQuery, without}
-use Rattle.be_volume.specs.Query.{scan}
+use Rattle.be_volume.specs.Query.{scan, has_index}
 use Rattle.be_volume.specs.Reading.{attribute, attributes_at, index_kinds}
 use Rattle.be_volume.specs.Volume.{State}
 use Rattle.be_volume.specs.declared.ops.Done.{Done}
@@ -109,9 +109,9 @@ abbrev pub queried : State → Result Formula Refusal → Reply
 queried volume (Ok f) = replied nodes (scan volume f)
 queried volume (Err e) = refused e
 
--- the reply to a text whose cover is asked: what is picked where the volume's indices are these, and its score
+-- the reply to a text whose cover is asked: what is picked by the volume's indices, and its score
 abbrev pub explained : State → Result Formula Refusal → Reply
-explained volume (Ok f) = replied (λ c. cover (explanation f c)) (chosen (is_listed (index_kinds volume)) f)
+explained volume (Ok f) = replied (λ c. cover (explanation f c)) (chosen (has_index volume) f)
 explained volume (Err e) = refused e
 
 abbrev pub got : State → ℕ → Result (List ℕ) Refusal → Reply

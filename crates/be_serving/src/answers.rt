@@ -15,7 +15,7 @@ ghost use Rattle.be_store.specs.Live.{LiveQuery};
 use crate::client::Client;
 use crate::stores::Server;
 use be_language::{Reply, Request};
-use be_plan::{choose, explain};
+use be_plan::explain;
 use be_query::parse;
 use be_store::Live;
 use be_value::{Name, Refusal};
@@ -158,11 +158,7 @@ fn explain_query<S: Server>(alloc: Global, server: &mut S, text: &str) -> Reply
         Ok(query) => query,
         Err(refusal) => return Reply::Refused(refusal),
     };
-    let indices = match server.indices() {
-        Ok(indices) => indices,
-        Err(refusal) => return Reply::Refused(refusal),
-    };
-    let cover = match choose(alloc, &query, indices.as_slice()) {
+    let cover = match server.explain(&query) {
         Ok(cover) => cover,
         Err(refusal) => return Reply::Refused(refusal),
     };

@@ -4,14 +4,16 @@
 //! journal, the volume that it stands for, the limit on its entries, and the pinned version. Other passes may write
 //! between two calls, and a call is answered from the store as they left it. What runs scripts is proved over that trait,
 //! so it holds for whatever serves. [`PassServer`] is a shared store with one of its passes.
-ghost use Rattle.std.specs.Prelude.{◌≡◌, ◌≤◌, List, Ok, None, IsSome, is_some, length, IfOk, IfErr, if◌then◌else◌};
+ghost use Rattle.std.specs.Prelude.{◌≡◌, ◌≤◌, true, List, Ok, None, IsSome, is_some, length, IfOk, IfErr, if◌then◌else◌};
+ghost use Rattle.be_plan.specs.Cover.{chosen};
+ghost use Rattle.be_plan.specs.Explain.{are_places};
 ghost use Rattle.be_store.specs.History.{IsLastReason};
 ghost use Rattle.be_store.specs.Passes.{IsPassOf};
 ghost use Rattle.be_value.specs.Refusal.{Answers};
 ghost use Rattle.be_value.specs.declared.refusals.Refusal.TheVariants.{OutOfMemory};
 ghost use Rattle.be_value.specs.declared.refusals.Refusal.{Refusal as AnyRefusal};
 ghost use Rattle.be_volume.specs.declared.ops.Op.{Op as AnyOp};
-ghost use Rattle.be_volume.specs.Query.{scan};
+ghost use Rattle.be_volume.specs.Query.{scan, has_index};
 ghost use Rattle.be_volume.specs.Reading.{attribute, attributes_at, index_kinds};
 ghost use Rattle.be_table.specs.Rule.{IsWithin};
 ghost use Rattle.be_serving.specs.Served.{known, seat_of};
@@ -19,6 +21,7 @@ ghost use Rattle.be_serving.specs.Store.{Store, Joins, Meanwhile, start, viewed,
 
 use crate::Limits;
 use arrayvec::ArrayVec;
+use be_plan::Cover;
 use be_query::Query;
 use be_store::Pass;
 use be_value::{Kind, Name, Refusal, Value};
@@ -71,6 +74,13 @@ pub trait Server {
         ensures stays { kept self.new ≡ kept self.old }
         ensures joins { Joins (shows self.old) (shows self.new) }
         ensures answers { Answers (λ nodes. nodes.items) result (scan (viewed (shows self.new)) query.now) };
+
+    /// What a query would be answered from; or NotCovered or OutOfMemory.
+    fn explain(&mut self, query: &Query) -> Result<Cover, Refusal>
+        ensures stays { kept self.new ≡ kept self.old }
+        ensures joins { Joins (shows self.old) (shows self.new) }
+        ensures answers { Answers (λ cover. cover) result (chosen (has_index (viewed (shows self.new))) query.now) }
+        ensures places { IfOk result (λ cover. are_places query.now cover.picks ≡ true) };
 
     /// The value of an attribute.
     fn get(&mut self, node: u64, name: &Name) -> Option<Value>
@@ -230,6 +240,13 @@ impl<'a> Server for PassServer<'a> {
         let answer = self.store.query(self.alloc, &mut self.pass, query);
         self.end_read(made);
         Ok(answer?.nodes)
+    }
+
+    fn explain(&mut self, query: &Query) -> Result<Cover, Refusal> {
+        let made = self.begin_read();
+        let cover = self.store.explain(self.alloc, &mut self.pass, query);
+        self.end_read(made);
+        cover
     }
 
     fn get(&mut self, node: u64, name: &Name) -> Option<Value> {

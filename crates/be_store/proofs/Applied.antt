@@ -16,7 +16,7 @@ use Rattle.be_volume.specs.Volume.{steps}
 use Rattle.be_volume.specs.declared.ops.Done.{Done}
 use Rattle.be_volume.specs.declared.ops.Op.{Op}
 use Rattle.be_store.specs.History.{Accepts, Learns, IsReason, text_seen}
-use Rattle.be_store.specs.Writing.{Publishes, IsHeldBack}
+use Rattle.be_store.specs.Writing.{Publishes, IsHeldBack, IsSame}
 
 pub entries_append : (log more : List Commit) → entries (log ++ more) ≡ entries log ++ entries more
 entries_append log more = map-append (λ (c : Commit). c.entry) log more
@@ -80,15 +80,19 @@ module _ (a w : Knowledge) (t : TakesLock a w) where
         pin = ap (λ (k : Knowledge). k.phase) is ∙ same_phase;
       }
 
-  pub learns : (v c : Knowledge) (ops : List Op) (e : Refusal) → IsHeldBack w v ops e → c ≡ without_lock (with_history v c.history) → IsPass c → Learns a c
-  learns v c ops e p is pass =
-      let seen : c.seen ≡ w.seen = ap (λ (k : Knowledge). k.seen) is ∙ p.seen in
-      let number : c.number ≡ a.number = ap (λ (k : Knowledge). k.number) is ∙ (p.same.pass ∙ same_number) in record {
+  -- so it is where the pass has only scanned
+  pub learns_same : (v c : Knowledge) → v.seen ≡ w.seen → IsSame w v → c ≡ without_lock (with_history v c.history) → IsPass c → Learns a c
+  learns_same v c unseen same is pass =
+      let seen : c.seen ≡ w.seen = ap (λ (k : Knowledge). k.seen) is ∙ unseen in
+      let number : c.number ≡ a.number = ap (λ (k : Knowledge). k.number) is ∙ (same.pass ∙ same_number) in record {
         more = (t.more.0, seen ∙ t.more.1);
         mine = sym pass.mine ∙ (ap (λ k. by_pass k (entries c.seen)) number ∙ (ap (λ l. by_pass a.number (entries l)) seen ∙ own));
         pass = number;
-        pin = ap (λ (k : Knowledge). k.phase) is ∙ (p.same.pin ∙ same_phase);
+        pin = ap (λ (k : Knowledge). k.phase) is ∙ (same.pin ∙ same_phase);
       }
+
+  pub learns : (v c : Knowledge) (ops : List Op) (e : Refusal) → IsHeldBack w v ops e → c ≡ without_lock (with_history v c.history) → IsPass c → Learns a c
+  learns v c ops e p is pass = learns_same v c p.seen p.same is pass
 
 pub reasons : (a w v c : Knowledge) (ops : List Op) (e : Refusal) → IsHeldBack w v ops e → c ≡ without_lock (with_history v c.history) → IsReason a c ops e
 reasons a w v c ops e p is = subst (λ (k : Knowledge). IsReason a k ops e) (sym is) (inr p.reason)

@@ -6,3 +6,4 @@ pub mod Answering
 pub mod Alone
 pub mod Retries
 pub mod Calls
+pub mod Statuses

@@ -4,5 +4,6 @@ pub mod Writing
 pub mod Live
 pub mod Alone
 pub mod Calls
+pub mod Statuses
 pub use Rattle.be_table.specs.Seats
 pub use Rattle.be_table.specs.Works

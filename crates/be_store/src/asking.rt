@@ -1,14 +1,17 @@
 //! Queries on a version, over any reader of its pages.
-ghost use Rattle.std.specs.Prelude.{◌≡◌, IfOk};
+ghost use Rattle.std.specs.Prelude.{◌≡◌, ◌⊎◌, true, false, IfOk, IfErr};
 ghost use Rattle.std.specs.List.Sorted.{IsStrictlyIncreasing};
 ghost use Rattle.be_paged.specs.Version.{IsVersion};
+ghost use Rattle.be_plan.specs.Cover.{chosen, covers};
+ghost use Rattle.be_plan.specs.Explain.{are_places};
 ghost use Rattle.be_value.specs.Refusal.{Answers};
-ghost use Rattle.be_volume.specs.Query.{scan};
+ghost use Rattle.be_value.specs.declared.refusals.Refusal.TheVariants.{OutOfMemory, NotCovered};
+ghost use Rattle.be_volume.specs.Query.{scan, has_index, covered};
 ghost use Rattle.be_volume.specs.Volume.{State};
 
 use be_paged::source;
 use be_pages::Look;
-use be_plan::{Source, choose_from, run};
+use be_plan::{Cover, Source, choose_from, run};
 use be_query::Query;
 use be_value::Refusal;
 use std::alloc::Global;
@@ -41,4 +44,24 @@ pub(crate) fn ask<L: Look>(
     let mut source = source(look, version_page);
     let answer = nodes_of(alloc, query, &mut source);
     (source.into_look(), answer)
+}
+
+/// The comparisons that the version's own indices choose for the query, and the reader back.
+pub(crate) fn choose_at<L: Look>(
+    alloc: Global,
+    look: L,
+    version_page: u64,
+    query: &Query,
+) -> (L, Result<Cover, Refusal>)
+    ghost volume: { State }
+    requires version { IsVersion (L.standing look) (L.words look) version_page volume }
+    ensures cover { Answers (λ cover. cover) result.1 (chosen (has_index volume) query.now) }
+    ensures covers { IfOk result.1 (λ cover. covers (has_index volume) cover.picks query.now ≡ true) }
+    ensures places { IfOk result.1 (λ cover. are_places query.now cover.picks ≡ true) }
+    ensures refused { IfErr result.1 (λ e. (e ≡ OutOfMemory) ⊎ ((e ≡ NotCovered) × (covered volume query.now ≡ false))) }
+    ensures kept { L.kept result.0 ≡ L.kept look }
+{
+    let mut source = source(look, version_page);
+    let cover = choose_from(alloc, query, &mut source);
+    (source.into_look(), cover)
 }

@@ -13,8 +13,8 @@
 //! then seen refuses it. `laws` has what follows for what a pass has seen, and for the only pass of a store.
 //!
 //! # What a program names
-//! This crate alone. Names, values, operations, queries, the journal and the list of a write's answers are items of the
-//! crates below, and stand here too.
+//! This crate alone. Names, values, operations, queries and their covers, the journal and the list of a write's answers
+//! are items of the crates below, and stand here too.
 //!
 //! # How it stands on the crates below
 //! The volume is in pages: be_paged reads and writes it over any reader and any room of pages, and be_table's open
@@ -33,8 +33,9 @@ mod writing;
 pub use answers::{Answer, Updates};
 pub use arrayvec::ArrayVec;
 pub use be_journal::{Dones, Entry, Journal, Ops};
+pub use be_plan::{Cover, Picks, explain};
 pub use be_query::{Item, Query, from_rpn, parse};
-pub use be_table::{Limits, Seat as Pass};
+pub use be_table::{Announcement, Limits, Seat as Pass, Status};
 pub use be_value::{Bytes, Kind, Name, Refusal, Text, Value};
 pub use be_volume::{Done, Op};
 pub use live::Live;

@@ -2,7 +2,7 @@
 //!
 //! A pin that is forgotten holds its version's pages for as long as the store lives. So a program that leaves a function by
 //! `?` asks through a `Pinned`, which unpins when it goes.
-ghost use Rattle.std.specs.Prelude.{◌≡◌, ◌⊎◌, ℕ, None, Ok, Err, IsOk, IfOk, IfErr};
+ghost use Rattle.std.specs.Prelude.{◌≡◌, ◌⊎◌, ℕ, true, false, None, Ok, Err, IsOk, IfOk, IfErr};
 ghost use Rattle.std.specs.List.Sorted.{IsStrictlyIncreasing};
 ghost use Rattle.be_store.specs.History.{Pins};
 ghost use Rattle.be_store.specs.Live.{Refreshes};
@@ -11,13 +11,16 @@ ghost use Rattle.be_table.specs.Works.{IsSeatOf};
 ghost use Rattle.be_table.specs.Seats.{pinned_number};
 ghost use Rattle.be_table.specs.Steps.{unpins};
 ghost use Rattle.be_table.specs.Trace.{with_history};
+ghost use Rattle.be_plan.specs.Cover.{chosen, covers};
+ghost use Rattle.be_plan.specs.Explain.{are_places};
 ghost use Rattle.be_value.specs.Refusal.{Answers};
-ghost use Rattle.be_value.specs.declared.refusals.Refusal.TheVariants.{OutOfMemory};
-ghost use Rattle.be_volume.specs.Query.{scan};
+ghost use Rattle.be_value.specs.declared.refusals.Refusal.TheVariants.{OutOfMemory, NotCovered};
+ghost use Rattle.be_volume.specs.Query.{scan, has_index, covered};
 ghost use Rattle.be_volume.specs.Reading.{attribute, attributes_at, index_kinds};
 
 use crate::answers::{Answer, Updates};
 use crate::{Live, Pass, Store};
+use be_plan::Cover;
 use be_query::Query;
 use be_value::{Kind, Name, Refusal, Value};
 use std::alloc::Global;
@@ -68,6 +71,20 @@ impl Pinned<'_> {
         ensures pin { IfOk result (λ a. IsPinnedTo self.old.pass.now.knows a.pin) }
     {
         self.store.query(alloc, self.pass, query)
+    }
+
+    /// As `Store::explain`.
+    pub fn explain(&mut self, alloc: Global, query: &Query) -> Result<Cover, Refusal>
+        requires pinned { (n : ℕ) × IsPinnedTo self.old.pass.now.knows n }
+        ensures same_reference { self.new.pass.ghost_name ≡ self.old.pass.ghost_name }
+        ensures store { (self.new.store.now ≡ self.old.store.now) × (self.new.number ≡ self.old.number) }
+        ensures read { HasRead self.old.pass.now.knows self.new.pass.now.knows }
+        ensures cover { Answers (λ cover. cover) result (chosen (has_index (volume_pinned self.old.pass.now.knows)) query.now) }
+        ensures covers { IfOk result (λ cover. covers (has_index (volume_pinned self.old.pass.now.knows)) cover.picks query.now ≡ true) }
+        ensures places { IfOk result (λ cover. are_places query.now cover.picks ≡ true) }
+        ensures refused { IfErr result (λ e. (e ≡ OutOfMemory) ⊎ ((e ≡ NotCovered) × (covered (volume_pinned self.old.pass.now.knows) query.now ≡ false))) }
+    {
+        self.store.explain(alloc, self.pass, query)
     }
 
     /// As `Store::get`.

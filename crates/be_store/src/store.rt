@@ -1,18 +1,19 @@
 //! The store, and the calls of its passes.
-ghost use Rattle.std.specs.Prelude.{◌≡◌, ◌≤◌, ◌<◌, ℕ, [], ◌∷◌, None, Some, Ok, MatchResult, IsOk, IfOk, IfErr, OnErr, length, map, string_bytes};
+ghost use Rattle.std.specs.Prelude.{◌≡◌, ◌⊎◌, ◌≤◌, ◌<◌, ℕ, true, false, [], ◌∷◌, None, Some, Ok, MatchResult, IsOk, IfOk, IfErr, OnErr, length, map, string_bytes};
 ghost use Rattle.be_store.specs.Passes.{IsPassOf, IsPinnedTo, HasRead, volume_pinned};
 ghost use Rattle.be_store.specs.History.{Accepts, Learns, IsReason, IsLastReason, IsUntold, Pins, text_seen};
 
 use crate::answers::Answer;
-use crate::asking::ask;
+use crate::asking::{ask, choose_at};
 use crate::tries::{stand_back, was_busy};
 use crate::writing::write;
 use crate::{Limits, Pass};
 use arrayvec::ArrayVec;
 use be_journal::Journal;
 use be_paged::{attrs, first_page, get, indices};
+use be_plan::Cover;
 use be_query::Query;
-use be_table::{PinnedLook, VersionTable};
+use be_table::{PinnedLook, Status, VersionTable};
 use be_value::{Kind, Name, Refusal, Value};
 use be_volume::{Done, Op};
 use std::alloc::Global;
@@ -35,6 +36,7 @@ impl Model for Store {
 impl Store {
     ghost use Rattle.std.specs.Prelude.{All};
     ghost use Rattle.be_store.specs.Calls.{HasWrites, ReadsFronts};
+    ghost use Rattle.be_store.specs.Statuses.{TellsStatus};
     ghost use Rattle.std.specs.List.Sorted.{IsStrictlyIncreasing};
     ghost use Rattle.be_journal.specs.Journal.{IsLegal};
     ghost use Rattle.be_table.specs.History.{StartsWith, AreOfPasses};
@@ -46,10 +48,12 @@ impl Store {
     ghost use Rattle.be_table.specs.Versions.{CanSpellEach};
     ghost use Rattle.be_table.specs.Trace.{with_history};
     ghost use Rattle.be_table.specs.declared.pass.Move.TheVariants as moves;
-    ghost use Rattle.be_table.specs.Works.{AllAt, AreNew, IsOpenRefused, Moves, knows_of};
+    ghost use Rattle.be_table.specs.Works.{AllAt, AreNew, FoundHeld, IsOpenRefused, Moves, knows_of};
     ghost use Rattle.be_value.specs.Refusal.{Answers};
-    ghost use Rattle.be_value.specs.declared.refusals.Refusal.TheVariants.{OutOfMemory};
-    ghost use Rattle.be_volume.specs.Query.{scan};
+    ghost use Rattle.be_plan.specs.Cover.{chosen, covers};
+    ghost use Rattle.be_plan.specs.Explain.{are_places};
+    ghost use Rattle.be_value.specs.declared.refusals.Refusal.TheVariants.{OutOfMemory, NotCovered};
+    ghost use Rattle.be_volume.specs.Query.{scan, has_index, covered};
     ghost use Rattle.be_volume.specs.Reading.{attribute, attributes_at, index_kinds};
 
     /// A store with an empty journal, and its passes in the order of their numbers, which have seen nothing.
@@ -203,6 +207,24 @@ impl Store {
         Ok(Answer { pin, nodes: nodes? })
     }
 
+    /// What the query would be answered from in the pinned version: the comparisons that the version's indices choose, and
+    /// their score. `be_plan::explain` gives them as a text. NotCovered where the query rests on no index of that version,
+    /// and OutOfMemory. It asks for the index of each comparison's name, and reads no key and no node.
+    pub fn explain(&self, alloc: Global, pass: &mut Pass, query: &Query) -> Result<Cover, Refusal>
+        requires pass { IsPassOf self.now pass.old }
+        requires pinned { (n : ℕ) × IsPinnedTo pass.old.knows n }
+        ensures pass { IsPassOf self.now pass.new × HasRead pass.old.knows pass.new.knows }
+        ensures cover { Answers (λ cover. cover) result (chosen (has_index (volume_pinned pass.old.knows)) query.now) }
+        ensures covers { IfOk result (λ cover. covers (has_index (volume_pinned pass.old.knows)) cover.picks query.now ≡ true) }
+        ensures places { IfOk result (λ cover. are_places query.now cover.picks ≡ true) }
+        ensures refused { IfErr result (λ e. (e ≡ OutOfMemory) ⊎ ((e ≡ NotCovered) × (covered (volume_pinned pass.old.knows) query.now ≡ false))) }
+    {
+        let (reader, page) = self.reader(pass);
+        let (reader, cover) = choose_at(alloc, reader, page, query);
+        *pass = reader.into_seat();
+        cover
+    }
+
     /// A node's attribute in the pinned version, if it has one. One descent of a tree, and no memory.
     pub fn get(&self, pass: &mut Pass, node: u64, name: &Name) -> Option<Value>
         requires pass { IsPassOf self.now pass.old }
@@ -275,6 +297,31 @@ impl Store {
             Ok(text) => Ok(text),
             Err(_) => Err(Refusal::OutOfMemory),
         }
+    }
+
+    /// How full the store is, and whose pin is the oldest, while passes are in use. A pin stays.
+    ///
+    /// Busy, and nothing else, where the call's one try finds another pass holding the lock. While it holds the lock it looks
+    /// at each announcement, and frees the retired pages that none of them holds: so those that it counts as retired are
+    /// held. It takes no memory.
+    pub fn status(&self, pass: &mut Pass) -> Result<Status, Refusal>
+        requires pass { IsPassOf self.now pass.old }
+        ensures pass { IsPassOf self.now pass.new }
+        ensures learns { Learns pass.old.knows pass.new.knows }
+        ensures told { IfOk result (λ status. TellsStatus pass.old.knows pass.new.knows status) }
+        ensures busy { IfErr result (λ e. FoundHeld e pass.old.knows pass.new.knows) }
+    {
+        let mut held = match self.table.lock(pass.move_out()) {
+            Ok(writing) => writing,
+            Err((seat, refusal)) => {
+                *pass = seat;
+                return Err(refusal);
+            }
+        };
+        let status = held.status();
+        *pass = held.unlock();
+        pass.is_pass();
+        Ok(status)
     }
 
     /// Two passes tell each other what they have seen: both have then seen what either had, of two beginnings of one

@@ -10,6 +10,7 @@ pub mod Runs
 pub mod Pins
 pub mod Opened
 pub mod Scans
+pub mod Statuses
 pub mod Listed
 pub mod Publishing
 pub mod Deals

@@ -83,7 +83,7 @@ stands_dated limits s b i a h st at = record {
 
 -- what the machine is to a pass that fits
 is_at : (limits : Limits) (s : Table) (d : Board) (i : ℕ) (c : Knowledge) → Stands limits s d → Fits limits d i c → IsAt c d.world
-is_at limits s d i c st f = record { phase = f.phase; writes = f.writes; holds = λ t. (f.whole t).holder; seen = let long = longer_seen d.log c.seen f.seen in let version = st.table.version in omega arith }
+is_at limits s d i c st f = record { phase = f.phase; writes = f.writes; holds = λ t. (f.whole t).holder; seen = let long = longer_seen d.log c.seen f.seen in let version = st.table.version in omega arith; shown = λ t. (f.whole t).shown }
 
 -- what a step owes
 abbrev pub Goes : Limits → Table → Board → ℕ → ℕ → ℕ → List (ℕ × Option Ledger) → (World → World → Type 0) → (Me1 → Type 0) → Type 0

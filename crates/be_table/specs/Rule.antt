@@ -218,6 +218,7 @@ pub record IsAt (a : Knowledge) (w : World) : Type 0 where
   pub writes : a.writes ≡ is_holder w.holder a.number
   pub holds : a.writes ≡ true → w.holder ≡ Some (known_holder a)
   pub seen : length a.seen ≤ w.current
+  pub shown : a.writes ≡ true → ShowsPlaces a.places w
 
 -- the machine after the history of the pass is as the pass knows it, and P is so of it
 pub record Reaches (a : Knowledge) (P : World → Type 0) : Type 0 where

@@ -41,11 +41,13 @@ mod pinned;
 mod rooms;
 mod rule;
 mod seat;
+mod status;
 mod table;
 mod writing;
 
 pub use limits::Limits;
 pub use pinned::PinnedLook;
 pub use seat::Seat;
+pub use status::{Announcement, Status};
 pub use table::VersionTable;
 pub use writing::Writing;

@@ -123,6 +123,12 @@ impl VersionTable {
         self.limits.passes
     }
 
+    pub(crate) fn limits(&self) -> Limits
+        ensures { result ≡ self.now.limits }
+    {
+        self.limits
+    }
+
     /// Sees the journal up to now, and answers its length. One load.
     pub fn look(&self, seat: &mut Seat) -> u64
         requires { IsSeatOf self.now seat.old }

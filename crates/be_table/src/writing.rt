@@ -12,15 +12,18 @@ ghost use Rattle.be_pages.specs.Place.{is_in_hand, is_held_page, is_retired, pla
 ghost use Rattle.be_table.specs.Rule.{Reaches, announce_word, pass_of, one_step_on, word_place, current_word};
 ghost use Rattle.be_table.specs.Trace.{Makes, with_history};
 ghost use Rattle.be_table.specs.Works.{Moves};
+ghost use Rattle.be_table.specs.Statuses.{FindsOldest, LieAt, Tells};
 ghost use Rattle.be_table.specs.Steps.{AreFound, fill_moves, given_moves, given_of, scans_of};
 ghost use Rattle.be_table.specs.declared.pass.Move.TheVariants as moves;
 ghost use Rattle.be_table.specs.Steps.{NoneRetiredLater, IsPass, IsFound, MayPublish, publishes, MayBeFilled, MayReadAnnouncement, IsPart, fills_word};
 ghost use Rattle.be_table.specs.Steps.{takes_page, gives_up, scans, scans_out, scans_all, least_found, IsLeastAnnounced, IsOwnLeast, UnreachedAreFree};
 
 use crate::ledger::Ledger;
+use crate::limits::Limits;
 use crate::marks::Marks;
 use crate::rule::{Fill, FoundFill, GiveUp, NextVersion, OwnWord, Publish, Scan, TakePage, Unlock};
 use crate::seat::{Base, Seat};
+use crate::status::{Announcement, Found, Status, older};
 use crate::table::{ANNOUNCE, CURRENT, LOCK, PAGES, VersionTable};
 use be_journal::replay_push;
 use be_pages::Place;
@@ -201,10 +204,49 @@ impl<'a> Writing<'a> {
         requires open { self.old.knows.published ≡ false }
         ensures { MakesScan self.old self.new result }
     {
+        self.survey().least
+    }
+
+    /// Scans, and finds the oldest announcement too.
+    fn survey(&mut self) -> Found
+        requires open { self.old.knows.published ≡ false }
+        ensures scan { MakesScan self.old self.new result.least }
+        ensures oldest { FindsOldest self.old.knows.limits self.old.knows.number self.old.knows.history self.new.knows.history result.oldest }
+        ensures places { LieAt self.old.knows.limits self.new.knows.history self.new.knows.places }
+    {
         let current = self.ledger.journal.len();
-        let least = read_all(self.table, &mut self.base, current);
-        self.ledger.sweep(least);
-        least
+        let found = read_all(self.table, &mut self.base, current);
+        self.ledger.sweep(found.least);
+        found
+    }
+
+    /// The table's numbers as they are now, with this announcement. No step.
+    fn count(&self, oldest: Option<Announcement>) -> Status
+        ensures tells { Tells self.now.knows result }
+        ensures oldest { result.oldest ≡ oldest }
+    {
+        let Limits { pages, commits, .. } = self.table.limits();
+        Status {
+            pages,
+            free: self.ledger.pool.free() as u64,
+            retired: self.ledger.pool.retired() as u64,
+            entries: self.ledger.journal.len(),
+            commits,
+            oldest,
+        }
+    }
+
+    /// Scans, and tells how full the table is then, and the oldest of the announcements that the scan found. It costs what
+    /// `scan` does.
+    pub fn status(&mut self) -> Status
+        requires open { self.old.knows.published ≡ false }
+        ensures scan { (least : ℕ) × MakesScan self.old self.new least }
+        ensures oldest { FindsOldest self.old.knows.limits self.old.knows.number self.old.knows.history self.new.knows.history result.oldest }
+        ensures places { LieAt self.old.knows.limits self.new.knows.history self.new.knows.places }
+        ensures tells { Tells self.new.knows result }
+    {
+        let found = self.survey();
+        self.count(found.oldest)
     }
 
     /// Makes room for one entry of so many operations. CommitsSpent where the journal is as long as the limit, and
@@ -377,7 +419,7 @@ fn lower(least: u64, found: u64) -> u64
     }
 }
 
-fn read_all(table: &VersionTable, base: &mut Base, current: u64) -> u64
+fn read_all(table: &VersionTable, base: &mut Base, current: u64) -> Found
     requires seat { base.old.table_id ≡ table.now.id }
     requires pass { MayReadAnnouncement table.now.limits base.old.me 0 }
     requires number { (pass_of base.old.me.0).number < table.now.limits.passes }
@@ -385,17 +427,21 @@ fn read_all(table: &VersionTable, base: &mut Base, current: u64) -> u64
     ensures seat { (base.new.table_id ≡ base.old.table_id) × (base.new.id ≡ base.old.id) }
     ensures me { (found : List ℕ) × (length found ≡ table.now.limits.passes)
         × (base.new.me ≡ (with_history (scans_all (pass_of base.old.me.0) found) (pass_of base.new.me.0).history ∷ [], base.old.me.1))
-        × IsLeastAnnounced current found result
+        × IsLeastAnnounced current found result.least
         × AreFound (pass_of base.old.me.0).limits (pass_of base.old.me.0).number (pass_of base.old.me.0).history (pass_of base.new.me.0).history found }
     ensures moves { Makes (pass_of base.old.me.0).number (pass_of base.old.me.0).history
         (scans_of (pass_of base.old.me.0).number table.now.limits.passes) (pass_of base.new.me.0).history }
-    ensures part { IsPart table.now.limits.passes (pass_of base.old.me.0) (pass_of base.new.me.0) table.now.limits.passes result }
-    ensures own { IsOwnLeast (pass_of base.old.me.0) result }
+    ensures part { IsPart table.now.limits.passes (pass_of base.old.me.0) (pass_of base.new.me.0) table.now.limits.passes result.least }
+    ensures own { IsOwnLeast (pass_of base.old.me.0) result.least }
+    ensures oldest { FindsOldest (pass_of base.old.me.0).limits (pass_of base.old.me.0).number (pass_of base.old.me.0).history (pass_of base.new.me.0).history result.oldest }
+    ensures places { LieAt (pass_of base.old.me.0).limits (pass_of base.new.me.0).history (pass_of base.new.me.0).places }
 {
     let mut least = current;
+    let mut oldest = None;
     for pass in 0..table.passes() {
         let found = read_announcement(table, base, pass);
         least = lower(least, found);
+        oldest = older(oldest, found, pass);
     }
-    least
+    Found { least, oldest }
 }

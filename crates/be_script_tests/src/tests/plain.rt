@@ -5,6 +5,7 @@ ghost use Rattle.be_serving.specs.Store.{start, viewed, MayWrite};
 
 use arrayvec::ArrayVec;
 use be_journal::Journal;
+use be_plan::{Cover, choose_from, volume_source};
 use be_query::Query;
 use be_serving::Server;
 use be_value::{Kind, Name, Refusal, Value};
@@ -15,6 +16,7 @@ use std::marker::Model;
 /// A volume and its journal, on one thread.
 #[derive(Drop)]
 pub struct PlainStore {
+    alloc: Global,
     volume: Volume,
     journal: Journal,
     /// How many writes were accepted before the pinned version.
@@ -53,6 +55,7 @@ impl PlainStore {
         ensures { result ≡ start commits }
     {
         PlainStore {
+            alloc,
             volume: Volume::new(alloc),
             journal: Journal::new(alloc, commits),
             pin: None,
@@ -129,6 +132,11 @@ impl Server for PlainStore {
 
     fn query(&mut self, query: &Query) -> Result<Vec<u64>, Refusal> {
         self.viewed().query(query)
+    }
+
+    fn explain(&mut self, query: &Query) -> Result<Cover, Refusal> {
+        let mut source = volume_source(self.viewed());
+        choose_from(self.alloc, query, &mut source)
     }
 
     fn get(&mut self, node: u64, name: &Name) -> Option<Value> {

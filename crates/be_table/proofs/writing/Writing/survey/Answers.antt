@@ -4,18 +4,18 @@ use Rattle.be_pages.specs.Place.{swept_place}
 use Rattle.be_table.specs.declared.pass.Knowledge.{Knowledge}
 use Rattle.be_table.specs.Rule.{pass_of}
 use Rattle.be_table.proofs.Opened.{reopened}
-use Rattle.be_table.proofs.writing.Writing.scan.Goals as goal
+use Rattle.be_table.proofs.writing.Writing.survey.Goals as goal
 
 pub invariant_of-self : goal.invariant_of-self
 invariant_of-self c =
     let i = c.self.invariant in let w = c.self.inside in let a = pass_of w.base.me.0 in
-    let r = c.read_all-least.ensures in let s : Knowledge = pass_of c.read_all-least.new.base.me.0 in
+    let r = c.read_all-found.ensures in let s : Knowledge = pass_of c.read_all-found.new.base.me.0 in
     let part = r.part in let whole = part.whole refl in
     let z = ap (λ m. pass_of m.0) r.me.2 in
     let words = ap (λ (x : Knowledge). x.words) part.same in
     reopened w _ s i refl refl refl c.sweep.ensures.kept.0 c.sweep.ensures.kept.1 r.seat.0 (r.me.2 ∙ (λ k. (sym z k ∷ [], ap (λ m. m.1) i.me_is k)))
     (part.same ∙ ap (λ ws. record a { scanned = s.scanned; least = s.least; places = s.places; words = ws; held = s.held; steps = s.steps; history = s.history }) (sym words))
-    whole.0 (ap length words) (ap length whole.1 ∙ length-map a.places (swept_place c.read_all-least.result)) (c.sweep.ensures.kept.2 ∙ ap (map (swept_place c.read_all-least.result)) i.places ∙ sym whole.1) (let left = c.sweep.ensures.left in omega (arith, left))
+    whole.0 (ap length words) (ap length whole.1 ∙ length-map a.places (swept_place c.read_all-found.result.least)) (c.sweep.ensures.kept.2 ∙ ap (map (swept_place c.read_all-found.result.least)) i.places ∙ sym whole.1) (let left = c.sweep.ensures.left in omega (arith, left))
 
-pub read_all-least-requires-clause-number : goal.read_all-least-requires-clause-number
-read_all-least-requires-clause-number c = let i = c.self.invariant in let e = ap (λ l. l.passes) i.limits_are in let below = i.pass.number_below in omega arith
+pub read_all-found-requires-clause-number : goal.read_all-found-requires-clause-number
+read_all-found-requires-clause-number c = let i = c.self.invariant in let e = ap (λ l. l.passes) i.limits_are in let below = i.pass.number_below in omega arith
