@@ -4,9 +4,9 @@ from __future__ import annotations
 
 import ctypes
 from types import TracebackType
-from typing import Any, Callable, Dict, Iterator, List, Mapping, Optional, Tuple, Type
+from typing import Any, Callable, Dict, Iterator, List, Mapping, NamedTuple, Optional, Tuple, Type
 
-from ._library import Attribute, Counts, Operation, Updates, calls, check
+from ._library import Attribute, Counts, Operation, Updates, Usage, calls, check
 from .queries import Item, Owner, Prepared, spelled_items
 from .refusals import Busy, NoAttribute, NoNode, NotPinned
 from .values import Kind, Value, spelled, value_of
@@ -60,6 +60,30 @@ class Batch:
     def remove_index(self, name: str) -> Batch:
         """Removes the index of this name."""
         return self._add(_REMOVE_INDEX, 0, name)
+
+
+class Held(NamedTuple):
+    """The oldest version that a pass has announced, and the first pass that has. The pass is pinned to that version or a later one,
+    or is about to be."""
+
+    version: int
+    pass_number: int
+
+
+class Status(NamedTuple):
+    """How full a store is."""
+
+    pages: int
+    free: int
+    """The pages that a write may take."""
+    retired: int
+    """The pages of older versions that wait, since a pass may read them."""
+    entries: int
+    """How many writes the journal has."""
+    commits: int
+    """How many it may have."""
+    oldest: Optional[Held]
+    """None where no pass has announced a version."""
 
 
 class Pass(Owner):
@@ -134,6 +158,17 @@ class Pass(Owner):
                 return said.raw[:count.value].decode()
             room = 2 * count.value
 
+    def status(self, tries: int = 1_000_000) -> Status:
+        """How full the store is, and whose pin is the oldest, with so many tries at most while another pass is writing."""
+        usage, number = Usage(), ctypes.c_uint64()
+        for left in reversed(range(max(tries, 1))):
+            answer = calls.bes_status(ctypes.byref(self._handle), ctypes.byref(usage), ctypes.byref(number))
+            if answer != Busy.number or left == 0:
+                break
+        check(answer, number.value)
+        oldest = Held(usage.oldest, usage.holder) if usage.is_held else None
+        return Status(usage.pages, usage.free, usage.retired, usage.entries, usage.commits, oldest)
+
     def pin(self) -> Version:
         """Pins the current version: `with store.pin() as version:` reads it, and gives the pin up at the end."""
         return Version(self)
@@ -141,7 +176,7 @@ class Pass(Owner):
 
 class Version:
     """The version that was current when the pass was pinned. It is read until the pin is given up. `version[node]` has a node's
-    attributes, and `node in version` tells whether the node is there."""
+    attributes, `node in version` tells whether the node is there, and `for node in version` goes over all nodes."""
 
     def __init__(self, user: Pass) -> None:
         number = ctypes.c_uint64()
@@ -255,7 +290,21 @@ class Version:
             return False
         return True
 
-    __iter__: None = None  # no call lists the nodes
+    def nodes(self, first: int = 0, most: int = 1024) -> List[int]:
+        """The nodes from a number on, ascending, whatever attributes they have, and so many of them at most."""
+        nodes, count = _words(most), ctypes.c_uint64()
+        check(calls.bes_nodes(self._pass(), first, nodes, most, ctypes.byref(count)), count.value)
+        return nodes[:count.value]
+
+    def __iter__(self) -> Iterator[int]:
+        """All nodes, ascending."""
+        first, most = 0, 1024
+        while first < 2**64:
+            nodes = self.nodes(first, most)
+            yield from nodes
+            if len(nodes) < most:
+                break
+            first = nodes[-1] + 1
 
 
 class Attributes(Mapping[str, Value]):

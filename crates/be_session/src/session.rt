@@ -5,15 +5,17 @@ ghost use Rattle.be_session.specs.Sitting.{AtPin, HasMet, IsHandedOut, IsPinned,
 ghost use Rattle.be_session.specs.Sitting.{IsOpened, IsUnpinnedAt, IsUnrefreshed, ReadAnswers};
 ghost use Rattle.be_session.specs.declared.faults.Fault.TheVariants.{AlreadyPinned, NoPass, NotPinned, Refused};
 ghost use Rattle.be_journal.specs.Journal.{IsLegal};
+ghost use Rattle.be_paged.specs.Nodes.{nodes_from};
 ghost use Rattle.be_query.specs.Grammar.{IsTextOf};
 ghost use Rattle.be_store.specs.History.{Accepts, IsUntold, Learns, Pins, text_seen};
 ghost use Rattle.be_store.specs.Live.{Refreshes};
 ghost use Rattle.be_store.specs.Passes.{HasRead, IsPassOf, IsPinnedTo, volume_pinned};
+ghost use Rattle.be_store.specs.Statuses.{TellsStatus};
 ghost use Rattle.be_table.specs.Rule.{IsWithin, entries, newcomer};
 ghost use Rattle.be_table.specs.Seats.{pinned_number};
 ghost use Rattle.be_table.specs.Steps.{unpins};
 ghost use Rattle.be_table.specs.Trace.{with_history};
-ghost use Rattle.be_table.specs.Works.{AreNew, IsOpenRefused};
+ghost use Rattle.be_table.specs.Works.{AreNew, FoundHeld, IsOpenRefused};
 ghost use Rattle.be_value.specs.declared.refusals.Refusal.{Refusal as AnyRefusal};
 ghost use Rattle.be_value.specs.declared.refusals.Refusal.TheVariants.{OutOfMemory};
 ghost use Rattle.be_volume.specs.Query.{scan};
@@ -26,8 +28,8 @@ use crate::retrying::apply_or_retry;
 use crate::shared::Shared;
 use be_store::laws::seen_is_legal;
 use be_store::{
-    ArrayVec, Done, Kind, Limits, Live, Name, Op, Pass, Query, Refusal, Store, Updates, Value,
-    parse,
+    ArrayVec, Done, Kind, Limits, Live, Name, Op, Pass, Query, Refusal, Status, Store, Updates,
+    Value, parse,
 };
 use std::alloc::{AllocFailed, Global};
 use std::marker::Model;
@@ -305,6 +307,17 @@ impl Session {
         Ok(answer?)
     }
 
+    /// How full the store is, and the oldest version that a pass has announced: as the store's own `status`. It needs no pin.
+    pub fn status(&mut self) -> Result<Status, Fault>
+        ensures store { (self.new.store ≡ self.old.store) × (self.new.spare ≡ self.old.spare) }
+        ensures learns { Learns self.old.knows self.new.knows }
+        ensures told { IfOk result (λ s. TellsStatus self.old.knows self.new.knows s) }
+        ensures err { IfErr result (λ e. (why : AnyRefusal) × (e ≡ Refused why) × FoundHeld why self.old.knows self.new.knows) }
+    {
+        let answer = self.shared.store().status(&mut self.pass);
+        Ok(answer?)
+    }
+
     /// The nodes of which the query is true in the pinned version, ascending.
     pub fn query(&mut self, alloc: Global, query: &Query) -> Result<Vec<u64>, Fault>
         ensures store { (self.new.store ≡ self.old.store) × (self.new.spare ≡ self.old.spare) }
@@ -346,11 +359,26 @@ impl Session {
         let Some(_) = self.pass.pinned() else {
             return Err(Fault::NotPinned);
         };
-        let indices = match self.shared.store().indices(alloc, &mut self.pass) {
-            Ok(indices) => indices,
-            Err(_) => return Err(Fault::Refused(Refusal::OutOfMemory)),
+        let cover = self
+            .shared
+            .store()
+            .explain(alloc, &mut self.pass, query)?;
+        Ok(cover_text(alloc, query, &cover)?)
+    }
+
+    /// The nodes of the pinned version from a number on, ascending, and so many of them at most. A list with fewer is the end, and
+    /// the next one begins behind the last node of this.
+    pub fn nodes(&mut self, alloc: Global, from: u64, most: usize) -> Result<Vec<u64>, Fault>
+        ensures store { (self.new.store ≡ self.old.store) × (self.new.spare ≡ self.old.spare) }
+        ensures read { HasRead self.old.knows self.new.knows }
+        ensures nodes { AtPin (pinned_number self.old.knows.phase) result
+            (ReadAnswers (λ nodes. nodes.items) result (Ok (nodes_from (volume_pinned self.old.knows) from most))) }
+    {
+        let Some(_) = self.pass.pinned() else {
+            return Err(Fault::NotPinned);
         };
-        Ok(cover_text(alloc, query, indices.as_slice())?)
+        let store = self.shared.store();
+        Ok(store.nodes(alloc, &mut self.pass, from, most)?)
     }
 
     /// A node's attribute in the pinned version, if it has one.

@@ -4,7 +4,8 @@
 //! of a fault, or 64 and 65, which are the handle's own. None has a `requires`.
 #![tactic(auto)]
 
-ghost use Rattle.std.specs.Prelude.{◌≡◌, ◌⊎◌, ◌+◌, None, Ok};
+ghost use Rattle.std.specs.Prelude.{◌≡◌, ◌⊎◌, ◌+◌, None, Ok, length};
+ghost use Rattle.be_paged.specs.Nodes.{nodes_from};
 ghost use Rattle.be_query.specs.Grammar.{IsTextOf};
 ghost use Rattle.be_session.specs.Items.{IsBuilt, IsUnbuilt};
 ghost use Rattle.be_session.specs.Operations.{makes, sets};
@@ -17,7 +18,8 @@ ghost use Rattle.be_table.specs.Steps.{unpins};
 ghost use Rattle.be_table.specs.Trace.{with_history};
 ghost use Rattle.be_volume.specs.Reading.{attributes_at, index_kinds};
 ghost use Rattle.bestore_c.specs.Calls.{AnswersWhetherOpen, Calls, Explains, Finds, FindsBuilt, FindsPrepared, GivesAnother, IsClosed};
-ghost use Rattle.bestore_c.specs.Calls.{IsTextFault, Listed, MovesHandle, Opens, Prepares, Reads, RefreshesPrepared, Refuses, ShowsChanges, TellsJournal, WritesSpelled};
+ghost use Rattle.bestore_c.specs.Calls.{IsTextFault, Listed, MovesHandle, Opens, Prepares, PutsOutAtPin, Reads, RefreshesPrepared, Refuses, ShowsChanges, TellsJournal, WritesSpelled};
+ghost use Rattle.bestore_c.specs.Usage.{TellsUsage};
 
 mod asking;
 mod handle;
@@ -28,6 +30,7 @@ mod owned_query;
 mod places;
 mod reading;
 mod refusing;
+mod telling;
 #[cfg(test)]
 mod tests;
 
@@ -37,7 +40,7 @@ use be_session::{
     query_of_items,
 };
 use be_store::{ArrayVec, Limits};
-use handle::{Attribute, Counts, Handle, PreparedHandle, UpdateCounts};
+use handle::{Attribute, Counts, Handle, PreparedHandle, UpdateCounts, Usage};
 use listing::{tell_attributes, tell_indices};
 use owned::Owned;
 use owned_query::OwnedQuery;
@@ -46,6 +49,7 @@ use reading::read;
 use refusing::{refuse, refuse_list};
 use std::alloc::Global;
 use std::mem;
+use telling::usage_of;
 
 /// The number that says that a call did what it should.
 const DONE: u32 = 0;
@@ -356,6 +360,49 @@ pub extern "C" fn bes_explain(
     };
     let answer = pass.owned.lent().explain(alloc, &query);
     tell_text(answer, bytes, count)
+}
+
+/// Lists the nodes of the pinned version from a number on, ascending, as many as there is room for. Puts out how many these are.
+#[unsafe(no_mangle)]
+pub extern "C" fn bes_nodes(
+    alloc: Global,
+    pass: &mut Handle,
+    from: u64,
+    nodes: &mut [u64],
+    count: &mut u64,
+) -> u32
+    ensures pass { Calls pass.old.owned.value pass.new.owned.value (IsClosed count.new result)
+        (λ s t. HasRead s.knows t.knows × PutsOutAtPin (pinned_number s.knows.phase)
+        (Ok (nodes_from (volume_pinned s.knows) from (length nodes.old))) nodes.old nodes.new count.new result) }
+    ensures kept { (result ≡ 0) ⊎ (nodes.new ≡ nodes.old) }
+{
+    if !pass.live {
+        *count = 0;
+        return CLOSED;
+    }
+    let room = nodes.len();
+    let answer = pass.owned.lent().nodes(alloc, from, room);
+    tell(answer, nodes, count)
+}
+
+/// Tells how full the store is, and the oldest version that a pass has announced.
+#[unsafe(no_mangle)]
+pub extern "C" fn bes_status(pass: &mut Handle, usage: &mut Usage, number: &mut u64) -> u32
+    ensures pass { Calls pass.old.owned.value pass.new.owned.value (IsClosed number.new result)
+        (λ s t. TellsUsage s t usage.new number.new result) }
+    ensures kept { (result ≡ 0) ⊎ (usage.new ≡ usage.old) }
+{
+    *number = 0;
+    if !pass.live {
+        return CLOSED;
+    }
+    match pass.owned.lent().status() {
+        Ok(status) => {
+            *usage = usage_of(&status);
+            DONE
+        }
+        Err(fault) => refuse(fault, number),
+    }
 }
 
 /// Reads a node's attribute in the pinned version. Puts out its type code, its number and its length in bytes, and as many
