@@ -313,8 +313,8 @@ impl Session {
         ensures told { IfOk result (λ s. TellsStatus self.old.knows self.new.knows s) }
         ensures err { IfErr result (λ e. (why : AnyRefusal) × (e ≡ Refused why) × FoundHeld why self.old.knows self.new.knows) }
     {
-        let answer = self.shared.store().status(&mut self.pass);
-        Ok(answer?)
+        let told = self.shared.store().status(&mut self.pass);
+        Ok(told?)
     }
 
     /// The nodes of which the query is true in the pinned version, ascending.
