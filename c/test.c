@@ -503,6 +503,29 @@ static void prepared_queries(void)
     CHECK(bes_release(&small) == BES_OK && bes_release(&other) == BES_OK);
 }
 
+/* What is free, what waits for a pin, and whose that is. */
+static void usage(void)
+{
+    bes_pass mine = BES_PASS_INIT, theirs = BES_PASS_INIT;
+    bes_usage first, held, then;
+    uint64_t number = 7, node = 0;
+    memset(&first, 7, sizeof first);
+    CHECK(bes_status(&mine, &first, &number) == BES_CLOSED && number == 0 && first.pages == 0x0707070707070707);
+    CHECK(bes_open(64, 3, 100, &mine) == BES_OK && bes_another(&mine, &theirs) == BES_OK);
+    number = 7;
+    CHECK(bes_status(&mine, &first, &number) == BES_OK && number == 0);
+    CHECK(first.pages == 64 && first.free > 0 && first.free < 64 && first.retired == 0 && first.entries == 0 && first.commits == 100);
+    CHECK(!first.is_held && first.oldest == 0 && first.holder == 0);
+    CHECK(bes_new_node(&mine, &node) == BES_OK && bes_pin(&theirs, &number) == BES_OK && number == 1);
+    for (int i = 0; i < 5; i++)
+        CHECK(bes_new_node(&mine, &node) == BES_OK);
+    CHECK(bes_status(&mine, &held, &number) == BES_OK && held.entries == 6);
+    CHECK(held.is_held && held.oldest == 1 && held.holder == 1 && held.retired > 0 && held.free + held.retired < 64);
+    CHECK(bes_unpin(&theirs) == BES_OK && bes_status(&theirs, &then, &number) == BES_OK);
+    CHECK(!then.is_held && then.retired == 0 && then.free == held.free + held.retired);
+    CHECK(bes_close(&mine) == BES_OK && bes_close(&theirs) == BES_OK);
+}
+
 static void journal(void)
 {
     static const char all[] = "1 by 0 new -> node 1\n2 by 0 set 1 \"k\" CSTR \"v\" -> ok\n";
@@ -814,6 +837,7 @@ int main(int argc, char **argv)
     queries();
     no_queries();
     prepared_queries();
+    usage();
     journal();
     spent();
     all_passes();

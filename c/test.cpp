@@ -260,6 +260,16 @@ static void pins()
     CHECK(again.pin().number() == 3);
 }
 
+static void status_of_store()
+{
+    Store store = numbered();
+    CHECK(!store.status().oldest && store.status().pages == 1024 && store.status().entries == 302);
+    auto pin = store.pin();
+    store.new_node();
+    const auto status = store.status();
+    CHECK(status.oldest && status.oldest->version == pin.number() && status.oldest->pass_number == 1 && status.retired > 0);
+}
+
 // A store that is full tells the version that is pinned.
 static void full()
 {
@@ -303,6 +313,7 @@ int main()
     predicates();
     live_queries();
     pins();
+    status_of_store();
     full();
     last_pass();
     threads();

@@ -170,6 +170,18 @@ typedef struct bes_attribute {
     uint64_t number;  /* of a number: the value; (int64_t)number of a signed one */
 } bes_attribute;
 
+/* How full a store is, and who is pinned to its oldest version. */
+typedef struct bes_usage {
+    uint64_t pages;    /* all pages of the store */
+    uint64_t free;     /* those that a write may take */
+    uint64_t retired;  /* those of older versions that wait, since a pass may read them */
+    uint64_t entries;  /* how many writes the journal has */
+    uint64_t commits;  /* how many it may have */
+    bool is_held;      /* whether a pass has announced a version: it is pinned to that or a later one, or about to be */
+    uint64_t oldest;   /* the oldest version that was announced, or 0 */
+    uint64_t holder;   /* the first pass that has announced it, or 0 */
+} bes_usage;
+
 /* How many nodes came and how many went at a refresh. */
 typedef struct bes_updates {
     uint64_t created;
@@ -317,6 +329,12 @@ uint32_t bes_indices(bes_pass *pass, bes_counts *counts, bes_operation *operatio
  * for all of it.
  * BES_BUSY: another pass is writing, and count is that pass: call again. BES_CLOSED, BES_NO_MEMORY. */
 uint32_t bes_journal(bes_pass *pass, uint8_t *bytes, size_t bytes_room, uint64_t *count);
+
+/* Tells how full the store is, pinned or not: so a program sees BES_FULL and BES_COMMITS_SPENT come, and whose pin keeps pages. Pages
+ * that no pass may read any more are freed first. Puts out 0 in number. Writes of other passes are answered BES_BUSY meanwhile, which
+ * takes a look at each pass and at each page.
+ * BES_BUSY: another pass is writing, and number is that pass: call again. BES_CLOSED. */
+uint32_t bes_status(bes_pass *pass, bes_usage *usage, uint64_t *number);
 
 /* The version of the library that runs, which is BES_VERSION_NUMBER of the header that it came with. A program that finds the
  * library as it starts compares the two. */

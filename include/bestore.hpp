@@ -396,6 +396,23 @@ struct Updates {
     std::vector<Node> removed;
 };
 
+// How full a store is.
+struct Status {
+    // The oldest version that a pass has announced, and the first pass that has. The pass is pinned to that version or a later
+    // one, or is about to be.
+    struct Held {
+        std::uint64_t version;
+        std::uint64_t pass_number;
+    };
+
+    std::uint64_t pages;        // all pages
+    std::uint64_t free;         // those that a write may take
+    std::uint64_t retired;      // those of older versions that wait, since a pass may read them
+    std::uint64_t entries;      // how many writes the journal has
+    std::uint64_t commits;      // how many it may have
+    std::optional<Held> oldest; // empty where no pass has announced a version
+};
+
 class Pin;
 
 // A query that tells what changed since it was refreshed last. At first all its nodes come.
@@ -458,6 +475,21 @@ public:
         });
     }
 
+    // How full the store is, and whose pin is the oldest.
+    Status status(std::uint32_t tries = BES_TRIES)
+    {
+        bes_usage usage{};
+        std::uint64_t number = 0;
+        std::uint32_t answer = BES_BUSY;
+        for (std::uint32_t left = tries > 0 ? tries : 1; answer == BES_BUSY && left > 0; left--)
+            answer = bes_status(handle(), &usage, &number);
+        detail::check(answer, number);
+        Status status{usage.pages, usage.free, usage.retired, usage.entries, usage.commits, {}};
+        if (usage.is_held)
+            status.oldest = Status::Held{usage.oldest, usage.holder};
+        return status;
+    }
+
     // Pins the current version. A pass has one pin at a time.
     [[nodiscard]] Pin pin() &;
 
@@ -506,14 +538,14 @@ public:
     // The nodes that meet the query, ascending.
     std::vector<Node> query(std::string_view text)
     {
-        return nodes(detail::Place::byte, [&](Node *nodes, std::size_t room, std::uint64_t *count) {
+        return found(detail::Place::byte, [&](Node *nodes, std::size_t room, std::uint64_t *count) {
             return bes_query(handle(), detail::bytes_of(text), text.size(), nodes, room, count);
         });
     }
 
     std::vector<Node> query(const Predicate &predicate)
     {
-        return nodes(detail::Place::item, [&](Node *nodes, std::size_t room, std::uint64_t *count) {
+        return found(detail::Place::item, [&](Node *nodes, std::size_t room, std::uint64_t *count) {
             return bes_query_items(handle(), detail::begin_of(predicate.items_), predicate.items_.size(),
                                    detail::bytes_of(predicate.bytes_), predicate.bytes_.size(), nodes, room, count);
         });
@@ -521,7 +553,7 @@ public:
 
     std::vector<Node> query(Prepared &prepared)
     {
-        return nodes(detail::Place::none, [&](Node *nodes, std::size_t room, std::uint64_t *count) {
+        return found(detail::Place::none, [&](Node *nodes, std::size_t room, std::uint64_t *count) {
             return bes_query_prepared(handle(), prepared.handle(), nodes, room, count);
         });
     }
@@ -593,7 +625,7 @@ private:
         return pass_.get();
     }
 
-    template <class Call> std::vector<Node> nodes(detail::Place place, Call call)
+    template <class Call> std::vector<Node> found(detail::Place place, Call call)
     {
         return detail::whole<std::vector<Node>>(256, place, call);
     }

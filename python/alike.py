@@ -121,7 +121,7 @@ def script(chance, count):
 
 
 def agrees(reply, said):
-    """Of a refusal the library tells the number alone, and of an attribute not the kind, which the journal has."""
+    """Of a refusal the number is compared alone, and of an attribute all but the kind, which the journal has."""
     if reply.startswith("refused "):
         return (said + " ").startswith(reply + " ")
     name, has_value, value = reply.partition(" ? ")

@@ -205,6 +205,20 @@ class WrongUse(unittest.TestCase):
         self.assertEqual(fault.exception.number, 64)
 
 
+class Whole(unittest.TestCase):
+    def test_status(self):
+        with bestore.open(64, 2, 1000) as store, store.another() as other:
+            first = store.status()
+            self.assertEqual((first.pages, first.retired, first.entries, first.commits, first.oldest), (64, 0, 0, 1000, None))
+            with other.pin():
+                for _ in range(5):
+                    store.new_node()
+                held = store.status()
+                self.assertEqual((held.entries, held.oldest), (5, bestore.Held(0, 0)))
+                self.assertGreater(held.retired, 0)
+            self.assertEqual((other.status().retired, other.status().oldest), (0, None))
+
+
 class WhatIsCarried(unittest.TestCase):
     def test_operations(self):
         with bestore.open(64, 1, 100) as store:

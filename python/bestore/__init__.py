@@ -24,7 +24,7 @@ from .refusals import (
     NameLength, NoAttribute, NoIndex, NoItem, NoKind, NoMemory, NoNode, NoOperation, NoPass, NoValue, NotCovered, NotIndexable,
     NotPinned, NotUTF8, Opened, Pinned, QuerySyntax, Refusal, TooDeep, TooLong, TooMany, TooManyAttributes, TooManyIndices,
 )
-from .store import Attributes, Batch, Pass, Version, open
+from .store import Attributes, Batch, Held, Pass, Status, Version, open
 from .values import Kind, Value
 
 STRING, INT32, INT64, MIME, RAW, UINT32, UINT64 = (
@@ -32,9 +32,9 @@ STRING, INT32, INT64, MIME, RAW, UINT32, UINT64 = (
 
 __all__ = [
     "Attributes", "BadCount", "BadItems", "BadLimits", "BadPart", "BadPattern", "Batch", "Busy", "Closed", "CommitsSpent",
-    "DataLength", "Full", "HasNul", "INT32", "INT64", "IndexExists", "Item", "Kind", "MIME", "Name", "NameLength", "NoAttribute",
+    "DataLength", "Full", "HasNul", "Held", "INT32", "INT64", "IndexExists", "Item", "Kind", "MIME", "Name", "NameLength", "NoAttribute",
     "NoIndex", "NoItem", "NoKind", "NoMemory", "NoNode", "NoOperation", "NoPass", "NoValue", "NotCovered", "NotIndexable",
     "NotPinned", "NotUTF8", "Opened", "Operator", "Pass", "Pinned", "Prepared", "QuerySyntax", "RAW", "Refusal", "STRING",
-    "TooDeep", "TooLong", "TooMany", "TooManyAttributes", "TooManyIndices", "UINT32", "UINT64", "Value", "Version", "open",
+    "Status", "TooDeep", "TooLong", "TooMany", "TooManyAttributes", "TooManyIndices", "UINT32", "UINT64", "Value", "Version", "open",
     "prepare", "prepare_items",
 ]

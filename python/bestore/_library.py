@@ -45,6 +45,21 @@ class Attribute(ctypes.Structure):
     _fields_ = [("code", ctypes.c_uint32), ("length", ctypes.c_uint64), ("number", ctypes.c_uint64)]
 
 
+class Usage(ctypes.Structure):
+    pages: int
+    free: int
+    retired: int
+    entries: int
+    commits: int
+    is_held: bool
+    oldest: int
+    holder: int
+    _fields_ = [
+        ("pages", ctypes.c_uint64), ("free", ctypes.c_uint64), ("retired", ctypes.c_uint64), ("entries", ctypes.c_uint64),
+        ("commits", ctypes.c_uint64), ("is_held", ctypes.c_bool), ("oldest", ctypes.c_uint64), ("holder", ctypes.c_uint64),
+    ]
+
+
 class Updates(ctypes.Structure):
     created: int
     removed: int
@@ -82,6 +97,7 @@ def _arguments() -> dict[str, List[Any]]:
         "bes_refresh": [handle, handle, ctypes.POINTER(Updates)],
         "bes_changes": [handle, words, size, words, size],
         "bes_explain": [handle, text, size, text, size, words],
+        "bes_status": [handle, ctypes.POINTER(Usage), words],
         "bes_get": [handle, word, text, size, ctypes.POINTER(Attribute), text, size],
         "bes_attributes": [handle, word, *listed],
         "bes_indices": [handle, *listed],

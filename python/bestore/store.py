@@ -4,9 +4,9 @@ from __future__ import annotations
 
 import ctypes
 from types import TracebackType
-from typing import Any, Callable, Dict, Iterator, List, Mapping, Optional, Tuple, Type
+from typing import Any, Callable, Dict, Iterator, List, Mapping, NamedTuple, Optional, Tuple, Type
 
-from ._library import Attribute, Counts, Operation, Updates, calls, check
+from ._library import Attribute, Counts, Operation, Updates, Usage, calls, check
 from .queries import Item, Owner, Prepared, spelled_items
 from .refusals import Busy, NoAttribute, NoNode, NotPinned
 from .values import Kind, Value, spelled, value_of
@@ -60,6 +60,30 @@ class Batch:
     def remove_index(self, name: str) -> Batch:
         """Removes the index of this name."""
         return self._add(_REMOVE_INDEX, 0, name)
+
+
+class Held(NamedTuple):
+    """The oldest version that a pass has announced, and the first pass that has. The pass is pinned to that version or a later one,
+    or is about to be."""
+
+    version: int
+    pass_number: int
+
+
+class Status(NamedTuple):
+    """How full a store is."""
+
+    pages: int
+    free: int
+    """The pages that a write may take."""
+    retired: int
+    """The pages of older versions that wait, since a pass may read them."""
+    entries: int
+    """How many writes the journal has."""
+    commits: int
+    """How many it may have."""
+    oldest: Optional[Held]
+    """None where no pass has announced a version."""
 
 
 class Pass(Owner):
@@ -133,6 +157,17 @@ class Pass(Owner):
             if count.value <= room:
                 return said.raw[:count.value].decode()
             room = 2 * count.value
+
+    def status(self, tries: int = 1_000_000) -> Status:
+        """How full the store is, and whose pin is the oldest, with so many tries at most while another pass is writing."""
+        usage, number = Usage(), ctypes.c_uint64()
+        for left in reversed(range(max(tries, 1))):
+            answer = calls.bes_status(ctypes.byref(self._handle), ctypes.byref(usage), ctypes.byref(number))
+            if answer != Busy.number or left == 0:
+                break
+        check(answer, number.value)
+        oldest = Held(usage.oldest, usage.holder) if usage.is_held else None
+        return Status(usage.pages, usage.free, usage.retired, usage.entries, usage.commits, oldest)
 
     def pin(self) -> Version:
         """Pins the current version: `with store.pin() as version:` reads it, and gives the pin up at the end."""

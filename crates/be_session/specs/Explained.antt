@@ -2,11 +2,11 @@
 use Rattle.std.specs.Prelude.{ℕ, Bool, List}
 use Rattle.std.specs.Result.{result_map_both}
 use Rattle.std.specs.declared.result.Result.{Result}
-use Rattle.be_plan.specs.Cover.{chosen, is_listed}
+use Rattle.be_plan.specs.Cover.{chosen}
 use Rattle.be_plan.specs.Explain.{explanation}
 use Rattle.be_query.specs.Grammar.{Formula}
 use Rattle.be_value.specs.declared.refusals.Refusal.{Refusal}
-use Rattle.be_volume.specs.Reading.{index_kinds}
+use Rattle.be_volume.specs.Query.{has_index}
 use Rattle.be_volume.specs.Volume.{State}
 
 -- what is said of the cover that is chosen where these names have an index, if one is
@@ -15,4 +15,4 @@ explanation_where indexed f = result_map_both (explanation f) (λ e. e) (chosen 
 
 -- the same of a volume's indices
 abbrev pub explanation_in : State → Formula → Result (List ℕ) Refusal
-explanation_in volume f = explanation_where (is_listed (index_kinds volume)) f
+explanation_in volume f = explanation_where (has_index volume) f

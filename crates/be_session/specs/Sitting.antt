@@ -1,16 +1,17 @@
 -- What a contract sees of a session, and what its calls make of it.
-use Rattle.std.specs.Prelude.{◌≡◌, ◌⊎◌, ◌+◌, ◌<◌, ℕ, List, IsUtf8, length, Ok, Err, Some, None, is_some, true}
+use Rattle.std.specs.Prelude.{◌≡◌, ◌⊎◌, ◌+◌, ◌<◌, ℕ, List, IsUtf8, length, Ok, Err, Some, None, is_some, true, false}
 use Rattle.std.specs.declared.option.Option.{Option}
 use Rattle.std.specs.declared.result.Result.{Result}
 use Rattle.be_query.specs.Faults.{fault}
 use Rattle.be_query.specs.View.{IsMemory}
 use Rattle.be_store.specs.History.{IsLastReason, IsReason, Learns}
-use Rattle.be_store.specs.Passes.{IsPassOf}
+use Rattle.be_store.specs.Passes.{IsBetweenCalls, IsPassOf}
 use Rattle.be_table.specs.History.{StartsWith}
 use Rattle.be_table.specs.Place.{Opened, SeatFacts}
 use Rattle.be_table.specs.Rule.{IsWithin, newcomer}
 use Rattle.be_table.specs.Seats.{pinned_number}
 use Rattle.be_table.specs.Steps.{longer, met}
+use Rattle.be_table.specs.Works.{AreNew}
 use Rattle.be_table.specs.declared.limits.Limits.{Limits}
 use Rattle.be_table.specs.declared.pass.Knowledge.{Knowledge}
 use Rattle.be_value.specs.declared.refusals.Refusal.{Refusal}
@@ -42,6 +43,16 @@ IsUnpinnedAt store a = (a.limits ≡ store.limits) × (pinned_number a.phase ≡
 -- a pass of this store that isn't pinned
 abbrev pub IsUnpinnedOf : Opened → SeatFacts → Type 0
 IsUnpinnedOf store pass = IsPassOf store pass × (pinned_number pass.knows.phase ≡ None)
+
+-- The pass of this seat, which isn't pinned: what may wait in the slot that was made for the seat.
+abbrev pub MayWaitAt : SeatFacts → SeatFacts → Type 0
+MayWaitAt seat pass =
+    (pass.blank ≡ false) × (pass.table ≡ seat.table) × (pass.knows.limits ≡ seat.knows.limits) × (pass.knows.number ≡ seat.knows.number)
+    × IsBetweenCalls seat.knows.limits.passes pass.knows.phase × (pinned_number pass.knows.phase ≡ None)
+
+-- these seats are those of all passes of the store, by their numbers
+abbrev pub AreAllSeats : Opened → List SeatFacts → Type 0
+AreAllSeats store seats = AreNew store 0 seats × (length seats ≡ store.limits.passes)
 
 -- The pass of a further session knows this: it is the last of those that wait here, which has seen and written nothing; or none
 -- waits, and it was given back, and isn't pinned.

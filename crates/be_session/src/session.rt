@@ -9,11 +9,12 @@ ghost use Rattle.be_query.specs.Grammar.{IsTextOf};
 ghost use Rattle.be_store.specs.History.{Accepts, IsUntold, Learns, Pins, text_seen};
 ghost use Rattle.be_store.specs.Live.{Refreshes};
 ghost use Rattle.be_store.specs.Passes.{HasRead, IsPassOf, IsPinnedTo, volume_pinned};
+ghost use Rattle.be_store.specs.Statuses.{TellsStatus};
 ghost use Rattle.be_table.specs.Rule.{IsWithin, entries, newcomer};
 ghost use Rattle.be_table.specs.Seats.{pinned_number};
 ghost use Rattle.be_table.specs.Steps.{unpins};
 ghost use Rattle.be_table.specs.Trace.{with_history};
-ghost use Rattle.be_table.specs.Works.{AreNew, IsOpenRefused};
+ghost use Rattle.be_table.specs.Works.{AreNew, FoundHeld, IsOpenRefused};
 ghost use Rattle.be_value.specs.declared.refusals.Refusal.{Refusal as AnyRefusal};
 ghost use Rattle.be_value.specs.declared.refusals.Refusal.TheVariants.{OutOfMemory};
 ghost use Rattle.be_volume.specs.Query.{scan};
@@ -26,8 +27,8 @@ use crate::retrying::apply_or_retry;
 use crate::shared::Shared;
 use be_store::laws::seen_is_legal;
 use be_store::{
-    ArrayVec, Done, Kind, Limits, Live, Name, Op, Pass, Query, Refusal, Store, Updates, Value,
-    parse,
+    ArrayVec, Done, Kind, Limits, Live, Name, Op, Pass, Query, Refusal, Status, Store, Updates,
+    Value, parse,
 };
 use std::alloc::{AllocFailed, Global};
 use std::marker::Model;
@@ -59,19 +60,16 @@ impl Model for Session {
 fn seated(
     alloc: Global,
     limits: Limits,
-    store: Store,
+    shared: Shared,
     pass: Pass,
     spare: Vec<Pass>,
 ) -> Result<Session, Fault>
-    requires limits { (store.limits ≡ limits) × IsWithin limits }
-    requires pass { IsPassOf store pass × (pass.knows ≡ newcomer limits (vec_len spare + 1) (vec_len spare)) }
-    requires spare { AreNew store 0 spare.items × (vec_len spare + 1 ≡ limits.passes) }
+    requires limits { (shared.limits ≡ limits) × IsWithin limits }
+    requires pass { IsPassOf shared pass × (pass.knows ≡ newcomer limits (vec_len spare + 1) (vec_len spare)) }
+    requires spare { AreNew shared 0 spare.items × (vec_len spare + 1 ≡ limits.passes) }
     ensures ok { IfOk result (λ s. IsOpened limits s) }
     ensures err { IfErr result (λ e. (why : AnyRefusal) × (e ≡ Refused why) × IsOpenRefused limits why) }
 {
-    let Ok(shared) = Shared::new(alloc, store, limits.passes) else {
-        return Err(Fault::Refused(Refusal::OutOfMemory));
-    };
     match Arc::new(alloc, shared) {
         Ok(shared) => Ok(Session {
             shared,
@@ -153,10 +151,13 @@ impl Session {
             Ok(opened) => opened,
             Err(refusal) => return Err(Fault::Refused(refusal)),
         };
-        let Some(pass) = take_last(&store, &mut passes) else {
+        let Ok(shared) = Shared::new(alloc, store, passes.as_slice()) else {
+            return Err(Fault::Refused(Refusal::OutOfMemory));
+        };
+        let Some(pass) = take_last(shared.store(), &mut passes) else {
             unreachable!()
         };
-        seated(alloc, limits, store, pass, passes)
+        seated(alloc, limits, shared, pass, passes)
     }
 
     /// A session of the same store, in a box: with the last pass that waits here, or where none does, with one that was given
@@ -193,7 +194,7 @@ impl Session {
             pass,
             spare,
         } = self;
-        shared.give_back(pass);
+        drop(shared.give_back(pass));
         shared.give_back_all(spare);
     }
 
@@ -210,7 +211,7 @@ impl Session {
             return Err(Fault::NoPass);
         };
         let length = self.shared.store().meet(&mut self.pass, &mut other);
-        self.shared.give_back(other);
+        drop(self.shared.give_back(other));
         Ok(length)
     }
 
@@ -305,6 +306,17 @@ impl Session {
         Ok(answer?)
     }
 
+    /// How full the store is, and the oldest version that a pass has announced: as the store's own `status`. It needs no pin.
+    pub fn status(&mut self) -> Result<Status, Fault>
+        ensures store { (self.new.store ≡ self.old.store) × (self.new.spare ≡ self.old.spare) }
+        ensures learns { Learns self.old.knows self.new.knows }
+        ensures told { IfOk result (λ s. TellsStatus self.old.knows self.new.knows s) }
+        ensures err { IfErr result (λ e. (why : AnyRefusal) × (e ≡ Refused why) × FoundHeld why self.old.knows self.new.knows) }
+    {
+        let told = self.shared.store().status(&mut self.pass);
+        Ok(told?)
+    }
+
     /// The nodes of which the query is true in the pinned version, ascending.
     pub fn query(&mut self, alloc: Global, query: &Query) -> Result<Vec<u64>, Fault>
         ensures store { (self.new.store ≡ self.old.store) × (self.new.spare ≡ self.old.spare) }
@@ -346,11 +358,11 @@ impl Session {
         let Some(_) = self.pass.pinned() else {
             return Err(Fault::NotPinned);
         };
-        let indices = match self.shared.store().indices(alloc, &mut self.pass) {
-            Ok(indices) => indices,
-            Err(_) => return Err(Fault::Refused(Refusal::OutOfMemory)),
-        };
-        Ok(cover_text(alloc, query, indices.as_slice())?)
+        let cover = self
+            .shared
+            .store()
+            .explain(alloc, &mut self.pass, query)?;
+        Ok(cover_text(alloc, query, &cover)?)
     }
 
     /// A node's attribute in the pinned version, if it has one.

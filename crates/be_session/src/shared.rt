@@ -1,10 +1,11 @@
 //! What the sessions of a store share: the store, and the passes that were given back.
 ghost use Rattle.std.specs.Prelude.{◌≡◌, ◌≤◌, ◌<◌, IfOk, IfSome, vec_len};
-ghost use Rattle.be_session.specs.Sitting.{IsUnpinnedOf};
+ghost use Rattle.be_session.specs.Sitting.{AreAllSeats, IsUnpinnedOf, MayWaitAt};
 ghost use Rattle.be_store.specs.Passes.{IsPassOf};
 ghost use Rattle.be_table.specs.Works.{AreNew};
 
 use crate::passes::take_last;
+use be_store::laws::seen_is_legal;
 use be_store::{Pass, Store};
 use counted_slot::{Counted, Fits, TAKEN};
 use std::alloc::{AllocError, Global};
@@ -23,15 +24,15 @@ pub(crate) struct Returned {
 }
 
 impl Fits for Returned {
-    type Tag = Store;
+    type Tag = Pass;
 
-    ghost fits = { λ store returned. IsUnpinnedOf store returned.pass };
+    ghost fits = { λ seat returned. MayWaitAt seat returned.pass };
 }
 
-/// Puts a pass into a slot. It comes back where one waits there, or another thread is at the slot.
+/// Puts a pass into the slot of its seat. It comes back where one waits there, or another thread is at the slot.
 fn put(slot: &Counted<Option<Returned>>, pass: Pass) -> Option<Pass>
-    requires { IsUnpinnedOf slot.now pass }
-    ensures { IfSome result (λ p. IsUnpinnedOf slot.now p) }
+    requires { MayWaitAt slot.now pass }
+    ensures { IfSome result (λ p. p ≡ pass) }
 {
     let (found, claim) = slot.turn(EMPTY, TAKEN);
     if found != EMPTY {
@@ -44,7 +45,7 @@ fn put(slot: &Counted<Option<Returned>>, pass: Pass) -> Option<Pass>
 
 /// The pass that waits in a slot.
 fn take(slot: &Counted<Option<Returned>>) -> Option<Pass>
-    ensures { IfSome result (λ p. IsUnpinnedOf slot.now p) }
+    ensures { IfSome result (λ p. MayWaitAt slot.now p) }
 {
     let (found, claim) = slot.turn(FULL, TAKEN);
     if found != FULL {
@@ -60,7 +61,8 @@ fn take(slot: &Counted<Option<Returned>>) -> Option<Pass>
 /// The pass, with its pin given up.
 fn unpinned(store: &Store, mut pass: Pass) -> Pass
     requires { IsPassOf store.now pass }
-    ensures { IsUnpinnedOf store.now result }
+    ensures pass { IsUnpinnedOf store.now result }
+    ensures number { result.knows.number ≡ pass.knows.number }
 {
     if pass.pinned().is_none() {
         return pass;
@@ -77,24 +79,25 @@ pub(crate) struct Shared {
 }
 
 impl Model for Shared {
-    ghost use Rattle.std.specs.Prelude.{◌≡◌, All};
+    ghost use Rattle.be_session.specs.Sitting.{AreAllSeats};
     ghost use Rattle.be_table.specs.Place.{Opened};
 
     ghost Value = { Opened };
 
     ghost view = { λ s. s.store };
 
-    ghost invariant = { λ s. All (λ tag. tag ≡ s.store) s.slots.items };
+    ghost invariant = { λ s. AreAllSeats s.store s.slots.items };
 }
 
 impl Shared {
-    /// The store, with so many empty slots.
-    pub(crate) fn new(alloc: Global, store: Store, count: u64) -> Result<Shared, AllocError>
+    /// The store, with an empty slot for each of its passes.
+    pub(crate) fn new(alloc: Global, store: Store, passes: &[Pass]) -> Result<Shared, AllocError>
+        requires { AreAllSeats store passes.now }
         ensures { IfOk result (λ s. s ≡ store) }
     {
         let mut slots = Vec::new(alloc);
-        for _slot in 0..count {
-            slots.push(Counted::new(None, &store))?;
+        for pass in passes {
+            slots.push(Counted::new(None, pass))?;
         }
         Ok(Shared { store, slots })
     }
@@ -105,13 +108,15 @@ impl Shared {
         &self.store
     }
 
-    /// Gives a pass back, and its pin up. Each pass has a slot of its own, which is empty while the pass is in use.
-    pub(crate) fn give_back(&self, pass: Pass)
+    /// Gives a pass back, and its pin up. Each pass has a slot of its own, which is empty while the pass is in use: so it goes
+    /// into that slot, and nothing comes back.
+    pub(crate) fn give_back(&self, pass: Pass) -> Option<Pass>
         requires { IsPassOf self.now pass }
+        ensures { IfSome result (λ p. IsUnpinnedOf self.now p × (p.knows.number ≡ pass.knows.number)) }
     {
-        if let Some(slot) = self.slots.get(pass.number() as usize) {
-            drop(put(slot, unpinned(&self.store, pass)));
-        }
+        seen_is_legal(&self.store, &pass);
+        let slot = &self.slots[pass.number() as usize];
+        put(slot, unpinned(&self.store, pass))
     }
 
     /// Gives back passes that nobody has used.
@@ -120,7 +125,7 @@ impl Shared {
     {
         for _left in 0..passes.len() {
             if let Some(pass) = take_last(&self.store, &mut passes) {
-                self.give_back(pass);
+                drop(self.give_back(pass));
             }
         }
     }

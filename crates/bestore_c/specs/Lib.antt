@@ -2,3 +2,4 @@ pub mod Owned
 pub mod Lent
 pub mod Places
 pub mod Calls
+pub mod Usage

@@ -48,6 +48,20 @@ pub struct Counts {
     pub bytes: u64,
 }
 
+/// How full the store is, and the oldest version that a pass has announced, if one has.
+#[repr(C)]
+#[derive(Clone, Copy)]
+pub struct Usage {
+    pub pages: u64,
+    pub free: u64,
+    pub retired: u64,
+    pub entries: u64,
+    pub commits: u64,
+    pub is_held: bool,
+    pub oldest: u64,
+    pub holder: u64,
+}
+
 /// How many nodes came at a refresh, and how many went.
 #[repr(C)]
 #[derive(Clone, Copy)]

@@ -18,6 +18,7 @@ ghost use Rattle.be_table.specs.Trace.{with_history};
 ghost use Rattle.be_volume.specs.Reading.{attributes_at, index_kinds};
 ghost use Rattle.bestore_c.specs.Calls.{AnswersWhetherOpen, Calls, Explains, Finds, FindsBuilt, FindsPrepared, GivesAnother, IsClosed};
 ghost use Rattle.bestore_c.specs.Calls.{IsTextFault, Listed, MovesHandle, Opens, Prepares, Reads, RefreshesPrepared, Refuses, ShowsChanges, TellsJournal, WritesSpelled};
+ghost use Rattle.bestore_c.specs.Usage.{TellsUsage};
 
 mod asking;
 mod handle;
@@ -28,6 +29,7 @@ mod owned_query;
 mod places;
 mod reading;
 mod refusing;
+mod telling;
 #[cfg(test)]
 mod tests;
 
@@ -37,7 +39,7 @@ use be_session::{
     query_of_items,
 };
 use be_store::{ArrayVec, Limits};
-use handle::{Attribute, Counts, Handle, PreparedHandle, UpdateCounts};
+use handle::{Attribute, Counts, Handle, PreparedHandle, UpdateCounts, Usage};
 use listing::{tell_attributes, tell_indices};
 use owned::Owned;
 use owned_query::OwnedQuery;
@@ -46,6 +48,7 @@ use reading::read;
 use refusing::{refuse, refuse_list};
 use std::alloc::Global;
 use std::mem;
+use telling::usage_of;
 
 /// The number that says that a call did what it should.
 const DONE: u32 = 0;
@@ -356,6 +359,26 @@ pub extern "C" fn bes_explain(
     };
     let answer = pass.owned.lent().explain(alloc, &query);
     tell_text(answer, bytes, count)
+}
+
+/// Tells how full the store is, and the oldest version that a pass has announced.
+#[unsafe(no_mangle)]
+pub extern "C" fn bes_status(pass: &mut Handle, usage: &mut Usage, number: &mut u64) -> u32
+    ensures pass { Calls pass.old.owned.value pass.new.owned.value (IsClosed number.new result)
+        (λ s t. TellsUsage s t usage.new number.new result) }
+    ensures kept { (result ≡ 0) ⊎ (usage.new ≡ usage.old) }
+{
+    *number = 0;
+    if !pass.live {
+        return CLOSED;
+    }
+    match pass.owned.lent().status() {
+        Ok(status) => {
+            *usage = usage_of(&status);
+            DONE
+        }
+        Err(fault) => refuse(fault, number),
+    }
 }
 
 /// Reads a node's attribute in the pinned version. Puts out its type code, its number and its length in bytes, and as many

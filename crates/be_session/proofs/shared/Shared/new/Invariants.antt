@@ -1,6 +1,5 @@
-use Rattle.std.proofs.Common.{◌≡◌}
-use Rattle.std.specs.List.{All}
+use Rattle.std.proofs.Common.{◌≡◌, take}
 use Rattle.be_session.proofs.shared.Shared.new.Given as goal
 
-abbrev pub invariant-loop-slot : goal.invariant-loop-slot
-invariant-loop-slot l = All (λ tag. tag ≡ l.fn.store) l.slots.items
+abbrev pub invariant-loop-pass : goal.invariant-loop-pass
+invariant-loop-pass l = l.slots.items ≡ take l.pass-index l.passes
