@@ -358,10 +358,7 @@ impl Session {
         let Some(_) = self.pass.pinned() else {
             return Err(Fault::NotPinned);
         };
-        let cover = self
-            .shared
-            .store()
-            .explain(alloc, &mut self.pass, query)?;
+        let cover = self.shared.store().explain(alloc, &mut self.pass, query)?;
         Ok(cover_text(alloc, query, &cover)?)
     }
 
