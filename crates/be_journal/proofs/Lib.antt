@@ -1,4 +1,0 @@
-pub mod DoneLemmas
-pub mod LegalLemmas
-pub mod SoundLemmas
-pub mod TextLemmas

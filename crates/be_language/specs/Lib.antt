@@ -1,5 +1,0 @@
-pub mod Reply
-pub mod Request
-pub mod Values
-pub mod View
-pub mod Words

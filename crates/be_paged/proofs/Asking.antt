@@ -1,4 +1,0 @@
--- What a query reads of a version.
-pub mod Walks
-pub mod SourceKeys
-pub mod RangeNodes

@@ -1,7 +1,0 @@
-use Rattle.be_paged_tests.proofs.asking.ask.Given as goal
-
-abbrev pub ghost-covers : goal.ghost-covers
-ghost-covers g a = g.volume
-
-abbrev pub ghost-walked : goal.ghost-walked
-ghost-walked g a = g.volume

@@ -1,3 +1,0 @@
-mod PageSets
-mod Pools
-mod Rooms

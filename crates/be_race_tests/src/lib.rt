@@ -1,9 +1,0 @@
-//! Races of scripts, by public calls.
-//!
-//! They stand in a crate of their own, so that be_serving isn't proved a second time with them.
-#![tactic(auto)]
-
-#[cfg(test)]
-mod gates;
-#[cfg(test)]
-mod races;

@@ -1,7 +1,0 @@
-//! Scripts and what they are answered, by public calls.
-//!
-//! They stand in a crate of their own, so that be_serving isn't proved a second time with them.
-#![tactic(auto)]
-
-#[cfg(test)]
-mod tests;

@@ -1,7 +1,0 @@
-pub mod Fault
-pub mod Meaning
-pub mod Sitting
-pub mod Operations
-pub mod Items
-pub mod Explained
-pub mod Prepared

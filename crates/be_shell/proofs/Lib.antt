@@ -1,4 +1,0 @@
-pub mod LineLemmas
-pub mod TalkLemmas
-pub mod TerminalLemmas
-pub mod WholeLemmas

@@ -1,7 +1,0 @@
-//! Conversations with a shell, by public calls.
-//!
-//! They stand in a crate of their own, so that be_shell isn't proved a second time with them.
-#![tactic(auto)]
-
-#[cfg(test)]
-mod talks;

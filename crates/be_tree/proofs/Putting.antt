@@ -1,3 +1,0 @@
--- A pair is put into a tree.
-pub mod Puts
-pub mod PutAt

@@ -1,4 +1,0 @@
--- What a cursor reads, and the numbers that keys end with.
-pub mod Cursors
-pub mod LastBytes
-pub mod Leaves

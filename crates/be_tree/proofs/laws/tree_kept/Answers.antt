@@ -1,6 +1,0 @@
-use Rattle.std.proofs.Common.{refl}
-use Rattle.be_tree.proofs.Trees.{tree_kept}
-use Rattle.be_tree.proofs.laws.tree_kept.Goals as goal
-
-pub returns : goal.returns
-returns c = λ standing kept words root each tree. tree_kept standing kept words words each refl root tree

@@ -1,2 +1,0 @@
-pub mod KeyOrder
-pub mod KeyPairs

@@ -1,7 +1,0 @@
-//! The tests of be_volume: its public calls on worked examples.
-//!
-//! They stand apart, so that be_volume is proved once.
-#![tactic(auto)]
-
-#[cfg(test)]
-mod tests;

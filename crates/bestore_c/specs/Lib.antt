@@ -1,5 +1,0 @@
-pub mod Owned
-pub mod Lent
-pub mod Places
-pub mod Calls
-pub mod Usage
