@@ -3,7 +3,7 @@ use Rattle.be_tree.specs.declared.slot.Slot.{Slot}
 use Rattle.be_tree.specs.declared.slot.Slot.TheVariants.{Branch}
 use Rattle.be_tree.specs.Slot.{pairs_of}
 use Rattle.be_tree.specs.Tree.{pairs_below, pages_below, Becomes}
-use Rattle.be_tree.proofs.edit.pack.Goals as goal
+use Rattle.be_tree.proofs.writing.pack.Goals as goal
 
 pub returns-clause-ok : goal.returns-clause-ok
 returns-clause-ok g c =

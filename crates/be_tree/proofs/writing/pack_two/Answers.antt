@@ -5,7 +5,7 @@ use Rattle.be_tree.specs.Tree.{pairs_below, pages_below, Becomes, IsBelow}
 use Rattle.be_tree.proofs.Frame.{times_other, times_append}
 use Rattle.be_tree.proofs.Putting.Puts.{becomes_given_up, held_after}
 use Rattle.be_tree.proofs.Nodes.Slots.{branches_ready}
-use Rattle.be_tree.proofs.edit.pack_two.Goals as goal
+use Rattle.be_tree.proofs.writing.pack_two.Goals as goal
 
 pub give_up-requires-clause-held : goal.give_up-requires-clause-held
 give_up-requires-clause-held g c =

@@ -7,9 +7,9 @@ use Rattle.be_tree.proofs.Frame.{swaps_start, start_trans, swaps_same, swaps_aft
 use Rattle.be_tree.proofs.Shape.Below.{all_left, all_right}
 use Rattle.be_tree.proofs.Shape.Parts.{front_below, back_below, becomes_halves, on_err}
 use Rattle.be_tree.proofs.Nodes.Slots.{all_ready_swaps, pairs_swaps, all_apart_nil, branch_same}
-use Rattle.be_tree.proofs.edit.write_parts.Given.{Over}
-use Rattle.be_tree.proofs.edit.write_parts.Goals as goal
-use Rattle.be_tree.proofs.edit.write_parts.Goals.{After-split_at}
+use Rattle.be_tree.proofs.writing.write_parts.Given.{Over}
+use Rattle.be_tree.proofs.writing.write_parts.Goals as goal
+use Rattle.be_tree.proofs.writing.write_parts.Goals.{After-split_at}
 
 -- the two halves, by their items
 halves : (g : Over) (c : After-split_at g) → pairs_of (g.R.Look.words c.args.room.now) c.args.pair.now c.args.slots.now

@@ -4,7 +4,7 @@ use Rattle.be_pages.specs.Pages.{Swaps}
 use Rattle.be_tree.specs.Slot.{branch_to, pair_of, pairs_of}
 use Rattle.be_tree.proofs.Shape.Parts.{becomes_branch}
 use Rattle.be_tree.proofs.Nodes.Slots.{child_branch}
-use Rattle.be_tree.proofs.edit.write_branch.Goals as goal
+use Rattle.be_tree.proofs.writing.write_branch.Goals as goal
 
 pub returns-clause-ok : goal.returns-clause-ok
 returns-clause-ok g c =

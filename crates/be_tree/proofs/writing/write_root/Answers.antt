@@ -9,7 +9,7 @@ use Rattle.be_tree.proofs.Frame.{swaps_start, start_trans}
 use Rattle.be_tree.proofs.Shape.Parts.{on_err}
 use Rattle.be_tree.proofs.Shape.Roots.{root_written, becomes_tree}
 use Rattle.be_tree.proofs.Nodes.Slots.{child_branch, branches_ready}
-use Rattle.be_tree.proofs.edit.write_root.Goals as goal
+use Rattle.be_tree.proofs.writing.write_root.Goals as goal
 
 pub returns-then-slots-le-MOST_ITEMS-clause-ok : goal.returns-then-slots-le-MOST_ITEMS-clause-ok
 returns-then-slots-le-MOST_ITEMS-clause-ok g c =

@@ -4,7 +4,7 @@ use Rattle.std.proofs.lemmas.List.{length-map}
 use Rattle.be_tree.specs.Slot.{pair_of, pairs_of}
 use Rattle.be_tree.proofs.Frame.{written_swaps}
 use Rattle.be_tree.proofs.Nodes.Slots.{ready_same, beside_free, written_at}
-use Rattle.be_tree.proofs.edit.write_node.Goals as goal
+use Rattle.be_tree.proofs.writing.write_node.Goals as goal
 
 pub store_node-requires-clause-ready : goal.store_node-requires-clause-ready
 store_node-requires-clause-ready g c = λ i d lt.
