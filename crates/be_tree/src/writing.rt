@@ -11,7 +11,8 @@
 //! A node of more than twelve items is written in two pages, of which the first is the old one where it can be. Of two
 //! neighbours the first one is written before the second, since it only takes items from there, and gives its last ones.
 ghost use Rattle.std.specs.Prelude.{◌≡◌, ◌≢◌, ℕ, suc, ◌+◌, ◌-◌, ◌^◌, ◌<◌, ◌≤◌, [], ◌∷◌, ◌++◌, true, false, length, take, drop, All, IfOk, OnErr, IfErr, IfSome, IsTrue};
-ghost use Rattle.be_pages.specs.Pages.{is_kept, is_readable, is_taken, times, Swaps, KeepsStart};
+ghost use Rattle.be_pages.specs.declared.room.Standing.TheVariants.{Filled};
+ghost use Rattle.be_pages.specs.Pages.{is_kept, is_readable, is_taken, times, StandsAt, Swaps, KeepsStart};
 ghost use Rattle.be_pages.specs.Refusal.{IsFullOf};
 ghost use Rattle.be_tree.specs.Page.{item_place};
 ghost use Rattle.be_tree.specs.Slot.{IsBranchSlot, IsReady, Moves, StandsFrom, branch_to, pairs_of};
@@ -90,6 +91,8 @@ fn write_over<R: Room>(
     ensures written { IsWritten level (R.words room.new) (pairs_of (R.words room.old) pair.now slots.now) (branch_to (R.words room.new) page) }
     ensures swaps { Swaps R.kept R.standing R.words (page ∷ []) (page ∷ []) room.old room.new }
     ensures behind { (i : ℕ) → item_place (length slots.now) ≤ i → R.words room.new page i ≡ R.words room.old page i }
+    ensures standing { StandsAt (R.standing room.old) (R.standing room.new) page Filled }
+    ensures others { (q : ℕ) → q ≢ page → R.words room.new q ≡ R.words room.old q }
     ensures small { page < 2 ^ 32 }
 {
     match way {
