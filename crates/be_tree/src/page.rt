@@ -416,8 +416,7 @@ fn stands_to(page: u64, place: usize, slot: Slot) -> bool
     match slot {
         Slot::At(at, from) => {
             let at = at as usize;
-            from as u64 != page
-                || at >= HEADER_WORDS && (at == place || at + ITEM_WORDS <= place)
+            from as u64 != page || at >= HEADER_WORDS && (at == place || at + ITEM_WORDS <= place)
         }
         Slot::Branch(child) => child as u64 != page,
         Slot::New => true,

@@ -72,14 +72,7 @@ fn way_over<R: Room>(room: &R, page: u64, slots: &[Slot]) -> Option<Way>
 }
 
 /// Writes a node over its page, which this write has taken. What stands behind its items there stays.
-fn write_over<R: Room>(
-    room: &mut R,
-    level: u64,
-    page: u64,
-    way: Way,
-    slots: &[Slot],
-    pair: &Item,
-)
+fn write_over<R: Room>(room: &mut R, level: u64, page: u64, way: Way, slots: &[Slot], pair: &Item)
     requires some { 0 < length slots.now }
     requires few { length slots.now ≤ 12 }
     requires ready { All (IsReady (R.standing room.old) (R.words room.old)) slots.now }
@@ -279,8 +272,8 @@ fn write_joined<R: Room>(
 fn all_stand_from(page: u64, place: usize, slots: &[Slot]) -> bool
     ensures { result ≡ true → All (StandsFrom page place) slots.now }
 {
-    for slot in slots {
-        if !stands_from(page, place, *slot) {
+    for j in 0..slots.len() {
+        if !stands_from(page, place, slots[j]) {
             return false;
         }
     }

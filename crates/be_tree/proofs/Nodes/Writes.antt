@@ -42,7 +42,7 @@ module _ {S K : Type 0} (kept_of : S → K) (standing_of : S → ℕ → Standin
       → Swaps kept_of standing_of words_of source (page ∷ []) old new
       → ((q : ℕ) → times q source + times q (pages_below level (words_of old) (pairs_of (words_of old) given slots)) ≤ 1)
       → Becomes kept_of standing_of words_of (source ++ pages_below level (words_of old) (pairs_of (words_of old) given slots)) (pairs_below level (words_of old) (pairs_of (words_of old) given slots)) (suc level)
-        (branch_to (words_of new) page ∷ []) old new
+      (branch_to (words_of new) page ∷ []) old new
   one_written slots source page old new below enough written small swaps apart =
       becomes_branch kept_of standing_of words_of level (pairs_of (words_of old) given slots) (branch_to (words_of new) page) source old new below
       (omega (arith, enough, length-map slots (pair_of (words_of old) given))) written
@@ -57,7 +57,7 @@ module _ {S K : Type 0} (kept_of : S → K) (standing_of : S → ℕ → Standin
       → ((q : ℕ) → times q source + times q (pages_below level (words_of old) (pairs_of (words_of old) given slots)) ≤ 1)
       → times left (right ∷ []) ≡ 0
       → Becomes kept_of standing_of words_of (source ++ pages_below level (words_of old) (pairs_of (words_of old) given slots)) (pairs_below level (words_of old) (pairs_of (words_of old) given slots)) (suc level)
-        (branch_to (words_of new) left ∷ branch_to (words_of new) right ∷ []) old new
+      (branch_to (words_of new) left ∷ branch_to (words_of new) right ∷ []) old new
   two_written front back slots source left right old new is below first_enough last_enough first small last last_small swaps apart different =
       let v = words_of old in
       let w = words_of new in
@@ -81,7 +81,7 @@ module _ {S K : Type 0} (kept_of : S → K) (standing_of : S → ℕ → Standin
       → IsWritten level (words_of mid) (pairs_of (words_of old) given back) (branch_to (words_of mid) right) → right < 2 ^ 32 → Swaps kept_of standing_of words_of [] (right ∷ []) old mid
       → IsWritten level (words_of new) (pairs_of (words_of mid) given front) (branch_to (words_of new) left) → left < 2 ^ 32 → Swaps kept_of standing_of words_of (page ∷ []) (left ∷ []) mid new
       → Becomes kept_of standing_of words_of (page ∷ pages_below level (words_of old) (pairs_of (words_of old) given slots)) (pairs_below level (words_of old) (pairs_of (words_of old) given slots)) (suc level)
-        (branch_to (words_of new) left ∷ branch_to (words_of new) right ∷ []) old new
+      (branch_to (words_of new) left ∷ branch_to (words_of new) right ∷ []) old new
   parts_written front back slots page left right old mid new is below first_enough last_enough ready used apart last last_small took first small wrote =
       let free = swaps_fresh kept_of standing_of words_of [] (right ∷ []) old mid took right (omega arith) (some_page right) in
       let other : times right (page ∷ []) ≡ 0 = times_other right page (free_other (standing_of old) right page free used) in
@@ -107,7 +107,7 @@ module _ {S K : Type 0} (kept_of : S → K) (standing_of : S → ℕ → Standin
       → pairs_of (words_of mid) given back ≡ pairs_of (words_of old) given back
       → IsWritten level (words_of new) (pairs_of (words_of mid) given back) (branch_to (words_of new) page) → page < 2 ^ 32 → Swaps kept_of standing_of words_of (right ∷ []) (page ∷ []) mid new
       → Becomes kept_of standing_of words_of (left ∷ right ∷ pages_below level (words_of old) (pairs_of (words_of old) given (front ++ back))) (pairs_below level (words_of old) (pairs_of (words_of old) given (front ++ back))) (suc level)
-        (branch_to (words_of new) left ∷ branch_to (words_of new) page ∷ []) old new
+      (branch_to (words_of new) left ∷ branch_to (words_of new) page ∷ []) old new
   over_written front back left right page old mid new below first_enough last_enough left_used right_used different left_apart right_apart first small over same last last_small wrote =
       let none : times left (right ∷ []) ≡ 0 = times_other left right different in
       let left_mid = swaps_after kept_of standing_of words_of (left ∷ []) (left ∷ []) old mid over left (some_page left) in
@@ -145,7 +145,7 @@ module _ {S K : Type 0} (kept_of : S → K) (standing_of : S → ℕ → Standin
         → IsWritten level (words_of last) (pairs_of (words_of mid) given back) (branch_to (words_of last) page) → page < 2 ^ 32
         → kept_of new ≡ kept_of last → words_of new ≡ words_of last → StandsAt (standing_of last) (standing_of new) left (after_give_up (standing_of last left))
         → Becomes kept_of standing_of words_of (left ∷ right ∷ pages_below level (words_of old) (pairs_of (words_of old) given (front ++ back))) (pairs_below level (words_of old) (pairs_of (words_of old) given (front ++ back))) (suc level)
-          (branch_to (words_of new) first ∷ branch_to (words_of new) page ∷ []) old new
+        (branch_to (words_of new) first ∷ branch_to (words_of new) page ∷ []) old new
     anew_written front back new below first_enough last_enough ready left_apart right_apart first_written small page_written page_small kept words stands =
         let first_same = swaps_same kept_of standing_of words_of (right ∷ []) (page ∷ []) mid last wrote first first_other (readable_kept (standing_of mid first) first_used) in
         let not_page : times first (page ∷ []) ≡ 0 = given_up_page kept_of standing_of words_of (right ∷ []) (page ∷ []) first mid last wrote first_other first_used in
