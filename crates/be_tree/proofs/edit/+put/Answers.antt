@@ -1,5 +1,5 @@
 use Rattle.std.specs.Prelude.{IsTrue}
-use Rattle.std.proofs.Common.{◌≡◌, ℕ, suc, [], ◌∷◌, ◌++◌, ◌-◌, ◌+◌, ◌<◌, All, List, ap, sym, subst, ◌∙◌, refl, length, arith}
+use Rattle.std.proofs.Common.{◌≡◌, ℕ, suc, [], ◌∷◌, ◌++◌, ◌-◌, ◌+◌, ◌<◌, All, List, ap, sym, subst, ◌∙◌, length, arith}
 use Rattle.std.proofs.lemmas.List.FromFn.{length-map-range_with_len}
 use Rattle.be_pages.specs.Pages.{IsUnchanged, times}
 use Rattle.be_tree.specs.declared.slot.Slot.{Slot}
