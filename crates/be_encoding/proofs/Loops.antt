@@ -1,0 +1,59 @@
+-- Operations with their answers one after the other, as loops read and write them.
+use Rattle.std.proofs.Common.{◌≡◌, ℕ, suc, ◌-◌, ◌+◌, ◌≤◌, ◌<◌, List, [], ◌∷◌, ◌++◌, length, drop, get_or, Some, None, refl, sym, ap, ◌∙◌, append_assoc, append-nil, add-one, drop-cons, arith}
+use Rattle.std.specs.declared.option.Option.{Option}
+use Rattle.be_volume.specs.declared.ops.Done.{Done}
+use Rattle.be_volume.specs.declared.ops.Op.{Op}
+use Rattle.be_encoding.specs.Encoding.{step_bytes, steps_bytes}
+use Rattle.be_encoding.specs.Decoding.{◌>>=◌, step_at, steps_at}
+
+-- what was read before, and what is still read
+abbrev pub behind : List Op → List Done → Option (List Op × List Done × List ℕ) → Option (List Op × List Done × List ℕ)
+behind ops dones read = read >>= λ x. Some (ops ++ x.0, dones ++ x.1, x.2)
+
+pushed : {X : Type 0} (front : List X) (x : X) (rest : List X) → front ++ x ∷ rest ≡ (front ++ x ∷ []) ++ rest
+pushed front x rest = sym (append_assoc front (x ∷ []) rest)
+
+regrouped : (ops : List Op) (dones : List Done) (op : Op) (done : Done) (read : Option (List Op × List Done × List ℕ)) →
+    behind ops dones (read >>= λ x. Some (op ∷ x.0, done ∷ x.1, x.2)) ≡ behind (ops ++ op ∷ []) (dones ++ done ∷ []) read
+regrouped ops dones op done None = refl
+regrouped ops dones op done (Some x) =
+    ap (λ (xs : List Op). Some (xs, dones ++ done ∷ x.1, x.2)) (pushed ops op x.0)
+    ∙ ap (λ (xs : List Done). Some ((ops ++ op ∷ []) ++ x.0, xs, x.2)) (pushed dones done x.1)
+
+pub goes_on : (ops : List Op) (dones : List Done) (count i : ℕ) (bytes : List ℕ) (op : Op) (done : Done) (after : List ℕ) (all : Option (List Op × List Done × List ℕ)) →
+    i < count → step_at bytes ≡ Some (op, done, after) → behind ops dones (steps_at (count - i) bytes) ≡ all →
+    behind (ops ++ op ∷ []) (dones ++ done ∷ []) (steps_at (count - (i + 1)) after) ≡ all
+unfolding steps_at
+goes_on ops dones count i bytes op done after all short is so_far =
+    let one : count - i ≡ suc (count - (i + 1)) = omega arith in
+    let next : behind ops dones (steps_at (count - i) bytes) ≡ behind (ops ++ op ∷ []) (dones ++ done ∷ []) (steps_at (count - (i + 1)) after) =
+    rw (one, is) (regrouped ops dones op done (steps_at (count - (i + 1)) after)) in
+    sym next ∙ so_far
+
+pub ends : (ops : List Op) (dones : List Done) (count i : ℕ) (bytes : List ℕ) (all : Option (List Op × List Done × List ℕ)) →
+    i < count → step_at bytes ≡ None → behind ops dones (steps_at (count - i) bytes) ≡ all → all ≡ None
+unfolding steps_at
+ends ops dones count i bytes all short is so_far =
+    let one : count - i ≡ suc (count - (i + 1)) = omega arith in
+    let none : behind ops dones (steps_at (count - i) bytes) ≡ None = rw (one, is) refl in
+    sym so_far ∙ none
+
+pub is_done : (ops : List Op) (dones : List Done) (count i : ℕ) (bytes : List ℕ) (all : Option (List Op × List Done × List ℕ)) →
+    count ≤ i → behind ops dones (steps_at (count - i) bytes) ≡ all → all ≡ Some (ops, dones, bytes)
+unfolding steps_at
+is_done ops dones count i bytes all long so_far =
+    let none : count - i ≡ 0 = omega arith in
+    let last : behind ops dones (steps_at (count - i) bytes) ≡ Some (ops, dones, bytes) =
+    rw none (ap (λ (xs : List Op). Some (xs, dones ++ [], bytes)) (append-nil ops) ∙ ap (λ (xs : List Done). Some (ops, xs, bytes)) (append-nil dones)) in
+    sym so_far ∙ last
+
+-- what is left, of which the first is at i
+left : {X : Type 0} (xs : List X) (i : ℕ) (x : X) → i < length xs → x ≡ get_or xs i x → drop i xs ≡ x ∷ drop (i + 1) xs
+left xs i x short is = drop-cons xs i x short ∙ ap (λ y. y ∷ drop (suc i) xs) (sym is) ∙ ap (λ k. x ∷ drop k xs) (sym (add-one i))
+
+pub steps_left : (ops : List Op) (dones : List Done) (i : ℕ) (op : Op) (done : Done) → i < length ops → length dones ≡ length ops → op ≡ get_or ops i op → done ≡ get_or dones i done →
+    steps_bytes (drop i ops) (drop i dones) ≡ step_bytes op done ++ steps_bytes (drop (i + 1) ops) (drop (i + 1) dones)
+unfolding steps_bytes
+steps_left ops dones i op done short each is answers =
+    let within : i < length dones = omega (arith, short, each) in
+    rw (left ops i op short is, left dones i done within answers) refl
