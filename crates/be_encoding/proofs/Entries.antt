@@ -16,7 +16,7 @@ regrouped : (a b c rest : List ℕ) → (a ++ (b ++ c)) ++ rest ≡ a ++ (b ++ (
 regrouped a b c rest = append_assoc a (b ++ c) rest ∙ ap (λ x. a ++ x) (append_assoc b c rest)
 
 op_again : (op : Op) (rest : List ℕ) → CanBeOp op → op_at (form_of op) (op_bytes op ++ rest) ≡ Some (op, rest)
-unfolding op_bytes, op_at, set_at, unset_at, mkindex_at
+unfolding op_bytes op_at set_at unset_at mkindex_at
 op_again New rest is = refl
 op_again (Drop node) rest is = rw (number_again node rest is.1) refl
 op_again (Set node name value) rest is =
@@ -65,13 +65,13 @@ answered_again op node rest is fits =
     ∙ rw (op_again op (number_bytes node ++ rest) is, number_again node rest fits) refl
 
 step_again : (op : Op) (done : Done) (rest : List ℕ) → CanBeOp op → CanBeDone done → step_at (step_bytes op done ++ rest) ≡ Some (op, done, rest)
-unfolding step_bytes, step_at
+unfolding step_bytes step_at
 step_again op (Node node) rest is fits = rw (form_large op, form_back op) (answered_again op node rest is fits)
 step_again op Nothing rest is fits = rw (form_small op) (quiet_again op rest is)
 
 steps_again : (ops : List Op) (dones : List Done) (rest : List ℕ) → length dones ≡ length ops → All CanBeOp ops → All CanBeDone dones →
     steps_at (length ops) (steps_bytes ops dones ++ rest) ≡ Some (ops, dones, rest)
-unfolding steps_bytes, steps_at
+unfolding steps_bytes steps_at
 steps_again [] [] rest each are fit = refl
 steps_again [] (done ∷ dones) rest each are fit = absurd (omega (arith, each))
 steps_again (op ∷ ops) [] rest each are fit = absurd (omega (arith, each))
@@ -81,7 +81,7 @@ steps_again (op ∷ ops) (done ∷ dones) rest each are fit =
     ap (steps_at (suc (length ops))) (append_assoc (step_bytes op done) (steps_bytes ops dones) rest) ∙ rw (first, others) refl
 
 pub entry_again : (by : ℕ) (ops : List Op) (dones : List Done) (rest : List ℕ) → CanBeEntry by ops dones → entry_at (entry_bytes by ops dones ++ rest) ≡ Some (by, ops, dones, rest)
-unfolding entry_bytes, entry_at
+unfolding entry_bytes entry_at
 entry_again by ops dones rest is =
     let few : length ops ≤ 64 = is.few in
     ap entry_at (regrouped (number_bytes by) (number_bytes (length ops)) (steps_bytes ops dones) rest)

@@ -34,7 +34,7 @@ fixed_again w limit holds n rest fits =
     rw (long, take_at (to_be_bytes w n) rest (byte_len w) len, drop_at (to_be_bytes w n) rest (byte_len w) len, holds.back n fits) refl
 
 in_one : (n : ℕ) (rest : List ℕ) → nat_lt n 253 ≡ true → number_at (number_bytes n ++ rest) ≡ Some (n, rest)
-unfolding number_bytes, number_at
+unfolding number_bytes number_at
 in_one n rest h =
     let a : nat_eq n 253 ≡ false = grind (arith, nat_tests, h) in
     let b : nat_eq n 254 ≡ false = grind (arith, nat_tests, h) in
@@ -42,15 +42,15 @@ in_one n rest h =
     rw (h, a, b, c) refl
 
 in_two : (n : ℕ) (rest : List ℕ) → nat_lt n 253 ≡ false → nat_lt n (2 ^ 16) ≡ true → number_at (number_bytes n ++ rest) ≡ Some (n, rest)
-unfolding number_bytes, number_at
+unfolding number_bytes number_at
 in_two n rest h k = rw (h, k) (fixed_again w16 (2 ^ 16) holds16 n rest (ltb-true n (2 ^ 16) k))
 
 in_four : (n : ℕ) (rest : List ℕ) → nat_lt n 253 ≡ false → nat_lt n (2 ^ 16) ≡ false → nat_lt n (2 ^ 32) ≡ true → number_at (number_bytes n ++ rest) ≡ Some (n, rest)
-unfolding number_bytes, number_at
+unfolding number_bytes number_at
 in_four n rest h k l = rw (h, k, l) (fixed_again w32 (2 ^ 32) holds32 n rest (ltb-true n (2 ^ 32) l))
 
 in_eight : (n : ℕ) (rest : List ℕ) → nat_lt n 253 ≡ false → nat_lt n (2 ^ 16) ≡ false → nat_lt n (2 ^ 32) ≡ false → n < 2 ^ 64 → number_at (number_bytes n ++ rest) ≡ Some (n, rest)
-unfolding number_bytes, number_at
+unfolding number_bytes number_at
 in_eight n rest h k l fits = rw (h, k, l) (fixed_again w64 (2 ^ 64) holds64 n rest fits)
 
 pub number_again : (n : ℕ) (rest : List ℕ) → n < 2 ^ 64 → number_at (number_bytes n ++ rest) ≡ Some (n, rest)
@@ -64,7 +64,7 @@ unfolding below_at
 below_again limit n rest below fits = rw (number_again n rest fits, lt-ltb n limit below) refl
 
 pub counted_again : (bytes rest : List ℕ) → length bytes < 2 ^ 64 → counted_at (counted_bytes bytes ++ rest) ≡ Some (bytes, rest)
-unfolding counted_bytes, counted_at
+unfolding counted_bytes counted_at
 counted_again bytes rest fits =
     let long : nat_lt (length (bytes ++ rest)) (length bytes) ≡ false = le-ltb _ _ (omega (arith, length-append bytes rest)) in
     ap counted_at (append_assoc (number_bytes (length bytes)) bytes rest)

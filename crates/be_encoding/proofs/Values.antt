@@ -81,7 +81,7 @@ unfolding kind_at
 kind_again kind rest = rw (kind_back kind) refl
 
 pub value_again : (v : Value) (rest : List ℕ) → IsValue v → value_at (value_bytes v ++ rest) ≡ Some (v, rest)
-unfolding value_bytes, value_at, number_value_at
+unfolding value_bytes value_at number_value_at
 value_again (Cstr text) rest is = rw (text_again text rest is.0 is.1) refl
 value_again (Long (pos n)) rest is = rw (below_again (2 ^ 31) n rest (omega (arith, is)) (omega (arith, is))) refl
 value_again (Long (negsuc n)) rest is = rw (below_again (2 ^ 31) n rest (omega (arith, is)) (omega (arith, is))) refl

@@ -36,9 +36,9 @@ unfoldable pub number_at : List ℕ → Option (ℕ × List ℕ)
 number_at bytes = do
   first ← first_at bytes
   if nat_eq first.0 253 then fixed_at w16 first.1
-    else if nat_eq first.0 254 then fixed_at w32 first.1
-    else if nat_eq first.0 255 then fixed_at w64 first.1
-    else Some first
+      else if nat_eq first.0 254 then fixed_at w32 first.1
+      else if nat_eq first.0 255 then fixed_at w64 first.1
+      else Some first
 
 -- a number below a limit
 unfoldable pub below_at : ℕ → List ℕ → Option (ℕ × List ℕ)
@@ -108,9 +108,9 @@ unfoldable pub value_at : List ℕ → Option (Value × List ℕ)
 value_at bytes = do
   first ← first_at bytes
   if nat_eq first.0 1 then (text_at first.1 >>= (λ text. Some (Cstr text.0, text.1)))
-    else if nat_eq first.0 4 then (text_at first.1 >>= (λ text. Some (Mims text.0, text.1)))
-    else if nat_eq first.0 5 then (raw_at first.1 >>= (λ raw. Some (Rawt raw.0, raw.1)))
-    else number_value_at first.0 first.1
+      else if nat_eq first.0 4 then (text_at first.1 >>= (λ text. Some (Mims text.0, text.1)))
+      else if nat_eq first.0 5 then (raw_at first.1 >>= (λ raw. Some (Rawt raw.0, raw.1)))
+      else number_value_at first.0 first.1
 
 unfoldable pub set_at : List ℕ → Option (Op × List ℕ)
 set_at bytes = do

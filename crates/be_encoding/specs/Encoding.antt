@@ -1,5 +1,5 @@
 -- The bytes of an entry.
-use Rattle.std.specs.Prelude.{◌≡◌, ℕ, ◌+◌, ◌<◌, ◌≤◌, ◌^◌, ⊤, List, [], ◌∷◌, ◌++◌, length, All, nat_lt, pos, negsuc, if◌then◌else◌}
+use Rattle.std.specs.Prelude.{◌≡◌, ℕ, ◌+◌, ◌*◌, ◌<◌, ◌≤◌, ◌^◌, ⊤, List, [], ◌∷◌, ◌++◌, length, All, nat_lt, pos, negsuc, if◌then◌else◌}
 use Rattle.std.specs.Int.{to_be_bytes, w16, w32, w64}
 use lib.IntN.{ℤ}
 use Rattle.be_value.specs.Value.{kind_number}
@@ -75,6 +75,10 @@ steps_bytes (op ∷ ops) (done ∷ dones) = step_bytes op done ++ steps_bytes op
 -- the pass, how many operations there are, and they with their answers
 unfoldable pub entry_bytes : ℕ → List Op → List Done → List ℕ
 entry_bytes by ops dones = number_bytes by ++ (number_bytes (length ops) ++ steps_bytes ops dones)
+
+-- the most bytes that an entry of so many operations has
+abbrev pub most_bytes : ℕ → ℕ
+most_bytes count = 18 + 356 * count
 
 -- the node that an operation calls is a number of 64 bits
 abbrev pub HasNode : Op → Type 0

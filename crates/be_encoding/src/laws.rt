@@ -1,9 +1,9 @@
 //! Laws over the bytes of entries, for the crates above.
 //!
 //! Each is a function that does nothing; its contract is the law.
-ghost use Rattle.std.specs.Prelude.{◌≡◌, ◌+◌, ◌*◌, ◌≤◌, ◌++◌, ℕ, List, Some, length};
+ghost use Rattle.std.specs.Prelude.{◌≡◌, ◌≤◌, ◌++◌, ℕ, List, Some, length};
 ghost use Rattle.be_encoding.specs.Decoding.{entry_at};
-ghost use Rattle.be_encoding.specs.Encoding.{entry_bytes, CanBeEntry};
+ghost use Rattle.be_encoding.specs.Encoding.{entry_bytes, most_bytes, CanBeEntry};
 ghost use Rattle.be_volume.specs.declared.ops.Done.{Done as AnyDone};
 ghost use Rattle.be_volume.specs.declared.ops.Op.{Op as AnyOp};
 
@@ -16,5 +16,5 @@ pub fn entry_is_read()
 /// A law: an entry has at most 18 bytes, and 356 for each of its operations.
 pub fn entry_is_short()
     ensures { (by : ℕ) (ops : List AnyOp) (dones : List AnyDone) → CanBeEntry by ops dones →
-        length (entry_bytes by ops dones) ≤ 18 + 356 * length ops }
+        length (entry_bytes by ops dones) ≤ most_bytes (length ops) }
 {}

@@ -16,4 +16,4 @@ mod writing;
 
 pub use laws::{entry_is_read, entry_is_short};
 pub use reading::read_entry;
-pub use writing::write_entry;
+pub use writing::{most_bytes, write_entry};

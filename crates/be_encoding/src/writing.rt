@@ -183,20 +183,37 @@ fn write_steps(bytes: &mut Vec<u8>, ops: &[Op], dones: &[Done])
     }
 }
 
-/// Appends an entry to bytes that have room for it: at most 18 bytes, and 356 for each operation. It takes no memory, and
-/// what it appends is read back by `read_entry`.
 #[tactic(auto, unfolding(crate::specs::Encoding::entry_bytes))]
+fn write_parts(bytes: &mut Vec<u8>, by: u64, ops: &[Op], dones: &[Done])
+    requires each { length dones.now ≡ length ops.now }
+    requires room { vec_len bytes.old + length (spec.entry_bytes by ops.now dones.now) ≤ vec_capacity bytes.old }
+    ensures appends { bytes.new.items ≡ bytes.old.items ++ spec.entry_bytes by ops.now dones.now }
+    ensures room { vec_capacity bytes.old ≤ vec_capacity bytes.new }
+{
+    write_number(bytes, by);
+    write_number(bytes, ops.len() as u64);
+    write_steps(bytes, ops, dones);
+}
+
+/// The most bytes that an entry of so many operations has.
+pub fn most_bytes(count: usize) -> usize
+    requires { count ≤ 64 }
+    ensures { result ≡ spec.most_bytes count }
+{
+    18 + 356 * count
+}
+
+/// Appends an entry to bytes that have room for the longest one of as many operations. It takes no memory, and what it
+/// appends is read back by `read_entry`. It costs what the entry has.
 pub fn write_entry(bytes: &mut Vec<u8>, by: u64, ops: &[Op], dones: &[Done])
     requires few { length ops.now ≤ 64 }
     requires each { length dones.now ≡ length ops.now }
-    requires room { vec_len bytes.old + length (spec.entry_bytes by ops.now dones.now) ≤ vec_capacity bytes.old }
+    requires room { vec_len bytes.old + spec.most_bytes (length ops.now) ≤ vec_capacity bytes.old }
     ensures appends { bytes.new.items ≡ bytes.old.items ++ spec.entry_bytes by ops.now dones.now }
     ensures room { vec_capacity bytes.old ≤ vec_capacity bytes.new }
     ensures can_be { spec.CanBeEntry by ops.now dones.now }
 {
     ops_can_be(ops);
     dones_can_be(dones);
-    write_number(bytes, by);
-    write_number(bytes, ops.len() as u64);
-    write_steps(bytes, ops, dones);
+    write_parts(bytes, by, ops, dones);
 }
