@@ -48,7 +48,10 @@ fn has_no_front(alloc: Global, bytes: &[u8]) -> Result<bool, AllocError> {
 fn numbers(alloc: Global, bytes: &[u8]) -> Result<String, AllocError> {
     let mut text = String::new(alloc);
     for byte in bytes {
-        text = format!(in alloc; "{text} {byte}")?;
+        if !text.is_empty() {
+            text.push(' ')?;
+        }
+        text.push_str(format!(in alloc; "{byte}")?.as_str())?;
     }
     text.push('\n')?;
     Ok(text)
@@ -114,43 +117,43 @@ impl Answers for Encoder {
 /// Small numbers take a byte. A node that is answered takes its own bytes, and any other answer none.
 #[test]
 fn entries_have_bytes(rt: HostRuntime) -> Result<(), Fail> {
-    let lines = r#"1 by 0 set 1 "size" LONG 5 -> ok =>  0 1 2 1 4 115 105 122 101 2 5
-1 by 0 new -> node 1 =>  0 1 128 1
-1 by 0 new -> ok =>  0 1 0
-1 by 63 drop 7 -> ok =>  63 1 1 7
-1 by 0 drop 1 -> node 9 =>  0 1 129 1 9
-1 by 0 unset 7 "m" -> ok =>  0 1 3 7 1 109
-1 by 0 mkindex "k" LONG -> ok =>  0 1 4 1 107 2
-1 by 0 rmindex "é" -> ok =>  0 1 5 2 195 169
-1 by 2 new; set 1 "k" LONG 5 -> node 1; ok =>  2 2 128 1 2 1 1 107 2 5"#;
+    let lines = r#"1 by 0 set 1 "size" LONG 5 -> ok => 0 1 2 1 4 115 105 122 101 2 5
+1 by 0 new -> node 1 => 0 1 128 1
+1 by 0 new -> ok => 0 1 0
+1 by 63 drop 7 -> ok => 63 1 1 7
+1 by 0 drop 1 -> node 9 => 0 1 129 1 9
+1 by 0 unset 7 "m" -> ok => 0 1 3 7 1 109
+1 by 0 mkindex "k" LONG -> ok => 0 1 4 1 107 2
+1 by 0 rmindex "é" -> ok => 0 1 5 2 195 169
+1 by 2 new; set 1 "k" LONG 5 -> node 1; ok => 2 2 128 1 2 1 1 107 2 5"#;
     check_lines(rt.alloc(), &mut Encoder, lines)
 }
 
 /// Numbers at the bounds of one, two, four and eight bytes.
 #[test]
 fn numbers_have_bytes(rt: HostRuntime) -> Result<(), Fail> {
-    let lines = r#"1 by 0 drop 252 -> ok =>  0 1 1 252
-1 by 0 drop 253 -> ok =>  0 1 1 253 0 253
-1 by 0 drop 65535 -> ok =>  0 1 1 253 255 255
-1 by 0 drop 65536 -> ok =>  0 1 1 254 0 1 0 0
-1 by 0 drop 4294967295 -> ok =>  0 1 1 254 255 255 255 255
-1 by 0 drop 4294967296 -> ok =>  0 1 1 255 0 0 0 1 0 0 0 0
-1 by 0 drop 18446744073709551615 -> ok =>  0 1 1 255 255 255 255 255 255 255 255 255"#;
+    let lines = r#"1 by 0 drop 252 -> ok => 0 1 1 252
+1 by 0 drop 253 -> ok => 0 1 1 253 0 253
+1 by 0 drop 65535 -> ok => 0 1 1 253 255 255
+1 by 0 drop 65536 -> ok => 0 1 1 254 0 1 0 0
+1 by 0 drop 4294967295 -> ok => 0 1 1 254 255 255 255 255
+1 by 0 drop 4294967296 -> ok => 0 1 1 255 0 0 0 1 0 0 0 0
+1 by 0 drop 18446744073709551615 -> ok => 0 1 1 255 255 255 255 255 255 255 255 255"#;
     check_lines(rt.alloc(), &mut Encoder, lines)
 }
 
 /// A value of each kind, and the numbers at the bounds of their kinds.
 #[test]
 fn values_have_bytes(rt: HostRuntime) -> Result<(), Fail> {
-    let lines = r#"1 by 0 set 1 "a" CSTR "" -> ok =>  0 1 2 1 1 97 1 0
-1 by 0 set 1 "a" LONG 2147483647 -> ok =>  0 1 2 1 1 97 2 254 127 255 255 255
-1 by 0 set 1 "a" LONG -1 -> ok =>  0 1 2 1 1 97 130 0
-1 by 0 set 1 "a" LONG -2147483648 -> ok =>  0 1 2 1 1 97 130 254 127 255 255 255
-1 by 0 set 1 "a" LLNG -9223372036854775808 -> ok =>  0 1 2 1 1 97 131 255 127 255 255 255 255 255 255 255
-1 by 0 set 1 "a" MIMS "t/p" -> ok =>  0 1 2 1 1 97 4 3 116 47 112
-1 by 0 set 1 "a" RAWT "00ff" -> ok =>  0 1 2 1 1 97 5 2 0 255
-1 by 0 set 1 "a" ULNG 4294967295 -> ok =>  0 1 2 1 1 97 6 254 255 255 255 255
-1 by 0 set 1 "a" ULLG 300 -> ok =>  0 1 2 1 1 97 7 253 1 44"#;
+    let lines = r#"1 by 0 set 1 "a" CSTR "" -> ok => 0 1 2 1 1 97 1 0
+1 by 0 set 1 "a" LONG 2147483647 -> ok => 0 1 2 1 1 97 2 254 127 255 255 255
+1 by 0 set 1 "a" LONG -1 -> ok => 0 1 2 1 1 97 130 0
+1 by 0 set 1 "a" LONG -2147483648 -> ok => 0 1 2 1 1 97 130 254 127 255 255 255
+1 by 0 set 1 "a" LLNG -9223372036854775808 -> ok => 0 1 2 1 1 97 131 255 127 255 255 255 255 255 255 255
+1 by 0 set 1 "a" MIMS "t/p" -> ok => 0 1 2 1 1 97 4 3 116 47 112
+1 by 0 set 1 "a" RAWT "00ff" -> ok => 0 1 2 1 1 97 5 2 0 255
+1 by 0 set 1 "a" ULNG 4294967295 -> ok => 0 1 2 1 1 97 6 254 255 255 255 255
+1 by 0 set 1 "a" ULLG 300 -> ok => 0 1 2 1 1 97 7 253 1 44"#;
     check_lines(rt.alloc(), &mut Encoder, lines)
 }
 
@@ -167,6 +170,6 @@ bytes 0 1 5 1 255 => none
 bytes 0 1 2 1 1 97 2 254 128 0 0 0 => none
 bytes 0 1 2 1 1 97 8 5 => none
 bytes 0 2 0 => none
-bytes 0 1 1 253 0 5 =>  0 1 1 5"#;
+bytes 0 1 1 253 0 5 => 0 1 1 5"#;
     check_lines(rt.alloc(), &mut Encoder, lines)
 }
