@@ -10,6 +10,11 @@ use Rattle.be_encoding.specs.Decoding.{◌>>=◌, step_at, steps_at}
 abbrev pub behind : List Op → List Done → Option (List Op × List Done × List ℕ) → Option (List Op × List Done × List ℕ)
 behind ops dones read = read >>= λ x. Some (ops ++ x.0, dones ++ x.1, x.2)
 
+-- at first nothing was read
+pub nothing_behind : (read : Option (List Op × List Done × List ℕ)) → behind [] [] read ≡ read
+nothing_behind None = refl
+nothing_behind (Some x) = refl
+
 pushed : {X : Type 0} (front : List X) (x : X) (rest : List X) → front ++ x ∷ rest ≡ (front ++ x ∷ []) ++ rest
 pushed front x rest = sym (append_assoc front (x ∷ []) rest)
 

@@ -6,7 +6,7 @@ use Rattle.be_encoding.proofs.writing.write_entry.Goals as goal
 pub write_parts-requires-clause-room : goal.write_parts-requires-clause-room
 write_parts-requires-clause-room c =
     let can_be : CanBeEntry c.args.by c.args.ops.now c.args.dones.now = record {
-      pass = c.ranges.by;
+      pass = c.ranges.by.fits;
       few = c.requires.few;
       each = c.requires.each;
       of_ops = c.ops_can_be.ensures;
