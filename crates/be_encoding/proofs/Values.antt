@@ -52,6 +52,7 @@ unfolding raw_at
 raw_again raw rest short = rw (counted_again raw rest (omega (arith, short)), le-ltb 255 (length raw) short) refl
 
 kind_back : (kind : Kind) → kind_numbered (kind_number kind) ≡ Some kind
+unfolding kind_numbered
 kind_back kinds.Cstr = refl
 kind_back kinds.Long = refl
 kind_back kinds.Llng = refl
@@ -61,6 +62,7 @@ kind_back kinds.Ulng = refl
 kind_back kinds.Ullg = refl
 
 none_numbered : (n : ℕ) → ((kind : Kind) → kind_number kind ≡ n → ⊥) → None ≡ kind_numbered n
+unfolding kind_numbered
 none_numbered zero none = refl
 none_numbered (suc zero) none = absurd (none kinds.Cstr refl)
 none_numbered (suc (suc zero)) none = absurd (none kinds.Long refl)

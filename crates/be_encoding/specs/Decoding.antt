@@ -1,6 +1,7 @@
 -- How an entry is read from its bytes, from left to right. Each step gives what it read and the bytes behind it.
 use Rattle.std.specs.Prelude.{◌≡◌, ℕ, zero, suc, ◌-◌, ◌^◌, List, [], ◌∷◌, length, take, drop, Some, None, nat_lt, nat_eq, pos, negsuc, if◌then◌else◌}
 use Rattle.std.specs.Int.{Width, from_be_bytes, byte_len, w16, w32, w64}
+use Rattle.std.specs.Option.{option_map}
 use Rattle.std.specs.Result.{result_ok}
 use Rattle.std.specs.Str.{is_utf8}
 use Rattle.std.specs.declared.option.Option.{Option}
@@ -21,8 +22,7 @@ None >>= f = None
 
 -- What was returned, seen by view, is what reading gives.
 abbrev pub Gives : {X Y : Type 0} → (X → Y) → Option X → Option Y → Type 0
-Gives view (Some x) read = read ≡ Some (view x)
-Gives view None read = read ≡ None
+Gives view result read = read ≡ option_map view result
 
 abbrev pub first_at : List ℕ → Option (ℕ × List ℕ)
 first_at [] = None
@@ -76,7 +76,7 @@ raw_at bytes = do
   Some (raw, part.1)
 
 -- the kind of a number
-abbrev pub kind_numbered : ℕ → Option Kind
+unfoldable pub kind_numbered : ℕ → Option Kind
 kind_numbered zero = None
 kind_numbered (suc zero) = Some kinds.Cstr
 kind_numbered (suc (suc zero)) = Some kinds.Long

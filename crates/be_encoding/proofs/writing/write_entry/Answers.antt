@@ -14,3 +14,12 @@ write_parts-requires-clause-room c =
     } in
     let short : length (entry_bytes c.args.by c.args.ops.now c.args.dones.now) ≤ most_bytes (length c.args.ops.now) = entry_short c.args.by c.args.ops.now c.args.dones.now can_be in
     omega (arith, short, c.requires.room)
+
+pub returns-clause-can_be : goal.returns-clause-can_be
+returns-clause-can_be c = record {
+  pass = c.ranges.by.fits;
+  few = c.requires.few;
+  each = c.requires.each;
+  of_ops = c.ops_can_be.ensures;
+  of_dones = c.dones_can_be.ensures;
+}
