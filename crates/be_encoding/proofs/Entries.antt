@@ -1,6 +1,7 @@
 -- An entry that was written is read back, operation by operation.
-use Rattle.std.proofs.Common.{◌≡◌, ℕ, suc, ◌+◌, ◌-◌, ◌^◌, ◌<◌, ◌≤◌, Bool, true, false, nat_lt, List, [], ◌∷◌, ◌++◌, length, All, Some, None, Result, Ok, Err, refl, sym, ap, subst, ◌∙◌, append_assoc, arith}
+use Rattle.std.proofs.Common.{◌≡◌, ℕ, suc, ◌+◌, ◌-◌, ◌^◌, ◌<◌, ◌≤◌, Bool, true, false, nat_lt, List, [], ◌∷◌, ◌++◌, length, All, Some, None, Result, Ok, Err, refl, sym, ap, ◌∙◌, append_assoc, arith}
 use Rattle.std.specs.Prelude.{IfOk}
+use Rattle.std.specs.Option.{option_map}
 use Rattle.std.specs.declared.option.Option.{Option}
 use Rattle.std.proofs.lemmas.List.Elements.{All-head, All-tail}
 use Rattle.be_volume.specs.declared.ops.Done.{Done}
@@ -9,7 +10,7 @@ use Rattle.be_volume.specs.declared.ops.Op.{Op}
 use Rattle.be_volume.specs.declared.ops.Op.TheVariants.{New, Drop, Set, Unset, MkIndex, RmIndex}
 use Rattle.be_value.specs.Value.{kind_number}
 use Rattle.be_encoding.specs.Encoding.{number_bytes, counted_bytes, value_bytes, form_of, op_bytes, step_bytes, steps_bytes, entry_bytes, CanBeOp, CanBeDone, CanBeEntry}
-use Rattle.be_encoding.specs.Decoding.{◌>>=◌, Gives, first_at, number_at, op_at, set_at, unset_at, mkindex_at, quiet_at, answered_at, step_at, steps_at, entry_at}
+use Rattle.be_encoding.specs.Decoding.{◌>>=◌, first_at, number_at, op_at, set_at, unset_at, mkindex_at, quiet_at, answered_at, step_at, steps_at, entry_at}
 use Rattle.be_encoding.proofs.Numbers.{number_again}
 use Rattle.be_encoding.proofs.Values.{name_again, kind_again, value_again}
 
@@ -94,7 +95,7 @@ entry_again by ops dones rest is =
     ) refl
 
 -- what reading gives of bytes that an entry begins
-pub read_written : {X E : Type 0} (view : X → ℕ × List Op × List Done × List ℕ) (result : Result (Option X) E) (bytes : List ℕ) → IfOk result (λ read. Gives view read (entry_at bytes)) →
-    IfOk result (λ read. (by : ℕ) (ops : List Op) (dones : List Done) (rest : List ℕ) → CanBeEntry by ops dones → bytes ≡ entry_bytes by ops dones ++ rest → Gives view read (Some (by, ops, dones, rest)))
-read_written view (Ok read) bytes given = λ by ops dones rest can_be is. subst (Gives view read) (ap entry_at is ∙ entry_again by ops dones rest can_be) given
+pub read_written : {X E : Type 0} (view : X → ℕ × List Op × List Done × List ℕ) (result : Result (Option X) E) (bytes : List ℕ) → IfOk result (λ read. option_map view read ≡ entry_at bytes) →
+    IfOk result (λ read. (by : ℕ) (ops : List Op) (dones : List Done) (rest : List ℕ) → CanBeEntry by ops dones → bytes ≡ entry_bytes by ops dones ++ rest → option_map view read ≡ Some (by, ops, dones, rest))
+read_written view (Ok read) bytes given = λ by ops dones rest can_be is. given ∙ ap entry_at is ∙ entry_again by ops dones rest can_be
 read_written view (Err e) bytes given = tt

@@ -1,7 +1,7 @@
 -- How an entry is read from its bytes, from left to right. Each step gives what it read and the bytes behind it.
 use Rattle.std.specs.Prelude.{◌≡◌, ℕ, zero, suc, ◌-◌, ◌^◌, List, [], ◌∷◌, length, take, drop, Some, None, nat_lt, nat_eq, pos, negsuc, if◌then◌else◌}
 use Rattle.std.specs.Int.{Width, from_be_bytes, byte_len, w16, w32, w64}
-use Rattle.std.specs.Option.{option_map}
+use Rattle.std.specs.Option.{option_and_then}
 use Rattle.std.specs.Result.{result_ok}
 use Rattle.std.specs.Str.{is_utf8}
 use Rattle.std.specs.declared.option.Option.{Option}
@@ -17,12 +17,7 @@ use Rattle.be_volume.specs.declared.ops.Op.TheVariants.{New, Drop, Set, Unset, M
 
 infixl 10 ◌>>=◌
 abbrev pub ◌>>=◌ : {A B : Type 0} → Option A → (A → Option B) → Option B
-(Some x) >>= f = f x
-None >>= f = None
-
--- What was returned, seen by view, is what reading gives.
-abbrev pub Gives : {X Y : Type 0} → (X → Y) → Option X → Option Y → Type 0
-Gives view result read = read ≡ option_map view result
+o >>= f = option_and_then f o
 
 abbrev pub first_at : List ℕ → Option (ℕ × List ℕ)
 first_at [] = None

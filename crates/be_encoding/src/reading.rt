@@ -4,6 +4,7 @@
 //! thing stands there.
 ghost use Rattle.std.specs.Prelude.{◌≡◌, ◌<◌, ◌^◌, ◌++◌, ℕ, List, IfOk, IfSome, Some, pos, negsuc};
 ghost use Rattle.std.specs.Int.{w16, w32, w64};
+ghost use Rattle.std.specs.Option.{option_map};
 ghost use Rattle.be_encoding.specs.Decoding as spec;
 ghost use Rattle.be_encoding.specs.Encoding.{entry_bytes, CanBeEntry};
 ghost use Rattle.be_volume.specs.declared.ops.Done.{Done as AnyDone};
@@ -15,7 +16,7 @@ use std::alloc::{AllocError, Global};
 use std::str;
 
 fn first_of(bytes: &[u8]) -> Option<(u8, &[u8])>
-    ensures { spec.Gives (λ x. (x.0, x.1.now)) result (spec.first_at bytes.now) }
+    ensures { option_map (λ x. (x.0, x.1.now)) result ≡ spec.first_at bytes.now }
 {
     match bytes {
         [] => None,
@@ -24,7 +25,7 @@ fn first_of(bytes: &[u8]) -> Option<(u8, &[u8])>
 }
 
 fn number16_of(bytes: &[u8]) -> Option<(u64, &[u8])>
-    ensures { spec.Gives (λ x. (x.0, x.1.now)) result (spec.fixed_at w16 bytes.now) }
+    ensures { option_map (λ x. (x.0, x.1.now)) result ≡ spec.fixed_at w16 bytes.now }
 {
     if bytes.len() < 2 {
         return None;
@@ -34,7 +35,7 @@ fn number16_of(bytes: &[u8]) -> Option<(u64, &[u8])>
 }
 
 fn number32_of(bytes: &[u8]) -> Option<(u64, &[u8])>
-    ensures { spec.Gives (λ x. (x.0, x.1.now)) result (spec.fixed_at w32 bytes.now) }
+    ensures { option_map (λ x. (x.0, x.1.now)) result ≡ spec.fixed_at w32 bytes.now }
 {
     if bytes.len() < 4 {
         return None;
@@ -45,7 +46,7 @@ fn number32_of(bytes: &[u8]) -> Option<(u64, &[u8])>
 }
 
 fn number64_of(bytes: &[u8]) -> Option<(u64, &[u8])>
-    ensures { spec.Gives (λ x. (x.0, x.1.now)) result (spec.fixed_at w64 bytes.now) }
+    ensures { option_map (λ x. (x.0, x.1.now)) result ≡ spec.fixed_at w64 bytes.now }
 {
     if bytes.len() < 8 {
         return None;
@@ -59,7 +60,7 @@ fn number64_of(bytes: &[u8]) -> Option<(u64, &[u8])>
 
 #[tactic(auto, unfolding(crate::specs::Decoding::number_at))]
 fn number_of(bytes: &[u8]) -> Option<(u64, &[u8])>
-    ensures { spec.Gives (λ x. (x.0, x.1.now)) result (spec.number_at bytes.now) }
+    ensures { option_map (λ x. (x.0, x.1.now)) result ≡ spec.number_at bytes.now }
 {
     let (first, rest) = first_of(bytes)?;
     match first {
@@ -72,7 +73,7 @@ fn number_of(bytes: &[u8]) -> Option<(u64, &[u8])>
 
 #[tactic(auto, unfolding(crate::specs::Decoding::below_at))]
 fn below_of(limit: u64, bytes: &[u8]) -> Option<(u64, &[u8])>
-    ensures gives { spec.Gives (λ x. (x.0, x.1.now)) result (spec.below_at limit bytes.now) }
+    ensures gives { option_map (λ x. (x.0, x.1.now)) result ≡ spec.below_at limit bytes.now }
     ensures below { IfSome result (λ x. x.0 < limit) }
 {
     let (n, rest) = number_of(bytes)?;
@@ -81,7 +82,7 @@ fn below_of(limit: u64, bytes: &[u8]) -> Option<(u64, &[u8])>
 
 #[tactic(auto, unfolding(crate::specs::Decoding::counted_at))]
 fn counted_of(bytes: &[u8]) -> Option<(&[u8], &[u8])>
-    ensures { spec.Gives (λ x. (x.0.now, x.1.now)) result (spec.counted_at bytes.now) }
+    ensures { option_map (λ x. (x.0.now, x.1.now)) result ≡ spec.counted_at bytes.now }
 {
     let (len, rest) = number_of(bytes)?;
     if (rest.len() as u64) < len {
@@ -92,7 +93,7 @@ fn counted_of(bytes: &[u8]) -> Option<(&[u8], &[u8])>
 
 /// The text that the bytes spell, all of them.
 fn text_in(bytes: &[u8]) -> Option<&str>
-    ensures { spec.Gives (λ x. x.now) result (spec.text_in bytes.now) }
+    ensures { option_map (λ x. x.now) result ≡ spec.text_in bytes.now }
 {
     match str::from_utf8(bytes) {
         Ok(text) => Some(text),
@@ -102,7 +103,7 @@ fn text_in(bytes: &[u8]) -> Option<&str>
 
 #[tactic(auto, unfolding(crate::specs::Decoding::name_at))]
 fn name_of(bytes: &[u8]) -> Option<(Name, &[u8])>
-    ensures { spec.Gives (λ x. (x.0, x.1.now)) result (spec.name_at bytes.now) }
+    ensures { option_map (λ x. (x.0, x.1.now)) result ≡ spec.name_at bytes.now }
 {
     let (part, rest) = counted_of(bytes)?;
     let text = text_in(part)?;
@@ -112,7 +113,7 @@ fn name_of(bytes: &[u8]) -> Option<(Name, &[u8])>
 
 #[tactic(auto, unfolding(crate::specs::Decoding::text_at))]
 fn text_of(bytes: &[u8]) -> Option<(Text, &[u8])>
-    ensures { spec.Gives (λ x. (x.0, x.1.now)) result (spec.text_at bytes.now) }
+    ensures { option_map (λ x. (x.0, x.1.now)) result ≡ spec.text_at bytes.now }
 {
     let (part, rest) = counted_of(bytes)?;
     let text = text_in(part)?;
@@ -122,7 +123,7 @@ fn text_of(bytes: &[u8]) -> Option<(Text, &[u8])>
 
 #[tactic(auto, unfolding(crate::specs::Decoding::raw_at))]
 fn raw_of(bytes: &[u8]) -> Option<(Bytes, &[u8])>
-    ensures { spec.Gives (λ x. (x.0, x.1.now)) result (spec.raw_at bytes.now) }
+    ensures { option_map (λ x. (x.0, x.1.now)) result ≡ spec.raw_at bytes.now }
 {
     let (part, rest) = counted_of(bytes)?;
     let raw = Bytes::new(part).ok()?;
@@ -137,7 +138,7 @@ fn kind_numbered(number: u8) -> Option<Kind>
 
 #[tactic(auto, unfolding(crate::specs::Decoding::kind_at))]
 fn kind_of(bytes: &[u8]) -> Option<(Kind, &[u8])>
-    ensures { spec.Gives (λ x. (x.0, x.1.now)) result (spec.kind_at bytes.now) }
+    ensures { option_map (λ x. (x.0, x.1.now)) result ≡ spec.kind_at bytes.now }
 {
     let (first, rest) = first_of(bytes)?;
     let kind = kind_numbered(first)?;
@@ -162,7 +163,7 @@ fn negative64(n: u64) -> i64
 
 #[tactic(auto, unfolding(crate::specs::Decoding::number_value_at))]
 fn number_value_of(first: u8, rest: &[u8]) -> Option<(Value, &[u8])>
-    ensures { spec.Gives (λ x. (x.0, x.1.now)) result (spec.number_value_at first rest.now) }
+    ensures { option_map (λ x. (x.0, x.1.now)) result ≡ spec.number_value_at first rest.now }
 {
     match first {
         2 => {
@@ -195,7 +196,7 @@ fn number_value_of(first: u8, rest: &[u8]) -> Option<(Value, &[u8])>
 
 #[tactic(auto, unfolding(crate::specs::Decoding::value_at))]
 fn value_of(bytes: &[u8]) -> Option<(Value, &[u8])>
-    ensures { spec.Gives (λ x. (x.0, x.1.now)) result (spec.value_at bytes.now) }
+    ensures { option_map (λ x. (x.0, x.1.now)) result ≡ spec.value_at bytes.now }
 {
     let (first, rest) = first_of(bytes)?;
     match first {
@@ -217,7 +218,7 @@ fn value_of(bytes: &[u8]) -> Option<(Value, &[u8])>
 
 #[tactic(auto, unfolding(crate::specs::Decoding::set_at))]
 fn set_of(bytes: &[u8]) -> Option<(Op, &[u8])>
-    ensures { spec.Gives (λ x. (x.0, x.1.now)) result (spec.set_at bytes.now) }
+    ensures { option_map (λ x. (x.0, x.1.now)) result ≡ spec.set_at bytes.now }
 {
     let (node, rest) = number_of(bytes)?;
     let (name, rest) = name_of(rest)?;
@@ -227,7 +228,7 @@ fn set_of(bytes: &[u8]) -> Option<(Op, &[u8])>
 
 #[tactic(auto, unfolding(crate::specs::Decoding::unset_at))]
 fn unset_of(bytes: &[u8]) -> Option<(Op, &[u8])>
-    ensures { spec.Gives (λ x. (x.0, x.1.now)) result (spec.unset_at bytes.now) }
+    ensures { option_map (λ x. (x.0, x.1.now)) result ≡ spec.unset_at bytes.now }
 {
     let (node, rest) = number_of(bytes)?;
     let (name, rest) = name_of(rest)?;
@@ -236,7 +237,7 @@ fn unset_of(bytes: &[u8]) -> Option<(Op, &[u8])>
 
 #[tactic(auto, unfolding(crate::specs::Decoding::mkindex_at))]
 fn mkindex_of(bytes: &[u8]) -> Option<(Op, &[u8])>
-    ensures { spec.Gives (λ x. (x.0, x.1.now)) result (spec.mkindex_at bytes.now) }
+    ensures { option_map (λ x. (x.0, x.1.now)) result ≡ spec.mkindex_at bytes.now }
 {
     let (name, rest) = name_of(bytes)?;
     let (kind, rest) = kind_of(rest)?;
@@ -245,7 +246,7 @@ fn mkindex_of(bytes: &[u8]) -> Option<(Op, &[u8])>
 
 #[tactic(auto, unfolding(crate::specs::Decoding::op_at))]
 fn op_of(form: u8, bytes: &[u8]) -> Option<(Op, &[u8])>
-    ensures { spec.Gives (λ x. (x.0, x.1.now)) result (spec.op_at form bytes.now) }
+    ensures { option_map (λ x. (x.0, x.1.now)) result ≡ spec.op_at form bytes.now }
 {
     match form {
         0 => Some((Op::New, bytes)),
@@ -266,7 +267,7 @@ fn op_of(form: u8, bytes: &[u8]) -> Option<(Op, &[u8])>
 
 #[tactic(auto, unfolding(crate::specs::Decoding::quiet_at))]
 fn quiet_of(form: u8, bytes: &[u8]) -> Option<(Op, Done, &[u8])>
-    ensures { spec.Gives (λ x. (x.0, x.1, x.2.now)) result (spec.quiet_at form bytes.now) }
+    ensures { option_map (λ x. (x.0, x.1, x.2.now)) result ≡ spec.quiet_at form bytes.now }
 {
     let (op, rest) = op_of(form, bytes)?;
     Some((op, Done::Unit, rest))
@@ -274,7 +275,7 @@ fn quiet_of(form: u8, bytes: &[u8]) -> Option<(Op, Done, &[u8])>
 
 #[tactic(auto, unfolding(crate::specs::Decoding::answered_at))]
 fn answered_of(form: u8, bytes: &[u8]) -> Option<(Op, Done, &[u8])>
-    ensures { spec.Gives (λ x. (x.0, x.1, x.2.now)) result (spec.answered_at form bytes.now) }
+    ensures { option_map (λ x. (x.0, x.1, x.2.now)) result ≡ spec.answered_at form bytes.now }
 {
     let (op, rest) = op_of(form, bytes)?;
     let (node, rest) = number_of(rest)?;
@@ -283,7 +284,7 @@ fn answered_of(form: u8, bytes: &[u8]) -> Option<(Op, Done, &[u8])>
 
 #[tactic(auto, unfolding(crate::specs::Decoding::step_at))]
 fn step_of(bytes: &[u8]) -> Option<(Op, Done, &[u8])>
-    ensures { spec.Gives (λ x. (x.0, x.1, x.2.now)) result (spec.step_at bytes.now) }
+    ensures { option_map (λ x. (x.0, x.1, x.2.now)) result ≡ spec.step_at bytes.now }
 {
     let (first, rest) = first_of(bytes)?;
     if first < 128 {
@@ -298,7 +299,7 @@ fn steps_of(
     count: u64,
     bytes: &[u8],
 ) -> Result<Option<(Vec<Op>, Vec<Done>, &[u8])>, AllocError>
-    ensures { IfOk result (λ read. spec.Gives (λ x. (x.0.items, x.1.items, x.2.now)) read (spec.steps_at count bytes.now)) }
+    ensures { IfOk result (λ read. option_map (λ x. (x.0.items, x.1.items, x.2.now)) read ≡ spec.steps_at count bytes.now) }
 {
     let mut ops = Vec::new(alloc);
     let mut dones = Vec::new(alloc);
@@ -319,7 +320,7 @@ fn entry_of(
     alloc: Global,
     bytes: &[u8],
 ) -> Result<Option<(u64, Vec<Op>, Vec<Done>, &[u8])>, AllocError>
-    ensures { IfOk result (λ read. spec.Gives (λ x. (x.0, x.1.items, x.2.items, x.3.now)) read (spec.entry_at bytes.now)) }
+    ensures { IfOk result (λ read. option_map (λ x. (x.0, x.1.items, x.2.items, x.3.now)) read ≡ spec.entry_at bytes.now) }
 {
     let Some((by, rest)) = number_of(bytes) else {
         return Ok(None);
@@ -340,10 +341,10 @@ pub fn read_entry(
     alloc: Global,
     bytes: &[u8],
 ) -> Result<Option<(u64, Vec<Op>, Vec<Done>, &[u8])>, AllocError>
-    ensures read { IfOk result (λ read. spec.Gives (λ x. (x.0, x.1.items, x.2.items, x.3.now)) read (spec.entry_at bytes.now)) }
+    ensures read { IfOk result (λ read. option_map (λ x. (x.0, x.1.items, x.2.items, x.3.now)) read ≡ spec.entry_at bytes.now) }
     ensures written { IfOk result (λ read. (by : ℕ) (ops : List AnyOp) (dones : List AnyDone) (rest : List ℕ) →
         CanBeEntry by ops dones → bytes.now ≡ entry_bytes by ops dones ++ rest →
-        spec.Gives (λ x. (x.0, x.1.items, x.2.items, x.3.now)) read (Some (by, ops, dones, rest))) }
+        option_map (λ x. (x.0, x.1.items, x.2.items, x.3.now)) read ≡ Some (by, ops, dones, rest)) }
 {
     entry_of(alloc, bytes)
 }

@@ -1,9 +1,3 @@
-use Rattle.std.proofs.Common.{◌≡◌, ◌∙◌, ◌++◌, ℕ, List, Some, ap, subst}
-use Rattle.std.specs.Prelude.{IfOk}
-use Rattle.be_volume.specs.declared.ops.Done.{Done}
-use Rattle.be_volume.specs.declared.ops.Op.{Op}
-use Rattle.be_encoding.specs.Encoding.{entry_bytes, CanBeEntry}
-use Rattle.be_encoding.specs.Decoding.{Gives, entry_at}
 use Rattle.be_encoding.proofs.Entries.{read_written}
 use Rattle.be_encoding.proofs.reading.read_entry.Goals as goal
 
