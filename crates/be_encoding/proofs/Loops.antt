@@ -1,5 +1,6 @@
 -- Operations with their answers one after the other, as loops read and write them.
-use Rattle.std.proofs.Common.{◌≡◌, ℕ, suc, ◌-◌, ◌+◌, ◌≤◌, ◌<◌, List, [], ◌∷◌, ◌++◌, length, drop, get_or, Some, None, refl, sym, ap, ◌∙◌, append_assoc, append-nil, add-one, drop-cons, arith}
+use Rattle.std.proofs.Common.{◌≡◌, ℕ, suc, ◌-◌, ◌+◌, ◌≤◌, ◌<◌, List, [], ◌∷◌, ◌++◌, length, drop, get_or, Some, None, refl, sym, ap, ◌∙◌, append_assoc, append-nil, add-one, drop-cons, length-append, arith}
+use Rattle.std.proofs.lemmas.List.{at_drop_all}
 use Rattle.std.specs.declared.option.Option.{Option}
 use Rattle.be_volume.specs.declared.ops.Done.{Done}
 use Rattle.be_volume.specs.declared.ops.Op.{Op}
@@ -52,13 +53,26 @@ is_done ops dones count i bytes all long so_far =
     rw none (ap (λ (xs : List Op). Some (xs, dones ++ [], bytes)) (append-nil ops) ∙ ap (λ (xs : List Done). Some (ops, xs, bytes)) (append-nil dones)) in
     sym so_far ∙ last
 
--- what is left, of which the first is at i
-left : {X : Type 0} (xs : List X) (i : ℕ) (x : X) → i < length xs → x ≡ get_or xs i x → drop i xs ≡ x ∷ drop (i + 1) xs
-left xs i x short is = drop-cons xs i x short ∙ ap (λ y. y ∷ drop (suc i) xs) (sym is) ∙ ap (λ k. x ∷ drop k xs) (sym (add-one i))
-
-pub steps_left : (ops : List Op) (dones : List Done) (i : ℕ) (op : Op) (done : Done) → i < length ops → length dones ≡ length ops → op ≡ get_or ops i op → done ≡ get_or dones i done →
-    steps_bytes (drop i ops) (drop i dones) ≡ step_bytes op done ++ steps_bytes (drop (i + 1) ops) (drop (i + 1) dones)
+-- what is left of operations with their answers, from place i on
+pub steps_left : (ops : List Op) (dones : List Done) (i : ℕ) (op : Op) (d : Done) → i < length ops → length dones ≡ length ops → op ≡ get_or ops i op →
+    steps_bytes (drop i ops) (drop i dones) ≡ step_bytes op (get_or dones i d) ++ steps_bytes (drop (i + 1) ops) (drop (i + 1) dones)
 unfolding steps_bytes
-steps_left ops dones i op done short each is answers =
+steps_left ops dones i op d short each is =
     let within : i < length dones = omega (arith, short, each) in
-    rw (left ops i op short is, left dones i done within answers) refl
+    let first : drop i ops ≡ op ∷ drop (i + 1) ops = drop-cons ops i op short ∙ ap (λ x. x ∷ drop (suc i) ops) (sym is) ∙ ap (λ k. op ∷ drop k ops) (sym (add-one i)) in
+    let answer : drop i dones ≡ get_or dones i d ∷ drop (i + 1) dones = drop-cons dones i d within ∙ ap (λ k. get_or dones i d ∷ drop k dones) (sym (add-one i)) in
+    rw (first, answer) refl
+
+pub none_left : (ops : List Op) (dones : List Done) (i : ℕ) → length ops ≤ i → steps_bytes (drop i ops) (drop i dones) ≡ []
+unfolding steps_bytes
+none_left ops dones i past = at_drop_all (λ xs. steps_bytes xs (drop i dones)) ops i past
+
+-- one step less is left, and it takes its bytes of the room
+pub record Stepped (ops : List Op) (dones : List Done) (i : ℕ) (step : List ℕ) : Type 0 where
+  pub bytes : steps_bytes (drop i ops) (drop i dones) ≡ step ++ steps_bytes (drop (i + 1) ops) (drop (i + 1) dones)
+  pub len : length (steps_bytes (drop i ops) (drop i dones)) ≡ length step + length (steps_bytes (drop (i + 1) ops) (drop (i + 1) dones))
+
+pub stepped : (ops : List Op) (dones : List Done) (i : ℕ) (op : Op) (d : Done) → i < length ops → length dones ≡ length ops → op ≡ get_or ops i op → Stepped ops dones i (step_bytes op (get_or dones i d))
+stepped ops dones i op d short each is =
+    let one = steps_left ops dones i op d short each is in
+    record { bytes = one; len = ap length one ∙ length-append (step_bytes op (get_or dones i d)) (steps_bytes (drop (i + 1) ops) (drop (i + 1) dones)) }

@@ -10,8 +10,8 @@ use Rattle.be_encoding.specs.Decoding.{◌>>=◌, first_at, fixed_at, number_at,
 
 -- what a test answers, either way
 pub choose : {P : Type 0} (b : Bool) → (b ≡ true → P) → (b ≡ false → P) → P
-choose true yes no = yes refl
-choose false yes no = no refl
+choose true holds fails = holds refl
+choose false holds fails = fails refl
 
 -- numbers of a width, below the limit, have its bytes and are read back from them
 record Holds (w : Width) (limit : ℕ) : Type 0 where

@@ -163,8 +163,14 @@ steps_at (suc count) bytes = do
   others ← steps_at count first.2
   Some (first.0 ∷ others.0, first.1 ∷ others.1, others.2)
 
--- an entry: the pass, the operations and their answers
-unfoldable pub entry_at : List ℕ → Option (ℕ × List Op × List Done × List ℕ)
+-- what is found where an entry stands: the pass, the operations, their answers, and the bytes behind them
+abbrev pub Found : Type 0
+Found = ℕ × List Op × List Done × List ℕ
+
+abbrev pub found : ℕ → List Op → List Done → List ℕ → Option Found
+found by ops dones rest = Some (by, ops, dones, rest)
+
+unfoldable pub entry_at : List ℕ → Option Found
 entry_at bytes = do
   by ← number_at bytes
   count ← number_at by.1

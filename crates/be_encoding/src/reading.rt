@@ -2,7 +2,7 @@
 //!
 //! Each function reads one thing at the front of the bytes and gives it with the bytes behind it, or None where no such
 //! thing stands there.
-ghost use Rattle.std.specs.Prelude.{◌≡◌, ◌<◌, ◌^◌, ◌++◌, ℕ, List, IfOk, IfSome, Some, pos, negsuc};
+ghost use Rattle.std.specs.Prelude.{◌≡◌, ◌<◌, ◌^◌, ◌++◌, ℕ, List, IfOk, IfSome, negsuc};
 ghost use Rattle.std.specs.Int.{w16, w32, w64};
 ghost use Rattle.std.specs.Option.{option_map};
 ghost use Rattle.be_encoding.specs.Decoding as spec;
@@ -344,7 +344,7 @@ pub fn read_entry(
     ensures read { IfOk result (λ read. option_map (λ x. (x.0, x.1.items, x.2.items, x.3.now)) read ≡ spec.entry_at bytes.now) }
     ensures written { IfOk result (λ read. (by : ℕ) (ops : List AnyOp) (dones : List AnyDone) (rest : List ℕ) →
         CanBeEntry by ops dones → bytes.now ≡ entry_bytes by ops dones ++ rest →
-        option_map (λ x. (x.0, x.1.items, x.2.items, x.3.now)) read ≡ Some (by, ops, dones, rest)) }
+        option_map (λ x. (x.0, x.1.items, x.2.items, x.3.now)) read ≡ spec.found by ops dones rest) }
 {
     entry_of(alloc, bytes)
 }
