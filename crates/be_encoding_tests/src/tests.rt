@@ -77,9 +77,11 @@ fn bytes_of(alloc: Global, entry: &Entry) -> Result<String, Refusal> {
 /// The bytes of the entry that a line tells.
 fn bytes_told(alloc: Global, line: &str) -> Result<String, Refusal> {
     let text = format!(in alloc; "{line}\n")?;
-    let entries = read_journal(alloc, text.as_bytes())?;
-    match entries.as_deref() {
-        Some([entry]) => bytes_of(alloc, entry),
+    let Some(entries) = read_journal(alloc, text.as_bytes())? else {
+        return Ok(String::from_str(alloc, "no entry\n")?);
+    };
+    match entries.as_slice() {
+        [entry] => bytes_of(alloc, entry),
         _ => Ok(String::from_str(alloc, "no entry\n")?),
     }
 }
