@@ -1,0 +1,68 @@
+//! Reading the entries of blocks, one after the other.
+ghost use Rattle.std.specs.Prelude.{◌≡◌, ◌<◌, ◌∷◌, length, IfOk};
+ghost use Rattle.be_journal.specs.Blocks.{entries_of, AreFilled};
+ghost use Rattle.be_journal.specs.Journal as model;
+
+use crate::blocks::Block;
+use crate::{Dones, Entry, Ops};
+use be_encoding::read_entry;
+use std::alloc::{AllocError, Global};
+use std::marker::Model;
+
+/// A reader of entries. A contract sees those that are still to be read.
+#[derive(Drop)]
+pub(crate) struct Reader<'a> {
+    alloc: Global,
+    /// The entries of the block that is read, from the next one on, and how many these are.
+    bytes: &'a [u8],
+    left: u64,
+    /// The blocks behind it.
+    blocks: &'a [Block],
+}
+
+impl<'a> Model for Reader<'a> {
+    ghost use Rattle.std.specs.Prelude.{List, ◌++◌};
+    ghost use Rattle.std.specs.Coded.{coded_list};
+    ghost use Rattle.be_journal.specs.Blocks.{entries_at, entries_of, AreEntries, AreFilled};
+    ghost use Rattle.be_journal.specs.Journal.{coded_entry};
+    ghost use Rattle.be_journal.specs.declared.entries.Entry.{Entry as AnyEntry};
+
+    ghost Value = { List AnyEntry };
+
+    ghost coded = { coded_list coded_entry };
+
+    ghost view = { λ r. entries_at r.left r.bytes.now ++ entries_of r.blocks.now };
+
+    ghost invariant = { λ r. AreEntries r.left r.bytes.now × AreFilled r.blocks.now };
+}
+
+impl<'a> Reader<'a> {
+    /// A reader of the entries of these blocks, each of which has one.
+    pub(crate) fn new(alloc: Global, blocks: &'a [Block]) -> Reader<'a>
+        requires { AreFilled blocks.now }
+        ensures { result ≡ entries_of blocks.now }
+    {
+        Reader {
+            alloc,
+            bytes: &[],
+            left: 0,
+            blocks,
+        }
+    }
+
+    /// Goes to the next block, where the last one is read whole.
+    fn turn(&mut self)
+        ensures { self.new ≡ self.old }
+    {
+        if self.left != 0 {
+            return;
+        }
+        let [block, rest @ ..] = self.blocks else {
+            return;
+        };
+        let (bytes, left) = block.parts();
+        self.bytes = bytes;
+        self.left = left;
+        self.blocks = rest;
+    }
+}
