@@ -1,3 +1,4 @@
+pub mod BlockLemmas
 pub mod DoneLemmas
 pub mod LegalLemmas
 pub mod SoundLemmas

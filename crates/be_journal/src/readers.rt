@@ -65,4 +65,25 @@ impl<'a> Reader<'a> {
         self.left = left;
         self.blocks = rest;
     }
+
+    /// The next entry, of which there is one. Memory is taken for its two lists.
+    pub(crate) fn next(&mut self) -> Result<Entry, AllocError>
+        requires { 0 < length self.old }
+        ensures next { IfOk result (λ entry. self.old ≡ entry ∷ self.new) }
+        ensures is { IfOk result model.IsEntry }
+    {
+        self.turn();
+        match read_entry(self.alloc, self.bytes)? {
+            Some((by, ops, dones, rest)) => {
+                self.bytes = rest;
+                self.left -= 1;
+                Ok(Entry {
+                    by,
+                    ops: Ops::from_vec(ops),
+                    dones: Dones::from_vec(dones),
+                })
+            }
+            None => unreachable!(),
+        }
+    }
 }
