@@ -1,9 +1,9 @@
 -- Entries in blocks of bytes.
-use Rattle.std.specs.Prelude.{◌≡◌, ◌<◌, ℕ, zero, suc, List, [], ◌∷◌, length, All, flat_map, refl}
+use Rattle.std.specs.Prelude.{◌≡◌, ◌<◌, ◌-◌, ℕ, zero, suc, Bool, false, nat_le, slice_get, List, [], ◌∷◌, length, All, flat_map, refl}
 use Rattle.std.specs.Coded.{Coded, code_by, coded_ℕ, coded_list, coded×}
 use Rattle.std.specs.Option.{option_map_or}
 use Rattle.be_encoding.specs.Decoding.{entry_at}
-use Rattle.be_encoding.specs.Encoding.{entry_bytes, CanBeEntry}
+use Rattle.be_encoding.specs.Encoding.{entry_bytes, most_bytes, CanBeEntry}
 use Rattle.be_journal.specs.Journal.{coded_entry, IsEntry}
 use Rattle.be_journal.specs.declared.entries.Entry.{Entry}
 
@@ -40,3 +40,7 @@ entries_of blocks = flat_map (λ b. b.entries) blocks
 -- each of the blocks has an entry
 abbrev pub AreFilled : List Filled → Type 0
 AreFilled blocks = All (λ b. 0 < length b.entries) blocks
+
+-- whether the last of the blocks has room for any entry of so many operations
+abbrev pub has_room : ℕ → List Filled → Bool
+has_room count blocks = option_map_or (λ b. nat_le (most_bytes count) b.room) (slice_get blocks (length blocks - 1)) false

@@ -1,6 +1,6 @@
 //! Reading the entries of blocks, one after the other.
-ghost use Rattle.std.specs.Prelude.{◌≡◌, ◌<◌, ◌∷◌, length, IfOk};
-ghost use Rattle.be_journal.specs.Blocks.{entries_of, AreFilled};
+ghost use Rattle.std.specs.Prelude.{◌≡◌, ◌<◌, ◌∷◌, ◌++◌, length, IfOk};
+ghost use Rattle.be_journal.specs.Blocks.{entries_at, entries_of, AreEntries, AreFilled};
 ghost use Rattle.be_journal.specs.Journal as model;
 
 use crate::blocks::Block;
@@ -36,6 +36,27 @@ impl<'a> Model for Reader<'a> {
     ghost invariant = { λ r. AreEntries r.left r.bytes.now × AreFilled r.blocks.now };
 }
 
+/// What is read of a block and the blocks behind it: the next of these where the block is read whole.
+fn turned<'a>(bytes: &'a [u8], left: u64, blocks: &'a [Block]) -> (&'a [u8], u64, &'a [Block])
+    requires are { AreEntries left bytes.now }
+    requires filled { AreFilled blocks.now }
+    ensures same { entries_at result.1 result.0.now ++ entries_of result.2.now ≡ entries_at left bytes.now ++ entries_of blocks.now }
+    ensures are { AreEntries result.1 result.0.now }
+    ensures filled { AreFilled result.2.now }
+    ensures some { 0 < length (entries_at left bytes.now ++ entries_of blocks.now) → 0 < result.1 }
+{
+    if left != 0 {
+        return (bytes, left, blocks);
+    }
+    match blocks {
+        [] => (bytes, left, blocks),
+        [block, rest @ ..] => {
+            let (bytes, left) = block.parts();
+            (bytes, left, rest)
+        }
+    }
+}
+
 impl<'a> Reader<'a> {
     /// A reader of the entries of these blocks, each of which has one.
     pub(crate) fn new(alloc: Global, blocks: &'a [Block]) -> Reader<'a>
@@ -50,29 +71,16 @@ impl<'a> Reader<'a> {
         }
     }
 
-    /// Goes to the next block, where the last one is read whole.
-    fn turn(&mut self)
-        ensures { self.new ≡ self.old }
-    {
-        if self.left != 0 {
-            return;
-        }
-        let [block, rest @ ..] = self.blocks else {
-            return;
-        };
-        let (bytes, left) = block.parts();
-        self.bytes = bytes;
-        self.left = left;
-        self.blocks = rest;
-    }
-
     /// The next entry, of which there is one. Memory is taken for its two lists.
     pub(crate) fn next(&mut self) -> Result<Entry, AllocError>
         requires { 0 < length self.old }
         ensures next { IfOk result (λ entry. self.old ≡ entry ∷ self.new) }
         ensures is { IfOk result model.IsEntry }
     {
-        self.turn();
+        let (bytes, left, blocks) = turned(self.bytes, self.left, self.blocks);
+        self.bytes = bytes;
+        self.left = left;
+        self.blocks = blocks;
         match read_entry(self.alloc, self.bytes)? {
             Some((by, ops, dones, rest)) => {
                 self.bytes = rest;
