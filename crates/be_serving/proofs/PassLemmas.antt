@@ -19,7 +19,8 @@ use Rattle.be_table.specs.History.{AreOfPasses}
 use Rattle.be_table.specs.Rule.{announce_word, entries}
 use Rattle.be_table.specs.Seats.{pinned_number}
 use Rattle.be_table.specs.Steps.{IsPass, entry_by, least_found}
-use Rattle.be_table.specs.Works.{HasNoRoom}
+use Rattle.be_table.specs.Works.{FoundHeld, HasNoRoom}
+use Rattle.be_table.specs.declared.limits.Limits.{Limits}
 use Rattle.be_table.proofs.Histories.{by_pass-append, below-front}
 use Rattle.be_value.specs.declared.refusals.Refusal.{Refusal}
 use Rattle.be_value.specs.declared.refusals.Refusal.TheVariants.{CommitsSpent}
@@ -154,6 +155,11 @@ module _ (a c : Knowledge) (before : IsPass a) (behind : IsPass c) (limits : c.l
   learns_joins h =
       let log : entries c.seen ≡ entries a.seen ++ entries h.more.0 = ap entries h.more.1 ∙ entries_append a.seen h.more.0 in
       subst (Joins (known a)) (sym (shown (entries h.more.0) log h.pass h.pin)) (joins_seen h.more.0 h.more.1 h.mine h.pass)
+
+  -- the lock was held by another pass of the store
+  pub busy_shown : {X : Type 0} (r : Result X Refusal) → c.number ≡ a.number → IfErr r (λ e. FoundHeld e a c) → IfErr r (IsBusy (known c))
+  busy_shown (Ok x) number h = tt
+  busy_shown (Err e) number h = (h.0, h.1, (subst (λ (l : Limits). h.0 < l.passes) (sym limits) h.2, subst (λ k. h.0 ≢ k) (sym number) h.3))
 
   pub pins_meanwhile : (n : ℕ) → (known a).pin ≡ None → Pins a c n → Meanwhile (known a) (λ s. (known c ≡ pinned s) × (n ≡ length s.journal))
   pins_meanwhile n idle h =

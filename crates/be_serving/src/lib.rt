@@ -21,7 +21,7 @@ mod stores;
 mod tellings;
 
 pub use answers::answer;
-pub use be_store::Limits;
+pub use be_store::{Announcement, Limits, Status};
 pub use client::Client;
 pub use faults::RunFault;
 pub use files::read_files;

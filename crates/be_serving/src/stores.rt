@@ -16,14 +16,15 @@ ghost use Rattle.be_volume.specs.declared.ops.Op.{Op as AnyOp};
 ghost use Rattle.be_volume.specs.Query.{scan, has_index};
 ghost use Rattle.be_volume.specs.Reading.{attribute, attributes_at, index_kinds};
 ghost use Rattle.be_table.specs.Rule.{IsWithin};
+ghost use Rattle.be_table.specs.declared.status.Status.{Status as AnyStatus};
 ghost use Rattle.be_serving.specs.Served.{known, seat_of};
-ghost use Rattle.be_serving.specs.Store.{Store, Joins, Meanwhile, start, viewed, pinned, unpinned, MayWrite};
+ghost use Rattle.be_serving.specs.Store.{Store, IsBusy, Joins, Meanwhile, start, viewed, pinned, unpinned, MayWrite};
 
 use crate::Limits;
 use arrayvec::ArrayVec;
 use be_plan::Cover;
 use be_query::Query;
-use be_store::Pass;
+use be_store::{Pass, Status};
 use be_value::{Kind, Name, Refusal, Value};
 use be_volume::{Done, Op};
 use std::alloc::Global;
@@ -43,6 +44,9 @@ pub trait Server {
 
     /// Why operations are refused, by what becomes of the server.
     ghost refuses: { Self → List AnyOp → AnyRefusal → Self → Type 0 };
+
+    /// What a status tells, by what becomes of the server.
+    ghost tells: { Self → AnyStatus → Self → Type 0 };
 
     /// Writes operations, all or none: the number of the commit, and an answer for each. It is refused by Busy where another
     /// pass is writing, else by what the volume says, then CommitsSpent, then OutOfMemory, then Full. A pin stays.
@@ -99,6 +103,13 @@ pub trait Server {
         ensures stays { kept self.new ≡ kept self.old }
         ensures joins { Joins (shows self.old) (shows self.new) }
         ensures answers { Answers (λ list. list.items) result (Ok (index_kinds (viewed (shows self.new)))) };
+
+    /// How full it is; or Busy where another pass is writing.
+    fn status(&mut self) -> Result<Status, Refusal>
+        ensures stays { kept self.new ≡ kept self.old }
+        ensures joins { Joins (shows self.old) (shows self.new) }
+        ensures told { IfOk result (λ status. tells self.old status self.new) }
+        ensures busy { IfErr result (IsBusy (shows self.new)) };
 }
 
 /// Opens a store of one pass before its first write, with as many pages and commits as the limits say. Refused for want of
@@ -216,6 +227,10 @@ impl<'a> Server for PassServer<'a> {
 
     ghost refuses = { λ s ops e t. IsRefusedBy s.knows ops e t.knows };
 
+    ghost use Rattle.be_store.specs.Statuses.{TellsStatus};
+
+    ghost tells = { λ s status t. TellsStatus s.knows t.knows status };
+
     fn apply(&mut self, ops: &[Op]) -> Result<(u64, ArrayVec<Done, 64>), Refusal> {
         apply_at_last(self.store, &mut self.pass, ops)
     }
@@ -268,5 +283,12 @@ impl<'a> Server for PassServer<'a> {
         let list = self.store.indices(self.alloc, &mut self.pass);
         self.end_read(made);
         list
+    }
+
+    fn status(&mut self) -> Result<Status, Refusal> {
+        self.pass.is_pass();
+        let status = self.store.status(&mut self.pass);
+        self.pass.is_pass();
+        status
     }
 }

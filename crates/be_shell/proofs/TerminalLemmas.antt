@@ -1,13 +1,12 @@
--- What is heard and said at a terminal, other than `help`.
+-- What is heard and said at a terminal, other than a line.
 use Rattle.std.proofs.Common.{◌≡◌, ◌≢◌, List, ℕ}
-use Rattle.be_shell.specs.Conversation.{hears, says, flushes, fails}
-use Rattle.be_shell.specs.Terminal.{help_line}
+use Rattle.be_shell.specs.Conversation.{Heard, hears, says, flushes, fails}
 
-pub said_is_other : (bytes : List ℕ) → says bytes ≢ hears help_line
-said_is_other bytes is = let same = is in cc
+pub said_is_other : (bytes : List ℕ) (line : Heard) → says bytes ≢ hears line
+said_is_other bytes line is = let same = is in cc
 
-pub flushed_is_other : flushes ≢ hears help_line
-flushed_is_other is = let same = is in cc
+pub flushed_is_other : (line : Heard) → flushes ≢ hears line
+flushed_is_other line is = let same = is in cc
 
-pub failed_is_other : fails ≢ hears help_line
-failed_is_other is = let same = is in cc
+pub failed_is_other : (line : Heard) → fails ≢ hears line
+failed_is_other line is = let same = is in cc

@@ -8,7 +8,7 @@ use Rattle.be_serving.specs.Run.{IsFrontOf}
 use Rattle.be_serving.specs.declared.faults.RunFault.{RunFault}
 use Rattle.be_serving.specs.declared.faults.RunFault.TheVariants.{Limits, Read, TooLong, Write, Memory}
 use Rattle.be_shell.specs.declared.lines.Line.{Line}
-use Rattle.be_shell.specs.declared.lines.Line.TheVariants.{Short, Long}
+use Rattle.be_shell.specs.declared.lines.Line.TheVariants.{Short, Long, Status}
 
 -- what is heard of a line: its bytes without the LF, or that there are more of them than are kept
 pub data Heard : Type 0 where
@@ -18,6 +18,7 @@ pub data Heard : Type 0 where
 abbrev pub line_heard : Line → Heard
 line_heard (Short bytes) = short_line bytes.items
 line_heard Long = long_line
+line_heard Status = short_line []
 
 -- what may happen between the shell and its peer: a line is heard, or that none is left; bytes are said; what was said is
 -- sent off; or something fails, and then nothing is said by it

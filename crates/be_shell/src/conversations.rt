@@ -1,5 +1,5 @@
 //! Conversations: a line is heard, then its reply is said and sent off, and then the next line is heard.
-ghost use Rattle.std.specs.Prelude.{◌≡◌, ◌≤◌, ℕ, List, [], ◌∷◌, length, IfOk, IfErr, OnOk};
+ghost use Rattle.std.specs.Prelude.{◌≡◌, ◌≤◌, ℕ, true, List, [], ◌∷◌, length, IfOk, IfErr, OnOk};
 ghost use Rattle.std.specs.String.{string_bytes};
 ghost use Rattle.be_language.specs.View.{request_of};
 ghost use Rattle.be_serving.specs.Run.{IsNotLimits};
@@ -19,14 +19,23 @@ fn request_in(alloc: Global, line: &Line) -> Result<Request, AllocError>
     match line {
         Line::Short(bytes) => read_line(alloc, bytes.as_slice()),
         Line::Long => Ok(Request::Malformed),
+        Line::Status => read_line(alloc, b"".as_slice()),
     }
 }
 
-/// Runs a line, and gives its reply as a text.
-fn reply_to<S: Server>(
+/// Whether the line asks how full the store is.
+fn is_status(line: &Line) -> bool
+    ensures { result ≡ true → spec.line_heard line.now ≡ spec.short_line [] }
+{
+    matches!(line, Line::Status)
+}
+
+/// Runs a line, and gives its reply as a text. How full the store is, is shown to the peer, and its reply is empty.
+fn reply_to<S: Server, P: Peer>(
     alloc: Global,
     server: &mut S,
     client: &mut Client,
+    peer: &P,
     line: &Line,
 ) -> Result<String, RunFault>
     requires few { length (queued_ops client.old) ≤ 64 }
@@ -36,6 +45,11 @@ fn reply_to<S: Server>(
     ensures stays { S.kept server.new ≡ S.kept server.old }
     ensures few { length (queued_ops client.new) ≤ 64 }
 {
+    if is_status(line) {
+        let status = server.status();
+        peer.show(&status);
+        return Ok(String::new(alloc));
+    }
     let Ok(request) = request_in(alloc, line) else {
         return Err(RunFault::Memory);
     };
@@ -74,7 +88,7 @@ fn serve_line<S: Server, P: Peer>(
     ensures stays { S.kept server.new ≡ S.kept server.old }
     ensures few { length (queued_ops client.new) ≤ 64 }
 {
-    let reply = reply_to(alloc, server, client, line)?;
+    let reply = reply_to(alloc, server, client, &*peer, line)?;
     tell(peer, reply.as_bytes())?;
     Ok(())
 }

@@ -7,4 +7,6 @@ pub enum Line {
     Short(Vec<u8>),
     /// It has more bytes than that. None of them are kept.
     Long,
+    /// A word that asks how full the store is. It is no line of a script, and stands for an empty one.
+    Status,
 }

@@ -4,7 +4,8 @@ ghost use Rattle.be_serving.specs.Run.{IsFrontOf};
 ghost use Rattle.be_shell.specs.Conversation.{Event, IsDeaf, hearing, says, flushes, fails};
 
 use crate::Line;
-use be_serving::RunFault;
+use be_serving::{RunFault, Status};
+use be_value::Refusal;
 use std::alloc::Global;
 
 /// Who the shell talks with: lines come from it, and replies go to it.
@@ -25,6 +26,9 @@ pub trait Peer {
         ensures said { OnOk result (does self.old (says reply.now) self.new) }
         ensures cut { OnErr result ((front : List ℕ) × IsFrontOf reply.now front × does self.old (says front) self.new) }
         ensures fault { IfErr result (λ e. e ≡ RunFault.Write) };
+
+    /// Shows how full the store is, beside the replies, if there is a place for it. It is no event.
+    fn show(&self, _status: &Result<Status, Refusal>) {}
 
     /// Sends off what was said. A failure is `Write`.
     fn flush(&mut self) -> Result<(), RunFault>

@@ -1,11 +1,12 @@
 //! A peer at a terminal.
 ghost use Rattle.std.specs.Prelude.{◌≡◌, ◌↔◌, [], true};
 ghost use Rattle.be_shell.specs.Conversation.{hearing, hears, short_line};
-ghost use Rattle.be_shell.specs.Terminal.{help_line};
+ghost use Rattle.be_shell.specs.Terminal.{help_line, status_line};
 
 use crate::Line;
 use crate::peers::Peer;
-use be_serving::RunFault;
+use be_serving::{Announcement, RunFault, Status};
+use be_value::Refusal;
 use std::alloc::Global;
 
 /// What `help` tells at a terminal: each command with one line.
@@ -28,6 +29,7 @@ refresh                   what changed in its answer
 begin                     open a batch
 commit                    write the batch as one
 abort                     drop the batch
+status                    how full the store is, and whose pin is the oldest
 ";
 
 /// Whether what was heard is the line `help`.
@@ -36,7 +38,33 @@ fn is_help(heard: &Option<Line>) -> bool
 {
     match heard {
         Some(Line::Short(bytes)) => bytes.as_slice() == b"help".as_slice(),
-        Some(Line::Long) | None => false,
+        Some(Line::Long) | Some(Line::Status) | None => false,
+    }
+}
+
+/// Whether what was heard is the line `status`.
+fn is_status(heard: &Option<Line>) -> bool
+    ensures { (result ≡ true) ↔ (hearing heard.now ≡ hears status_line) }
+{
+    let Some(Line::Short(bytes)) = heard else {
+        return false;
+    };
+    bytes.as_slice() == b"status".as_slice()
+}
+
+/// Tells how full a store is, and whose announcement is the oldest, if there is one.
+fn tell_status<R: Eprint>(rt: &R, status: &Status) {
+    let Status {
+        pages,
+        free,
+        retired,
+        entries,
+        commits,
+        oldest,
+    } = *status;
+    let _ = eprint!(rt; "pages {pages} free {free} retired {retired}\nentries {entries} of {commits}\n");
+    if let Some(Announcement { number, pass }) = oldest {
+        let _ = eprint!(rt; "oldest announcement {number} by pass {pass}\n");
     }
 }
 
@@ -48,8 +76,8 @@ fn empty_line(alloc: Global) -> Option<Line>
 }
 
 /// A peer at a terminal, who is asked for each line by a prompt on standard error: `batch> ` while a batch is open, and else
-/// `bestore> `. The line `help` is answered there with a list of the commands, and is heard as an empty line. What can't be
-/// written to standard error is left out.
+/// `bestore> `. The line `help` is answered there with a list of the commands, the line `status` with how full the store is,
+/// and both are heard as an empty line. What can't be written to standard error is left out.
 #[derive(Drop)]
 pub struct Terminal<'a, R, P> {
     rt: &'a R,
@@ -81,7 +109,19 @@ impl<'a, R: Eprint, P: Peer> Peer for Terminal<'a, R, P> {
             let _ = eprint!(self.rt; "{HELP}");
             return Ok(empty_line(alloc));
         }
+        if is_status(&heard) {
+            return Ok(Some(Line::Status));
+        }
         Ok(heard)
+    }
+
+    fn show(&self, status: &Result<Status, Refusal>) {
+        match status {
+            Ok(status) => tell_status(self.rt, status),
+            Err(refusal) => {
+                let _ = eprint!(self.rt; "{refusal}\n");
+            }
+        }
     }
 
     fn say(&mut self, reply: &[u8]) -> Result<(), RunFault> {

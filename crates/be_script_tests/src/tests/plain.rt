@@ -7,7 +7,7 @@ use arrayvec::ArrayVec;
 use be_journal::Journal;
 use be_plan::{Cover, choose_from, volume_source};
 use be_query::Query;
-use be_serving::Server;
+use be_serving::{Server, Status};
 use be_value::{Kind, Name, Refusal, Value};
 use be_volume::{Done, Op, Volume};
 use std::alloc::Global;
@@ -111,6 +111,8 @@ impl Server for PlainStore {
 
     ghost refuses = { λ s ops e t. Unit {0} };
 
+    ghost tells = { λ s status t. Unit {0} };
+
     fn apply(&mut self, ops: &[Op]) -> Result<(u64, ArrayVec<Done, 64>), Refusal> {
         self.write(ops)
     }
@@ -149,5 +151,17 @@ impl Server for PlainStore {
 
     fn indices(&mut self) -> Result<Vec<(Name, Kind)>, Refusal> {
         self.viewed().indices()
+    }
+
+    /// It has no pages.
+    fn status(&mut self) -> Result<Status, Refusal> {
+        Ok(Status {
+            pages: 0,
+            free: 0,
+            retired: 0,
+            entries: self.journal.len(),
+            commits: 0,
+            oldest: None,
+        })
     }
 }
