@@ -62,7 +62,9 @@ fn tell_status<R: Eprint>(rt: &R, status: &Status) {
         commits,
         oldest,
     } = *status;
-    let _ = eprint!(rt; "pages {pages} free {free} retired {retired}\nentries {entries} of {commits}\n");
+    let _ = eprint!(rt;
+        "pages {pages} free {free} retired {retired}\nentries {entries} of {commits}\n"
+    );
     if let Some(Announcement { number, pass }) = oldest {
         let _ = eprint!(rt; "oldest announcement {number} by pass {pass}\n");
     }
