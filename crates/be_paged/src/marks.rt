@@ -1,8 +1,8 @@
 //! Walks over the nodes of the catalog.
 //!
 //! A node's mark is the key of its eight bytes alone, and its attributes follow with longer keys. So a walk from a node's key on comes to marks
-//! and to attributes, and the first word of an item tells which. It steps over the attributes, since a step reads two words and a descent to the
-//! next mark some dozens; a node has at most 64 attributes to step over.
+//! and to attributes, and the first word of an item tells which. It steps over the attributes, of which a node has 64 at most: a step reads two
+//! words, and a descent to the next mark two of most items on its way.
 ghost use Rattle.std.specs.Prelude.{◌≡◌, ◌∷◌, ◌+◌, ◌≤◌, [], IsTrue, IfNone, IfOk, IfSome, false, take, true};
 ghost use Rattle.std.specs.Int.{from_be_bytes, to_be_bytes, w64};
 ghost use Rattle.be_pages.specs.Pages.{IsUnchanged, is_readable};
