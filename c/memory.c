@@ -68,6 +68,7 @@ static uint32_t call_explain(void) { return bes_explain(&mine, query, sizeof que
 static uint32_t call_attributes(void) { return bes_attributes(&mine, 1, &out.counts, out.listed, 4, out.bytes, 64); }
 static uint32_t call_indices(void) { return bes_indices(&mine, &out.counts, out.listed, 4, out.bytes, 64); }
 static uint32_t call_journal(void) { return bes_journal(&mine, out.bytes, 64, &out.count); }
+static uint32_t call_nodes(void) { return bes_nodes(&mine, 0, out.nodes, 4, &out.count); }
 static uint32_t call_status(void) { return bes_status(&mine, &out.usage, &out.number); }
 static uint32_t call_changes(void) { return bes_changes(&kept, out.nodes, 4, out.more, 4); }
 static uint32_t call_get(void) { return bes_read(&mine, 1, "size", &out.told, out.bytes, 64); }
@@ -110,7 +111,7 @@ static void refuse_all(void)
 {
     uint32_t (*const with_requests[])(void) = {
         call_another, call_prepare, call_prepare_items, call_query, call_items, call_prepared, call_explain, call_attributes,
-        call_indices, call_journal, call_apply, call_retry
+        call_indices, call_nodes, call_journal, call_apply, call_retry
     };
     uint32_t (*const without[])(void) = {call_changes, call_get, call_status, call_unpin, call_pin, call_move};
     CHECK(bes_open(64, 2, 100, &mine) == BES_OK);

@@ -503,6 +503,39 @@ static void prepared_queries(void)
     CHECK(bes_release(&small) == BES_OK && bes_release(&other) == BES_OK);
 }
 
+/* All nodes, list by list, whatever attributes they have. */
+static void nodes_by_number(void)
+{
+    static bes_batch batch;
+    bes_pass pass = BES_PASS_INIT;
+    uint64_t number = 0, count = 7, from = 0, expected = 1, made[64], nodes[100] = {7};
+    CHECK(bes_nodes(&pass, 0, nodes, 100, &count) == BES_CLOSED && count == 0);
+    CHECK(bes_open(256, 1, 100, &pass) == BES_OK);
+    for (int i = 0; i < 4; i++) {
+        bes_batch_clear(&batch);
+        while (batch.count < 64)
+            CHECK(bes_batch_new_node(&batch) == BES_OK);
+        CHECK(bes_batch_apply(&pass, &batch, 1, made, 64, &number) == BES_OK);
+    }
+    CHECK(bes_remove_node(&pass, 100) == BES_OK && bes_set_text(&pass, 7, "k", "v") == BES_OK);
+    count = 7;
+    CHECK(bes_nodes(&pass, 0, nodes, 100, &count) == BES_NOT_PINNED && count == 0 && nodes[0] == 7);
+    CHECK(bes_pin(&pass, &number) == BES_OK);
+    do {
+        CHECK(bes_nodes(&pass, from, nodes, 100, &count) == BES_OK && count <= 100);
+        for (uint64_t i = 0; i < count; i++) {
+            expected += expected == 100;
+            CHECK(nodes[i] == expected++);
+        }
+        from = expected;
+    } while (count == 100);
+    CHECK(expected == 257);
+    CHECK(bes_nodes(&pass, 257, nodes, 100, &count) == BES_OK && count == 0);
+    CHECK(bes_nodes(&pass, UINT64_MAX, nodes, 100, &count) == BES_OK && count == 0);
+    CHECK(bes_nodes(&pass, 256, nodes, 0, &count) == BES_OK && count == 0);
+    CHECK(bes_close(&pass) == BES_OK);
+}
+
 /* What is free, what waits for a pin, and whose that is. */
 static void usage(void)
 {
@@ -837,6 +870,7 @@ int main(int argc, char **argv)
     queries();
     no_queries();
     prepared_queries();
+    nodes_by_number();
     usage();
     journal();
     spent();

@@ -260,14 +260,25 @@ static void pins()
     CHECK(again.pin().number() == 3);
 }
 
-static void status_of_store()
+static void nodes_and_status()
 {
     Store store = numbered();
     CHECK(!store.status().oldest && store.status().pages == 1024 && store.status().entries == 302);
+    for (int i = 0; i < 1100; i += 50) {
+        Batch batch;
+        while (batch.size() < 50)
+            batch.new_node();
+        if (store.status().entries < 1000)
+            store.apply(batch);
+    }
     auto pin = store.pin();
+    CHECK(pin.nodes().size() == 1400 && pin.nodes().back() == 1400 && pin.nodes(1399) == Nodes{1399, 1400});
+    CHECK(pin.nodes(7, 2) == Nodes{7, 8} && pin.nodes(0, 0).empty() && pin.nodes(1401).empty() && pin.nodes(UINT64_MAX).empty());
     store.new_node();
     const auto status = store.status();
     CHECK(status.oldest && status.oldest->version == pin.number() && status.oldest->pass_number == 1 && status.retired > 0);
+    pin.unpin();
+    refused(BES_NOT_PINNED, [&] { pin.nodes(); });
 }
 
 // A store that is full tells the version that is pinned.
@@ -313,7 +324,7 @@ int main()
     predicates();
     live_queries();
     pins();
-    status_of_store();
+    nodes_and_status();
     full();
     last_pass();
     threads();

@@ -301,6 +301,13 @@ uint32_t bes_changes(bes_prepared *prepared, uint64_t *created, size_t created_r
  * for the text; no node is looked at. Faults are those of bes_query. */
 uint32_t bes_explain(bes_pass *pass, const uint8_t *text, size_t text_length, uint8_t *bytes, size_t bytes_room, uint64_t *count);
 
+/* Lists the nodes of the pinned version from the number from on, ascending, whatever attributes they have: as many as nodes has room
+ * for. Puts out in count how many these are: where that is less than the room, there are no more, and else the next list begins
+ * behind the last of these. Takes a descent of a tree, a step for each node that is put out and for each of its attributes, and
+ * memory for the list.
+ * BES_CLOSED, BES_NOT_PINNED, BES_NO_MEMORY. */
+uint32_t bes_nodes(bes_pass *pass, uint64_t from, uint64_t *nodes, size_t nodes_room, uint64_t *count);
+
 /* Reads a node's attribute in the pinned version: its type code, number and length, and its first bytes, as far as bytes
  * has room (255 are enough for every value). Takes one descent of a tree.
  * BES_CLOSED, BES_NOT_PINNED, BES_NO_ATTRIBUTE (also where there is no such node), BES_NOT_UTF8, BES_NAME_LENGTH,

@@ -17,6 +17,7 @@
 
 #include "bestore.h"
 
+#include <algorithm>
 #include <cstddef>
 #include <cstdint>
 #include <memory>
@@ -556,6 +557,22 @@ public:
         return found(detail::Place::none, [&](Node *nodes, std::size_t room, std::uint64_t *count) {
             return bes_query_prepared(handle(), prepared.handle(), nodes, room, count);
         });
+    }
+
+    // The nodes from a number on, ascending, whatever attributes they have, and so many of them at most.
+    std::vector<Node> nodes(Node from = 0, std::size_t most = SIZE_MAX)
+    {
+        std::vector<Node> all;
+        for (;;) {
+            std::vector<Node> some(std::min<std::size_t>(most - all.size(), 1024) + 1);
+            const std::size_t room = some.size() - 1;
+            std::uint64_t count = 0;
+            detail::check(bes_nodes(handle(), from, some.data(), room, &count), count);
+            all.insert(all.end(), some.begin(), some.begin() + static_cast<std::ptrdiff_t>(count));
+            if (count < room || all.size() == most || all.back() == UINT64_MAX)
+                return all;
+            from = all.back() + 1;
+        }
     }
 
     // What the query would be answered from: the comparisons that are picked, and a score.

@@ -60,8 +60,7 @@ class Values(unittest.TestCase):
                     attributes["name"]
                 with self.assertRaises(KeyError):
                     len(version[3])
-                with self.assertRaises(TypeError):
-                    iter(version)
+                self.assertEqual((list(version), version.nodes(2), version.nodes(0, 1)), ([1, 2], [2], [1]))
 
     def test_wrong_values(self):
         with bestore.open(64, 1, 100) as store:
@@ -206,6 +205,23 @@ class WrongUse(unittest.TestCase):
 
 
 class Whole(unittest.TestCase):
+    def test_nodes(self):
+        with bestore.open(1024, 1, 1000) as store:
+            for _ in range(50):
+                batch = bestore.Batch()
+                for _ in range(64):
+                    batch.new_node()
+                store.apply(batch)
+            store.remove_node(1024)
+            with store.pin() as version:
+                nodes = [node for node in range(1, 3201) if node != 1024]
+                self.assertEqual(list(version), nodes)
+                self.assertEqual(version.nodes(1020, 5), [1020, 1021, 1022, 1023, 1025])
+                self.assertEqual((version.nodes(3200), version.nodes(3201), version.nodes(2**64 - 1)), ([3200], [], []))
+                self.assertEqual((version.nodes(0, 0), sum(1 for _ in zip(version, range(3)))), ([], 3))
+            with self.assertRaises(bestore.NotPinned):
+                version.nodes()
+
     def test_status(self):
         with bestore.open(64, 2, 1000) as store, store.another() as other:
             first = store.status()

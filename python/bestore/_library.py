@@ -97,6 +97,7 @@ def _arguments() -> dict[str, List[Any]]:
         "bes_refresh": [handle, handle, ctypes.POINTER(Updates)],
         "bes_changes": [handle, words, size, words, size],
         "bes_explain": [handle, text, size, text, size, words],
+        "bes_nodes": [handle, word, *put_out],
         "bes_status": [handle, ctypes.POINTER(Usage), words],
         "bes_get": [handle, word, text, size, ctypes.POINTER(Attribute), text, size],
         "bes_attributes": [handle, word, *listed],

@@ -176,7 +176,7 @@ class Pass(Owner):
 
 class Version:
     """The version that was current when the pass was pinned. It is read until the pin is given up. `version[node]` has a node's
-    attributes, and `node in version` tells whether the node is there."""
+    attributes, `node in version` tells whether the node is there, and `for node in version` goes over all nodes."""
 
     def __init__(self, user: Pass) -> None:
         number = ctypes.c_uint64()
@@ -290,7 +290,21 @@ class Version:
             return False
         return True
 
-    __iter__: None = None  # no call lists the nodes
+    def nodes(self, first: int = 0, most: int = 1024) -> List[int]:
+        """The nodes from a number on, ascending, whatever attributes they have, and so many of them at most."""
+        nodes, count = _words(most), ctypes.c_uint64()
+        check(calls.bes_nodes(self._pass(), first, nodes, most, ctypes.byref(count)), count.value)
+        return nodes[:count.value]
+
+    def __iter__(self) -> Iterator[int]:
+        """All nodes, ascending."""
+        first, most = 0, 1024
+        while first < 2**64:
+            nodes = self.nodes(first, most)
+            yield from nodes
+            if len(nodes) < most:
+                break
+            first = nodes[-1] + 1
 
 
 class Attributes(Mapping[str, Value]):

@@ -5,6 +5,7 @@ ghost use Rattle.be_session.specs.Sitting.{AtPin, HasMet, IsHandedOut, IsPinned,
 ghost use Rattle.be_session.specs.Sitting.{IsOpened, IsUnpinnedAt, IsUnrefreshed, ReadAnswers};
 ghost use Rattle.be_session.specs.declared.faults.Fault.TheVariants.{AlreadyPinned, NoPass, NotPinned, Refused};
 ghost use Rattle.be_journal.specs.Journal.{IsLegal};
+ghost use Rattle.be_paged.specs.Nodes.{nodes_from};
 ghost use Rattle.be_query.specs.Grammar.{IsTextOf};
 ghost use Rattle.be_store.specs.History.{Accepts, IsUntold, Learns, Pins, text_seen};
 ghost use Rattle.be_store.specs.Live.{Refreshes};
@@ -360,6 +361,21 @@ impl Session {
         };
         let cover = self.shared.store().explain(alloc, &mut self.pass, query)?;
         Ok(cover_text(alloc, query, &cover)?)
+    }
+
+    /// The nodes of the pinned version from a number on, ascending, and so many of them at most. A list with fewer is the end, and
+    /// the next one begins behind the last node of this.
+    pub fn nodes(&mut self, alloc: Global, from: u64, most: usize) -> Result<Vec<u64>, Fault>
+        ensures store { (self.new.store ≡ self.old.store) × (self.new.spare ≡ self.old.spare) }
+        ensures read { HasRead self.old.knows self.new.knows }
+        ensures nodes { AtPin (pinned_number self.old.knows.phase) result
+            (ReadAnswers (λ nodes. nodes.items) result (Ok (nodes_from (volume_pinned self.old.knows) from most))) }
+    {
+        let Some(_) = self.pass.pinned() else {
+            return Err(Fault::NotPinned);
+        };
+        let store = self.shared.store();
+        Ok(store.nodes(alloc, &mut self.pass, from, most)?)
     }
 
     /// A node's attribute in the pinned version, if it has one.

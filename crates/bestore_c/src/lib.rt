@@ -4,7 +4,8 @@
 //! of a fault, or 64 and 65, which are the handle's own. None has a `requires`.
 #![tactic(auto)]
 
-ghost use Rattle.std.specs.Prelude.{◌≡◌, ◌⊎◌, ◌+◌, None, Ok};
+ghost use Rattle.std.specs.Prelude.{◌≡◌, ◌⊎◌, ◌+◌, None, Ok, length};
+ghost use Rattle.be_paged.specs.Nodes.{nodes_from};
 ghost use Rattle.be_query.specs.Grammar.{IsTextOf};
 ghost use Rattle.be_session.specs.Items.{IsBuilt, IsUnbuilt};
 ghost use Rattle.be_session.specs.Operations.{makes, sets};
@@ -17,7 +18,7 @@ ghost use Rattle.be_table.specs.Steps.{unpins};
 ghost use Rattle.be_table.specs.Trace.{with_history};
 ghost use Rattle.be_volume.specs.Reading.{attributes_at, index_kinds};
 ghost use Rattle.bestore_c.specs.Calls.{AnswersWhetherOpen, Calls, Explains, Finds, FindsBuilt, FindsPrepared, GivesAnother, IsClosed};
-ghost use Rattle.bestore_c.specs.Calls.{IsTextFault, Listed, MovesHandle, Opens, Prepares, Reads, RefreshesPrepared, Refuses, ShowsChanges, TellsJournal, WritesSpelled};
+ghost use Rattle.bestore_c.specs.Calls.{IsTextFault, Listed, MovesHandle, Opens, Prepares, PutsOutAtPin, Reads, RefreshesPrepared, Refuses, ShowsChanges, TellsJournal, WritesSpelled};
 ghost use Rattle.bestore_c.specs.Usage.{TellsUsage};
 
 mod asking;
@@ -359,6 +360,29 @@ pub extern "C" fn bes_explain(
     };
     let answer = pass.owned.lent().explain(alloc, &query);
     tell_text(answer, bytes, count)
+}
+
+/// Lists the nodes of the pinned version from a number on, ascending, as many as there is room for. Puts out how many these are.
+#[unsafe(no_mangle)]
+pub extern "C" fn bes_nodes(
+    alloc: Global,
+    pass: &mut Handle,
+    from: u64,
+    nodes: &mut [u64],
+    count: &mut u64,
+) -> u32
+    ensures pass { Calls pass.old.owned.value pass.new.owned.value (IsClosed count.new result)
+        (λ s t. HasRead s.knows t.knows × PutsOutAtPin (pinned_number s.knows.phase)
+        (Ok (nodes_from (volume_pinned s.knows) from (length nodes.old))) nodes.old nodes.new count.new result) }
+    ensures kept { (result ≡ 0) ⊎ (nodes.new ≡ nodes.old) }
+{
+    if !pass.live {
+        *count = 0;
+        return CLOSED;
+    }
+    let room = nodes.len();
+    let answer = pass.owned.lent().nodes(alloc, from, room);
+    tell(answer, nodes, count)
 }
 
 /// Tells how full the store is, and the oldest version that a pass has announced.

@@ -1,0 +1,21 @@
+use Rattle.std.proofs.Common.{◌≡◌, Ok, Some, length, refl, subst}
+use Rattle.be_paged.specs.Nodes.{nodes_from}
+use Rattle.be_store.specs.Passes.{HasRead, volume_pinned}
+use Rattle.be_table.specs.Seats.{pinned_number}
+use Rattle.bestore_c.specs.Calls.{IsClosed, PutsOutAtPin}
+use Rattle.bestore_c.proofs.Called.{called}
+use Rattle.bestore_c.proofs.bes_nodes.Goals as goal
+
+pub returns-clause-pass : goal.returns-clause-pass
+returns-clause-pass c =
+    let was : c.args.pass.now.owned.value ≡ Some c.lent.result.now = c.lent.ensures.value in
+    let before = c.lent.result.now.knows in
+    called c.args.pass.now.owned.value _ c.lent.result.now c.nodes-answer.new.self (IsClosed c.tell.new.count c.tell.result)
+    (λ s t. HasRead s.knows t.knows × PutsOutAtPin (pinned_number s.knows.phase)
+    (Ok (nodes_from (volume_pinned s.knows) c.args.from (length c.args.nodes.now))) c.args.nodes.now c.tell.new.nodes c.tell.new.count c.tell.result)
+    was refl c.nodes-answer.ensures.store.0 c.nodes-answer.ensures.store.1 (
+      c.nodes-answer.ensures.read,
+      subst (λ most. PutsOutAtPin (pinned_number before.phase) (Ok (nodes_from (volume_pinned before) c.args.from most)) c.args.nodes.now c.tell.new.nodes
+          c.tell.new.count c.tell.result) c.len-room.ensures
+          (c.tell.ensures.found (pinned_number before.phase) (Ok (nodes_from (volume_pinned before) c.args.from c.len-room.result)) c.nodes-answer.ensures.nodes),
+    )
