@@ -315,6 +315,27 @@ static void threads()
     CHECK(store.pin().number() == 2 * writes);
 }
 
+// A query that is parsed here and asked in another thread, through a pass of its own, and a live one that goes there and back.
+static void threads_hand_on_queries()
+{
+    Store store({64, 2, 100});
+    store.make_index("n", Kind::int64);
+    store.apply(Batch().new_node().set(1, "n", std::int64_t{5}));
+    Live live("n>0");
+    {
+        auto pin = store.pin();
+        CHECK(live.refresh(pin).created == Nodes{1});
+    }
+    std::thread asker([pass = store.another(), prepared = Prepared("n==5"), &live]() mutable {
+        auto pin = pass.pin();
+        CHECK(pin.query(prepared) == Nodes{1} && live.refresh(pin).created.empty());
+    });
+    asker.join();
+    store.remove_node(1);
+    auto pin = store.pin();
+    CHECK(live.refresh(pin).removed == Nodes{1});
+}
+
 int main()
 {
     c_header();
@@ -328,4 +349,5 @@ int main()
     full();
     last_pass();
     threads();
+    threads_hand_on_queries();
 }
