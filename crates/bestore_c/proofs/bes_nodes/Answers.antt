@@ -1,4 +1,4 @@
-use Rattle.std.proofs.Common.{◌≡◌, Ok, Some, length, refl, subst}
+use Rattle.std.proofs.Common.{◌≡◌, Ok, Some, length, refl}
 use Rattle.be_paged.specs.Nodes.{nodes_from}
 use Rattle.be_store.specs.Passes.{HasRead, volume_pinned}
 use Rattle.be_table.specs.Seats.{pinned_number}
@@ -15,7 +15,6 @@ returns-clause-pass c =
     (Ok (nodes_from (volume_pinned s.knows) c.args.from (length c.args.nodes.now))) c.args.nodes.now c.tell.new.nodes c.tell.new.count c.tell.result)
     was refl c.nodes-answer.ensures.store.0 c.nodes-answer.ensures.store.1 (
       c.nodes-answer.ensures.read,
-      subst (λ most. PutsOutAtPin (pinned_number before.phase) (Ok (nodes_from (volume_pinned before) c.args.from most)) c.args.nodes.now c.tell.new.nodes
-          c.tell.new.count c.tell.result) c.len-room.ensures
-          (c.tell.ensures.found (pinned_number before.phase) (Ok (nodes_from (volume_pinned before) c.args.from c.len-room.result)) c.nodes-answer.ensures.nodes),
+      c.tell.ensures.found (pinned_number before.phase) (Ok (nodes_from (volume_pinned before) c.args.from (length c.args.nodes.now)))
+          c.nodes-answer.ensures.nodes,
     )
