@@ -34,6 +34,10 @@ impl<'a> Room for Writing<'a> {
 
     ghost full = { λ w least. IsSpent w.knows least };
 
+    fn is_taken(&self, page: u64) -> bool {
+        Writing::is_taken(self, page)
+    }
+
     fn take(&mut self) -> Result<u64, Refusal> {
         Writing::take(self)
     }

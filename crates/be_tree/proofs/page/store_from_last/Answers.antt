@@ -1,4 +1,4 @@
-use Rattle.std.proofs.Common.{ℕ, ◌≡◌, ◌≢◌, ◌≤◌, ◌+◌, ◌-◌, ◌∙◌, IsTrue, length, ap, sym, subst, refl, inl, inr, get_or, arith}
+use Rattle.std.proofs.Common.{ℕ, ◌≡◌, ◌≢◌, ◌<◌, ◌≤◌, ◌+◌, ◌-◌, ◌∙◌, IsTrue, length, ap, sym, subst, refl, inl, inr, get_or, arith}
 use Rattle.std.proofs.lemmas.List.{get_or_default}
 use Rattle.std.proofs.lemmas.Bool.{cases_lt}
 use Rattle.be_pages.specs.Pages.{is_readable}
@@ -20,7 +20,7 @@ store_slot-requires-clause-ready g c =
     let w = g.R.Look.words c.loop-i.room in
     let page = c.args.page in
     let j = length c.args.slots.now - 1 - c.loop-i.i in
-    let lt = omega (arith, c.loop-i-test.true) in
+    let lt : j < length c.args.slots.now = omega (arith, c.loop-i-test.true) in
     untouched_ready page s t v w (stands_else s t page Filled c.loop-i.invariant.standing) c.loop-i.invariant.others
     (subst (λ u. IsTrue (is_readable u)) (sym (stands_at s t page Filled c.loop-i.invariant.standing)) refl) _
     (untouched_to page (item_place j) (v page) (w page) _ (λ n ge below. c.loop-i.invariant.rest n ge (omega (arith, below, c.loop-i-test.true))) (c.requires.up j _ lt)) (c.requires.ready j _ lt)
@@ -41,7 +41,7 @@ loop-i-preserved g c =
     let w = g.R.Look.words c.store_slot.new.room page in
     let only = c.store_slot.ensures.only in
     let j = length c.args.slots.now - 1 - c.loop-i.i in
-    let lt = omega (arith, c.loop-i-test.true) in
+    let lt : j < length c.args.slots.now = omega (arith, c.loop-i-test.true) in
     let this = λ (d : Slot). c.store_slot.ensures.item
     ∙ untouched_pair page s t old now (stands_else s t page Filled c.loop-i.invariant.standing) c.loop-i.invariant.others
     (subst (λ u. IsTrue (is_readable u)) (sym (stands_at s t page Filled c.loop-i.invariant.standing)) refl) c.args.pair.now _

@@ -1,4 +1,4 @@
-use Rattle.std.proofs.Common.{ℕ, ◌≡◌, ◌≢◌, ◌≤◌, ◌∙◌, IsTrue, ap, sym, subst, refl, inl, inr, get_or, arith}
+use Rattle.std.proofs.Common.{ℕ, ◌≡◌, ◌≢◌, ◌<◌, ◌≤◌, ◌∙◌, IsTrue, length, ap, sym, subst, refl, inl, inr, get_or, arith}
 use Rattle.std.proofs.lemmas.List.{get_or_default}
 use Rattle.std.proofs.lemmas.Bool.{cases_lt}
 use Rattle.be_pages.specs.Pages.{is_readable}
@@ -19,7 +19,7 @@ store_slot-requires-clause-ready g c =
     let v = g.R.Look.words c.args.room.now in
     let w = g.R.Look.words c.loop-j.room in
     let page = c.args.page in
-    let lt = omega (arith, c.loop-j-test.true) in
+    let lt : c.loop-j.j < length c.args.slots.now = omega (arith, c.loop-j-test.true) in
     untouched_ready page s t v w (stands_else s t page Filled c.loop-j.invariant.standing) c.loop-j.invariant.others
     (subst (λ u. IsTrue (is_readable u)) (sym (stands_at s t page Filled c.loop-j.invariant.standing)) refl) _
     (untouched_from page (item_place c.loop-j.j) (v page) (w page) _ c.loop-j.invariant.rest (c.requires.down c.loop-j.j _ lt)) (c.requires.ready c.loop-j.j _ lt)
@@ -37,7 +37,7 @@ loop-j-preserved g c =
     let v = now page in
     let w = g.R.Look.words c.store_slot.new.room page in
     let only = c.store_slot.ensures.only in
-    let lt = omega (arith, c.loop-j-test.true) in
+    let lt : c.loop-j.j < length c.args.slots.now = omega (arith, c.loop-j-test.true) in
     let this = λ (d : Slot). c.store_slot.ensures.item
     ∙ untouched_pair page s t old now (stands_else s t page Filled c.loop-j.invariant.standing) c.loop-j.invariant.others
     (subst (λ u. IsTrue (is_readable u)) (sym (stands_at s t page Filled c.loop-j.invariant.standing)) refl) c.args.pair.now _

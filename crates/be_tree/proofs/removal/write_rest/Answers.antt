@@ -53,9 +53,9 @@ one_left g c =
     (tree_until g.R.Look.kept g.R.Look.standing g.R.Look.words before all (suc (child (branch g c))) room room c.child_of-child.new.look c.child_of-child.ensures.unchanged
     (tree_one g.R.Look.kept g.R.Look.standing g.R.Look.words c.args.level items (branch g c) room (omega arith) one c.requires.below))
 
-pub overflow_add-child : goal.overflow_add-child
-overflow_add-child g c =
-    let at = (goal.at.overflow_add-child g c).After-child_of-child in
+pub overflow_add-result : goal.overflow_add-result
+overflow_add-result g c =
+    let at = (goal.at.overflow_add-result g c).After-child_of-child in
     let room = c.args.room.now in
     let words = g.R.Look.words room in
     let items = pairs_of words c.args.pair.now c.args.slots.now in
@@ -63,9 +63,9 @@ overflow_add-child g c =
     let small = g.met.R.Look.pages_small room (child (branch g at)) (kept_not_free (g.R.Look.standing room (child (branch g at))) (one_used c.args.level (g.R.Look.standing room) words items (branch g at) (omega arith) one c.requires.below)) in
     omega (arith, small, child_is g at)
 
-pub give_up-requires-2-clause-held : goal.give_up-requires-2-clause-held
-give_up-requires-2-clause-held g c =
-    let one = one_left g (goal.at.give_up-requires-2-clause-held g c).After-child_of-child in
+pub give_up-requires-then-slots-eq1-clause-held : goal.give_up-requires-then-slots-eq1-clause-held
+give_up-requires-then-slots-eq1-clause-held g c =
+    let one = one_left g (goal.at.give_up-requires-then-slots-eq1-clause-held g c).After-child_of-child in
     let words = g.R.Look.words c.args.room.now in
     held_after g.R.Look.kept g.R.Look.standing g.R.Look.words (pages_below c.args.level words (pairs_of words c.args.pair.now c.args.slots.now)) (pages (g.R.Look.words c.child_of-child.new.look) (c.child_of-child.result + 1)) c.args.old
     c.args.room.now c.child_of-child.new.look one.swaps c.requires.apart c.requires.kept
@@ -74,5 +74,5 @@ pub returns-then-slots-eq1-clause-ok : goal.returns-then-slots-eq1-clause-ok
 returns-then-slots-eq1-clause-ok g c =
     let words = g.R.Look.words c.args.room.now in
     let items = pairs_of words c.args.pair.now c.args.slots.now in
-    tree_given_up g.R.Look.kept g.R.Look.standing g.R.Look.words (pages_below c.args.level words items) (pairs_below c.args.level words items) (c.child_of-child.result + 1) c.args.old c.args.room.now c.child_of-child.new.look c.give_up-2.new.self
-    (one_left g (goal.at.returns-then-slots-eq1-clause-ok g c).After-child_of-child) c.requires.apart c.requires.kept c.give_up-2.ensures.kept c.give_up-2.ensures.words c.give_up-2.ensures.standing
+    tree_given_up g.R.Look.kept g.R.Look.standing g.R.Look.words (pages_below c.args.level words items) (pairs_below c.args.level words items) (c.child_of-child.result + 1) c.args.old c.args.room.now c.child_of-child.new.look c.give_up-then-slots-eq1.new.self
+    (one_left g (goal.at.returns-then-slots-eq1-clause-ok g c).After-child_of-child) c.requires.apart c.requires.kept c.give_up-then-slots-eq1.ensures.kept c.give_up-then-slots-eq1.ensures.words c.give_up-then-slots-eq1.ensures.standing
