@@ -54,6 +54,7 @@ one_left g c =
     (tree_one g.R.Look.kept g.R.Look.standing g.R.Look.words c.args.level items (branch g c) room (omega arith) one c.requires.below))
 
 pub overflow_add-result : goal.overflow_add-result
+unfolding branch
 overflow_add-result g c =
     let at = (goal.at.overflow_add-result g c).After-child_of-child in
     let room = c.args.room.now in
