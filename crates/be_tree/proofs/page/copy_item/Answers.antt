@@ -1,9 +1,6 @@
-use Rattle.std.proofs.Common.{◌≡◌, ℕ, ◌+◌, ◌<◌, ◌∙◌, ap, subst, inl, inr, arith}
-use Rattle.std.proofs.lemmas.Bool.{cases_lt}
-use Rattle.std.proofs.lemmas.Bool.Decides.{nat_tests}
+use Rattle.std.proofs.Common.{arith}
 use Rattle.be_tree.proofs.Codec.{item_at_copied}
 use Rattle.be_tree.proofs.Bytes.Zeros.{IsItem_copied}
-use Rattle.be_tree.proofs.Nodes.Moves.{still_there}
 use Rattle.be_tree.proofs.page.copy_item.Goals as goal
 
 pub returns-clause-item : goal.returns-clause-item

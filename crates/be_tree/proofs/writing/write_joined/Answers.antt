@@ -1,4 +1,4 @@
-use Rattle.std.proofs.Common.{ℕ, suc, [], ◌∷◌, ◌≡◌, List, ◌+◌, sym, subst, arith}
+use Rattle.std.proofs.Common.{ℕ, suc, [], ◌∷◌, ◌≡◌, List, sym, subst, arith}
 use Rattle.be_pages.specs.Pages.{after_give_up, times}
 use Rattle.be_tree.specs.Slot.{branch_to, pairs_of}
 use Rattle.be_tree.specs.Tree.{pairs_below, pages_below, Becomes}
@@ -6,7 +6,6 @@ use Rattle.be_tree.proofs.Frame.{times_append, times_other}
 use Rattle.be_tree.proofs.Nodes.Moves.{stands_at, stands_else}
 use Rattle.be_tree.proofs.Nodes.Neighbours.{becomes_times}
 use Rattle.be_tree.proofs.Putting.Puts.{becomes_given_up, held_after}
-use Rattle.be_tree.proofs.writing.write_joined.Given.{Over}
 use Rattle.be_tree.proofs.writing.write_joined.Goals as goal
 
 -- the second page is none of those that were replaced

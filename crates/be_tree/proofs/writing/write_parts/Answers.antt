@@ -1,6 +1,6 @@
-use Rattle.std.proofs.Common.{[], ◌∷◌, ◌++◌, All, IsTrue, sym, subst, ◌∙◌, arith}
+use Rattle.std.proofs.Common.{[], ◌∷◌, ◌++◌, All, IsTrue, sym, subst, arith}
 use Rattle.be_pages.specs.Pages.{is_kept}
-use Rattle.be_tree.specs.Slot.{pairs_of, IsReady}
+use Rattle.be_tree.specs.Slot.{IsReady}
 use Rattle.be_tree.proofs.Frame.{swaps_start, start_trans, swaps_stands, readable_kept}
 use Rattle.be_tree.proofs.Shape.Below.{all_left, all_right}
 use Rattle.be_tree.proofs.Shape.Parts.{on_err}

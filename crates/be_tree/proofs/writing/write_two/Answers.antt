@@ -1,9 +1,8 @@
-use Rattle.std.proofs.Common.{ℕ, ◌≡◌, suc, [], ◌∷◌, ◌++◌, ◌+◌, ◌*◌, List, length, All, sym, subst, arith}
+use Rattle.std.proofs.Common.{ℕ, ◌≡◌, suc, [], ◌∷◌, ◌++◌, ◌+◌, ◌*◌, List, length, All, sym, subst}
 use Rattle.be_pages.specs.Pages.{times}
 use Rattle.be_tree.specs.declared.slot.Slot.{Slot}
 use Rattle.be_tree.specs.Slot.{branch_to, pairs_of, IsReady, StandsFrom}
 use Rattle.be_tree.specs.Tree.{pairs_below, pages_below, Becomes, IsBelow}
-use Rattle.be_tree.proofs.Frame.{readable_kept}
 use Rattle.be_tree.proofs.Shape.Below.{all_left, all_right}
 use Rattle.be_tree.proofs.writing.write_two.Given.{Over}
 use Rattle.be_tree.proofs.writing.write_two.Goals as goal

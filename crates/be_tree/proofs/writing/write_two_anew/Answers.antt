@@ -1,4 +1,4 @@
-use Rattle.std.proofs.Common.{ℕ, [], ◌∷◌, IsTrue, sym, subst, arith}
+use Rattle.std.proofs.Common.{[], ◌∷◌, IsTrue, sym, subst, arith}
 use Rattle.be_pages.specs.Pages.{is_kept}
 use Rattle.be_tree.proofs.Frame.{swaps_start, start_trans, swaps_stands, times_other, readable_kept}
 use Rattle.be_tree.proofs.Shape.Parts.{on_err}

@@ -1,8 +1,7 @@
-use Rattle.std.proofs.Common.{ℕ, ◌≡◌, [], ◌∷◌, List, length, get_or, All, IsTrue, sym, subst, refl, arith}
+use Rattle.std.proofs.Common.{[], ◌∷◌, length, get_or, All, IsTrue, sym, subst, refl}
 use Rattle.be_pages.specs.Pages.{is_kept, is_readable}
 use Rattle.be_pages.specs.declared.room.Standing.TheVariants.{Filled}
 use Rattle.be_tree.specs.Page.{item_place}
-use Rattle.be_tree.specs.Slot.{pairs_of, IsReady}
 use Rattle.be_tree.proofs.Frame.{swaps_start, start_trans}
 use Rattle.be_tree.proofs.Shape.Parts.{on_err}
 use Rattle.be_tree.proofs.Nodes.Moves.{IsUntouched, all_untouched_ready, stands_at, stands_else, untouched_from, untouched_pairs}
