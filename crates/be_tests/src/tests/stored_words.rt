@@ -117,11 +117,11 @@ pub(crate) fn stored_by(alloc: Global, line: &str) -> Result<String, Refusal> {
 /// stand already. A key is put, or taken out and another put beside it; then 64 are, beside one another and far apart.
 #[test]
 fn stored_words(rt: HostRuntime) -> Result<(), Fail> {
-    let lines = "stored put 1 1 => 0
-stored set 1 1 => 0
-stored put 64 1 => 0
-stored put 64 4000 => 0
-stored take 64 1000 => 0
-stored take 64 4000 => 0";
+    let lines = "stored put 1 1 => 19
+stored set 1 1 => 18
+stored put 64 1 => 506
+stored put 64 4000 => 1417
+stored take 64 1000 => 1340
+stored take 64 4000 => 1151";
     replies(rt.alloc(), lines)
 }
