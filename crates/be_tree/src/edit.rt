@@ -114,8 +114,8 @@ fn put_below<R: Room>(
 }
 
 /// Puts a pair below a page, and the page's items with the pair put, still to be written, into an empty list. The page is
-/// not written over nor given up yet, since some of them stand there. A full child first gives items to its left neighbour, and is split
-/// only where that one is full too.
+/// not written over nor given up yet, since some of them stand there. A full child first gives items to its left
+/// neighbour, and is split only where that one is full too.
 #[cycle(put)]
 fn put_at<R: Room>(
     room: &mut R,
@@ -183,7 +183,8 @@ fn put_shared<R: Room>(
 }
 
 /// Puts a pair into a tree, in place of any pair of its key, and gives the new root. The old tree's pages that the new
-/// one has not are given up; those that this write had taken before may be written over. After an error the tree stands again once the room is undone.
+/// one has not are given up; those that this write had taken before may be written over. After an error the tree stands
+/// again once the room is undone.
 pub fn insert<R: Room>(room: &mut R, root: u64, key: &[u8], payload: &[u8]) -> Result<u64, Refusal>
     requires tree { IsTree (R.standing room.old) (R.words room.old) root }
     requires key_fits { length key.now ≤ 264 }
