@@ -39,7 +39,7 @@ returns-clause-cursor g c =
     let path = c.descend-page.new.self.path.items in
     let place : Place = record { page = c.descend-page.result.0; next = c.descend-page.result.1; level = 0 } in
     subst (IsPath standing words) (sym c.push.ensures.items) (path_push standing words path place d.cursor
-    (record { tree = d.leaf; in_range = omega (arith, d.in_range, items_count (words c.descend-page.result.0)) }) d.short)
+    (record { tree = d.leaf; in_range = omega (arith, d.in_range, items_count (words c.descend-page.result.0)) }) (omega (arith, d.short)))
 
 pub returns-clause-remaining : goal.returns-clause-remaining
 returns-clause-remaining g c =
