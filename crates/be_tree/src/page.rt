@@ -103,7 +103,7 @@ pub(crate) fn cmp_at<L: Look>(look: &mut L, page: u64, at: usize, key: &[u8]) ->
 }
 
 /// The lesser of two numbers.
-pub(crate) fn least_of(a: usize, b: usize) -> usize
+fn least_of(a: usize, b: usize) -> usize
     ensures at_most { (result ≤ a) × (result ≤ b) }
     ensures one { (result ≡ a) ⊎ (result ≡ b) }
 {
