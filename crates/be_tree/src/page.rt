@@ -10,7 +10,7 @@ ghost use Rattle.std.specs.Prelude.{◌^◌, ◌⊎◌, true};
 ghost use Rattle.be_tree.specs.declared.slot.Slot.TheVariants.{At};
 ghost use Rattle.be_tree.specs.Slot.{IsReady, MayMove, MoveDown, MoveUp, StandsFrom, StandsTo, branch_to, pair_of, pairs_of};
 ghost use Rattle.be_tree.specs.Key.{key_cmp};
-ghost use Rattle.be_tree.specs.Words.{AreFirst};
+ghost use Rattle.be_tree.specs.Words.{IsFirst};
 ghost use Rattle.be_tree.specs.Tree.{child};
 
 use crate::item::Item;
@@ -68,7 +68,9 @@ pub(crate) fn straddled(first: u64, second: u64, skip: usize) -> u64
     (first << (8 * skip)) + (second >> (64 - 8 * skip))
 }
 
-/// How the key of the item at a place compares with a key: word by word, where the item stands.
+/// How the key of the item at a place compares with a key: word by word, where the item stands. Look-ups come here seldom, so
+/// it isn't put into their loops.
+#[inline(never)]
 pub(crate) fn cmp_at<L: Look>(look: &mut L, page: u64, at: usize, key: &[u8]) -> Ordering
     requires readable { IsTrue (is_readable (L.standing look.old page)) }
     requires in_page { at + 42 ≤ 512 }
@@ -101,7 +103,7 @@ pub(crate) fn cmp_at<L: Look>(look: &mut L, page: u64, at: usize, key: &[u8]) ->
 }
 
 /// The lesser of two numbers.
-pub(crate) fn least_of(a: usize, b: usize) -> usize
+fn least_of(a: usize, b: usize) -> usize
     ensures at_most { (result ≤ a) × (result ≤ b) }
     ensures one { (result ≡ a) ⊎ (result ≡ b) }
 {
@@ -205,21 +207,11 @@ pub(crate) fn word_from(bytes: &[u8], from: usize) -> u64
     ])
 }
 
-/// The first two words of a key, with zeros behind a short one. A descent makes them once.
-#[derive(Clone, Copy)]
-pub(crate) struct FirstWords {
-    pub(crate) first: u64,
-    pub(crate) second: u64,
-}
-
-/// The first two words of a key.
-pub(crate) fn first_words(key: &[u8]) -> FirstWords
-    ensures { AreFirst key.now result }
+/// The first word of a key, with zeros behind a short one. A descent makes it once.
+pub(crate) fn first_word(key: &[u8]) -> u64
+    ensures { IsFirst key.now result }
 {
-    FirstWords {
-        first: word_from(key, 0),
-        second: word_from(key, 8),
-    }
+    word_from(key, 0)
 }
 
 /// Writes bytes into the words from a place on, of a page that has a word filled, eight in a word, and zeros after the

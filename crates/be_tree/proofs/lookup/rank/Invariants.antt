@@ -4,7 +4,7 @@ use Rattle.be_pages.specs.Pages.{IsUnchanged}
 use Rattle.be_tree.specs.Pair.{Pair}
 use Rattle.be_tree.specs.Key.{key_cmp}
 use Rattle.be_tree.specs.Page.{items_of}
-use Rattle.be_tree.proofs.lookup.rank_by.Given as goal
+use Rattle.be_tree.proofs.lookup.rank.Given as goal
 
 -- the item that was asked last is not above the key
 abbrev pub invariant-loop-at : goal.invariant-loop-at

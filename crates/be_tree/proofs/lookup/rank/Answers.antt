@@ -7,9 +7,9 @@ use Rattle.be_tree.specs.Key.{key_cmp}
 use Rattle.be_tree.specs.Page.{item_at, items_of}
 use Rattle.be_tree.proofs.Nodes.Slots.{item_get, items_count}
 use Rattle.be_tree.proofs.Frame.{unchanged_trans}
-use Rattle.be_tree.proofs.lookup.rank_by.Given.{Over}
-use Rattle.be_tree.proofs.lookup.rank_by.Goals as goal
-use Rattle.be_tree.proofs.lookup.rank_by.Goals.{After-is_above}
+use Rattle.be_tree.proofs.lookup.rank.Given.{Over}
+use Rattle.be_tree.proofs.lookup.rank.Goals as goal
+use Rattle.be_tree.proofs.lookup.rank.Goals.{After-is_above}
 
 -- how the item that is asked compares
 asked : (g : Over) (c : After-is_above g) (d : Pair) → c.loop-at.at < g.L.Look.words c.args.look.now c.args.page 1

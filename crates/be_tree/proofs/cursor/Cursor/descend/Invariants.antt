@@ -3,7 +3,7 @@ use Rattle.be_pages.specs.Pages.{IsUnchanged}
 use Rattle.be_tree.specs.Cursor.{IsPath, pairs_along}
 use Rattle.be_tree.specs.Range.{pairs_from}
 use Rattle.be_tree.specs.Tree.{IsTreeAt, pairs, pairs_at}
-use Rattle.be_tree.proofs.cursor.Cursor.seek.Given as goal
+use Rattle.be_tree.proofs.cursor.Cursor.descend.Given as goal
 
 -- what stands from the key on below this page, and then past the path, is all that the tree has from it on
 abbrev pub invariant-loop-level : goal.invariant-loop-level
