@@ -1,4 +1,6 @@
+pub mod BlockLemmas
 pub mod DoneLemmas
 pub mod LegalLemmas
+pub mod ReaderLemmas
 pub mod SoundLemmas
 pub mod TextLemmas
