@@ -105,6 +105,7 @@ fn bytes_again(alloc: Global, text: &str) -> Result<String, Refusal> {
     }
 }
 
+#[derive(Drop)]
 struct Encoder;
 
 impl Answers for Encoder {
