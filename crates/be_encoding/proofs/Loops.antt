@@ -1,6 +1,7 @@
 -- Operations with their answers one after the other, as loops read and write them.
 use Rattle.std.proofs.Common.{◌≡◌, ℕ, suc, ◌-◌, ◌+◌, ◌≤◌, ◌<◌, List, [], ◌∷◌, ◌++◌, length, drop, get_or, Some, None, refl, sym, ap, ◌∙◌, append_assoc, append-nil, add-one, drop-cons, length-append, arith}
 use Rattle.std.proofs.lemmas.List.{at_drop_all}
+use Rattle.std.specs.Option.{option_map}
 use Rattle.std.specs.declared.option.Option.{Option}
 use Rattle.be_volume.specs.declared.ops.Done.{Done}
 use Rattle.be_volume.specs.declared.ops.Op.{Op}
@@ -52,6 +53,41 @@ is_done ops dones count i bytes all long so_far =
     let last : behind ops dones (steps_at (count - i) bytes) ≡ Some (ops, dones, bytes) =
     rw none (ap (λ (xs : List Op). Some (xs, dones ++ [], bytes)) (append-nil ops) ∙ ap (λ (xs : List Done). Some (ops, xs, bytes)) (append-nil dones)) in
     sym so_far ∙ last
+
+-- the bytes behind what was read
+abbrev pub bytes_left : Option (List Op × List Done × List ℕ) → Option (List ℕ)
+bytes_left read = option_map (λ x. x.2) read
+
+left_alike : (op : Op) (done : Done) (read : Option (List Op × List Done × List ℕ)) → bytes_left (read >>= λ x. Some (op ∷ x.0, done ∷ x.1, x.2)) ≡ bytes_left read
+left_alike op done None = refl
+left_alike op done (Some x) = refl
+
+pub skip_goes_on : (count i : ℕ) (bytes : List ℕ) (op : Op) (done : Done) (after : List ℕ) (all : Option (List ℕ)) →
+    i < count → step_at bytes ≡ Some (op, done, after) → bytes_left (steps_at (count - i) bytes) ≡ all → bytes_left (steps_at (count - (i + 1)) after) ≡ all
+unfolding steps_at
+skip_goes_on count i bytes op done after all short is so_far =
+    let one : count - i ≡ suc (count - (i + 1)) = omega arith in
+    let next : bytes_left (steps_at (count - i) bytes) ≡ bytes_left (steps_at (count - (i + 1)) after) = rw (one, is) (left_alike op done (steps_at (count - (i + 1)) after)) in
+    sym next ∙ so_far
+
+pub skip_ends : (count i : ℕ) (bytes : List ℕ) (all : Option (List ℕ)) → i < count → step_at bytes ≡ None → bytes_left (steps_at (count - i) bytes) ≡ all → all ≡ None
+unfolding steps_at
+skip_ends count i bytes all short is so_far =
+    let one : count - i ≡ suc (count - (i + 1)) = omega arith in
+    let none : bytes_left (steps_at (count - i) bytes) ≡ None = rw (one, is) refl in
+    sym so_far ∙ none
+
+pub skip_is_done : (count i : ℕ) (bytes : List ℕ) (all : Option (List ℕ)) → count ≤ i → bytes_left (steps_at (count - i) bytes) ≡ all → all ≡ Some bytes
+unfolding steps_at
+skip_is_done count i bytes all long so_far =
+    let none : count - i ≡ 0 = omega arith in
+    let last : bytes_left (steps_at (count - i) bytes) ≡ Some bytes = rw none refl in
+    sym so_far ∙ last
+
+-- the bytes behind an entry are those behind its steps
+pub left_of_entry : (by : ℕ) (read : Option (List Op × List Done × List ℕ)) → option_map (λ x. x.3) (read >>= λ x. Some (by, x.0, x.1, x.2)) ≡ bytes_left read
+left_of_entry by None = refl
+left_of_entry by (Some x) = refl
 
 -- what is left of operations with their answers, from place i on
 pub steps_left : (ops : List Op) (dones : List Done) (i : ℕ) (op : Op) (d : Done) → i < length ops → length dones ≡ length ops → op ≡ get_or ops i op →

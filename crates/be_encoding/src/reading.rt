@@ -348,3 +348,25 @@ pub fn read_entry(
 {
     entry_of(alloc, bytes)
 }
+
+/// The bytes behind so many operations with their answers.
+fn behind_steps(count: u64, bytes: &[u8]) -> Option<&[u8]>
+    ensures { option_map (λ x. x.now) result ≡ option_map (λ x. x.2) (spec.steps_at count bytes.now) }
+{
+    let mut rest = bytes;
+    for _ in 0..count {
+        let (_op, _done, after) = step_of(rest)?;
+        rest = after;
+    }
+    Some(rest)
+}
+
+/// The bytes behind the entry at their front; None where none stands there. It takes no memory, and costs what the entry has.
+#[tactic(auto, unfolding(crate::specs::Decoding::entry_at))]
+pub fn skip_entry(bytes: &[u8]) -> Option<&[u8]>
+    ensures { option_map (λ x. x.now) result ≡ option_map (λ x. x.3) (spec.entry_at bytes.now) }
+{
+    let (_by, rest) = number_of(bytes)?;
+    let (count, rest) = number_of(rest)?;
+    behind_steps(count, rest)
+}

@@ -1,5 +1,5 @@
 -- Entries that were written one after the other are read one after the other.
-use Rattle.std.proofs.Common.{◌≡◌, ◌<◌, ℕ, suc, ◌+◌, List, [], ◌∷◌, ◌++◌, length, All, Some, refl, sym, ap, subst, ◌∙◌, append_assoc, append-nil, arith}
+use Rattle.std.proofs.Common.{◌≡◌, ◌<◌, ◌≤◌, ℕ, suc, ◌+◌, ◌-◌, ◌*◌, List, [], ◌∷◌, ◌++◌, length, drop, get_or, All, Some, refl, sym, ap, subst, ◌∙◌, append_assoc, append-nil, length-append, length-drop, arith}
 use Rattle.std.specs.List.{flat_map}
 use Rattle.std.specs.Option.{option_map_or}
 use Rattle.std.proofs.lemmas.Grind.{flat_map-append}
@@ -18,33 +18,35 @@ first_again e es rest is =
     ∙ ap entry_at (append_assoc (bytes_of e) (flat_map bytes_of es) rest)
     ∙ entry_again e.by e.ops e.dones (flat_map bytes_of es ++ rest) is.1
 
-pub entries_again : (es : List Entry) (rest : List ℕ) → All IsStored es → entries_at (length es) (flat_map bytes_of es ++ rest) ≡ es
+entries_again : (es : List Entry) (rest : List ℕ) → All IsStored es → entries_at (length es) (flat_map bytes_of es ++ rest) ≡ es
 unfolding entries_at
 entries_again [] rest are = refl
 entries_again (e ∷ es) rest are =
     rw (first_again e es rest (All-head IsStored e es are)) (ap (λ (xs : List Entry). e ∷ xs) (entries_again es rest (All-tail IsStored e es are)))
 
-one_bytes : (es : List Entry) (e : Entry) → flat_map bytes_of (es ++ e ∷ []) ≡ flat_map bytes_of es ++ bytes_of e
-one_bytes es e = flat_map-append bytes_of es (e ∷ []) ∙ ap (λ b. flat_map bytes_of es ++ b) (flat_map-cons bytes_of e [] ∙ append-nil (bytes_of e))
+-- the bytes are those of these entries
+pub record Holds (count : ℕ) (bytes : List ℕ) (es : List Entry) : Type 0 where
+  pub same : entries_at count bytes ≡ es
+  pub are : AreEntries count bytes
+
+pub holds : (es : List Entry) (count : ℕ) (bytes : List ℕ) → All IsStored es → bytes ≡ flat_map bytes_of es → length es ≡ count → Holds count bytes es
+holds es count bytes stored whole len =
+    let behind : bytes ≡ flat_map bytes_of es ++ [] = whole ∙ sym (append-nil (flat_map bytes_of es)) in
+    let same : entries_at count bytes ≡ es = ap (λ n. entries_at n bytes) (sym len) ∙ ap (entries_at (length es)) behind ∙ entries_again es [] stored in
+    record {
+      same = same;
+      are = record { whole = whole ∙ ap (flat_map bytes_of) (sym same); counted = ap length same ∙ len; stored = subst (All IsStored) (sym same) stored };
+    }
+
+-- the bytes of one more entry
+pub one_more : (es : List Entry) (e : Entry) → flat_map bytes_of (es ++ e ∷ []) ≡ flat_map bytes_of es ++ bytes_of e
+one_more es e = flat_map-append bytes_of es (e ∷ []) ∙ ap (λ b. flat_map bytes_of es ++ b) (flat_map-cons bytes_of e [] ∙ append-nil (bytes_of e))
 
 -- one more entry behind the others
-pub pushed : (count : ℕ) (bytes : List ℕ) (e : Entry) → AreEntries count bytes → IsStored e → entries_at (count + 1) (bytes ++ bytes_of e) ≡ entries_at count bytes ++ e ∷ []
+pub pushed : (count : ℕ) (bytes : List ℕ) (e : Entry) → AreEntries count bytes → IsStored e → Holds (count + 1) (bytes ++ bytes_of e) (entries_at count bytes ++ e ∷ [])
 pushed count bytes e are is =
     let es = entries_at count bytes in
-    let all : All IsStored (es ++ e ∷ []) = All-push IsStored es e are.stored is in
-    let len : length (es ++ e ∷ []) ≡ count + 1 = length_push es e ∙ ap (λ n. n + 1) are.counted in
-    let whole : bytes ++ bytes_of e ≡ flat_map bytes_of (es ++ e ∷ []) ++ [] = ap (λ b. b ++ bytes_of e) are.whole ∙ sym (one_bytes es e) ∙ sym (append-nil (flat_map bytes_of (es ++ e ∷ []))) in
-    ap (λ n. entries_at n (bytes ++ bytes_of e)) (sym len) ∙ ap (entries_at (length (es ++ e ∷ []))) whole ∙ entries_again (es ++ e ∷ []) [] all
-
-pub are_pushed : (count : ℕ) (bytes : List ℕ) (e : Entry) → AreEntries count bytes → IsStored e → AreEntries (count + 1) (bytes ++ bytes_of e)
-are_pushed count bytes e are is =
-    let es = entries_at count bytes in
-    let more = pushed count bytes e are is in
-    record {
-      whole = ap (λ b. b ++ bytes_of e) are.whole ∙ sym (one_bytes es e) ∙ ap (flat_map bytes_of) (sym more);
-      counted = ap length more ∙ length_push es e ∙ ap (λ n. n + 1) are.counted;
-      stored = subst (All IsStored) (sym more) (All-push IsStored es e are.stored is);
-    }
+    holds (es ++ e ∷ []) (count + 1) (bytes ++ bytes_of e) (All-push IsStored es e are.stored is) (ap (λ b. b ++ bytes_of e) are.whole ∙ sym (one_more es e)) (length_push es e ∙ ap (λ n. n + 1) are.counted)
 
 -- what the first entry leaves
 pub record Taken (count : ℕ) (bytes : List ℕ) (e : Entry) (rest : List ℕ) : Type 0 where
@@ -58,17 +60,15 @@ taken_of : (count : ℕ) (bytes : List ℕ) (es : List Entry) → bytes ≡ flat
 taken_of count bytes [] whole len are same = absurd (omega (arith, len))
 taken_of count bytes (e ∷ es) whole len are same =
     let rest = flat_map bytes_of es in
-    let some : All IsStored es = All-tail IsStored e es are in
-    let short : length es ≡ count = omega (arith, len) in
-    let back : entries_at count rest ≡ es = ap (λ n. entries_at n rest) (sym short) ∙ ap (entries_at (length es)) (sym (append-nil rest)) ∙ entries_again es [] some in
+    let others = holds es count rest (All-tail IsStored e es are) refl (omega (arith, len)) in
     let behind : flat_map bytes_of (e ∷ es) ≡ flat_map bytes_of (e ∷ es) ++ [] = sym (append-nil (flat_map bytes_of (e ∷ es))) in (
       e,
       rest,
       record {
         read = ap entry_at (whole ∙ behind) ∙ first_again e es [] (All-head IsStored e es are) ∙ ap (λ b. Some (e.by, e.ops, e.dones, b)) (append-nil rest);
-        first = same ∙ ap (λ (xs : List Entry). e ∷ xs) (sym back);
+        first = same ∙ ap (λ (xs : List Entry). e ∷ xs) (sym others.same);
         stored = All-head IsStored e es are;
-        left = record { whole = ap (flat_map bytes_of) (sym back); counted = ap length back ∙ short; stored = subst (All IsStored) (sym back) some };
+        left = others.are;
       },
     )
 

@@ -1,7 +1,8 @@
 -- Entries in blocks of bytes.
-use Rattle.std.specs.Prelude.{◌≡◌, ◌<◌, ◌-◌, ℕ, zero, suc, Bool, false, nat_le, slice_get, List, [], ◌∷◌, length, All, flat_map, refl}
+use Rattle.std.specs.Prelude.{◌≡◌, ◌<◌, ◌≤◌, ◌-◌, ◌*◌, ℕ, zero, suc, Bool, false, nat_le, slice_get, List, [], ◌∷◌, length, drop, get_or, All, IfSome, flat_map, refl}
 use Rattle.std.specs.Coded.{Coded, code_by, coded_ℕ, coded_list, coded×}
 use Rattle.std.specs.Option.{option_map_or}
+use Rattle.std.specs.declared.option.Option.{Option}
 use Rattle.be_encoding.specs.Decoding.{entry_at}
 use Rattle.be_encoding.specs.Encoding.{entry_bytes, most_bytes, CanBeEntry}
 use Rattle.be_journal.specs.Journal.{coded_entry, IsEntry}
@@ -25,6 +26,17 @@ pub record AreEntries (count : ℕ) (bytes : List ℕ) : Type 0 where
   pub counted : length (entries_at count bytes) ≡ count
   pub stored : All IsStored (entries_at count bytes)
 
+-- of so many entries in bytes, those behind the first ones begin at this place
+pub record IsPlace (before place count : ℕ) (bytes : List ℕ) : Type 0 where
+  pub known : before ≤ count
+  pub within : place ≤ length bytes
+  pub behind : drop place bytes ≡ flat_map bytes_of (drop before (entries_at count bytes))
+
+-- the places of every 16th entry, from the first on
+pub record ArePlaces (places : List ℕ) (count : ℕ) (bytes : List ℕ) : Type 0 where
+  pub each : (k : ℕ) → k < length places → IsPlace (16 * k) (get_or places k 0) count bytes
+  pub all : count ≤ 16 * length places
+
 -- a block: its entries, and how many bytes are left
 pub record Filled : Type 0 where
   pub entries : List Entry
@@ -44,3 +56,7 @@ AreFilled blocks = All (λ b. 0 < length b.entries) blocks
 -- whether the last of the blocks has room for any entry of so many operations
 abbrev pub has_room : ℕ → List Filled → Bool
 has_room count blocks = option_map_or (λ b. nat_le (most_bytes count) b.room) (slice_get blocks (length blocks - 1)) false
+
+-- a block for the next entry, if there is one: it is empty, and has room for any entry
+abbrev pub IsSpare : Option Filled → Type 0
+IsSpare spare = IfSome spare (λ b. (b.entries ≡ []) × (most_bytes 64 ≤ b.room))

@@ -8,12 +8,11 @@ ghost use Rattle.be_volume.specs.Volume.{steps};
 ghost use Rattle.be_value.specs.Refusal.{Answers};
 ghost use Rattle.be_value.specs.declared.refusals.Refusal.TheVariants.{OutOfMemory};
 ghost use Rattle.std.specs.String.{string_bytes};
-ghost use Rattle.be_journal.specs.Blocks.{has_room};
 ghost use Rattle.be_journal.specs.Journal as model;
 ghost use Rattle.be_journal.specs.Text.{lines_from};
 
 use crate::Entry;
-use crate::blocks::Block;
+use crate::blocks::{Block, append, block_of, make_spare};
 use crate::readers::Reader;
 use crate::texts::entry_line;
 use be_value::Refusal;
@@ -84,17 +83,15 @@ impl Journal {
         Reader::new(self.alloc, &self.blocks)
     }
 
-    /// The entry with this number, from 0, an entry of its own. It is refused with OutOfMemory alone.
+    /// The entry with this number, from 0, an entry of its own. It is refused with OutOfMemory alone. It goes from block to
+    /// block, each of which has some 20,000 small entries, and then past 15 entries at most.
     pub fn get(&self, i: u64) -> Result<Entry, Refusal>
         requires { i < length self.now.entries }
         ensures ok { IfOk result (λ entry. entry ≡ get_or self.now.entries i entry) }
         ensures err { IfErr result (λ e. e ≡ OutOfMemory) }
     {
-        let mut reader = self.reader();
-        for _ in 0..i {
-            let _entry = reader.next()?;
-        }
-        Ok(reader.next()?)
+        let (block, place) = block_of(&self.blocks, i);
+        Ok(block.get(self.alloc, place)?)
     }
 
     /// Appends an entry; what was reserved is given up. It is refused with CommitsSpent exactly where the journal is at its
@@ -120,9 +117,7 @@ impl Journal {
             return Err(Refusal::CommitsSpent);
         }
         self.blocks.reserve(1)?;
-        if self.spare.is_none() && !last_has_room(&self.blocks, count) {
-            self.spare = Some(Block::new(self.alloc)?);
-        }
+        make_spare(self.alloc, &self.blocks, &mut self.spare, count)?;
         self.reserved = count;
         Ok(())
     }
@@ -135,18 +130,7 @@ impl Journal {
         requires dones { length dones.now ≡ self.old.reserved }
         ensures { self.new ≡ model.extended self.old (record { by = by; ops = ops.now; dones = dones.now }) }
     {
-        if last_has_room(&self.blocks, ops.len()) {
-            let last = self.blocks.len() - 1;
-            self.blocks[last].push(by, ops, dones);
-        } else {
-            match self.spare.take() {
-                Some(mut block) => {
-                    block.push(by, ops, dones);
-                    self.blocks.push_reserved(block);
-                }
-                None => unreachable!(),
-            }
-        }
+        append(&mut self.blocks, &mut self.spare, by, ops, dones);
         self.len += 1;
         self.reserved = 0;
     }
@@ -198,17 +182,6 @@ impl Journal {
             reached = next;
         }
         Ok(true)
-    }
-}
-
-/// Whether the last of the blocks has room for any entry of so many operations.
-fn last_has_room(blocks: &[Block], count: usize) -> bool
-    requires { count ≤ 64 }
-    ensures { result ≡ has_room count blocks.now }
-{
-    match blocks.last() {
-        Some(block) => block.has_room(count),
-        None => false,
     }
 }
 

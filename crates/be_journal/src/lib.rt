@@ -4,6 +4,7 @@
 //! contents, and it is legal where every answer in it is the one that the volume gives at its place.
 #![tactic(auto)]
 
+mod block_readers;
 mod blocks;
 mod entries;
 mod journals;

@@ -1,21 +1,20 @@
 //! Reading the entries of blocks, one after the other.
-ghost use Rattle.std.specs.Prelude.{◌≡◌, ◌<◌, ◌∷◌, ◌++◌, length, IfOk};
-ghost use Rattle.be_journal.specs.Blocks.{entries_at, entries_of, AreEntries, AreFilled};
-ghost use Rattle.be_journal.specs.Journal as model;
+ghost use Rattle.std.specs.Prelude.{◌≡◌, ◌<◌, ◌∷◌, length, IfOk};
+ghost use Rattle.be_journal.specs.Blocks.{entries_of, AreFilled};
+ghost use Rattle.be_journal.specs.Journal.{IsEntry};
 
+use crate::Entry;
+use crate::block_readers::BlockReader;
 use crate::blocks::Block;
-use crate::{Dones, Entry, Ops};
-use be_encoding::read_entry;
 use std::alloc::{AllocError, Global};
 use std::marker::Model;
 
-/// A reader of entries. A contract sees those that are still to be read.
+/// A reader of blocks' entries. A contract sees those that are still to be read.
 #[derive(Drop)]
 pub(crate) struct Reader<'a> {
     alloc: Global,
-    /// The entries of the block that is read, from the next one on, and how many these are.
-    bytes: &'a [u8],
-    left: u64,
+    /// What is still to be read of a block.
+    front: BlockReader<'a>,
     /// The blocks behind it.
     blocks: &'a [Block],
 }
@@ -23,7 +22,7 @@ pub(crate) struct Reader<'a> {
 impl<'a> Model for Reader<'a> {
     ghost use Rattle.std.specs.Prelude.{List, ◌++◌};
     ghost use Rattle.std.specs.Coded.{coded_list};
-    ghost use Rattle.be_journal.specs.Blocks.{entries_at, entries_of, AreEntries, AreFilled};
+    ghost use Rattle.be_journal.specs.Blocks.{entries_of, AreFilled};
     ghost use Rattle.be_journal.specs.Journal.{coded_entry};
     ghost use Rattle.be_journal.specs.declared.entries.Entry.{Entry as AnyEntry};
 
@@ -31,30 +30,9 @@ impl<'a> Model for Reader<'a> {
 
     ghost coded = { coded_list coded_entry };
 
-    ghost view = { λ r. entries_at r.left r.bytes.now ++ entries_of r.blocks.now };
+    ghost view = { λ r. r.front ++ entries_of r.blocks.now };
 
-    ghost invariant = { λ r. AreEntries r.left r.bytes.now × AreFilled r.blocks.now };
-}
-
-/// What is read of a block and the blocks behind it: the next of these where the block is read whole.
-fn turned<'a>(bytes: &'a [u8], left: u64, blocks: &'a [Block]) -> (&'a [u8], u64, &'a [Block])
-    requires are { AreEntries left bytes.now }
-    requires filled { AreFilled blocks.now }
-    ensures same { entries_at result.1 result.0.now ++ entries_of result.2.now ≡ entries_at left bytes.now ++ entries_of blocks.now }
-    ensures are { AreEntries result.1 result.0.now }
-    ensures filled { AreFilled result.2.now }
-    ensures some { 0 < length (entries_at left bytes.now ++ entries_of blocks.now) → 0 < result.1 }
-{
-    if left != 0 {
-        return (bytes, left, blocks);
-    }
-    match blocks {
-        [] => (bytes, left, blocks),
-        [block, rest @ ..] => {
-            let (bytes, left) = block.parts();
-            (bytes, left, rest)
-        }
-    }
+    ghost invariant = { λ r. AreFilled r.blocks.now };
 }
 
 impl<'a> Reader<'a> {
@@ -65,8 +43,7 @@ impl<'a> Reader<'a> {
     {
         Reader {
             alloc,
-            bytes: &[],
-            left: 0,
+            front: BlockReader::new(&[], 0),
             blocks,
         }
     }
@@ -75,23 +52,18 @@ impl<'a> Reader<'a> {
     pub(crate) fn next(&mut self) -> Result<Entry, AllocError>
         requires { 0 < length self.old }
         ensures next { IfOk result (λ entry. self.old ≡ entry ∷ self.new) }
-        ensures is { IfOk result model.IsEntry }
+        ensures is { IfOk result IsEntry }
     {
-        let (bytes, left, blocks) = turned(self.bytes, self.left, self.blocks);
-        self.bytes = bytes;
-        self.left = left;
-        self.blocks = blocks;
-        match read_entry(self.alloc, self.bytes)? {
-            Some((by, ops, dones, rest)) => {
-                self.bytes = rest;
-                self.left -= 1;
-                Ok(Entry {
-                    by,
-                    ops: Ops::from_vec(ops),
-                    dones: Dones::from_vec(dones),
-                })
+        if !self.front.is_empty() {
+            return self.front.next(self.alloc);
+        }
+        match self.blocks {
+            [block, rest @ ..] => {
+                self.front = block.reader();
+                self.blocks = rest;
+                self.front.next(self.alloc)
             }
-            None => unreachable!(),
+            [] => unreachable!(),
         }
     }
 }

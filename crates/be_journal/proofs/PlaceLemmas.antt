@@ -1,0 +1,74 @@
+-- Where every 16th entry of a block begins.
+use Rattle.std.proofs.Common.{◌≡◌, ◌<◌, ◌≤◌, ℕ, ◌+◌, ◌-◌, ◌*◌, nat_lt, List, [], ◌∷◌, ◌++◌, length, drop, get_or, All, refl, sym, ap, subst, ◌∙◌, append-nil, length-append, length-drop, arith}
+use Rattle.std.specs.List.{flat_map}
+use Rattle.std.proofs.lemmas.Bool.Decides.{nat_tests}
+use Rattle.std.proofs.lemmas.Bool.{ltb-true}
+use Rattle.std.proofs.lemmas.List.{length_push, get_or_append_left, get_or_push, drop-append-le, drop_at}
+use Rattle.std.proofs.lemmas.List.Concat.{flat_map-cons}
+use Rattle.std.proofs.lemmas.List.Elements.{All-drop}
+use Rattle.be_encoding.proofs.Numbers.{choose}
+use Rattle.be_journal.specs.Blocks.{bytes_of, entries_at, IsStored, AreEntries, IsPlace, ArePlaces}
+use Rattle.be_journal.specs.declared.entries.Entry.{Entry}
+use Rattle.be_journal.proofs.BlockLemmas.{Holds, holds, one_more, pushed}
+
+-- the entries from a place on
+pub from_place : (before place count : ℕ) (bytes : List ℕ) → AreEntries count bytes → IsPlace before place count bytes → Holds (count - before) (drop place bytes) (drop before (entries_at count bytes))
+from_place before place count bytes are is =
+    let es = entries_at count bytes in
+    holds (drop before es) (count - before) (drop place bytes) (All-drop IsStored before es are.stored) is.behind (length-drop before es ∙ ap (λ n. n - before) are.counted)
+
+-- a place stays one with one more entry
+still_place : (before place count : ℕ) (bytes : List ℕ) (e : Entry) → AreEntries count bytes → IsStored e → IsPlace before place count bytes → IsPlace before place (count + 1) (bytes ++ bytes_of e)
+still_place before place count bytes e are stored is =
+    let es = entries_at count bytes in
+    let known : before ≤ count = is.known in
+    let within : place ≤ length bytes = is.within in
+    record {
+      known = omega arith;
+      within = omega (arith, length-append bytes (bytes_of e));
+      behind = drop-append-le place bytes (bytes_of e) within
+          ∙ ap (λ b. b ++ bytes_of e) is.behind
+          ∙ sym (one_more (drop before es) e)
+          ∙ ap (flat_map bytes_of) (sym (drop-append-le before es (e ∷ []) (omega (arith, are.counted))))
+          ∙ ap (λ (xs : List Entry). flat_map bytes_of (drop before xs)) (sym (pushed count bytes e are stored).same);
+    }
+
+-- where one more entry begins
+new_place : (count : ℕ) (bytes : List ℕ) (e : Entry) → AreEntries count bytes → IsStored e → IsPlace count (length bytes) (count + 1) (bytes ++ bytes_of e)
+new_place count bytes e are stored =
+    let es = entries_at count bytes in
+    record {
+      known = omega arith;
+      within = omega (arith, length-append bytes (bytes_of e));
+      behind = drop_at bytes (bytes_of e) (length bytes) refl
+          ∙ sym (append-nil (bytes_of e))
+          ∙ sym (flat_map-cons bytes_of e [])
+          ∙ ap (flat_map bytes_of) (sym (drop_at es (e ∷ []) count are.counted))
+          ∙ ap (λ (xs : List Entry). flat_map bytes_of (drop count xs)) (sym (pushed count bytes e are stored).same);
+    }
+
+-- one more entry where the last place has fewer than 16
+pub places_kept : (places : List ℕ) (count : ℕ) (bytes : List ℕ) (e : Entry) → AreEntries count bytes → IsStored e → (count ≡ length places * 16 → ⊥) → ArePlaces places count bytes →
+    ArePlaces places (count + 1) (bytes ++ bytes_of e)
+places_kept places count bytes e are stored more is =
+    let all : count ≤ 16 * length places = is.all in
+    record {
+      each = λ k short. still_place (16 * k) (get_or places k 0) count bytes e are stored (is.each k short);
+      all = grind (arith, more);
+    }
+
+-- one more entry, which has a place
+pub places_pushed : (places : List ℕ) (count : ℕ) (bytes : List ℕ) (e : Entry) → AreEntries count bytes → IsStored e → count ≡ length places * 16 → ArePlaces places count bytes →
+    ArePlaces (places ++ length bytes ∷ []) (count + 1) (bytes ++ bytes_of e)
+places_pushed places count bytes e are stored full is =
+    record {
+      each = λ k short. choose (nat_lt k (length places))
+          (λ h. subst (λ p. IsPlace (16 * k) p (count + 1) (bytes ++ bytes_of e)) (sym (get_or_append_left places (length bytes ∷ []) 0 k (ltb-true k (length places) h)))
+          (still_place (16 * k) (get_or places k 0) count bytes e are stored (is.each k (ltb-true k (length places) h))))
+          (λ h.
+          let last : k ≡ length places = grind (arith, nat_tests, h, short, length_push places (length bytes)) in
+          let before : count ≡ 16 * k = omega (arith, full, last) in
+          subst (λ p. IsPlace (16 * k) p (count + 1) (bytes ++ bytes_of e)) (sym (get_or_push places (length bytes) 0 k (sym last)))
+          (subst (λ n. IsPlace n (length bytes) (count + 1) (bytes ++ bytes_of e)) before (new_place count bytes e are stored)));
+      all = omega (arith, full, length_push places (length bytes));
+    }
