@@ -1,6 +1,8 @@
 pub mod BlockLemmas
 pub mod DoneLemmas
 pub mod LegalLemmas
+pub mod ListLemmas
+pub mod NextLemmas
 pub mod PlaceLemmas
 pub mod ReaderLemmas
 pub mod SoundLemmas

@@ -1,5 +1,5 @@
 -- Where every 16th entry of a block begins.
-use Rattle.std.proofs.Common.{◌≡◌, ◌<◌, ◌≤◌, ℕ, ◌+◌, ◌-◌, ◌*◌, nat_lt, List, [], ◌∷◌, ◌++◌, length, drop, get_or, All, refl, sym, ap, subst, ◌∙◌, append-nil, length-append, length-drop, arith}
+use Rattle.std.proofs.Common.{◌≡◌, ◌<◌, ◌≤◌, ℕ, ◌+◌, ◌-◌, ◌*◌, ◌/◌, ◌≢◌, true, false, nat_eq, nat_lt, List, [], ◌∷◌, ◌++◌, length, drop, get_or, All, refl, sym, ap, subst, ◌∙◌, append-nil, length-append, length-drop, arith}
 use Rattle.std.specs.List.{flat_map}
 use Rattle.std.proofs.lemmas.Bool.Decides.{nat_tests}
 use Rattle.std.proofs.lemmas.Bool.{ltb-true}
@@ -7,7 +7,7 @@ use Rattle.std.proofs.lemmas.List.{length_push, get_or_append_left, get_or_push,
 use Rattle.std.proofs.lemmas.List.Concat.{flat_map-cons}
 use Rattle.std.proofs.lemmas.List.Elements.{All-drop}
 use Rattle.be_encoding.proofs.Numbers.{choose}
-use Rattle.be_journal.specs.Blocks.{bytes_of, entries_at, IsStored, AreEntries, IsPlace, ArePlaces}
+use Rattle.be_journal.specs.Blocks.{bytes_of, entries_at, IsStored, AreEntries, with_place, IsPlace, ArePlaces}
 use Rattle.be_journal.specs.declared.entries.Entry.{Entry}
 use Rattle.be_journal.proofs.BlockLemmas.{Holds, holds, one_more, pushed}
 
@@ -47,28 +47,43 @@ new_place count bytes e are stored =
           ∙ ap (λ (xs : List Entry). flat_map bytes_of (drop count xs)) (sym (pushed count bytes e are stored).same);
     }
 
--- one more entry where the last place has fewer than 16
-pub places_kept : (places : List ℕ) (count : ℕ) (bytes : List ℕ) (e : Entry) → AreEntries count bytes → IsStored e → (count ≡ length places * 16 → ⊥) → ArePlaces places count bytes →
-    ArePlaces places (count + 1) (bytes ++ bytes_of e)
-places_kept places count bytes e are stored more is =
-    let all : count ≤ 16 * length places = is.all in
-    record {
-      each = λ k short. still_place (16 * k) (get_or places k 0) count bytes e are stored (is.each k short);
-      all = grind (arith, more);
-    }
+-- the numbers of entries and places
+full : (count places : ℕ) → nat_eq (count / 16) places ≡ true → count ≤ 16 * places → count ≡ 16 * places
+full count places h all = let same : count / 16 ≡ places = grind (arith, nat_tests, h) in omega (arith, same, all)
+
+not_full : (count places : ℕ) → nat_eq (count / 16) places ≡ false → count ≤ 16 * places → count + 1 ≤ 16 * places
+not_full count places h all = let other : count / 16 ≢ places = grind (arith, nat_tests, h) in omega (arith, other, all)
+
+last_of : (k places : ℕ) → nat_lt k places ≡ false → k < places + 1 → k ≡ places
+last_of k places h short = grind (arith, nat_tests, h, short)
 
 -- one more entry, which has a place
-pub places_pushed : (places : List ℕ) (count : ℕ) (bytes : List ℕ) (e : Entry) → AreEntries count bytes → IsStored e → count ≡ length places * 16 → ArePlaces places count bytes →
+with_new : (places : List ℕ) (count : ℕ) (bytes : List ℕ) (e : Entry) → AreEntries count bytes → IsStored e → count ≡ 16 * length places → ArePlaces places count bytes →
     ArePlaces (places ++ length bytes ∷ []) (count + 1) (bytes ++ bytes_of e)
-places_pushed places count bytes e are stored full is =
+with_new places count bytes e are stored whole is =
+    let len : length (places ++ length bytes ∷ []) ≡ length places + 1 = length_push places (length bytes) in
     record {
       each = λ k short. choose (nat_lt k (length places))
-          (λ h. subst (λ p. IsPlace (16 * k) p (count + 1) (bytes ++ bytes_of e)) (sym (get_or_append_left places (length bytes ∷ []) 0 k (ltb-true k (length places) h)))
-          (still_place (16 * k) (get_or places k 0) count bytes e are stored (is.each k (ltb-true k (length places) h))))
-          (λ h.
-          let last : k ≡ length places = grind (arith, nat_tests, h, short, length_push places (length bytes)) in
-          let before : count ≡ 16 * k = omega (arith, full, last) in
+          (λ h. let below : k < length places = ltb-true k (length places) h in
+          subst (λ p. IsPlace (16 * k) p (count + 1) (bytes ++ bytes_of e)) (sym (get_or_append_left places (length bytes ∷ []) 0 k below))
+          (still_place (16 * k) (get_or places k 0) count bytes e are stored (is.each k below)))
+          (λ h. let last : k ≡ length places = last_of k (length places) h (subst (λ n. k < n) len short) in
           subst (λ p. IsPlace (16 * k) p (count + 1) (bytes ++ bytes_of e)) (sym (get_or_push places (length bytes) 0 k (sym last)))
-          (subst (λ n. IsPlace n (length bytes) (count + 1) (bytes ++ bytes_of e)) before (new_place count bytes e are stored)));
-      all = omega (arith, full, length_push places (length bytes));
+          (subst (λ n. IsPlace n (length bytes) (count + 1) (bytes ++ bytes_of e)) (whole ∙ ap (λ n. 16 * n) (sym last)) (new_place count bytes e are stored)));
+      all = omega (arith, whole, len);
     }
+
+-- one more entry
+pub places_more : (places : List ℕ) (count : ℕ) (bytes : List ℕ) (e : Entry) → AreEntries count bytes → IsStored e → ArePlaces places count bytes →
+    ArePlaces (with_place places count (length bytes)) (count + 1) (bytes ++ bytes_of e)
+places_more places count bytes e are stored is =
+    choose (nat_eq (count / 16) (length places))
+    (λ h. rw h (with_new places count bytes e are stored (full count (length places) h is.all) is))
+    (λ h. rw h (record {
+      each = λ k short. still_place (16 * k) (get_or places k 0) count bytes e are stored (is.each k short);
+      all = not_full count (length places) h is.all;
+    }))
+
+-- the place before an entry
+pub place_before : (i count places : ℕ) → i < count → count ≤ 16 * places → i / 16 < places
+place_before i count places short all = omega (arith, short, all)

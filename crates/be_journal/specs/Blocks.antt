@@ -1,5 +1,5 @@
 -- Entries in blocks of bytes.
-use Rattle.std.specs.Prelude.{◌≡◌, ◌<◌, ◌≤◌, ◌-◌, ◌*◌, ℕ, zero, suc, Bool, false, nat_le, slice_get, List, [], ◌∷◌, length, drop, get_or, All, IfSome, flat_map, refl}
+use Rattle.std.specs.Prelude.{◌≡◌, ◌<◌, ◌≤◌, ◌-◌, ◌*◌, ◌/◌, ℕ, zero, suc, Bool, false, nat_eq, nat_le, if◌then◌else◌, slice_get, List, [], ◌∷◌, ◌++◌, length, drop, get_or, All, IfSome, flat_map, refl}
 use Rattle.std.specs.Coded.{Coded, code_by, coded_ℕ, coded_list, coded×}
 use Rattle.std.specs.Option.{option_map_or}
 use Rattle.std.specs.declared.option.Option.{Option}
@@ -36,6 +36,10 @@ pub record IsPlace (before place count : ℕ) (bytes : List ℕ) : Type 0 where
 pub record ArePlaces (places : List ℕ) (count : ℕ) (bytes : List ℕ) : Type 0 where
   pub each : (k : ℕ) → k < length places → IsPlace (16 * k) (get_or places k 0) count bytes
   pub all : count ≤ 16 * length places
+
+-- the places before one more of so many entries: its own is a new one where the others have 16 entries each
+abbrev pub with_place : List ℕ → ℕ → ℕ → List ℕ
+with_place places count place = if nat_eq (count / 16) (length places) then places ++ place ∷ [] else places
 
 -- a block: its entries, and how many bytes are left
 pub record Filled : Type 0 where

@@ -3,7 +3,7 @@
 //! A block has its room from the start, so what lies in it is never moved. An entry lies in one block, whole.
 ghost use Rattle.std.specs.Prelude.{◌≡◌, ◌+◌, ◌≤◌, ◌<◌, ◌^◌, ◌++◌, ◌∷◌, [], true, false, length, get_or, nat_le, vec_len, vec_capacity, IfOk, OnOk, IsSome};
 ghost use Rattle.be_encoding.specs.Encoding.{most_bytes as longest};
-ghost use Rattle.be_journal.specs.Blocks.{entries_of, has_room, AreFilled, IsSpare};
+ghost use Rattle.be_journal.specs.Blocks.{entries_of, has_room, with_place, AreFilled, IsSpare};
 ghost use Rattle.be_journal.specs.declared.entries.Entry.{Entry as AnyEntry};
 
 use crate::Entry;
@@ -85,9 +85,7 @@ impl Block {
         requires fits { length self.old.entries + 1 < 2 ^ 64 }
         ensures { self.new.entries ≡ self.old.entries ++ record { by = by; ops = ops.now; dones = dones.now } ∷ [] }
     {
-        if self.count == self.places.len() as u64 * 16 {
-            self.places.push_reserved(self.bytes.len());
-        }
+        keep_place(&mut self.places, self.count, self.bytes.len());
         write_entry(&mut self.bytes, by, ops, dones);
         self.count += 1;
     }
@@ -106,11 +104,21 @@ impl Block {
     {
         let before = i / 16;
         let place = self.places[before as usize];
-        let mut reader = BlockReader::new(&self.bytes[place..], self.count - before * 16);
+        let mut reader = BlockReader::new(&self.bytes[place..], self.count - 16 * before);
         for _ in 0..i % 16 {
             reader.skip();
         }
         reader.next(alloc)
+    }
+}
+
+/// Keeps the place of the next entry, where the places before have 16 entries each.
+fn keep_place(places: &mut Vec<usize>, count: u64, place: usize)
+    requires { vec_len places.old < vec_capacity places.old }
+    ensures { places.new.items ≡ with_place places.old.items count place }
+{
+    if count / 16 == places.len() as u64 {
+        places.push_reserved(place);
     }
 }
 
