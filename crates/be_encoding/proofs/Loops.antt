@@ -6,7 +6,7 @@ use Rattle.std.specs.declared.option.Option.{Option}
 use Rattle.be_volume.specs.declared.ops.Done.{Done}
 use Rattle.be_volume.specs.declared.ops.Op.{Op}
 use Rattle.be_encoding.specs.Encoding.{step_bytes, steps_bytes}
-use Rattle.be_encoding.specs.Decoding.{◌>>=◌, step_at, steps_at}
+use Rattle.be_encoding.specs.Decoding.{◌>>=◌, step_at, steps_at, Found}
 
 -- what was read before, and what is still read
 abbrev pub behind : List Op → List Done → Option (List Op × List Done × List ℕ) → Option (List Op × List Done × List ℕ)
@@ -85,7 +85,7 @@ skip_is_done count i bytes all long so_far =
     sym so_far ∙ last
 
 -- the bytes behind an entry are those behind its steps
-pub left_of_entry : (by : ℕ) (read : Option (List Op × List Done × List ℕ)) → option_map (λ x. x.3) (read >>= λ x. Some (by, x.0, x.1, x.2)) ≡ bytes_left read
+pub left_of_entry : (by : ℕ) (read : Option (List Op × List Done × List ℕ)) → option_map (λ (x : Found). x.3) (read >>= λ x. Some (by, x.0, x.1, x.2)) ≡ bytes_left read
 left_of_entry by None = refl
 left_of_entry by (Some x) = refl
 

@@ -18,7 +18,7 @@ unfolding entries_at
 none_at = refl
 
 pub are_none : AreEntries 0 []
-are_none = record { whole = ap (flat_map bytes_of) (sym none_at); counted = ap length none_at; stored = subst (λ es. All IsStored es) (sym none_at) (All-nil IsStored) }
+are_none = record { whole = ap (flat_map bytes_of) (sym none_at); counted = ap length none_at; stored = subst (All IsStored) (sym none_at) (All-nil IsStored) }
 
 -- what is read of some entries, and what it leaves
 record Next (left : ℕ) (bytes : List ℕ) : Type 0 where
@@ -57,7 +57,7 @@ same_of a b h = cc
 pub skipped : (left : ℕ) (bytes after : List ℕ) → AreEntries left bytes → 0 < length (entries_at left bytes) → Some after ≡ option_map (λ x. x.3) (entry_at bytes) → Skipped left bytes after
 skipped left bytes after are some is =
     let n = next_of left bytes are some in
-    let same : n.rest ≡ after = same_of after n.rest (is ∙ ap (λ r. option_map (λ x. x.3) r) n.read) in
+    let same : n.rest ≡ after = same_of after n.rest (is ∙ ap (λ (r : Option Found). option_map (λ x. x.3) r) n.read) in
     record {
       some = n.some;
       are = subst (AreEntries (left - 1)) same n.are;
@@ -70,7 +70,7 @@ never r h = cc
 pub never_skipped : (left : ℕ) (bytes : List ℕ) → AreEntries left bytes → 0 < length (entries_at left bytes) → None ≡ option_map (λ x. x.3) (entry_at bytes) → ⊥
 never_skipped left bytes are some is =
     let n = next_of left bytes are some in
-    never n.rest (is ∙ ap (λ r. option_map (λ x. x.3) r) n.read)
+    never n.rest (is ∙ ap (λ (r : Option Found). option_map (λ x. x.3) r) n.read)
 
 -- what reading an entry leaves
 pub record Read (left : ℕ) (bytes : List ℕ) (entry : Entry) (after : List ℕ) : Type 0 where
@@ -93,7 +93,7 @@ read_as left bytes entry after n same rest =
       some = n.some;
       is = subst IsEntry same n.stored.0;
       are = subst (AreEntries (left - 1)) rest n.are;
-      first = n.first ∙ ap (λ e. e ∷ entries_at (left - 1) n.rest) same ∙ ap (λ r. entry ∷ entries_at (left - 1) r) rest;
+      first = n.first ∙ ap (λ (x : Entry). x ∷ entries_at (left - 1) n.rest) same ∙ ap (λ (r : List ℕ). entry ∷ entries_at (left - 1) r) rest;
     }
 
 pub read : (left : ℕ) (bytes : List ℕ) (by : ℕ) (ops : List Op) (dones : List Done) (after : List ℕ) → AreEntries left bytes → 0 < length (entries_at left bytes) →
@@ -102,7 +102,7 @@ read left bytes by ops dones after are some is =
     let n = next_of left bytes are some in
     let entry : Entry = record { by = by; ops = ops; dones = dones } in
     let same : found n.e.by n.e.ops n.e.dones n.rest ≡ found by ops dones after = sym (is ∙ n.read) in
-    read_as left bytes entry after n (ap (λ r. entry_in r entry) same) (ap (λ r. rest_in r after) same)
+    read_as left bytes entry after n (ap (λ (r : Option Found). entry_in r entry) same) (ap (λ (r : Option Found). rest_in r after) same)
 
 pub never_read : (left : ℕ) (bytes : List ℕ) → AreEntries left bytes → 0 < length (entries_at left bytes) → None ≡ entry_at bytes → ⊥
 never_read left bytes are some is =

@@ -53,13 +53,11 @@ impl<'a> BlockReader<'a> {
         requires { 0 < length self.old }
         ensures { self.new ≡ drop 1 self.old }
     {
-        match skip_entry(self.bytes) {
-            Some(rest) => {
-                self.bytes = rest;
-                self.left -= 1;
-            }
-            None => unreachable!(),
-        }
+        let Some(rest) = skip_entry(self.bytes) else {
+            unreachable!()
+        };
+        self.bytes = rest;
+        self.left -= 1;
     }
 
     /// The next entry, of which there is one. Memory is taken for its two lists.
@@ -68,17 +66,16 @@ impl<'a> BlockReader<'a> {
         ensures next { IfOk result (λ entry. self.old ≡ entry ∷ self.new) }
         ensures is { IfOk result IsEntry }
     {
-        match read_entry(alloc, self.bytes)? {
-            Some((by, ops, dones, rest)) => {
-                self.bytes = rest;
-                self.left -= 1;
-                Ok(Entry {
-                    by,
-                    ops: Ops::from_vec(ops),
-                    dones: Dones::from_vec(dones),
-                })
-            }
-            None => unreachable!(),
-        }
+        let read = read_entry(alloc, self.bytes)?;
+        let Some((by, ops, dones, rest)) = read else {
+            unreachable!()
+        };
+        self.bytes = rest;
+        self.left -= 1;
+        Ok(Entry {
+            by,
+            ops: Ops::from_vec(ops),
+            dones: Dones::from_vec(dones),
+        })
     }
 }

@@ -108,7 +108,8 @@ impl Block {
         for _ in 0..i % 16 {
             reader.skip();
         }
-        reader.next(alloc)
+        let entry = reader.next(alloc)?;
+        Ok(entry)
     }
 }
 
@@ -207,11 +208,9 @@ pub(crate) fn append(
         push_last(blocks, by, ops, dones);
         return;
     }
-    match spare.take() {
-        Some(mut block) => {
-            block.push(by, ops, dones);
-            blocks.push_reserved(block);
-        }
-        None => unreachable!(),
-    }
+    let Some(mut block) = spare.take() else {
+        unreachable!()
+    };
+    block.push(by, ops, dones);
+    blocks.push_reserved(block);
 }

@@ -57,13 +57,11 @@ impl<'a> Reader<'a> {
         if !self.front.is_empty() {
             return self.front.next(self.alloc);
         }
-        match self.blocks {
-            [block, rest @ ..] => {
-                self.front = block.reader();
-                self.blocks = rest;
-                self.front.next(self.alloc)
-            }
-            [] => unreachable!(),
-        }
+        let Some((block, rest)) = self.blocks.split_first() else {
+            unreachable!()
+        };
+        self.front = block.reader();
+        self.blocks = rest;
+        self.front.next(self.alloc)
     }
 }
