@@ -5,6 +5,5 @@ pub mod ListLemmas
 pub mod NextLemmas
 pub mod PlaceLemmas
 pub mod ReaderLemmas
-pub mod RoomLemmas
 pub mod SoundLemmas
 pub mod TextLemmas

@@ -1,5 +1,5 @@
 -- The next of the entries in bytes, as a reader comes to it.
-use Rattle.std.proofs.Common.{◌≡◌, ◌<◌, ℕ, zero, suc, ◌-◌, List, [], ◌∷◌, length, drop, Some, None, refl, sym, ap, subst, ◌∙◌, arith}
+use Rattle.std.proofs.Common.{◌≡◌, ◌<◌, ℕ, zero, suc, ◌-◌, List, [], ◌∷◌, length, drop, All, Some, None, refl, sym, ap, subst, ◌∙◌, arith}
 use Rattle.std.specs.List.{flat_map}
 use Rattle.std.specs.Option.{option_map}
 use Rattle.std.specs.declared.option.Option.{Option}
@@ -98,6 +98,7 @@ read_as left bytes entry after n same rest =
 
 pub read : (left : ℕ) (bytes : List ℕ) (by : ℕ) (ops : List Op) (dones : List Done) (after : List ℕ) → AreEntries left bytes → 0 < length (entries_at left bytes) →
     Some (by, ops, dones, after) ≡ entry_at bytes → Read left bytes (record { by = by; ops = ops; dones = dones }) after
+unfolding next_of entry_in rest_in
 read left bytes by ops dones after are some is =
     let n = next_of left bytes are some in
     let entry : Entry = record { by = by; ops = ops; dones = dones } in

@@ -1,15 +1,19 @@
 -- Where every 16th entry of a block begins.
-use Rattle.std.proofs.Common.{◌≡◌, ◌<◌, ◌≤◌, ℕ, ◌+◌, ◌-◌, ◌*◌, ◌/◌, ◌≢◌, true, false, nat_eq, nat_lt, List, [], ◌∷◌, ◌++◌, length, drop, get_or, All, refl, sym, ap, subst, ◌∙◌, append-nil, length-append, length-drop, arith}
+use Rattle.std.proofs.Common.{◌≡◌, ◌<◌, ◌≤◌, ℕ, ◌+◌, ◌-◌, ◌*◌, ◌/◌, ◌≢◌, true, false, nat_eq, nat_lt, List, [], ◌∷◌, ◌++◌, length, take, drop, get_or, All, refl, sym, ap, subst, ◌∙◌, append-nil, length-append, length-drop, arith}
 use Rattle.std.specs.List.{flat_map}
 use Rattle.std.proofs.lemmas.Bool.Decides.{nat_tests}
 use Rattle.std.proofs.lemmas.Bool.{ltb-true}
-use Rattle.std.proofs.lemmas.List.{length_push, get_or_append_left, get_or_push, drop-append-le, drop_at}
+use Rattle.std.proofs.lemmas.List.{length_push, get_or_append_left, get_or_push, get_or_read, drop-append-le, drop_at, take_rest}
 use Rattle.std.proofs.lemmas.List.Concat.{flat_map-cons}
 use Rattle.std.proofs.lemmas.List.Elements.{All-drop}
 use Rattle.be_encoding.proofs.Numbers.{choose}
 use Rattle.be_journal.specs.Blocks.{bytes_of, entries_at, IsStored, AreEntries, with_place, IsPlace, ArePlaces}
 use Rattle.be_journal.specs.declared.entries.Entry.{Entry}
 use Rattle.be_journal.proofs.BlockLemmas.{Holds, holds, one_more, pushed}
+
+-- of no entries
+pub no_places : ArePlaces [] 0 []
+no_places = record { each = λ k short. absurd (omega (arith, short)); all = omega arith }
 
 -- the entries from a place on
 pub from_place : (before place count : ℕ) (bytes : List ℕ) → AreEntries count bytes → IsPlace before place count bytes → Holds (count - before) (drop place bytes) (drop before (entries_at count bytes))
@@ -87,3 +91,13 @@ places_more places count bytes e are stored is =
 -- the place before an entry
 pub place_before : (i count places : ℕ) → i < count → count ≤ 16 * places → i / 16 < places
 place_before i count places short all = omega (arith, short, all)
+
+-- the entries from the place before an entry on, in a slice of the bytes
+pub from_before : (places : List ℕ) (count i place : ℕ) (bytes : List ℕ) → AreEntries count bytes → ArePlaces places count bytes → i < count → place ≡ get_or places (i / 16) place →
+    Holds (count - 16 * (i / 16)) (take (length bytes - place) (drop place bytes)) (drop (16 * (i / 16)) (entries_at count bytes))
+from_before places count i place bytes are is short at =
+    let below : i / 16 < length places = place_before i count (length places) short is.all in
+    let same : place ≡ get_or places (i / 16) 0 = get_or_read places (i / 16) place below at 0 in
+    let here : IsPlace (16 * (i / 16)) place count bytes = subst (λ p. IsPlace (16 * (i / 16)) p count bytes) (sym same) (is.each (i / 16) below) in
+    subst (λ (b : List ℕ). Holds (count - 16 * (i / 16)) b (drop (16 * (i / 16)) (entries_at count bytes))) (sym (take_rest bytes place))
+    (from_place (16 * (i / 16)) place count bytes are here)
