@@ -1,5 +1,5 @@
 -- An entry that was written is read back, operation by operation.
-use Rattle.std.proofs.Common.{◌≡◌, ℕ, suc, ◌+◌, ◌-◌, ◌^◌, ◌<◌, ◌≤◌, Bool, true, false, nat_lt, List, [], ◌∷◌, ◌++◌, length, All, Some, None, Result, Ok, Err, refl, sym, ap, ◌∙◌, append_assoc, arith}
+use Rattle.std.proofs.Common.{◌≡◌, ℕ, suc, ◌+◌, ◌-◌, ◌^◌, ◌<◌, ◌≤◌, true, false, nat_lt, List, [], ◌∷◌, ◌++◌, length, All, Some, Result, Ok, Err, refl, ap, ◌∙◌, append_assoc, arith}
 use Rattle.std.specs.Prelude.{IfOk}
 use Rattle.std.specs.Option.{option_map}
 use Rattle.std.specs.declared.option.Option.{Option}
@@ -10,7 +10,7 @@ use Rattle.be_volume.specs.declared.ops.Op.{Op}
 use Rattle.be_volume.specs.declared.ops.Op.TheVariants.{New, Drop, Set, Unset, MkIndex, RmIndex}
 use Rattle.be_value.specs.Value.{kind_number}
 use Rattle.be_encoding.specs.Encoding.{number_bytes, counted_bytes, value_bytes, form_of, op_bytes, step_bytes, steps_bytes, entry_bytes, CanBeOp, CanBeDone, CanBeEntry}
-use Rattle.be_encoding.specs.Decoding.{◌>>=◌, first_at, number_at, op_at, set_at, unset_at, mkindex_at, quiet_at, answered_at, step_at, steps_at, entry_at}
+use Rattle.be_encoding.specs.Decoding.{op_at, set_at, unset_at, mkindex_at, quiet_at, answered_at, step_at, steps_at, entry_at}
 use Rattle.be_encoding.proofs.Numbers.{number_again}
 use Rattle.be_encoding.proofs.Values.{name_again, kind_again, value_again}
 

@@ -1,18 +1,16 @@
 -- How many bytes an entry has at most.
-use Rattle.std.proofs.Common.{◌≡◌, ℕ, suc, ◌+◌, ◌*◌, ◌^◌, ◌<◌, ◌≤◌, Bool, true, false, nat_lt, List, [], ◌∷◌, ◌++◌, length, All, refl, arith}
-use Rattle.std.specs.Prelude.{pos, negsuc}
+use Rattle.std.proofs.Common.{ℕ, ◌+◌, ◌*◌, ◌^◌, ◌≤◌, nat_lt, List, [], ◌∷◌, ◌++◌, length, All, arith}
 use Rattle.std.proofs.lemmas.List.{length-append}
 use Rattle.std.proofs.lemmas.List.Elements.{All-head, All-tail}
 use Rattle.be_value.specs.Key.{IsValue}
 use Rattle.be_value.specs.Value.{kind_number}
 use Rattle.be_value.specs.declared.values.Value.{Value}
 use Rattle.be_value.specs.declared.values.Value.TheVariants.{Cstr, Long, Llng, Mims, Rawt, Ulng, Ullg}
-use Rattle.be_volume.specs.Sound.{IsName}
 use Rattle.be_volume.specs.declared.ops.Done.{Done}
 use Rattle.be_volume.specs.declared.ops.Done.TheVariants.{Node, Unit as Nothing}
 use Rattle.be_volume.specs.declared.ops.Op.{Op}
 use Rattle.be_volume.specs.declared.ops.Op.TheVariants.{New, Drop, Set, Unset, MkIndex, RmIndex}
-use Rattle.be_encoding.specs.Encoding.{number_bytes, counted_bytes, value_bytes, magnitude, op_bytes, step_bytes, steps_bytes, entry_bytes, CanBeOp, CanBeDone, CanBeEntry}
+use Rattle.be_encoding.specs.Encoding.{number_bytes, counted_bytes, value_bytes, magnitude, op_bytes, step_bytes, steps_bytes, entry_bytes, CanBeOp, CanBeEntry}
 use Rattle.be_encoding.proofs.Numbers.{choose}
 use Rattle.be_encoding.proofs.Values.{name_short, text_short}
 

@@ -1,12 +1,12 @@
 -- A number that was written is read back, and so are bytes behind their count.
-use Rattle.std.proofs.Common.{◌≡◌, ℕ, ◌+◌, ◌^◌, ◌<◌, ◌≤◌, Bool, true, false, nat_lt, nat_eq, List, [], ◌∷◌, ◌++◌, length, take, drop, Some, refl, sym, ap, ◌∙◌, append_assoc, arith}
+use Rattle.std.proofs.Common.{◌≡◌, ℕ, ◌^◌, ◌<◌, Bool, true, false, nat_lt, nat_eq, List, ◌++◌, length, Some, refl, ap, ◌∙◌, append_assoc, arith}
 use Rattle.std.specs.Int.{Width, w16, w32, w64, byte_len, from_be_bytes, to_be_bytes}
 use Rattle.std.proofs.lemmas.Bool.{ltb-true, le-ltb, lt-ltb}
 use Rattle.std.proofs.lemmas.Bool.Decides.{nat_tests}
 use Rattle.std.proofs.lemmas.List.{take_at, drop_at, length-append}
 use Rattle.std.proofs.lemmas.Nat.{from_be_bytes-to_be_bytes_2, from_be_bytes-to_be_bytes_4, from_be_bytes-to_be_bytes_8}
 use Rattle.be_encoding.specs.Encoding.{number_bytes, counted_bytes}
-use Rattle.be_encoding.specs.Decoding.{◌>>=◌, first_at, fixed_at, number_at, below_at, counted_at}
+use Rattle.be_encoding.specs.Decoding.{fixed_at, number_at, below_at, counted_at}
 
 -- what a test answers, either way
 pub choose : {P : Type 0} (b : Bool) → (b ≡ true → P) → (b ≡ false → P) → P

@@ -1,5 +1,5 @@
 -- A name and a value that were written are read back.
-use Rattle.std.proofs.Common.{◌≡◌, ℕ, zero, suc, ◌^◌, ◌<◌, ◌≤◌, Bool, true, false, List, ◌∷◌, ◌++◌, length, Some, None, Ok, Result, refl, sym, ap, ◌∙◌, arith}
+use Rattle.std.proofs.Common.{◌≡◌, ℕ, zero, suc, ◌^◌, ◌≤◌, List, ◌∷◌, ◌++◌, length, Some, None, Ok, Result, refl, sym, ap, ◌∙◌, arith}
 use Rattle.std.specs.Prelude.{pos, negsuc, IsUtf8, IfSome, IfNone}
 use Rattle.std.specs.Result.{result_ok}
 use Rattle.std.specs.Str.{is_utf8}
@@ -16,8 +16,8 @@ use Rattle.be_value.specs.declared.values.Kind.TheVariants as kinds
 use Rattle.be_value.specs.declared.values.Value.{Value}
 use Rattle.be_value.specs.declared.values.Value.TheVariants.{Cstr, Long, Llng, Mims, Rawt, Ulng, Ullg}
 use Rattle.be_volume.specs.Sound.{IsName}
-use Rattle.be_encoding.specs.Encoding.{number_bytes, counted_bytes, value_bytes, sign_byte, magnitude}
-use Rattle.be_encoding.specs.Decoding.{◌>>=◌, first_at, text_in, name_at, text_at, raw_at, kind_numbered, kind_at, number_value_at, value_at}
+use Rattle.be_encoding.specs.Encoding.{counted_bytes, value_bytes}
+use Rattle.be_encoding.specs.Decoding.{◌>>=◌, text_in, name_at, text_at, raw_at, kind_numbered, kind_at, number_value_at, value_at}
 use Rattle.be_encoding.proofs.Numbers.{choose, number_again, below_again, counted_again}
 
 pub name_short : (name : List ℕ) → name_from name ≡ Ok name → length name ≤ 63

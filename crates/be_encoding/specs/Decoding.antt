@@ -1,5 +1,5 @@
 -- How an entry is read from its bytes, from left to right. Each step gives what it read and the bytes behind it.
-use Rattle.std.specs.Prelude.{◌≡◌, ℕ, zero, suc, ◌-◌, ◌^◌, List, [], ◌∷◌, length, take, drop, Some, None, nat_lt, nat_eq, pos, negsuc, if◌then◌else◌}
+use Rattle.std.specs.Prelude.{ℕ, zero, suc, ◌-◌, ◌^◌, List, [], ◌∷◌, length, take, drop, Some, None, nat_lt, nat_eq, pos, negsuc, if◌then◌else◌}
 use Rattle.std.specs.Int.{Width, from_be_bytes, byte_len, w16, w32, w64}
 use Rattle.std.specs.Option.{option_and_then}
 use Rattle.std.specs.Result.{result_ok}

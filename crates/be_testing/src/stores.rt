@@ -44,7 +44,8 @@ pub fn is_legal(journal: &Journal) -> Result<bool, Refusal> {
     }
 }
 
-/// How many entries are by the pass, if each entry's answer is the node of its number. Each is read again where memory is refused.
+/// How many entries are by the pass, if each entry's answer is the node of its number. An entry is read again where memory is
+/// refused.
 fn count_by(journal: &Journal, pass: u64) -> Result<u64, Refusal> {
     let mut count: u64 = 0;
     for i in 0..journal.len() {

@@ -1,6 +1,6 @@
-use Rattle.std.proofs.Common.{◌≡◌, ◌++◌, ◌∷◌, [], ◌-◌, ◌+◌, sym}
+use Rattle.std.proofs.Common.{sym}
 use Rattle.be_encoding.specs.Decoding.{steps_at}
-use Rattle.be_encoding.proofs.Loops.{behind, nothing_behind, goes_on, ends, is_done}
+use Rattle.be_encoding.proofs.Loops.{goes_on, ends, is_done}
 use Rattle.be_encoding.proofs.reading.steps_of.Goals as goal
 
 pub returns-in_default : goal.returns-in_default

@@ -1,4 +1,4 @@
-use Rattle.std.proofs.Common.{◌≤◌, ◌+◌, length, arith}
+use Rattle.std.proofs.Common.{◌≤◌, length, arith}
 use Rattle.be_encoding.specs.Encoding.{entry_bytes, most_bytes, CanBeEntry}
 use Rattle.be_encoding.proofs.Lengths.{entry_short}
 use Rattle.be_encoding.proofs.writing.write_entry.Goals as goal

@@ -1,6 +1,6 @@
-use Rattle.std.proofs.Common.{◌≡◌, ◌≤◌, ◌+◌, ◌++◌, List, ℕ, length, drop, append_assoc, append-nil, sym, ap, ◌∙◌, arith}
+use Rattle.std.proofs.Common.{◌+◌, ◌++◌, List, ℕ, drop, append_assoc, append-nil, sym, ap, ◌∙◌, arith}
 use Rattle.be_volume.specs.declared.ops.Done.TheVariants.{Node}
-use Rattle.be_encoding.specs.Encoding.{step_bytes, steps_bytes}
+use Rattle.be_encoding.specs.Encoding.{steps_bytes}
 use Rattle.be_encoding.proofs.Loops.{stepped, none_left}
 use Rattle.be_encoding.proofs.writing.write_steps.Goals as goal
 

@@ -11,10 +11,11 @@ invariant_of-self c =
     let stored : IsStored e = ((c.requires.some, c.requires.few, c.requires.each), c.write_entry.ensures.can_be) in
     let bytes = c.self.inside.bytes.items in
     let at : length bytes ≡ c.len.result = omega (arith, c.len.ensures, c.self.inside.bytes.ok.0) in
-    rw (c.write_entry.ensures.appends, c.keep_place.ensures)
-    ((pushed c.self.inside.count bytes e c.self.invariant.0 stored).are,
-     subst (λ n. ArePlaces (with_place c.self.inside.places.items c.self.inside.count n) (c.self.inside.count + 1) (bytes ++ bytes_of e)) at
-     (places_more c.self.inside.places.items c.self.inside.count bytes e c.self.invariant.0 stored c.self.invariant.1))
+    rw (c.write_entry.ensures.appends, c.keep_place.ensures) (
+      (pushed c.self.inside.count bytes e c.self.invariant.0 stored).are,
+      subst (λ n. ArePlaces (with_place c.self.inside.places.items c.self.inside.count n) (c.self.inside.count + 1) (bytes ++ bytes_of e)) at
+          (places_more c.self.inside.places.items c.self.inside.count bytes e c.self.invariant.0 stored c.self.invariant.1),
+    )
 
 pub returns : goal.returns
 returns c =
