@@ -12,6 +12,7 @@ fn answer(alloc: Global, command: &str, text: &str) -> Result<String, Refusal> {
         "journal" => journal::told_of(alloc, text),
         "escaped" => journal::told_of_escaped(alloc),
         "nodes" => journal::told_end(alloc),
+        "lists" => journal::told_lists(alloc, text),
         "machine" => machine::is_opened(alloc, text),
         "free" => tree::free_with(alloc, text),
         "emptied" => tree::free_without(alloc, text),
