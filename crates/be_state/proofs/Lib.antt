@@ -1,6 +1,10 @@
-pub mod Lists
+pub mod Fewest
+pub mod Keys
 pub mod Numbering
 pub mod Observed
+pub mod Parts
+pub mod Pushed
 pub mod Rebuilt
 pub mod Runs
 pub mod Same
+pub mod Stepping

@@ -35,7 +35,7 @@ zero_stays (Unset node name) n there h no = no
 zero_stays (MkIndex name kind) n there h no = no
 zero_stays (RmIndex name) n there h no = no
 
-reached_numbered : (s : State) (op : Op) → IsNumbered s → IsOk (step s op) → IsNumbered (reached s (step s op))
+pub reached_numbered : (s : State) (op : Op) → IsNumbered s → IsOk (step s op) → IsNumbered (reached s (step s op))
 reached_numbered s op is ok = record {
   begins = subst (λ n. 1 ≤ n) (sym (next_is s op ok)) (next_stays op s.next is.begins);
   no_zero = node_is s op 0 ok ∙ zero_stays op s.next (fin.contains_key s.nodes 0) is.begins is.no_zero;

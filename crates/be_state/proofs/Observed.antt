@@ -25,14 +25,20 @@ use Rattle.be_volume.proofs.MapLemmas.{names_total, exact_names}
 use Rattle.be_volume.proofs.StepLemmas.{made}
 use Rattle.be_state.specs.Rebuilding.{pair_at}
 
+pub is_below : (m n : ℕ) → m < n → nat_lt m n ≡ true
+is_below m n h = grind (arith, nat_tests)
+
+pub not_below : (m n : ℕ) → n ≤ m → nat_lt m n ≡ false
+not_below m n h = grind (arith, nat_tests)
+
 -- a number is n, or stands elsewhere, and then it is below n where it is below n + 1
 pub by_number : (n m : ℕ) (P : ℕ → Type 0) → P n → (eq_by_cmp nat_cmp m n ≡ false → nat_lt m (n + 1) ≡ nat_lt m n → P m) → P m
 by_number n m P here away = by (nat_cmp m n) refl
   where
     by : (r : Ordering) → nat_cmp m n ≡ r → P m
-    by Less e = let lt : m < n = ranked m n Less (sym e) in away (ap is_eq e) (grind (arith, nat_tests))
+    by Less e = let lt : m < n = ranked m n Less (sym e) in away (ap is_eq e) (is_below m (n + 1) (omega arith) ∙ sym (is_below m n lt))
     by Equal e = subst P (sym (ranked m n Equal (sym e))) here
-    by Greater e = let lt : n < m = ranked m n Greater (sym e) in away (ap is_eq e) (grind (arith, nat_tests))
+    by Greater e = let lt : n < m = ranked m n Greater (sym e) in away (ap is_eq e) (not_below m (n + 1) (omega arith) ∙ sym (not_below m n (omega arith)))
 
 pub own_number : (n : ℕ) → eq_by_cmp nat_cmp n n ≡ true
 own_number n = ap is_eq (tied_itself nat_cmp_total n)
@@ -86,6 +92,9 @@ module _ (nodes : Nodes) (n : ℕ) (a : Attributes) where
   pub attributes_here : attributes_of (fin.insert nodes n a) n ≡ a
   attributes_here = ap (λ (o : Option Attributes). unwrap_or o fin.empty) put_here
 
+  pub attributes_away : (m : ℕ) → eq_by_cmp nat_cmp m n ≡ false → attributes_of (fin.insert nodes n a) m ≡ attributes_of nodes m
+  attributes_away m e = ap (λ (o : Option Attributes). unwrap_or o fin.empty) (put_away m e)
+
 module _ (nodes : Nodes) (n : ℕ) where
   gone : fin.get (fin.remove nodes n) n ≡ None
   gone = fin.get-remove nat_cmp_total nodes n n ∙ ap (λ b. cond b None (fin.get nodes n)) (own_number n)
@@ -98,6 +107,9 @@ module _ (nodes : Nodes) (n : ℕ) where
 
   pub dropped_away : (m : ℕ) → eq_by_cmp nat_cmp m n ≡ false → fin.contains_key (fin.remove nodes n) m ≡ fin.contains_key nodes m
   dropped_away m e = ap is_some (left m e)
+
+  pub attributes_left : (m : ℕ) → eq_by_cmp nat_cmp m n ≡ false → attributes_of (fin.remove nodes n) m ≡ attributes_of nodes m
+  attributes_left m e = ap (λ (o : Option Attributes). unwrap_or o fin.empty) (left m e)
 
   pub lost_here : (q : List ℕ) → option_and_then (λ (b : Attributes). fin.get b q) (fin.get (fin.remove nodes n) n) ≡ None
   lost_here q = ap (option_and_then (λ (b : Attributes). fin.get b q)) gone
@@ -130,25 +142,29 @@ pair_in indices q m = option_and_then (λ (i : Index). fin.get i.pairs m) (fin.g
 abbrev kind_in : Indices → List ℕ → Option Kind
 kind_in indices q = option_map (λ (i : Index). i.kind) (fin.get indices q)
 
+-- an index after a node got a value that fits it, or one that doesn't
+abbrev paired_if : Bool → Index → ℕ → Value → Index
+paired_if fits index n value = if fits then record { kind = index.kind; pairs = fin.insert index.pairs n value } else record { kind = index.kind; pairs = fin.remove index.pairs n }
+
 module _ (index : Index) (n : ℕ) (value : Value) where
   own_pair : fin.get (paired index n value).pairs n ≡ (if same_kind index.kind (kind_of value) then Some value else None)
   own_pair = by (same_kind index.kind (kind_of value))
     where
-      by : (b : Bool) → fin.get (if b then (record { kind = index.kind; pairs = fin.insert index.pairs n value }) else (record { kind = index.kind; pairs = fin.remove index.pairs n })).pairs n ≡ (if b then Some value else None)
+      by : (b : Bool) → fin.get (paired_if b index n value).pairs n ≡ (if b then Some value else None)
       by true = fin.get-insert nat_cmp_total index.pairs n value n ∙ ap (λ b. cond b (Some value) (fin.get index.pairs n)) (own_number n)
       by false = fin.get-remove nat_cmp_total index.pairs n n ∙ ap (λ b. cond b None (fin.get index.pairs n)) (own_number n)
 
   other_pair : (m : ℕ) → eq_by_cmp nat_cmp m n ≡ false → fin.get (paired index n value).pairs m ≡ fin.get index.pairs m
   other_pair m e = by (same_kind index.kind (kind_of value))
     where
-      by : (b : Bool) → fin.get (if b then (record { kind = index.kind; pairs = fin.insert index.pairs n value }) else (record { kind = index.kind; pairs = fin.remove index.pairs n })).pairs m ≡ fin.get index.pairs m
+      by : (b : Bool) → fin.get (paired_if b index n value).pairs m ≡ fin.get index.pairs m
       by true = fin.get-insert nat_cmp_total index.pairs n value m ∙ ap (λ b. cond b (Some value) (fin.get index.pairs m)) e
       by false = fin.get-remove nat_cmp_total index.pairs n m ∙ ap (λ b. cond b None (fin.get index.pairs m)) e
 
   own_kind : (paired index n value).kind ≡ index.kind
   own_kind = by (same_kind index.kind (kind_of value))
     where
-      by : (b : Bool) → (if b then (record { kind = index.kind; pairs = fin.insert index.pairs n value }) else (record { kind = index.kind; pairs = fin.remove index.pairs n })).kind ≡ index.kind
+      by : (b : Bool) → (paired_if b index n value).kind ≡ index.kind
       by true = refl
       by false = refl
 

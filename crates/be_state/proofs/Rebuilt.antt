@@ -14,7 +14,7 @@ use Rattle.be_value.specs.declared.values.Kind.{Kind}
 use Rattle.be_value.specs.declared.values.Value.{Value}
 use Rattle.be_volume.specs.Ahead.{reached, state_after}
 use Rattle.be_volume.specs.Indices.{same_kind, unpaired}
-use Rattle.be_volume.specs.Maps.{name_cmp, Attributes, attributes_of}
+use Rattle.be_volume.specs.Maps.{name_cmp, Attributes, Nodes, attributes_of}
 use Rattle.be_volume.specs.Reading.{attribute, index_kind, index_kinds}
 use Rattle.be_volume.specs.Sound.{IsSound, IsPaired}
 use Rattle.be_volume.specs.Volume.{State, empty, steps}
@@ -26,22 +26,16 @@ use Rattle.be_volume.proofs.FactLemmas.{get_changed}
 use Rattle.be_volume.proofs.MapLemmas.{names_total, exact_names}
 use Rattle.be_volume.proofs.StepLemmas.{made}
 use Rattle.be_state.specs.Rebuilding.{IsNumbered, held, held_ops, index_ops, is_held, number_ops, numbers_from, outside, pair_at, set_all, state_ops}
-use Rattle.be_state.proofs.Lists.{are_indexable, distinct_each, distinct_entries, distinct_where, find_each, find_where, len_where, parted}
-use Rattle.be_state.proofs.Observed.{attribute_away, attribute_here, attributes_here, by_number, drop_accepted, dropped_away, dropped_here, has_away, has_here, lost_away, lost_here, of_node, pair_set}
+use Rattle.be_state.proofs.Parts.{are_indexable, distinct_each, distinct_entries, distinct_where, find_each, find_where, len_where, parted}
+use Rattle.be_state.proofs.Observed.{attribute_away, attribute_here, attributes_here, by_number, drop_accepted, dropped_away, dropped_here, has_away, has_here, is_below, lost_away, lost_here, not_below, of_node, pair_set}
 use Rattle.be_state.proofs.Runs.{AreNew, Goes, IsMade, IsSet, Reaches, first, joined, makes, pair_after, sets, stays}
 use Rattle.be_state.proofs.Same.{same_volume}
 
 below_next : (n : ℕ) → nat_lt n (n + 1) ≡ true
-below_next n = grind (arith, nat_tests)
+below_next n = is_below n (n + 1) (omega arith)
 
-not_below : (n : ℕ) → nat_lt n n ≡ false
-not_below n = grind (arith, nat_tests)
-
-is_below : (m n : ℕ) → m < n → nat_lt m n ≡ true
-is_below m n h = grind (arith, nat_tests)
-
-not_first : (m : ℕ) → 1 ≤ m → nat_lt m 1 ≡ false
-not_first m h = grind (arith, nat_tests)
+not_own : (n : ℕ) → nat_lt n n ≡ false
+not_own n = not_below n n (omega arith)
 
 -- a node that isn't there has no attributes
 no_attribute : (s : State) (n : ℕ) (q : List ℕ) → fin.contains_key s.nodes n ≡ false → attribute s n q ≡ None
@@ -76,7 +70,7 @@ no_index t q h = by (fin.get t.indices q) h
 
 module _ (s : State) (sound : IsSound s) where
   -- a pair is the node's attribute, and has the index's kind
-  pair_tells : (q : List ℕ) (n : ℕ) (v : Value) → pair_at s q n ≡ Some v → (attribute s n q ≡ Some v) × (index_kind s q ≡ Some (kind_of v))
+  pub pair_tells : (q : List ℕ) (n : ℕ) (v : Value) → pair_at s q n ≡ Some v → (attribute s n q ≡ Some v) × (index_kind s q ≡ Some (kind_of v))
   pair_tells q n v h = by (fin.get s.indices q) refl h
     where
       by : (found : Option Index) → fin.get s.indices q ≡ found → option_and_then (λ (i : Index). fin.get i.pairs n) found ≡ Some v →
@@ -118,12 +112,6 @@ record Onward (s t : State) (k : ℕ) (u : State) : Type 0 where
   at : AtNumber s u
 
 module _ (s : State) (sound : IsSound s) (t : State) (at : AtNumber s t) where
-  n : ℕ
-  n = t.next
-
-  t1 : State
-  t1 = made t New
-
   there_above : (m : ℕ) → eq_by_cmp nat_cmp m t.next ≡ false → nat_lt m (t.next + 1) ≡ nat_lt m t.next →
       fin.contains_key (made t New).nodes m ≡ (nat_lt m (t.next + 1) && fin.contains_key s.nodes m)
   there_above m e f = has_away t.nodes t.next fin.empty m e ∙ at.there m ∙ ap (λ b. b && fin.contains_key s.nodes m) (sym f)
@@ -163,7 +151,7 @@ module _ (s : State) (sound : IsSound s) (t : State) (at : AtNumber s t) where
   dropped : fin.contains_key s.nodes t.next ≡ false → Reaches t (New ∷ Drop t.next ∷ []) (Onward s t 1)
   dropped h =
       let u : State = made (made t New) (Drop t.next) in
-      let nodes = fin.insert t.nodes t.next fin.empty in
+      let nodes : Nodes = fin.insert t.nodes t.next fin.empty in
       let There : ℕ → Type 0 = λ m. fin.contains_key u.nodes m ≡ (nat_lt m (t.next + 1) && fin.contains_key s.nodes m) in
       let Has : List ℕ → ℕ → Type 0 = λ q m. attribute u m q ≡ cond (nat_lt m (t.next + 1) && not (is_held s m q)) (attribute s m q) None in
       record {
@@ -229,14 +217,14 @@ module _ (s : State) (sound : IsSound s) (numbered : IsNumbered s) (t : State) (
       by true h =
           let lt : m < s.next = sound.nodes m h in
           ap (λ b. cond (b && not (is_held s m q)) (attribute s m q) None) (is_below m t.next (omega arith))
-          ∙ sym (ap (λ b. cond (b || not (is_held s m q)) (attribute s m q) None) (not_first m (positive m h)))
+          ∙ sym (ap (λ b. cond (b || not (is_held s m q)) (attribute s m q) None) (not_below m 1 (positive m h)))
       by false h = none_either_way _ _ (no_attribute s m q h) ∙ sym (none_either_way _ _ (no_attribute s m q h))
 
   no_pairs_yet : (q : List ℕ) (m : ℕ) → None ≡ cond (nat_lt m 1) (pair_at s q m) None
   no_pairs_yet q m = by (fin.contains_key s.nodes m) refl
     where
       by : (b : Bool) → fin.contains_key s.nodes m ≡ b → None ≡ cond (nat_lt m 1) (pair_at s q m) None
-      by true h = sym (ap (λ b. cond b (pair_at s q m) None) (not_first m (positive m h)))
+      by true h = sym (ap (λ b. cond b (pair_at s q m) None) (not_below m 1 (positive m h)))
       by false h = sym (none_either_way _ _ (pair_needs_node s sound q m h))
 
   indices : Reaches t (index_ops s) (AtHeld s 1)
@@ -256,8 +244,8 @@ module _ (s : State) (sound : IsSound s) (numbered : IsNumbered s) (t : State) (
         goes = r.goes;
         is = record {
           next = r.is.next ∙ next;
-          there = λ m. ap (λ ns. fin.contains_key ns m) r.is.nodes ∙ at.there m ∙ there_all m;
-          attribute_is = λ m q. ap (λ ns. option_and_then (λ (a : Attributes). fin.get a q) (fin.get ns m)) r.is.nodes ∙ at.attribute_is m q ∙ attributes_all m q;
+          there = λ m. ap (λ (ns : Nodes). fin.contains_key ns m) r.is.nodes ∙ at.there m ∙ there_all m;
+          attribute_is = λ m q. ap (λ (ns : Nodes). option_and_then (λ (a : Attributes). fin.get a q) (fin.get ns m)) r.is.nodes ∙ at.attribute_is m q ∙ attributes_all m q;
           kind_is = λ q. r.is.kind_is q ∙ ap (option_or (find name_cmp q (index_kinds s))) (at.none q) ∙ or_none _
               ∙ find_each (λ (i : Index). i.kind) q (fin.entries s.indices) ∙ ap (option_map (λ (i : Index). i.kind)) (sym (fin.get-entries s.indices q));
           pair_is = λ q m. r.is.none q m ∙ no_pairs_yet q m;
@@ -269,18 +257,18 @@ two_parts true None = refl
 two_parts true (Some x) = refl
 two_parts false o = refl
 
+same_number : (n : ℕ) → nat_eq n n ≡ true
+same_number n = grind (arith, nat_tests)
+
 own_kind : (k : Kind) → same_kind k k ≡ true
-own_kind k = grind (arith, nat_tests)
+own_kind k = same_number (code_of k)
 
 module _ (s : State) (sound : IsSound s) (n : ℕ) (t : State) (at : AtHeld s n t) where
-  abbrev before : List ℕ → Option Value
-  before q = pair_at t q n
-
   none_before : (q : List ℕ) → pair_at t q n ≡ None
-  none_before q = at.pair_is q n ∙ ap (λ b. cond b (pair_at s q n) None) (not_below n)
+  none_before q = at.pair_is q n ∙ ap (λ b. cond b (pair_at s q n) None) (not_own n)
 
   left_out : (q : List ℕ) → attribute t n q ≡ cond (not (is_held s n q)) (attribute s n q) None
-  left_out q = at.attribute_is n q ∙ ap (λ b. cond (b || not (is_held s n q)) (attribute s n q) None) (not_below n)
+  left_out q = at.attribute_is n q ∙ ap (λ b. cond (b || not (is_held s n q)) (attribute s n q) None) (not_own n)
 
   paired_now : (q : List ℕ) → pair_after (find name_cmp q (held s n)) (index_kind t q) (pair_at t q n) ≡ pair_at s q n
   paired_now q = ap (λ o. pair_after o (index_kind t q) (pair_at t q n)) (found_held s n q) ∙ by (pair_at s q n) refl
@@ -359,14 +347,15 @@ module _ (s : State) (sound : IsSound s) (n : ℕ) (t : State) (at : AtHeld s n 
       by false h = nothing h
 
 holdings : (s : State) → IsSound s → (n : ℕ) (t : State) → AtHeld s n t → (k : ℕ) → Reaches t (flat_map (held_ops s) (range_with_len n k)) (AtHeld s (n + k))
-holdings s sound n t at zero = record { u = t; goes = stays t; is = subst (λ m. AtHeld s m t) (omega arith) at }
+holdings s sound n t at zero = let e : n ≡ n + 0 = omega arith in record { u = t; goes = stays t; is = subst (λ m. AtHeld s m t) e at }
 holdings s sound n t at (suc k) =
     let a : Reaches t (held_ops s n) (AtHeld s (n + 1)) = holding s sound n t at in
     let r : Reaches a.u (flat_map (held_ops s) (range_with_len (n + 1) k)) (AtHeld s ((n + 1) + k)) = holdings s sound (n + 1) a.u a.is k in
+    let e : (n + 1) + k ≡ n + suc k = omega arith in
     record {
       u = r.u;
       goes = joined t a.u r.u (held_ops s n) (flat_map (held_ops s) (range_with_len (n + 1) k)) a.goes r.goes;
-      is = subst (λ m. AtHeld s m r.u) (omega arith) r.is;
+      is = subst (λ m. AtHeld s m r.u) e r.is;
     }
 
 module _ (s : State) (sound : IsSound s) (numbered : IsNumbered s) where
@@ -391,21 +380,22 @@ module _ (s : State) (sound : IsSound s) (numbered : IsNumbered s) where
     where
       first_there : (m : ℕ) → false ≡ (nat_lt m 1 && fin.contains_key s.nodes m)
       first_there zero = sym (and_right _ _ numbered.no_zero)
-      first_there (suc m) = sym (ap (λ b. b && fin.contains_key s.nodes (suc m)) (not_first (suc m) (omega arith)))
+      first_there (suc m) = sym (ap (λ b. b && fin.contains_key s.nodes (suc m)) (not_below (suc m) 1 (omega arith)))
 
       first_has : (m : ℕ) (q : List ℕ) → None ≡ cond (nat_lt m 1 && not (is_held s m q)) (attribute s m q) None
       first_has zero q = sym (none_either_way _ _ (no_attribute s 0 q numbered.no_zero))
-      first_has (suc m) q = sym (ap (λ b. cond (b && not (is_held s (suc m) q)) (attribute s (suc m) q) None) (not_first (suc m) (omega arith)))
+      first_has (suc m) q = sym (ap (λ b. cond (b && not (is_held s (suc m) q)) (attribute s (suc m) q) None) (not_below (suc m) 1 (omega arith)))
 
   rebuilt : Goes empty (state_ops s) s
   rebuilt =
-      let k : ℕ = s.next - 1 in
       let begins : 1 ≤ s.next = numbered.begins in
       let a : Reaches empty (flat_map (number_ops s) (numbers_from s 1)) (Onward s empty (s.next - 1)) = numbers s sound empty begun (s.next - 1) in
       let on : a.u.next ≡ 1 + (s.next - 1) = a.is.next in
-      let b : Reaches a.u (index_ops s) (AtHeld s 1) = indices s sound numbered a.u a.is.at (omega arith) in
+      let on_to : a.u.next ≡ s.next = omega arith in
+      let b : Reaches a.u (index_ops s) (AtHeld s 1) = indices s sound numbered a.u a.is.at on_to in
       let d : Reaches b.u (flat_map (held_ops s) (numbers_from s 1)) (AtHeld s (1 + (s.next - 1))) = holdings s sound 1 b.u b.is (s.next - 1) in
-      let last : AtHeld s s.next d.u = subst (λ m. AtHeld s m d.u) (omega arith) d.is in
+      let whole : 1 + (s.next - 1) ≡ s.next = omega arith in
+      let last : AtHeld s s.next d.u = subst (λ m. AtHeld s m d.u) whole d.is in
       subst (Goes empty (state_ops s)) (finished d.u last)
       (joined empty a.u d.u (flat_map (number_ops s) (numbers_from s 1)) (index_ops s ++ flat_map (held_ops s) (numbers_from s 1)) a.goes
       (joined a.u b.u d.u (index_ops s) (flat_map (held_ops s) (numbers_from s 1)) b.goes d.goes))

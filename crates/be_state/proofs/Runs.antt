@@ -2,7 +2,7 @@
 use Rattle.std.proofs.Common.{◌≡◌, ◌<◌, ◌≤◌, ◌+◌, ℕ, Bool, true, false, cond, List, [], ◌∷◌, ◌++◌, length, IsTrue, refl, sym, ap, ◌∙◌, subst, arith, Some, None, is_some, fold, map as each}
 use Rattle.std.proofs.lemmas.Grind.{fold-append}
 use Rattle.std.specs.Prelude.{Ok, Err, Result, ⊤}
-use Rattle.std.specs.Option.{option_or, option_map}
+use Rattle.std.specs.Option.{option_and_then, option_or, option_map}
 use Rattle.std.specs.Result.{result_map_both}
 use Rattle.std.specs.Ordering.{nat_cmp, eq_by_cmp}
 use Rattle.std.specs.declared.option.Option.{Option}
@@ -15,6 +15,7 @@ use Rattle.be_value.specs.declared.values.Value.{Value}
 use Rattle.be_volume.specs.Maps.{name_cmp, attributes_of}
 use Rattle.be_volume.specs.Reading.{attribute, index_kind}
 use Rattle.be_volume.specs.Volume.{State, step, advance}
+use Rattle.be_volume.specs.declared.maps.Index.{Index}
 use Rattle.be_volume.specs.declared.ops.Done.{Done}
 use Rattle.be_volume.specs.declared.ops.Done.TheVariants.{Node, Unit as Nothing}
 use Rattle.be_volume.specs.declared.ops.Op.{Op}
@@ -35,13 +36,13 @@ stays t = record { dones = λ d. d; is = λ old. refl }
 pub joined : (t u v : State) (xs ys : List Op) → Goes t xs u → Goes u ys v → Goes t (xs ++ ys) v
 joined t u v xs ys a b = record {
   dones = λ d. b.dones (a.dones d);
-  is = λ old. fold-append advance (Ok (t, old)) xs ys ∙ ap (λ r. fold advance r ys) (a.is old) ∙ b.is (a.dones old);
+  is = λ old. fold-append advance (Ok (t, old)) xs ys ∙ ap (λ (r : Result (State × List Done) Refusal). fold advance r ys) (a.is old) ∙ b.is (a.dones old);
 }
 
 pub first : (t u v : State) (op : Op) (done : Done) (ops : List Op) → step t op ≡ Ok (u, done) → Goes u ops v → Goes t (op ∷ ops) v
 first t u v op done ops e rest = record {
   dones = λ d. rest.dones (d ++ done ∷ []);
-  is = λ old. ap (λ r. fold advance (result_map_both (λ answer. (answer.0, old ++ answer.1 ∷ [])) (λ (f : Refusal). f) r) ops) e ∙ rest.is (old ++ done ∷ []);
+  is = λ old. ap (λ (r : Result (State × Done) Refusal). fold advance (result_map_both (λ (answer : State × Done). (answer.0, old ++ answer.1 ∷ [])) (λ (f : Refusal). f) r) ops) e ∙ rest.is (old ++ done ∷ []);
 }
 
 -- some state is left, of which this is true
@@ -127,13 +128,13 @@ module _ (t : State) (name : List ℕ) (kind : Kind) where
   made_kind q =
       let P : List ℕ → Type 0 = λ x. index_kind (made t (MkIndex name kind)) x ≡ cond (eq_by_cmp name_cmp x name) (Some kind) (index_kind t x) in
       by_name name q P (kind_here t.indices name (record { kind = kind; pairs = fin.empty }) ∙ sym (ap (λ b. cond b (Some kind) (index_kind t name)) (own_name name)))
-      (λ e. ap (option_map (λ i. i.kind)) (got_away t.indices name (record { kind = kind; pairs = fin.empty }) q e) ∙ sym (ap (λ b. cond b (Some kind) (index_kind t q)) e))
+      (λ e. ap (option_map (λ (i : Index). i.kind)) (got_away t.indices name (record { kind = kind; pairs = fin.empty }) q e) ∙ sym (ap (λ b. cond b (Some kind) (index_kind t q)) e))
 
   made_none : ((q : List ℕ) (m : ℕ) → pair_at t q m ≡ None) → (q : List ℕ) (m : ℕ) → pair_at (made t (MkIndex name kind)) q m ≡ None
   made_none none q m =
       let P : List ℕ → Type 0 = λ x. pair_at (made t (MkIndex name kind)) x m ≡ None in
       by_name name q P (pair_here t.indices name (record { kind = kind; pairs = fin.empty }) m ∙ fin.get-empty nat_cmp m)
-      (λ e. ap (Rattle.std.specs.Option.option_and_then (λ i. fin.get i.pairs m)) (got_away t.indices name (record { kind = kind; pairs = fin.empty }) q e) ∙ none q m)
+      (λ e. ap (option_and_then (λ (i : Index). fin.get i.pairs m)) (got_away t.indices name (record { kind = kind; pairs = fin.empty }) q e) ∙ none q m)
 
   made_count : fin.len (made t (MkIndex name kind)).indices ≤ fin.len t.indices + 1
   made_count = subst (λ k. k ≤ fin.len t.indices + 1) (sym (fin.len-insert names_total t.indices name (record { kind = kind; pairs = fin.empty }))) (by (fin.contains_key t.indices name))
@@ -145,7 +146,7 @@ module _ (t : State) (name : List ℕ) (kind : Kind) where
 has_kind : (t : State) (q : List ℕ) → fin.contains_key t.indices q ≡ is_some (index_kind t q)
 has_kind t q = by (fin.get t.indices q)
   where
-    by : (found : Option _) → is_some found ≡ is_some (option_map (λ i. i.kind) found)
+    by : (found : Option Index) → is_some found ≡ is_some (option_map (λ (i : Index). i.kind) found)
     by None = refl
     by (Some i) = refl
 

@@ -1,10 +1,11 @@
 //! Laws over the operations that make a volume again.
 //!
 //! Each is a function that does nothing; its contract is the law.
-ghost use Rattle.std.specs.Prelude.{◌≡◌, List, IsOk};
+ghost use Rattle.std.specs.Prelude.{◌≡◌, ◌≤◌, List, IsOk, Ok, length};
 ghost use Rattle.be_volume.specs.Ahead.{state_after};
 ghost use Rattle.be_volume.specs.Sound.{IsSound};
 ghost use Rattle.be_volume.specs.Volume.{State, empty, steps};
+ghost use Rattle.be_volume.specs.declared.ops.Done.{Done as AnyDone};
 ghost use Rattle.be_volume.specs.declared.ops.Op.{Op as AnyOp};
 ghost use Rattle.be_state.specs.Rebuilding.{IsNumbered, state_ops};
 
@@ -19,4 +20,9 @@ pub fn made_again()
 pub fn numbered()
     ensures begins { IsNumbered empty }
     ensures stays { (s : State) (ops : List AnyOp) → IsNumbered s → IsNumbered (state_after s ops) }
+{}
+
+/// A law: no list of fewer operations makes the volume of the empty one.
+pub fn fewest()
+    ensures { (s : State) (dones : List AnyDone) (ops : List AnyOp) → steps empty ops ≡ Ok (s, dones) → length (state_ops s) ≤ length ops }
 {}

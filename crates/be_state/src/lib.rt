@@ -10,7 +10,7 @@ mod pieces;
 mod plain;
 mod whole;
 
-pub use laws::{made_again, numbered};
+pub use laws::{fewest, made_again, numbered};
 pub use lists::{Place, next_list};
 pub use plain::{WholeVolume, whole_volume};
 pub use whole::Whole;

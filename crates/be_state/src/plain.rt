@@ -53,13 +53,13 @@ impl Whole for WholeVolume<'_> {
     }
 
     fn is_held(&mut self, node: u64, name: &Name) -> bool {
-        has_node(self.volume, node, name)
+        index_has(self.volume, node, name)
     }
 }
 
 /// Whether the index of that name has the node. A pair of an index is always its node's attribute, so the attribute's key
 /// tells.
-fn has_node(volume: &Volume, node: u64, name: &Name) -> bool
+fn index_has(volume: &Volume, node: u64, name: &Name) -> bool
     ensures { result ≡ is_held volume.now node name.now }
 {
     volume.sound();

@@ -1,5 +1,5 @@
 -- The entries of maps with names, parted by a test, and what is found among them.
-use Rattle.std.proofs.Common.{◌≡◌, ◌≤◌, ◌+◌, ℕ, Bool, true, false, cond, not, ◌&&◌, List, [], ◌∷◌, length, IsTrue, refl, sym, ap, ◌∙◌, arith, Some, None, map as each}
+use Rattle.std.proofs.Common.{◌≡◌, ◌≤◌, ◌+◌, ℕ, Bool, true, false, cond, not, ◌&&◌, List, [], ◌∷◌, length, T, IsTrue, refl, sym, ap, ◌∙◌, arith, Some, None, map as each}
 use Rattle.std.specs.Prelude.{⊤, filter}
 use Rattle.std.specs.Option.{option_map}
 use Rattle.std.specs.Ordering.{is_lt, is_eq, eq_by_cmp}
@@ -12,27 +12,27 @@ use Rattle.std.specs.FinMap.Entries.{below_all, where_key, is_sorted-where_key, 
 use Rattle.be_value.specs.Value.{is_indexable}
 use Rattle.be_volume.specs.Maps.{name_cmp}
 use Rattle.be_volume.specs.declared.maps.Index.{Index}
-use Rattle.be_volume.proofs.MapLemmas.{exact_names}
+use Rattle.be_volume.proofs.MapLemmas.{exact_names, names_total}
 use Rattle.be_state.proofs.Observed.{own_name}
 use Rattle.be_state.proofs.Runs.{Distinct, AreIndexable, missed}
 
-parts : (a b : Bool) → IsTrue (a && b) → IsTrue a × IsTrue b
+parts : (a b : Bool) → T (a && b) → T a × T b
 parts true b p = (tt, p)
 parts false b p = absurd p
 
-less : (o : Ordering) → IsTrue (is_lt o) → o ≡ Less
+less : (o : Ordering) → T (is_lt o) → o ≡ Less
 less Less p = refl
 less Equal p = absurd p
 less Greater p = absurd p
 
 module _ {X : Type 0} where
-  find_below : (q : List ℕ) (es : List (List ℕ × X)) → IsTrue (below_all name_cmp q es) → find name_cmp q es ≡ None
+  find_below : (q : List ℕ) (es : List (List ℕ × X)) → T (below_all name_cmp q es) → find name_cmp q es ≡ None
   find_below q [] h = refl
   find_below q (e ∷ es) h =
       let p = parts _ _ h in
       ap (λ r. cond (is_eq r) (Some e.1) (find name_cmp q es)) (less _ p.0) ∙ find_below q es p.1
 
-  distinct_sorted : (es : List (List ℕ × X)) → IsTrue (is_sorted name_cmp es) → Distinct es
+  distinct_sorted : (es : List (List ℕ × X)) → T (is_sorted name_cmp es) → Distinct es
   distinct_sorted [] h = tt
   distinct_sorted (e ∷ es) h = let p = parts _ _ h in (find_below e.0 es p.0, distinct_sorted es p.1)
 
@@ -40,7 +40,7 @@ module _ {X : Type 0} where
   distinct_entries m = distinct_sorted (fin.entries m) (fin.entries_sorted m)
 
   module _ (m : FinMap name_cmp X) (p : List ℕ → Bool) where
-    sorted_where : IsTrue (is_sorted name_cmp (where_key name_cmp p (fin.entries m)))
+    sorted_where : T (is_sorted name_cmp (where_key name_cmp p (fin.entries m)))
     sorted_where = is_sorted-where_key name_cmp p (fin.entries m) (fin.entries_sorted m)
 
     pub distinct_where : Distinct (filter (λ e. p e.0) (fin.entries m))
@@ -53,7 +53,7 @@ module _ {X : Type 0} where
     pub len_where : (n : FinMap name_cmp X) → ((q : List ℕ) → fin.get n q ≡ cond (p q) (fin.get m q) None) → fin.len n ≡ length (filter (λ e. p e.0) (fin.entries m))
     len_where n h =
         let es : List (List ℕ × X) = filter (λ e. p e.0) (fin.entries m) in
-        let same : n ≡ fin.from_sorted es = fin.same_map Rattle.be_volume.proofs.MapLemmas.names_total exact_names n (fin.from_sorted es) (λ q. h q ∙ sym (find_where q) ∙ sym (fin.get-from_sorted name_cmp es q sorted_where)) in
+        let same : n ≡ fin.from_sorted es = fin.same_map names_total exact_names n (fin.from_sorted es) (λ q. h q ∙ sym (find_where q) ∙ sym (fin.get-from_sorted name_cmp es q sorted_where)) in
         ap fin.len same ∙ fin.len-entries (fin.from_sorted es) ∙ ap length (fin.entries-from_sorted name_cmp es sorted_where)
 
   pub parted : (p : List ℕ → Bool) (es : List (List ℕ × X)) → length (filter (λ e. not (p e.0)) es) + length (filter (λ e. p e.0) es) ≡ length es
@@ -78,14 +78,10 @@ module _ {X : Type 0} where
   distinct_each f [] d = tt
   distinct_each f (e ∷ es) d = (find_each f e.0 es ∙ ap (option_map f) d.0, distinct_each f es d.1)
 
-is_true : (b : Bool) → IsTrue b → b ≡ true
-is_true true h = refl
-is_true false h = absurd h
-
 pub are_indexable : (es : List (List ℕ × Index)) → Distinct es → ((q : List ℕ) (i : Index) → find name_cmp q es ≡ Some i → IsTrue (is_indexable i.kind)) →
     AreIndexable (each (λ e. (e.0, e.1.kind)) es)
 are_indexable [] d h = tt
-are_indexable (e ∷ es) d h = (is_true _ (h e.0 e.1 (ap (λ b. cond b (Some e.1) (find name_cmp e.0 es)) (own_name e.0))), are_indexable es d.1 (λ q i f. h q i (later q i f)))
+are_indexable (e ∷ es) d h = (h e.0 e.1 (ap (λ b. cond b (Some e.1) (find name_cmp e.0 es)) (own_name e.0)), are_indexable es d.1 (λ q i f. h q i (later q i f)))
   where
     later : (q : List ℕ) (i : Index) → find name_cmp q es ≡ Some i → cond (eq_by_cmp name_cmp q e.0) (Some e.1) (find name_cmp q es) ≡ Some i
     later q i f = by (eq_by_cmp name_cmp q e.0) refl
