@@ -110,7 +110,6 @@ weigh_is s m = by (fin.contains_key s.nodes m) refl
 
 weight_is : (s : State) → length (state_ops s) ≡ weight s
 weight_is s =
-    let k = s.next - 1 in
     let numbers = flat_map (number_ops s) (numbers_from s 1) in
     let rest = flat_map (held_ops s) (numbers_from s 1) in
     let all = length-append numbers (index_ops s ++ rest) in

@@ -1,25 +1,69 @@
--- The operations that set a part of some attributes, one attribute further.
-use Rattle.std.proofs.Common.{◌≡◌, ◌<◌, ◌+◌, ◌++◌, ℕ, Bool, true, false, cond, List, [], ◌∷◌, length, take, get_or, filter, map, append_assoc, refl, sym, ap, ◌∙◌}
+-- The operations of a number, as they are pushed.
+use Rattle.std.proofs.Common.{◌≡◌, ◌<◌, ◌+◌, ◌++◌, ℕ, Bool, true, false, cond, not, if◌then◌else◌, List, [], ◌∷◌, length, take, get_or, filter, map, append_assoc, refl, sym, ap, ◌∙◌, Some, None, is_some, unwrap_or, Option, option_map, arith}
 use Rattle.std.proofs.lemmas.List.{append-nil, map-append}
 use Rattle.std.proofs.lemmas.List.Elements.{filter_more}
+use Rattle.std.proofs.lemmas.Option.{same_Some}
+use Rattle.std.specs.FinMap as fin
+use Rattle.be_value.specs.declared.values.Kind.{Kind}
 use Rattle.be_value.specs.declared.values.Value.{Value}
+use Rattle.be_volume.specs.Maps.{name_cmp, Attributes, attributes_of}
+use Rattle.be_volume.specs.Volume.{State}
 use Rattle.be_volume.specs.declared.ops.Op.{Op}
-use Rattle.be_volume.specs.declared.ops.Op.TheVariants.{Set}
-use Rattle.be_state.specs.Rebuilding.{set_all}
+use Rattle.be_volume.specs.declared.ops.Op.TheVariants.{New, Drop, Set, MkIndex}
+use Rattle.be_state.specs.Rebuilding.{held_ops, is_held, number_ops, set_all}
 
-module _ (p : List ℕ × Value → Bool) (node : ℕ) (xs : List (List ℕ × Value)) (i : ℕ) (x : List ℕ × Value) (old before : List Op) (here : i < length xs) (at : x ≡ get_or xs i x)
-    (so_far : before ≡ old ++ set_all node (filter p (take i xs))) where
-  part : List (List ℕ × Value)
-  part = filter p (take i xs)
+module _ (p : List ℕ × Value → Bool) (node : ℕ) (xs : List (List ℕ × Value)) (i : ℕ) (x : List ℕ × Value) where
+  set_part : (as : List (List ℕ × Value)) (b : Bool) → set_all node (as ++ cond b (x ∷ []) []) ≡ set_all node as ++ (if b then Set node x.0 x.1 ∷ [] else [])
+  set_part as true = map-append (λ e. Set node e.0 e.1) as (x ∷ [])
+  set_part as false = map-append (λ e. Set node e.0 e.1) as []
 
-  one_more : (b : Bool) → p x ≡ b → filter p (take (i + 1) xs) ≡ filter p (take i xs) ++ cond b (x ∷ []) []
-  one_more b is = filter_more p xs i x here ∙ ap (λ y. filter p (take i xs) ++ cond (p y) (y ∷ []) []) (sym at) ∙ ap (λ c. filter p (take i xs) ++ cond c (x ∷ []) []) is
+  -- one attribute further, which is set if it passes
+  pub one_further : (old before now : List Op) (wanted : Bool) → i < length xs → x ≡ get_or xs i x → wanted ≡ p x → before ≡ old ++ set_all node (filter p (take i xs)) →
+      now ≡ before ++ (if wanted then Set node x.0 x.1 ∷ [] else []) → now ≡ old ++ set_all node (filter p (take (i + 1) xs))
+  one_further old before now wanted here at is so_far e =
+      let more : filter p (take (i + 1) xs) ≡ filter p (take i xs) ++ cond wanted (x ∷ []) [] =
+          filter_more p xs i x here ∙ ap (λ (y : List ℕ × Value). filter p (take i xs) ++ cond (p y) (y ∷ []) []) (sym at) ∙ ap (λ b. filter p (take i xs) ++ cond b (x ∷ []) []) (sym is) in
+      e ∙ ap (λ l. l ++ (if wanted then Set node x.0 x.1 ∷ [] else [])) so_far
+      ∙ append_assoc old (set_all node (filter p (take i xs))) (if wanted then Set node x.0 x.1 ∷ [] else [])
+      ∙ ap (λ l. old ++ l) (sym (ap (set_all node) more ∙ set_part (filter p (take i xs)) wanted))
 
-  pub pushed : (now : List Op) → p x ≡ true → now ≡ before ++ Set node x.0 x.1 ∷ [] → now ≡ old ++ set_all node (filter p (take (i + 1) xs))
-  pushed now is e =
-      e ∙ ap (λ l. l ++ Set node x.0 x.1 ∷ []) so_far ∙ append_assoc old (set_all node (filter p (take i xs))) (Set node x.0 x.1 ∷ [])
-      ∙ ap (λ l. old ++ l) (sym (ap (set_all node) (one_more true is) ∙ map-append (λ e. Set node e.0 e.1) (filter p (take i xs)) (x ∷ [])))
+module _ (s : State) (node : ℕ) where
+  -- the attributes that were read are those of the node
+  read : (list : List (List ℕ × Value)) → Some list ≡ option_map fin.entries (fin.get s.nodes node) → (fin.contains_key s.nodes node ≡ true) × (fin.entries (attributes_of s.nodes node) ≡ list)
+  read list h = by (fin.get s.nodes node) h
+    where
+      by : (found : Option Attributes) → Some list ≡ option_map fin.entries found → (is_some found ≡ true) × (fin.entries (unwrap_or found fin.empty) ≡ list)
+      by None e = cc
+      by (Some a) e = (refl, sym (same_Some _ _ e))
 
-  pub passed : p x ≡ false → before ≡ old ++ set_all node (filter p (take (i + 1) xs))
-  passed is =
-      so_far ∙ ap (λ l. old ++ l) (sym (ap (set_all node) (one_more false is) ∙ map-append (λ e. Set node e.0 e.1) (filter p (take i xs)) [] ∙ append-nil (set_all node (filter p (take i xs)))))
+  read_none : None ≡ option_map fin.entries (fin.get s.nodes node) → (fin.contains_key s.nodes node ≡ false) × (attributes_of s.nodes node ≡ fin.empty)
+  read_none h = by (fin.get s.nodes node) h
+    where
+      by : (found : Option Attributes) → None ≡ option_map fin.entries found → (is_some found ≡ false) × (unwrap_or found fin.empty ≡ fin.empty)
+      by None e = (refl, refl)
+      by (Some a) e = cc
+
+  pub some_ops : (list : List (List ℕ × Value)) (ops : List Op) → Some list ≡ option_map fin.entries (fin.get s.nodes node) →
+      ops ≡ (New ∷ []) ++ set_all node (filter (λ e. not (is_held s node e.0)) list) → ops ≡ number_ops s node
+  some_ops list ops h e =
+      let r = read list h in
+      e ∙ ap (λ (l : List (List ℕ × Value)). New ∷ set_all node (filter (λ x. not (is_held s node x.0)) l)) (sym r.1)
+      ∙ ap (λ b. New ∷ (if b then set_all node (filter (λ x. not (is_held s node x.0)) (fin.entries (attributes_of s.nodes node))) else Drop node ∷ [])) (sym r.0)
+
+  pub none_ops : (ops : List Op) → None ≡ option_map fin.entries (fin.get s.nodes node) → ops ≡ New ∷ Drop node ∷ [] → ops ≡ number_ops s node
+  none_ops ops h e =
+      e ∙ ap (λ b. New ∷ (if b then set_all node (filter (λ x. not (is_held s node x.0)) (fin.entries (attributes_of s.nodes node))) else Drop node ∷ [])) (sym (read_none h).0)
+
+  pub some_held : (list : List (List ℕ × Value)) (ops : List Op) → Some list ≡ option_map fin.entries (fin.get s.nodes node) →
+      ops ≡ set_all node (filter (λ e. is_held s node e.0) list) → ops ≡ held_ops s node
+  some_held list ops h e = e ∙ ap (λ (l : List (List ℕ × Value)). set_all node (filter (λ x. is_held s node x.0) l)) (sym (read list h).1)
+
+  pub none_held : (ops : List Op) → None ≡ option_map fin.entries (fin.get s.nodes node) → ops ≡ [] → ops ≡ held_ops s node
+  none_held ops h e =
+      let none : fin.entries (attributes_of s.nodes node) ≡ [] =
+          empty_list (fin.entries (attributes_of s.nodes node)) (sym (fin.len-entries (attributes_of s.nodes node)) ∙ ap fin.len (read_none h).1 ∙ fin.len-empty name_cmp Value) in
+      e ∙ ap (λ (l : List (List ℕ × Value)). set_all node (filter (λ x. is_held s node x.0) l)) (sym none)
+    where
+      empty_list : {A : Type 0} (xs : List A) → length xs ≡ 0 → xs ≡ []
+      empty_list [] f = refl
+      empty_list (x ∷ xs) f = absurd (omega arith)

@@ -2,8 +2,7 @@
 //!
 //! What is read is never whole in memory: beside the list that is given there are the operations of one number, or those of
 //! the indices.
-ghost use Rattle.std.specs.Prelude.{◌≡◌, ◌<◌, ◌≤◌, ◌^◌, ◌++◌, ◌⊎◌, ◌∷◌, [], IfErr, IfOk, IfSome, IfNone, OnOk, length, true, false};
-ghost use Rattle.be_value.specs.declared.refusals.Refusal.TheVariants.{OutOfMemory};
+ghost use Rattle.std.specs.Prelude.{◌≡◌, ◌<◌, ◌≤◌, ◌++◌, ◌⊎◌, [], IfOk, IfSome, IfNone, OnOk, length, true, false};
 ghost use Rattle.be_volume.specs.Volume.{State};
 ghost use Rattle.be_state.specs.Places as places;
 ghost use Rattle.be_state.specs.Places.{left, given};
@@ -11,7 +10,6 @@ ghost use Rattle.be_state.specs.Rebuilding.{state_ops};
 
 use crate::Whole;
 use crate::pieces::{held_ops, index_ops, number_ops};
-use be_value::Refusal;
 use be_volume::Op;
 use std::alloc::{AllocError, Global};
 use std::mem;
@@ -52,44 +50,51 @@ impl Place {
 const FULL: usize = 64;
 
 /// The next list of the operations of a volume, 1 to 64, and none after the last. The lists put end to end are `state_ops`,
-/// and each but the last has 64. It is refused with OutOfMemory alone, and then nothing is lost: the next call goes on.
+/// and each but the last has 64. Where memory is refused nothing is lost: the next call goes on.
 ///
 /// It reads each number twice over all calls, once for what no index has and once for the rest, and asks for each attribute
 /// twice whether an index has it.
 pub fn next_list<W: Whole>(
     whole: &mut W,
     place: &mut Place,
-) -> Result<Option<Vec<Op>>, Refusal>
+) -> Result<Option<Vec<Op>>, AllocError>
     ghost volume: { State }
     requires answers { W.answers_for whole.old volume }
     ensures list { left volume place.old ≡ given (λ ops. ops.items) result ++ left volume place.new }
     ensures length { IfOk result (λ list. IfSome list (λ ops. (1 ≤ length ops.items) × (length ops.items ≤ 64))) }
     ensures ends { IfOk result (λ list. IfNone list (left volume place.old ≡ [])) }
-    ensures memory { IfErr result (λ e. e ≡ OutOfMemory) }
     ensures stays { W.kept whole.new ≡ W.kept whole.old }
     ensures answers { W.answers_for whole.new volume }
 {
     fill(whole, place)?;
-    Ok(take(place)?)
+    take(place)
 }
 
 /// Reads on until a list is full, or nothing is left to be read.
-fn fill<W: Whole>(whole: &mut W, place: &mut Place) -> Result<(), Refusal>
+fn fill<W: Whole>(whole: &mut W, place: &mut Place) -> Result<(), AllocError>
     ghost volume: { State }
     requires answers { W.answers_for whole.old volume }
     ensures same { left volume place.new ≡ left volume place.old }
     ensures filled { OnOk result ((64 ≤ length place.new.ready.items) ⊎ (places.left_from volume place.new.step ≡ [])) }
-    ensures memory { IfErr result (λ e. e ≡ OutOfMemory) }
     ensures stays { W.kept whole.new ≡ W.kept whole.old }
     ensures answers { W.answers_for whole.new volume }
 {
     let next = whole.next();
-    'steps: while place.ready.len() < FULL && !is_last(place.step, next) {
+    'steps: while !is_ready(place, next) {
         let (mut piece, after) = read(place.alloc, whole, place.step, next)?;
         place.ready.append(&mut piece)?;
         place.step = after;
     }
     Ok(())
+}
+
+/// Whether a list is full, or nothing is left to be read.
+fn is_ready(place: &Place, next: u64) -> bool
+    ensures ready { (volume : State) → next ≡ volume.next → result ≡ true →
+        (64 ≤ length place.now.ready.items) ⊎ (places.left_from volume place.now.step ≡ []) }
+    ensures not_last { result ≡ false → places.IsNotLast place.now.step next }
+{
+    place.ready.len() >= FULL || is_last(place.step, next)
 }
 
 /// Whether nothing is left to be read.
@@ -109,14 +114,13 @@ fn read<W: Whole>(
     whole: &mut W,
     step: Step,
     next: u64,
-) -> Result<(Vec<Op>, Step), Refusal>
+) -> Result<(Vec<Op>, Step), AllocError>
     ghost volume: { State }
     requires answers { W.answers_for whole.old volume }
     requires next { next ≡ volume.next }
     requires last { places.IsNotLast step next }
     ensures piece { IfOk result (λ r. places.left_from volume step ≡ r.0.items ++ places.left_from volume r.1) }
     ensures smaller { IfOk result (λ r. places.steps_left next r.1 < places.steps_left next step) }
-    ensures memory { IfErr result (λ e. e ≡ OutOfMemory) }
     ensures stays { W.kept whole.new ≡ W.kept whole.old }
     ensures answers { W.answers_for whole.new volume }
 {

@@ -1,12 +1,11 @@
 //! The operations of one number, and of the indices.
-ghost use Rattle.std.specs.Prelude.{◌≡◌, ◌++◌, IfErr, IfOk, OnOk, filter, not, map as each};
-ghost use Rattle.be_value.specs.declared.refusals.Refusal.TheVariants.{OutOfMemory};
+ghost use Rattle.std.specs.Prelude.{◌≡◌, ◌++◌, ◌∷◌, [], IfOk, OnOk, filter, not, if◌then◌else◌, map as each};
 ghost use Rattle.be_volume.specs.Volume.{State};
 ghost use Rattle.be_volume.specs.declared.ops.Op.TheVariants as ops_of;
 ghost use Rattle.be_state.specs.Rebuilding as model;
 
 use crate::Whole;
-use be_value::{Kind, Name, Refusal, Value};
+use be_value::{Kind, Name, Value};
 use be_volume::Op;
 use std::alloc::{AllocError, Global};
 
@@ -15,21 +14,20 @@ pub(crate) fn number_ops<W: Whole>(
     alloc: Global,
     whole: &mut W,
     node: u64,
-) -> Result<Vec<Op>, Refusal>
+) -> Result<Vec<Op>, AllocError>
     ghost volume: { State }
     requires answers { W.answers_for whole.old volume }
     ensures ops { IfOk result (λ ops. ops.items ≡ model.number_ops volume node) }
-    ensures memory { IfErr result (λ e. e ≡ OutOfMemory) }
     ensures stays { W.kept whole.new ≡ W.kept whole.old }
     ensures answers { W.answers_for whole.new volume }
 {
     let mut ops = Vec::new(alloc);
     ops.push(Op::New)?;
-    match whole.attrs(node) {
-        Ok(attributes) => push_outside(whole, node, attributes.as_slice(), &mut ops)?,
-        Err(Refusal::NoNode) => ops.push(Op::Drop(node))?,
-        Err(refusal) => return Err(refusal),
-    }
+    let Some(attributes) = whole.attrs(node)? else {
+        ops.push(Op::Drop(node))?;
+        return Ok(ops);
+    };
+    push_outside(whole, node, attributes.as_slice(), &mut ops)?;
     Ok(ops)
 }
 
@@ -38,43 +36,41 @@ pub(crate) fn held_ops<W: Whole>(
     alloc: Global,
     whole: &mut W,
     node: u64,
-) -> Result<Vec<Op>, Refusal>
+) -> Result<Vec<Op>, AllocError>
     ghost volume: { State }
     requires answers { W.answers_for whole.old volume }
     ensures ops { IfOk result (λ ops. ops.items ≡ model.held_ops volume node) }
-    ensures memory { IfErr result (λ e. e ≡ OutOfMemory) }
     ensures stays { W.kept whole.new ≡ W.kept whole.old }
     ensures answers { W.answers_for whole.new volume }
 {
     let mut ops = Vec::new(alloc);
-    match whole.attrs(node) {
-        Ok(attributes) => push_held(whole, node, attributes.as_slice(), &mut ops)?,
-        Err(Refusal::NoNode) => {}
-        Err(refusal) => return Err(refusal),
-    }
+    let Some(attributes) = whole.attrs(node)? else {
+        return Ok(ops);
+    };
+    push_held(whole, node, attributes.as_slice(), &mut ops)?;
     Ok(ops)
 }
 
 /// The indices are made.
-pub(crate) fn index_ops<W: Whole>(alloc: Global, whole: &mut W) -> Result<Vec<Op>, Refusal>
+pub(crate) fn index_ops<W: Whole>(alloc: Global, whole: &mut W) -> Result<Vec<Op>, AllocError>
     ghost volume: { State }
     requires answers { W.answers_for whole.old volume }
     ensures ops { IfOk result (λ ops. ops.items ≡ model.index_ops volume) }
-    ensures memory { IfErr result (λ e. e ≡ OutOfMemory) }
     ensures stays { W.kept whole.new ≡ W.kept whole.old }
     ensures answers { W.answers_for whole.new volume }
 {
     let indices = whole.indices()?;
-    Ok(made(alloc, indices.as_slice())?)
+    made(alloc, indices.as_slice())
 }
 
 fn made(alloc: Global, indices: &[(Name, Kind)]) -> Result<Vec<Op>, AllocError>
     ensures { IfOk result (λ ops. ops.items ≡ each (λ e. ops_of.MkIndex e.0 e.1) indices.now) }
 {
-    indices
-        .iter()
-        .map(|(name, kind)| Op::MkIndex(name.copy(), *kind))
-        .collect(alloc)
+    let mut ops = Vec::new(alloc);
+    for (name, kind) in indices {
+        ops.push(Op::MkIndex(name.copy(), *kind))?;
+    }
+    Ok(ops)
 }
 
 /// Adds those of these attributes that no index has.
@@ -91,9 +87,8 @@ fn push_outside<W: Whole>(
     ensures answers { W.answers_for whole.new volume }
 {
     for (name, value) in attributes {
-        if !whole.is_held(node, name) {
-            ops.push(Op::Set(node, name.copy(), value.copy()))?;
-        }
+        let is_held = whole.is_held(node, name);
+        push_set(!is_held, node, name, value, ops)?;
     }
     Ok(())
 }
@@ -112,9 +107,24 @@ fn push_held<W: Whole>(
     ensures answers { W.answers_for whole.new volume }
 {
     for (name, value) in attributes {
-        if whole.is_held(node, name) {
-            ops.push(Op::Set(node, name.copy(), value.copy()))?;
-        }
+        let is_held = whole.is_held(node, name);
+        push_set(is_held, node, name, value, ops)?;
+    }
+    Ok(())
+}
+
+/// Adds the operation that sets this attribute, if it is wanted.
+fn push_set(
+    wanted: bool,
+    node: u64,
+    name: &Name,
+    value: &Value,
+    ops: &mut Vec<Op>,
+) -> Result<(), AllocError>
+    ensures { OnOk result (ops.new.items ≡ ops.old.items ++ (if wanted then ops_of.Set node name.now value.now ∷ [] else [])) }
+{
+    if wanted {
+        ops.push(Op::Set(node, name.copy(), value.copy()))?;
     }
     Ok(())
 }

@@ -1,10 +1,14 @@
 //! A plain volume, read whole.
-ghost use Rattle.std.specs.Prelude.{◌≡◌};
+ghost use Rattle.std.specs.Prelude.{◌≡◌, IfOk};
+ghost use Rattle.std.specs.FinMap as map;
+ghost use Rattle.std.specs.Option.{option_map};
+ghost use Rattle.be_volume.specs.Reading.{index_kinds};
 ghost use Rattle.be_state.specs.Rebuilding.{is_held};
 
 use crate::Whole;
 use be_value::{Kind, Name, Refusal, Value, key_of};
 use be_volume::Volume;
+use std::alloc::AllocError;
 use std::marker::Model;
 
 /// A lent volume, seen as its `State`.
@@ -44,16 +48,35 @@ impl Whole for WholeVolume<'_> {
         self.volume.next()
     }
 
-    fn attrs(&mut self, node: u64) -> Result<Vec<(Name, Value)>, Refusal> {
-        self.volume.attrs(node)
+    fn attrs(&mut self, node: u64) -> Result<Option<Vec<(Name, Value)>>, AllocError> {
+        attrs_of(self.volume, node)
     }
 
-    fn indices(&mut self) -> Result<Vec<(Name, Kind)>, Refusal> {
-        self.volume.indices()
+    fn indices(&mut self) -> Result<Vec<(Name, Kind)>, AllocError> {
+        indices_of(self.volume)
     }
 
     fn is_held(&mut self, node: u64, name: &Name) -> bool {
         index_has(self.volume, node, name)
+    }
+}
+
+fn attrs_of(volume: &Volume, node: u64) -> Result<Option<Vec<(Name, Value)>>, AllocError>
+    ensures { IfOk result (λ list. option_map (λ l. l.items) list ≡ option_map map.entries (map.get volume.now.nodes node)) }
+{
+    match volume.attrs(node) {
+        Ok(list) => Ok(Some(list)),
+        Err(Refusal::NoNode) => Ok(None),
+        Err(_) => Err(AllocError),
+    }
+}
+
+fn indices_of(volume: &Volume) -> Result<Vec<(Name, Kind)>, AllocError>
+    ensures { IfOk result (λ list. list.items ≡ index_kinds volume.now) }
+{
+    match volume.indices() {
+        Ok(list) => Ok(list),
+        Err(_) => Err(AllocError),
     }
 }
 
