@@ -48,7 +48,7 @@ module _ (s : State) (sound : IsSound s) (node : ℕ) (name : List ℕ) where
   without none = not_held (λ h.
       let p = pair_of h in
       let is : IsPaired s name p.index.kind node p.value = sound.pairs name p.index node p.value p.there p.paired in
-      let no : None ≡ Some p.value = sym none ∙ is.attribute_is in
+      let never : None ≡ Some p.value = sym none ∙ is.attribute_is in
       cc)
 
   module _ (value : Value) (has : attribute s node name ≡ Some value) where
@@ -59,13 +59,13 @@ module _ (s : State) (sound : IsSound s) (node : ℕ) (name : List ℕ) where
 
     -- no index has a value that can't stand in one
     pub unfit : is_indexable (kind_of value) ≡ false → false ≡ is_held s node name
-    unfit no = not_held (λ h.
+    unfit not = not_held (λ h.
         let p = pair_of h in
         let is : IsPaired s name p.index.kind node p.value = sound.pairs name p.index node p.value p.there p.paired in
         let ix : IsTrue (is_indexable p.index.kind) = sound.kinds name p.index p.there in
         let K : Kind → Type 0 = λ k. IsTrue (is_indexable k) in
         let B : Bool → Type 0 = λ b. IsTrue b in
-        let both : false ≡ true = subst B no (subst K (sym is.kind_is ∙ ap kind_of (value_is p)) ix) in
+        let both : false ≡ true = subst B not (subst K (sym is.kind_is ∙ ap kind_of (value_is p)) ix) in
         cc)
 
     module _ (fits : node < 2 ^ 64) where
@@ -84,4 +84,4 @@ module _ (s : State) (sound : IsSound s) (node : ℕ) (name : List ℕ) where
       -- else the key tells
       pub told : (r : Bool) → (r ≡ true → IsKey s name (key value node)) → (IsKey s name (key value node) → r ≡ true) → r ≡ is_held s node name
       told true found finds = sym (by_key (found refl))
-      told false found finds = not_held (λ h. let no : false ≡ true = finds (key_of_pair h) in cc)
+      told false found finds = not_held (λ h. let never : false ≡ true = finds (key_of_pair h) in cc)

@@ -1,4 +1,3 @@
-pub mod Fewest
 pub mod Keys
 pub mod Numbering
 pub mod Observed
@@ -8,3 +7,4 @@ pub mod Rebuilt
 pub mod Runs
 pub mod Same
 pub mod Stepping
+pub mod Weights

@@ -27,13 +27,13 @@ other : (n : ℕ) → 1 ≤ n → nat_eq 0 n ≡ false
 other n h = grind (arith, nat_tests)
 
 zero_stays : (op : Op) (n : ℕ) (there : Bool) → 1 ≤ n → there ≡ false → node_after op n there 0 ≡ false
-zero_stays New n true h no = cc
-zero_stays New n false h no = ap (λ b. b || false) (other n h)
-zero_stays (Drop node) n there h no = and_right _ _ no
-zero_stays (Set node name value) n there h no = no
-zero_stays (Unset node name) n there h no = no
-zero_stays (MkIndex name kind) n there h no = no
-zero_stays (RmIndex name) n there h no = no
+zero_stays New n true h absent = cc
+zero_stays New n false h absent = ap (λ b. b || false) (other n h)
+zero_stays (Drop node) n there h absent = and_right _ _ absent
+zero_stays (Set node name value) n there h absent = absent
+zero_stays (Unset node name) n there h absent = absent
+zero_stays (MkIndex name kind) n there h absent = absent
+zero_stays (RmIndex name) n there h absent = absent
 
 pub reached_numbered : (s : State) (op : Op) → IsNumbered s → IsOk (step s op) → IsNumbered (reached s (step s op))
 reached_numbered s op is ok = record {

@@ -53,8 +53,9 @@ module _ {X : Type 0} where
     pub len_where : (n : FinMap name_cmp X) → ((q : List ℕ) → fin.get n q ≡ cond (p q) (fin.get m q) None) → fin.len n ≡ length (filter (λ e. p e.0) (fin.entries m))
     len_where n h =
         let es : List (List ℕ × X) = filter (λ e. p e.0) (fin.entries m) in
-        let same : n ≡ fin.from_sorted es = fin.same_map names_total exact_names n (fin.from_sorted es) (λ q. h q ∙ sym (find_where q) ∙ sym (fin.get-from_sorted name_cmp es q sorted_where)) in
-        ap fin.len same ∙ fin.len-entries (fin.from_sorted es) ∙ ap length (fin.entries-from_sorted name_cmp es sorted_where)
+        let made : FinMap name_cmp X = fin.from_sorted es in
+        let same : n ≡ made = fin.same_map names_total exact_names n made (λ q. h q ∙ sym (find_where q) ∙ sym (fin.get-from_sorted name_cmp es q sorted_where)) in
+        ap fin.len same ∙ fin.len-entries made ∙ ap length (fin.entries-from_sorted name_cmp es sorted_where)
 
   pub parted : (p : List ℕ → Bool) (es : List (List ℕ × X)) → length (filter (λ e. not (p e.0)) es) + length (filter (λ e. p e.0) es) ≡ length es
   parted p [] = refl

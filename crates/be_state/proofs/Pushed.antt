@@ -13,9 +13,9 @@ use Rattle.be_volume.specs.declared.ops.Op.TheVariants.{New, Drop, Set, MkIndex}
 use Rattle.be_state.specs.Rebuilding.{held_ops, is_held, number_ops, set_all}
 
 module _ (p : List ℕ × Value → Bool) (node : ℕ) (xs : List (List ℕ × Value)) (i : ℕ) (x : List ℕ × Value) where
-  set_part : (as : List (List ℕ × Value)) (b : Bool) → set_all node (as ++ cond b (x ∷ []) []) ≡ set_all node as ++ (if b then Set node x.0 x.1 ∷ [] else [])
-  set_part as true = map-append (λ e. Set node e.0 e.1) as (x ∷ [])
-  set_part as false = map-append (λ e. Set node e.0 e.1) as []
+  set_part : (front : List (List ℕ × Value)) (b : Bool) → set_all node (front ++ cond b (x ∷ []) []) ≡ set_all node front ++ (if b then Set node x.0 x.1 ∷ [] else [])
+  set_part front true = map-append (λ e. Set node e.0 e.1) front (x ∷ [])
+  set_part front false = map-append (λ e. Set node e.0 e.1) front []
 
   -- one attribute further, which is set if it passes
   pub one_further : (old before now : List Op) (wanted : Bool) → i < length xs → x ≡ get_or xs i x → wanted ≡ p x → before ≡ old ++ set_all node (filter p (take i xs)) →

@@ -231,7 +231,7 @@ module _ (s : State) (sound : IsSound s) (numbered : IsNumbered s) (t : State) (
   indices =
       let none : t.indices ≡ fin.empty = fin.same_map names_total exact_names t.indices fin.empty (λ q. no_index t q (at.none q) ∙ sym (fin.get-empty name_cmp q)) in
       let zero_len : fin.len t.indices ≡ 0 = ap fin.len none ∙ fin.len-empty name_cmp Index in
-      let long : length (index_kinds s) ≡ length (fin.entries s.indices) = length-map (λ e. (e.0, e.1.kind)) (fin.entries s.indices) in
+      let long : length (index_kinds s) ≡ length (fin.entries s.indices) = length-map (fin.entries s.indices) (λ e. (e.0, e.1.kind)) in
       let all : fin.len s.indices ≡ length (fin.entries s.indices) = fin.len-entries s.indices in
       let few : fin.len s.indices ≤ 32 = sound.few_indices in
       let distinct = distinct_entries s.indices in
@@ -379,11 +379,11 @@ module _ (s : State) (sound : IsSound s) (numbered : IsNumbered s) where
   }
     where
       first_there : (m : ℕ) → false ≡ (nat_lt m 1 && fin.contains_key s.nodes m)
-      first_there zero = sym (and_right _ _ numbered.no_zero)
+      first_there zero = sym (and_right (nat_lt 0 1) (fin.contains_key s.nodes 0) numbered.no_zero)
       first_there (suc m) = sym (ap (λ b. b && fin.contains_key s.nodes (suc m)) (not_below (suc m) 1 (omega arith)))
 
       first_has : (m : ℕ) (q : List ℕ) → None ≡ cond (nat_lt m 1 && not (is_held s m q)) (attribute s m q) None
-      first_has zero q = sym (none_either_way _ _ (no_attribute s 0 q numbered.no_zero))
+      first_has zero q = sym (none_either_way (nat_lt 0 1 && not (is_held s 0 q)) (attribute s 0 q) (no_attribute s 0 q numbered.no_zero))
       first_has (suc m) q = sym (ap (λ b. cond (b && not (is_held s (suc m) q)) (attribute s (suc m) q) None) (not_below (suc m) 1 (omega arith)))
 
   rebuilt : Goes empty (state_ops s) s

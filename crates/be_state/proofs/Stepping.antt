@@ -1,5 +1,6 @@
 -- The operations that are left, one step further.
 use Rattle.std.proofs.Common.{◌≡◌, ◌⊎◌, inl, inr, ◌<◌, ◌≤◌, ◌+◌, ◌-◌, ◌++◌, ℕ, suc, List, [], ◌∷◌, length, take, drop, take-append-drop, append_assoc, refl, sym, ap, ◌∙◌, arith, subst}
+use Rattle.std.specs.Prelude.{Ok, Err, Result, Option, Some, None, IfOk, IfNone}
 use Rattle.std.specs.List.{flat_map, range_with_len}
 use Rattle.be_volume.specs.Volume.{State}
 use Rattle.be_volume.specs.declared.ops.Op.{Op}
@@ -53,3 +54,9 @@ behind_ready ready piece before after e = append_assoc ready piece after ∙ ap 
 pub nothing_left : (ready behind : List Op) → ready ≡ [] → (64 ≤ length ready) ⊎ (behind ≡ []) → ready ++ behind ≡ []
 nothing_left ready behind e (inr f) = ap (λ l. l ++ behind) e ∙ f
 nothing_left ready behind e (inl long) = let none : length ready ≡ 0 = ap length e in absurd (omega arith)
+
+-- what is said of an end
+pub at_end : {X E P Q : Type 0} (r : Result (Option X) E) → (P → Q) → IfOk r (λ list. IfNone list P) → IfOk r (λ list. IfNone list Q)
+at_end (Ok None) f h = f h
+at_end (Ok (Some x)) f h = h
+at_end (Err e) f h = h

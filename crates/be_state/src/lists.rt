@@ -15,7 +15,7 @@ use std::alloc::{AllocError, Global};
 use std::mem;
 
 /// What is read next.
-#[derive(Clone, Copy, Debug, PartialEq, Eq)]
+#[derive(Clone, Copy)]
 pub(crate) enum Step {
     /// This number, with what no index has.
     Number(u64),

@@ -1,4 +1,4 @@
-use Rattle.be_state.proofs.Fewest.{fewest}
+use Rattle.be_state.proofs.Weights.{fewest}
 use Rattle.be_state.proofs.laws.fewest.Goals as goal
 
 pub returns : goal.returns

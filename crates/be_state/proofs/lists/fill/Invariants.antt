@@ -10,7 +10,7 @@ invariant-steps g l = record {
   stays : g.W.Whole.kept l.whole ≡ g.W.Whole.kept l.initial.whole;
   answers : g.W.Whole.answers_for l.whole g.volume;
   next : l.next ≡ g.volume.next;
-  same : left g.volume l.place ≡ left g.volume l.fn.place;
+  same : left g.volume l.place ≡ left g.volume l.initial.place;
 }
 
 abbrev pub decreases-steps : goal.decreases-steps

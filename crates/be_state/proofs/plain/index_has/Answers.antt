@@ -17,5 +17,5 @@ returns-then-indexable c =
 
 pub returns-else-indexable : goal.returns-else-indexable
 returns-else-indexable c =
-    unfit c.args.volume.now c.sound.ensures c.args.node c.args.name.now c.in-Some.value (sym c.get.ensures ∙ c.in-Some.is)
+    c.if-indexable.false ∙ unfit c.args.volume.now c.sound.ensures c.args.node c.args.name.now c.in-Some.value (sym c.get.ensures ∙ c.in-Some.is)
     (sym (c.indexable.ensures ∙ ap is_indexable c.kind.ensures) ∙ c.if-indexable.false)

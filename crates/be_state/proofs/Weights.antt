@@ -101,7 +101,7 @@ weigh_is s m = by (fin.contains_key s.nodes m) refl
     parts = parted (is_held s m) (fin.entries (attributes_of s.nodes m)) ∙ sym (fin.len-entries (attributes_of s.nodes m))
 
     sets : (es : List (List ℕ × Value)) → length (set_all m es) ≡ length es
-    sets es = length-map (λ e. Set m e.0 e.1) es
+    sets es = length-map es (λ e. Set m e.0 e.1)
 
     by : (b : Bool) → fin.contains_key s.nodes m ≡ b →
         length (New ∷ (if b then set_all m (outside s m) else Drop m ∷ [])) + length (held_ops s m) ≡ 1 + (if b then fin.len (attributes_of s.nodes m) else 1)
@@ -118,7 +118,7 @@ weight_is s =
     let b = total_length (held_ops s) 1 (s.next - 1) in
     let both = total_both (λ m. length (number_ops s m)) (λ m. length (held_ops s m)) 1 (s.next - 1) in
     let same = total_same (λ m. length (number_ops s m) + length (held_ops s m)) (weigh s.nodes) (weigh_is s) 1 (s.next - 1) in
-    let indices : length (index_ops s) ≡ fin.len s.indices = length-map (λ e. MkIndex e.0 e.1) (index_kinds s) ∙ length-map (λ e. (e.0, e.1.kind)) (fin.entries s.indices) ∙ sym (fin.len-entries s.indices) in
+    let indices : length (index_ops s) ≡ fin.len s.indices = length-map (index_kinds s) (λ e. MkIndex e.0 e.1) ∙ length-map (fin.entries s.indices) (λ e. (e.0, e.1.kind)) ∙ sym (fin.len-entries s.indices) in
     omega arith
 
 weigh_more : (b : Bool) (n m : ℕ) → n ≤ m + 1 → weigh_in b n ≤ weigh_in b m + 1
