@@ -14,8 +14,7 @@ use Rattle.be_volume.specs.Reading.{attribute}
 use Rattle.be_volume.specs.Sound.{IsSound, IsPaired}
 use Rattle.be_volume.specs.Volume.{State}
 use Rattle.be_volume.specs.declared.maps.Index.{Index}
-use Rattle.be_state.specs.Rebuilding.{is_held, pair_at}
-use Rattle.be_state.proofs.Rebuilt.{pair_tells}
+use Rattle.be_state.specs.Rebuilding.{is_held}
 
 -- a pair, and the index that has it
 record Pair (s : State) (name : List ℕ) (node : ℕ) : Type 0 where

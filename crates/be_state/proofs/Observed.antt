@@ -1,10 +1,10 @@
 -- What an accepted operation does to what is seen of a volume.
-use Rattle.std.proofs.Common.{◌≡◌, ◌<◌, ◌≤◌, ◌+◌, ℕ, Bool, true, false, cond, not, ◌&&◌, if◌then◌else◌, nat_lt, nat_le, List, [], ◌∷◌, length, refl, sym, ap, ◌∙◌, subst, arith, Some, None, is_some, unwrap_or}
+use Rattle.std.proofs.Common.{◌≡◌, ◌<◌, ◌≤◌, ◌+◌, ℕ, Bool, true, false, cond, not, ◌&&◌, if◌then◌else◌, nat_lt, nat_le, List, refl, sym, ap, ◌∙◌, subst, arith, Some, None, is_some, unwrap_or}
 use Rattle.std.proofs.lemmas.Bool.Decides.{nat_tests}
-use Rattle.std.specs.Prelude.{Ok, Err, Result}
+use Rattle.std.specs.Prelude.{Ok, Err}
 use Rattle.std.specs.Option.{option_and_then, option_map}
 use Rattle.std.specs.Ordering.{nat_cmp, is_eq, eq_by_cmp}
-use Rattle.std.specs.Cmp.{IsTotalOrder, ranked, nat_cmp_total, tied_itself}
+use Rattle.std.specs.Cmp.{ranked, nat_cmp_total, tied_itself}
 use Rattle.std.specs.declared.cmp.Ordering.{Ordering}
 use Rattle.std.specs.declared.cmp.Ordering.TheVariants.{Less, Equal, Greater}
 use Rattle.std.specs.declared.option.Option.{Option}
@@ -19,8 +19,8 @@ use Rattle.be_volume.specs.Maps.{name_cmp, Attributes, Nodes, attributes_of}
 use Rattle.be_volume.specs.Reading.{attribute, index_kind}
 use Rattle.be_volume.specs.Volume.{State, step}
 use Rattle.be_volume.specs.declared.maps.Index.{Index}
-use Rattle.be_volume.specs.declared.ops.Done.TheVariants.{Node, Unit as Nothing}
-use Rattle.be_volume.specs.declared.ops.Op.TheVariants.{New, Drop, Set, MkIndex}
+use Rattle.be_volume.specs.declared.ops.Done.TheVariants.{Unit as Nothing}
+use Rattle.be_volume.specs.declared.ops.Op.TheVariants.{Drop, Set, MkIndex}
 use Rattle.be_volume.proofs.MapLemmas.{names_total, exact_names}
 use Rattle.be_volume.proofs.StepLemmas.{made}
 use Rattle.be_state.specs.Rebuilding.{pair_at}

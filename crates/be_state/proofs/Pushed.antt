@@ -1,15 +1,14 @@
 -- The operations of a number, as they are pushed.
-use Rattle.std.proofs.Common.{◌≡◌, ◌<◌, ◌+◌, ◌++◌, ℕ, Bool, true, false, cond, not, if◌then◌else◌, List, [], ◌∷◌, length, take, get_or, filter, map, append_assoc, refl, sym, ap, ◌∙◌, Some, None, is_some, unwrap_or, Option, option_map, arith}
-use Rattle.std.proofs.lemmas.List.{append-nil, map-append}
+use Rattle.std.proofs.Common.{◌≡◌, ◌<◌, ◌+◌, ◌++◌, ℕ, Bool, true, false, cond, not, if◌then◌else◌, List, [], ◌∷◌, length, take, get_or, filter, append_assoc, refl, sym, ap, ◌∙◌, Some, None, is_some, unwrap_or, Option, option_map, arith}
+use Rattle.std.proofs.lemmas.List.{map-append}
 use Rattle.std.proofs.lemmas.List.Elements.{filter_more}
 use Rattle.std.proofs.lemmas.Option.{same_Some}
 use Rattle.std.specs.FinMap as fin
-use Rattle.be_value.specs.declared.values.Kind.{Kind}
 use Rattle.be_value.specs.declared.values.Value.{Value}
 use Rattle.be_volume.specs.Maps.{name_cmp, Attributes, attributes_of}
 use Rattle.be_volume.specs.Volume.{State}
 use Rattle.be_volume.specs.declared.ops.Op.{Op}
-use Rattle.be_volume.specs.declared.ops.Op.TheVariants.{New, Drop, Set, MkIndex}
+use Rattle.be_volume.specs.declared.ops.Op.TheVariants.{New, Drop, Set}
 use Rattle.be_state.specs.Rebuilding.{held_ops, is_held, number_ops, set_all}
 
 module _ (p : List ℕ × Value → Bool) (node : ℕ) (xs : List (List ℕ × Value)) (i : ℕ) (x : List ℕ × Value) where

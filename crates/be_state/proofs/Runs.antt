@@ -1,7 +1,7 @@
 -- Lists of operations that a volume accepts, and what they leave.
-use Rattle.std.proofs.Common.{◌≡◌, ◌<◌, ◌≤◌, ◌+◌, ℕ, Bool, true, false, cond, List, [], ◌∷◌, ◌++◌, length, IsTrue, refl, sym, ap, ◌∙◌, subst, arith, Some, None, is_some, fold, map as each}
+use Rattle.std.proofs.Common.{◌≡◌, ◌≤◌, ◌+◌, ℕ, Bool, true, false, cond, List, [], ◌∷◌, ◌++◌, length, refl, sym, ap, ◌∙◌, subst, arith, Some, None, is_some, fold, map as each}
 use Rattle.std.proofs.lemmas.Grind.{fold-append}
-use Rattle.std.specs.Prelude.{Ok, Err, Result, ⊤}
+use Rattle.std.specs.Prelude.{Ok, Result, ⊤}
 use Rattle.std.specs.Option.{option_and_then, option_or, option_map}
 use Rattle.std.specs.Result.{result_map_both}
 use Rattle.std.specs.Ordering.{nat_cmp, eq_by_cmp}
@@ -17,13 +17,13 @@ use Rattle.be_volume.specs.Reading.{attribute, index_kind}
 use Rattle.be_volume.specs.Volume.{State, step, advance}
 use Rattle.be_volume.specs.declared.maps.Index.{Index}
 use Rattle.be_volume.specs.declared.ops.Done.{Done}
-use Rattle.be_volume.specs.declared.ops.Done.TheVariants.{Node, Unit as Nothing}
+use Rattle.be_volume.specs.declared.ops.Done.TheVariants.{Unit as Nothing}
 use Rattle.be_volume.specs.declared.ops.Op.{Op}
-use Rattle.be_volume.specs.declared.ops.Op.TheVariants.{New, Drop, Set, MkIndex}
+use Rattle.be_volume.specs.declared.ops.Op.TheVariants.{Set, MkIndex}
 use Rattle.be_volume.proofs.MapLemmas.{names_total}
 use Rattle.be_volume.proofs.StepLemmas.{made}
 use Rattle.be_state.specs.Rebuilding.{pair_at, set_all}
-use Rattle.be_state.proofs.Observed.{by_number, by_name, same_name, own_name, set_there, set_here, set_away, set_kind, set_pair, set_apart, set_count, set_accepted, index_accepted, pair_set, got_away, kind_here, pair_here}
+use Rattle.be_state.proofs.Observed.{by_name, same_name, own_name, set_there, set_here, set_away, set_kind, set_pair, set_apart, set_count, set_accepted, index_accepted, pair_set, got_away, kind_here, pair_here}
 
 -- the operations are accepted one after the other, and leave u
 pub record Goes (t : State) (ops : List Op) (u : State) : Type 0 where

@@ -1,13 +1,12 @@
 -- Volumes of which the same is seen are equal.
-use Rattle.std.proofs.Common.{◌≡◌, ℕ, List, refl, sym, ap, ◌∙◌, Some, None, is_some}
+use Rattle.std.proofs.Common.{◌≡◌, ℕ, List, refl, ap, Some, None, is_some}
 use Rattle.std.proofs.lemmas.Option.{same_Some}
 use Rattle.std.specs.Option.{option_and_then, option_map}
 use Rattle.std.specs.Cmp.{nat_cmp_total}
 use Rattle.std.specs.declared.option.Option.{Option}
 use Rattle.std.specs.FinMap as fin
 use Rattle.std.specs.FinMap.{nat_cmp-IsAntisymmetric}
-use Rattle.be_volume.specs.Indices.{Indices}
-use Rattle.be_volume.specs.Maps.{Attributes, Nodes}
+use Rattle.be_volume.specs.Maps.{Attributes}
 use Rattle.be_volume.specs.Reading.{attribute, index_kind}
 use Rattle.be_volume.specs.Volume.{State}
 use Rattle.be_volume.specs.declared.maps.Index.{Index}

@@ -1,5 +1,5 @@
 -- The operations that are left, one step further.
-use Rattle.std.proofs.Common.{◌≡◌, ◌⊎◌, inl, inr, ◌<◌, ◌≤◌, ◌+◌, ◌-◌, ◌++◌, ℕ, suc, List, [], ◌∷◌, length, take, drop, take-append-drop, append_assoc, refl, sym, ap, ◌∙◌, arith, subst}
+use Rattle.std.proofs.Common.{◌≡◌, ◌⊎◌, inl, inr, ◌<◌, ◌≤◌, ◌+◌, ◌-◌, ◌++◌, ℕ, suc, List, [], ◌∷◌, length, take, drop, take-append-drop, append_assoc, sym, ap, ◌∙◌, arith}
 use Rattle.std.specs.Prelude.{Ok, Err, Result, Option, Some, None, IfOk, IfNone}
 use Rattle.std.specs.List.{flat_map, range_with_len}
 use Rattle.be_volume.specs.Volume.{State}

@@ -1,5 +1,5 @@
 -- No list of fewer operations makes the volume.
-use Rattle.std.proofs.Common.{◌≡◌, ◌<◌, ◌≤◌, ◌+◌, ◌-◌, ◌++◌, ℕ, zero, suc, Bool, true, false, cond, not, if◌then◌else◌, List, [], ◌∷◌, length, refl, sym, ap, ◌∙◌, subst, arith, is_ok, IsOk, fold, map as each}
+use Rattle.std.proofs.Common.{◌≡◌, ◌<◌, ◌≤◌, ◌+◌, ◌-◌, ◌++◌, ℕ, zero, suc, Bool, true, false, cond, if◌then◌else◌, List, [], ◌∷◌, length, refl, sym, ap, ◌∙◌, subst, arith, is_ok, IsOk, fold}
 use Rattle.std.proofs.lemmas.List.{length-append, length-map}
 use Rattle.std.specs.Prelude.{Ok, Err, Result, is_some, unwrap_or, None, Some}
 use Rattle.std.specs.List.{flat_map, range_with_len}
@@ -21,7 +21,7 @@ use Rattle.be_volume.specs.declared.ops.Op.{Op}
 use Rattle.be_volume.specs.declared.ops.Op.TheVariants.{New, Drop, Set, Unset, MkIndex, RmIndex}
 use Rattle.be_volume.proofs.FactLemmas.{indices_is}
 use Rattle.be_volume.proofs.MapLemmas.{names_total}
-use Rattle.be_volume.proofs.StepLemmas.{Accepted, Found, accepted, made, not_both, refused_stays}
+use Rattle.be_volume.proofs.StepLemmas.{Found, accepted, made, not_both, refused_stays}
 use Rattle.be_state.specs.Rebuilding.{IsNumbered, held, held_ops, index_ops, is_held, number_ops, numbers_from, outside, set_all, state_ops}
 use Rattle.be_state.proofs.Parts.{parted}
 use Rattle.be_state.proofs.Numbering.{empty_numbered, reached_numbered}

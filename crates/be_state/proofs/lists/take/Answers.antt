@@ -1,4 +1,4 @@
-use Rattle.std.proofs.Common.{◌≡◌, take, drop, ap, ◌∙◌}
+use Rattle.std.proofs.Common.{◌≡◌, take, drop}
 use Rattle.be_state.specs.Places.{left_from}
 use Rattle.be_state.proofs.Stepping.{cut}
 use Rattle.be_state.proofs.lists.take.Goals as goal

@@ -1,4 +1,4 @@
-use Rattle.std.proofs.Common.{◌∙◌, ap, not, refl}
+use Rattle.std.proofs.Common.{◌∙◌}
 use Rattle.be_state.specs.Rebuilding.{is_held}
 use Rattle.be_state.proofs.Pushed.{one_further}
 use Rattle.be_state.proofs.pieces.push_held.Goals as goal

@@ -1,4 +1,4 @@
-use Rattle.std.proofs.Common.{◌≡◌, ◌++◌, filter, not, take}
+use Rattle.std.proofs.Common.{◌≡◌, ◌++◌, filter, take}
 use Rattle.be_state.specs.Rebuilding.{is_held, set_all}
 use Rattle.be_state.proofs.pieces.push_held.Given as goal
 

@@ -1,7 +1,6 @@
-use Rattle.std.proofs.Common.{◌≡◌, List, ℕ, Some, None, sym, ap, subst, ◌∙◌}
+use Rattle.std.proofs.Common.{List, ℕ, sym, ap, subst, ◌∙◌}
 use Rattle.be_value.specs.Value.{is_indexable}
 use Rattle.be_volume.specs.Keys.{IsKey}
-use Rattle.be_volume.specs.Reading.{attribute}
 use Rattle.be_state.proofs.Keys.{told, unfit, without}
 use Rattle.be_state.proofs.plain.index_has.Goals as goal
 
