@@ -21,46 +21,24 @@ module _ (p : List ℕ × Value → Bool) (node : ℕ) (xs : List (List ℕ × V
       now ≡ before ++ (if wanted then Set node x.0 x.1 ∷ [] else []) → now ≡ old ++ set_all node (filter p (take (i + 1) xs))
   one_further old before now wanted here at is so_far e =
       let more : filter p (take (i + 1) xs) ≡ filter p (take i xs) ++ cond wanted (x ∷ []) [] =
-          filter_more p xs i x here ∙ ap (λ (y : List ℕ × Value). filter p (take i xs) ++ cond (p y) (y ∷ []) []) (sym at) ∙ ap (λ b. filter p (take i xs) ++ cond b (x ∷ []) []) (sym is) in
+      filter_more p xs i x here ∙ ap (λ (y : List ℕ × Value). filter p (take i xs) ++ cond (p y) (y ∷ []) []) (sym at) ∙ ap (λ b. filter p (take i xs) ++ cond b (x ∷ []) []) (sym is) in
       e ∙ ap (λ l. l ++ (if wanted then Set node x.0 x.1 ∷ [] else [])) so_far
       ∙ append_assoc old (set_all node (filter p (take i xs))) (if wanted then Set node x.0 x.1 ∷ [] else [])
       ∙ ap (λ l. old ++ l) (sym (ap (set_all node) more ∙ set_part (filter p (take i xs)) wanted))
 
 module _ (s : State) (node : ℕ) where
-  -- the attributes that were read are those of the node
-  read : (list : List (List ℕ × Value)) → Some list ≡ option_map fin.entries (fin.get s.nodes node) → (fin.contains_key s.nodes node ≡ true) × (fin.entries (attributes_of s.nodes node) ≡ list)
-  read list h = by (fin.get s.nodes node) h
+  -- where there is no node there is nothing to set
+  no_attributes : None ≡ option_map fin.entries (fin.get s.nodes node) → attributes_of s.nodes node ≡ fin.empty
+  no_attributes h = by (fin.get s.nodes node) h
     where
-      by : (found : Option Attributes) → Some list ≡ option_map fin.entries found → (is_some found ≡ true) × (fin.entries (unwrap_or found fin.empty) ≡ list)
-      by None e = cc
-      by (Some a) e = (refl, sym (same_Some _ _ e))
-
-  read_none : None ≡ option_map fin.entries (fin.get s.nodes node) → (fin.contains_key s.nodes node ≡ false) × (attributes_of s.nodes node ≡ fin.empty)
-  read_none h = by (fin.get s.nodes node) h
-    where
-      by : (found : Option Attributes) → None ≡ option_map fin.entries found → (is_some found ≡ false) × (unwrap_or found fin.empty ≡ fin.empty)
-      by None e = (refl, refl)
+      by : (found : Option Attributes) → None ≡ option_map fin.entries found → unwrap_or found fin.empty ≡ fin.empty
+      by None e = refl
       by (Some a) e = cc
-
-  pub some_ops : (list : List (List ℕ × Value)) (ops : List Op) → Some list ≡ option_map fin.entries (fin.get s.nodes node) →
-      ops ≡ (New ∷ []) ++ set_all node (filter (λ e. not (is_held s node e.0)) list) → ops ≡ number_ops s node
-  some_ops list ops h e =
-      let r = read list h in
-      e ∙ ap (λ (l : List (List ℕ × Value)). New ∷ set_all node (filter (λ x. not (is_held s node x.0)) l)) (sym r.1)
-      ∙ ap (λ b. New ∷ (if b then set_all node (filter (λ x. not (is_held s node x.0)) (fin.entries (attributes_of s.nodes node))) else Drop node ∷ [])) (sym r.0)
-
-  pub none_ops : (ops : List Op) → None ≡ option_map fin.entries (fin.get s.nodes node) → ops ≡ New ∷ Drop node ∷ [] → ops ≡ number_ops s node
-  none_ops ops h e =
-      e ∙ ap (λ b. New ∷ (if b then set_all node (filter (λ x. not (is_held s node x.0)) (fin.entries (attributes_of s.nodes node))) else Drop node ∷ [])) (sym (read_none h).0)
-
-  pub some_held : (list : List (List ℕ × Value)) (ops : List Op) → Some list ≡ option_map fin.entries (fin.get s.nodes node) →
-      ops ≡ set_all node (filter (λ e. is_held s node e.0) list) → ops ≡ held_ops s node
-  some_held list ops h e = e ∙ ap (λ (l : List (List ℕ × Value)). set_all node (filter (λ x. is_held s node x.0) l)) (sym (read list h).1)
 
   pub none_held : (ops : List Op) → None ≡ option_map fin.entries (fin.get s.nodes node) → ops ≡ [] → ops ≡ held_ops s node
   none_held ops h e =
       let none : fin.entries (attributes_of s.nodes node) ≡ [] =
-          empty_list (fin.entries (attributes_of s.nodes node)) (sym (fin.len-entries (attributes_of s.nodes node)) ∙ ap fin.len (read_none h).1 ∙ fin.len-empty name_cmp Value) in
+      empty_list (fin.entries (attributes_of s.nodes node)) (sym (fin.len-entries (attributes_of s.nodes node)) ∙ ap fin.len (no_attributes h) ∙ fin.len-empty name_cmp Value) in
       e ∙ ap (λ (l : List (List ℕ × Value)). set_all node (filter (λ x. is_held s node x.0) l)) (sym none)
     where
       empty_list : {A : Type 0} (xs : List A) → length xs ≡ 0 → xs ≡ []

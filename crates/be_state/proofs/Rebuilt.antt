@@ -124,7 +124,7 @@ module _ (s : State) (sound : IsSound s) (t : State) (at : AtNumber s t) where
       let few : fin.len (attributes_of (made t New).nodes t.next) ≡ 0 = ap fin.len (attributes_here t.nodes t.next fin.empty) ∙ fin.len-empty name_cmp Value in
       let parts : length (outside s t.next) + length (held s t.next) ≤ 64 = both_parts s sound t.next in
       let r : Reaches (made t New) (set_all t.next (outside s t.next)) (IsSet (made t New) t.next (outside s t.next)) =
-          sets (made t New) t.next (outside s t.next) (distinct_where (attributes_of s.nodes t.next) (λ name. not (is_held s t.next name))) (has_here t.nodes t.next fin.empty) (omega arith) in
+      sets (made t New) t.next (outside s t.next) (distinct_where (attributes_of s.nodes t.next) (λ name. not (is_held s t.next name))) (has_here t.nodes t.next fin.empty) (omega arith) in
       let There : ℕ → ℕ → Type 0 = λ k m. fin.contains_key r.u.nodes m ≡ (nat_lt m k && fin.contains_key s.nodes m) in
       let Has : ℕ → List ℕ → ℕ → Type 0 = λ k q m. attribute r.u m q ≡ cond (nat_lt m k && not (is_held s m q)) (attribute s m q) None in
       let up : t.next + 1 ≡ r.u.next = sym r.is.next in
@@ -237,7 +237,7 @@ module _ (s : State) (sound : IsSound s) (numbered : IsNumbered s) (t : State) (
       let ix = are_indexable (fin.entries s.indices) distinct (λ q i f. sound.kinds q i (fin.get-entries s.indices q ∙ f)) in
       let new : AreNew t (index_kinds s) = λ q _. at.none q in
       let r : Reaches t (index_ops s) (IsMade t (index_kinds s)) =
-          makes t (index_kinds s) (distinct_each (λ (i : Index). i.kind) (fin.entries s.indices) distinct) ix new (omega arith) (λ q m. no_pair t q m (at.none q)) in
+      makes t (index_kinds s) (distinct_each (λ (i : Index). i.kind) (fin.entries s.indices) distinct) ix new (omega arith) (λ q m. no_pair t q m (at.none q)) in
       record {
         u = r.u;
         goes = r.goes;
@@ -282,8 +282,8 @@ module _ (s : State) (sound : IsSound s) (n : ℕ) (t : State) (at : AtHeld s n 
   filled : fin.contains_key s.nodes n ≡ true → Reaches t (held_ops s n) (AtHeld s (n + 1))
   filled h =
       let own : fin.len (attributes_of t.nodes n) ≡ length (outside s n) =
-          len_where (attributes_of s.nodes n) (λ name. not (is_held s n name)) (attributes_of t.nodes n)
-          (λ q. of_node t n q ∙ left_out q ∙ ap (λ o. cond (not (is_held s n q)) o None) (sym (of_node s n q))) in
+      len_where (attributes_of s.nodes n) (λ name. not (is_held s n name)) (attributes_of t.nodes n)
+      (λ q. of_node t n q ∙ left_out q ∙ ap (λ o. cond (not (is_held s n q)) o None) (sym (of_node s n q))) in
       let parts : length (outside s n) + length (held s n) ≤ 64 = both_parts s sound n in
       let r : Reaches t (held_ops s n) (IsSet t n (held s n)) = sets t n (held s n) (distinct_where (attributes_of s.nodes n) (is_held s n)) (at.there n ∙ h) (omega arith) in
       let Has : List ℕ → ℕ → Type 0 = λ q m. attribute r.u m q ≡ cond (nat_lt m (n + 1) || not (is_held s m q)) (attribute s m q) None in
@@ -314,8 +314,11 @@ module _ (s : State) (sound : IsSound s) (n : ℕ) (t : State) (at : AtHeld s n 
 
   nothing : fin.contains_key s.nodes n ≡ false → Reaches t (held_ops s n) (AtHeld s (n + 1))
   nothing h =
-      let none : held s n ≡ [] = empty_list (held s n) (omega (arith, parted (is_held s n) (fin.entries (attributes_of s.nodes n)),
-          sym (fin.len-entries (attributes_of s.nodes n)) ∙ ap fin.len (no_entries h) ∙ fin.len-empty name_cmp Value)) in
+      let none : held s n ≡ [] = empty_list (held s n) (omega (
+        arith,
+        parted (is_held s n) (fin.entries (attributes_of s.nodes n)),
+        sym (fin.len-entries (attributes_of s.nodes n)) ∙ ap fin.len (no_entries h) ∙ fin.len-empty name_cmp Value,
+      )) in
       let Has : List ℕ → ℕ → Type 0 = λ q m. attribute t m q ≡ cond (nat_lt m (n + 1) || not (is_held s m q)) (attribute s m q) None in
       let Pair : List ℕ → ℕ → Type 0 = λ q m. pair_at t q m ≡ cond (nat_lt m (n + 1)) (pair_at s q m) None in
       record {

@@ -164,11 +164,11 @@ new_weight t numbered =
     let push = total_push (weigh nodes) 1 (t.next - 1) in
     let last : 1 + (t.next - 1) ≡ t.next = omega arith in
     let own : weigh nodes (1 + (t.next - 1)) ≡ 1 =
-        ap (weigh nodes) last ∙ ap (λ b. weigh_in b (fin.len (attributes_of nodes t.next))) (has_here t.nodes t.next fin.empty)
-        ∙ ap (λ n. 1 + n) (ap fin.len (attributes_here t.nodes t.next fin.empty) ∙ fin.len-empty name_cmp Value) in
+    ap (weigh nodes) last ∙ ap (λ b. weigh_in b (fin.len (attributes_of nodes t.next))) (has_here t.nodes t.next fin.empty)
+    ∙ ap (λ n. 1 + n) (ap fin.len (attributes_here t.nodes t.next fin.empty) ∙ fin.len-empty name_cmp Value) in
     let others = total_stays (weigh t.nodes) (weigh nodes) 1 (t.next - 1) (λ m p q.
-        let e : eq_by_cmp nat_cmp m t.next ≡ false = ap is_eq (sym (nat_cmp_is m t.next Less (omega (arith, q, last)))) in
-        weigh_same _ _ _ _ (has_away t.nodes t.next fin.empty m e) (ap fin.len (attributes_away t.nodes t.next fin.empty m e))) in
+    let e : eq_by_cmp nat_cmp m t.next ≡ false = ap is_eq (sym (nat_cmp_is m t.next Less (omega (arith, q, last)))) in
+    weigh_same _ _ _ _ (has_away t.nodes t.next fin.empty m e) (ap fin.len (attributes_away t.nodes t.next fin.empty m e))) in
     let all : total (weigh nodes) 1 ((t.next + 1) - 1) ≡ total (weigh nodes) 1 (suc (t.next - 1)) = ap (total (weigh nodes) 1) (omega arith) in
     omega arith
 

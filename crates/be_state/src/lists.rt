@@ -54,10 +54,7 @@ const FULL: usize = 64;
 ///
 /// It reads each number twice over all calls, once for what no index has and once for the rest, and asks for each attribute
 /// twice whether an index has it.
-pub fn next_list<W: Whole>(
-    whole: &mut W,
-    place: &mut Place,
-) -> Result<Option<Vec<Op>>, AllocError>
+pub fn next_list<W: Whole>(whole: &mut W, place: &mut Place) -> Result<Option<Vec<Op>>, AllocError>
     ghost volume: { State }
     requires answers { W.answers_for whole.old volume }
     ensures list { left volume place.old ≡ given (λ ops. ops.items) result ++ left volume place.new }
