@@ -1,15 +1,14 @@
 -- The operations of a number, as they are pushed.
-use Rattle.std.proofs.Common.{◌≡◌, ◌<◌, ◌+◌, ◌++◌, ℕ, Bool, true, false, cond, not, if◌then◌else◌, List, [], ◌∷◌, length, take, get_or, filter, append_assoc, refl, sym, ap, ◌∙◌, Some, None, is_some, unwrap_or, Option, option_map, arith}
+use Rattle.std.proofs.Common.{◌≡◌, ◌<◌, ◌+◌, ◌++◌, ℕ, Bool, true, false, cond, if◌then◌else◌, List, [], ◌∷◌, length, take, get_or, filter, append_assoc, refl, sym, ap, ◌∙◌, Some, None, unwrap_or, Option, option_map, arith}
 use Rattle.std.proofs.lemmas.List.{map-append}
 use Rattle.std.proofs.lemmas.List.Elements.{filter_more}
-use Rattle.std.proofs.lemmas.Option.{same_Some}
 use Rattle.std.specs.FinMap as fin
 use Rattle.be_value.specs.declared.values.Value.{Value}
 use Rattle.be_volume.specs.Maps.{name_cmp, Attributes, attributes_of}
 use Rattle.be_volume.specs.Volume.{State}
 use Rattle.be_volume.specs.declared.ops.Op.{Op}
-use Rattle.be_volume.specs.declared.ops.Op.TheVariants.{New, Drop, Set}
-use Rattle.be_state.specs.Rebuilding.{held_ops, is_held, number_ops, set_all}
+use Rattle.be_volume.specs.declared.ops.Op.TheVariants.{Set}
+use Rattle.be_state.specs.Rebuilding.{held_ops, is_held, set_all}
 
 module _ (p : List ℕ × Value → Bool) (node : ℕ) (xs : List (List ℕ × Value)) (i : ℕ) (x : List ℕ × Value) where
   set_part : (front : List (List ℕ × Value)) (b : Bool) → set_all node (front ++ cond b (x ∷ []) []) ≡ set_all node front ++ (if b then Set node x.0 x.1 ∷ [] else [])

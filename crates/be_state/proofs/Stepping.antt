@@ -1,12 +1,11 @@
 -- The operations that are left, one step further.
-use Rattle.std.proofs.Common.{◌≡◌, ◌⊎◌, inl, inr, ◌<◌, ◌≤◌, ◌+◌, ◌-◌, ◌++◌, ℕ, suc, List, [], ◌∷◌, length, take, drop, take-append-drop, append_assoc, sym, ap, ◌∙◌, arith}
-use Rattle.std.specs.Prelude.{Ok, Err, Result, Option, Some, None, IfOk, IfNone}
+use Rattle.std.proofs.Common.{◌≡◌, ◌<◌, ◌+◌, ◌-◌, ◌++◌, ℕ, suc, List, ◌∷◌, take, drop, take-append-drop, append_assoc, sym, ap, ◌∙◌, arith}
 use Rattle.std.specs.List.{flat_map, range_with_len}
 use Rattle.be_volume.specs.Volume.{State}
 use Rattle.be_volume.specs.declared.ops.Op.{Op}
 use Rattle.be_state.specs.Places.{left_from}
 use Rattle.be_state.specs.Rebuilding.{held_ops, index_ops, number_ops, numbers_from}
-use Rattle.be_state.specs.declared.lists.Step.TheVariants.{Number, Indices, Held}
+use Rattle.be_state.specs.declared.lists.Step.TheVariants.{Number, Held}
 
 module _ (s : State) (node : ℕ) where
   numbers_step : node < s.next → numbers_from s node ≡ node ∷ numbers_from s (node + 1)
