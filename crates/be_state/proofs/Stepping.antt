@@ -1,5 +1,6 @@
 -- The operations that are left, one step further.
-use Rattle.std.proofs.Common.{◌≡◌, ◌<◌, ◌+◌, ◌-◌, ◌++◌, ℕ, suc, List, ◌∷◌, take, drop, take-append-drop, append_assoc, sym, ap, ◌∙◌, arith}
+use Rattle.std.proofs.Common.{◌≡◌, ◌<◌, ◌+◌, ◌-◌, ◌++◌, ℕ, suc, List, [], ◌∷◌, length, min, take, drop, take-append-drop, append_assoc, refl, sym, ap, ◌∙◌, arith}
+use Rattle.std.proofs.lemmas.List.{length-drop, length-take}
 use Rattle.std.specs.List.{flat_map, range_with_len}
 use Rattle.be_volume.specs.Volume.{State}
 use Rattle.be_volume.specs.declared.ops.Op.{Op}
@@ -28,3 +29,15 @@ pub cut : (ready given rest behind : List Op) (k : ℕ) → given ≡ take k rea
 cut ready given rest behind k e f =
     ap (λ l. l ++ behind) (sym (take-append-drop k ready)) ∙ append_assoc (take k ready) (drop k ready) behind
     ∙ ap (λ l. l ++ (drop k ready ++ behind)) (sym e) ∙ ap (λ l. given ++ (l ++ behind)) (sym f)
+
+empty_list : {A : Type 0} (xs : List A) → length xs ≡ 0 → xs ≡ []
+empty_list [] e = refl
+empty_list (x ∷ xs) e = absurd (omega arith)
+
+-- nothing is left behind a list that isn't full
+pub last_cut : (ready given rest : List Op) (k : ℕ) → k ≡ min (length ready) 64 → given ≡ take k ready → rest ≡ drop k ready → length given < 64 →
+    (rest ≡ []) × (length ready < 64)
+last_cut ready given rest k m e f short =
+    let some : length given ≡ min k (length ready) = ap length e ∙ length-take k ready in
+    let none : length rest ≡ length ready - k = ap length f ∙ length-drop k ready in
+    (empty_list rest (omega arith), omega arith)

@@ -59,6 +59,7 @@ pub fn next_list<W: Whole>(whole: &mut W, place: &mut Place) -> Result<Option<Ve
     requires answers { W.answers_for whole.old volume }
     ensures list { left volume place.old ≡ given (λ ops. ops.items) result ++ left volume place.new }
     ensures length { IfOk result (λ list. IfSome list (λ ops. (1 ≤ length ops.items) × (length ops.items ≤ 64))) }
+    ensures full { IfOk result (λ list. IfSome list (λ ops. length ops.items < 64 → left volume place.new ≡ [])) }
     ensures ends { IfOk result (λ list. IfNone list (left volume place.old ≡ [])) }
     ensures stays { W.kept whole.new ≡ W.kept whole.old }
     ensures answers { W.answers_for whole.new volume }
@@ -135,7 +136,10 @@ fn read<W: Whole>(
 fn take(place: &mut Place) -> Result<Option<Vec<Op>>, AllocError>
     ensures list { (volume : State) → left volume place.old ≡ given (λ ops. ops.items) result ++ left volume place.new }
     ensures length { IfOk result (λ list. IfSome list (λ ops. (1 ≤ length ops.items) × (length ops.items ≤ 64))) }
+    ensures few { IfOk result (λ list. IfSome list (λ ops. length ops.items < 64 →
+        (place.new.ready.items ≡ []) × (length place.old.ready.items < 64))) }
     ensures none { IfOk result (λ list. IfNone list (place.old.ready.items ≡ [])) }
+    ensures step { place.new.step ≡ place.old.step }
 {
     if place.ready.is_empty() {
         return Ok(None);
