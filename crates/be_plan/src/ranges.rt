@@ -73,7 +73,8 @@ impl Bound {
         self.many = None;
     }
 
-    /// Puts a front and an end in the place of the bytes, in room of their own.
+    /// Puts a front and an end in the place of the bytes, in room of their own. It stands by itself, since its room is cleared whenever it is called.
+    #[inline(never)]
     fn put_many(&mut self, front: &[u8], end: &[u8])
         requires { length front.now + length end.now ≤ 265 }
         ensures { self.new.items ≡ front.now ++ end.now }
