@@ -1,5 +1,5 @@
 -- What is found of one comparison, and of an "or" side by side.
-use Rattle.std.proofs.Common.{◌≡◌, ◌⊎◌, ◌≤◌, ◌&&◌, ◌||◌, ℕ, Bool, true, false, List, refl, sym, ap, ◌∙◌, subst, inl, inr, Some, None, is_some, arith}
+use Rattle.std.proofs.Common.{◌≡◌, ◌⊎◌, ◌≤◌, ◌<◌, ◌&&◌, ◌||◌, ℕ, Bool, true, false, List, refl, sym, ap, ◌∙◌, subst, inl, inr, Some, None, is_some, arith}
 use Rattle.std.specs.List.{Contains}
 use Rattle.std.specs.Option.{option_map, option_map_or}
 use Rattle.std.specs.FinMap as map
@@ -10,7 +10,7 @@ use Rattle.std.specs.declared.result.Result.TheVariants.{Ok, Err}
 use Rattle.be_value.specs.Key.{key}
 use Rattle.be_value.specs.declared.values.Kind.{Kind}
 use Rattle.be_value.specs.declared.values.Value.{Value}
-use Rattle.be_query.specs.Grammar.{Formula, Leaf, Or, Literal, comparisons}
+use Rattle.be_query.specs.Grammar.{Formula, Leaf, And, Or, Literal, comparisons}
 use Rattle.be_query.specs.declared.tree.Cmp.{Cmp}
 use Rattle.be_volume.specs.Query.{covered, has_index, holds, sat, sees}
 use Rattle.be_volume.specs.Reading.{index_kind}
@@ -56,9 +56,20 @@ leaf_found s f name op literal kind low high found sound one is_kind = subst P (
             has_reached s (Leaf name op literal) 0 picked kind low high found sound refl is_kind range within n (record { picked = picked; there = refl; value = value; seen = e; allows = λ same. t }) h
 
 -- a refusal by memory is one by memory or by a lack of indices
-pub by_memory : {A E : Type 0} {P Q : E → Type 0} (r : Result A E) → IfErr r P → IfErr r (λ e. P e ⊎ Q e)
-by_memory (Ok x) h = h
-by_memory (Err e) h = inl h
+pub by_memory : {A E : Type 0} (P Q : E → Type 0) (r : Result A E) → IfErr r P → IfErr r (λ e. P e ⊎ Q e)
+by_memory P Q (Ok x) h = h
+by_memory P Q (Err e) h = inl h
+
+-- what a refusal tells
+pub refused_by : {A E : Type 0} (P Q : E → Type 0) (r : Result A E) → ((e : E) → P e → Q e) → IfErr r P → IfErr r Q
+refused_by P Q (Ok x) f h = h
+refused_by P Q (Err e) f h = f e h
+
+-- a formula has a comparison
+comparison_there : (f : Formula) → 0 < comparisons f
+comparison_there (Leaf name op literal) = omega arith
+comparison_there (And a b) = omega (arith, comparison_there a)
+comparison_there (Or a b) = omega (arith, comparison_there a)
 
 -- a side is true where one of both is
 module _ (s : State) (f a b : Formula) (one : f ≡ Or a b) where
@@ -67,6 +78,9 @@ module _ (s : State) (f a b : Formula) (one : f ≡ Or a b) where
 
   pub few_right : (most : ℕ) → comparisons f ≤ most → comparisons b ≤ most
   few_right most few = omega (arith, few, ap comparisons one)
+
+  pub less_left : comparisons a < comparisons f
+  less_left = omega (arith, comparison_there b, ap comparisons one)
 
   pub by_left : (n : ℕ) → sat s a n ≡ true → sat s f n ≡ true
   by_left n h = ap (λ g. sat s g n) one ∙ ap (λ t. t || sat s b n) h

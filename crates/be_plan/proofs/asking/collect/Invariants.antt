@@ -13,12 +13,12 @@ abbrev pub invariant-sides : goal.invariant-sides
 invariant-sides g l = record {
   stays : g.S.Source.kept l.source ≡ g.S.Source.kept l.initial.source;
   answers : g.S.Source.answers_for l.source g.volume;
-  few : comparisons (formula l.rest.now) ≤ 256;
+  few : comparisons (formula l.rest) ≤ 256;
   only : (n : ℕ) → Contains l.found.items n → Contains l.initial.found.items n ⊎ (sat g.volume (formula l.tree) n ≡ true);
-  has : (n : ℕ) → sat g.volume (formula l.tree) n ≡ true → Contains l.found.items n ⊎ (sat g.volume (formula l.rest.now) n ≡ true);
-  within : (n : ℕ) → sat g.volume (formula l.rest.now) n ≡ true → sat g.volume (formula l.tree) n ≡ true;
-  rests : covered g.volume (formula l.tree) ≡ covered g.volume (formula l.rest.now);
+  has : (n : ℕ) → sat g.volume (formula l.tree) n ≡ true → Contains l.found.items n ⊎ (sat g.volume (formula l.rest) n ≡ true);
+  within : (n : ℕ) → sat g.volume (formula l.rest) n ≡ true → sat g.volume (formula l.tree) n ≡ true;
+  rests : covered g.volume (formula l.tree) ≡ covered g.volume (formula l.rest);
 }
 
 abbrev pub decreases-sides : goal.decreases-sides
-decreases-sides g l = comparisons (formula l.rest.now)
+decreases-sides g l = comparisons (formula l.rest)
