@@ -140,6 +140,8 @@ impl<L: Look> Source for PagedSource<L> {
         }
     }
 
+    // It stands by itself, so that who asks for values alone has room for one.
+    #[inline(never)]
     fn value(&mut self, node: u64, name: &Name) -> Option<Value> {
         get(&mut self.look, self.page, node, name)
     }

@@ -1,10 +1,11 @@
-use Rattle.std.proofs.Common.{◌≡◌, ◌≤◌, ◌<◌, refl, sym, subst, ap, ◌∙◌, inl, inr}
+use Rattle.std.proofs.Common.{◌≡◌, ◌⊎◌, ◌≤◌, ◌<◌, false, refl, sym, subst, ap, ◌∙◌, inl, inr}
+use Rattle.be_value.specs.declared.refusals.Refusal.TheVariants.{OutOfMemory, NotCovered}
 use Rattle.be_query.specs.Grammar.{Or, comparisons}
 use Rattle.be_query.specs.View.{formula}
 use Rattle.be_query.specs.declared.tree.Tree.{Tree}
 use Rattle.be_volume.specs.Query.{covered, sat}
 use Rattle.be_plan.proofs.Reaching.{on_ok}
-use Rattle.be_plan.proofs.Sides.{few_left, few_right, less_left, by_left, by_right, by_either, left_rests, right_lacks, refused_by}
+use Rattle.be_plan.proofs.Sides.{few_left, few_right, less_left, by_left, by_right, by_either, left_rests, right_lacks, passed_up, refused_by}
 use Rattle.be_plan.proofs.asking.collect.Goals as goal
 
 pub sides-init : goal.sides-init
@@ -20,7 +21,7 @@ sides-init g c = record {
 
 pub collect_side-requires : goal.collect_side-requires
 collect_side-requires g c κs within =
-    let rest = formula c.sides.rest in
+    let rest = formula c.sides.rest.now in
     let a = formula c.in-Or.a.value in
     let b = formula c.in-Or.b.value in
     let one : rest ≡ Or a b = ap formula c.in-Or.is in
@@ -31,7 +32,7 @@ returns-in_err-collect_side-clause-stays g c = c.collect_side.ensures.stays ∙ 
 
 pub returns-in_err-collect_side-clause-only : goal.returns-in_err-collect_side-clause-only
 returns-in_err-collect_side-clause-only g c = λ n h.
-    let rest = formula c.sides.rest in
+    let rest = formula c.sides.rest.now in
     let a = formula c.in-Or.a.value in
     let b = formula c.in-Or.b.value in
     let one : rest ≡ Or a b = ap formula c.in-Or.is in
@@ -43,18 +44,20 @@ returns-in_err-collect_side-clause-only g c = λ n h.
 
 pub returns-in_err-collect_side-clause-refused : goal.returns-in_err-collect_side-clause-refused
 returns-in_err-collect_side-clause-refused g c =
-    let rest = formula c.sides.rest in
+    let rest = formula c.sides.rest.now in
     let a = formula c.in-Or.a.value in
     let b = formula c.in-Or.b.value in
     let one : rest ≡ Or a b = ap formula c.in-Or.is in
+    let told : (c.in_err-collect_side.field-0.0 ≡ OutOfMemory) ⊎ ((c.in_err-collect_side.field-0.0 ≡ NotCovered) × (covered g.volume (formula c.args.tree.now) ≡ false)) =
     elim c.in_err-collect_side.ensures.refused [
       | inl memory ↦ inl memory
       | inr lacks ↦ inr (lacks.0, c.sides.invariant.rests ∙ right_lacks g.volume rest a b one (ap (λ (t : Tree). covered g.volume (formula t)) (sym c.deref.ensures) ∙ lacks.1))
-    ]
+    ] in
+    passed_up c.from_residual.result c.in_err-collect_side.field-0.0 (λ e. (e ≡ OutOfMemory) ⊎ ((e ≡ NotCovered) × (covered g.volume (formula c.args.tree.now) ≡ false))) c.from_residual.ensures.1 told
 
 pub sides-smaller : goal.sides-smaller
 sides-smaller g c =
-    let rest = formula c.sides.rest in
+    let rest = formula c.sides.rest.now in
     let a = formula c.in-Or.a.value in
     let b = formula c.in-Or.b.value in
     let one : rest ≡ Or a b = ap formula c.in-Or.is in
@@ -62,7 +65,7 @@ sides-smaller g c =
 
 pub sides-preserved : goal.sides-preserved
 sides-preserved g c =
-    let rest = formula c.sides.rest in
+    let rest = formula c.sides.rest.now in
     let a = formula c.in-Or.a.value in
     let b = formula c.in-Or.b.value in
     let one : rest ≡ Or a b = ap formula c.in-Or.is in
