@@ -1,8 +1,8 @@
 //! The answer to a query, from what a source's own indices choose.
 //!
 //! The sides of an `||` are answered one after the other, each by itself. So a comparison that stands under `||` alone, as most do, has nothing to
-//! choose from: its index is asked for once, and no cover is made. Of a part under `&&` the choice is made as for a query of its own.
-ghost use Rattle.std.specs.Prelude.{◌≡◌, ◌⊎◌, ◌≤◌, ℕ, true, false, Some, OnOk, IfOk, IfErr};
+//! choose from: its index is asked for once, and no cover is made. Of a side under `&&` the choice is made as for a query of its own.
+ghost use Rattle.std.specs.Prelude.{◌≡◌, ◌⊎◌, ◌≤◌, ℕ, true, false, OnOk, IfOk, IfErr};
 ghost use Rattle.std.specs.List.{Contains};
 ghost use Rattle.std.specs.List.Sorted.{IsStrictlyIncreasing};
 ghost use Rattle.be_value.specs.Refusal.{Answers};
@@ -10,7 +10,6 @@ ghost use Rattle.be_value.specs.declared.refusals.Refusal.TheVariants.{OutOfMemo
 ghost use Rattle.be_query.specs.Grammar.{Leaf, comparisons};
 ghost use Rattle.be_query.specs.View.{formula, literal};
 ghost use Rattle.be_volume.specs.Query.{covered, sat, scan};
-ghost use Rattle.be_volume.specs.Reading.{index_kind};
 ghost use Rattle.be_volume.specs.Volume.{State};
 ghost use Rattle.be_plan.specs.Walk.{Keeps};
 
@@ -25,7 +24,7 @@ use be_query::{Comparison, Query, Tree};
 use be_value::Refusal;
 use std::alloc::Global;
 
-/// Adds the nodes of which a part is true that is one comparison.
+/// Adds the nodes of which a side is true that is one comparison.
 fn collect_one<S: Source>(
     alloc: Global,
     source: &mut S,
@@ -62,7 +61,7 @@ fn collect_one<S: Source>(
     )
 }
 
-/// Adds the nodes of which a part is true, from the comparisons that the source's indices choose for it. It stands by itself, so that a
+/// Adds the nodes of which a side is true, from the comparisons that the source's indices choose for it. It stands by itself, so that a
 /// comparison alone needs no room for a cover.
 #[inline(never)]
 fn collect_chosen<S: Source>(
