@@ -15,10 +15,10 @@ use Rattle.be_volume.specs.Query.{covered, holds, sat, sees, seen_in, scan, has_
 use Rattle.be_volume.specs.Reading.{attribute}
 use Rattle.be_volume.specs.Volume.{State}
 use Rattle.be_volume.specs.declared.maps.Index.{Index}
-use Rattle.be_plan.specs.Cover.{Comparison, leaves, covers, covers_part, rests_on}
+use Rattle.be_plan.specs.Cover.{leaves, covers, covers_part, rests_on}
 use Rattle.be_volume.specs.Sound.{IsSound, IsPaired}
 use Rattle.be_plan.specs.Walk.{HasReached}
-use Rattle.be_plan.proofs.Ways.{Way, IsPart, way, is_covered, at_pick, or_cases, and_first, and_second, nat_is}
+use Rattle.be_plan.proofs.Ways.{Way, IsPart, way, is_covered, or_cases, and_first, and_second, nat_is}
 use Rattle.be_plan.proofs.Rising.{in_by_place, contains_of_is_in, same_rising, in_filter, from_filter, rises_filter, rises_increasing, rises_keys}
 
 -- a node with an attribute is there

@@ -1,4 +1,4 @@
-use Rattle.std.proofs.Common.{◌≡◌, ℕ, true, sym, ap, ◌∙◌, inl, inr}
+use Rattle.std.proofs.Common.{sym, ap, ◌∙◌, inl, inr}
 use Rattle.be_query.specs.View.{formula}
 use Rattle.be_volume.specs.Query.{scan}
 use Rattle.be_plan.proofs.Answering.{found_all}

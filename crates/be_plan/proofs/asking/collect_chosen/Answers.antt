@@ -1,8 +1,8 @@
-use Rattle.std.proofs.Common.{◌≡◌, true, refl, sym, subst, ap, ◌∙◌, inr, Ok, Err, List, ℕ}
+use Rattle.std.proofs.Common.{◌≡◌, true, sym, subst, ap, ◌∙◌, inr, Ok, Err, List, ℕ}
 use Rattle.be_value.specs.declared.refusals.Refusal.TheVariants.{NotCovered}
 use Rattle.be_query.specs.View.{formula}
 use Rattle.be_volume.specs.Query.{has_index}
-use Rattle.be_plan.specs.Cover.{choice, covers, or_not_covered}
+use Rattle.be_plan.specs.Cover.{covers, or_not_covered}
 use Rattle.be_plan.proofs.Choice.{choice_told}
 use Rattle.be_plan.proofs.Reaching.{on_ok}
 use Rattle.be_plan.proofs.Sides.{by_memory}

@@ -1,4 +1,4 @@
-use Rattle.std.proofs.Common.{◌≡◌, refl, sym, ap, ◌∙◌, inr, None, Some}
+use Rattle.std.proofs.Common.{refl, sym, ◌∙◌, inr, None, Some}
 use Rattle.be_query.specs.View.{formula, literal}
 use Rattle.be_value.specs.Key.{key}
 use Rattle.be_plan.specs.Narrow.{high_of}
