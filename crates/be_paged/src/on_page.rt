@@ -40,11 +40,27 @@ pub(crate) fn known_index<L: Look>(
     ensures known { IsKnown (contents_of (L.words look.new page)).entries known.new }
     ensures unchanged { IsUnchanged L.kept L.standing L.words look.old look.new }
 {
-    if let Some(last) = *known {
-        if is_named(look, page, last.place, name) {
-            return Some(last);
-        }
+    let Some(last) = *known else {
+        return find_to_know(look, page, name, known);
+    };
+    if is_named(look, page, last.place, name) {
+        return Some(last);
     }
+    find_to_know(look, page, name, known)
+}
+
+/// Finds the index of a name, and keeps it for the next time.
+fn find_to_know<L: Look>(
+    look: &mut L,
+    page: u64,
+    name: &Name,
+    known: &mut Option<FoundIndex>,
+) -> Option<FoundIndex>
+    requires version { (volume : State) × IsVersion (L.standing look.old) (L.words look.old) page volume }
+    ensures found { IsFound (contents_of (L.words look.new page)).entries name.now result }
+    ensures known { IsKnown (contents_of (L.words look.new page)).entries known.new }
+    ensures unchanged { IsUnchanged L.kept L.standing L.words look.old look.new }
+{
     let index = find_index(look, page, name);
     *known = index;
     index
