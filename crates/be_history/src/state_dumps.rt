@@ -5,7 +5,7 @@
 ghost use Rattle.std.specs.Prelude.{◌≡◌, ◌<◌, ◌++◌, [], All, IfOk, OnOk, length, true, false};
 ghost use Rattle.std.specs.Option.{option_map};
 ghost use Rattle.std.specs.String.{string_bytes};
-ghost use Rattle.be_journal.specs.Journal as journals;
+ghost use Rattle.be_journal.specs.Journal as model;
 ghost use Rattle.be_state.specs.Places.{left};
 ghost use Rattle.be_state.specs.Rebuilding.{state_ops};
 ghost use Rattle.be_history.specs.Dump as spec;
@@ -64,8 +64,8 @@ fn volume_text(alloc: Global, volume: &Volume) -> Result<String, AllocError>
 /// The script that makes the volume of these entries.
 fn entries_text(alloc: Global, entries: &[Entry]) -> Result<String, AllocError>
     requires { AreChecked entries.now }
-    ensures text { IfOk result (λ text. string_bytes text ≡ spec.state_dump (journals.replay entries.now)) }
-    ensures can { OnOk result (All CanBeOp (state_ops (journals.replay entries.now))) }
+    ensures text { IfOk result (λ text. string_bytes text ≡ spec.state_dump (model.replay entries.now)) }
+    ensures can { OnOk result (All CanBeOp (state_ops (model.replay entries.now))) }
 {
     let volume = replay(alloc, entries)?;
     volume_text(alloc, &volume)

@@ -2,7 +2,7 @@
 //!
 //! It keeps nothing of what it read. Whether an index has a node is asked of the index's tree by the key of the node's
 //! attribute, since a pair of an index is always its node's attribute.
-ghost use Rattle.std.specs.Prelude.{◌≡◌, ℕ, List, IfOk, None, true};
+ghost use Rattle.std.specs.Prelude.{◌≡◌, IfOk, None, true};
 ghost use Rattle.std.specs.FinMap as map;
 ghost use Rattle.std.specs.Option.{option_map};
 ghost use Rattle.be_pages.specs.Pages.{IsUnchanged};
