@@ -11,7 +11,7 @@ use Rattle.be_history.proofs.state_dumps.volume_text.Goals as goal
 
 pub lists-smaller : goal.lists-smaller
 lists-smaller c =
-    subst (λ (v : State). length (left v c.push_next.new.place) < length (left v c.lists.place)) c.lists.invariant.whole (c.in_ok-push_next.ensures.fewer c.lists-test.true)
+    subst (λ (v : State). length (left v c.push_next.new.place) < length (left v c.lists.place)) c.lists.invariant.whole (c.in_ok-push_next.ensures.fewer c.if-branch.true)
 
 pub lists-preserved : goal.lists-preserved
 lists-preserved c =
@@ -29,7 +29,7 @@ returns-clause-text c =
     let before = c.lists.place in
     let after = c.push_next.new.place in
     let volume = c.args.volume.now in
-    let none : left volume after ≡ [] = subst (λ (v : State). left v after ≡ []) c.lists.invariant.whole (c.in_ok-push_next.ensures.ends c.lists-test.false) in
+    let none : left volume after ≡ [] = subst (λ (v : State). left v after ≡ []) c.lists.invariant.whole (c.in_ok-push_next.ensures.ends c.if-branch.false) in
     sym (append-nil (string_bytes c.push_next.new.text)) ∙ ap (λ (ops : List Op). string_bytes c.push_next.new.text ++ cut_lines ops) (sym none)
     ∙ subst (λ (v : State). string_bytes c.push_next.new.text ++ cut_lines (left v after) ≡ string_bytes c.lists.text ++ cut_lines (left v before)) c.lists.invariant.whole c.in_ok-push_next.ensures.text
     ∙ c.lists.invariant.text
@@ -39,6 +39,6 @@ returns-clause-can c =
     let before = c.lists.place in
     let after = c.push_next.new.place in
     let volume = c.args.volume.now in
-    let none : left volume after ≡ [] = subst (λ (v : State). left v after ≡ []) c.lists.invariant.whole (c.in_ok-push_next.ensures.ends c.lists-test.false) in
+    let none : left volume after ≡ [] = subst (λ (v : State). left v after ≡ []) c.lists.invariant.whole (c.in_ok-push_next.ensures.ends c.if-branch.false) in
     c.lists.invariant.can (subst (λ (v : State). All CanBeOp (left v after) → All CanBeOp (left v before)) c.lists.invariant.whole c.in_ok-push_next.ensures.can
     (subst (All CanBeOp) (sym none) (All-nil CanBeOp)))
