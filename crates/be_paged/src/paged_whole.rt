@@ -159,6 +159,5 @@ fn index_has<L: Look>(look: &mut L, version_page: u64, node: u64, name: &Name) -
     let Some(value) = get(look, version_page, node, name) else {
         return false;
     };
-    value.kind().indexable()
-        && has_pair(look, version_page, name, key_of(&value, node).as_slice())
+    value.kind().indexable() && has_pair(look, version_page, name, key_of(&value, node).as_slice())
 }

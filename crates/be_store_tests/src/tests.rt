@@ -100,8 +100,7 @@ fn pinned_for_a_read(rt: HostRuntime) -> Result<(), Fail> {
 /// has the same ones, whatever is written meanwhile.
 #[test]
 fn states(rt: HostRuntime) -> Result<(), Fail> {
-    let lines =
-        "0 new;set 1 k LONG 5;new;drop 2 => commit 1 / node 1 / ok / node 2 / ok
+    let lines = "0 new;set 1 k LONG 5;new;drop 2 => commit 1 / node 1 / ok / node 2 / ok
 state => new / set 1 \"k\" LONG 5 / new / drop 2
 0 mkindex k LONG;mkindex j LONG;set 1 j LONG 6 / 0 pin => commit 2 / ok / ok / ok / pin 2
 1 new;set 1 j LONG 7;set 3 k LONG 8;rmindex j => commit 3 / node 3 / ok / ok / ok
