@@ -7,6 +7,7 @@ use Rattle.be_volume.specs.Maps.{attributes_of}
 use Rattle.be_volume.specs.Sound.{IsSound}
 use Rattle.be_volume.specs.Volume.{State}
 use Rattle.be_paged.specs.Page.{Contents}
+use Rattle.be_paged.specs.Place.{IsKnownPlace}
 use Rattle.be_paged.specs.Version.{IsInHand, Spells}
 
 -- the contents in hand spell this volume, which is sound
@@ -22,9 +23,10 @@ IsSought sought volume = IfSome sought (λ last. last.1 ≡ map.contains_key vol
 abbrev pub IsCounted : Option (ℕ × ℕ) → State → Type 0
 IsCounted counted volume = IfSome counted (λ last. last.1 ≡ map.len (attributes_of volume.nodes last.0))
 
--- a reader of the contents, with what it remembers
+-- a reader of the contents, with what it remembers, also of where it found an attribute
 pub record FactsOf (standing : ℕ → Standing) (words : ℕ → ℕ → ℕ) (c : Contents)
-    (sought : Option (ℕ × Bool)) (counted : Option (ℕ × ℕ)) (volume : State) : Type 0 where
+    (sought : Option (ℕ × Bool)) (counted : Option (ℕ × ℕ)) (found : Option (ℕ × ℕ)) (volume : State) : Type 0 where
   pub told : AnswersFor standing words c volume
   pub sought_is : IsSought sought volume
   pub counted_is : IsCounted counted volume
+  pub found_is : IsKnownPlace standing words c.catalog found

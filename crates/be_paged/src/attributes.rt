@@ -13,6 +13,7 @@ ghost use Rattle.be_tree.specs.Tree.{IsTree, pairs};
 ghost use Rattle.be_volume.specs.Maps.{Nodes as AllNodes, attributes_of};
 ghost use Rattle.be_volume.specs.Sound.{IsName};
 ghost use Rattle.be_paged.specs.Catalog.{IsCatalog, catalog_key};
+ghost use Rattle.be_paged.specs.Place.{IsPlaceIn};
 ghost use Rattle.be_paged.specs.Reading.{AreValid, attribute_pair, front_of_node, is_of};
 
 use crate::catalog::value_at;
@@ -156,15 +157,41 @@ pub(crate) fn list_attributes<L: Look>(
     Ok(list)
 }
 
-/// The name of the node's first attribute, if it has one.
-pub(crate) fn first_attribute<L: Look>(look: &mut L, catalog: u64, node: u64) -> Option<Name>
+/// The name and the place of the node's next attribute, and a step past it; none once all were given. Its value isn't read.
+fn next_name<L: Look>(
+    look: &mut L,
+    cursor: &mut Cursor,
+    node: u64,
+) -> Option<(Name, (u64, usize))>
+    requires cursor { IsCursor (L.standing look.old) (L.words look.old) cursor.old }
+    ensures name { (name : List ℕ) (value : AnyValue) → IsName name →
+        slice_get (front_of_node node (remaining (L.words look.old) cursor.old)) 0 ≡ Some (attribute_pair node (name, value)) → option_map (λ found. found.0) result ≡ Some name }
+    ensures none { slice_get (front_of_node node (remaining (L.words look.old) cursor.old)) 0 ≡ None → option_map (λ found. found.0) result ≡ None }
+    ensures item { IfSome result (λ found. slice_get (front_of_node node (remaining (L.words look.old) cursor.old)) 0
+        ≡ Some (item_at (L.words look.old found.1.0) found.1.1)) }
+    ensures readable { IfSome result (λ found. IsTrue (is_readable (L.standing look.old found.1.0))) }
+    ensures in_page { IfSome result (λ found. found.1.1 + 42 ≤ 512) }
+    ensures fits { IfSome result (λ found. IsItem (L.words look.old found.1.0) found.1.1) }
+    ensures unchanged { IsUnchanged L.kept L.standing L.words look.old look.new }
+{
+    let (page, at) = next_attribute(look, cursor, node)?;
+    let name = name_at(look, page, at)?;
+    Some((name, (page, at)))
+}
+
+/// The name of the node's first attribute, and where that stands in the catalog's tree, if the node has one.
+pub(crate) fn first_attribute<L: Look>(
+    look: &mut L,
+    catalog: u64,
+    node: u64,
+) -> Option<(Name, (u64, usize))>
     requires tree { IsTree (L.standing look.old) (L.words look.old) catalog }
     ensures name { (nodes : AllNodes) → IsCatalog (pairs (L.words look.old) catalog) nodes → AreValid nodes →
-        result ≡ option_map (λ e. e.0) (slice_get (map.entries (attributes_of nodes node)) 0) }
+        option_map (λ found. found.0) result ≡ option_map (λ e. e.0) (slice_get (map.entries (attributes_of nodes node)) 0) }
+    ensures place { IfSome result (λ found. IsPlaceIn (L.standing look.new) (L.words look.new) catalog found.1.0 found.1.1) }
     ensures unchanged { IsUnchanged L.kept L.standing L.words look.old look.new }
 {
     let mut cursor = Cursor::new();
     cursor.seek(look, catalog, &node.to_be_bytes(), true);
-    let (name, _) = next_value(look, &mut cursor, node)?;
-    Some(name)
+    next_name(look, &mut cursor, node)
 }

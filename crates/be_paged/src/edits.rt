@@ -10,6 +10,7 @@ ghost use Rattle.be_volume.specs.Volume.{State, step, steps};
 ghost use Rattle.be_volume.specs.declared.ops.Op.TheVariants as ops;
 ghost use Rattle.be_paged.specs.Changes.{Changes, IsBare, SetsWhatStands, Steps, Reaches};
 ghost use Rattle.be_paged.specs.Page.{contents};
+ghost use Rattle.be_paged.specs.Place.{IsKnownPlace};
 ghost use Rattle.be_paged.specs.Version.{IsInHand, Spells};
 
 use crate::attributes::first_attribute;
@@ -48,15 +49,17 @@ fn add_node<R: Room>(room: &mut R, version: &mut Version) -> Result<Done, Refusa
     Ok(Done::Node(node))
 }
 
-/// Sets an attribute: its pair changes first, and then what the catalog has.
+/// Sets an attribute: its pair changes first, and then what the catalog has. The old value is read at its place where that is known.
 fn set_value<R: Room>(
     room: &mut R,
     version: &mut Version,
     node: u64,
     name: &Name,
     value: &Value,
+    known: Option<(u64, usize)>,
 ) -> Result<Done, Refusal>
     requires in_hand { IsInHand (R.standing room.old) (R.words room.old) (contents version.old) }
+    requires known { IsKnownPlace (R.standing room.old) (R.words room.old) version.old.catalog known }
     requires open { IsTrue (R.is_open (R.kept room.old)) }
     ensures changes { OnOk result (Changes R.kept R.standing R.words (contents version.old) (contents version.new) room.old room.new) }
     ensures steps { IfOk result (λ done. (volume : State) → Spells (R.words room.old) (contents version.old) volume → IsSound volume →
@@ -67,20 +70,22 @@ fn set_value<R: Room>(
     ensures err { OnErr result (KeepsStart R.kept R.standing R.words room.old room.new) }
     ensures full { IfErr result (IsFullOf (R.full room.new)) }
 {
-    change_entry(room, version, node, name, Some(value))?;
+    change_entry(room, version, node, name, known, Some(value))?;
     let key = catalog_key(node, name);
     version.catalog = insert(room, version.catalog, &key, &payload_of(value))?;
     Ok(Done::Unit)
 }
 
-/// Takes an attribute away, and its pair before it.
+/// Takes an attribute away, and its pair before it. The value is read at its place where that is known.
 fn unset_value<R: Room>(
     room: &mut R,
     version: &mut Version,
     node: u64,
     name: &Name,
+    known: Option<(u64, usize)>,
 ) -> Result<Done, Refusal>
     requires in_hand { IsInHand (R.standing room.old) (R.words room.old) (contents version.old) }
+    requires known { IsKnownPlace (R.standing room.old) (R.words room.old) version.old.catalog known }
     requires open { IsTrue (R.is_open (R.kept room.old)) }
     ensures changes { OnOk result (Changes R.kept R.standing R.words (contents version.old) (contents version.new) room.old room.new) }
     ensures steps { IfOk result (λ done. (volume : State) → Spells (R.words room.old) (contents version.old) volume → IsSound volume →
@@ -89,7 +94,7 @@ fn unset_value<R: Room>(
     ensures err { OnErr result (KeepsStart R.kept R.standing R.words room.old room.new) }
     ensures full { IfErr result (IsFullOf (R.full room.new)) }
 {
-    change_entry(room, version, node, name, None)?;
+    change_entry(room, version, node, name, known, None)?;
     let key = catalog_key(node, name);
     version.catalog = remove(room, version.catalog, &key)?;
     Ok(Done::Unit)
@@ -128,7 +133,7 @@ fn remove_index<R: Room>(room: &mut R, version: &mut Version, name: &Name) -> Do
     Done::Unit
 }
 
-/// Takes all attributes of a node away, each with its pair.
+/// Takes all attributes of a node away, each with its pair. Of an attribute the name is read, and its value only where the name has an index.
 fn unset_all<R: Room>(room: &mut R, version: &mut Version, node: u64) -> Result<(), Refusal>
     requires in_hand { IsInHand (R.standing room.old) (R.words room.old) (contents version.old) }
     requires open { IsTrue (R.is_open (R.kept room.old)) }
@@ -140,10 +145,10 @@ fn unset_all<R: Room>(room: &mut R, version: &mut Version, node: u64) -> Result<
     ensures full { IfErr result (IsFullOf (R.full room.new)) }
 {
     for _ in 0..MAX_ATTRIBUTES {
-        let Some(name) = first_attribute(room, version.catalog, node) else {
+        let Some((name, place)) = first_attribute(room, version.catalog, node) else {
             return Ok(());
         };
-        unset_value(room, version, node, &name)?;
+        unset_value(room, version, node, &name, Some(place))?;
     }
     Ok(())
 }
@@ -164,9 +169,15 @@ fn drop_node<R: Room>(room: &mut R, version: &mut Version, node: u64) -> Result<
     Ok(Done::Unit)
 }
 
-/// One operation.
-fn edit<R: Room>(room: &mut R, version: &mut Version, op: &Op) -> Result<Done, Refusal>
+/// One operation. The place of an attribute may be known; the operation needn't be of that one.
+fn edit<R: Room>(
+    room: &mut R,
+    version: &mut Version,
+    op: &Op,
+    known: Option<(u64, usize)>,
+) -> Result<Done, Refusal>
     requires in_hand { IsInHand (R.standing room.old) (R.words room.old) (contents version.old) }
+    requires known { IsKnownPlace (R.standing room.old) (R.words room.old) version.old.catalog known }
     requires next { version.old.next + 1 < 2 ^ 64 }
     requires open { IsTrue (R.is_open (R.kept room.old)) }
     ensures changes { OnOk result (Changes R.kept R.standing R.words (contents version.old) (contents version.new) room.old room.new) }
@@ -181,24 +192,26 @@ fn edit<R: Room>(room: &mut R, version: &mut Version, op: &Op) -> Result<Done, R
     match op {
         Op::New => add_node(room, version),
         Op::Drop(node) => drop_node(room, version, *node),
-        Op::Set(node, name, value) => set_value(room, version, *node, name, value),
-        Op::Unset(node, name) => unset_value(room, version, *node, name),
+        Op::Set(node, name, value) => set_value(room, version, *node, name, value, known),
+        Op::Unset(node, name) => unset_value(room, version, *node, name, known),
         Op::MkIndex(name, kind) => Ok(make_index(room, version, name, *kind)),
         Op::RmIndex(name) => Ok(remove_index(room, version, name)),
     }
 }
 
 /// A list of operations that are accepted, one after the other, whose answers enter an empty list. It is filled where it stands, since a list that is
-/// given by value costs its whole capacity.
+/// given by value costs its whole capacity. A place that is known serves the first operation, since the trees have changed after it.
 pub(crate) fn edit_all<R: Room>(
     room: &mut R,
     version: &mut Version,
     ops: &[Op],
+    found: Option<(u64, usize)>,
     dones: &mut ArrayVec<Done, 64>,
 ) -> Result<(), Refusal>
     requires few { length ops.now ≤ 64 }
     requires empty { dones.old.items ≡ [] }
     requires in_hand { IsInHand (R.standing room.old) (R.words room.old) (contents version.old) }
+    requires found { IsKnownPlace (R.standing room.old) (R.words room.old) version.old.catalog found }
     requires fits { version.old.next + 64 < 2 ^ 64 }
     requires open { IsTrue (R.is_open (R.kept room.old)) }
     ensures changes { OnOk result (Changes R.kept R.standing R.words (contents version.old) (contents version.new) room.old room.new) }
@@ -209,9 +222,11 @@ pub(crate) fn edit_all<R: Room>(
     ensures err { OnErr result (KeepsStart R.kept R.standing R.words room.old room.new) }
     ensures full { IfErr result (IsFullOf (R.full room.new)) }
 {
+    let mut known = found;
     for op in ops {
         op.valid();
-        dones.push(edit(room, version, op)?);
+        dones.push(edit(room, version, op, known)?);
+        known = None;
     }
     Ok(())
 }

@@ -1,7 +1,7 @@
 -- What the trees of a version in hand answer about its volume.
-use Rattle.std.proofs.Common.{◌≡◌, ℕ, ◌<◌, ◌^◌, Bool, true, false, unwrap_or, List, [], ◌∷◌, length, Some, None, Ok, Err, ap, sym, ◌∙◌, refl, is_some}
+use Rattle.std.proofs.Common.{◌≡◌, ℕ, ◌<◌, ◌^◌, Bool, true, false, unwrap_or, List, [], ◌∷◌, length, Some, None, Ok, Err, ap, sym, subst, ◌∙◌, refl, is_some}
 use Rattle.std.specs.Int.{to_be_bytes, w64}
-use Rattle.std.specs.Option.{option_map, option_map_or}
+use Rattle.std.specs.Option.{option_map, option_map_or, option_or}
 use Rattle.std.specs.Result.{IfOk, IfErr, is_ok}
 use Rattle.std.specs.declared.option.Option.{Option}
 use Rattle.std.specs.declared.result.Result.{Result}
@@ -10,6 +10,7 @@ use Rattle.std.proofs.lemmas.List.{append-nil}
 use Rattle.be_value.specs.Name.{name_from}
 use Rattle.be_value.specs.Key.{IsValue}
 use Rattle.be_value.specs.declared.values.Value.{Value}
+use Rattle.be_pages.specs.declared.room.Standing.{Standing}
 use Rattle.be_tree.specs.Pair.{Pair}
 use Rattle.be_tree.specs.Key.{payload_at}
 use Rattle.be_value.specs.declared.refusals.Refusal.TheVariants.{NoNode}
@@ -18,11 +19,13 @@ use Rattle.be_volume.specs.Reading.{attributes_at}
 use Rattle.be_volume.specs.Volume.{State}
 use Rattle.be_volume.specs.Indices.{Indices}
 use Rattle.be_paged.specs.Entry.{Entry}
-use Rattle.be_paged.specs.Facts.{IsCounted}
-use Rattle.be_paged.specs.Page.{IsNamedAt, IsGapAt}
+use Rattle.be_paged.specs.Facts.{FactsOf, IsCounted}
+use Rattle.be_paged.specs.Page.{Contents, IsNamedAt, IsGapAt}
+use Rattle.be_paged.specs.Place.{IsKnownPlace}
 use Rattle.be_paged.specs.Catalog.{catalog_key, payload_of, value_at, stored, IsCatalog}
 use Rattle.be_paged.specs.Reading.{AreValid}
 use Rattle.be_paged.specs.Version.{AreEntriesOf}
+use Rattle.be_paged.proofs.CatalogPairs.Places.{known_or}
 use Rattle.be_paged.proofs.CatalogPairs.Segments.{value_there}
 use Rattle.be_paged.proofs.CatalogPairs.Validity.{named}
 use Rattle.be_paged.proofs.IndexEntries.Indexing.{entries_len, named_found, gap_none}
@@ -101,6 +104,14 @@ bare_counted (Some x) last volume node is of bare told =
 
 pub no_attribute : (nodes : Nodes) (node : ℕ) (name : List ℕ) → fin.len (attributes_of nodes node) ≡ 0 → fin.contains_key (attributes_of nodes node) name ≡ false
 no_attribute nodes node name bare = ap (λ (a : Attributes). is_some (fin.get a name)) (fin.empty_of_len (attributes_of nodes node) bare) ∙ ap is_some (fin.get-empty name_cmp name)
+
+-- the facts after reads that found a place
+pub facts_since : (s t : ℕ → Standing) (v w : ℕ → ℕ → ℕ) (c : Contents) (sought : Option (ℕ × Bool)) (counted found place : Option (ℕ × ℕ)) (volume : State) → t ≡ s → w ≡ v → FactsOf s v c sought counted found volume
+    → IsKnownPlace t w c.catalog place → FactsOf t w c sought counted (option_or found place) volume
+facts_since s t v w c sought counted found place volume standing words of at =
+    let now : FactsOf t w c sought counted found volume =
+    subst (λ (u : ℕ → Standing). FactsOf u w c sought counted found volume) (sym standing) (subst (λ (x : ℕ → ℕ → ℕ). FactsOf s x c sought counted found volume) (sym words) of) in
+    record { told = now.told; sought_is = now.sought_is; counted_is = now.counted_is; found_is = known_or t w c.catalog found place now.found_is at }
 
 -- what is true of each value whose payload stands is true of the node's value, and of none it is false
 pub holds_read : (items : List Pair) (nodes : Nodes) (node : ℕ) (name k payload : List ℕ) (told : Bool) (holds : Value → Bool) → IsCatalog items nodes → AreValid nodes → node < 2 ^ 64 → name_from name ≡ Ok name

@@ -9,6 +9,9 @@ use Rattle.be_paged.proofs.Applying.Applied.{page_stays, applied}
 use Rattle.be_paged.proofs.Applying.Composing.{changes_since, start_after}
 use Rattle.be_paged.proofs.writes.apply_into.Goals as goal
 
+pub edit_all-requires-clause-found : goal.edit_all-requires-clause-found
+edit_all-requires-clause-found g c = c.refusal.ensures.found
+
 pub replace_version-requires-clause-in_use : goal.replace_version-requires-clause-in_use
 replace_version-requires-clause-in_use g c =
     let before = contents c.fill_version.new.version in
