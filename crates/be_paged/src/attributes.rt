@@ -13,12 +13,13 @@ ghost use Rattle.be_tree.specs.Tree.{IsTree, pairs};
 ghost use Rattle.be_volume.specs.Maps.{Nodes as AllNodes, attributes_of};
 ghost use Rattle.be_volume.specs.Sound.{IsName};
 ghost use Rattle.be_paged.specs.Catalog.{IsCatalog, catalog_key};
+ghost use Rattle.be_paged.specs.Facts.{count_of};
 ghost use Rattle.be_paged.specs.Place.{IsPlaceIn};
 ghost use Rattle.be_paged.specs.Reading.{AreValid, attribute_pair, front_of_node, is_of};
 
 use crate::catalog::value_at;
 use be_pages::Look;
-use be_tree::{Cursor, key_at};
+use be_tree::{Cursor, is_key_at, key_at};
 use be_value::{Name, Value};
 use std::alloc::{AllocError, Global};
 use std::str;
@@ -74,21 +75,36 @@ fn pass_attribute<L: Look>(look: &mut L, cursor: &mut Cursor, node: u64) -> bool
     next_attribute(look, cursor, node).is_some()
 }
 
-/// How many attributes the node has. It walks over the first words of their keys.
-pub(crate) fn attribute_count<L: Look>(look: &mut L, catalog: u64, node: u64) -> usize
-    requires tree { IsTree (L.standing look.old) (L.words look.old) catalog }
-    ensures count { (nodes : AllNodes) → IsCatalog (pairs (L.words look.old) catalog) nodes → AreValid nodes →
-        map.len (attributes_of nodes node) ≤ 64 → result ≡ map.len (attributes_of nodes node) }
+/// How many of the pairs that come next are the node's, where a node has no more.
+fn count_rest<L: Look>(look: &mut L, cursor: &mut Cursor, node: u64) -> usize
+    requires cursor { IsCursor (L.standing look.old) (L.words look.old) cursor.old }
+    ensures count { length (front_of_node node (remaining (L.words look.old) cursor.old)) ≤ 64 →
+        result ≡ length (front_of_node node (remaining (L.words look.old) cursor.old)) }
     ensures unchanged { IsUnchanged L.kept L.standing L.words look.old look.new }
 {
-    let mut cursor = Cursor::new();
-    cursor.seek(look, catalog, &node.to_be_bytes(), true);
     for count in 0..MAX_ATTRIBUTES {
-        if !pass_attribute(look, &mut cursor, node) {
+        if !pass_attribute(look, cursor, node) {
             return count;
         }
     }
     MAX_ATTRIBUTES
+}
+
+/// How many attributes the node has, if it is there. One descent leads to its mark, and a walk from there over the first words of their keys.
+pub(crate) fn attribute_count<L: Look>(look: &mut L, catalog: u64, node: u64) -> Option<usize>
+    requires tree { IsTree (L.standing look.old) (L.words look.old) catalog }
+    ensures count { (nodes : AllNodes) → IsCatalog (pairs (L.words look.old) catalog) nodes → AreValid nodes →
+        map.len (attributes_of nodes node) ≤ 64 → result ≡ count_of nodes node }
+    ensures unchanged { IsUnchanged L.kept L.standing L.words look.old look.new }
+{
+    let mark = node.to_be_bytes();
+    let mut cursor = Cursor::new();
+    cursor.seek(look, catalog, &mark, false);
+    let (page, at) = cursor.step(look)?;
+    if !is_key_at(look, page, at, &mark) {
+        return None;
+    }
+    Some(count_rest(look, &mut cursor, node))
 }
 
 /// The name in the key of the item at a place of the catalog, behind its node.

@@ -38,7 +38,6 @@ fn refusal<L: Look>(
     let mut facts = PageFacts {
         look,
         version,
-        sought: None,
         counted: None,
         found: None,
     };

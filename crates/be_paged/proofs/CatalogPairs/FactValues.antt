@@ -95,23 +95,24 @@ attributes_some s node = by (fin.get s.nodes node)
     by None h = cc
     by (Some a) h = refl
 
--- a node whose attributes were counted, and are none
-pub bare_counted : (counted : Option (ℕ × ℕ)) (last : ℕ × ℕ) (volume : State) (node : ℕ) → counted ≡ Some last → last.0 ≡ node → last.1 ≡ 0 → IsCounted counted volume → fin.len (attributes_of volume.nodes node) ≡ 0
-bare_counted None last volume node is of bare told = cc
-bare_counted (Some x) last volume node is of bare told =
-    let same : x ≡ last = ap (λ o. unwrap_or o last) is in
-    ap (λ n. fin.len (attributes_of volume.nodes n)) (sym (ap (λ (y : ℕ × ℕ). y.0) same ∙ of)) ∙ sym told ∙ ap (λ (y : ℕ × ℕ). y.1) same ∙ bare
-
+-- a node that has no attribute has none of this name
 pub no_attribute : (nodes : Nodes) (node : ℕ) (name : List ℕ) → fin.len (attributes_of nodes node) ≡ 0 → fin.contains_key (attributes_of nodes node) name ≡ false
 no_attribute nodes node name bare = ap (λ (a : Attributes). is_some (fin.get a name)) (fin.empty_of_len (attributes_of nodes node) bare) ∙ ap is_some (fin.get-empty name_cmp name)
 
--- the facts after reads that found a place
-pub facts_since : (s t : ℕ → Standing) (v w : ℕ → ℕ → ℕ) (c : Contents) (sought : Option (ℕ × Bool)) (counted found place : Option (ℕ × ℕ)) (volume : State) → t ≡ s → w ≡ v → FactsOf s v c sought counted found volume
-    → IsKnownPlace t w c.catalog place → FactsOf t w c sought counted (option_or found place) volume
-facts_since s t v w c sought counted found place volume standing words of at =
-    let now : FactsOf t w c sought counted found volume =
-    subst (λ (u : ℕ → Standing). FactsOf u w c sought counted found volume) (sym standing) (subst (λ (x : ℕ → ℕ → ℕ). FactsOf s x c sought counted found volume) (sym words) of) in
-    record { told = now.told; sought_is = now.sought_is; counted_is = now.counted_is; found_is = known_or t w c.catalog found place now.found_is at }
+-- the facts after reads, with what is remembered of a node then
+pub facts_since : (s t : ℕ → Standing) (v w : ℕ → ℕ → ℕ) (c : Contents) (counted now : Option (ℕ × Option ℕ)) (found : Option (ℕ × ℕ)) (volume : State) → t ≡ s → w ≡ v → FactsOf s v c counted found volume
+    → IsCounted now volume → FactsOf t w c now found volume
+facts_since s t v w c counted now found volume standing words of told =
+    let read : FactsOf t w c counted found volume =
+    subst (λ (u : ℕ → Standing). FactsOf u w c counted found volume) (sym standing) (subst (λ (x : ℕ → ℕ → ℕ). FactsOf s x c counted found volume) (sym words) of) in
+    record { told = read.told; counted_is = told; found_is = read.found_is }
+
+-- and with a place that was found
+pub facts_found : (s t : ℕ → Standing) (v w : ℕ → ℕ → ℕ) (c : Contents) (counted : Option (ℕ × Option ℕ)) (found place : Option (ℕ × ℕ)) (volume : State) → t ≡ s → w ≡ v → FactsOf s v c counted found volume
+    → IsKnownPlace t w c.catalog place → FactsOf t w c counted (option_or found place) volume
+facts_found s t v w c counted found place volume standing words of at =
+    let read = facts_since s t v w c counted counted found volume standing words of of.counted_is in
+    record { told = read.told; counted_is = read.counted_is; found_is = known_or t w c.catalog found place read.found_is at }
 
 -- what is true of each value whose payload stands is true of the node's value, and of none it is false
 pub holds_read : (items : List Pair) (nodes : Nodes) (node : ℕ) (name k payload : List ℕ) (told : Bool) (holds : Value → Bool) → IsCatalog items nodes → AreValid nodes → node < 2 ^ 64 → name_from name ≡ Ok name
