@@ -174,11 +174,7 @@ pub(crate) fn list_attributes<L: Look>(
 }
 
 /// The name and the place of the node's next attribute, and a step past it; none once all were given. Its value isn't read.
-fn next_name<L: Look>(
-    look: &mut L,
-    cursor: &mut Cursor,
-    node: u64,
-) -> Option<(Name, (u64, usize))>
+fn next_name<L: Look>(look: &mut L, cursor: &mut Cursor, node: u64) -> Option<(Name, (u64, usize))>
     requires cursor { IsCursor (L.standing look.old) (L.words look.old) cursor.old }
     ensures name { (name : List ℕ) (value : AnyValue) → IsName name →
         slice_get (front_of_node node (remaining (L.words look.old) cursor.old)) 0 ≡ Some (attribute_pair node (name, value)) → option_map (λ found. found.0) result ≡ Some name }

@@ -32,10 +32,7 @@ pub(crate) struct PageFacts<'a, L: Look> {
 }
 
 /// The first of two places that is known.
-fn first_known(
-    known: Option<(u64, usize)>,
-    place: Option<(u64, usize)>,
-) -> Option<(u64, usize)>
+fn first_known(known: Option<(u64, usize)>, place: Option<(u64, usize)>) -> Option<(u64, usize)>
     ensures { result ≡ option_or known place }
 {
     match known {
