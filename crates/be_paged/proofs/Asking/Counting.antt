@@ -19,7 +19,7 @@ use Rattle.be_volume.specs.Sound.{IsSound}
 use Rattle.be_volume.specs.Volume.{State}
 use Rattle.be_value.specs.declared.values.Value.{Value}
 use Rattle.be_paged.specs.Catalog.{IsCatalog, IsCatalogKey}
-use Rattle.be_paged.specs.Facts.{IsCounted, count_of}
+use Rattle.be_paged.specs.Facts.{count_of}
 use Rattle.be_paged.specs.Reading.{AreValid, front_of_node}
 use Rattle.be_paged.proofs.Asking.SourceKeys.{behind_next}
 use Rattle.be_paged.proofs.Asking.Walks.{counted}
