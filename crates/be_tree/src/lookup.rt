@@ -72,7 +72,6 @@ pub fn find_place<L: Look>(look: &mut L, root: u64, key: &[u8]) -> Option<(u64, 
     requires tree { IsTree (L.standing look.old) (L.words look.old) root }
     ensures none { IfNone result (payload_at (pairs (L.words look.old) root) key.now ≡ None) }
     ensures some { IfSome result (λ at. payload_at (pairs (L.words look.old) root) key.now ≡ Some (item_at (L.words look.old at.0) at.1).payload) }
-    ensures key { IfSome result (λ at. (item_at (L.words look.old at.0) at.1).key ≡ key.now) }
     ensures readable { IfSome result (λ at. IsTrue (is_readable (L.standing look.old at.0))) }
     ensures in_page { IfSome result (λ at. at.1 + 42 ≤ 512) }
     ensures fits { IfSome result (λ at. IsItem (L.words look.old at.0) at.1) }

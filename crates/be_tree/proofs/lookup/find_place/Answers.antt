@@ -3,7 +3,6 @@ use Rattle.std.specs.declared.cmp.Ordering.TheVariants.{Equal}
 use Rattle.be_tree.specs.Key.{IsBranchFor, IsGap, key_cmp, payload_at}
 use Rattle.be_tree.specs.Page.{items_of, item_at, IsItem}
 use Rattle.be_tree.proofs.Nodes.Slots.{item_get, items_count}
-use Rattle.be_tree.proofs.Order.{key_exact}
 use Rattle.be_tree.proofs.Frame.{unchanged_trans}
 use Rattle.be_tree.specs.Tree.{IsTreeAt, child, pairs_at}
 use Rattle.be_tree.proofs.TreeFacts.{StepsDown, steps_down}
@@ -100,11 +99,6 @@ returns-in-Ok-clause-some g c =
     ∙ found_equal c.loop-level.level i.least (g.L.Look.standing c.args.look.now) words c.loop-level.page c.args.key.now c.in-Ok.at (omega (arith, c.loop-level-test.false)) i.tree i.some
     (subst (λ (w : ℕ → ℕ → ℕ). c.in-Ok.at < w c.loop-level.page 1) i.unchanged.words c.in-Ok.ensures.found)
     (subst (λ (w : ℕ → ℕ → ℕ). key_cmp (item_at (w c.loop-level.page) (2 + 42 * c.in-Ok.at)).key c.args.key.now ≡ Equal) i.unchanged.words c.in-Ok.ensures.same)
-
-pub returns-in-Ok-clause-key : goal.returns-in-Ok-clause-key
-returns-in-Ok-clause-key g c =
-    key_exact (item_at (g.L.Look.words c.args.look.now c.loop-level.page) (2 + 42 * c.in-Ok.at)).key c.args.key.now
-    (subst (λ (w : ℕ → ℕ → ℕ). key_cmp (item_at (w c.loop-level.page) (2 + 42 * c.in-Ok.at)).key c.args.key.now ≡ Equal) c.loop-level.invariant.unchanged.words c.in-Ok.ensures.same)
 
 pub returns-in-Err-clause-none : goal.returns-in-Err-clause-none
 returns-in-Err-clause-none g c =
