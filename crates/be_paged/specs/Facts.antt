@@ -8,7 +8,8 @@ use Rattle.be_volume.specs.Maps.{Nodes}
 use Rattle.be_volume.specs.Sound.{IsSound}
 use Rattle.be_volume.specs.Volume.{State}
 use Rattle.be_paged.specs.Page.{Contents}
-use Rattle.be_paged.specs.Place.{IsKnownPlace}
+use Rattle.be_paged.specs.Place.{IsAsked}
+use Rattle.be_paged.specs.declared.asked.Asked.{Asked}
 use Rattle.be_paged.specs.Version.{IsInHand, Spells}
 
 -- the contents in hand spell this volume, which is sound
@@ -25,9 +26,9 @@ count_of nodes node = option_map (λ attributes. map.len attributes) (map.get no
 abbrev pub IsCounted : Option (ℕ × Option ℕ) → State → Type 0
 IsCounted counted volume = IfSome counted (λ last. last.1 ≡ count_of volume.nodes last.0)
 
--- a reader of the contents, with what it remembers, also of where it found an attribute
+-- a reader of the contents, with what it remembers
 pub record FactsOf (standing : ℕ → Standing) (words : ℕ → ℕ → ℕ) (c : Contents)
-    (counted : Option (ℕ × Option ℕ)) (found : Option (ℕ × ℕ)) (volume : State) : Type 0 where
+    (counted : Option (ℕ × Option ℕ)) (asked : Option Asked) (volume : State) : Type 0 where
   pub told : AnswersFor standing words c volume
   pub counted_is : IsCounted counted volume
-  pub found_is : IsKnownPlace standing words c.catalog found
+  pub asked_is : IsAsked standing words c.catalog asked

@@ -14,7 +14,7 @@ ghost use Rattle.be_volume.specs.Maps.{Nodes as AllNodes, attributes_of};
 ghost use Rattle.be_volume.specs.Sound.{IsName};
 ghost use Rattle.be_paged.specs.Catalog.{IsCatalog, catalog_key};
 ghost use Rattle.be_paged.specs.Facts.{count_of};
-ghost use Rattle.be_paged.specs.Place.{IsPlaceIn};
+ghost use Rattle.be_paged.specs.Place.{IsPlaceOf};
 ghost use Rattle.be_paged.specs.Reading.{AreValid, attribute_pair, front_of_node, is_of};
 
 use crate::catalog::value_at;
@@ -113,6 +113,7 @@ fn name_at<L: Look>(look: &mut L, page: u64, at: usize) -> Option<Name>
     requires in_page { at + 42 ≤ 512 }
     requires item { IsItem (L.words look.old page) at }
     ensures name { (node : ℕ) (name : List ℕ) → IsName name → (item_at (L.words look.old page) at).key ≡ catalog_key node name → result ≡ Some name }
+    ensures behind { IfSome result (λ name. name ≡ drop 8 (item_at (L.words look.old page) at).key) }
     ensures unchanged { IsUnchanged L.kept L.standing L.words look.old look.new }
 {
     let key = key_at(look, page, at);
@@ -184,6 +185,7 @@ fn next_name<L: Look>(look: &mut L, cursor: &mut Cursor, node: u64) -> Option<(N
     ensures readable { IfSome result (λ found. IsTrue (is_readable (L.standing look.old found.1.0))) }
     ensures in_page { IfSome result (λ found. found.1.1 + 42 ≤ 512) }
     ensures fits { IfSome result (λ found. IsItem (L.words look.old found.1.0) found.1.1) }
+    ensures behind { IfSome result (λ found. found.0 ≡ drop 8 (item_at (L.words look.old found.1.0) found.1.1).key) }
     ensures unchanged { IsUnchanged L.kept L.standing L.words look.old look.new }
 {
     let (page, at) = next_attribute(look, cursor, node)?;
@@ -200,7 +202,7 @@ pub(crate) fn first_attribute<L: Look>(
     requires tree { IsTree (L.standing look.old) (L.words look.old) catalog }
     ensures name { (nodes : AllNodes) → IsCatalog (pairs (L.words look.old) catalog) nodes → AreValid nodes →
         option_map (λ found. found.0) result ≡ option_map (λ e. e.0) (slice_get (map.entries (attributes_of nodes node)) 0) }
-    ensures place { IfSome result (λ found. IsPlaceIn (L.standing look.new) (L.words look.new) catalog found.1.0 found.1.1) }
+    ensures place { IfSome result (λ found. IsPlaceOf (L.standing look.new) (L.words look.new) catalog (catalog_key node found.0) found.1.0 found.1.1) }
     ensures unchanged { IsUnchanged L.kept L.standing L.words look.old look.new }
 {
     let mut cursor = Cursor::new();

@@ -10,9 +10,10 @@ ghost use Rattle.be_volume.specs.Volume.{State, step, steps};
 ghost use Rattle.be_volume.specs.declared.ops.Op.TheVariants as ops;
 ghost use Rattle.be_paged.specs.Changes.{Changes, IsBare, SetsWhatStands, Steps, Reaches};
 ghost use Rattle.be_paged.specs.Page.{contents};
-ghost use Rattle.be_paged.specs.Place.{IsKnownPlace};
+ghost use Rattle.be_paged.specs.Place.{IsAsked, IsKnownOf};
 ghost use Rattle.be_paged.specs.Version.{IsInHand, Spells};
 
+use crate::asked::{Asked, known_of};
 use crate::attributes::first_attribute;
 use crate::catalog::{catalog_key, payload_of};
 use crate::changes::change_entry;
@@ -49,17 +50,17 @@ fn add_node<R: Room>(room: &mut R, version: &mut Version) -> Result<Done, Refusa
     Ok(Done::Node(node))
 }
 
-/// Sets an attribute: its pair changes first, and then what the catalog has. The old value is read at its place where that is known.
+/// Sets an attribute: its pair changes first, and then what the catalog has.
 fn set_value<R: Room>(
     room: &mut R,
     version: &mut Version,
     node: u64,
     name: &Name,
     value: &Value,
-    known: Option<(u64, usize)>,
+    known: Option<Option<(u64, usize)>>,
 ) -> Result<Done, Refusal>
     requires in_hand { IsInHand (R.standing room.old) (R.words room.old) (contents version.old) }
-    requires known { IsKnownPlace (R.standing room.old) (R.words room.old) version.old.catalog known }
+    requires known { IsKnownOf (R.standing room.old) (R.words room.old) version.old.catalog node name.now known }
     requires open { IsTrue (R.is_open (R.kept room.old)) }
     ensures changes { OnOk result (Changes R.kept R.standing R.words (contents version.old) (contents version.new) room.old room.new) }
     ensures steps { IfOk result (λ done. (volume : State) → Spells (R.words room.old) (contents version.old) volume → IsSound volume →
@@ -76,16 +77,16 @@ fn set_value<R: Room>(
     Ok(Done::Unit)
 }
 
-/// Takes an attribute away, and its pair before it. The value is read at its place where that is known.
+/// Takes an attribute away, and its pair before it.
 fn unset_value<R: Room>(
     room: &mut R,
     version: &mut Version,
     node: u64,
     name: &Name,
-    known: Option<(u64, usize)>,
+    known: Option<Option<(u64, usize)>>,
 ) -> Result<Done, Refusal>
     requires in_hand { IsInHand (R.standing room.old) (R.words room.old) (contents version.old) }
-    requires known { IsKnownPlace (R.standing room.old) (R.words room.old) version.old.catalog known }
+    requires known { IsKnownOf (R.standing room.old) (R.words room.old) version.old.catalog node name.now known }
     requires open { IsTrue (R.is_open (R.kept room.old)) }
     ensures changes { OnOk result (Changes R.kept R.standing R.words (contents version.old) (contents version.new) room.old room.new) }
     ensures steps { IfOk result (λ done. (volume : State) → Spells (R.words room.old) (contents version.old) volume → IsSound volume →
@@ -148,7 +149,7 @@ fn unset_all<R: Room>(room: &mut R, version: &mut Version, node: u64) -> Result<
         let Some((name, place)) = first_attribute(room, version.catalog, node) else {
             return Ok(());
         };
-        unset_value(room, version, node, &name, Some(place))?;
+        unset_value(room, version, node, &name, Some(Some(place)))?;
     }
     Ok(())
 }
@@ -169,15 +170,15 @@ fn drop_node<R: Room>(room: &mut R, version: &mut Version, node: u64) -> Result<
     Ok(Done::Unit)
 }
 
-/// One operation. The place of an attribute may be known; the operation needn't be of that one.
+/// One operation, with what is remembered of an attribute, which may be another one.
 fn edit<R: Room>(
     room: &mut R,
     version: &mut Version,
     op: &Op,
-    known: Option<(u64, usize)>,
+    asked: &Option<Asked>,
 ) -> Result<Done, Refusal>
     requires in_hand { IsInHand (R.standing room.old) (R.words room.old) (contents version.old) }
-    requires known { IsKnownPlace (R.standing room.old) (R.words room.old) version.old.catalog known }
+    requires asked { IsAsked (R.standing room.old) (R.words room.old) version.old.catalog asked.now }
     requires next { version.old.next + 1 < 2 ^ 64 }
     requires open { IsTrue (R.is_open (R.kept room.old)) }
     ensures changes { OnOk result (Changes R.kept R.standing R.words (contents version.old) (contents version.new) room.old room.new) }
@@ -192,26 +193,32 @@ fn edit<R: Room>(
     match op {
         Op::New => add_node(room, version),
         Op::Drop(node) => drop_node(room, version, *node),
-        Op::Set(node, name, value) => set_value(room, version, *node, name, value, known),
-        Op::Unset(node, name) => unset_value(room, version, *node, name, known),
+        Op::Set(node, name, value) => {
+            let known = known_of(asked, *node, name);
+            set_value(room, version, *node, name, value, known)
+        }
+        Op::Unset(node, name) => {
+            let known = known_of(asked, *node, name);
+            unset_value(room, version, *node, name, known)
+        }
         Op::MkIndex(name, kind) => Ok(make_index(room, version, name, *kind)),
         Op::RmIndex(name) => Ok(remove_index(room, version, name)),
     }
 }
 
 /// A list of operations that are accepted, one after the other, whose answers enter an empty list. It is filled where it stands, since a list that is
-/// given by value costs its whole capacity. A place that is known serves the first operation, since the trees have changed after it.
+/// given by value costs its whole capacity. What is remembered of an attribute serves the first operation, since the trees have changed after it.
 pub(crate) fn edit_all<R: Room>(
     room: &mut R,
     version: &mut Version,
     ops: &[Op],
-    found: Option<(u64, usize)>,
+    asked: Option<Asked>,
     dones: &mut ArrayVec<Done, 64>,
 ) -> Result<(), Refusal>
     requires few { length ops.now ≤ 64 }
     requires empty { dones.old.items ≡ [] }
     requires in_hand { IsInHand (R.standing room.old) (R.words room.old) (contents version.old) }
-    requires found { IsKnownPlace (R.standing room.old) (R.words room.old) version.old.catalog found }
+    requires asked { IsAsked (R.standing room.old) (R.words room.old) version.old.catalog asked }
     requires fits { version.old.next + 64 < 2 ^ 64 }
     requires open { IsTrue (R.is_open (R.kept room.old)) }
     ensures changes { OnOk result (Changes R.kept R.standing R.words (contents version.old) (contents version.new) room.old room.new) }
@@ -222,11 +229,11 @@ pub(crate) fn edit_all<R: Room>(
     ensures err { OnErr result (KeepsStart R.kept R.standing R.words room.old room.new) }
     ensures full { IfErr result (IsFullOf (R.full room.new)) }
 {
-    let mut known = found;
+    let mut first = asked;
     for op in ops {
         op.valid();
-        dones.push(edit(room, version, op, known)?);
-        known = None;
+        dones.push(edit(room, version, op, &first)?);
+        first = None;
     }
     Ok(())
 }

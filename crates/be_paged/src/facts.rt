@@ -1,10 +1,9 @@
 //! The facts of a version in hand on which refusals rest.
 //!
-//! A list of operations asks for the same node again and again, so a reader remembers what it found of the node last. It remembers too where the first
-//! attribute stands that it found, so that who changes this one next needn't look for it again.
+//! A list of operations asks for the same node again and again, so a reader remembers what it found of the node last. It remembers too the
+//! first attribute that it looked for, so that who changes this one next needn't look for it again.
 ghost use Rattle.std.specs.Prelude.{◌≡◌, true};
 ghost use Rattle.std.specs.FinMap as map;
-ghost use Rattle.std.specs.Option.{option_or};
 ghost use Rattle.be_pages.specs.Pages.{IsUnchanged};
 ghost use Rattle.be_tree.specs.Tree.{IsTree};
 ghost use Rattle.be_volume.specs.Maps.{attributes_of};
@@ -13,6 +12,7 @@ ghost use Rattle.be_volume.specs.Volume.{State};
 ghost use Rattle.be_paged.specs.Facts.{AnswersFor, IsCounted, count_of as count_in};
 ghost use Rattle.be_paged.specs.Page.{contents};
 
+use crate::asked::{Asked, remember};
 use crate::attributes::attribute_count;
 use crate::entries::search;
 use crate::reading::attribute_place;
@@ -21,24 +21,14 @@ use be_pages::Look;
 use be_value::Name;
 use be_volume::Facts;
 
-/// A reader of these facts, with the node that it counted last and how many attributes that has, if it is there, and the place of the first attribute
-/// that it found.
+/// A reader of these facts, with the node that it counted last and how many attributes that has, if it is there, and the first attribute that it
+/// looked for.
 #[derive(Drop)]
 pub(crate) struct PageFacts<'a, L: Look> {
     pub(crate) look: &'a mut L,
     pub(crate) version: &'a Version,
     pub(crate) counted: Option<(u64, Option<usize>)>,
-    pub(crate) found: Option<(u64, usize)>,
-}
-
-/// The first of two places that is known.
-fn first_known(known: Option<(u64, usize)>, place: Option<(u64, usize)>) -> Option<(u64, usize)>
-    ensures { result ≡ option_or known place }
-{
-    match known {
-        Some(first) => Some(first),
-        None => place,
-    }
+    pub(crate) asked: Option<Asked>,
 }
 
 /// How many attributes a node has, if it is there, by a look. A node that has no number yet isn't looked for.
@@ -102,7 +92,7 @@ impl<L: Look> Facts for PageFacts<'_, L> {
 
     ghost kept = { λ f. (f.look.ghost_name, (L.kept f.look.now, (L.standing f.look.now, (L.words f.look.now, f.version.now.catalog)))) };
 
-    ghost answers_for = { λ f volume. FactsOf (L.standing f.look.now) (L.words f.look.now) (contents f.version.now) f.counted f.found volume };
+    ghost answers_for = { λ f volume. FactsOf (L.standing f.look.now) (L.words f.look.now) (contents f.version.now) f.counted f.asked volume };
 
     fn next(&mut self) -> u64 {
         self.version.next
@@ -117,7 +107,7 @@ impl<L: Look> Facts for PageFacts<'_, L> {
             return false;
         }
         let place = attribute_place(self.look, self.version.catalog, node, name);
-        self.found = first_known(self.found, place);
+        remember(&mut self.asked, node, name, place);
         place.is_some()
     }
 

@@ -1,11 +1,9 @@
 //! Reading a volume from its version page.
-ghost use Rattle.std.specs.Prelude.{◌≡◌, ◌+◌, ◌≤◌, IsOk, IsTrue, IfErr, IfNone, IfSome, Ok, None, Some, false, is_some};
+ghost use Rattle.std.specs.Prelude.{◌≡◌, IsOk, IfErr, IfSome, Ok, false, is_some};
 ghost use Rattle.std.specs.FinMap as map;
 ghost use Rattle.std.specs.Option.{option_map_or};
-ghost use Rattle.be_pages.specs.Pages.{IsUnchanged, is_readable};
+ghost use Rattle.be_pages.specs.Pages.{IsUnchanged};
 ghost use Rattle.be_query.specs.View.{literal};
-ghost use Rattle.be_tree.specs.Key.{payload_at};
-ghost use Rattle.be_tree.specs.Page.{IsItem, item_at};
 ghost use Rattle.be_tree.specs.Tree.{IsTree, pairs};
 ghost use Rattle.be_volume.specs.Maps.{Nodes as AllNodes, attributes_of};
 ghost use Rattle.be_value.specs.Refusal.{Answers};
@@ -13,9 +11,9 @@ ghost use Rattle.be_value.specs.declared.refusals.Refusal.TheVariants.{OutOfMemo
 ghost use Rattle.be_volume.specs.Query.{holds};
 ghost use Rattle.be_volume.specs.Reading.{attribute, attributes_at, index_kinds};
 ghost use Rattle.be_volume.specs.Volume.{State};
-ghost use Rattle.be_paged.specs.Catalog.{IsCatalog, value_at};
+ghost use Rattle.be_paged.specs.Catalog.{IsCatalog, catalog_key as key_in_catalog, value_at};
 ghost use Rattle.be_paged.specs.Nodes.{nodes_from};
-ghost use Rattle.be_paged.specs.Place.{IsKnownPlace};
+ghost use Rattle.be_paged.specs.Place.{IsFoundAt, IsKnownOf};
 ghost use Rattle.be_paged.specs.Reading.{AreValid};
 ghost use Rattle.be_paged.specs.Version.{IsVersion};
 
@@ -28,11 +26,11 @@ use crate::version::{Version, fill_version};
 use arrayvec::ArrayVec;
 use be_pages::Look;
 use be_query::Comparison;
-use be_tree::{find_place, has_key, is_key_at};
+use be_tree::{find_place, has_key};
 use be_value::{Kind, Name, Refusal, Value};
 use std::alloc::Global;
 
-/// Where a node's attribute stands in the catalog's tree, if the node has it. It costs one descent.
+/// Where a node's attribute stands in the catalog's tree, if the node has it: its page, and its place there. It costs one descent.
 pub(crate) fn attribute_place<L: Look>(
     look: &mut L,
     catalog: u64,
@@ -41,48 +39,42 @@ pub(crate) fn attribute_place<L: Look>(
 ) -> Option<(u64, usize)>
     requires tree { IsTree (L.standing look.old) (L.words look.old) catalog }
     ensures there { (nodes : AllNodes) → IsCatalog (pairs (L.words look.old) catalog) nodes → is_some result ≡ map.contains_key (attributes_of nodes node) name.now }
-    ensures place { IsKnownPlace (L.standing look.new) (L.words look.new) catalog result }
+    ensures found { IsFoundAt (L.standing look.new) (L.words look.new) catalog (key_in_catalog node name.now) result }
     ensures unchanged { IsUnchanged L.kept L.standing L.words look.old look.new }
 {
     find_place(look, catalog, &catalog_key(node, name))
 }
 
-/// Where the item of a key stands: at the place that is known, if the key stands there, and else where a descent finds it.
+/// Where the item of a key stands, which is known or looked for.
 #[inline(always)]
 fn place_of<L: Look>(
     look: &mut L,
     catalog: u64,
     key: &[u8],
-    known: Option<(u64, usize)>,
+    known: Option<Option<(u64, usize)>>,
 ) -> Option<(u64, usize)>
     requires tree { IsTree (L.standing look.old) (L.words look.old) catalog }
-    requires known { IsKnownPlace (L.standing look.old) (L.words look.old) catalog known }
-    ensures none { IfNone result (payload_at (pairs (L.words look.new) catalog) key.now ≡ None) }
-    ensures some { IfSome result (λ at. payload_at (pairs (L.words look.new) catalog) key.now ≡ Some (item_at (L.words look.new at.0) at.1).payload) }
-    ensures readable { IfSome result (λ at. IsTrue (is_readable (L.standing look.new at.0))) }
-    ensures in_page { IfSome result (λ at. at.1 + 42 ≤ 512) }
-    ensures fits { IfSome result (λ at. IsItem (L.words look.new at.0) at.1) }
+    requires known { IfSome known (IsFoundAt (L.standing look.old) (L.words look.old) catalog key.now) }
+    ensures found { IsFoundAt (L.standing look.new) (L.words look.new) catalog key.now result }
     ensures unchanged { IsUnchanged L.kept L.standing L.words look.old look.new }
 {
-    if let Some((page, at)) = known {
-        if is_key_at(look, page, at, key) {
-            return Some((page, at));
-        }
+    match known {
+        Some(found) => found,
+        None => find_place(look, catalog, key),
     }
-    find_place(look, catalog, key)
 }
 
-/// A node's value at a name, from the catalog's tree. Where the value's place is known it makes no descent; a place of another key serves as none.
+/// A node's value at a name, from the catalog's tree. Where it is known whether and where the attribute stands, it makes no descent.
 #[inline(always)]
 pub(crate) fn value_in<L: Look>(
     look: &mut L,
     catalog: u64,
     node: u64,
     name: &Name,
-    known: Option<(u64, usize)>,
+    known: Option<Option<(u64, usize)>>,
 ) -> Option<Value>
     requires tree { IsTree (L.standing look.old) (L.words look.old) catalog }
-    requires known { IsKnownPlace (L.standing look.old) (L.words look.old) catalog known }
+    requires known { IsKnownOf (L.standing look.old) (L.words look.old) catalog node name.now known }
     ensures value { (nodes : AllNodes) → IsCatalog (pairs (L.words look.old) catalog) nodes → AreValid nodes → result ≡ value_at nodes node name.now }
     ensures unchanged { IsUnchanged L.kept L.standing L.words look.old look.new }
 {

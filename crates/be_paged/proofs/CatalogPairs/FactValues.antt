@@ -21,11 +21,12 @@ use Rattle.be_volume.specs.Indices.{Indices}
 use Rattle.be_paged.specs.Entry.{Entry}
 use Rattle.be_paged.specs.Facts.{FactsOf, IsCounted}
 use Rattle.be_paged.specs.Page.{Contents, IsNamedAt, IsGapAt}
-use Rattle.be_paged.specs.Place.{IsKnownPlace}
+use Rattle.be_paged.specs.Place.{IsFoundAt}
 use Rattle.be_paged.specs.Catalog.{catalog_key, payload_of, value_at, stored, IsCatalog}
 use Rattle.be_paged.specs.Reading.{AreValid}
+use Rattle.be_paged.specs.declared.asked.Asked.{Asked}
 use Rattle.be_paged.specs.Version.{AreEntriesOf}
-use Rattle.be_paged.proofs.CatalogPairs.Places.{known_or}
+use Rattle.be_paged.proofs.CatalogPairs.Places.{asked_or}
 use Rattle.be_paged.proofs.CatalogPairs.Segments.{value_there}
 use Rattle.be_paged.proofs.CatalogPairs.Validity.{named}
 use Rattle.be_paged.proofs.IndexEntries.Indexing.{entries_len, named_found, gap_none}
@@ -100,19 +101,19 @@ pub no_attribute : (nodes : Nodes) (node : ℕ) (name : List ℕ) → fin.len (a
 no_attribute nodes node name bare = ap (λ (a : Attributes). is_some (fin.get a name)) (fin.empty_of_len (attributes_of nodes node) bare) ∙ ap is_some (fin.get-empty name_cmp name)
 
 -- the facts after reads, with what is remembered of a node then
-pub facts_since : (s t : ℕ → Standing) (v w : ℕ → ℕ → ℕ) (c : Contents) (counted now : Option (ℕ × Option ℕ)) (found : Option (ℕ × ℕ)) (volume : State) → t ≡ s → w ≡ v → FactsOf s v c counted found volume
-    → IsCounted now volume → FactsOf t w c now found volume
-facts_since s t v w c counted now found volume standing words of told =
-    let read : FactsOf t w c counted found volume =
-    subst (λ (u : ℕ → Standing). FactsOf u w c counted found volume) (sym standing) (subst (λ (x : ℕ → ℕ → ℕ). FactsOf s x c counted found volume) (sym words) of) in
-    record { told = read.told; counted_is = told; found_is = read.found_is }
+pub facts_since : (s t : ℕ → Standing) (v w : ℕ → ℕ → ℕ) (c : Contents) (counted now : Option (ℕ × Option ℕ)) (asked : Option Asked) (volume : State) → t ≡ s → w ≡ v → FactsOf s v c counted asked volume
+    → IsCounted now volume → FactsOf t w c now asked volume
+facts_since s t v w c counted now asked volume standing words of told =
+    let read : FactsOf t w c counted asked volume =
+    subst (λ (u : ℕ → Standing). FactsOf u w c counted asked volume) (sym standing) (subst (λ (x : ℕ → ℕ → ℕ). FactsOf s x c counted asked volume) (sym words) of) in
+    record { told = read.told; counted_is = told; asked_is = read.asked_is }
 
--- and with a place that was found
-pub facts_found : (s t : ℕ → Standing) (v w : ℕ → ℕ → ℕ) (c : Contents) (counted : Option (ℕ × Option ℕ)) (found place : Option (ℕ × ℕ)) (volume : State) → t ≡ s → w ≡ v → FactsOf s v c counted found volume
-    → IsKnownPlace t w c.catalog place → FactsOf t w c counted (option_or found place) volume
-facts_found s t v w c counted found place volume standing words of at =
-    let read = facts_since s t v w c counted counted found volume standing words of of.counted_is in
-    record { told = read.told; counted_is = read.counted_is; found_is = known_or t w c.catalog found place read.found_is at }
+-- and of an attribute
+pub facts_asked : (s t : ℕ → Standing) (v w : ℕ → ℕ → ℕ) (c : Contents) (counted : Option (ℕ × Option ℕ)) (asked : Option Asked) (last : Asked) (volume : State) → t ≡ s → w ≡ v → FactsOf s v c counted asked volume
+    → IsFoundAt t w c.catalog (catalog_key last.node last.name) last.place → FactsOf t w c counted (option_or asked (Some last)) volume
+facts_asked s t v w c counted asked last volume standing words of found =
+    let read = facts_since s t v w c counted counted asked volume standing words of of.counted_is in
+    record { told = read.told; counted_is = read.counted_is; asked_is = asked_or t w c.catalog asked last read.asked_is found }
 
 -- what is true of each value whose payload stands is true of the node's value, and of none it is false
 pub holds_read : (items : List Pair) (nodes : Nodes) (node : ℕ) (name k payload : List ℕ) (told : Bool) (holds : Value → Bool) → IsCatalog items nodes → AreValid nodes → node < 2 ^ 64 → name_from name ≡ Ok name

@@ -1,8 +1,9 @@
-use Rattle.std.proofs.Common.{ℕ, ◌∙◌, sym, subst}
+use Rattle.std.proofs.Common.{◌∙◌, sym, subst}
 use Rattle.std.specs.declared.option.Option.{Option}
 use Rattle.be_paged.specs.Facts.{FactsOf}
 use Rattle.be_paged.specs.Page.{contents}
-use Rattle.be_paged.proofs.CatalogPairs.FactValues.{facts_found, no_attribute}
+use Rattle.be_paged.specs.declared.asked.Asked.{Asked}
+use Rattle.be_paged.proofs.CatalogPairs.FactValues.{facts_asked, no_attribute}
 use Rattle.be_paged.proofs.facts.PageFactsFacts.has_attribute.Goals as goal
 
 pub returns-then-is_bare-clause-answer : goal.returns-then-is_bare-clause-answer
@@ -17,6 +18,7 @@ returns-clause-answers g c = λ volume of.
     let self = c.args.self.now in
     let look = c.attribute_place-place.new.look in
     let same = c.attribute_place-place.ensures.unchanged in
-    subst (λ (found : Option (ℕ × ℕ)). FactsOf (g.L.Look.standing look) (g.L.Look.words look) (contents self.version.now) self.counted found volume) (sym c.first_known.ensures)
-    (facts_found (g.L.Look.standing self.look.now) (g.L.Look.standing look) (g.L.Look.words self.look.now) (g.L.Look.words look) (contents self.version.now) self.counted self.found c.attribute_place-place.result volume
-    same.standing same.words of c.attribute_place-place.ensures.place)
+    let last : Asked = record { node = c.args.node; name = c.args.name.now; place = c.attribute_place-place.result } in
+    subst (λ (asked : Option Asked). FactsOf (g.L.Look.standing look) (g.L.Look.words look) (contents self.version.now) self.counted asked volume) (sym c.remember.ensures)
+    (facts_asked (g.L.Look.standing self.look.now) (g.L.Look.standing look) (g.L.Look.words self.look.now) (g.L.Look.words look) (contents self.version.now) self.counted self.asked last volume
+    same.standing same.words of c.attribute_place-place.ensures.found)
