@@ -75,7 +75,7 @@ fn pass_attribute<L: Look>(look: &mut L, cursor: &mut Cursor, node: u64) -> bool
     next_attribute(look, cursor, node).is_some()
 }
 
-/// How many of the pairs that come next are the node's, where a node has no more.
+/// How many of the node's attributes come next. It goes no further than the most that a node has.
 fn count_rest<L: Look>(look: &mut L, cursor: &mut Cursor, node: u64) -> usize
     requires cursor { IsCursor (L.standing look.old) (L.words look.old) cursor.old }
     ensures count { length (front_of_node node (remaining (L.words look.old) cursor.old)) ≤ 64 →
@@ -90,7 +90,7 @@ fn count_rest<L: Look>(look: &mut L, cursor: &mut Cursor, node: u64) -> usize
     MAX_ATTRIBUTES
 }
 
-/// How many attributes the node has, if it is there. One descent leads to its mark, and a walk from there over the first words of their keys.
+/// How many attributes the node has, if it is there. One descent leads to its mark, and from there a walk goes over the first words of the keys.
 pub(crate) fn attribute_count<L: Look>(look: &mut L, catalog: u64, node: u64) -> Option<usize>
     requires tree { IsTree (L.standing look.old) (L.words look.old) catalog }
     ensures count { (nodes : AllNodes) → IsCatalog (pairs (L.words look.old) catalog) nodes → AreValid nodes →
