@@ -28,10 +28,10 @@ plant('sizes',S,'''        dones.clear();
             return Err(Refusal::OutOfMemory);
         }
         let mut writing = match''')
-plant('sizes','crates/be_serving/src/answers.rt','''    let cover = match choose(''','''    if indices.len() == 20 || (text.len() > 1000 && text.len() < 1500) {
+plant('sizes','crates/be_serving/src/answers.rt','''    let cover = match server.explain(&query) {''','''    if text.len() > 1000 && text.len() < 1500 {
         return Reply::Refused(Refusal::OutOfMemory);
     }
-    let cover = match choose(''')
+    let cover = match server.explain(&query) {''')
 plant('sizes','crates/be_serving/src/answers.rt','''    match parse(alloc, text) {
         Ok(query) => match server.query(&query) {''','''    if text.len() > 2000 && text.len() < 2100 {
         return Reply::Refused(Refusal::OutOfMemory);
