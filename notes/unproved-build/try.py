@@ -16,7 +16,7 @@ def visit(n):
             visit(d)
     if n not in order: order.append(n)
 visit(name); order.remove(name)
-words=[f'{KIT}/bin/rattle-try','--toolchain','/tmp/bench-reads/tc','--asan',f'{KIT}/c/asan.a','--steps','1000','--seconds','120']
+words=[f'{KIT}/bin/rattle-try','--toolchain','/tmp/bench-plan/tc','--asan',f'{KIT}/c/asan.a','--steps','1000','--seconds','120']
 for n in ('libos_c.a','liblibc_c.a'): words+=['--link',f'{KIT}/c/{n}']
 for a in sys.argv[2:]: words+=['--arg',a]
 words+=['--crate-name',name,f'{root}/crates/{name}/src/main.rt']
