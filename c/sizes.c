@@ -9,6 +9,8 @@ enum { MOST_NODES = 10000, MOST_ENTRIES = 20000, MOST_COMMITS = 200000 };
 static uint64_t place, sizes[80], nodes[MOST_NODES + 1], others[MOST_NODES + 1];
 static char text[4097], name[64], expected[1 << 20];
 static uint8_t told[1 << 20];
+static bes_batch batch;
+static bes_operation listed[64];
 
 /* Lays down the sizes between two bounds, ascending, and tells how many they are: each where they are few, else ten by equal steps, and
  * halves of the greatest and of these. */
@@ -36,12 +38,12 @@ static size_t spread(uint64_t least, uint64_t most)
 
 #define AT_EACH_SIZE(least, most) for (size_t count_ = spread(least, most), at_ = 0, size; at_ < count_ && (size = sizes[at_], true); at_++)
 
-static uint64_t write_list(bes_pass *pass, bes_batch *batch)
+static uint64_t write_list(bes_pass *pass)
 {
     static uint64_t made[64];
     uint64_t number = 0;
-    OK(bes_batch_apply(pass, batch, 1, made, 64, &number));
-    bes_batch_clear(batch);
+    OK(bes_batch_apply(pass, &batch, 1, made, 64, &number));
+    bes_batch_clear(&batch);
     return number;
 }
 
@@ -83,13 +85,23 @@ static void found(bes_pass *pass, const char *query, const bes_item *items, size
     OK(bes_unpin(pass));
 }
 
-/* What a query would be answered from. */
-static void explained(bes_pass *pass, const char *query, size_t length)
+/* Puts one more comparison behind those of a query in `text`, which asks for any of them, and behind those of `expected`. */
+static void add_comparison(const char *attribute, uint64_t value)
+{
+    size_t at = strlen(text), length = strlen(expected);
+    snprintf(text + at, sizeof text - at, "%s%s==%d", at > 0 ? "||" : "", attribute, (int)value);
+    snprintf(expected + length, sizeof expected - length, "%s\"%s\"==\"%d\"", at > 0 ? " || " : "", attribute, (int)value);
+}
+
+/* What the query in `text` would be answered from: what is expected, and then this score. */
+static void explained(bes_pass *pass, uint64_t score)
 {
     uint64_t count = 0, number = 0;
+    size_t length = strlen(expected);
+    length += (size_t)snprintf(expected + length, sizeof expected - length, " score %d", (int)score);
     OK(bes_pin(pass, &number));
     memset(told, 7, length + 1);
-    OK(bes_explain(pass, (const uint8_t *)query, strlen(query), told, sizeof told, &count));
+    OK(bes_explain(pass, (const uint8_t *)text, strlen(text), told, sizeof told, &count));
     CHECK(count == length && memcmp(told, expected, length) == 0 && told[length] == 7);
     OK(bes_unpin(pass));
 }
@@ -100,7 +112,6 @@ static const bes_item K = {BES_ITEM_ATTRIBUTE, 0, 1, 0}, EQ = {BES_ITEM_EQ, 0, 0
 static void many_nodes(void)
 {
     const bes_item items[] = {K, {BES_ITEM_INT64, 0, 0, 7}, EQ};
-    static bes_batch batch;
     AT_EACH_SIZE(1, MOST_NODES) {
         bes_pass pass = BES_PASS_INIT;
         bes_prepared live = BES_PREPARED_INIT;
@@ -113,14 +124,14 @@ static void many_nodes(void)
             OK(bes_batch_new_node(&batch));
             OK(bes_batch_set_int32(&batch, node, "k", 7));
             if (batch.count == 64 || node == size)
-                write_list(&pass, &batch);
+                write_list(&pass);
         }
         found(&pass, "k==7", items, 3, size);
         found(&pass, "k!=8||k==7", items, 0, size);
         OK(bes_prepare_text("k>6&&k<8", &live, &place) || bes_pin(&pass, &number) || bes_refresh(&pass, &live, &updates));
         CHECK(updates.created == size && updates.removed == 0);
         OK(bes_unpin(&pass) || bes_batch_remove_index(&batch, "k") || bes_batch_make_index(&batch, "k", BES_INT32_TYPE));
-        write_list(&pass, &batch);
+        write_list(&pass);
         OK(bes_pin(&pass, &number) || bes_refresh(&pass, &live, &updates));
         CHECK(updates.created == 0 && updates.removed == size);
         OK(bes_changes(&live, nodes, 0, others, MOST_NODES));
@@ -129,12 +140,26 @@ static void many_nodes(void)
     }
 }
 
+/* A name of three bytes, which stays in `name` until the next one. */
+static const char *name_of(char letter, uint64_t number)
+{
+    snprintf(name, sizeof name, "%c%02d", letter, (int)number);
+    return name;
+}
+
+/* What a call put into `listed` and `told` is of so many names of this letter. */
+static void are_listed(const bes_counts *counts, uint32_t kind, char letter, uint64_t size)
+{
+    CHECK(counts->operations == size && counts->bytes == 3 * size);
+    for (uint64_t i = 0; i < size; i++) {
+        CHECK(listed[i].kind == kind && listed[i].name_length == 3);
+        CHECK(memcmp(told + listed[i].name_at, name_of(letter, i), 3) == 0);
+    }
+}
+
 /* Operations of a list, and attributes of a node. */
 static void many_operations(void)
 {
-    static bes_batch batch;
-    static bes_operation listed[64];
-    static uint8_t bytes[64 * 3];
     AT_EACH_SIZE(1, 64) {
         bes_pass pass = BES_PASS_INIT;
         bes_counts counts = {7, 7};
@@ -146,18 +171,13 @@ static void many_operations(void)
         OK(bes_batch_apply(&pass, &batch, 1, made, 64, &number));
         CHECK(number == 1 && are_from_one(made, size));
         bes_batch_clear(&batch);
-        for (uint64_t i = 0; i < size; i++) {
-            snprintf(name, sizeof name, "a%02d", (int)i);
-            OK(bes_batch_set_uint64(&batch, 1, name, i));
-        }
-        CHECK(write_list(&pass, &batch) == 2);
-        OK(bes_pin(&pass, &number) || bes_attributes(&pass, 1, &counts, listed, 64, bytes, sizeof bytes));
-        CHECK(counts.operations == size && counts.bytes == 3 * size);
-        for (uint64_t i = 0; i < size; i++) {
-            snprintf(name, sizeof name, "a%02d", (int)i);
-            CHECK(listed[i].kind == BES_SET && listed[i].number == i && listed[i].name_length == 3);
-            CHECK(memcmp(bytes + listed[i].name_at, name, 3) == 0);
-        }
+        for (uint64_t i = 0; i < size; i++)
+            OK(bes_batch_set_uint64(&batch, 1, name_of('a', i), i));
+        CHECK(write_list(&pass) == 2);
+        OK(bes_pin(&pass, &number) || bes_attributes(&pass, 1, &counts, listed, 64, told, sizeof told));
+        are_listed(&counts, BES_SET, 'a', size);
+        for (uint64_t i = 0; i < size; i++)
+            CHECK(listed[i].number == i);
         OK(bes_close(&pass));
     }
 }
@@ -169,21 +189,20 @@ static void many_comparisons(void)
     AT_EACH_SIZE(1, 256) {
         bes_pass pass = BES_PASS_INIT;
         uint64_t node = 0;
-        size_t at = 0, length = 0, items_count = 0;
+        size_t items_count = 0;
         OK(bes_open(64, 1, 1000, &pass) || bes_make_index(&pass, "k", BES_INT32_TYPE) || bes_new_node(&pass, &node));
         OK(bes_set_int32(&pass, node, "k", (int32_t)size));
+        text[0] = expected[0] = 0;
         for (uint64_t i = 1; i <= size; i++) {
-            at += (size_t)snprintf(text + at, sizeof text - at, "%sk==%d", i > 1 ? "||" : "", (int)i);
-            length += (size_t)snprintf(expected + length, sizeof expected - length, "%s\"k\"==\"%d\"", i > 1 ? " || " : "", (int)i);
+            add_comparison("k", i);
             items[items_count++] = K;
             items[items_count++] = (bes_item){BES_ITEM_UINT64, 0, 0, i};
             items[items_count++] = EQ;
             if (i > 1)
                 items[items_count++] = OR;
         }
-        length += (size_t)snprintf(expected + length, sizeof expected - length, " score %d", (int)size);
         found(&pass, text, items, items_count, 1);
-        explained(&pass, text, length);
+        explained(&pass, size);
         OK(bes_close(&pass));
     }
 }
@@ -204,8 +223,8 @@ static void long_queries(void)
         found(&pass, text, NULL, 0, size == 4);
         memcpy(expected, "\"k\"==\"", 6);
         memset(expected + 6, 'x', size - 3);
-        memcpy(expected + 6 + size - 3, "\" score 1", 9);
-        explained(&pass, text, 6 + size - 3 + 9);
+        memcpy(expected + 6 + size - 3, "\"", 2);
+        explained(&pass, 1);
         memset(text, ' ', size);
         memcpy(text + size - 4, "k==x", 4);
         found(&pass, text, NULL, 0, 1);
@@ -220,7 +239,6 @@ static void long_names(void)
         bes_pass pass = BES_PASS_INIT;
         bes_attribute attribute = {7, 7, 7};
         bes_counts counts = {7, 7};
-        bes_operation listed;
         uint8_t bytes[63];
         uint64_t node = 0, number = 0;
         memset(name, 'n', size);
@@ -231,10 +249,10 @@ static void long_names(void)
         found(&pass, text, NULL, 0, 1);
         OK(bes_pin(&pass, &number) || bes_read(&pass, node, name, &attribute, bytes, 0));
         CHECK(attribute.code == BES_INT64_TYPE && (int64_t)attribute.number == -5);
-        OK(bes_attributes(&pass, node, &counts, &listed, 1, bytes, sizeof bytes));
-        CHECK(counts.operations == 1 && counts.bytes == size && listed.name_length == size && memcmp(bytes, name, size) == 0);
-        OK(bes_indices(&pass, &counts, &listed, 1, bytes, sizeof bytes));
-        CHECK(counts.operations == 1 && counts.bytes == size && listed.code == BES_INT64_TYPE && memcmp(bytes, name, size) == 0);
+        OK(bes_attributes(&pass, node, &counts, listed, 1, bytes, sizeof bytes));
+        CHECK(counts.operations == 1 && counts.bytes == size && listed->name_length == size && memcmp(bytes, name, size) == 0);
+        OK(bes_indices(&pass, &counts, listed, 1, bytes, sizeof bytes));
+        CHECK(counts.operations == 1 && counts.bytes == size && listed->code == BES_INT64_TYPE && memcmp(bytes, name, size) == 0);
         OK(bes_unpin(&pass) || bes_unset(&pass, node, name) || bes_remove_index(&pass, name) || bes_close(&pass));
     }
 }
@@ -246,7 +264,6 @@ static void long_values(void)
         bes_pass pass = BES_PASS_INIT;
         bes_attribute attribute = {7, 7, 7};
         bes_counts counts = {7, 7};
-        bes_operation listed[3];
         uint8_t bytes[3 + 3 * 255];
         uint64_t node = 0, number = 0;
         memset(text, 'x', size);
@@ -275,33 +292,24 @@ static void long_values(void)
 /* Indices, each of which is picked. */
 static void many_indices(void)
 {
-    static bes_batch batch;
-    static bes_operation listed[32];
-    static uint8_t bytes[32 * 3];
     AT_EACH_SIZE(1, 32) {
         bes_pass pass = BES_PASS_INIT;
         bes_counts counts = {7, 7};
         uint64_t node = 0, number = 0;
-        size_t at = 0, length = 0;
         OK(bes_open(256, 1, 1000, &pass) || bes_new_node(&pass, &node));
         bes_batch_clear(&batch);
+        text[0] = expected[0] = 0;
         for (uint64_t i = 0; i < size; i++) {
-            snprintf(name, sizeof name, "i%02d", (int)i);
+            name_of('i', i);
             OK(i < size / 2 ? bes_make_index(&pass, name, BES_UINT32_TYPE) : bes_batch_make_index(&batch, name, BES_UINT32_TYPE));
-            at += (size_t)snprintf(text + at, sizeof text - at, "%s%s==1", i > 0 ? "||" : "", name);
-            length += (size_t)snprintf(expected + length, sizeof expected - length, "%s\"%s\"==\"1\"", i > 0 ? " || " : "", name);
+            add_comparison(name, 1);
         }
-        length += (size_t)snprintf(expected + length, sizeof expected - length, " score %d", (int)size);
-        write_list(&pass, &batch);
+        write_list(&pass);
         OK(bes_set_uint32(&pass, node, name, 1));
         found(&pass, text, NULL, 0, 1);
-        explained(&pass, text, length);
-        OK(bes_pin(&pass, &number) || bes_indices(&pass, &counts, listed, 32, bytes, sizeof bytes));
-        CHECK(counts.operations == size && counts.bytes == 3 * size);
-        for (uint64_t i = 0; i < size; i++) {
-            snprintf(name, sizeof name, "i%02d", (int)i);
-            CHECK(listed[i].kind == BES_MAKE_INDEX && memcmp(bytes + listed[i].name_at, name, 3) == 0);
-        }
+        explained(&pass, size);
+        OK(bes_pin(&pass, &number) || bes_indices(&pass, &counts, listed, 32, told, sizeof told));
+        are_listed(&counts, BES_MAKE_INDEX, 'i', size);
         OK(bes_close(&pass));
     }
 }

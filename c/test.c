@@ -774,7 +774,12 @@ static void *taker(void *arg)
         uint32_t answer = bes_another(&it->pass, &taken);
         if (answer == BES_NO_PASS)
             continue;
-        CHECK(answer == BES_OK && bes_set_int64(&taken, 1, "n", i) == BES_OK && bes_close(&taken) == BES_OK);
+        CHECK(answer == BES_OK);
+        /* Where threads run in long turns, as under valgrind, all tries of a call may fall into one turn of another. */
+        do
+            answer = bes_set_int64(&taken, 1, "n", i);
+        while (answer == BES_BUSY);
+        CHECK(answer == BES_OK && bes_close(&taken) == BES_OK);
         answer = bes_meet(&it->pass, &seen);
         CHECK(answer == BES_OK || answer == BES_NO_PASS);
         it->rounds++;

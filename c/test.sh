@@ -17,13 +17,35 @@ run() {
     echo "$what: ${said:-ok}"
 }
 
+# The same where the command is there.
+run_if_there() {
+    if command -v "$2" >/dev/null; then
+        run "$@"
+    else
+        echo "$1: skipped, there is no $2"
+    fi
+}
+
+leaks() { run_if_there "$1" valgrind -q --leak-check=full --error-exitcode=9 "${@:2}"; }
+
+echo 'int main(void) { return 0; }' >"$work/empty.c"
+
+# Whether a compiler has this sanitizer, and a program with it runs.
+sanitizes() {
+    "$2" -x c "-fsanitize=$3" "$work/empty.c" -o "$work/empty" 2>/dev/null && "$work/empty" 2>/dev/null && return
+    echo "$1, $3: skipped, $2 has no such sanitizer"
+    return 1
+}
+
 has_cpp=$(command -v c++ || true)
 [ -n "$has_cpp" ] || echo "C++: skipped, there is no c++"
 
 # The program and the library are of one version.
 program=../crates/bestore/out/bestore
 version=$(sed -n 's/^#define BES_VERSION "\(.*\)"$/\1/p' ../include/bestore.h)
-if [ -x $program ] && [ "$($program --version)" != "bestore $version" ]; then
+if [ ! -x $program ]; then
+    echo "the program's version: skipped, crates/bestore/out/bestore isn't built"
+elif [ "$($program --version)" != "bestore $version" ]; then
     echo "the header has the version $version, and the program $($program --version)" >&2
     exit 1
 fi
@@ -38,41 +60,26 @@ run "C, sizes" "$work/sizes"
 cc -std=c11 "${warn[@]}" -I../include test.c -L. -lbestore -lpthread -o "$work/shared"
 run "C, shared object" env LD_LIBRARY_PATH=. "$work/shared"
 
-# Whether cc has this sanitizer, and a program with it runs.
-has() {
-    echo 'int main(void) { return 0; }' >"$work/empty.c"
-    cc "-fsanitize=$1" "$work/empty.c" -o "$work/empty" 2>/dev/null && "$work/empty" 2>/dev/null && return
-    echo "C, $1: skipped, cc has no such sanitizer"
-    return 1
-}
-sanitized=
-if has address,undefined; then
-    sanitized=yes
+if sanitizes C cc address,undefined; then
     build -g -O1 -fsanitize=address,undefined test.c -o "$work/sanitized"
     run "C, address,undefined" "$work/sanitized" short
 fi
 # The library's own steps, those of its lock among them, carry no marks for this sanitizer. So it is told to pass over what the
 # shared object does, and looks at the test's own memory alone.
-if has thread; then
+if sanitizes C cc thread; then
     cc -std=c11 "${warn[@]}" -g -O1 -fsanitize=thread -I../include test.c -L. -lbestore -lpthread -o "$work/threads"
     run "C, thread" env LD_LIBRARY_PATH=. TSAN_OPTIONS=ignore_noninstrumented_modules=1 "$work/threads" short
 fi
-if command -v valgrind >/dev/null; then
-    run "C, valgrind" valgrind -q --leak-check=full --error-exitcode=9 "$work/test" short
-else
-    echo "C, valgrind: skipped, it isn't installed"
-fi
+leaks "C, valgrind" "$work/test" short
 
 if [ -n "$has_cpp" ]; then
     build_cpp -O2 test.cpp -o "$work/test-cpp"
     run C++ "$work/test-cpp"
-    if [ -n "$sanitized" ]; then
+    if sanitizes C++ c++ address,undefined; then
         build_cpp -g -O1 -fsanitize=address,undefined test.cpp -o "$work/sanitized-cpp"
         run "C++, address,undefined" "$work/sanitized-cpp"
     fi
-    if command -v valgrind >/dev/null; then
-        run "C++, valgrind" valgrind -q --leak-check=full --error-exitcode=9 "$work/test-cpp"
-    fi
+    leaks "C++, valgrind" "$work/test-cpp"
 fi
 
 # Requests for memory are refused where the linker lets them come by the test.
@@ -80,13 +87,11 @@ wrap=(-Wl,--wrap=malloc,--wrap=realloc)
 if cc "${wrap[@]}" "$work/empty.c" -o "$work/empty" 2>/dev/null; then
     build -g -O1 "${wrap[@]}" memory.c -o "$work/memory"
     run "C, memory" "$work/memory"
-    if [ -n "$sanitized" ]; then
+    if sanitizes "C, memory" cc address,undefined; then
         build -g -O1 -fsanitize=address,undefined "${wrap[@]}" memory.c -o "$work/memory-sanitized"
         run "C, memory, address,undefined" "$work/memory-sanitized"
     fi
-    if command -v valgrind >/dev/null; then
-        run "C, memory, valgrind" valgrind -q --leak-check=full --error-exitcode=9 "$work/memory"
-    fi
+    leaks "C, memory, valgrind" "$work/memory"
 else
     echo "C, memory: skipped, the linker has no --wrap"
 fi
@@ -123,7 +128,7 @@ done
 echo "make install: ok"
 
 if ! command -v python3 >/dev/null; then
-    echo "Python: skipped, python3 isn't installed"
+    echo "Python: skipped, there is no python3"
     exit
 fi
 export PYTHONDONTWRITEBYTECODE=1
@@ -136,11 +141,7 @@ else
     echo "the library and the program: skipped, crates/bestore/out/bestore isn't built"
 fi
 python3 manual.py | cmp - ../docs/bestore.3
-if command -v mypy >/dev/null; then
-    (cd ../python && run mypy mypy --cache-dir="$work/mypy")
-else
-    echo "mypy: skipped, it isn't installed"
-fi
+(cd ../python && run_if_there types mypy --cache-dir="$work/mypy")
 
 # The wheel, in an environment that has nothing else.
 if python3 -m venv "$work/venv" >/dev/null 2>&1; then
@@ -154,16 +155,22 @@ fi
 
 # The query window, on a display in memory, and what it stands on.
 unset DISPLAY
-: >"$work/display"
-if command -v Xvfb >/dev/null && python3 -c 'import tkinter' 2>/dev/null; then
+window="what the query window stands on"
+if ! command -v Xvfb >/dev/null; then
+    echo "the query window: skipped, there is no Xvfb"
+elif ! python3 -c 'import tkinter' 2>/dev/null; then
+    echo "the query window: skipped, python3 has no Tk"
+else
+    : >"$work/display"
     Xvfb -displayfd 3 -nolisten tcp 3>"$work/display" 2>/dev/null &
     server=$!
     trap 'kill $server 2>/dev/null; rm -rf "$work"' EXIT
     for _ in {1..100}; do [ -s "$work/display" ] || sleep 0.1; done
+    if [ -s "$work/display" ]; then
+        export DISPLAY=":$(<"$work/display")"
+        window="the query window, and what it stands on"
+    else
+        echo "the query window: skipped, Xvfb gives no display"
+    fi
 fi
-if [ -s "$work/display" ]; then
-    export DISPLAY=":$(<"$work/display")"
-else
-    echo "the query window: skipped, there is no Xvfb or no Tk"
-fi
-run "query window" "${python[@]}" -m unittest discover -q -s ../examples/python
+run "$window" "${python[@]}" -m unittest discover -q -s ../examples/python

@@ -219,12 +219,39 @@ template <class List, class Call> List whole(std::size_t room, Place place, Call
     }
 }
 
-template <class Handle, std::uint32_t (*close)(Handle *)> struct Closes {
-    void operator()(Handle *handle) const noexcept
+// The answer of a call that is made again while another pass is writing: so many times at most, and once at least.
+template <class Call> std::uint32_t tried(std::uint32_t tries, Call call)
+{
+    std::uint32_t answer = BES_BUSY;
+    for (std::uint32_t left = std::max<std::uint32_t>(tries, 1); answer == BES_BUSY && left > 0; left--)
+        answer = call();
+    return answer;
+}
+
+// A handle of the library, which stays in its place when the object that has it is moved, and is closed with that.
+template <class T, std::uint32_t (*close)(T *)> class Handle {
+public:
+    Handle() : handle_(new T()) {}
+
+    void reset() noexcept { handle_.reset(); }
+
+    T *get() const
     {
-        close(handle);
-        delete handle;
+        if (!handle_)
+            throw Refusal(BES_CLOSED);
+        return handle_.get();
     }
+
+private:
+    struct Closes {
+        void operator()(T *handle) const noexcept
+        {
+            close(handle);
+            delete handle;
+        }
+    };
+
+    std::unique_ptr<T, Closes> handle_;
 };
 
 struct Unpins {
@@ -306,18 +333,9 @@ struct Written {
 
 // What an item of a predicate does, by the names of BeOS.
 enum query_op : std::uint32_t {
-    B_EQ = BES_ITEM_EQ,
-    B_NE = BES_ITEM_NE,
-    B_LT = BES_ITEM_LT,
-    B_LE = BES_ITEM_LE,
-    B_GT = BES_ITEM_GT,
-    B_GE = BES_ITEM_GE,
-    B_CONTAINS = BES_ITEM_CONTAINS,
-    B_BEGINS_WITH = BES_ITEM_BEGINS_WITH,
-    B_ENDS_WITH = BES_ITEM_ENDS_WITH,
-    B_AND = BES_ITEM_AND,
-    B_OR = BES_ITEM_OR,
-    B_NOT = BES_ITEM_NOT
+    B_EQ = BES_ITEM_EQ, B_NE = BES_ITEM_NE, B_LT = BES_ITEM_LT, B_LE = BES_ITEM_LE, B_GT = BES_ITEM_GT, B_GE = BES_ITEM_GE,
+    B_CONTAINS = BES_ITEM_CONTAINS, B_BEGINS_WITH = BES_ITEM_BEGINS_WITH, B_ENDS_WITH = BES_ITEM_ENDS_WITH,
+    B_AND = BES_ITEM_AND, B_OR = BES_ITEM_OR, B_NOT = BES_ITEM_NOT
 };
 
 // A query as items in reverse Polish order, pushed as on a BQuery: an attribute and a value, then the operator.
@@ -362,14 +380,14 @@ private:
 // A query that was parsed once. It belongs to no store, and any pin may ask it.
 class Prepared {
 public:
-    explicit Prepared(std::string_view text) : handle_(new bes_prepared BES_PREPARED_INIT)
+    explicit Prepared(std::string_view text)
     {
         std::uint64_t at = 0;
         const auto answer = bes_prepare(detail::bytes_of(text), text.size(), handle_.get(), &at);
         detail::check(answer, at, detail::Place::byte);
     }
 
-    explicit Prepared(const Predicate &predicate) : handle_(new bes_prepared BES_PREPARED_INIT)
+    explicit Prepared(const Predicate &predicate)
     {
         std::uint64_t at = 0;
         const auto answer = bes_prepare_items(detail::begin_of(predicate.items_), predicate.items_.size(),
@@ -380,15 +398,10 @@ public:
 protected:
     friend class Pin;
 
-    bes_prepared *handle() const
-    {
-        if (!handle_)
-            throw Refusal(BES_CLOSED);
-        return handle_.get();
-    }
+    bes_prepared *handle() const { return handle_.get(); }
 
 private:
-    std::unique_ptr<bes_prepared, detail::Closes<bes_prepared, bes_release>> handle_;
+    detail::Handle<bes_prepared, bes_release> handle_;
 };
 
 // Which nodes came into the answer of a live query and which went, each ascending.
@@ -469,10 +482,7 @@ public:
     std::string journal(std::uint32_t tries = BES_TRIES)
     {
         return detail::whole<std::string>(1 << 16, detail::Place::none, [&](char *text, std::size_t room, std::uint64_t *count) {
-            std::uint32_t answer = BES_BUSY;
-            for (std::uint32_t left = tries > 0 ? tries : 1; answer == BES_BUSY && left > 0; left--)
-                answer = bes_journal(handle(), reinterpret_cast<std::uint8_t *>(text), room, count);
-            return answer;
+            return detail::tried(tries, [&] { return bes_journal(handle(), reinterpret_cast<std::uint8_t *>(text), room, count); });
         });
     }
 
@@ -481,9 +491,7 @@ public:
     {
         bes_usage usage{};
         std::uint64_t number = 0;
-        std::uint32_t answer = BES_BUSY;
-        for (std::uint32_t left = tries > 0 ? tries : 1; answer == BES_BUSY && left > 0; left--)
-            answer = bes_status(handle(), &usage, &number);
+        const auto answer = detail::tried(tries, [&] { return bes_status(handle(), &usage, &number); });
         detail::check(answer, number);
         Status status{usage.pages, usage.free, usage.retired, usage.entries, usage.commits, {}};
         if (usage.is_held)
@@ -498,17 +506,12 @@ public:
     void close() noexcept { handle_.reset(); }
 
 protected:
-    Pass() : handle_(new bes_pass BES_PASS_INIT) {}
+    Pass() = default;
 
-    bes_pass *handle() const
-    {
-        if (!handle_)
-            throw Refusal(BES_CLOSED);
-        return handle_.get();
-    }
+    bes_pass *handle() const { return handle_.get(); }
 
 private:
-    std::unique_ptr<bes_pass, detail::Closes<bes_pass, bes_close>> handle_;
+    detail::Handle<bes_pass, bes_close> handle_;
 };
 
 // How large a store may grow.

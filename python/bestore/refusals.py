@@ -15,10 +15,11 @@ class Refusal(Exception):
 
     _classes: ClassVar[Dict[int, Type[Refusal]]] = {}
 
-    def __init_subclass__(cls) -> None:
+    def __init_subclass__(cls, number: Optional[int] = None, meaning: str = "") -> None:
         super().__init_subclass__()
-        if "number" in vars(cls):
-            Refusal._classes[cls.number] = cls
+        if number is not None:
+            cls.number, cls.meaning = number, meaning
+            Refusal._classes[number] = cls
 
     def __init__(self, carried: Optional[int] = None, query: Optional[str] = None, listed: Optional[str] = None) -> None:
         super().__init__(carried, query, listed)
@@ -74,63 +75,23 @@ class _OfList(Refusal):
         return self.meaning
 
 
-class Busy(Refusal):
-    number = 1
-    meaning = "another pass is writing"
-
+class Busy(Refusal, number=1, meaning="another pass is writing"):
     def _carry(self, carried: Optional[int], listed: Optional[str]) -> None:
         self.pass_number = carried
 
 
-class NoNode(Refusal, KeyError):
-    number = 2
-    meaning = "no such node"
+class NoNode(Refusal, KeyError, number=2, meaning="no such node"): ...
+class NoAttribute(Refusal, KeyError, number=3, meaning="no such attribute"): ...
+class TooManyAttributes(Refusal, number=4, meaning="too many attributes"): ...
+class IndexExists(Refusal, number=5, meaning="the index exists"): ...
+class NoIndex(Refusal, number=6, meaning="no such index"): ...
+class TooManyIndices(Refusal, number=7, meaning="too many indices"): ...
+class NotIndexable(Refusal, number=8, meaning="no index may have this kind"): ...
+class CommitsSpent(Refusal, number=9, meaning="the journal is at its limit"): ...
+class NoMemory(Refusal, MemoryError, number=10, meaning="out of memory"): ...
 
 
-class NoAttribute(Refusal, KeyError):
-    number = 3
-    meaning = "no such attribute"
-
-
-class TooManyAttributes(Refusal):
-    number = 4
-    meaning = "too many attributes"
-
-
-class IndexExists(Refusal):
-    number = 5
-    meaning = "the index exists"
-
-
-class NoIndex(Refusal):
-    number = 6
-    meaning = "no such index"
-
-
-class TooManyIndices(Refusal):
-    number = 7
-    meaning = "too many indices"
-
-
-class NotIndexable(Refusal):
-    number = 8
-    meaning = "no index may have this kind"
-
-
-class CommitsSpent(Refusal):
-    number = 9
-    meaning = "the journal is at its limit"
-
-
-class NoMemory(Refusal, MemoryError):
-    number = 10
-    meaning = "out of memory"
-
-
-class Full(Refusal):
-    number = 11
-    meaning = "no page is free"
-
+class Full(Refusal, number=11, meaning="no page is free"):
     def _carry(self, carried: Optional[int], listed: Optional[str]) -> None:
         self.least = carried
 
@@ -154,116 +115,26 @@ class _AtPlace(_OfList):
         return f"{self.meaning}\n  {shown}\n  {' ' * self.column}^"
 
 
-class QuerySyntax(_AtPlace):
-    number = 12
-    meaning = "the query leaves the grammar"
-
-
-class BadPattern(_AtPlace):
-    number = 13
-    meaning = "a pattern is malformed"
-
-
-class TooLong(Refusal):
-    number = 14
-    meaning = "the query is too long"
-
-
-class TooDeep(Refusal):
-    number = 15
-    meaning = "the query is too deep"
-
-
-class TooMany(Refusal):
-    number = 16
-    meaning = "too many comparisons"
-
-
-class NotCovered(Refusal):
-    number = 17
-    meaning = "no index serves the query"
-
-
-class NameLength(_OfList, ValueError):
-    number = 18
-    meaning = "a name has not 1 to 63 bytes"
-
-
-class DataLength(_OfList, ValueError):
-    number = 19
-    meaning = "a value has more than 255 bytes"
-
-
-class HasNul(_OfList, ValueError):
-    number = 20
-    meaning = "a text has a zero byte"
-
-
-class BadLimits(Refusal, ValueError):
-    number = 21
-    meaning = "a limit is out of its range"
-
-
-class BadItems(_AtPlace):
-    number = 22
-    meaning = "the items build no query"
-
-
-class Closed(Refusal):
-    number = 64
-    meaning = "the handle is closed"
-
-
-class Opened(Refusal):
-    number = 65
-    meaning = "the handle is open"
-
-
-class NotPinned(Refusal):
-    number = 66
-    meaning = "the pass isn't pinned"
-
-
-class Pinned(Refusal):
-    number = 67
-    meaning = "the pass is pinned"
-
-
-class NoPass(Refusal):
-    number = 68
-    meaning = "each pass is in use"
-
-
-class BadCount(Refusal, ValueError):
-    number = 69
-    meaning = "a write has not 1 to 64 operations"
-
-
-class NotUTF8(_OfList, ValueError):
-    number = 70
-    meaning = "the bytes are no UTF-8"
-
-
-class NoOperation(_OfList, ValueError):
-    number = 71
-    meaning = "no such operation"
-
-
-class NoKind(_OfList, ValueError):
-    number = 72
-    meaning = "no such kind"
-
-
-class NoValue(_OfList, ValueError):
-    number = 73
-    meaning = "the number doesn't fit the kind"
-
-
-class BadPart(_OfList, ValueError):
-    number = 74
-    meaning = "a part isn't within the bytes"
-
-
-class NoItem(_OfList, ValueError):
-    number = 75
-    meaning = "no such item"
+class QuerySyntax(_AtPlace, number=12, meaning="the query leaves the grammar"): ...
+class BadPattern(_AtPlace, number=13, meaning="a pattern is malformed"): ...
+class TooLong(Refusal, number=14, meaning="the query is too long"): ...
+class TooDeep(Refusal, number=15, meaning="the query is too deep"): ...
+class TooMany(Refusal, number=16, meaning="too many comparisons"): ...
+class NotCovered(Refusal, number=17, meaning="no index serves the query"): ...
+class NameLength(_OfList, ValueError, number=18, meaning="a name has not 1 to 63 bytes"): ...
+class DataLength(_OfList, ValueError, number=19, meaning="a value has more than 255 bytes"): ...
+class HasNul(_OfList, ValueError, number=20, meaning="a text has a zero byte"): ...
+class BadLimits(Refusal, ValueError, number=21, meaning="a limit is out of its range"): ...
+class BadItems(_AtPlace, number=22, meaning="the items build no query"): ...
+class Closed(Refusal, number=64, meaning="the handle is closed"): ...
+class Opened(Refusal, number=65, meaning="the handle is open"): ...
+class NotPinned(Refusal, number=66, meaning="the pass isn't pinned"): ...
+class Pinned(Refusal, number=67, meaning="the pass is pinned"): ...
+class NoPass(Refusal, number=68, meaning="each pass is in use"): ...
+class BadCount(Refusal, ValueError, number=69, meaning="a write has not 1 to 64 operations"): ...
+class NotUTF8(_OfList, ValueError, number=70, meaning="the bytes are no UTF-8"): ...
+class NoOperation(_OfList, ValueError, number=71, meaning="no such operation"): ...
+class NoKind(_OfList, ValueError, number=72, meaning="no such kind"): ...
+class NoValue(_OfList, ValueError, number=73, meaning="the number doesn't fit the kind"): ...
+class BadPart(_OfList, ValueError, number=74, meaning="a part isn't within the bytes"): ...
+class NoItem(_OfList, ValueError, number=75, meaning="no such item"): ...

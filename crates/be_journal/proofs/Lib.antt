@@ -1,4 +1,9 @@
+pub mod BlockLemmas
 pub mod DoneLemmas
 pub mod LegalLemmas
+pub mod ListLemmas
+pub mod NextLemmas
+pub mod PlaceLemmas
+pub mod ReaderLemmas
 pub mod SoundLemmas
 pub mod TextLemmas

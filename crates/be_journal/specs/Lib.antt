@@ -1,3 +1,4 @@
+pub mod Blocks
 pub mod Journal
 pub mod Room
 pub mod Text

@@ -11,25 +11,31 @@ ghost use Rattle.std.specs.String.{string_bytes};
 ghost use Rattle.be_journal.specs.Journal as model;
 ghost use Rattle.be_journal.specs.Text.{lines_from};
 
+use crate::Entry;
+use crate::blocks::{Block, append, block_of, make_spare};
+use crate::readers::Reader;
 use crate::texts::entry_line;
-use crate::{Dones, Entry, Ops};
 use be_value::Refusal;
 use be_volume::{Done, Op, Volume};
 use std::alloc::{AllocError, Global};
 use std::marker::Model;
-use std::mem;
 
 /// The accepted writes in their order. A contract sees a `Log`: the limit, the entries, and for how many operations a place
 /// is reserved.
+///
+/// The entries lie in blocks of bytes, which are never moved.
 #[derive(Drop)]
 pub struct Journal {
     alloc: Global,
     limit: u64,
-    entries: Vec<Entry>,
+    /// How many entries there are.
+    len: u64,
+    /// The blocks, each with an entry. The last one may have room for more.
+    blocks: Vec<Block>,
+    /// An empty block for an entry for which the last one has no room.
+    spare: Option<Block>,
     /// The number of operations for which there is room.
     reserved: usize,
-    spare_ops: Vec<Op>,
-    spare_dones: Vec<Done>,
 }
 
 impl Model for Journal {
@@ -55,10 +61,10 @@ impl Journal {
         Journal {
             alloc,
             limit,
-            entries: Vec::new(alloc),
+            len: 0,
+            blocks: Vec::new(alloc),
+            spare: None,
             reserved: 0,
-            spare_ops: Vec::new(alloc),
-            spare_dones: Vec::new(alloc),
         }
     }
 
@@ -67,15 +73,25 @@ impl Journal {
         ensures len { result ≡ length self.now.entries }
         ensures limit { result ≤ self.now.limit }
     {
-        self.entries.len() as u64
+        self.len
     }
 
-    /// The entry with this number, from 0.
-    pub fn get(&self, i: u64) -> &Entry
-        requires { i < length self.now.entries }
-        ensures { result.now ≡ get_or self.now.entries i result.now }
+    /// A reader of the entries.
+    fn reader(&self) -> Reader<'_>
+        ensures { result ≡ self.now.entries }
     {
-        &self.entries[i as usize]
+        Reader::new(self.alloc, &self.blocks)
+    }
+
+    /// The entry with this number, from 0, an entry of its own. It is refused with OutOfMemory alone. It goes from block to
+    /// block, each of which has some 20,000 small entries, and then past 15 entries at most.
+    pub fn get(&self, i: u64) -> Result<Entry, Refusal>
+        requires { i < length self.now.entries }
+        ensures ok { IfOk result (λ entry. entry ≡ get_or self.now.entries i entry) }
+        ensures err { IfErr result (λ e. e ≡ OutOfMemory) }
+    {
+        let (block, place) = block_of(&self.blocks, i);
+        Ok(block.get(self.alloc, place)?)
     }
 
     /// Appends an entry; what was reserved is given up. It is refused with CommitsSpent exactly where the journal is at its
@@ -84,11 +100,9 @@ impl Journal {
         requires { model.IsEntry entry }
         ensures { model.Grows self.old (model.extended self.old entry) result self.new }
     {
-        if self.entries.len() as u64 >= self.limit {
-            return Err(Refusal::CommitsSpent);
-        }
-        self.entries.push(entry)?;
-        self.reserved = 0;
+        let ops = entry.ops.as_slice();
+        self.reserve(ops.len())?;
+        self.push_reserved(entry.by, ops, entry.dones.as_slice());
         Ok(())
     }
 
@@ -99,12 +113,11 @@ impl Journal {
         requires few { count ≤ 64 }
         ensures { model.Grows self.old (model.with_room self.old count) result self.new }
     {
-        if self.entries.len() as u64 >= self.limit {
+        if self.len >= self.limit {
             return Err(Refusal::CommitsSpent);
         }
-        self.entries.reserve(1)?;
-        self.spare_ops.reserve_exact(count)?;
-        self.spare_dones.reserve_exact(count)?;
+        self.blocks.reserve(1)?;
+        make_spare(self.alloc, &self.blocks, &mut self.spare, count)?;
         self.reserved = count;
         Ok(())
     }
@@ -117,17 +130,8 @@ impl Journal {
         requires dones { length dones.now ≡ self.old.reserved }
         ensures { self.new ≡ model.extended self.old (record { by = by; ops = ops.now; dones = dones.now }) }
     {
-        let mut own_ops = mem::replace(&mut self.spare_ops, Vec::new(self.alloc));
-        let mut own_dones = mem::replace(&mut self.spare_dones, Vec::new(self.alloc));
-        fill_ops(&mut own_ops, ops);
-        fill_dones(&mut own_dones, dones);
-        let entry = Entry {
-            by,
-            ops: Ops::from_vec(own_ops),
-            dones: Dones::from_vec(own_dones),
-        };
-        // There is room.
-        let _ = self.entries.push(entry);
+        append(&mut self.blocks, &mut self.spare, by, ops, dones);
+        self.len += 1;
         self.reserved = 0;
     }
 
@@ -137,8 +141,10 @@ impl Journal {
         ensures { Answers (λ volume. volume) result (Ok (model.replay self.now.entries)) }
     {
         let mut volume = Volume::new(self.alloc);
-        for entry in &self.entries {
-            volume = enter(volume, entry)?;
+        let mut reader = self.reader();
+        for _ in 0..self.len {
+            let entry = reader.next()?;
+            volume = enter(volume, &entry)?;
         }
         Ok(volume)
     }
@@ -150,8 +156,10 @@ impl Journal {
         ensures { Answers string_bytes result (Ok (lines_from 1 self.now.entries)) }
     {
         let mut text = String::new(self.alloc);
-        for (i, entry) in self.entries.iter().enumerate() {
-            let line = entry_line(self.alloc, i as u64 + 1, entry)?;
+        let mut reader = self.reader();
+        for i in 0..self.len {
+            let entry = reader.next()?;
+            let line = entry_line(self.alloc, i + 1, &entry)?;
             text.push_str(line.as_str())?;
         }
         Ok(text)
@@ -164,34 +172,16 @@ impl Journal {
         ensures err { IfErr result (λ e. e ≡ OutOfMemory) }
     {
         let mut reached = Volume::new(self.alloc);
-        for entry in &self.entries {
-            let (next, agrees) = enter_if_agreed(reached, entry)?;
+        let mut reader = self.reader();
+        for _ in 0..self.len {
+            let entry = reader.next()?;
+            let (next, agrees) = enter_if_agreed(reached, &entry)?;
             if !agrees {
                 return Ok(false);
             }
             reached = next;
         }
         Ok(true)
-    }
-}
-
-/// Appends copies, for which there is room.
-fn fill_ops(own: &mut Vec<Op>, ops: &[Op])
-    requires { vec_len own.old + length ops.now ≤ vec_capacity own.old }
-    ensures { own.new.items ≡ own.old.items ++ ops.now }
-{
-    for op in ops {
-        let _ = own.push(op.copy());
-    }
-}
-
-/// Appends copies, for which there is room.
-fn fill_dones(own: &mut Vec<Done>, dones: &[Done])
-    requires { vec_len own.old + length dones.now ≤ vec_capacity own.old }
-    ensures { own.new.items ≡ own.old.items ++ dones.now }
-{
-    for done in dones {
-        let _ = own.push(*done);
     }
 }
 

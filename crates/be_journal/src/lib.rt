@@ -4,9 +4,12 @@
 //! contents, and it is legal where every answer in it is the one that the volume gives at its place.
 #![tactic(auto)]
 
+mod block_readers;
+mod blocks;
 mod entries;
 mod journals;
 mod laws;
+mod readers;
 mod texts;
 
 pub use entries::{Dones, Entry, Ops};

@@ -13,7 +13,6 @@ use Rattle.be_paged.specs.Entry.{Entry}
 use Rattle.be_paged.specs.Page.{contents_of, IsGapAt, IsNamedAt}
 use Rattle.be_paged.specs.Version.{IsVersion}
 use Rattle.be_paged.specs.declared.on_page.FoundIndex.{FoundIndex}
-use Rattle.be_paged.specs.declared.on_page.KnownName.{KnownName}
 
 -- an item that can be read stands at a place of a page
 pub record IsItemAt (standing : ℕ → Standing) (words : ℕ → ℕ → ℕ) (page at : ℕ) : Type 0 where
@@ -34,12 +33,17 @@ pub record IsFound (entries : List Entry) (name : List ℕ) (found : Option Foun
   pub root : IfSome found (λ index. (d : Entry) → index.root ≡ (slice_index_or entries index.place d).root)
   pub absent : IfNone found ((i : ℕ) × IsGapAt entries name i)
 
--- what is remembered of a name is what the entries say
-abbrev pub IsKnown : List Entry → Option KnownName → Type 0
-IsKnown entries known = IfSome known (λ last. IsFound entries last.name last.index)
+-- what is remembered of an index is what the entries say
+pub record IsIndexOf (entries : List Entry) (index : FoundIndex) : Type 0 where
+  pub in_range : index.place < length entries
+  pub kind : (d : Entry) → index.kind ≡ (slice_index_or entries index.place d).kind
+  pub root : (d : Entry) → index.root ≡ (slice_index_or entries index.place d).root
+
+abbrev pub IsKnown : List Entry → Option FoundIndex → Type 0
+IsKnown entries known = IfSome known (λ last. IsIndexOf entries last)
 
 -- the page spells the volume, what is remembered is of that page, and the cursor stands where it says
-pub record SourceOf (standing : ℕ → Standing) (words : ℕ → ℕ → ℕ) (page : ℕ) (known : Option KnownName)
+pub record SourceOf (standing : ℕ → Standing) (words : ℕ → ℕ → ℕ) (page : ℕ) (known : Option FoundIndex)
     (cursor : Cursor) (place : ℕ) (last_page last_at : ℕ) (volume : State) : Type 0 where
   pub version : IsVersion standing words page volume
   pub known_is : IsKnown (contents_of (words page)).entries known

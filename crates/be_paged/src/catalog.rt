@@ -30,7 +30,9 @@ pub(crate) fn catalog_key(node: u64, name: &Name) -> ArrayVec<u8, 72>
 }
 
 /// The value that the payload of the item at a place tells, if it tells one. It is read where it stands: an integer from its one or two words, and a
-/// text is filled once before the value has it.
+/// text is filled once before the value has it. Who asks for a value has it in place, and texts are read by functions of their own: so room for a
+/// text is cleared for texts alone, and a value isn't moved from call to call.
+#[inline(always)]
 pub(crate) fn value_at<L: Look>(look: &mut L, page: u64, at: usize) -> Option<Value>
     requires readable { IsTrue (is_readable (L.standing look.old page)) }
     requires in_page { at + 42 ≤ 512 }
@@ -40,14 +42,50 @@ pub(crate) fn value_at<L: Look>(look: &mut L, page: u64, at: usize) -> Option<Va
 {
     let kind = kind_at(look, page, at)?;
     match kind {
-        Kind::Cstr => Some(Value::Cstr(text_at(look, page, at)?)),
+        Kind::Cstr => cstr_at(look, page, at),
         Kind::Long => Some(Value::Long(number32_at(look, page, at)?.cast_signed())),
         Kind::Llng => Some(Value::Llng(number64_at(look, page, at)?.cast_signed())),
-        Kind::Mims => Some(Value::Mims(text_at(look, page, at)?)),
-        Kind::Rawt => Some(Value::Rawt(bytes_at(look, page, at)?)),
+        Kind::Mims => mims_at(look, page, at),
+        Kind::Rawt => rawt_at(look, page, at),
         Kind::Ulng => Some(Value::Ulng(number32_at(look, page, at)?)),
         Kind::Ullg => Some(Value::Ullg(number64_at(look, page, at)?)),
     }
+}
+
+/// The text behind a payload's first byte, as a value of one kind.
+#[inline(never)]
+fn cstr_at<L: Look>(look: &mut L, page: u64, at: usize) -> Option<Value>
+    requires readable { IsTrue (is_readable (L.standing look.old page)) }
+    requires in_page { at + 42 ≤ 512 }
+    requires item { IsItem (L.words look.old page) at }
+    ensures value { (k : ℕ) (t : List ℕ) → text_from t ≡ Ok t → IsUtf8 t → (item_at (L.words look.old page) at).payload ≡ k ∷ t → result ≡ Some (AnyValue.Cstr t) }
+    ensures unchanged { IsUnchanged L.kept L.standing L.words look.old look.new }
+{
+    Some(Value::Cstr(text_at(look, page, at)?))
+}
+
+/// The same as a value of the other kind of text.
+#[inline(never)]
+fn mims_at<L: Look>(look: &mut L, page: u64, at: usize) -> Option<Value>
+    requires readable { IsTrue (is_readable (L.standing look.old page)) }
+    requires in_page { at + 42 ≤ 512 }
+    requires item { IsItem (L.words look.old page) at }
+    ensures value { (k : ℕ) (t : List ℕ) → text_from t ≡ Ok t → IsUtf8 t → (item_at (L.words look.old page) at).payload ≡ k ∷ t → result ≡ Some (AnyValue.Mims t) }
+    ensures unchanged { IsUnchanged L.kept L.standing L.words look.old look.new }
+{
+    Some(Value::Mims(text_at(look, page, at)?))
+}
+
+/// The bytes behind a payload's first byte as a value.
+#[inline(never)]
+fn rawt_at<L: Look>(look: &mut L, page: u64, at: usize) -> Option<Value>
+    requires readable { IsTrue (is_readable (L.standing look.old page)) }
+    requires in_page { at + 42 ≤ 512 }
+    requires item { IsItem (L.words look.old page) at }
+    ensures value { (k : ℕ) (bytes : List ℕ) → length bytes ≤ 255 → (item_at (L.words look.old page) at).payload ≡ k ∷ bytes → result ≡ Some (AnyValue.Rawt bytes) }
+    ensures unchanged { IsUnchanged L.kept L.standing L.words look.old look.new }
+{
+    Some(Value::Rawt(bytes_at(look, page, at)?))
 }
 
 /// The kind that a payload's first byte numbers, if it numbers one.

@@ -2,15 +2,15 @@
 //!
 //! Who asks for one or two indices by name needs no version in hand, which has room for all 32 of them. Names are compared where they stand, and
 //! mostly their first words differ already. They ascend, so of 32 indices a search looks at six at most. Mostly the same name is asked for again, so
-//! what was found for it last is kept.
-ghost use Rattle.std.specs.Prelude.{◌≡◌, ◌+◌, ◌<◌, ◌≤◌, IsTrue, length, map, slice_index, slice_index_or};
+//! the index that was found last is kept, and its name compared first.
+ghost use Rattle.std.specs.Prelude.{◌≡◌, ◌+◌, ◌<◌, ◌≤◌, IsTrue, length, map, slice_index, slice_index_or, true};
 ghost use Rattle.std.specs.Int.{to_be_bytes, w64};
 ghost use Rattle.std.specs.List.{range_with_len};
 ghost use Rattle.be_volume.specs.Maps.{name_cmp};
 ghost use Rattle.be_volume.specs.Volume.{State};
 ghost use Rattle.be_pages.specs.Pages.{IsUnchanged, is_readable};
 ghost use Rattle.be_paged.specs.Entry.{Entry as AnyEntry};
-ghost use Rattle.be_paged.specs.Page.{contents_of, entry_at, IsEntry, IsVersionPage};
+ghost use Rattle.be_paged.specs.Page.{contents_of, entry_at, IsEntry, IsNamedAt, IsVersionPage};
 ghost use Rattle.be_paged.specs.Source.{IsFound, IsKnown};
 ghost use Rattle.be_paged.specs.Version.{IsVersion};
 
@@ -27,19 +27,12 @@ pub(crate) struct FoundIndex {
     pub(crate) root: u64,
 }
 
-/// A name that was looked for, with its index if it has one.
-#[derive(Drop)]
-pub(crate) struct KnownName {
-    pub(crate) name: Name,
-    pub(crate) index: Option<FoundIndex>,
-}
-
-/// The index of a name on a version page, if there is one. Where the name is the one that was looked for last, no page is read.
+/// The index of a name on a version page, if there is one. The index that was found last is looked at first.
 pub(crate) fn known_index<L: Look>(
     look: &mut L,
     page: u64,
     name: &Name,
-    known: &mut Option<KnownName>,
+    known: &mut Option<FoundIndex>,
 ) -> Option<FoundIndex>
     requires version { (volume : State) × IsVersion (L.standing look.old) (L.words look.old) page volume }
     requires known { IsKnown (contents_of (L.words look.old page)).entries known.old }
@@ -47,17 +40,45 @@ pub(crate) fn known_index<L: Look>(
     ensures known { IsKnown (contents_of (L.words look.new page)).entries known.new }
     ensures unchanged { IsUnchanged L.kept L.standing L.words look.old look.new }
 {
-    if let Some(last) = known {
-        if last.name == *name {
-            return last.index;
-        }
+    let Some(last) = *known else {
+        return find_to_know(look, page, name, known);
+    };
+    if is_named(look, page, last.place, name) {
+        return Some(last);
     }
+    find_to_know(look, page, name, known)
+}
+
+/// Finds the index of a name, and keeps it for the next time.
+fn find_to_know<L: Look>(
+    look: &mut L,
+    page: u64,
+    name: &Name,
+    known: &mut Option<FoundIndex>,
+) -> Option<FoundIndex>
+    requires version { (volume : State) × IsVersion (L.standing look.old) (L.words look.old) page volume }
+    ensures found { IsFound (contents_of (L.words look.new page)).entries name.now result }
+    ensures known { IsKnown (contents_of (L.words look.new page)).entries known.new }
+    ensures unchanged { IsUnchanged L.kept L.standing L.words look.old look.new }
+{
     let index = find_index(look, page, name);
-    *known = Some(KnownName {
-        name: name.copy(),
-        index,
-    });
+    *known = index;
     index
+}
+
+/// Whether the index at a number of a version page has this name.
+fn is_named<L: Look>(look: &mut L, page: u64, i: usize, name: &Name) -> bool
+    requires version { (volume : State) × IsVersion (L.standing look.old) (L.words look.old) page volume }
+    requires in_range { i < length (contents_of (L.words look.old page)).entries }
+    ensures named { result ≡ true → IsNamedAt (contents_of (L.words look.old page)).entries name.now i }
+    ensures unchanged { IsUnchanged L.kept L.standing L.words look.old look.new }
+{
+    let text = name.as_str().as_bytes();
+    let first = word_from(text, 0);
+    match compare_at(look, page, 4 + 11 * i, text, first) {
+        Ordering::Equal => true,
+        Ordering::Less | Ordering::Greater => false,
+    }
 }
 
 /// The index of a name on a version page, if there is one. Of most indices on the way it reads one word.

@@ -15,7 +15,7 @@ ghost use Rattle.be_paged.specs.Source.{StandsBehind};
 ghost use Rattle.be_paged.specs.Version.{IsVersion};
 ghost use Rattle.be_paged.specs.Entry.{Entry as AnyEntry};
 
-use crate::on_page::{FoundIndex, KnownName, known_index};
+use crate::on_page::{FoundIndex, known_index};
 use crate::reading::{get, holds_in};
 use arrayvec::ArrayVec;
 use be_pages::Look;
@@ -32,7 +32,7 @@ const NOWHERE: usize = 32;
 pub struct PagedSource<L> {
     look: L,
     page: u64,
-    known: Option<KnownName>,
+    known: Option<FoundIndex>,
     cursor: Cursor,
     place: usize,
     last: (u64, usize),
@@ -140,6 +140,8 @@ impl<L: Look> Source for PagedSource<L> {
         }
     }
 
+    // It stands by itself, so that who asks for values alone has room for one.
+    #[inline(never)]
     fn value(&mut self, node: u64, name: &Name) -> Option<Value> {
         get(&mut self.look, self.page, node, name)
     }

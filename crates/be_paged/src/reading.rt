@@ -29,6 +29,7 @@ use be_value::{Kind, Name, Refusal, Value};
 use std::alloc::Global;
 
 /// A node's value at a name, from the catalog's tree.
+#[inline(always)]
 pub(crate) fn value_in<L: Look>(look: &mut L, catalog: u64, node: u64, name: &Name) -> Option<Value>
     requires tree { IsTree (L.standing look.old) (L.words look.old) catalog }
     ensures value { (nodes : AllNodes) → IsCatalog (pairs (L.words look.old) catalog) nodes → AreValid nodes → result ≡ value_at nodes node name.now }
@@ -60,6 +61,7 @@ pub(crate) fn holds_in<L: Look>(
 }
 
 /// The value of an attribute, if the node is there and has it. It costs one descent of the catalog's tree, and takes no memory.
+#[inline(always)]
 pub fn get<L: Look>(look: &mut L, version_page: u64, node: u64, name: &Name) -> Option<Value>
     requires version { (volume : State) × IsVersion (L.standing look.old) (L.words look.old) version_page volume }
     ensures value { (volume : State) → IsVersion (L.standing look.old) (L.words look.old) version_page volume → result ≡ attribute volume node name.now }

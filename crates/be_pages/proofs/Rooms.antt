@@ -10,7 +10,7 @@ use Rattle.be_pages.specs.declared.room.Standing.{Standing as Stands}
 use Rattle.be_pages.specs.declared.room.Standing.TheVariants as stands
 use Rattle.be_pages.specs.declared.page_pool.Place.{Place}
 use Rattle.be_pages.specs.declared.page_pool.Place.TheVariants.{Free, Reserved, Filled, Current, GivenUp, Retired}
-use Rattle.be_pages.specs.Pages.{StandsAt, after_give_up, after_keep, after_undo, is_held, is_taken, is_takable as stands_free}
+use Rattle.be_pages.specs.Pages.{StandsAt, after_give_up, after_keep, after_undo, is_held, is_readable, is_taken, is_takable as stands_free}
 use Rattle.be_pages.specs.Place.{given_place, is_free, is_held_page, is_in_hand, is_retired, kept_place, place_of, undone_place}
 use Rattle.be_pages.specs.VecRoom.{standing_in, standing_of, standings}
 use Rattle.be_pages.proofs.PageSets.{same_test, other_test}
@@ -128,6 +128,24 @@ inside P p h = elim (cases_lt p (length P)) [
   | inl lt ↦ lt
   | inr past ↦ absurd (false≢true (sym (ap is_taken (standing_past P p past)) ∙ h))
 ]
+
+-- the page of a standing that can be read
+pub read_inside : (P : List Place) (p : ℕ) → IsTrue (is_readable (standing_in P p)) → p < length P
+read_inside P p h = elim (cases_lt p (length P)) [
+  | inl lt ↦ lt
+  | inr past ↦ absurd (false≢true (sym (ap is_readable (standing_past P p past)) ∙ h))
+]
+
+taken_same : (x : Place) → is_in_hand x ≡ is_taken (standing_of x)
+taken_same Free = refl
+taken_same Reserved = refl
+taken_same Filled = refl
+taken_same Current = refl
+taken_same GivenUp = refl
+taken_same (Retired n) = refl
+
+pub taken_is : (P : List Place) (p : ℕ) → p < length P → is_in_hand (place_of P p) ≡ is_taken (standing_in P p)
+taken_is P p lt = taken_same (place_of P p) ∙ sym (ap is_taken (standing_at P p lt))
 
 pub in_hand : (P : List Place) (p : ℕ) → IsTrue (is_taken (standing_in P p)) → IsTrue (is_in_hand (place_of P p))
 in_hand P p h = taken_place (place_of P p) (sym (ap is_taken (standing_at P p (inside P p h))) ∙ h)

@@ -6,8 +6,9 @@
 //! readers run beside the writer.
 //!
 //! # What a write may do
-//! A page that was there when the write began is never filled; it is given up, and keeps its words until the write is
-//! kept. So the state before a write stands until the write ends, and undoing it is a matter of bookkeeping.
+//! A page that the write has taken may be filled again and again (`Room::is_taken` tells which). One that was there when
+//! the write began is never filled; it is given up, and keeps its words until the write is kept. So the state before a
+//! write stands until the write ends, and undoing it is a matter of bookkeeping.
 //!
 //! # Who keeps where each page is
 //! To a tree a page stands in one of five ways (`Standing`): free, old, given up, taken, or taken and filled. A pool knows

@@ -106,6 +106,14 @@ impl PagePool {
         self.places[page as usize]
     }
 
+    /// Whether the open write has taken a page.
+    pub fn is_in_hand(&self, page: u64) -> bool
+        requires { page < length (places self.now) }
+        ensures { result ≡ is_in_hand (place_of (places self.now) page) }
+    {
+        is_in_hand(self.place(page))
+    }
+
     /// Takes the free page that was freed last.
     pub fn take(&mut self) -> Option<u64>
         ensures free { IfSome result (λ page. (page < length (places self.old)) × (place_of (places self.old) page ≡ Free)) }
@@ -247,6 +255,16 @@ impl PagePool {
         ensures { result ≡ count_by is_retired (places self.now) }
     {
         self.retired.len()
+    }
+}
+
+/// Whether a page is one that the open write has taken.
+fn is_in_hand(place: Place) -> bool
+    ensures { result ≡ is_in_hand place }
+{
+    match place {
+        Place::Reserved | Place::Filled => true,
+        Place::Free | Place::Current | Place::GivenUp | Place::Retired(_) => false,
     }
 }
 

@@ -61,6 +61,12 @@ pub trait Room: Look {
     /// What a room that has just refused a page tells of the refusal's number.
     ghost full: { Self → ℕ → Type 0 };
 
+    /// Whether a page that can be read is one that this write has taken: such a page may be filled again where it is. It
+    /// takes no look at the page's words.
+    fn is_taken(&self, page: u64) -> bool
+        requires readable { IsTrue (is_readable (Self.standing self.now page)) }
+        ensures { result ≡ is_taken (Self.standing self.now page) };
+
     /// Takes a free page. Its words have no meaning until they are filled.
     fn take(&mut self) -> Result<u64, Refusal>
         requires open { IsTrue (Self.is_open (Self.kept self.old)) }

@@ -51,6 +51,11 @@ impl Room for VecRoom {
 
     ghost full = { λ r least. (least ≡ 0) × NoneFree (places r.pool) };
 
+    #[tactic(auto, using(crate::proofs::Rooms::read_inside, crate::proofs::Rooms::taken_is))]
+    fn is_taken(&self, page: u64) -> bool {
+        self.pool.is_in_hand(page)
+    }
+
     #[tactic(auto, using(crate::proofs::Rooms::stands_set, crate::proofs::Rooms::unretired_set, crate::proofs::Rooms::busy_place))]
     fn take(&mut self) -> Result<u64, Refusal> {
         match self.pool.take() {

@@ -1,7 +1,7 @@
 -- What the walks of picks that cover have collected is the scan.
 use Rattle.std.proofs.Common.{◌≡◌, ◌<◌, ◌+◌, IsTrue, ℕ, zero, suc, slice_index, Bool, true, false, List, [], ◌∷◌, length, nat_eq, refl, sym, ap, ◌∙◌, arith, Some, None, filter, is_some, if◌then◌else◌}
 use Rattle.std.specs.Prelude.{slice_get}
-use Rattle.std.specs.List.{list_any, list_all}
+use Rattle.std.specs.List.{Contains, list_any, list_all}
 use Rattle.std.specs.List.Sorted.{IsStrictlyIncreasing}
 use Rattle.std.specs.Option.{option_map_or, option_and_then}
 use Rattle.std.specs.FinMap as map
@@ -11,14 +11,14 @@ use Rattle.be_value.specs.declared.refusals.Refusal.TheVariants.{NotCovered}
 use Rattle.be_value.specs.declared.values.Value.{Value}
 use Rattle.be_query.specs.Grammar.{Formula, Leaf, And, Or, comparisons}
 use Rattle.be_volume.specs.Maps.{Attributes}
-use Rattle.be_volume.specs.Query.{sat, sees, seen_in, scan, has_index}
+use Rattle.be_volume.specs.Query.{covered, holds, sat, sees, seen_in, scan, has_index}
 use Rattle.be_volume.specs.Reading.{attribute}
 use Rattle.be_volume.specs.Volume.{State}
 use Rattle.be_volume.specs.declared.maps.Index.{Index}
-use Rattle.be_plan.specs.Cover.{Comparison, leaves, covers, covers_part, rests_on}
+use Rattle.be_plan.specs.Cover.{leaves, covers, covers_part, rests_on}
 use Rattle.be_volume.specs.Sound.{IsSound, IsPaired}
-use Rattle.be_plan.specs.Walk.{AllSatisfy, HasReached}
-use Rattle.be_plan.proofs.Ways.{Way, IsPart, way, is_covered, at_pick, or_cases, and_first, and_second, nat_is}
+use Rattle.be_plan.specs.Walk.{HasReached}
+use Rattle.be_plan.proofs.Ways.{Way, IsPart, way, is_covered, or_cases, and_first, and_second, nat_is}
 use Rattle.be_plan.proofs.Rising.{in_by_place, contains_of_is_in, same_rising, in_filter, from_filter, rises_filter, rises_increasing, rises_keys}
 
 -- a node with an attribute is there
@@ -40,24 +40,42 @@ is_node s sound node name value indexed seen = by (map.get s.indices name) refl
         let p : IsPaired s name index.kind node value = sound.pairs name index node value e paired in
         has_attribute s node name value p.attribute_is
 
-pub scanned : (s : State) (f : Formula) (picks found : List ℕ) → IsSound s → list_all (rests_on (has_index s) f) picks ≡ true → covers_part picks 0 f ≡ true →
-    IsStrictlyIncreasing found → AllSatisfy s f found → ((p : ℕ) → list_any (nat_eq p) picks ≡ true → HasReached s f p found) → scan s f ≡ Ok found
-scanned s f picks found sound rest covers rising satisfy reached =
-    let part : IsPart f 0 f = λ i h. let e : 0 + i ≡ i = omega arith in ap (slice_get (leaves f)) e in
-    let found_way : (n : ℕ) → sat s f n ≡ true → Way s picks f n 0 f = λ n h. way s n picks f 0 f part covers h in
-    let rests : (n : ℕ) (h : sat s f n ≡ true) → has_index s (found_way n h).picked.name ≡ true = λ n h.
-    sym (ap (λ o. option_map_or (λ (d : Comparison). has_index s d.name) o false) (found_way n h).there) ∙ at_pick (rests_on (has_index s) f) picks (found_way n h).pick rest (found_way n h).is_pick in
-    let answer : List ℕ = filter (sat s f) (map.keys s.nodes) in
-    ap (λ b. if b then Ok (filter (sat s f) (map.keys s.nodes)) else Err NotCovered) (is_covered s picks f rest 0 f part covers)
+-- a node of which a formula that rests on indices is true is there
+there : (s : State) → IsSound s → (f : Formula) → covered s f ≡ true → (n : ℕ) → sat s f n ≡ true → map.contains_key s.nodes n ≡ true
+there s sound (Leaf name op literal) rests n h = by (sees s n name) refl h
+  where
+    by : (o : Option Value) → sees s n name ≡ o → option_map_or (λ value. holds op value literal) o false ≡ true → map.contains_key s.nodes n ≡ true
+    by None e t = cc
+    by (Some value) e t = is_node s sound n name value rests e
+there s sound (And a b) rests n h =
+    or_cases (covered s a) (covered s b) rests (map.contains_key s.nodes n ≡ true) (λ r. there s sound a r n (and_first (sat s a n) (sat s b n) h)) (λ r. there s sound b r n (and_second (sat s a n) (sat s b n) h))
+there s sound (Or a b) rests n h =
+    or_cases (sat s a n) (sat s b n) h (map.contains_key s.nodes n ≡ true) (there s sound a (and_first (covered s a) (covered s b) rests) n) (there s sound b (and_second (covered s a) (covered s b) rests) n)
+
+-- what is found of a query that rests on indices is the scan
+pub found_all : (s : State) (f : Formula) (found : List ℕ) → IsSound s → covered s f ≡ true → IsStrictlyIncreasing found →
+    ((n : ℕ) → Contains found n → sat s f n ≡ true) → ((n : ℕ) → sat s f n ≡ true → Contains found n) → scan s f ≡ Ok found
+found_all s f found sound rests rising only has =
+    ap (λ b. if b then Ok (filter (sat s f) (map.keys s.nodes)) else Err NotCovered) rests
     ∙ ap Ok (same_rising (filter (sat s f) (map.keys s.nodes)) found (rises_filter (sat s f) (map.keys s.nodes) (rises_keys s.nodes)) (rises_increasing found rising)
+    (λ n h. in_by_place found n (has n (from_filter (sat s f) (map.keys s.nodes) n h).1))
     (λ n h.
-    let holds : sat s f n ≡ true = (from_filter (sat s f) (map.keys s.nodes) n h).1 in
-    let w : Way s picks f n 0 f = found_way n holds in
-    in_by_place found n (reached w.pick w.is_pick n (record { picked = w.picked; there = w.there; value = w.value; seen = w.seen; allows = w.allows w.picked.name w.value w.seen }) holds))
-    (λ n h.
-    let holds : sat s f n ≡ true = satisfy n (contains_of_is_in found n h) in
-    let w : Way s picks f n 0 f = found_way n holds in
-    in_filter (sat s f) (map.keys s.nodes) n (sym (map.contains_key-keys s.nodes n) ∙ is_node s sound n w.picked.name w.value (rests n holds) w.seen) holds))
+    let holds_n : sat s f n ≡ true = only n (contains_of_is_in found n h) in
+    in_filter (sat s f) (map.keys s.nodes) n (sym (map.contains_key-keys s.nodes n) ∙ there s sound f rests n holds_n) holds_n))
+
+-- what is reached by way of picks that cover is all of which the query is true
+pub all_reached : (s : State) (f : Formula) (picks found : List ℕ) → covers_part picks 0 f ≡ true → ((p : ℕ) → list_any (nat_eq p) picks ≡ true → HasReached s f p found) →
+    (n : ℕ) → sat s f n ≡ true → Contains found n
+all_reached s f picks found covers reached n h =
+    let part : IsPart f 0 f = λ i lt. let e : 0 + i ≡ i = omega arith in ap (slice_get (leaves f)) e in
+    let w : Way s picks f n 0 f = way s n picks f 0 f part covers h in
+    reached w.pick w.is_pick n (record { picked = w.picked; there = w.there; value = w.value; seen = w.seen; allows = w.allows w.picked.name w.value w.seen }) h
+
+-- a query that picks cover rests on indices
+pub covered_by : (s : State) (f : Formula) (picks : List ℕ) → list_all (rests_on (has_index s) f) picks ≡ true → covers_part picks 0 f ≡ true → covered s f ≡ true
+covered_by s f picks rest covers =
+    let part : IsPart f 0 f = λ i lt. let e : 0 + i ≡ i = omega arith in ap (slice_get (leaves f)) e in
+    is_covered s picks f rest 0 f part covers
 
 -- what passes at each element passes at this place
 pub at_place : (p : ℕ → Bool) (picks : List ℕ) (k : ℕ) → list_all p picks ≡ true → k < length picks → p (slice_index picks k) ≡ true

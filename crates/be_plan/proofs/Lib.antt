@@ -15,6 +15,7 @@ pub mod Prefixes
 pub mod Reaching
 pub mod Rising
 pub mod Seen
+pub mod Sides
 pub mod Spines
 pub mod Standing
 pub mod Ways

@@ -72,7 +72,7 @@ fn choose_by_list(
 }
 
 /// The choice for a whole query, where a source tells which names have an index.
-fn choose_by_source<S: Source>(
+pub(crate) fn choose_by_source<S: Source>(
     alloc: Global,
     tree: &Tree,
     source: &mut S,

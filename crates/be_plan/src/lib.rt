@@ -8,6 +8,7 @@
 //! `choose` picks, `run` walks, `explain` says what was picked. `Source` is what is walked: a plain volume, or a reader of pages.
 #![tactic(auto)]
 
+mod asking;
 mod choosing;
 mod coverage;
 mod evaluating;
@@ -23,6 +24,7 @@ mod source;
 mod spine;
 mod walks;
 
+pub use asking::answer;
 pub use choosing::{choose, choose_from};
 pub use coverage::covers;
 pub use explaining::explain;

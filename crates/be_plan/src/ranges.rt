@@ -13,7 +13,8 @@ use std::cmp::Ordering;
 use std::marker::Model;
 
 /// The bytes at an end of a range, which are at most those next above the longest key. Few lie in their own room, since all room is cleared when
-/// it is made: 40 bytes are enough for numbers and for texts of 30 bytes.
+/// it is made: 40 bytes are enough for numbers and for texts of 30 bytes. To write that there are no more clears their room too, so it is written
+/// only where there were.
 #[derive(Drop)]
 struct Bound {
     few: ArrayVec<u8, 40>,
@@ -59,7 +60,9 @@ impl Bound {
         ensures { self.new.items ≡ [] }
     {
         self.few.clear();
-        self.many = None;
+        if self.many.is_some() {
+            self.many = None;
+        }
     }
 
     /// Puts a front and an end in the place of the bytes, in the room for few.
@@ -70,10 +73,13 @@ impl Bound {
         self.few.clear();
         self.few.try_extend_from_slice(front).unwrap();
         self.few.try_extend_from_slice(end).unwrap();
-        self.many = None;
+        if self.many.is_some() {
+            self.many = None;
+        }
     }
 
-    /// Puts a front and an end in the place of the bytes, in room of their own.
+    /// Puts a front and an end in the place of the bytes, in room of their own. It stands by itself, since its room is cleared whenever it is called.
+    #[inline(never)]
     fn put_many(&mut self, front: &[u8], end: &[u8])
         requires { length front.now + length end.now ≤ 265 }
         ensures { self.new.items ≡ front.now ++ end.now }

@@ -16,7 +16,7 @@ ghost use Rattle.be_volume.specs.Query.{sat};
 ghost use Rattle.be_volume.specs.Reading.{index_kind};
 ghost use Rattle.be_volume.specs.Volume.{State};
 ghost use Rattle.be_plan.specs.Narrow.{LeavesRest, high_of};
-ghost use Rattle.be_plan.specs.Walk.{AllSatisfy, IsNodeWithin, Keeps, HasWithin};
+ghost use Rattle.be_plan.specs.Walk.{IsNodeWithin, Keeps, HasWithin};
 
 use crate::Source;
 use crate::evaluating::{asks_name, is_true, satisfies};
@@ -47,8 +47,7 @@ fn visit<S: Source>(
     ensures answers { S.answers_for source.new volume }
     ensures memory { IfErr result (λ e. e ≡ OutOfMemory) }
     ensures keeps { Keeps found.old.items found.new.items }
-    ensures satisfy { AllSatisfy volume (formula tree.now) found.old.items →
-        AllSatisfy volume (formula tree.now) found.new.items }
+    ensures only { (n : ℕ) → Contains found.new.items n → Contains found.old.items n ⊎ (sat volume (formula tree.now) n ≡ true) }
     ensures has { OnOk result ((v : AnyValue) (n : ℕ) → n < 2 ^ 64 → key.now ≡ key_bytes v n →
         sat volume (formula tree.now) n ≡ true → Contains found.new.items n) }
 {
@@ -77,8 +76,7 @@ fn visit_all<S: Source>(
     ensures answers { S.answers_for source.new volume }
     ensures memory { IfErr result (λ e. e ≡ OutOfMemory) }
     ensures keeps { Keeps found.old.items found.new.items }
-    ensures satisfy { AllSatisfy volume (formula tree.now) found.old.items →
-        AllSatisfy volume (formula tree.now) found.new.items }
+    ensures only { (n : ℕ) → Contains found.new.items n → Contains found.old.items n ⊎ (sat volume (formula tree.now) n ≡ true) }
     ensures has { OnOk result (HasWithin volume (formula tree.now) name.now range.now.low.items
         (high_of range.now) found.new.items) }
 {
@@ -165,8 +163,7 @@ pub(crate) fn walk<S: Source>(
     ensures answers { S.answers_for source.new volume }
     ensures memory { IfErr result (λ e. e ≡ OutOfMemory) }
     ensures keeps { Keeps found.old.items found.new.items }
-    ensures satisfy { AllSatisfy volume (formula tree.now) found.old.items →
-        AllSatisfy volume (formula tree.now) found.new.items }
+    ensures only { (n : ℕ) → Contains found.new.items n → Contains found.old.items n ⊎ (sat volume (formula tree.now) n ≡ true) }
     ensures has { OnOk result (HasWithin volume (formula tree.now) name.now range.now.low.items
         (high_of range.now) found.new.items) }
 {

@@ -11,22 +11,10 @@ ghost use Rattle.be_volume.specs.Volume.{State};
 
 use be_paged::source;
 use be_pages::Look;
-use be_plan::{Cover, Source, choose_from, run};
+use be_plan::{Cover, answer, choose_from};
 use be_query::Query;
 use be_value::Refusal;
 use std::alloc::Global;
-
-/// The nodes of which the query is true, ascending, from the comparisons that the source's own indices choose.
-fn nodes_of<S: Source>(alloc: Global, query: &Query, source: &mut S) -> Result<Vec<u64>, Refusal>
-    ghost volume: { State }
-    requires { S.answers_for source.old volume }
-    ensures answer { Answers (λ nodes. nodes.items) result (scan volume query.now) }
-    ensures rising { IfOk result (λ nodes. IsStrictlyIncreasing nodes.items) }
-    ensures stays { S.kept source.new ≡ S.kept source.old }
-{
-    let cover = choose_from(alloc, query, source)?;
-    run(alloc, &cover, query, source)
-}
 
 /// The nodes of which the query is true, ascending, and the reader back.
 pub(crate) fn ask<L: Look>(
@@ -42,8 +30,8 @@ pub(crate) fn ask<L: Look>(
     ensures kept { L.kept result.0 ≡ L.kept look }
 {
     let mut source = source(look, version_page);
-    let answer = nodes_of(alloc, query, &mut source);
-    (source.into_look(), answer)
+    let nodes = answer(alloc, query, &mut source);
+    (source.into_look(), nodes)
 }
 
 /// The comparisons that the version's own indices choose for the query, and the reader back.

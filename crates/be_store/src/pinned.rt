@@ -89,6 +89,7 @@ impl Pinned<'_> {
     }
 
     /// As `Store::get`.
+    #[inline(always)]
     pub fn get(&mut self, node: u64, name: &Name) -> Option<Value>
         requires pinned { (n : ℕ) × IsPinnedTo self.old.pass.now.knows n }
         ensures same_reference { self.new.pass.ghost_name ≡ self.old.pass.ghost_name }

@@ -227,6 +227,7 @@ impl Store {
     }
 
     /// A node's attribute in the pinned version, if it has one. One descent of a tree, and no memory.
+    #[inline(always)]
     pub fn get(&self, pass: &mut Pass, node: u64, name: &Name) -> Option<Value>
         requires pass { IsPassOf self.now pass.old }
         requires pinned { (n : ℕ) × IsPinnedTo pass.old.knows n }

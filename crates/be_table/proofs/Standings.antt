@@ -1,14 +1,16 @@
 -- Where the pages of a ledger stand.
 use Rattle.std.proofs.Common.{◌≡◌, ℕ, zero, suc, [], ◌∷◌, Ok, Err, ◌+◌, ◌<◌, ◌≤◌, List, length, map, Bool, true, false, nat_lt, if◌then◌else◌, refl, sym, ap, ◌∙◌, inl, inr, arith}
-use Rattle.std.specs.Prelude.{Result, IfErr, OnErr, slice_index_or}
+use Rattle.std.specs.Prelude.{Result, IfErr, OnErr, IsTrue, slice_index_or}
 use Rattle.std.proofs.lemmas.Bool.{cases_lt}
 use Rattle.std.proofs.lemmas.List.{get_or_default, get_or_past}
 use borrow.Author.Tests.{lt-ltb, le-ltb}
+use mathlib.Core.Bool.{false≢true}
 use Rattle.be_core.specs.Machine.{World, Sound, bit, set_count}
 use Rattle.be_pages.specs.declared.room.Standing.TheVariants.{Free as Nowhere, Filled as Full}
 use Rattle.be_pages.specs.declared.page_pool.Place.{Place}
 use Rattle.be_pages.specs.declared.page_pool.Place.TheVariants.{Free, Reserved, Filled, Current, GivenUp, Retired}
-use Rattle.be_pages.specs.Place.{place_of, swept_place, undone_place}
+use Rattle.be_pages.specs.Pages.{is_readable, is_taken}
+use Rattle.be_pages.specs.Place.{is_in_hand, place_of, swept_place, undone_place}
 use Rattle.be_pages.specs.Refusal.{IsFullOf}
 use Rattle.be_table.specs.Ledger.{ShowsPlaces, shows_free, shows_taken, is_current, retired_with}
 use Rattle.be_table.specs.Place.{Work}
@@ -124,3 +126,29 @@ pub full_stands : {X : Type 0} (r : Result X Refusal) (old new : Work) → IfErr
 full_stands (Ok x) old new h = tt
 full_stands (Err e) old new h =
     let stands : (q : ℕ) → standing_in_work new q ≡ standing_in_work old q = λ q. ap (λ ps. standing_among ps q) h.2.scan.places ∙ swept_in h.0 old.knows.places q in λ k q. stands q k
+
+-- a page that can be read is one of the table, and its place says whether the write has taken it
+pub readable_inside : (xs : List Place) (q : ℕ) → IsTrue (is_readable (standing_among xs q)) → q < length xs
+readable_inside xs q read = elim (cases_lt q (length xs)) [
+  | inl lt ↦ lt
+  | inr le ↦ absurd (none (nat_lt q 16384) (ap (λ x. is_readable (if nat_lt q 16384 then standing_at x else Nowhere)) (sym (get_or_past xs q Free le)) ∙ read))
+]
+  where
+    none : (b : Bool) → is_readable (if b then Nowhere else Nowhere) ≡ true → ⊥
+    none true e = cc
+    none false e = cc
+
+pub taken_among : (xs : List Place) (q : ℕ) → IsTrue (is_readable (standing_among xs q)) → is_in_hand (place_of xs q) ≡ is_taken (standing_among xs q)
+taken_among xs q read = in_range (nat_lt q 16384) (place_of xs q) (slice_index_or xs q Free) (get_or_default xs q Free Current (readable_inside xs q read)) read
+  where
+    by : (x : Place) → is_in_hand x ≡ is_taken (standing_at x)
+    by Free = refl
+    by Reserved = refl
+    by Filled = refl
+    by Current = refl
+    by GivenUp = refl
+    by (Retired n) = refl
+
+    in_range : (b : Bool) (x y : Place) → y ≡ x → IsTrue (is_readable (if b then standing_at y else Nowhere)) → is_in_hand x ≡ is_taken (if b then standing_at y else Nowhere)
+    in_range true x y e read = by x ∙ sym (ap (λ z. is_taken (standing_at z)) e)
+    in_range false x y e read = absurd (false≢true read)

@@ -124,6 +124,14 @@ impl<'a> Writing<'a> {
         table.table.shared.load::<OwnWord>(&mut self.base, word)
     }
 
+    /// Whether this write has taken a page. No step.
+    pub fn is_taken(&self, page: u64) -> bool
+        requires page { page < length self.now.knows.places }
+        ensures { result ≡ is_in_hand (place_of self.now.knows.places page) }
+    {
+        self.ledger.pool.is_in_hand(page)
+    }
+
     /// Writes word i of a page that was taken in this write. One load, and one store where the word isn't there yet: a
     /// page that is used again has many of its words, and a store costs far more than a load.
     pub fn fill(&mut self, page: u64, i: usize, word: u64)

@@ -1,5 +1,5 @@
 //! What the tests of several crates share: worked examples as texts, the loop that goes over their lines, the texts of
-//! replies, a reader of pages that counts, and a writer that fails.
+//! replies, a reader and a writer of pages that count, and a writer of bytes that fails.
 //!
 //! It stands here once, and is proved once. A test looks at what comes, and needs no contract, so most has none.
 #![tactic(auto)]
@@ -10,6 +10,7 @@ mod lines;
 mod long_lists;
 mod replies;
 mod stores;
+mod storing;
 mod writers;
 
 pub use counting::Counting;
@@ -18,4 +19,5 @@ pub use lines::{Answers, behind, check_lines};
 pub use long_lists::longest_list;
 pub use replies::{done_lines, list_of, reply_lines};
 pub use stores::{OUTSIDE_LIMITS, has_hundred_by_each, is_legal, numbered, pair_of};
+pub use storing::Storing;
 pub use writers::Narrow;

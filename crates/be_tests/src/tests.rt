@@ -7,6 +7,7 @@ mod machine;
 mod pages;
 mod pattern;
 mod query;
+mod stored_words;
 mod tree;
 mod value;
 mod words;

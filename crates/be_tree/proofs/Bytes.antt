@@ -4,4 +4,3 @@ pub mod Zeros
 pub mod Branches
 pub mod Straddling
 pub mod Payloads
-pub mod Beginnings

@@ -6,7 +6,7 @@ use Rattle.std.proofs.lemmas.List.Sums.{sum_by-append, sum_by-cons}
 use mathlib.Core.Bool.{false≢true}
 use Rattle.be_pages.specs.declared.room.Standing.{Standing}
 use Rattle.be_pages.specs.declared.room.Standing.TheVariants.{Free, Old, GivenUp, Taken, Filled}
-use Rattle.be_pages.specs.Pages.{is_readable, is_kept, is_from_before, after_undo, times, PageStep, untouched, unused, fresh, given_old, given_new, stays_old, stays_new, Swaps, KeepsStart, IsUnchanged}
+use Rattle.be_pages.specs.Pages.{is_readable, is_taken, is_kept, is_from_before, after_undo, times, PageStep, untouched, unused, fresh, given_old, given_new, stays_old, stays_new, Swaps, KeepsStart, IsUnchanged}
 
 -- how often a page is among a part's pages
 pub times_append : (q : ℕ) (xs ys : List ℕ) → times q (xs ++ ys) ≡ times q xs + times q ys
@@ -29,6 +29,32 @@ times_other q p ne = omega (arith, times-cons q p [], other q p ne)
   where
     other : (q p : ℕ) → (q ≡ p → ⊥) → cond {A = ℕ} (p == q) 1 0 ≡ 0
     other q p ne = grind (arith, nat_tests)
+
+pub one_page : (q p : ℕ) → times q (p ∷ []) ≤ 1
+one_page q p = elim (cases_eq q p) [
+  | inl e ↦ omega (arith, ap (λ r. times r (p ∷ [])) e, times_itself p)
+  | inr ne ↦ omega (arith, times_other q p ne)
+]
+
+-- what holds of a page holds of each of a list of it alone
+pub alone : (P : ℕ → Type 0) (page : ℕ) → P page → (q : ℕ) → 0 < times q (page ∷ []) → P q
+alone P page here q some = elim (cases_eq q page) [
+  | inl e ↦ subst P (sym e) here
+  | inr ne ↦ absurd (omega (arith, some, times_other q page ne))
+]
+
+-- one page more, and two, that are none of these
+pub one_beside : (page : ℕ) (ps : List ℕ) → times page ps ≡ 0 → ((q : ℕ) → times q ps ≤ 1) → (q : ℕ) → times q (page ∷ []) + times q ps ≤ 1
+one_beside page ps none once q = elim (cases_eq q page) [
+  | inl e ↦ subst (λ p. times p (page ∷ []) + times p ps ≤ 1) (sym e) (omega (arith, times_itself page, none))
+  | inr ne ↦ omega (arith, times_other q page ne, once q)
+]
+
+pub two_beside : (l r : ℕ) (ps : List ℕ) → (l ≡ r → ⊥) → times l ps ≡ 0 → times r ps ≡ 0 → ((q : ℕ) → times q ps ≤ 1) → (q : ℕ) → times q (l ∷ r ∷ []) + times q ps ≤ 1
+two_beside l r ps ne nl nr once q = elim (cases_eq q l) [
+  | inl e ↦ subst (λ p. times p (l ∷ r ∷ []) + times p ps ≤ 1) (sym e) (omega (arith, times_append l (l ∷ []) (r ∷ []), times_itself l, times_other l r ne, nl))
+  | inr other ↦ omega (arith, times_append q (l ∷ []) (r ∷ []), times_other q l other, one_beside r ps nr once q)
+]
 
 -- one change of a page after another
 step_trans : {P Q S : Type 0} {b m a : ℕ} {s t u : Standing} → (P → Q → S) → PageStep P b m s t → PageStep Q m a t u → PageStep S b a s u
@@ -175,6 +201,42 @@ module _ {S K : Type 0} (kept_of : S → K) (standing_of : S → ℕ → Standin
   pub swaps_fresh : (b a : List ℕ) (old new : S) → Swaps kept_of standing_of words_of b a old new → (q : ℕ) → times q b ≡ 0 → 0 < times q a → standing_of old q ≡ Free
   swaps_fresh b a old new swaps q none some = step_fresh none some (swaps.each q)
 
+  -- lists of pages with the same pages
+  pub swaps_times : (b a b' a' : List ℕ) (old new : S) → Swaps kept_of standing_of words_of b a old new → ((q : ℕ) → times q b' ≡ times q b) → ((q : ℕ) → times q a' ≡ times q a)
+      → Swaps kept_of standing_of words_of b' a' old new
+  swaps_times b a b' a' old new swaps eb ea = record {
+    kept = swaps.kept;
+    each = λ q. subst (λ n. PageStep (words_of new q ≡ words_of old q) n (times q a') (standing_of old q) (standing_of new q)) (sym (eb q))
+        (subst (λ n. PageStep (words_of new q ≡ words_of old q) (times q b) n (standing_of old q) (standing_of new q)) (sym (ea q)) (swaps.each q));
+  }
+
+  -- a change beside a page in use
+  pub swaps_with : (page : ℕ) (b a : List ℕ) (old new : S) → Swaps kept_of standing_of words_of b a old new → times page b ≡ 0 → ((q : ℕ) → times q b ≤ 1) → IsTrue (is_kept (standing_of old page))
+      → Swaps kept_of standing_of words_of (page ∷ b) (page ∷ a) old new
+  swaps_with page b a old new swaps none once used =
+      swaps_frame b a (page ∷ b) (page ∷ a) (λ q. times q (page ∷ [])) old new swaps
+      (λ q. times_append q (page ∷ []) b) (λ q. times_append q (page ∷ []) a) (λ q. omega (arith, times_append q (page ∷ []) b, one_beside page b none once q))
+      (alone (λ q. IsTrue (is_kept (standing_of old q))) page used)
+
+  -- some pages are replaced, and then others
+  pub swaps_both : (b1 a1 b2 a2 b a : List ℕ) (old mid new : S) → Swaps kept_of standing_of words_of b1 a1 old mid → Swaps kept_of standing_of words_of b2 a2 mid new
+      → ((q : ℕ) → times q b ≡ times q b1 + times q b2) → ((q : ℕ) → times q a ≡ times q a1 + times q a2) → ((q : ℕ) → times q b ≤ 1) → ((q : ℕ) → times q a1 ≤ 1)
+      → ((q : ℕ) → 0 < times q b2 → IsTrue (is_kept (standing_of old q))) → Swaps kept_of standing_of words_of b a old new
+  swaps_both b1 a1 b2 a2 b a old mid new first last eb ea once few used =
+      swaps_trans b (a1 ++ b2) a old mid new
+      (swaps_frame b1 a1 b (a1 ++ b2) (λ q. times q b2) old mid first (λ q. omega (arith, eb q)) (λ q. omega (arith, times_append q a1 b2)) once used)
+      (swaps_frame b2 a2 (a1 ++ b2) a (λ q. times q a1) mid new last (λ q. times_append q a1 b2) ea between (λ q some. swaps_after b1 a1 old mid first q some))
+    where
+      between : (q : ℕ) → times q (a1 ++ b2) ≤ 1
+      between q = split (times q b2) (times q a1) refl refl
+        where
+          split : (n m : ℕ) → times q b2 ≡ n → times q a1 ≡ m → times q (a1 ++ b2) ≤ 1
+          split zero m en em = omega (arith, times_append q a1 b2, few q, en)
+          split (suc n) zero en em = omega (arith, times_append q a1 b2, en, em, eb q, once q)
+          split (suc n) (suc m) en em =
+              let free = swaps_fresh b1 a1 old mid first q (omega (arith, eb q, once q, en)) (omega (arith, em)) in
+              absurd (false≢true (ap is_kept (sym free) ∙ used q (omega (arith, en))))
+
   pub swaps_start : (b a : List ℕ) (old new : S) → Swaps kept_of standing_of words_of b a old new → KeepsStart kept_of standing_of words_of old new
   swaps_start b a old new swaps = record {
     kept = swaps.kept;
@@ -215,6 +277,34 @@ written_swaps kept_of standing_of words_of page old new kept free filled stands 
     step : (q : ℕ) (P : Type 0) (n m : ℕ) (s t : Standing) → times q (page ∷ []) ≡ 1 → s ≡ Free → t ≡ Filled → PageStep P zero (times q (page ∷ [])) s t
     step q P n m s t once free filled =
         subst (λ n. PageStep P zero n s t) (sym once) (subst (λ u. PageStep P zero 1 u t) (sym free) (subst (λ u. PageStep P zero 1 Free u) (sym filled) fresh))
+
+filled_is : (s : Standing) → IsTrue (is_kept s) → IsTrue (is_taken s) → s ≡ Filled
+filled_is Free used taken = absurd (false≢true used)
+filled_is Old used taken = absurd (false≢true taken)
+filled_is GivenUp used taken = absurd (false≢true used)
+filled_is Taken used taken = absurd (false≢true used)
+filled_is Filled used taken = refl
+
+-- a page in use that the write has taken is written over
+pub rewritten_swaps : {S K : Type 0} (kept_of : S → K) (standing_of : S → ℕ → Standing) (words_of : S → ℕ → ℕ → ℕ) (page : ℕ) (old new : S)
+    → kept_of new ≡ kept_of old → IsTrue (is_kept (standing_of old page)) → IsTrue (is_taken (standing_of old page)) → standing_of new page ≡ Filled
+    → ((q : ℕ) → (q ≡ page → ⊥) → standing_of new q ≡ standing_of old q) → ((q : ℕ) → (q ≡ page → ⊥) → words_of new q ≡ words_of old q)
+    → Swaps kept_of standing_of words_of (page ∷ []) (page ∷ []) old new
+rewritten_swaps kept_of standing_of words_of page old new kept used taken filled stands words = record {
+  kept = kept;
+  each = λ q. elim (cases_eq q page) [
+    | inl e ↦
+        step q (words_of new q ≡ words_of old q) (standing_of old q) (standing_of new q) (ap (λ p. times p (page ∷ [])) e ∙ times_itself page)
+        (ap (standing_of old) e ∙ filled_is (standing_of old page) used taken) (ap (standing_of new) e ∙ filled)
+    | inr ne ↦
+        subst (λ n. PageStep (words_of new q ≡ words_of old q) n n (standing_of old q) (standing_of new q)) (sym (times_other q page ne))
+        (subst (λ t. PageStep (words_of new q ≡ words_of old q) zero zero (standing_of old q) t) (sym (stands q ne)) (untouched (words q ne)))
+  ];
+}
+  where
+    step : (q : ℕ) (P : Type 0) (s t : Standing) → times q (page ∷ []) ≡ 1 → s ≡ Filled → t ≡ Filled → PageStep P (times q (page ∷ [])) (times q (page ∷ [])) s t
+    step q P s t once was filled =
+        subst (λ n. PageStep P n n s t) (sym once) (subst (λ u. PageStep P 1 1 u t) (sym was) (subst (λ u. PageStep P 1 1 Filled u) (sym filled) stays_new))
 
 -- a change of what was only read since
 pub swaps_since : {S K : Type 0} (kept_of : S → K) (standing_of : S → ℕ → Standing) (words_of : S → ℕ → ℕ → ℕ) (b a : List ℕ) (old read new : S) → IsUnchanged kept_of standing_of words_of old read

@@ -1,5 +1,5 @@
 -- Bytes compared by words that hold zeros behind them: the first word that differs decides, and else the lengths.
-use Rattle.std.proofs.Common.{◌≡◌, ℕ, zero, suc, ◌+◌, ◌-◌, ◌*◌, ◌/◌, ◌^◌, ◌<◌, ◌≤◌, ◌⊎◌, List, [], ◌∷◌, ◌++◌, length, map, drop, get_or, ap, sym, ◌∙◌, refl, inl, inr, arith}
+use Rattle.std.proofs.Common.{◌≡◌, ℕ, zero, suc, ◌+◌, ◌-◌, ◌*◌, ◌/◌, ◌^◌, ◌<◌, ◌≤◌, ◌⊎◌, List, [], ◌∷◌, ◌++◌, length, map, take, drop, get_or, ap, sym, subst, ◌∙◌, refl, inl, inr, arith}
 use Rattle.std.specs.declared.cmp.Ordering.{Ordering}
 use Rattle.std.specs.declared.cmp.Ordering.TheVariants.{Less, Equal, Greater}
 use Rattle.std.specs.Ordering.{nat_cmp, ordering_then}
@@ -8,9 +8,9 @@ use Rattle.std.specs.Int.{to_be_bytes, w64}
 use Rattle.std.specs.List.{range_with_len}
 use Rattle.std.proofs.Math.Nat.{div-one}
 use Rattle.std.proofs.lemmas.Bool.{cases_lt}
-use Rattle.std.proofs.lemmas.List.{drop-drop}
+use Rattle.std.proofs.lemmas.List.{drop-drop, take-append-drop}
 use Rattle.be_tree.proofs.Codec.{map_range_append}
-use Rattle.be_tree.proofs.Bytes.Words.{first_bytes, part_cmp, less_cmp, more_cmp, same_cmp, cmp_suc, then_other, then_same}
+use Rattle.be_tree.proofs.Bytes.Words.{first_bytes, short_bytes, part_cmp, less_cmp, more_cmp, same_cmp, cmp_suc, then_other, then_same}
 use Rattle.be_tree.specs.Key.{key_cmp}
 use Rattle.be_tree.specs.Page.{item_at, key_len}
 
@@ -136,3 +136,57 @@ unfolding key_cmp
 key_differs w at k mine first long is lm lf bytes ne =
     let xs = (item_at w at).key in
     alike_differ xs k 0 mine first (omega arith) lm lf (ap (to_be_bytes w64) is ∙ first_bytes w at long) bytes (alike_first xs k) ne
+
+-- bytes are never below zeros
+not_below : (xs : List ℕ) → slice_cmp nat_cmp xs (pad (length xs) []) ≡ Less → ⊥
+not_below [] e = cc
+not_below (x ∷ xs) e = by (cases_lt 0 x) (not_below xs)
+  where
+    zeros : Ordering
+    zeros = slice_cmp nat_cmp xs (pad (length xs) [])
+
+    never : Greater ≡ Less → ⊥
+    never e = cc
+
+    by : (0 < x) ⊎ (x ≤ 0) → (zeros ≡ Less → ⊥) → ⊥
+    by (inl lt) low = never (sym (ap (λ (o : Ordering). ordering_then o zeros) (more_cmp x 0 lt)) ∙ e)
+    by (inr le) low = low (sym (ap (λ (o : Ordering). ordering_then o zeros) (same_cmp x 0 (omega (arith, le)))) ∙ e)
+
+-- a list is below another one where it is below it with bytes behind, and zeros behind the other one
+below_pad : (xs more ys : List ℕ) → slice_cmp nat_cmp (xs ++ more) (pad (length (xs ++ more)) ys) ≡ Less → slice_cmp nat_cmp xs ys ≡ Less
+below_pad [] more [] e = absurd (not_below more e)
+below_pad [] more (y ∷ ys) e = refl
+below_pad (x ∷ xs) more [] e = absurd (not_below (x ∷ xs ++ more) e)
+below_pad (x ∷ xs) more (y ∷ ys) e = by (nat_cmp x y) (slice_cmp nat_cmp (xs ++ more) (pad (length (xs ++ more)) ys)) (slice_cmp nat_cmp xs ys) (below_pad xs more ys) e
+  where
+    by : (o p q : Ordering) → (p ≡ Less → q ≡ Less) → ordering_then o p ≡ Less → ordering_then o q ≡ Less
+    by Less p q low e = refl
+    by Equal p q low e = low e
+    by Greater p q low e = e
+
+-- an item whose first word is less than that of a key has a lesser key, also where the word has more than its key
+pub key_below : (w : ℕ → ℕ) (at : ℕ) (k : List ℕ) (mine first : ℕ) → mine ≡ w (at + 1) → mine < first → first < 2 ^ 64 → to_be_bytes w64 first ≡ padded k 0 8
+    → key_cmp (item_at w at).key k ≡ Less
+unfolding key_cmp
+key_below w at k mine first is lt lf bytes = by (cases_lt (key_len w at) 8)
+  where
+    lm : mine < 2 ^ 64
+    lm = omega (arith, lt, lf)
+
+    words_less : slice_cmp nat_cmp (to_be_bytes w64 mine) (pad 8 k) ≡ Less
+    words_less =
+        ap (slice_cmp nat_cmp (to_be_bytes w64 mine)) (sym (bytes ∙ is_pad k 0 8))
+        ∙ part_cmp 8 mine first [] [] (omega arith) lm lf
+        ∙ ap (λ (o : Ordering). ordering_then o Equal) (ap2 (div-one mine) (div-one first) ∙ less_cmp mine first lt)
+      where
+        ap2 : {p q s t : ℕ} → p ≡ s → q ≡ t → nat_cmp p q ≡ nat_cmp s t
+        ap2 p q = cc
+
+    by : (key_len w at < 8) ⊎ (8 ≤ key_len w at) → slice_cmp nat_cmp (item_at w at).key k ≡ Less
+    by (inl short) =
+        let n = key_len w at in
+        let more = drop n (to_be_bytes w64 mine) in
+        let parts : to_be_bytes w64 mine ≡ (item_at w at).key ++ more =
+        sym (take-append-drop n (to_be_bytes w64 mine)) ∙ ap (λ (xs : List ℕ). xs ++ more) (ap (λ (m : ℕ). take n (to_be_bytes w64 m)) is ∙ short_bytes w at (omega (arith, short))) in
+        below_pad (item_at w at).key more k (subst (λ (xs : List ℕ). slice_cmp nat_cmp xs (pad (length xs) k) ≡ Less) parts words_less)
+    by (inr long) = key_differs w at k mine first long is lm lf bytes (λ e. absurd (omega (arith, e, lt))) ∙ less_cmp mine first lt

@@ -1,12 +1,13 @@
 -- The place of a key among the items of a leaf.
-use Rattle.std.proofs.Common.{◌≡◌, ℕ, zero, suc, ◌+◌, ◌<◌, List, [], ◌∷◌, length, get_or, drop, Bool, true, false, Some, None, ap, sym, subst, ◌∙◌, refl, arith, if◌then◌else◌}
-use Rattle.std.specs.declared.cmp.Ordering.TheVariants.{Equal, Greater}
+use Rattle.std.proofs.Common.{◌≡◌, ◌≢◌, ℕ, zero, suc, ◌+◌, ◌-◌, ◌<◌, ◌≤◌, List, [], ◌∷◌, length, get_or, drop, Bool, true, false, Some, None, ap, sym, subst, ◌∙◌, refl, arith, if◌then◌else◌}
+use Rattle.std.specs.declared.cmp.Ordering.{Ordering}
+use Rattle.std.specs.declared.cmp.Ordering.TheVariants.{Less, Equal, Greater}
 use Rattle.std.specs.Ordering.{is_eq, is_gt}
 use Rattle.std.proofs.lemmas.Bool.{false≢true}
 use Rattle.std.proofs.lemmas.List.{get_or_default}
 use Rattle.be_pages.specs.declared.room.Standing.{Standing}
 use Rattle.be_tree.specs.Pair.{Pair}
-use Rattle.be_tree.specs.Key.{key_cmp, AllAbove, IsGap, IsRank, IsRising, payload_at}
+use Rattle.be_tree.specs.Key.{key_cmp, AllAbove, IsBranchFor, IsGap, IsRank, IsRising, payload_at}
 use Rattle.be_tree.specs.Page.{item_at, item_place, items_of}
 use Rattle.be_tree.specs.Range.{pairs_from}
 use Rattle.be_tree.specs.Tree.{IsTreeAt, pairs_at}
@@ -41,6 +42,40 @@ rank_of_gap k xs r gap = record {
   in_range = gap.in_range;
   not_above = λ j d place gt. false≢true (ap is_gt (sym (gap.below j d place) ∙ gt));
   above = gap.above;
+}
+
+-- the branch that a search tells of which doesn't ask the first one
+pub branch_of : (k : List ℕ) (xs : List Pair) (r at : ℕ) → at ≡ r - 1 → 0 < r → r ≤ length xs
+    → ((j : ℕ) (d : Pair) → suc j ≡ r → 0 < j → key_cmp (get_or xs j d).key k ≢ Greater) → ((d : Pair) → r < length xs → key_cmp (get_or xs r d).key k ≡ Greater) → IsBranchFor k xs at
+branch_of k xs zero at place some in_range below above = absurd (omega (arith, some))
+branch_of k [] (suc r) at place some in_range below above = absurd (omega (arith, in_range))
+branch_of k (x ∷ xs) (suc zero) at place some in_range below above = by (key_cmp x.key k) refl
+  where
+    second : (key_cmp x.key k ≢ Greater) → IsBranchFor k (x ∷ xs) at
+    second low = record {
+      rank = 1;
+      is_rank = record {
+        in_range = in_range;
+        not_above = λ j d e gt.
+            let here : j ≡ 0 = omega (arith, e) in
+            low (sym (ap (λ (i : ℕ). key_cmp (get_or (x ∷ xs) i d).key k) here) ∙ gt);
+        above = above;
+      };
+      before = place;
+    }
+
+    by : (o : Ordering) → key_cmp x.key k ≡ o → IsBranchFor k (x ∷ xs) at
+    by Less e = second (λ gt. false≢true (ap is_gt (sym e ∙ gt)))
+    by Equal e = second (λ gt. false≢true (ap is_gt (sym e ∙ gt)))
+    by Greater e = record {
+      rank = 0;
+      is_rank = record { in_range = omega arith; not_above = λ j d e gt. omega (arith, e); above = λ d lt. e };
+      before = omega (arith, place);
+    }
+branch_of k (x ∷ xs) (suc (suc r)) at place some in_range below above = record {
+  rank = suc (suc r);
+  is_rank = record { in_range = in_range; not_above = λ j d e. below j d e (omega (arith, e)); above = above };
+  before = place;
 }
 
 -- what a search in a leaf says of a look-up

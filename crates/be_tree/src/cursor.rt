@@ -15,10 +15,10 @@ ghost use Rattle.be_tree.specs.Cursor.{IsCursor, IsPath, IsPlace, pairs_along, p
 ghost use Rattle.be_tree.specs.Page.{IsItem, IsPage, item_at, items_of};
 ghost use Rattle.be_tree.specs.Range.{pair_in, pairs_from};
 ghost use Rattle.be_tree.specs.Tree.{IsTree, IsTreeAt, pairs, pairs_at};
-ghost use Rattle.be_tree.specs.Words.{AreFirst};
+ghost use Rattle.be_tree.specs.Words.{IsFirst};
 
-use crate::lookup::{rank_by, search};
-use crate::page::{FirstWords, HEADER_WORDS, ITEM_WORDS, child_at, first_words};
+use crate::lookup::{branch_for, search};
+use crate::page::{HEADER_WORDS, ITEM_WORDS, child_at, first_word};
 use crate::payload::fill_payload;
 use crate::walk::{TreeItem, fill_key, key_at};
 use arrayvec::ArrayVec;
@@ -68,15 +68,43 @@ impl Cursor {
         ensures remaining { remaining (L.words look.old) self.new ≡ pairs_from (pairs (L.words look.old) root) from.now after }
         ensures unchanged { IsUnchanged L.kept L.standing L.words look.old look.new }
     {
-        self.path.clear();
         if root == 0 {
+            self.path.clear();
             return;
         }
-        let words = first_words(from);
+        let (page, next) = self.descend(look, root, from, after);
+        self.path.push(Place {
+            page: page as u32,
+            next: next as u8,
+            level: 0,
+        });
+    }
+
+    /// Goes down to the leaf from which on the pairs stand that `seek` brings the cursor before. Gives the leaf, and how many
+    /// of its items stand before them; the cursor is past the leaf then.
+    pub(crate) fn descend<L: Look>(
+        &mut self,
+        look: &mut L,
+        root: u64,
+        from: &[u8],
+        after: bool,
+    ) -> (u64, usize)
+        requires tree { IsTree (L.standing look.old) (L.words look.old) root }
+        requires some { 0 < root }
+        ensures leaf { IsTreeAt 0 1 (L.standing look.old) (L.words look.old) result.0 }
+        ensures in_range { result.1 ≤ L.words look.old result.0 1 }
+        ensures parts { pairs_from (pairs (L.words look.old) root) from.now after
+            ≡ drop result.1 (items_of (L.words look.old result.0)) ++ remaining (L.words look.old) self.new }
+        ensures short { length self.new.path.items ≤ 13 }
+        ensures cursor { IsCursor (L.standing look.old) (L.words look.old) self.new }
+        ensures unchanged { IsUnchanged L.kept L.standing L.words look.old look.new }
+    {
+        self.path.clear();
+        let first = first_word(from);
         let mut page = root - 1;
         let mut level = look.word(page, 0);
         while level > 0 {
-            let at = rank_by(look, page, from, words).saturating_sub(1);
+            let at = branch_for(look, page, from, first);
             let child = child_at(look, page, HEADER_WORDS + ITEM_WORDS * at);
             self.path.push(Place {
                 page: page as u32,
@@ -86,12 +114,8 @@ impl Cursor {
             page = child;
             level -= 1;
         }
-        let next = leaf_from(look, page, from, words, after);
-        self.path.push(Place {
-            page: page as u32,
-            next: next as u8,
-            level: 0,
-        });
+        let next = leaf_from(look, page, from, first, after);
+        (page, next)
     }
 
     /// The pair that comes next, and a step past it; none once all were given. It is the pair that `range` answers for the
@@ -220,14 +244,14 @@ impl Cursor {
 }
 
 /// How many of a leaf's items stand before the pairs at or after a key.
-fn leaf_from<L: Look>(look: &mut L, page: u64, from: &[u8], words: FirstWords, after: bool) -> usize
+fn leaf_from<L: Look>(look: &mut L, page: u64, from: &[u8], first: u64, after: bool) -> usize
     requires tree { IsTreeAt 0 1 (L.standing look.old) (L.words look.old) page }
-    requires words { AreFirst from.now words }
+    requires first { IsFirst from.now first }
     ensures in_range { result ≤ length (items_of (L.words look.old page)) }
     ensures rest { drop result (items_of (L.words look.old page)) ≡ pairs_from (items_of (L.words look.old page)) from.now after }
     ensures unchanged { IsUnchanged L.kept L.standing L.words look.old look.new }
 {
-    match search(look, page, from, words) {
+    match search(look, page, from, first) {
         Ok(at) => if after { at + 1 } else { at },
         Err(at) => at,
     }

@@ -4,51 +4,26 @@
 //! On the way down a full child whose left neighbour has room is written anew together with it: the neighbour takes all
 //! the items that it can hold. A full child with a full neighbour, or with none, is split, and the first of the two pages
 //! takes as many items as leave six for the second. So keys that rise leave full pages behind them. An insertion writes
-//! two pages a level at most, and three at the root.
+//! two pages a level at most, and three at the root; `writing` says which pages those are.
 ghost use Rattle.std.specs.Prelude.{◌≡◌, ℕ, suc, ◌+◌, ◌-◌, ◌^◌, ◌<◌, ◌≤◌, List, [], ◌∷◌, ◌++◌, length, take, drop, All, IfOk, OnOk, OnErr, IfErr, IsTrue};
-ghost use Rattle.std.specs.Prelude.{◌≢◌};
-ghost use Rattle.be_pages.specs.Pages.{IsUnchanged, is_kept, is_readable, times, Swaps, KeepsStart};
+ghost use Rattle.be_pages.specs.Pages.{IsUnchanged, is_readable, KeepsStart};
 ghost use Rattle.be_pages.specs.Refusal.{IsFullOf};
 ghost use Rattle.be_tree.specs.Key.{IsRising, put};
 ghost use Rattle.be_tree.specs.Page.{IsItem, item_at, items_of};
-ghost use Rattle.be_tree.specs.Slot.{IsBranchSlot, IsReady, branch_to, pairs_of};
-ghost use Rattle.be_tree.specs.Tree.{AreNeighbours, IsBelow, IsTreeAt, IsWritten, Becomes, BecomesTree, IsTree, least_of_root, pairs, pages};
+ghost use Rattle.be_tree.specs.Slot.{IsReady, pairs_of};
+ghost use Rattle.be_tree.specs.Tree.{AreNeighbours, IsBelow, IsTreeAt, Becomes, BecomesTree, IsTree, pairs, pages};
 ghost use Rattle.be_tree.specs.Tree.{pairs_at, pairs_below, pages_below};
 
 use crate::item::Item;
 use crate::lookup::rank;
-use crate::page::{
-    HEADER_WORDS, ITEM_WORDS, LEAST_ITEMS, MOST_ITEMS, child_at, cmp_at, fill_slots, store_node,
-};
+use crate::page::{HEADER_WORDS, ITEM_WORDS, child_at, cmp_at, fill_slots};
 use crate::siblings::{append, sharing_children, slots_with};
 use crate::slot::Slot;
+use crate::writing::{pack, pack_two, write_first_root, write_root};
 use arrayvec::ArrayVec;
 use be_pages::{Look, Room};
 use be_value::Refusal;
 use std::cmp::Ordering;
-
-/// Writes a node to a page of its own, and gives the page.
-fn write_node<R: Room>(
-    room: &mut R,
-    level: u64,
-    slots: &[Slot],
-    pair: &Item,
-) -> Result<u64, Refusal>
-    requires some { 0 < length slots.now }
-    requires few { length slots.now ≤ 12 }
-    requires ready { All (IsReady (R.standing room.old) (R.words room.old)) slots.now }
-    requires key_fits { length pair.now.key ≤ 264 }
-    requires open { IsTrue (R.is_open (R.kept room.old)) }
-    ensures ok { IfOk result (λ page. IsWritten level (R.words room.new) (pairs_of (R.words room.old) pair.now slots.now) (branch_to (R.words room.new) page)) }
-    ensures swaps { IfOk result (λ page. Swaps R.kept R.standing R.words [] (page ∷ []) room.old room.new) }
-    ensures small { IfOk result (λ page. page < 2 ^ 32) }
-    ensures err { OnErr result (KeepsStart R.kept R.standing R.words room.old room.new) }
-    ensures full { IfErr result (IsFullOf (R.full room.new)) }
-{
-    let page = room.take()?;
-    store_node(room, page, level, slots, pair);
-    Ok(page)
-}
 
 /// The item at a place of a leaf with a pair beside it, or in its place.
 fn put_beside<L: Look>(look: &mut L, page: u64, place: usize, pair: &Item) -> ArrayVec<Slot, 2>
@@ -104,144 +79,6 @@ pub(crate) fn replace_at(slots: &mut ArrayVec<Slot, 24>, at: usize, mut more: Ar
     }
 }
 
-/// Writes a node with what stands below it, and gives its page.
-pub(crate) fn write_branch<R: Room>(
-    room: &mut R,
-    level: u64,
-    slots: &[Slot],
-    pair: &Item,
-) -> Result<u64, Refusal>
-    requires below { IsBelow level (R.standing room.old) (R.words room.old) (pairs_of (R.words room.old) pair.now slots.now) }
-    requires ready { All (IsReady (R.standing room.old) (R.words room.old)) slots.now }
-    requires enough { 6 ≤ length slots.now }
-    requires few { length slots.now ≤ 12 }
-    requires key_fits { length pair.now.key ≤ 264 }
-    requires open { IsTrue (R.is_open (R.kept room.old)) }
-    ensures ok { IfOk result (λ page. Becomes R.kept R.standing R.words
-        (pages_below level (R.words room.old) (pairs_of (R.words room.old) pair.now slots.now))
-        (pairs_below level (R.words room.old) (pairs_of (R.words room.old) pair.now slots.now)) (suc level)
-        (branch_to (R.words room.new) page ∷ []) room.old room.new) }
-    ensures fresh { IfOk result (λ page. Swaps R.kept R.standing R.words [] (page ∷ []) room.old room.new) }
-    ensures small { IfOk result (λ page. page < 2 ^ 32) }
-    ensures err { OnErr result (KeepsStart R.kept R.standing R.words room.old room.new) }
-    ensures full { IfErr result (IsFullOf (R.full room.new)) }
-{
-    let page = write_node(room, level, slots, pair)?;
-    Ok(page)
-}
-
-/// Writes a node in hand in two pages, the first `cut` items in the first, and gives them.
-fn write_parts<R: Room>(
-    room: &mut R,
-    level: u64,
-    slots: &[Slot],
-    cut: usize,
-    pair: &Item,
-) -> Result<(u64, u64), Refusal>
-    requires below { IsBelow level (R.standing room.old) (R.words room.old) (pairs_of (R.words room.old) pair.now slots.now) }
-    requires ready { All (IsReady (R.standing room.old) (R.words room.old)) slots.now }
-    requires first { (6 ≤ cut) × (cut ≤ 12) }
-    requires second { (cut + 6 ≤ length slots.now) × (length slots.now ≤ cut + 12) }
-    requires key_fits { length pair.now.key ≤ 264 }
-    requires open { IsTrue (R.is_open (R.kept room.old)) }
-    ensures ok { IfOk result (λ both. Becomes R.kept R.standing R.words
-        (pages_below level (R.words room.old) (pairs_of (R.words room.old) pair.now slots.now))
-        (pairs_below level (R.words room.old) (pairs_of (R.words room.old) pair.now slots.now)) (suc level)
-        (branch_to (R.words room.new) both.0 ∷ branch_to (R.words room.new) both.1 ∷ []) room.old room.new) }
-    ensures small { IfOk result (λ both. (both.0 < 2 ^ 32) × (both.1 < 2 ^ 32)) }
-    ensures err { OnErr result (KeepsStart R.kept R.standing R.words room.old room.new) }
-    ensures full { IfErr result (IsFullOf (R.full room.new)) }
-{
-    let (front, back) = slots.split_at(cut);
-    let left = write_branch(room, level, front, pair)?;
-    let right = write_branch(room, level, back, pair)?;
-    Ok((left, right))
-}
-
-/// How many of the items the first of two pages takes: all that it can hold while six are left for the second.
-fn first_of_two(len: usize) -> usize
-    requires { (12 < len) × (len ≤ 24) }
-    ensures first { (6 ≤ result) × (result ≤ 12) }
-    ensures second { (result + 6 ≤ len) × (len ≤ result + 12) }
-{
-    if len < MOST_ITEMS + LEAST_ITEMS {
-        len - LEAST_ITEMS
-    } else {
-        MOST_ITEMS
-    }
-}
-
-/// Writes a node in hand, in one page or in two, and gives the branches to them.
-fn pack<R: Room>(
-    room: &mut R,
-    level: u64,
-    slots: &[Slot],
-    pair: &Item,
-) -> Result<ArrayVec<Slot, 2>, Refusal>
-    requires below { IsBelow level (R.standing room.old) (R.words room.old) (pairs_of (R.words room.old) pair.now slots.now) }
-    requires ready { All (IsReady (R.standing room.old) (R.words room.old)) slots.now }
-    requires enough { 6 ≤ length slots.now }
-    requires few { length slots.now ≤ 24 }
-    requires key_fits { length pair.now.key ≤ 264 }
-    requires open { IsTrue (R.is_open (R.kept room.old)) }
-    ensures ok { IfOk result (λ branches. Becomes R.kept R.standing R.words
-        (pages_below level (R.words room.old) (pairs_of (R.words room.old) pair.now slots.now))
-        (pairs_below level (R.words room.old) (pairs_of (R.words room.old) pair.now slots.now)) (suc level)
-        (pairs_of (R.words room.new) pair.now branches.items) room.old room.new) }
-    ensures branches { IfOk result (λ branches. All IsBranchSlot branches.items) }
-    ensures some { IfOk result (λ branches. (0 < length branches.items) × (length branches.items ≤ 2)) }
-    ensures two { IfOk result (λ branches. 12 < length slots.now → length branches.items ≡ 2) }
-    ensures err { OnErr result (KeepsStart R.kept R.standing R.words room.old room.new) }
-    ensures full { IfErr result (IsFullOf (R.full room.new)) }
-{
-    let mut branches = ArrayVec::new();
-    if slots.len() <= MOST_ITEMS {
-        let page = write_branch(room, level, slots, pair)?;
-        branches.push(Slot::Branch(page as u32));
-        return Ok(branches);
-    }
-    let (left, right) = write_parts(room, level, slots, first_of_two(slots.len()), pair)?;
-    branches.push(Slot::Branch(left as u32));
-    branches.push(Slot::Branch(right as u32));
-    Ok(branches)
-}
-
-/// Writes a node in hand whose items stood in two neighbours, and gives the two up.
-pub(crate) fn pack_two<R: Room>(
-    room: &mut R,
-    level: u64,
-    left: u64,
-    right: u64,
-    slots: &[Slot],
-    pair: &Item,
-) -> Result<ArrayVec<Slot, 2>, Refusal>
-    requires below { IsBelow level (R.standing room.old) (R.words room.old) (pairs_of (R.words room.old) pair.now slots.now) }
-    requires ready { All (IsReady (R.standing room.old) (R.words room.old)) slots.now }
-    requires enough { 6 ≤ length slots.now }
-    requires few { length slots.now ≤ 24 }
-    requires key_fits { length pair.now.key ≤ 264 }
-    requires left_kept { IsTrue (is_kept (R.standing room.old left)) }
-    requires right_kept { IsTrue (is_kept (R.standing room.old right)) }
-    requires left_apart { times left (pages_below level (R.words room.old) (pairs_of (R.words room.old) pair.now slots.now)) ≡ 0 }
-    requires right_apart { times right (pages_below level (R.words room.old) (pairs_of (R.words room.old) pair.now slots.now)) ≡ 0 }
-    requires different { left ≢ right }
-    requires open { IsTrue (R.is_open (R.kept room.old)) }
-    ensures ok { IfOk result (λ branches. Becomes R.kept R.standing R.words
-        (left ∷ right ∷ pages_below level (R.words room.old) (pairs_of (R.words room.old) pair.now slots.now))
-        (pairs_below level (R.words room.old) (pairs_of (R.words room.old) pair.now slots.now)) (suc level)
-        (pairs_of (R.words room.new) pair.now branches.items) room.old room.new) }
-    ensures ready { IfOk result (λ branches. All (IsReady (R.standing room.new) (R.words room.new)) branches.items) }
-    ensures some { IfOk result (λ branches. (0 < length branches.items) × (length branches.items ≤ 2)) }
-    ensures two { IfOk result (λ branches. 12 < length slots.now → length branches.items ≡ 2) }
-    ensures err { OnErr result (KeepsStart R.kept R.standing R.words room.old room.new) }
-    ensures full { IfErr result (IsFullOf (R.full room.new)) }
-{
-    let branches = pack(room, level, slots, pair)?;
-    room.give_up(right);
-    room.give_up(left);
-    Ok(branches)
-}
-
 /// Puts a pair below the item at a place, and gives the items that stand in its place.
 #[cycle(put)]
 fn put_below<R: Room>(
@@ -272,14 +109,13 @@ fn put_below<R: Room>(
     let child = child_at(room, page, place);
     let mut slots = ArrayVec::new();
     put_at(room, level - 1, child, pair, &mut slots)?;
-    let branches = pack(room, level - 1, &slots, pair)?;
-    room.give_up(child);
+    let branches = pack(room, level - 1, child, &slots, pair)?;
     Ok(branches)
 }
 
 /// Puts a pair below a page, and the page's items with the pair put, still to be written, into an empty list. The page is
-/// not given up yet, since some of them stand there. A full child first gives items to its left neighbour, and is split
-/// only where that one is full too.
+/// not written over nor given up yet, since some of them stand there. A full child first gives items to its left
+/// neighbour, and is split only where that one is full too.
 #[cycle(put)]
 fn put_at<R: Room>(
     room: &mut R,
@@ -346,38 +182,9 @@ fn put_shared<R: Room>(
     Ok(branches)
 }
 
-/// Writes items as a tree of their own, and gives its root.
-pub(crate) fn write_root<R: Room>(
-    room: &mut R,
-    level: u64,
-    slots: &[Slot],
-    pair: &Item,
-) -> Result<u64, Refusal>
-    requires below { IsBelow level (R.standing room.old) (R.words room.old) (pairs_of (R.words room.old) pair.now slots.now) }
-    requires ready { All (IsReady (R.standing room.old) (R.words room.old)) slots.now }
-    requires enough { least_of_root level ≤ length slots.now }
-    requires few { length slots.now ≤ 18 }
-    requires low { level < 2 ^ 32 }
-    requires key_fits { length pair.now.key ≤ 264 }
-    requires open { IsTrue (R.is_open (R.kept room.old)) }
-    ensures ok { IfOk result (λ root. BecomesTree R.kept R.standing R.words
-        (pages_below level (R.words room.old) (pairs_of (R.words room.old) pair.now slots.now))
-        (pairs_below level (R.words room.old) (pairs_of (R.words room.old) pair.now slots.now)) root room.old room.new) }
-    ensures err { OnErr result (KeepsStart R.kept R.standing R.words room.old room.new) }
-    ensures full { IfErr result (IsFullOf (R.full room.new)) }
-{
-    if slots.len() <= MOST_ITEMS {
-        let top = write_node(room, level, slots, pair)?;
-        return Ok(top + 1);
-    }
-    let (left, right) = write_parts(room, level, slots, first_of_two(slots.len()), pair)?;
-    let branches = [Slot::Branch(left as u32), Slot::Branch(right as u32)];
-    let top = write_node(room, level + 1, &branches, pair)?;
-    Ok(top + 1)
-}
-
 /// Puts a pair into a tree, in place of any pair of its key, and gives the new root. The old tree's pages that the new
-/// one has not are given up. After an error the tree stands again once the room is undone.
+/// one has not are given up; those that this write had taken before may be written over. After an error the tree stands
+/// again once the room is undone.
 pub fn insert<R: Room>(room: &mut R, root: u64, key: &[u8], payload: &[u8]) -> Result<u64, Refusal>
     requires tree { IsTree (R.standing room.old) (R.words room.old) root }
     requires key_fits { length key.now ≤ 264 }
@@ -390,13 +197,12 @@ pub fn insert<R: Room>(room: &mut R, root: u64, key: &[u8], payload: &[u8]) -> R
 {
     let pair = Item::new(key, payload);
     if root == 0 {
-        return write_root(room, 0, &[Slot::New], &pair);
+        return write_first_root(room, &[Slot::New], &pair);
     }
     let page = root - 1;
     let level = room.word(page, 0);
     let mut slots = ArrayVec::new();
     put_at(room, level, page, &pair, &mut slots)?;
-    let new = write_root(room, level, &slots, &pair)?;
-    room.give_up(page);
+    let new = write_root(room, level, page, &slots, &pair)?;
     Ok(new)
 }

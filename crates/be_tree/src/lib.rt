@@ -11,9 +11,10 @@
 //! shared table, and nothing here knows of versions or of other threads.
 //!
 //! # How a tree changes
-//! No page is changed in place. `insert` and `remove` go down to a leaf, write it and the pages above it anew, give up
-//! the ones that they stood in, and give the root of a new tree, which shares all other pages with the old one. `clear`
-//! gives up each page of a tree.
+//! `insert` and `remove` go down to a leaf, write it and the pages above it, and give the root of a new tree, which shares
+//! all other pages with the old one. No page that was there when the write began is changed: its node is written to a page
+//! that is taken for it, and the old one is given up. A page that the write has taken before is written over where it is,
+//! so a second change near the first one mostly takes no page. `clear` gives up each page of a tree.
 //!
 //! # What is proved
 //! Reading spells the list from the words (`specs/Tree.antt`). `find_into`, `range`, `Cursor`, `insert`, `remove` and
@@ -36,6 +37,7 @@ mod siblings;
 mod slot;
 mod stop;
 mod walk;
+mod writing;
 
 pub use clearing::clear;
 pub use cursor::Cursor;

@@ -1,19 +1,21 @@
 //! Look-ups of a key.
 //!
 //! On each level the items of one page are asked one after the other, where they stand, up to the first whose key is
-//! greater, or in a leaf up to the one that has the key. A page has 12 at most, mostly their first words decide, and a
-//! processor reads ahead along them, while the steps of a binary search wait for each other.
+//! greater, or in a leaf up to the one that has the key. A page has 12 at most, and a processor reads ahead along them, while
+//! the steps of a binary search wait for each other. Mostly the first word behind an item's lengths decides. Where it is less
+//! than the first word of the key, the item's key is less, however short it is: what stands behind a short key counts for
+//! nothing, and the key has zeros there. Where it is greater, the item's key may be short, so its length is read too.
 ghost use Rattle.std.specs.Prelude.{◌≡◌, [], ◌+◌, ◌-◌, ◌<◌, ◌≤◌, true, false, length, option_map, is_some, IfNone, IfSome, IfOk, IfErr, None, Some};
 ghost use Rattle.std.specs.Prelude.{IsTrue};
 ghost use Rattle.std.specs.Ordering.{is_eq, is_gt};
 ghost use Rattle.be_pages.specs.Pages.{IsUnchanged, is_readable};
 ghost use Rattle.std.specs.declared.cmp.Ordering.TheVariants.{Equal};
-ghost use Rattle.be_tree.specs.Page.{IsItem, IsPage, item_at, item_place, items_of, key_len};
-ghost use Rattle.be_tree.specs.Key.{IsGap, IsRank, key_cmp, payload_at};
-ghost use Rattle.be_tree.specs.Words.{AreFirst};
+ghost use Rattle.be_tree.specs.Page.{IsItem, IsPage, item_at, item_place, items_of};
+ghost use Rattle.be_tree.specs.Key.{IsBranchFor, IsGap, IsRank, key_cmp, payload_at};
+ghost use Rattle.be_tree.specs.Words.{IsFirst};
 ghost use Rattle.be_tree.specs.Tree.{IsTree, pairs};
 
-use crate::page::{FirstWords, HEADER_WORDS, ITEM_WORDS, child_at, cmp_at, first_words, least_of};
+use crate::page::{HEADER_WORDS, ITEM_WORDS, child_at, cmp_at, first_word};
 use crate::payload::fill_payload;
 use arrayvec::ArrayVec;
 use be_pages::Look;
@@ -78,15 +80,15 @@ pub fn find_place<L: Look>(look: &mut L, root: u64, key: &[u8]) -> Option<(u64, 
     if root == 0 {
         return None;
     }
-    let words = first_words(key);
+    let first = first_word(key);
     let mut page = root - 1;
     let mut level = look.word(page, 0);
     while level > 0 {
-        let at = rank_by(look, page, key, words).saturating_sub(1);
+        let at = branch_for(look, page, key, first);
         page = child_at(look, page, HEADER_WORDS + ITEM_WORDS * at);
         level -= 1;
     }
-    match search(look, page, key, words) {
+    match search(look, page, key, first) {
         Ok(at) => Some((page, HEADER_WORDS + ITEM_WORDS * at)),
         Err(_) => None,
     }
@@ -103,31 +105,40 @@ pub fn is_key_at<L: Look>(look: &mut L, page: u64, at: usize, key: &[u8]) -> boo
     cmp_at(look, page, at, key).is_eq()
 }
 
-/// How many of a page's items have keys that are not greater than a key. Of most items it reads two words.
+/// How many of a page's items have keys that are not greater than a key. Of most items it reads one word.
 pub(crate) fn rank<L: Look>(look: &mut L, page: u64, key: &[u8]) -> usize
     requires readable { IsTrue (is_readable (L.standing look.old page)) }
     requires page { IsPage (L.words look.old page) }
     ensures rank { IsRank key.now (items_of (L.words look.old page)) result }
     ensures unchanged { IsUnchanged L.kept L.standing L.words look.old look.new }
 {
-    rank_by(look, page, key, first_words(key))
-}
-
-/// The same of a key whose first words are at hand.
-pub(crate) fn rank_by<L: Look>(look: &mut L, page: u64, key: &[u8], words: FirstWords) -> usize
-    requires readable { IsTrue (is_readable (L.standing look.old page)) }
-    requires page { IsPage (L.words look.old page) }
-    requires words { AreFirst key.now words }
-    ensures rank { IsRank key.now (items_of (L.words look.old page)) result }
-    ensures unchanged { IsUnchanged L.kept L.standing L.words look.old look.new }
-{
+    let first = first_word(key);
     let count = look.word(page, 1) as usize;
     for at in 0..count {
-        if is_above(look, page, HEADER_WORDS + ITEM_WORDS * at, key, words) {
+        if is_above(look, page, HEADER_WORDS + ITEM_WORDS * at, key, first) {
             return at;
         }
     }
     count
+}
+
+/// The number of the branch below which a key stands: the last one whose key is not greater, or the first one. So the first
+/// one's key isn't asked.
+pub(crate) fn branch_for<L: Look>(look: &mut L, page: u64, key: &[u8], first: u64) -> usize
+    requires readable { IsTrue (is_readable (L.standing look.old page)) }
+    requires page { IsPage (L.words look.old page) }
+    requires some { 0 < L.words look.old page 1 }
+    requires first { IsFirst key.now first }
+    ensures branch { IsBranchFor key.now (items_of (L.words look.old page)) result }
+    ensures unchanged { IsUnchanged L.kept L.standing L.words look.old look.new }
+{
+    let count = look.word(page, 1) as usize;
+    for at in 1..count {
+        if is_above(look, page, HEADER_WORDS + ITEM_WORDS * at, key, first) {
+            return at - 1;
+        }
+    }
+    count - 1
 }
 
 /// Where a key stands among a page's items: the number of the item that has it, or how many have lesser keys.
@@ -135,11 +146,11 @@ pub(crate) fn search<L: Look>(
     look: &mut L,
     page: u64,
     key: &[u8],
-    words: FirstWords,
+    first: u64,
 ) -> Result<usize, usize>
     requires readable { IsTrue (is_readable (L.standing look.old page)) }
     requires page { IsPage (L.words look.old page) }
-    requires words { AreFirst key.now words }
+    requires first { IsFirst key.now first }
     ensures found { IfOk result (λ at. at < L.words look.old page 1) }
     ensures same { IfOk result (λ at. key_cmp (item_at (L.words look.old page) (item_place at)).key key.now ≡ Equal) }
     ensures absent { IfErr result (IsGap key.now (items_of (L.words look.old page))) }
@@ -147,7 +158,7 @@ pub(crate) fn search<L: Look>(
 {
     let count = look.word(page, 1) as usize;
     for at in 0..count {
-        let order = order_at(look, page, HEADER_WORDS + ITEM_WORDS * at, key, words);
+        let order = order_at(look, page, HEADER_WORDS + ITEM_WORDS * at, key, first);
         if order.is_eq() {
             return Ok(at);
         }
@@ -158,78 +169,34 @@ pub(crate) fn search<L: Look>(
     Err(count)
 }
 
-/// Whether the key of the item at a place is greater than a key whose first words are at hand.
-pub(crate) fn is_above<L: Look>(
-    look: &mut L,
-    page: u64,
-    at: usize,
-    key: &[u8],
-    words: FirstWords,
-) -> bool
+/// Whether the key of the item at a place is greater than a key whose first word is at hand.
+pub(crate) fn is_above<L: Look>(look: &mut L, page: u64, at: usize, key: &[u8], first: u64) -> bool
     requires readable { IsTrue (is_readable (L.standing look.old page)) }
     requires in_page { at + 42 ≤ 512 }
     requires item { IsItem (L.words look.old page) at }
-    requires words { AreFirst key.now words }
+    requires first { IsFirst key.now first }
     ensures above { result ≡ is_gt (key_cmp (item_at (L.words look.old page) at).key key.now) }
     ensures unchanged { IsUnchanged L.kept L.standing L.words look.old look.new }
 {
-    order_at(look, page, at, key, words).is_gt()
+    order_at(look, page, at, key, first).is_gt()
 }
 
-/// How the key of the item at a place compares with a key whose first words are at hand: mostly these decide.
-fn order_at<L: Look>(look: &mut L, page: u64, at: usize, key: &[u8], words: FirstWords) -> Ordering
+/// How the key of the item at a place compares with a key whose first word is at hand: mostly this decides.
+#[inline]
+fn order_at<L: Look>(look: &mut L, page: u64, at: usize, key: &[u8], first: u64) -> Ordering
     requires readable { IsTrue (is_readable (L.standing look.old page)) }
     requires in_page { at + 42 ≤ 512 }
     requires item { IsItem (L.words look.old page) at }
-    requires words { AreFirst key.now words }
+    requires first { IsFirst key.now first }
     ensures order { result ≡ key_cmp (item_at (L.words look.old page) at).key key.now }
     ensures unchanged { IsUnchanged L.kept L.standing L.words look.old look.new }
 {
-    let len = (look.word(page, at) >> 32) as usize;
-    if len < 8 {
-        return cmp_at(look, page, at, key);
-    }
     let mine = look.word(page, at + 1);
-    if mine != words.first {
-        return mine.cmp(&words.first);
+    if mine < first {
+        return Ordering::Less;
     }
-    order_behind(look, page, at, key, words)
-}
-
-/// The same where the key's first word is that of the item. It stands by itself, so that what mostly happens stays short.
-fn order_behind<L: Look>(
-    look: &mut L,
-    page: u64,
-    at: usize,
-    key: &[u8],
-    words: FirstWords,
-) -> Ordering
-    requires readable { IsTrue (is_readable (L.standing look.old page)) }
-    requires in_page { at + 42 ≤ 512 }
-    requires item { IsItem (L.words look.old page) at }
-    requires words { AreFirst key.now words }
-    requires long { 8 ≤ key_len (L.words look.old page) at }
-    requires same { words.first ≡ L.words look.old page (at + 1) }
-    ensures order { result ≡ key_cmp (item_at (L.words look.old page) at).key key.now }
-    ensures unchanged { IsUnchanged L.kept L.standing L.words look.old look.new }
-{
-    let len = (look.word(page, at) >> 32) as usize;
-    let common = least_of(len, key.len());
-    if common < 8 {
-        return cmp_at(look, page, at, key);
+    if mine > first && look.word(page, at) >> 32 >= 8 {
+        return Ordering::Greater;
     }
-    if common == 8 {
-        return len.cmp(&key.len());
-    }
-    let rest = least_of(common - 8, 8);
-    let second = look.word(page, at + 2);
-    let mine_rest = second >> (64 - 8 * rest);
-    let other_rest = words.second >> (64 - 8 * rest);
-    if mine_rest != other_rest {
-        return mine_rest.cmp(&other_rest);
-    }
-    if common > 16 {
-        return cmp_at(look, page, at, key);
-    }
-    len.cmp(&key.len())
+    cmp_at(look, page, at, key)
 }

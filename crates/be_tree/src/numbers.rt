@@ -11,10 +11,11 @@ ghost use Rattle.be_tree.specs.Cursor.{IsCursor, remaining};
 ghost use Rattle.be_tree.specs.Page.{IsItem, item_at, items_of};
 ghost use Rattle.be_tree.specs.Range.{AreLong, HasFirst, is_past, number_of, numbers_to, pairs_from};
 ghost use Rattle.be_tree.specs.Tree.{IsTree, IsTreeAt, pairs};
+ghost use Rattle.be_tree.specs.Words.{IsFirstOf};
 
 use crate::cursor::Cursor;
 use crate::lookup::is_above;
-use crate::page::{HEADER_WORDS, ITEM_WORDS, first_words, number_behind};
+use crate::page::{HEADER_WORDS, ITEM_WORDS, first_word, number_behind};
 use be_pages::Look;
 use std::alloc::AllocError;
 
@@ -35,11 +36,11 @@ pub fn numbers_within<L: Look>(
         ≡ found.old.items ++ numbers_to (pairs_from (pairs (L.words look.old) root) low.now false) (option_copied high.entry)) }
     ensures unchanged { IsUnchanged L.kept L.standing L.words look.old look.new }
 {
-    let mut cursor = Cursor::new();
-    cursor.seek(look, root, low, false);
-    let Some((page, from)) = cursor.step_leaf(look) else {
+    if root == 0 {
         return Ok(());
-    };
+    }
+    let mut cursor = Cursor::new();
+    let (page, from) = cursor.descend(look, root, low, false);
     let is_last = push_to(look, page, from, high, found)?;
     if is_last {
         return Ok(());
@@ -89,7 +90,8 @@ fn push_leaf<L: Look>(
     ensures unchanged { IsUnchanged L.kept L.standing L.words look.old look.new }
 {
     let count = look.word(page, 1) as usize;
-    if is_past_at(look, page, HEADER_WORDS + ITEM_WORDS * (count - 1), high) {
+    let last = HEADER_WORDS + ITEM_WORDS * (count - 1);
+    if is_past_at(look, page, last, high, first_of(high)) {
         push_to(look, page, from, high, found)
     } else {
         push_to(look, page, from, None, found)
@@ -105,7 +107,6 @@ fn push_to<L: Look>(
     found: &mut Vec<u64>,
 ) -> Result<bool, AllocError>
     requires leaf { IsTreeAt 0 1 (L.standing look.old) (L.words look.old) page }
-    requires left { from < L.words look.old page 1 }
     requires long { AreLong (drop from (items_of (L.words look.old page))) }
     ensures first { HasFirst found.old.items (numbers_to (drop from (items_of (L.words look.old page))) (option_copied high.entry)) found.new.items }
     ensures found { OnOk result (found.new.items
@@ -113,10 +114,11 @@ fn push_to<L: Look>(
     ensures past { IfOk result (λ past. past ≡ list_any (λ x. is_past (option_copied high.entry) x.key) (drop from (items_of (L.words look.old page)))) }
     ensures unchanged { IsUnchanged L.kept L.standing L.words look.old look.new }
 {
+    let first = first_of(high);
     let count = look.word(page, 1) as usize;
     for at in from..count {
         let place = HEADER_WORDS + ITEM_WORDS * at;
-        if is_past_at(look, page, place, high) {
+        if is_past_at(look, page, place, high, first) {
             return Ok(true);
         }
         let number = number_at(look, page, place);
@@ -125,16 +127,27 @@ fn push_to<L: Look>(
     Ok(false)
 }
 
-/// Whether the key of the item at a place is above the bound.
-fn is_past_at<L: Look>(look: &mut L, page: u64, at: usize, high: Option<&[u8]>) -> bool
+/// The first word of the bound, or 0 where there is none.
+fn first_of(high: Option<&[u8]>) -> u64
+    ensures { IsFirstOf (option_copied high.entry) result }
+{
+    match high {
+        Some(high) => first_word(high),
+        None => 0,
+    }
+}
+
+/// Whether the key of the item at a place is above the bound, whose first word is at hand.
+fn is_past_at<L: Look>(look: &mut L, page: u64, at: usize, high: Option<&[u8]>, first: u64) -> bool
     requires readable { IsTrue (is_readable (L.standing look.old page)) }
     requires in_page { at + 42 ≤ 512 }
     requires item { IsItem (L.words look.old page) at }
+    requires first { IsFirstOf (option_copied high) first }
     ensures past { result ≡ is_past (option_copied high.entry) (item_at (L.words look.old page) at).key }
     ensures unchanged { IsUnchanged L.kept L.standing L.words look.old look.new }
 {
     match high {
-        Some(high) => is_above(look, page, at, high, first_words(high)),
+        Some(high) => is_above(look, page, at, high, first),
         None => false,
     }
 }

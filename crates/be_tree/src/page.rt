@@ -6,11 +6,11 @@ ghost use Rattle.be_pages.specs.Pages.{is_readable, is_taken, IsUnchanged, OnlyW
 ghost use Rattle.be_pages.specs.declared.room.Standing.TheVariants.{Filled};
 ghost use Rattle.be_tree.specs.Page.{IsItem, IsPadded, IsPage, item_at, bytes_at, key_len, level_of, items_of, words_for};
 ghost use Rattle.be_tree.specs.Page.{item_place};
-ghost use Rattle.std.specs.Prelude.{◌^◌, ◌⊎◌};
+ghost use Rattle.std.specs.Prelude.{◌^◌, ◌⊎◌, true};
 ghost use Rattle.be_tree.specs.declared.slot.Slot.TheVariants.{At};
-ghost use Rattle.be_tree.specs.Slot.{IsBeside, IsReady, branch_to, pair_of, pairs_of};
+ghost use Rattle.be_tree.specs.Slot.{IsReady, MayMove, MoveDown, MoveUp, StandsFrom, StandsTo, branch_to, pair_of, pairs_of};
 ghost use Rattle.be_tree.specs.Key.{key_cmp};
-ghost use Rattle.be_tree.specs.Words.{AreFirst};
+ghost use Rattle.be_tree.specs.Words.{IsFirst};
 ghost use Rattle.be_tree.specs.Tree.{child};
 
 use crate::item::Item;
@@ -68,7 +68,9 @@ pub(crate) fn straddled(first: u64, second: u64, skip: usize) -> u64
     (first << (8 * skip)) + (second >> (64 - 8 * skip))
 }
 
-/// How the key of the item at a place compares with a key: word by word, where the item stands.
+/// How the key of the item at a place compares with a key: word by word, where the item stands. Look-ups come here seldom, so
+/// it isn't put into their loops.
+#[inline(never)]
 pub(crate) fn cmp_at<L: Look>(look: &mut L, page: u64, at: usize, key: &[u8]) -> Ordering
     requires readable { IsTrue (is_readable (L.standing look.old page)) }
     requires in_page { at + 42 ≤ 512 }
@@ -101,7 +103,7 @@ pub(crate) fn cmp_at<L: Look>(look: &mut L, page: u64, at: usize, key: &[u8]) ->
 }
 
 /// The lesser of two numbers.
-pub(crate) fn least_of(a: usize, b: usize) -> usize
+fn least_of(a: usize, b: usize) -> usize
     ensures at_most { (result ≤ a) × (result ≤ b) }
     ensures one { (result ≡ a) ⊎ (result ≡ b) }
 {
@@ -205,21 +207,11 @@ pub(crate) fn word_from(bytes: &[u8], from: usize) -> u64
     ])
 }
 
-/// The first two words of a key, with zeros behind a short one. A descent makes them once.
-#[derive(Clone, Copy)]
-pub(crate) struct FirstWords {
-    pub(crate) first: u64,
-    pub(crate) second: u64,
-}
-
-/// The first two words of a key.
-pub(crate) fn first_words(key: &[u8]) -> FirstWords
-    ensures { AreFirst key.now result }
+/// The first word of a key, with zeros behind a short one. A descent makes it once.
+pub(crate) fn first_word(key: &[u8]) -> u64
+    ensures { IsFirst key.now result }
 {
-    FirstWords {
-        first: word_from(key, 0),
-        second: word_from(key, 8),
-    }
+    word_from(key, 0)
 }
 
 /// Writes bytes into the words from a place on, of a page that has a word filled, eight in a word, and zeros after the
@@ -258,12 +250,12 @@ pub(crate) fn store_item<R: Room>(room: &mut R, page: u64, at: usize, item: &Ite
     store_bytes(room, page, at + 1, bytes);
 }
 
-/// Copies the words of an item of another page to a place of a page that has a word filled.
+/// Copies the words of an item to a place of a page that has a word filled. An item that stands there is left alone.
 fn copy_item<R: Room>(room: &mut R, page: u64, at: usize, from: u64, place: usize)
     requires filled { R.standing room.old page ≡ Filled }
     requires in_page { at + 42 ≤ 512 }
     requires readable { IsTrue (is_readable (R.standing room.old from)) }
-    requires beside { from ≢ page }
+    requires may_move { from ≡ page → (at ≤ place) ⊎ (place + 42 ≤ at) }
     requires place { place + 42 ≤ 512 }
     requires item { IsItem (R.words room.old from) place }
     requires open { IsTrue (R.is_open (R.kept room.old)) }
@@ -271,6 +263,9 @@ fn copy_item<R: Room>(room: &mut R, page: u64, at: usize, from: u64, place: usiz
     ensures fits { IsItem (R.words room.new page) at }
     ensures only { OnlyWrites R.kept R.standing R.words page at (at + 42) room.old room.new }
 {
+    if from == page && place == at {
+        return;
+    }
     let header = room.word(from, place);
     room.fill(page, at, header);
     let n = ((header >> 32) + header % (1 << 32)) as usize;
@@ -311,7 +306,7 @@ fn store_slot<R: Room>(room: &mut R, page: u64, at: usize, slot: Slot, pair: &It
     requires filled { R.standing room.old page ≡ Filled }
     requires in_page { at + 42 ≤ 512 }
     requires ready { IsReady (R.standing room.old) (R.words room.old) slot }
-    requires beside { IsBeside page slot }
+    requires may_move { MayMove page at slot }
     requires key_fits { length pair.now.key ≤ 264 }
     requires open { IsTrue (R.is_open (R.kept room.old)) }
     ensures item { item_at (R.words room.new page) at ≡ pair_of (R.words room.old) pair.now slot }
@@ -341,17 +336,19 @@ pub(crate) fn fill_slots<L: Look>(look: &mut L, page: u64, slots: &mut ArrayVec<
     }
 }
 
-/// Writes a node to a page that was taken.
+/// Writes a node to a page that was taken, from its first item on. Those of its items that stand on the page move down or
+/// stay.
 pub(crate) fn store_node<R: Room>(room: &mut R, page: u64, level: u64, slots: &[Slot], pair: &Item)
     requires taken { IsTrue (is_taken (R.standing room.old page)) }
     requires few { length slots.now ≤ 12 }
     requires ready { All (IsReady (R.standing room.old) (R.words room.old)) slots.now }
-    requires beside { All (IsBeside page) slots.now }
+    requires down { MoveDown page slots.now }
     requires key_fits { length pair.now.key ≤ 264 }
     requires open { IsTrue (R.is_open (R.kept room.old)) }
     ensures level { level_of (R.words room.new page) ≡ level }
     ensures items { items_of (R.words room.new page) ≡ pairs_of (R.words room.old) pair.now slots.now }
     ensures page { IsPage (R.words room.new page) }
+    ensures behind { (i : ℕ) → item_place (length slots.now) ≤ i → R.words room.new page i ≡ R.words room.old page i }
     ensures standing { StandsAt (R.standing room.old) (R.standing room.new) page Filled }
     ensures others { (q : ℕ) → q ≢ page → R.words room.new q ≡ R.words room.old q }
     ensures kept { R.kept room.new ≡ R.kept room.old }
@@ -361,4 +358,85 @@ pub(crate) fn store_node<R: Room>(room: &mut R, page: u64, level: u64, slots: &[
     for j in 0..slots.len() {
         store_slot(room, page, HEADER_WORDS + ITEM_WORDS * j, slots[j], pair);
     }
+}
+
+/// The same from its last item on. Those of its items that stand on the page move up or stay.
+pub(crate) fn store_from_last<R: Room>(
+    room: &mut R,
+    page: u64,
+    level: u64,
+    slots: &[Slot],
+    pair: &Item,
+)
+    requires taken { IsTrue (is_taken (R.standing room.old page)) }
+    requires few { length slots.now ≤ 12 }
+    requires ready { All (IsReady (R.standing room.old) (R.words room.old)) slots.now }
+    requires up { MoveUp page slots.now }
+    requires key_fits { length pair.now.key ≤ 264 }
+    requires open { IsTrue (R.is_open (R.kept room.old)) }
+    ensures level { level_of (R.words room.new page) ≡ level }
+    ensures items { items_of (R.words room.new page) ≡ pairs_of (R.words room.old) pair.now slots.now }
+    ensures page { IsPage (R.words room.new page) }
+    ensures behind { (i : ℕ) → item_place (length slots.now) ≤ i → R.words room.new page i ≡ R.words room.old page i }
+    ensures standing { StandsAt (R.standing room.old) (R.standing room.new) page Filled }
+    ensures others { (q : ℕ) → q ≢ page → R.words room.new q ≡ R.words room.old q }
+    ensures kept { R.kept room.new ≡ R.kept room.old }
+{
+    room.fill(page, 0, level);
+    room.fill(page, 1, slots.len() as u64);
+    for i in 0..slots.len() {
+        let j = slots.len() - 1 - i;
+        store_slot(room, page, HEADER_WORDS + ITEM_WORDS * j, slots[j], pair);
+    }
+}
+
+/// Whether nothing before a place of a page is a slot's item.
+pub(crate) fn stands_from(page: u64, place: usize, slot: Slot) -> bool
+    ensures { result ≡ true → StandsFrom page place slot }
+{
+    match slot {
+        Slot::At(at, from) => from as u64 != page || place <= at as usize,
+        Slot::Branch(child) => child as u64 != page,
+        Slot::New => true,
+    }
+}
+
+/// Whether nothing behind the item at a place of a page is a slot's item.
+fn stands_to(page: u64, place: usize, slot: Slot) -> bool
+    ensures { result ≡ true → StandsTo page place slot }
+{
+    match slot {
+        Slot::At(at, from) => {
+            let at = at as usize;
+            from as u64 != page || at >= HEADER_WORDS && (at == place || at + ITEM_WORDS <= place)
+        }
+        Slot::Branch(child) => child as u64 != page,
+        Slot::New => true,
+    }
+}
+
+/// Whether those of a node's items that stand on a page move down there, or stay.
+pub(crate) fn move_down(page: u64, slots: &[Slot]) -> bool
+    requires { length slots.now ≤ 12 }
+    ensures { result ≡ true → MoveDown page slots.now }
+{
+    for j in 0..slots.len() {
+        if !stands_from(page, HEADER_WORDS + ITEM_WORDS * j, slots[j]) {
+            return false;
+        }
+    }
+    true
+}
+
+/// Whether they move up, or stay.
+pub(crate) fn move_up(page: u64, slots: &[Slot]) -> bool
+    requires { length slots.now ≤ 12 }
+    ensures { result ≡ true → MoveUp page slots.now }
+{
+    for j in 0..slots.len() {
+        if !stands_to(page, HEADER_WORDS + ITEM_WORDS * j, slots[j]) {
+            return false;
+        }
+    }
+    true
 }

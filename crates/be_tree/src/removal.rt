@@ -9,7 +9,7 @@
 //! Nothing is written on the way down. A leaf without the key stops the removal, and nothing has changed.
 ghost use Rattle.std.specs.Prelude.{◌≡◌, ◌≢◌, ℕ, true, false, suc, ◌+◌, ◌-◌, ◌^◌, ◌<◌, ◌≤◌, [], ◌∷◌, ◌++◌, length, take, drop, All, IfOk, OnOk};
 ghost use Rattle.std.specs.Prelude.{OnErr, IfErr, IsTrue, None, Ok};
-ghost use Rattle.be_pages.specs.Pages.{IsUnchanged, is_readable, Swaps, KeepsStart};
+ghost use Rattle.be_pages.specs.Pages.{IsUnchanged, is_kept, is_readable, times, Swaps, KeepsStart};
 ghost use Rattle.be_pages.specs.Refusal.{IsFullOf};
 ghost use Rattle.be_tree.specs.Key.{key_cmp, payload_at, without};
 ghost use Rattle.std.specs.Ordering.{is_eq};
@@ -21,13 +21,13 @@ ghost use Rattle.be_tree.specs.declared.stop.Stop.TheVariants.{Absent};
 ghost use Rattle.be_tree.specs.Tree.{AreNeighbours, Becomes, BecomesTree, IsBelow, IsTree, IsTreeAt, child, least_of_root, pages, pages_below, pairs};
 ghost use Rattle.be_tree.specs.Tree.{pairs_at, pairs_below};
 
-use crate::edit::{pack_two, write_branch, write_root};
 use crate::item::Item;
 use crate::lookup::rank;
 use crate::page::{HEADER_WORDS, ITEM_WORDS, child_at, cmp_at, fill_slots};
 use crate::siblings::{append, count_of, slots_with, slots_with_one, spare_child, two_children};
 use crate::slot::Slot;
 use crate::stop::Stop;
+use crate::writing::{pack_two, write_branch, write_root};
 use arrayvec::ArrayVec;
 use be_pages::{Look, Room};
 use be_value::Refusal;
@@ -56,38 +56,43 @@ pub fn remove<R: Room>(room: &mut R, root: u64, key: &[u8]) -> Result<u64, Refus
         Err(Stop::Absent) => return Ok(root),
         Err(Stop::Refused(refusal)) => return Err(refusal),
     }
-    let new = write_rest(room, level, &slots, &pair)?;
-    room.give_up(page);
+    let new = write_rest(room, level, page, &slots, &pair)?;
     Ok(new)
 }
 
 /// Writes what is left of a root as a tree, and gives its root: none where nothing is left, and the page of the one
-/// branch that is left of an inner root.
+/// branch that is left of an inner root. The old root's page is given up where it isn't written over.
 fn write_rest<R: Room>(
     room: &mut R,
     level: u64,
+    old: u64,
     slots: &[Slot],
     pair: &Item,
 ) -> Result<u64, Refusal>
     requires below { IsBelow level (R.standing room.old) (R.words room.old) (pairs_of (R.words room.old) pair.now slots.now) }
     requires ready { All (IsReady (R.standing room.old) (R.words room.old)) slots.now }
     requires few { length slots.now ≤ 18 }
+    requires kept { IsTrue (is_kept (R.standing room.old old)) }
+    requires apart { times old (pages_below level (R.words room.old) (pairs_of (R.words room.old) pair.now slots.now)) ≡ 0 }
     requires low { level < 2 ^ 32 }
     requires key_fits { length pair.now.key ≤ 264 }
     requires open { IsTrue (R.is_open (R.kept room.old)) }
     ensures ok { IfOk result (λ root. BecomesTree R.kept R.standing R.words
-        (pages_below level (R.words room.old) (pairs_of (R.words room.old) pair.now slots.now))
+        (old ∷ pages_below level (R.words room.old) (pairs_of (R.words room.old) pair.now slots.now))
         (pairs_below level (R.words room.old) (pairs_of (R.words room.old) pair.now slots.now)) root room.old room.new) }
     ensures err { OnErr result (KeepsStart R.kept R.standing R.words room.old room.new) }
     ensures full { IfErr result (IsFullOf (R.full room.new)) }
 {
     if slots.len() == 0 {
+        room.give_up(old);
         return Ok(0);
     }
     if level > 0 && slots.len() == 1 {
-        return Ok(child_of(room, slots[0], pair) + 1);
+        let child = child_of(room, slots[0], pair);
+        room.give_up(old);
+        return Ok(child + 1);
     }
-    let root = write_root(room, level, slots, pair)?;
+    let root = write_root(room, level, old, slots, pair)?;
     Ok(root)
 }
 
@@ -135,7 +140,7 @@ fn slots_without<L: Look>(
 }
 
 /// Takes a key out below a page, and puts the page's items without it, still to be written, into an empty list. The page
-/// is not given up yet, since some of them stand there.
+/// is not written over nor given up yet, since some of them stand there.
 #[cycle(removal)]
 fn remove_at<R: Room>(
     room: &mut R,
@@ -210,8 +215,7 @@ fn remove_alone<R: Room>(
 {
     let mut slots = ArrayVec::new();
     remove_at(room, level, below, key, pair, &mut slots)?;
-    let page = write_branch(room, level, &slots, pair)?;
-    room.give_up(below);
+    let page = write_branch(room, level, below, &slots, pair)?;
     Ok(Slot::Branch(page as u32))
 }
 

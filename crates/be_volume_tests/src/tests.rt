@@ -3,6 +3,7 @@
 
 use be_language::{Reply, Request, read_line};
 use be_query::parse;
+use be_state::{Place, WholeVolume, next_list, whole_volume};
 use be_testing::{
     Answers, EQUAL_VALUES, EXAMPLES, LISTS, check_lines, done_lines, list_of, reply_lines,
 };
@@ -49,13 +50,58 @@ struct Plain {
     volume: Volume,
 }
 
+/// The lines of the reply to a request, and of its refusal where it is refused. OutOfMemory alone.
+fn lines_of(alloc: Global, volume: &mut Volume, request: &str) -> Result<String, Refusal> {
+    match answer(alloc, volume, request) {
+        Err(Refusal::OutOfMemory) => Err(Refusal::OutOfMemory),
+        Err(refusal) => Ok(reply_lines(alloc, &Reply::Refused(refusal))?),
+        reply => reply,
+    }
+}
+
 impl Answers for Plain {
     fn reply(&mut self, alloc: Global, request: &str) -> Result<String, Refusal> {
-        match answer(alloc, &mut self.volume, request) {
-            Err(Refusal::OutOfMemory) => Err(Refusal::OutOfMemory),
-            Err(refusal) => Ok(reply_lines(alloc, &Reply::Refused(refusal))?),
-            reply => reply,
+        lines_of(alloc, &mut self.volume, request)
+    }
+}
+
+/// Writes the next list of what makes a volume again; false where none is left.
+fn write_next(
+    alloc: Global,
+    whole: &mut WholeVolume<'_>,
+    place: &mut Place,
+    again: &mut Volume,
+) -> Result<bool, Refusal> {
+    let Some(ops) = next_list(whole, place)? else {
+        return Ok(false);
+    };
+    let _dones = write(alloc, again, ops.as_slice())?;
+    Ok(true)
+}
+
+/// The volume that the lists of this one make of an empty one.
+fn made_of(alloc: Global, volume: &Volume) -> Result<Volume, Refusal> {
+    let mut again = Volume::new(alloc);
+    let mut whole = whole_volume(volume);
+    let mut place = Place::new(alloc);
+    for _ in 0..u64::MAX {
+        if !write_next(alloc, &mut whole, &mut place, &mut again)? {
+            return Ok(again);
         }
+    }
+    Ok(again)
+}
+
+/// A volume that is made again before it answers.
+#[derive(Drop)]
+struct MadeAgain {
+    volume: Volume,
+}
+
+impl Answers for MadeAgain {
+    fn reply(&mut self, alloc: Global, request: &str) -> Result<String, Refusal> {
+        self.volume = made_of(alloc, &self.volume)?;
+        lines_of(alloc, &mut self.volume, request)
     }
 }
 
@@ -78,6 +124,24 @@ fn examples(rt: HostRuntime) -> Result<(), Fail> {
     }
     let _volume = after(rt.alloc(), LISTS)?;
     Ok(())
+}
+
+/// Runs these requests, and makes the volume again before each.
+fn runs_made_again(alloc: Global, lines: &str) -> Result<(), Fail> {
+    let mut made = MadeAgain {
+        volume: Volume::new(alloc),
+    };
+    check_lines(alloc, &mut made, lines)
+}
+
+/// A volume that is made again gives the same replies, with attributes that stand outside of an index and dropped nodes
+/// among them.
+#[test]
+fn made_again(rt: HostRuntime) -> Result<(), Fail> {
+    for lines in EXAMPLES {
+        runs_made_again(rt.alloc(), lines)?;
+    }
+    runs_made_again(rt.alloc(), LISTS)
 }
 
 /// An equal volume, copied again where memory is refused.

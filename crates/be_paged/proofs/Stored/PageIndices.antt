@@ -4,6 +4,7 @@ use Rattle.std.proofs.lemmas.Bool.{cases_lt}
 use Rattle.std.proofs.lemmas.List.FromFn.{get_or-map-range_with_len, length-map-range_with_len}
 use Rattle.std.specs.declared.cmp.Ordering.{Ordering}
 use Rattle.std.specs.declared.option.Option.{Option}
+use Rattle.std.specs.declared.option.Option.TheVariants.{Some, None}
 use Rattle.std.specs.declared.cmp.Ordering.TheVariants.{Less, Equal, Greater}
 use Rattle.be_pages.specs.declared.room.Standing.{Standing}
 use Rattle.be_tree.specs.declared.cursor.Cursor.{Cursor}
@@ -11,8 +12,8 @@ use Rattle.be_volume.specs.Maps.{name_cmp}
 use Rattle.be_volume.specs.Volume.{State}
 use Rattle.be_paged.specs.Entry.{Entry}
 use Rattle.be_paged.specs.Page.{contents_of, entry_at, entry_place, IsGapAt, IsNamedAt}
-use Rattle.be_paged.specs.Source.{IsKnown, SourceOf}
-use Rattle.be_paged.specs.declared.on_page.KnownName.{KnownName}
+use Rattle.be_paged.specs.Source.{IsFound, IsIndexOf, IsKnown, SourceOf}
+use Rattle.be_paged.specs.declared.on_page.FoundIndex.{FoundIndex}
 use Rattle.be_paged.proofs.IndexEntries.Indexing.{NamesRise, flip, names_exact, names_total}
 
 -- the names of the indices before a place of a page are less than this one
@@ -72,8 +73,17 @@ module _ (words : ℕ → ℕ) (name : List ℕ) where
   }
 
 -- a source that was only read since, with what it remembers now
-pub source_since : (s t : ℕ → Standing) (v w : ℕ → ℕ → ℕ) (page : ℕ) (was known : Option KnownName) (cursor : Cursor) (place last_page last_at : ℕ) (volume : State) → t ≡ s → w ≡ v →
+pub source_since : (s t : ℕ → Standing) (v w : ℕ → ℕ → ℕ) (page : ℕ) (was known : Option FoundIndex) (cursor : Cursor) (place last_page last_at : ℕ) (volume : State) → t ≡ s → w ≡ v →
     IsKnown (contents_of (w page)).entries known → SourceOf s v page was cursor place last_page last_at volume → SourceOf t w page known cursor place last_page last_at volume
 source_since s t v w page was known cursor place last_page last_at volume standing words is h =
     let now = subst (λ (u : ℕ → Standing). SourceOf u w page was cursor place last_page last_at volume) (sym standing) (subst (λ (x : ℕ → ℕ → ℕ). SourceOf s x page was cursor place last_page last_at volume) (sym words) h) in
     record { version = now.version; known_is = is; behind = now.behind }
+
+-- what is remembered of an index
+pub of_known : (entries : List Entry) (known : Option FoundIndex) (index : FoundIndex) → known ≡ Some index → IsKnown entries known → IsIndexOf entries index
+of_known entries known index is h = subst (IsKnown entries) is h
+
+-- an index that was found is to be remembered
+pub found_known : (entries : List Entry) (name : List ℕ) (found : Option FoundIndex) → IsFound entries name found → IsKnown entries found
+found_known entries name None h = tt
+found_known entries name (Some index) h = record { in_range = h.named.in_range; kind = h.kind; root = h.root }

@@ -25,13 +25,13 @@ fn push(journal: &mut Journal, ops: Vec<Op>, dones: Vec<Done>) -> Result<(), Ref
     })
 }
 
-/// Enters a list in the room that is reserved for it.
-fn enter(journal: &mut Journal, ops: &[Op], dones: &[Done]) -> Result<(), Refusal> {
+/// Enters a pass's list in the room that is reserved for it.
+fn enter(journal: &mut Journal, pass: u64, ops: &[Op], dones: &[Done]) -> Result<(), Refusal> {
     if ops.is_empty() || ops.len() > 64 || dones.len() != ops.len() {
         return Err(Refusal::BadLimits);
     }
     journal.reserve(ops.len())?;
-    journal.push_reserved(0, ops, dones);
+    journal.push_reserved(pass, ops, dones);
     Ok(())
 }
 
@@ -57,7 +57,7 @@ fn push_text(alloc: Global, journal: &mut Journal, text: &str) -> Result<(), Ref
     let ops = list_of(alloc, ops)?;
     let dones = dones_of(alloc, dones)?;
     if ops.len() > 1 {
-        return enter(journal, &ops, &dones);
+        return enter(journal, 0, &ops, &dones);
     }
     push(journal, ops, dones)
 }
@@ -106,6 +106,39 @@ fn nodes(alloc: Global) -> Result<Journal, Refusal> {
         push_one(alloc, &mut journal, Op::New, Done::Node(node))?;
     }
     Ok(journal)
+}
+
+/// A list of 64 texts of 255 bytes.
+fn long_list(alloc: Global) -> Result<Vec<Op>, Refusal> {
+    let text = "x".repeat(alloc, 255)?;
+    let mut ops = Vec::new(alloc);
+    for node in 0..64 {
+        ops.push(Op::Set(node, Name::new("a")?, Value::text(text.as_str())?))?;
+    }
+    Ok(ops)
+}
+
+/// So many long lists, each by the pass of its number. A block of the journal has room for 15 of them.
+fn long_lists(alloc: Global, count: u64) -> Result<Journal, Refusal> {
+    let ops = long_list(alloc)?;
+    let dones = vec![in alloc; Done::Unit; 64]?;
+    let mut journal = journal_within(alloc, count)?;
+    for pass in 0..count {
+        enter(&mut journal, pass, &ops, &dones)?;
+    }
+    Ok(journal)
+}
+
+/// How many entries are of 64 operations by the pass of their number.
+fn found_lists(journal: &Journal) -> Result<u64, Refusal> {
+    let mut found: u64 = 0;
+    for i in 0..journal.len() {
+        let entry = journal.get(i)?;
+        if entry.by == i && entry.ops.as_slice().len() == 64 {
+            found = found.saturating_add(1);
+        }
+    }
+    Ok(found)
 }
 
 /// The reply to `attrs`.
@@ -180,6 +213,14 @@ pub(crate) fn told_end(alloc: Global) -> Result<String, Refusal> {
     Ok(String::from_str(alloc, end)?)
 }
 
+/// How many of so many long lists are found in their journal.
+pub(crate) fn told_lists(alloc: Global, text: &str) -> Result<String, Refusal> {
+    let (count, _) = first_number(text);
+    let journal = long_lists(alloc, count)?;
+    let found = found_lists(&journal)?;
+    Ok(format!(in alloc; "{found} found")?)
+}
+
 /// A text of entries, whether it is legal, and what its volume has. Without entries there is room for 64 operations. An answer
 /// that the volume doesn't give is wrong, and so is an entry that it refuses. Example `batches` is the last one: a list is
 /// entered in the room that was reserved for it.
@@ -209,5 +250,12 @@ journal 3 unset 7 m -> ok | rmindex k -> ok | drop 7 -> ok => 1 by 0 unset 7 "m"
 #[test]
 fn long_journal(rt: HostRuntime) -> Result<(), Fail> {
     let lines = "nodes => 1100 by 0 new -> node 1100 / legal, spent, next 1101 / attrs 0";
+    replies(rt.alloc(), lines)
+}
+
+/// Entries are found in a journal's first block, where that is just full, and in those behind it.
+#[test]
+fn journal_of_blocks(rt: HostRuntime) -> Result<(), Fail> {
+    let lines = "lists 15 => 15 found\nlists 16 => 16 found\nlists 46 => 46 found";
     replies(rt.alloc(), lines)
 }

@@ -1,6 +1,6 @@
 //! Requests and replies of tests, as text: a line `COMMAND TEXT => REPLY` each. What is refused is replied as it is printed.
 
-use super::{journal, machine, pattern, query, tree, value};
+use super::{journal, machine, pattern, query, stored_words, tree, value};
 use be_testing::{Answers, check_lines};
 use be_value::{Refusal, word_of};
 use std::alloc::Global;
@@ -12,9 +12,11 @@ fn answer(alloc: Global, command: &str, text: &str) -> Result<String, Refusal> {
         "journal" => journal::told_of(alloc, text),
         "escaped" => journal::told_of_escaped(alloc),
         "nodes" => journal::told_end(alloc),
+        "lists" => journal::told_lists(alloc, text),
         "machine" => machine::is_opened(alloc, text),
         "free" => tree::free_with(alloc, text),
         "emptied" => tree::free_without(alloc, text),
+        "stored" => stored_words::stored_by(alloc, text),
         _ => answer_query(alloc, command, text),
     }
 }

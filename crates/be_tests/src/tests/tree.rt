@@ -14,7 +14,7 @@ use std::alloc::Global;
 use std::test::Fail;
 
 /// Inserts a number's key and keeps the write, or undoes a write that is refused.
-fn put_number(room: &mut VecRoom, root: u64, i: u64) -> Result<u64, Refusal>
+pub(crate) fn put_number(room: &mut VecRoom, root: u64, i: u64) -> Result<u64, Refusal>
     requires tree { IsTree (⟦<VecRoom as Look>⟧.standing room.old) (⟦<VecRoom as Look>⟧.words room.old) root }
     requires start { IsWriteStart (⟦<VecRoom as Look>⟧.standing room.old) }
     ensures ok { IfOk result (λ new. IsTree (⟦<VecRoom as Look>⟧.standing room.new) (⟦<VecRoom as Look>⟧.words room.new) new) }

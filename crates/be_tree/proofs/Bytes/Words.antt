@@ -9,7 +9,7 @@ use Rattle.std.specs.Int.{to_be_bytes, bytes_high_first, byte_at, w64}
 use Rattle.std.specs.List.{flat_map, range_with_len}
 use Rattle.std.proofs.Math.Nat.{div-div-eq-div-mul, div-one, pow-suc}
 use Rattle.std.proofs.Math.Seq.{drop-append_seam}
-use Rattle.std.proofs.lemmas.List.{drop-take, drop-drop, take-append-drop, length-take-le}
+use Rattle.std.proofs.lemmas.List.{drop-take, drop-drop, take-append-drop, take_all, length-take-le}
 use Rattle.std.proofs.lemmas.List.FromFn.{take-map-range_with_len}
 use Rattle.be_tree.specs.Key.{key_cmp}
 use Rattle.be_tree.specs.Page.{bytes_at, item_at, key_len, words_for}
@@ -229,3 +229,12 @@ first_bytes w at long =
     sym (sym (take_drop_range (item_at w at).key 0 8 (omega (arith, item_key_length w at, long)))
     ∙ mine_is w at [] 0 8 (omega arith) (omega (arith, long))
     ∙ ap (λ (n : ℕ). take 8 (to_be_bytes w64 (w n))) e)
+
+-- a short key
+pub short_bytes : (w : ℕ → ℕ) (at : ℕ) → key_len w at ≤ 8 → take (key_len w at) (to_be_bytes w64 (w (at + 1))) ≡ (item_at w at).key
+short_bytes w at short =
+    let n = key_len w at in
+    let e : at + 1 + 0 ≡ at + 1 = omega arith in
+    sym (sym (take_all n (item_at w at).key (omega (arith, item_key_length w at)))
+    ∙ mine_is w at [] 0 n short (omega arith)
+    ∙ ap (λ (m : ℕ). take n (to_be_bytes w64 (w m))) e)

@@ -1,5 +1,5 @@
 -- Two neighbours under one parent, of which one changed, written together.
-use Rattle.std.proofs.Common.{◌≡◌, ◌≢◌, ℕ, suc, ◌+◌, ◌<◌, ◌==◌, List, [], ◌∷◌, ◌++◌, map, cond, All, IsTrue, ap, sym, subst, ◌∙◌, refl, inl, inr, arith}
+use Rattle.std.proofs.Common.{◌≡◌, ◌≢◌, ℕ, suc, ◌<◌, ◌==◌, List, [], ◌∷◌, ◌++◌, map, cond, All, IsTrue, ap, sym, subst, ◌∙◌, refl, inl, inr, arith}
 use Rattle.std.specs.List.{range_with_len}
 use Rattle.std.proofs.lemmas.Bool.{cases_eq}
 use Rattle.std.proofs.lemmas.List.{append-nil, map-append}
@@ -15,27 +15,10 @@ use Rattle.be_tree.specs.Slot.{pair_of, pairs_of, IsReady}
 use Rattle.be_tree.specs.Tree.{AreNeighbours, child, pairs_at, pairs_below, pages_below, IsBelow, Becomes}
 use Rattle.be_tree.proofs.Frame.{times_append, times-cons, times_itself, times_other, same_page, swaps_trans, swaps_frame, swaps_same, swaps_stands, readable_kept}
 use Rattle.be_tree.proofs.TreeFacts.{branch_tree}
-use Rattle.be_tree.proofs.Shape.Below.{below_append, times_pages}
+use Rattle.be_tree.proofs.Shape.Below.{below_append, times_both, times_pages}
 use Rattle.be_tree.proofs.Shape.Parts.{becomes_same, becomes_append, back_below, back_pairs}
 use Rattle.be_tree.proofs.Putting.Puts.{becomes_since, becomes_until, given_up_page}
 use Rattle.be_tree.proofs.Nodes.Slots.{loaded_pairs, loaded_ready}
-
--- how often a page is among those of two branches
-pub times_both : (level : ℕ) (words : ℕ → ℕ → ℕ) (left right : Pair) (q : ℕ) → times q (pages_below (suc level) words (left ∷ right ∷ []))
-    ≡ times q (child left ∷ child right ∷ []) + times q (pages_below level words (items_of (words (child left)) ++ items_of (words (child right))))
-times_both level words left right q =
-    let ps = pages_below level words (items_of (words (child left))) in
-    let qs = pages_below level words (items_of (words (child right))) in
-    omega (
-      arith,
-      times_append q (child left ∷ ps) (child right ∷ qs ++ []),
-      times-cons q (child left) ps,
-      times_append q (child right ∷ qs) [],
-      times-cons q (child right) qs,
-      times-cons q (child left) (child right ∷ []),
-      times-cons q (child right) [],
-      times_pages level words (items_of (words (child left))) (items_of (words (child right))) q,
-    )
 
 -- the children of two branches are neighbours
 module _ (level : ℕ) (standing : ℕ → Standing) (words : ℕ → ℕ → ℕ) (left right : Pair) (l r : ℕ) (el : l ≡ child left) (er : r ≡ child right) where

@@ -1,14 +1,12 @@
 -- Nodes in hand, while pages change.
-use Rattle.std.proofs.Common.{◌≡◌, ◌≢◌, ℕ, suc, ◌+◌, ◌<◌, ◌≤◌, ◌^◌, List, [], ◌∷◌, length, get_or, map, All, IsTrue, ap, sym, subst, ◌∙◌, refl, arith, zero-add}
+use Rattle.std.proofs.Common.{◌≡◌, ℕ, suc, ◌+◌, ◌<◌, ◌≤◌, ◌^◌, List, [], ◌∷◌, length, get_or, map, All, IsTrue, ap, sym, subst, ◌∙◌, refl, arith, zero-add}
 use Rattle.std.specs.List.{range_with_len}
 use Rattle.std.specs.Int.{to_be_bytes, w64}
 use Rattle.std.proofs.lemmas.Nat.{from_be_bytes-to_be_bytes_8}
 use Rattle.std.proofs.lemmas.List.FromFn.{get_or-map-range_with_len, length-map-range_with_len}
 use Rattle.std.proofs.lemmas.List.{get_or-map, length-map}
 use Rattle.std.proofs.lemmas.Simd.{map-map}
-use mathlib.Core.Bool.{false≢true}
 use Rattle.be_pages.specs.declared.room.Standing.{Standing}
-use Rattle.be_pages.specs.declared.room.Standing.TheVariants.{Free}
 use Rattle.be_pages.specs.Pages.{is_readable, is_kept, times, Swaps}
 use Rattle.be_tree.specs.declared.slot.Slot.{Slot}
 use Rattle.be_tree.specs.declared.slot.Slot.TheVariants.{At, Branch, New}
@@ -17,30 +15,7 @@ use Rattle.be_tree.specs.Page.{item_at, items_of, level_of, IsItem, IsPage, item
 use Rattle.be_tree.specs.Tree.{child, IsBelow, IsNode, IsWritten}
 use Rattle.be_tree.proofs.Frame.{swaps_stands, swaps_same, readable_kept}
 use Rattle.be_tree.proofs.Shape.Below.{child_page}
-use Rattle.be_tree.specs.Slot.{branch_to, pair_of, pairs_of, IsReady, IsBeside, IsBranchSlot}
-
--- pages whose words and standings are the same serve alike
-pub ready_same : (page : ℕ) (s t : ℕ → Standing) (v w : ℕ → ℕ → ℕ) (slot : Slot) → ((q : ℕ) → q ≢ page → t q ≡ s q) → ((q : ℕ) → q ≢ page → w q ≡ v q)
-    → IsBeside page slot → IsReady s v slot → IsReady t w slot
-ready_same page s t v w (At at from) stands words beside ready =
-    (subst (λ u. IsTrue (is_readable u)) (sym (stands from beside)) ready.0, (ready.1.0, subst (λ u. IsItem u at) (sym (words from beside)) ready.1.1))
-ready_same page s t v w (Branch from) stands words beside ready =
-    (subst (λ u. IsTrue (is_readable u)) (sym (stands from beside)) ready.0, (ready.1.0, subst (λ u. IsItem u 2) (sym (words from beside)) ready.1.1))
-ready_same page s t v w New stands words beside ready = tt
-
-pub pair_same : (page : ℕ) (v w : ℕ → ℕ → ℕ) (given : Pair) (slot : Slot) → ((q : ℕ) → q ≢ page → w q ≡ v q) → IsBeside page slot → pair_of w given slot ≡ pair_of v given slot
-pair_same page v w given (At at from) words beside = ap (λ u. item_at u at) (words from beside)
-pair_same page v w given (Branch from) words beside = ap (λ u. branch_of u from) (words from beside)
-  where
-    branch_of : (ℕ → ℕ) → ℕ → Pair
-    branch_of u from = record { key = (item_at u 2).key; payload = to_be_bytes w64 from }
-pair_same page v w given New words beside = refl
-
--- a page that is free is none of a ready slot's
-pub beside_free : (page : ℕ) (s : ℕ → Standing) (v : ℕ → ℕ → ℕ) (slot : Slot) → s page ≡ Free → IsReady s v slot → IsBeside page slot
-beside_free page s v (At at from) free ready = λ e. false≢true (ap is_readable (sym free) ∙ ap (λ q. is_readable (s q)) (sym e) ∙ ready.0)
-beside_free page s v (Branch from) free ready = λ e. false≢true (ap is_readable (sym free) ∙ ap (λ q. is_readable (s q)) (sym e) ∙ ready.0)
-beside_free page s v New free ready = tt
+use Rattle.be_tree.specs.Slot.{branch_to, pair_of, pairs_of, IsReady, IsBranchSlot}
 
 -- items that stand in a page as a list of slots says
 pub stored_map : (f : Slot → Pair) (g : ℕ → Pair) (slots : List Slot) (n : ℕ) → n ≡ length slots → ((k : ℕ) (d : Slot) → k < n → g k ≡ f (get_or slots k d)) → map g (range_with_len 0 n) ≡ map f slots
@@ -92,7 +67,7 @@ apart_nil (At at page) = refl
 apart_nil (Branch page) = refl
 apart_nil New = tt
 
-map_agree : {A B : Type 0} (f g : A → B) (xs : List A) → ((i : ℕ) (d : A) → i < length xs → f (get_or xs i d) ≡ g (get_or xs i d)) → map f xs ≡ map g xs
+pub map_agree : {A B : Type 0} (f g : A → B) (xs : List A) → ((i : ℕ) (d : A) → i < length xs → f (get_or xs i d) ≡ g (get_or xs i d)) → map f xs ≡ map g xs
 map_agree f g [] same = refl
 map_agree f g (x ∷ xs) same = ap2 (same 0 x (omega arith)) (map_agree f g xs (λ i d lt. same (suc i) d (omega (arith, lt))))
   where

@@ -7,16 +7,15 @@ use Rattle.std.proofs.lemmas.Bool.{cases_eq}
 use Rattle.std.proofs.lemmas.List.{append-nil, length-take-le}
 use Rattle.std.proofs.Math.Seq.{take-append_seam, drop-append_seam}
 use Rattle.std.proofs.lemmas.List.Elements.{All-cons}
-use Rattle.std.proofs.lemmas.Bool.Decides.{nat_tests}
 use Rattle.be_pages.specs.declared.room.Standing.{Standing}
 use Rattle.be_pages.specs.declared.room.Standing.TheVariants.{Free, Old, GivenUp, Taken, Filled}
-use Rattle.be_pages.specs.Pages.{is_kept, is_held, times, after_give_up, PageStep, untouched, unused, fresh, given_old, given_new, stays_old, stays_new, Swaps, StandsAt, IsUnchanged}
+use Rattle.be_pages.specs.Pages.{is_kept, is_held, times, after_give_up, PageStep, untouched, unused, fresh, given_old, given_new, stays_old, stays_new, Swaps, IsUnchanged}
 use Rattle.be_tree.specs.Pair.{Pair}
 use Rattle.be_tree.specs.Key.{key_cmp, AllAbove, IsRising, IsRank, put, put_before}
 use Rattle.be_tree.specs.Page.{items_of}
 use Rattle.be_tree.specs.Tree.{child, pairs_at, pairs_below, pages_at, pages_below, AreShaped, IsBelow, IsTreeAt, Becomes}
 use Rattle.be_tree.proofs.Order.{key_exact, key_cmp_flip_less, AllAbove_trans}
-use Rattle.be_tree.proofs.Frame.{times_append, times-cons, times_other, same_page, swaps_fresh, swaps_trans, swaps_stands, readable_kept}
+use Rattle.be_tree.proofs.Frame.{times_append, times-cons, times_other, same_page, swaps_fresh, swaps_trans, swaps_stands, swaps_with, readable_kept}
 use Rattle.be_tree.proofs.TreeFacts.{in_three, IsSplit, put_split, inner_split, leaf_split, as_branches, branch_tree}
 use Rattle.be_tree.proofs.Shape.Below.{times_pages, below_left, below_right}
 use Rattle.be_tree.proofs.Shape.Parts.{becomes_part, all_one}
@@ -164,6 +163,10 @@ module _ {S K : Type 0} (kept_of : S → K) (standing_of : S → ℕ → Standin
       held Taken used = refl
       held Filled used = refl
 
+  -- and in use still
+  pub kept_after : (before after : List ℕ) (page : ℕ) (old new : S) → Swaps kept_of standing_of words_of before after old new → times page before ≡ 0 → IsTrue (is_kept (standing_of old page)) → IsTrue (is_kept (standing_of new page))
+  kept_after before after page old new swaps none used = subst (λ s. IsTrue (is_kept s)) (sym (swaps_stands kept_of standing_of words_of before after old new swaps page none (readable_kept _ used))) used
+
   -- one change after another
   pub becomes_trans : (before : List ℕ) (all : List Pair) (level next : ℕ) (xs us : List Pair) (old mid new : S) → Becomes kept_of standing_of words_of before all level xs old mid
       → Becomes kept_of standing_of words_of (pages_below level (words_of mid) xs) (pairs_below level (words_of mid) xs) next us mid new → Becomes kept_of standing_of words_of before all next us old new
@@ -306,19 +309,28 @@ module _ {S K : Type 0} (kept_of : S → K) (standing_of : S → ℕ → Standin
       (subst (λ s. IsTreeAt below 6 s (words_of read) (child item)) (sym same.standing)
       (subst (λ w. IsTreeAt below 6 (standing_of old) w (child item)) (sym same.words) (branch_child level below (standing_of old) (words_of old) item e h)))
 
-  -- a branch, whose child's items changed and were then written, and whose child is then given up
-  pub becomes_below : (level below page : ℕ) (item pair : Pair) (xs ys us : List Pair) (old mid last new : S) → level ≡ suc below → page ≡ child item → ys ≡ xs
+  -- a page's items changed, and were then written in its place
+  pub becomes_over : (before : List ℕ) (all : List Pair) (level next page : ℕ) (xs us : List Pair) (old mid new : S) → Becomes kept_of standing_of words_of before all level xs old mid
+      → times page before ≡ 0 → ((q : ℕ) → times q before ≤ 1) → IsTrue (is_kept (standing_of old page))
+      → Becomes kept_of standing_of words_of (page ∷ pages_below level (words_of mid) xs) (pairs_below level (words_of mid) xs) next us mid new
+      → Becomes kept_of standing_of words_of (page ∷ before) all next us old new
+  becomes_over before all level next page xs us old mid new first none once used last = record {
+    below = last.below;
+    has_pairs = last.has_pairs ∙ first.has_pairs;
+    swaps = swaps_trans kept_of standing_of words_of (page ∷ before) (page ∷ pages_below level (words_of mid) xs) (pages_below next (words_of new) us) old mid new
+        (swaps_with kept_of standing_of words_of page before (pages_below level (words_of mid) xs) old mid first.swaps none once used) last.swaps;
+  }
+
+  -- a branch, whose child's items changed and were then written in the child's place
+  pub becomes_below : (level below page : ℕ) (item pair : Pair) (xs ys us : List Pair) (old mid new : S) → level ≡ suc below → page ≡ child item → ys ≡ xs
       → IsTreeAt below 6 (standing_of old) (words_of old) page
       → Becomes kept_of standing_of words_of (pages_below below (words_of old) (items_of (words_of old page))) (put pair (pairs_at below (words_of old) page)) below xs old mid
-      → Becomes kept_of standing_of words_of (pages_below below (words_of mid) ys) (pairs_below below (words_of mid) ys) (suc below) us mid last
-      → kept_of new ≡ kept_of last → words_of new ≡ words_of last → StandsAt (standing_of last) (standing_of new) page (after_give_up (standing_of last page))
+      → Becomes kept_of standing_of words_of (page ∷ pages_below below (words_of mid) ys) (pairs_below below (words_of mid) ys) (suc below) us mid new
       → Becomes kept_of standing_of words_of (pages_below level (words_of old) (item ∷ [])) (put pair (pairs_below level (words_of old) (item ∷ []))) level us old new
-  becomes_below level below page item pair xs ys us old mid last new e is same tree first last_step kept words gone =
-      let both = becomes_trans kept_of standing_of words_of (pages_below below (words_of old) (items_of (words_of old page))) (put pair (pairs_at below (words_of old) page)) below (suc below) xs us old mid last first
-      (subst (λ zs. Becomes kept_of standing_of words_of (pages_below below (words_of mid) zs) (pairs_below below (words_of mid) zs) (suc below) us mid last) same last_step) in
-      let given = becomes_given_up kept_of standing_of words_of (pages_below below (words_of old) (items_of (words_of old page))) (put pair (pairs_at below (words_of old) page)) (suc below) us page old last new both tree.page_once tree.page_in_use kept words
-      (gone page ∙ grind (arith, nat_tests)) (λ q ne. gone q ∙ grind (arith, nat_tests)) in
-      let at = subst (λ p. Becomes kept_of standing_of words_of (pages_at below (words_of old) p) (put pair (pairs_at below (words_of old) p)) (suc below) us old new) is given in
+  becomes_below level below page item pair xs ys us old mid new e is same tree first last =
+      let over = becomes_over (pages_below below (words_of old) (items_of (words_of old page))) (put pair (pairs_at below (words_of old) page)) below (suc below) page xs us old mid new first tree.page_once tree.below.once tree.page_in_use
+      (subst (λ zs. Becomes kept_of standing_of words_of (page ∷ pages_below below (words_of mid) zs) (pairs_below below (words_of mid) zs) (suc below) us mid new) same last) in
+      let at = subst (λ p. Becomes kept_of standing_of words_of (pages_at below (words_of old) p) (put pair (pairs_at below (words_of old) p)) (suc below) us old new) is over in
       let alone = subst (λ ps. Becomes kept_of standing_of words_of ps (put pair (pairs_at below (words_of old) (child item))) (suc below) us old new) (sym (append-nil (pages_at below (words_of old) (child item)))) at in
       let pairs = subst (λ ps. Becomes kept_of standing_of words_of (pages_at below (words_of old) (child item) ++ []) (put pair ps) (suc below) us old new) (sym (append-nil (pairs_at below (words_of old) (child item)))) alone in
       subst (λ n. Becomes kept_of standing_of words_of (pages_below n (words_of old) (item ∷ [])) (put pair (pairs_below n (words_of old) (item ∷ []))) n us old new) (sym e) pairs

@@ -27,6 +27,23 @@ pages_append (suc level) words xs ys = flat_map-append (λ b. child b ∷ pages_
 pub times_pages : (level : ℕ) (words : ℕ → ℕ → ℕ) (xs ys : List Pair) (q : ℕ) → times q (pages_below level words (xs ++ ys)) ≡ times q (pages_below level words xs) + times q (pages_below level words ys)
 times_pages level words xs ys q = ap (times q) (pages_append level words xs ys) ∙ times_append q (pages_below level words xs) (pages_below level words ys)
 
+-- how often a page is among those of two branches
+pub times_both : (level : ℕ) (words : ℕ → ℕ → ℕ) (left right : Pair) (q : ℕ) → times q (pages_below (suc level) words (left ∷ right ∷ []))
+    ≡ times q (child left ∷ child right ∷ []) + times q (pages_below level words (items_of (words (child left)) ++ items_of (words (child right))))
+times_both level words left right q =
+    let ps = pages_below level words (items_of (words (child left))) in
+    let qs = pages_below level words (items_of (words (child right))) in
+    omega (
+      arith,
+      times_append q (child left ∷ ps) (child right ∷ qs ++ []),
+      times-cons q (child left) ps,
+      times_append q (child right ∷ qs) [],
+      times-cons q (child right) qs,
+      times-cons q (child left) (child right ∷ []),
+      times-cons q (child right) [],
+      times_pages level words (items_of (words (child left))) (items_of (words (child right))) q,
+    )
+
 -- all of a list of which a part holds it
 pub all_left : {A : Type 0} (P : A → Type 0) (xs ys : List A) → All P (xs ++ ys) → All P xs
 all_left P xs ys all i d lt = subst P (get_or_append_left xs ys d i lt) (all i d (omega (arith, length-append xs ys, lt)))

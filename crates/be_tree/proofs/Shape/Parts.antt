@@ -1,6 +1,5 @@
 -- How the pages in use become others, part by part.
 use Rattle.std.proofs.Common.{◌≡◌, ℕ, zero, suc, ◌+◌, ◌<◌, ◌≤◌, List, [], ◌∷◌, ◌++◌, length, get_or, All, Result, Ok, Err, OnErr, ap, sym, subst, ◌∙◌, refl, arith}
-use Rattle.std.proofs.lemmas.Bool.Decides.{nat_tests}
 use Rattle.std.proofs.lemmas.List.{append-nil}
 use Rattle.std.proofs.lemmas.List.Elements.{All-nil, All-cons}
 use Rattle.be_pages.specs.declared.room.Standing.{Standing}
@@ -10,8 +9,8 @@ use Rattle.be_tree.specs.Key.{IsRising, StartsAt}
 use Rattle.be_tree.specs.Page.{items_of}
 use Rattle.be_tree.specs.Tree.{child, pairs_at, pairs_below, pages_below, IsNode, IsBranch, AreShaped, IsBelow, IsWritten, Becomes}
 use Rattle.be_tree.proofs.Order.{IsRising_right}
-use Rattle.be_tree.proofs.Frame.{times_append, times-cons, swaps_trans, swaps_frame, swaps_after}
-use Rattle.be_tree.proofs.Shape.Below.{pairs_append, times_pages, below_left, below_right, below_append, beside_pairs, beside_pages, beside_below, beside_apart}
+use Rattle.be_tree.proofs.Frame.{times_append, one_page, swaps_trans, swaps_frame, swaps_after}
+use Rattle.be_tree.proofs.Shape.Below.{pairs_append, times_both, times_pages, below_left, below_right, below_append, beside_pairs, beside_pages, beside_below, beside_apart}
 
 starts_append : (k : List ℕ) (xs ys : List Pair) → StartsAt k xs → StartsAt k (xs ++ ys)
 starts_append k [] ys h = absurd h
@@ -22,6 +21,21 @@ starts_first : (level : ℕ) (words : ℕ → ℕ → ℕ) (items : List Pair) (
 starts_first level words [] d shaped some = absurd (omega (arith, some))
 starts_first zero words (x ∷ xs) d shaped some = refl
 starts_first (suc level) words (x ∷ xs) d shaped some = starts_append x.key (pairs_at level words (child x)) (pairs_below (suc level) words xs) (shaped 0 x (omega arith)).1.starts
+
+-- the branch to a page that was written with items, by what stands below them
+pub branch_above : (level : ℕ) (words : ℕ → ℕ → ℕ) (items : List Pair) (branch : Pair) → IsWritten level words items branch → 6 ≤ length items → AreShaped level words items
+    → IsNode level 6 (words (child branch)) × IsBranch branch (pairs_at level words (child branch)) × AreShaped level words (items_of (words (child branch)))
+branch_above level words items branch written enough shaped =
+    let starts : StartsAt branch.key (pairs_at level words (child branch)) =
+    subst (λ k. StartsAt k (pairs_at level words (child branch))) (sym written.key)
+    (subst (λ xs. StartsAt (get_or items 0 branch).key (pairs_below level words xs)) (sym written.has_items) (starts_first level words items branch shaped (omega (arith, enough)))) in (
+      record { is_page = written.is_page; at_level = written.at_level; enough = subst (λ xs. 6 ≤ length xs) (sym written.has_items) enough },
+      record { starts = starts; names_page = written.names_page },
+      subst (AreShaped level words) (sym written.has_items) shaped,
+    )
+
+key_written : (level : ℕ) (words : ℕ → ℕ → ℕ) (items : List Pair) (branch : Pair) → IsWritten level words items branch → 0 < length items → All (λ item. length item.key ≤ 264) items → length branch.key ≤ 264
+key_written level words items branch written some fit = subst (λ k. length k ≤ 264) (sym written.key) (fit 0 branch some)
 
 pub all_one : {A : Type 0} (P : A → Type 0) (x : A) → P x → All P (x ∷ [])
 all_one P x p = All-cons P x [] p (All-nil P)
@@ -37,53 +51,91 @@ module _ {S K : Type 0} (kept_of : S → K) (standing_of : S → ℕ → Standin
         (record { kept = refl; each = λ q. untouched refl }) (λ q. omega arith) (λ q. omega arith) below.once below.in_use;
   }
 
-  -- items are written to a page, to which a branch leads
-  module _ (level : ℕ) (items : List Pair) (branch : Pair) (old new : S)
+  -- items are written to a page, to which a branch leads, in the place of other pages
+  module _ (level : ℕ) (items : List Pair) (branch : Pair) (source : List ℕ) (old new : S)
       (below : IsBelow level (standing_of old) (words_of old) items) (enough : 6 ≤ length items)
-      (written : IsWritten level (words_of new) items branch) (swaps : Swaps kept_of standing_of words_of [] (child branch ∷ []) old new) where
-    apart : (q : ℕ) → times q [] + times q (pages_below level (words_of old) items) ≤ 1
-    apart q = omega (arith, below.once q)
-
+      (written : IsWritten level (words_of new) items branch) (swaps : Swaps kept_of standing_of words_of source (child branch ∷ []) old new)
+      (apart : (q : ℕ) → times q source + times q (pages_below level (words_of old) items) ≤ 1) where
     pages_are : pages_below (suc level) (words_of new) (branch ∷ []) ≡ child branch ∷ pages_below level (words_of old) items
-    pages_are = append-nil _ ∙ ap (λ ps. child branch ∷ ps) (ap (pages_below level (words_of new)) written.has_items ∙ beside_pages kept_of standing_of words_of [] (child branch ∷ []) old new swaps level items below apart)
+    pages_are = append-nil _ ∙ ap (λ ps. child branch ∷ ps) (ap (pages_below level (words_of new)) written.has_items ∙ beside_pages kept_of standing_of words_of source (child branch ∷ []) old new swaps level items below apart)
 
     pairs_are : pairs_below (suc level) (words_of new) (branch ∷ []) ≡ pairs_below level (words_of old) items
-    pairs_are = append-nil _ ∙ (ap (pairs_below level (words_of new)) written.has_items ∙ beside_pairs kept_of standing_of words_of [] (child branch ∷ []) old new swaps level items below apart)
+    pairs_are = append-nil _ ∙ (ap (pairs_below level (words_of new)) written.has_items ∙ beside_pairs kept_of standing_of words_of source (child branch ∷ []) old new swaps level items below apart)
 
     once : (q : ℕ) → times q (pages_below (suc level) (words_of new) (branch ∷ [])) ≤ 1
     once q =
-        let one : times q (child branch ∷ []) ≤ 1 = one_page q (child branch) in
-        omega (arith, ap (times q) pages_are, times_append q (child branch ∷ []) (pages_below level (words_of old) items), beside_apart kept_of standing_of words_of [] (child branch ∷ []) old new swaps level items below apart q one)
-      where
-        one_page : (q p : ℕ) → times q (p ∷ []) ≤ 1
-        one_page q p = grind (arith, nat_tests, times-cons q p [])
+        omega (arith, ap (times q) pages_are, times_append q (child branch ∷ []) (pages_below level (words_of old) items), beside_apart kept_of standing_of words_of source (child branch ∷ []) old new swaps level items below apart q (one_page q (child branch)))
 
-    framed : Swaps kept_of standing_of words_of (pages_below level (words_of old) items) (pages_below (suc level) (words_of new) (branch ∷ [])) old new
+    framed : Swaps kept_of standing_of words_of (source ++ pages_below level (words_of old) items) (pages_below (suc level) (words_of new) (branch ∷ [])) old new
     framed =
-        swaps_frame kept_of standing_of words_of [] (child branch ∷ []) (pages_below level (words_of old) items) (pages_below (suc level) (words_of new) (branch ∷ [])) (λ q. times q (pages_below level (words_of old) items)) old new swaps
-        (λ q. omega arith) (λ q. omega (arith, ap (times q) pages_are, times_append q (child branch ∷ []) (pages_below level (words_of old) items))) below.once below.in_use
+        swaps_frame kept_of standing_of words_of source (child branch ∷ []) (source ++ pages_below level (words_of old) items) (pages_below (suc level) (words_of new) (branch ∷ [])) (λ q. times q (pages_below level (words_of old) items)) old new swaps
+        (λ q. omega (arith, times_append q source (pages_below level (words_of old) items))) (λ q. omega (arith, ap (times q) pages_are, times_append q (child branch ∷ []) (pages_below level (words_of old) items)))
+        (λ q. omega (arith, times_append q source (pages_below level (words_of old) items), apart q)) below.in_use
 
-    pub becomes_branch : Becomes kept_of standing_of words_of (pages_below level (words_of old) items) (pairs_below level (words_of old) items) (suc level) (branch ∷ []) old new
+    pub becomes_branch : Becomes kept_of standing_of words_of (source ++ pages_below level (words_of old) items) (pairs_below level (words_of old) items) (suc level) (branch ∷ []) old new
     becomes_branch =
-        let inner = beside_below kept_of standing_of words_of [] (child branch ∷ []) old new swaps level items below apart in
-        let key_fits : length branch.key ≤ 264 = subst (λ k. length k ≤ 264) (sym written.key) (below.keys_fit 0 branch (omega (arith, enough))) in
-        let starts : StartsAt branch.key (pairs_at level (words_of new) (child branch)) =
-        subst (λ k. StartsAt k (pairs_at level (words_of new) (child branch))) (sym written.key)
-        (subst (λ xs. StartsAt (get_or items 0 branch).key (pairs_below level (words_of new) xs)) (sym written.has_items) (starts_first level (words_of new) items branch inner.shaped (omega (arith, enough)))) in
+        let inner = beside_below kept_of standing_of words_of source (child branch ∷ []) old new swaps level items below apart in
         record {
           below = record {
-            keys_fit = all_one (λ item. length item.key ≤ 264) branch key_fits;
-            shaped = all_one (λ b. IsNode level 6 (words_of new (child b)) × IsBranch b (pairs_at level (words_of new) (child b)) × AreShaped level (words_of new) (items_of (words_of new (child b)))) branch (
-              record { is_page = written.is_page; at_level = written.at_level; enough = subst (λ xs. 6 ≤ length xs) (sym written.has_items) enough },
-              record { starts = starts; names_page = written.names_page },
-              subst (AreShaped level (words_of new)) (sym written.has_items) inner.shaped,
-            );
+            keys_fit = all_one (λ item. length item.key ≤ 264) branch (key_written level (words_of new) items branch written (omega (arith, enough)) below.keys_fit);
+            shaped = all_one (λ b. IsNode level 6 (words_of new (child b)) × IsBranch b (pairs_at level (words_of new) (child b)) × AreShaped level (words_of new) (items_of (words_of new (child b)))) branch
+                (branch_above level (words_of new) items branch written enough inner.shaped);
             rising = subst IsRising (sym pairs_are) below.rising;
             once = once;
-            in_use = swaps_after kept_of standing_of words_of (pages_below level (words_of old) items) (pages_below (suc level) (words_of new) (branch ∷ [])) old new framed;
+            in_use = swaps_after kept_of standing_of words_of (source ++ pages_below level (words_of old) items) (pages_below (suc level) (words_of new) (branch ∷ [])) old new framed;
           };
           has_pairs = pairs_are;
           swaps = framed;
+        }
+
+  -- items are written to two pages
+  module _ (level : ℕ) (xs ys : List Pair) (left right : Pair) (source : List ℕ) (old new : S)
+      (below : IsBelow level (standing_of old) (words_of old) (xs ++ ys)) (first_enough : 6 ≤ length xs) (last_enough : 6 ≤ length ys)
+      (first : IsWritten level (words_of new) xs left) (last : IsWritten level (words_of new) ys right)
+      (swaps : Swaps kept_of standing_of words_of source (child left ∷ child right ∷ []) old new)
+      (apart : (q : ℕ) → times q source + times q (pages_below level (words_of old) (xs ++ ys)) ≤ 1)
+      (different : (q : ℕ) → times q (child left ∷ child right ∷ []) ≤ 1) where
+    whole_pages : pages_below level (words_of new) (xs ++ ys) ≡ pages_below level (words_of old) (xs ++ ys)
+    whole_pages = beside_pages kept_of standing_of words_of source (child left ∷ child right ∷ []) old new swaps level (xs ++ ys) below apart
+
+    two_pages : (q : ℕ) → times q (pages_below (suc level) (words_of new) (left ∷ right ∷ [])) ≡ times q (child left ∷ child right ∷ []) + times q (pages_below level (words_of old) (xs ++ ys))
+    two_pages q =
+        times_both level (words_of new) left right q
+        ∙ ap (λ zs. times q (child left ∷ child right ∷ []) + times q (pages_below level (words_of new) (zs ++ items_of (words_of new (child right))))) first.has_items
+        ∙ ap (λ zs. times q (child left ∷ child right ∷ []) + times q (pages_below level (words_of new) (xs ++ zs))) last.has_items
+        ∙ ap (λ ps. times q (child left ∷ child right ∷ []) + times q ps) whole_pages
+
+    two_pairs : pairs_below (suc level) (words_of new) (left ∷ right ∷ []) ≡ pairs_below level (words_of old) (xs ++ ys)
+    two_pairs =
+        ap (λ zs. pairs_at level (words_of new) (child left) ++ zs) (append-nil (pairs_at level (words_of new) (child right)))
+        ∙ ap (λ zs. pairs_below level (words_of new) zs ++ pairs_at level (words_of new) (child right)) first.has_items
+        ∙ ap (λ zs. pairs_below level (words_of new) xs ++ pairs_below level (words_of new) zs) last.has_items
+        ∙ sym (pairs_append level (words_of new) xs ys)
+        ∙ beside_pairs kept_of standing_of words_of source (child left ∷ child right ∷ []) old new swaps level (xs ++ ys) below apart
+
+    two_framed : Swaps kept_of standing_of words_of (source ++ pages_below level (words_of old) (xs ++ ys)) (pages_below (suc level) (words_of new) (left ∷ right ∷ [])) old new
+    two_framed =
+        swaps_frame kept_of standing_of words_of source (child left ∷ child right ∷ []) (source ++ pages_below level (words_of old) (xs ++ ys)) (pages_below (suc level) (words_of new) (left ∷ right ∷ [])) (λ q. times q (pages_below level (words_of old) (xs ++ ys))) old new swaps
+        (λ q. omega (arith, times_append q source (pages_below level (words_of old) (xs ++ ys)))) (λ q. omega (arith, two_pages q))
+        (λ q. omega (arith, times_append q source (pages_below level (words_of old) (xs ++ ys)), apart q)) below.in_use
+
+    pub becomes_two : Becomes kept_of standing_of words_of (source ++ pages_below level (words_of old) (xs ++ ys)) (pairs_below level (words_of old) (xs ++ ys)) (suc level) (left ∷ right ∷ []) old new
+    becomes_two =
+        let inner = beside_below kept_of standing_of words_of source (child left ∷ child right ∷ []) old new swaps level (xs ++ ys) below apart in
+        let front = below_left level (standing_of new) (words_of new) xs ys inner in
+        let back = below_right level (standing_of new) (words_of new) xs ys inner in
+        let shaped = λ (b : Pair). IsNode level 6 (words_of new (child b)) × IsBranch b (pairs_at level (words_of new) (child b)) × AreShaped level (words_of new) (items_of (words_of new (child b))) in
+        record {
+          below = record {
+            keys_fit = All-cons (λ item. length item.key ≤ 264) left (right ∷ []) (key_written level (words_of new) xs left first (omega (arith, first_enough)) front.keys_fit)
+                (all_one (λ item. length item.key ≤ 264) right (key_written level (words_of new) ys right last (omega (arith, last_enough)) back.keys_fit));
+            shaped = All-cons shaped left (right ∷ []) (branch_above level (words_of new) xs left first first_enough front.shaped) (all_one shaped right (branch_above level (words_of new) ys right last last_enough back.shaped));
+            rising = subst IsRising (sym two_pairs) below.rising;
+            once = λ q. omega (arith, two_pages q, beside_apart kept_of standing_of words_of source (child left ∷ child right ∷ []) old new swaps level (xs ++ ys) below apart q (different q));
+            in_use = swaps_after kept_of standing_of words_of (source ++ pages_below level (words_of old) (xs ++ ys)) (pages_below (suc level) (words_of new) (left ∷ right ∷ [])) old new two_framed;
+          };
+          has_pairs = two_pairs;
+          swaps = two_framed;
         }
 
   -- one part becomes another, and then the part after it
@@ -140,9 +192,6 @@ module _ {S K : Type 0} (kept_of : S → K) (standing_of : S → ℕ → Standin
   -- the same for a list that is given in two halves
   module _ (level : ℕ) (items xs ys us : List Pair) (ps : List Pair) (next : ℕ) (halves : items ≡ xs ++ ys) (old mid : S)
       (below : IsBelow level (standing_of old) (words_of old) items) where
-    pub front_below : IsBelow level (standing_of old) (words_of old) xs
-    front_below = below_left level (standing_of old) (words_of old) xs ys (subst (IsBelow level (standing_of old) (words_of old)) halves below)
-
     both_below : IsBelow level (standing_of old) (words_of old) (xs ++ ys)
     both_below = subst (IsBelow level (standing_of old) (words_of old)) halves below
 
@@ -175,19 +224,6 @@ module _ {S K : Type 0} (kept_of : S → K) (standing_of : S → ℕ → Standin
       let back' = subst (λ qs. Becomes kept_of standing_of words_of (pages_below level (words_of old) (ys ++ zs)) (ps ++ qs) level (us ++ zs) old new) same back in
       becomes_append level level xs (ys ++ zs) xs (us ++ zs) (pairs_below level (words_of old) xs) (ps ++ pairs_below level (words_of old) zs) old old new below
       (becomes_same level xs old front) back' rising
-
-  pub becomes_halves : (level next : ℕ) (items xs ys us bs : List Pair) → items ≡ xs ++ ys → (old mid new : S) → IsBelow level (standing_of old) (words_of old) items
-      → Becomes kept_of standing_of words_of (pages_below level (words_of old) xs) (pairs_below level (words_of old) xs) next us old mid
-      → Becomes kept_of standing_of words_of (pages_below level (words_of mid) ys) (pairs_below level (words_of mid) ys) next bs mid new
-      → Becomes kept_of standing_of words_of (pages_below level (words_of old) items) (pairs_below level (words_of old) items) next (us ++ bs) old new
-  becomes_halves level next items xs ys us bs halves old mid new below first last =
-      let whole = subst (IsBelow level (standing_of old) (words_of old)) halves below in
-      let same = back_pairs level items xs ys us (pairs_below level (words_of old) xs) next halves old mid below first in
-      let all : pairs_below level (words_of old) xs ++ pairs_below level (words_of mid) ys ≡ pairs_below level (words_of old) (xs ++ ys) =
-      ap (λ zs. pairs_below level (words_of old) xs ++ zs) same ∙ sym (pairs_append level (words_of old) xs ys) in
-      let joined = becomes_append level next xs ys us bs (pairs_below level (words_of old) xs) (pairs_below level (words_of mid) ys) old mid new whole first last (subst IsRising (sym all) whole.rising) in
-      subst (λ zs. Becomes kept_of standing_of words_of (pages_below level (words_of old) zs) (pairs_below level (words_of old) zs) next (us ++ bs) old new) (sym halves)
-      (subst (λ ps. Becomes kept_of standing_of words_of (pages_below level (words_of old) (xs ++ ys)) ps next (us ++ bs) old new) all joined)
 
 -- a clause on an error that holds anyway
 pub on_err : {T E P : Type 0} (r : Result T E) → P → OnErr r P

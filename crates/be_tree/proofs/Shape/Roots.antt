@@ -1,5 +1,5 @@
 -- A node that is written as the root of a tree.
-use Rattle.std.proofs.Common.{◌≡◌, ℕ, zero, suc, ◌+◌, ◌≤◌, List, [], ◌∷◌, length, IsTrue, ap, sym, subst, ◌∙◌, inl, inr, arith, cond, ◌==◌, if◌then◌else◌}
+use Rattle.std.proofs.Common.{◌≡◌, ℕ, zero, suc, ◌+◌, ◌≤◌, List, [], ◌∷◌, ◌++◌, length, IsTrue, ap, sym, subst, ◌∙◌, inl, inr, arith, cond, ◌==◌, if◌then◌else◌}
 use Rattle.be_pages.specs.declared.room.Standing.{Standing}
 use Rattle.std.proofs.lemmas.Bool.{cases_eq}
 use Rattle.std.proofs.lemmas.Bool.Decides.{nat_tests}
@@ -9,40 +9,40 @@ use Rattle.be_tree.specs.Pair.{Pair}
 use Rattle.be_tree.specs.Key.{put}
 use Rattle.be_tree.specs.Page.{items_of, level_of}
 use Rattle.be_tree.specs.Tree.{child, pairs, pages, pairs_at, pairs_below, pages_at, pages_below, IsNode, IsBelow, IsTreeAt, IsTree, IsWritten, Becomes, BecomesTree, least_of_root}
-use Rattle.be_tree.proofs.Frame.{times_append, times-cons, times_itself, same_page, swaps_trans, swaps_frame, swaps_after, swaps_since}
+use Rattle.be_tree.proofs.Frame.{times_append, times-cons, times_itself, same_page, swaps_trans, swaps_frame, swaps_with, swaps_after, swaps_since}
 use Rattle.be_tree.proofs.Shape.Below.{beside_pairs, beside_pages, beside_below, beside_apart}
 
 module _ {S K : Type 0} (kept_of : S → K) (standing_of : S → ℕ → Standing) (words_of : S → ℕ → ℕ → ℕ) where
-  module _ (level : ℕ) (items : List Pair) (branch : Pair) (old new : S)
+  module _ (level : ℕ) (items : List Pair) (branch : Pair) (source : List ℕ) (old new : S)
       (below : IsBelow level (standing_of old) (words_of old) items) (enough : least_of_root level ≤ length items)
-      (written : IsWritten level (words_of new) items branch) (swaps : Swaps kept_of standing_of words_of [] (child branch ∷ []) old new) where
-    apart : (q : ℕ) → times q [] + times q (pages_below level (words_of old) items) ≤ 1
-    apart q = omega (arith, below.once q)
-
+      (written : IsWritten level (words_of new) items branch) (swaps : Swaps kept_of standing_of words_of source (child branch ∷ []) old new)
+      (apart : (q : ℕ) → times q source + times q (pages_below level (words_of old) items) ≤ 1) where
     new_pages : pages_below level (words_of new) (items_of (words_of new (child branch))) ≡ pages_below level (words_of old) items
-    new_pages = ap (pages_below level (words_of new)) written.has_items ∙ beside_pages kept_of standing_of words_of [] (child branch ∷ []) old new swaps level items below apart
+    new_pages = ap (pages_below level (words_of new)) written.has_items ∙ beside_pages kept_of standing_of words_of source (child branch ∷ []) old new swaps level items below apart
 
     new_pairs : pairs_at level (words_of new) (child branch) ≡ pairs_below level (words_of old) items
-    new_pairs = ap (pairs_below level (words_of new)) written.has_items ∙ beside_pairs kept_of standing_of words_of [] (child branch ∷ []) old new swaps level items below apart
+    new_pairs = ap (pairs_below level (words_of new)) written.has_items ∙ beside_pairs kept_of standing_of words_of source (child branch ∷ []) old new swaps level items below apart
 
-    framed : Swaps kept_of standing_of words_of (pages_below level (words_of old) items) (pages_at level (words_of new) (child branch)) old new
+    framed : Swaps kept_of standing_of words_of (source ++ pages_below level (words_of old) items) (pages_at level (words_of new) (child branch)) old new
     framed =
-        swaps_frame kept_of standing_of words_of [] (child branch ∷ []) (pages_below level (words_of old) items) (pages_at level (words_of new) (child branch)) (λ q. times q (pages_below level (words_of old) items)) old new swaps
-        (λ q. omega arith) (λ q. omega (arith, times_append q (child branch ∷ []) (pages_below level (words_of new) (items_of (words_of new (child branch)))), ap (times q) new_pages)) below.once below.in_use
+        swaps_frame kept_of standing_of words_of source (child branch ∷ []) (source ++ pages_below level (words_of old) items) (pages_at level (words_of new) (child branch)) (λ q. times q (pages_below level (words_of old) items)) old new swaps
+        (λ q. omega (arith, times_append q source (pages_below level (words_of old) items)))
+        (λ q. omega (arith, times_append q (child branch ∷ []) (pages_below level (words_of new) (items_of (words_of new (child branch)))), ap (times q) new_pages))
+        (λ q. omega (arith, times_append q source (pages_below level (words_of old) items), apart q)) below.in_use
 
     tree_at : IsTreeAt level (least_of_root level) (standing_of new) (words_of new) (child branch)
     tree_at = record {
       node = record { is_page = written.is_page; at_level = written.at_level; enough = subst (λ xs. least_of_root level ≤ length xs) (sym written.has_items) enough };
-      below = subst (IsBelow level (standing_of new) (words_of new)) (sym written.has_items) (beside_below kept_of standing_of words_of [] (child branch ∷ []) old new swaps level items below apart);
-      page_once = omega (arith, ap (times (child branch)) new_pages, times_itself (child branch), beside_apart kept_of standing_of words_of [] (child branch ∷ []) old new swaps level items below apart (child branch) (omega (arith, times_itself (child branch))));
-      page_in_use = swaps_after kept_of standing_of words_of [] (child branch ∷ []) old new swaps (child branch) (omega (arith, times_itself (child branch)));
+      below = subst (IsBelow level (standing_of new) (words_of new)) (sym written.has_items) (beside_below kept_of standing_of words_of source (child branch ∷ []) old new swaps level items below apart);
+      page_once = omega (arith, ap (times (child branch)) new_pages, times_itself (child branch), beside_apart kept_of standing_of words_of source (child branch ∷ []) old new swaps level items below apart (child branch) (omega (arith, times_itself (child branch))));
+      page_in_use = swaps_after kept_of standing_of words_of source (child branch ∷ []) old new swaps (child branch) (omega (arith, times_itself (child branch)));
     }
 
-    pub root_written : BecomesTree kept_of standing_of words_of (pages_below level (words_of old) items) (pairs_below level (words_of old) items) (suc (child branch)) old new
+    pub root_written : BecomesTree kept_of standing_of words_of (source ++ pages_below level (words_of old) items) (pairs_below level (words_of old) items) (suc (child branch)) old new
     root_written = record {
       tree = subst (λ n. IsTreeAt n (least_of_root n) (standing_of new) (words_of new) (child branch)) (sym written.at_level) tree_at;
       has_pairs = ap (λ n. pairs_at n (words_of new) (child branch)) written.at_level ∙ new_pairs;
-      swaps = subst (λ n. Swaps kept_of standing_of words_of (pages_below level (words_of old) items) (pages_at n (words_of new) (child branch)) old new) (sym written.at_level) framed;
+      swaps = subst (λ n. Swaps kept_of standing_of words_of (source ++ pages_below level (words_of old) items) (pages_at n (words_of new) (child branch)) old new) (sym written.at_level) framed;
     }
 
   -- one change after another
@@ -52,6 +52,18 @@ module _ {S K : Type 0} (kept_of : S → K) (standing_of : S → ℕ → Standin
     tree = last.tree;
     has_pairs = last.has_pairs ∙ first.has_pairs;
     swaps = swaps_trans kept_of standing_of words_of before (pages_below level (words_of mid) xs) (pages (words_of new) root) old mid new first.swaps last.swaps;
+  }
+
+  -- the items of a root's page changed, and were then written in its place
+  pub tree_over : (before : List ℕ) (all : List Pair) (level page : ℕ) (xs : List Pair) (root : ℕ) (old mid new : S) → Becomes kept_of standing_of words_of before all level xs old mid
+      → times page before ≡ 0 → ((q : ℕ) → times q before ≤ 1) → IsTrue (is_kept (standing_of old page))
+      → BecomesTree kept_of standing_of words_of (page ∷ pages_below level (words_of mid) xs) (pairs_below level (words_of mid) xs) root mid new
+      → BecomesTree kept_of standing_of words_of (page ∷ before) all root old new
+  tree_over before all level page xs root old mid new first none once used last = record {
+    tree = last.tree;
+    has_pairs = last.has_pairs ∙ first.has_pairs;
+    swaps = swaps_trans kept_of standing_of words_of (page ∷ before) (page ∷ pages_below level (words_of mid) xs) (pages (words_of new) root) old mid new
+        (swaps_with kept_of standing_of words_of page before (pages_below level (words_of mid) xs) old mid first.swaps none once used) last.swaps;
   }
 
 -- a tree's root page
@@ -118,17 +130,15 @@ module _ {S K : Type 0} (kept_of : S → K) (standing_of : S → ℕ → Standin
       here : (t u : Standing) → (if page == page then t else u) ≡ t
       here t u = grind (arith, nat_tests)
 
-  -- a pair put into a tree, which is then written, and whose old root is then given up
-  pub tree_put : (root page level least new_root : ℕ) (pair given : Pair) (xs : List Pair) (old read mid last new : S)
+  -- a pair put into a tree, which is then written in the place of its old root
+  pub tree_put : (root page level least new_root : ℕ) (pair given : Pair) (xs : List Pair) (old read mid new : S)
       → root ≡ suc page → level ≡ level_of (words_of old page) → IsUnchanged kept_of standing_of words_of old read → pair ≡ given
       → IsTreeAt level least (standing_of read) (words_of read) page
       → Becomes kept_of standing_of words_of (pages_below level (words_of read) (items_of (words_of read page))) (put pair (pairs_at level (words_of read) page)) level xs read mid
-      → BecomesTree kept_of standing_of words_of (pages_below level (words_of mid) xs) (pairs_below level (words_of mid) xs) new_root mid last
-      → kept_of new ≡ kept_of last → words_of new ≡ words_of last → StandsAt (standing_of last) (standing_of new) page (after_give_up (standing_of last page))
+      → BecomesTree kept_of standing_of words_of (page ∷ pages_below level (words_of mid) xs) (pairs_below level (words_of mid) xs) new_root mid new
       → BecomesTree kept_of standing_of words_of (pages (words_of old) root) (put given (pairs (words_of old) root)) new_root old new
-  tree_put root page level least new_root pair given xs old read mid last new e at same is tree first written kept words stands =
-      let both = becomes_tree kept_of standing_of words_of (pages_below level (words_of read) (items_of (words_of read page))) (put pair (pairs_at level (words_of read) page)) level xs new_root read mid last first written in
-      let all = tree_given_up (pages_below level (words_of read) (items_of (words_of read page))) (put pair (pairs_at level (words_of read) page)) new_root page read last new both tree.page_once tree.page_in_use kept words stands in
+  tree_put root page level least new_root pair given xs old read mid new e at same is tree first written =
+      let all = tree_over kept_of standing_of words_of (pages_below level (words_of read) (items_of (words_of read page))) (put pair (pairs_at level (words_of read) page)) level page xs new_root read mid new first tree.page_once tree.below.once tree.page_in_use written in
       let before = subst (λ w. BecomesTree kept_of standing_of words_of (pages_at level w page) (put pair (pairs_at level w page)) new_root read new) same.words all in
       let put_given = subst (λ p. BecomesTree kept_of standing_of words_of (pages_at level (words_of old) page) (put p (pairs_at level (words_of old) page)) new_root read new) is before in
       let here = subst (λ n. BecomesTree kept_of standing_of words_of (pages_at n (words_of old) page) (put given (pairs_at n (words_of old) page)) new_root read new) at put_given in

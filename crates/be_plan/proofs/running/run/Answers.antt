@@ -1,75 +1,16 @@
-use Rattle.std.proofs.Common.{◌≡◌, ◌<◌, ◌-◌, ℕ, true, length, slice_index, sym, ap, subst, ◌∙◌, arith}
-use borrow.Author.Count.{below_more}
+use Rattle.std.proofs.Common.{sym, ap, ◌∙◌, inl, inr}
 use Rattle.be_query.specs.View.{formula}
-use Rattle.be_volume.specs.Query.{scan, has_index}
-use Rattle.be_plan.specs.Cover.{rests_on}
-use Rattle.be_plan.specs.Spine.{StandsIn}
-use Rattle.be_plan.specs.Walk.{HasReached}
-use Rattle.be_plan.proofs.Answering.{scanned, at_place, pick_place, covers_parts}
-use Rattle.be_plan.proofs.Choice.{pick_below}
-use Rattle.be_plan.proofs.Spines.{rests_in}
+use Rattle.be_volume.specs.Query.{scan}
+use Rattle.be_plan.proofs.Answering.{covered_by, covers_parts, found_all}
+use Rattle.be_plan.proofs.Marked.{nothing_in}
 use Rattle.be_plan.proofs.running.run.Goals as goal
-
-pub front_for-front-requires-clause-within : goal.front_for-front-requires-clause-within
-front_for-front-requires-clause-within g c =
-    let f = formula c.tree-tree.result.now in
-    let picks = c.as_slice-picks.result.now in
-    let parts = covers_parts g.volume c.args.cover.now.picks picks _ f (sym c.as_slice-picks.ensures) (sym c.tree-tree.ensures.tree) c.requires.1.1 in
-    let R : ℕ → Type 0 = λ p. rests_on (has_index g.volume) f p ≡ true in
-    let place : length picks - 1 - c.loop-i.i < length picks = omega (arith, c.loop-i-test.true) in
-    let rests : rests_on (has_index g.volume) f c.from_last-pick.result ≡ true =
-    subst R (sym c.from_last-pick.ensures) (at_place (rests_on (has_index g.volume) f) picks (length picks - 1 - c.loop-i.i) parts.0 place) in
-    pick_below (has_index g.volume) f c.from_last-pick.result rests
-
-pub walk_pick-requires : goal.walk_pick-requires
-walk_pick-requires g c κs within =
-    let f = formula c.tree-tree.result.now in
-    let picks = c.as_slice-picks.result.now in
-    let part = formula c.front_for-front.result.side.now in
-    let from = c.front_for-front.result.from in
-    let pick = c.from_last-pick.result in
-    let inv = c.loop-i.invariant in
-    let parts = covers_parts g.volume c.args.cover.now.picks picks _ f (sym c.as_slice-picks.ensures) (sym c.tree-tree.ensures.tree) c.requires.1.1 in
-    let R : ℕ → Type 0 = λ p. rests_on (has_index g.volume) f p ≡ true in
-    let place : length picks - 1 - c.loop-i.i < length picks = omega (arith, c.loop-i-test.true) in
-    let rests : rests_on (has_index g.volume) f pick ≡ true =
-    subst R (sym c.from_last-pick.ensures) (at_place (rests_on (has_index g.volume) f) picks (length picks - 1 - c.loop-i.i) parts.0 place) in
-    let stands : StandsIn f pick from part = c.front_for-front.ensures.stands in
-    (within, (omega (arith, c.front_for-front.ensures.side, c.front_for-front.ensures.few), (stands.first, (inv.answers, (rests_in (has_index g.volume) f part pick from stands rests, stands)))))
-
-pub loop-i-preserved : goal.loop-i-preserved
-loop-i-preserved g c =
-    let f = formula c.tree-tree.result.now in
-    let picks = c.as_slice-picks.result.now in
-    let found = c.walk_pick.new.found.items in
-    let inv = c.loop-i.invariant in
-    let P : ℕ → Type 0 = λ p. HasReached g.volume f p found in
-    let Q : ℕ → Type 0 = λ k. HasReached g.volume f (slice_index picks (length picks - 1 - k)) found in
-    record {
-      stays = c.walk_pick.ensures.stays ∙ inv.stays;
-      answers = c.walk_pick.ensures.answers;
-      satisfy = c.walk_pick.ensures.satisfy inv.satisfy;
-      end = c.front_for-front.ensures.end;
-      few = c.front_for-front.ensures.few;
-      under = c.front_for-front.ensures.under;
-      reached = below_more Q c.loop-i.i
-          (λ k lt node r holds. c.walk_pick.ensures.keeps node (inv.reached k lt node r holds))
-          (subst P c.from_last-pick.ensures c.in_ok-walk_pick.ensures.has);
-    }
 
 pub returns-clause-answer : goal.returns-clause-answer
 returns-clause-answer g c =
-    let f = formula c.tree-tree.result.now in
-    let picks = c.as_slice-picks.result.now in
-    let found = c.in_order.result.items in
-    let parts = covers_parts g.volume c.args.cover.now.picks picks _ f (sym c.as_slice-picks.ensures) (sym c.tree-tree.ensures.tree) c.requires.1.1 in
-    ap (scan g.volume) (sym c.tree-tree.ensures.tree)
-    ∙ scanned g.volume f picks found (g.met.S.Source.sound c.args.source.now g.volume c.requires.1.0) parts.0 parts.1 c.in_order.ensures.rising
-    (λ n h. c.loop-i.invariant.satisfy n (c.in_order.ensures.only n h))
-    (λ p is node r holds.
-    let at : (k : ℕ) × k < length picks × slice_index picks k ≡ p = pick_place picks p is in
-    let k : ℕ = length picks - 1 - at.0 in
-    let back : length picks - 1 - k ≡ at.0 = omega (arith, at.1) in
-    let lt : k < c.loop-i.i = omega (arith, at.1) in
-    let P : ℕ → Type 0 = λ q. HasReached g.volume f q found in
-    subst P (ap (slice_index picks) back ∙ at.2) (λ m s h. c.in_order.ensures.keeps m (c.loop-i.invariant.reached k lt m s h)) node r holds)
+    let f = formula c.tree.result.now in
+    let picks = c.as_slice.result.now in
+    let parts = covers_parts g.volume c.args.cover.now.picks picks _ f (sym c.as_slice.ensures) (sym c.tree.ensures.tree) c.requires.1.1 in
+    ap (scan g.volume) (sym c.tree.ensures.tree)
+    ∙ found_all g.volume f c.in_order.result.items (g.met.S.Source.sound c.args.source.now g.volume c.requires.1.0) (covered_by g.volume f picks parts.0 parts.1) c.in_order.ensures.rising
+    (λ n h. elim (c.walk_picks.ensures.only n (c.in_order.ensures.only n h)) [ inl old ↦ absurd (nothing_in _ n c.in_ok-found.ensures.items old) | inr is ↦ is ])
+    (λ n h. c.in_order.ensures.keeps n (c.in_ok-walk_picks.ensures.has n h))

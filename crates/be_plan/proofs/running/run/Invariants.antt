@@ -1,20 +1,4 @@
-use Rattle.std.proofs.Common.{◌≡◌, ◌<◌, ◌≤◌, ◌-◌, ℕ, length, slice_index}
-use Rattle.be_query.specs.Grammar.{comparisons}
-use Rattle.be_query.specs.View.{formula}
-use Rattle.be_plan.specs.Spine.{IsUnderOr}
-use Rattle.be_plan.specs.Walk.{AllSatisfy, HasReached}
 use Rattle.be_plan.proofs.running.run.Given as goal
 
-abbrev pub ghost-walk_pick : goal.ghost-walk_pick
-ghost-walk_pick g a = g.volume
-
-abbrev pub invariant-loop-i : goal.invariant-loop-i
-invariant-loop-i g l = record {
-  stays : g.S.Source.kept l.source ≡ g.S.Source.kept l.initial.source;
-  answers : g.S.Source.answers_for l.source g.volume;
-  satisfy : AllSatisfy g.volume (formula l.tree) l.found.items;
-  end : l.front.end ≡ comparisons (formula l.front.tree.now);
-  few : l.front.end ≤ 256;
-  under : IsUnderOr (formula l.tree) 0 (formula l.front.tree.now);
-  reached : (k : ℕ) → k < l.i → HasReached g.volume (formula l.tree) (slice_index l.picks (length l.picks - 1 - k)) l.found.items;
-}
+abbrev pub ghost-walk_picks : goal.ghost-walk_picks
+ghost-walk_picks g a = g.volume

@@ -1,4 +1,4 @@
-use Rattle.std.proofs.Common.{◌≡◌, ◌∙◌, ◌++◌, ◌∷◌, [], ◌⊎◌, sym, ap, subst, ℕ, true, List, inl, inr}
+use Rattle.std.proofs.Common.{◌≡◌, ◌∙◌, ◌++◌, ◌∷◌, [], sym, ap, subst, ℕ, true, List, inl, inr}
 use Rattle.std.specs.List.{Contains}
 use Rattle.std.proofs.lemmas.List.Elements.{Contains-push, Contains-push_cases}
 use Rattle.be_query.specs.View.{formula}
@@ -11,17 +11,18 @@ unreachable-requires g c =
     some_pair g.volume (g.met.S.Source.sound c.args.source.now g.volume c.requires.1.0) c.args.name.now c.args.key.now c.requires.1.1.1 c.args.kind c.requires.1.1.0
     c.read_key.result c.in_default.is c.read_key.ensures.none
 
-pub returns-in_ok-push-clause-satisfy : goal.returns-in_ok-push-clause-satisfy
-returns-in_ok-push-clause-satisfy g c = λ all n h.
+pub returns-in_ok-push-clause-only : goal.returns-in_ok-push-clause-only
+returns-in_ok-push-clause-only g c = λ n h.
     let sound = g.met.S.Source.sound c.args.source.now g.volume c.requires.1.0 in
     let seen = seen_pair g.volume sound c.args.name.now c.args.key.now c.requires.1.1.1 c.args.kind c.requires.1.1.0
     c.read_key.result c.in-Some.value c.in-Some.node c.in-Some.is c.read_key.ensures.only in
     let holds : sat g.volume (formula c.args.tree.now) c.in-Some.node ≡ true = sym (c.satisfies.ensures.answer g.volume c.requires.1.0 seen.1) ∙ c.if-satisfies.true in
     let P : List ℕ → Type 0 = λ l. Contains l n in
     let Q : ℕ → Type 0 = λ m. sat g.volume (formula c.args.tree.now) m ≡ true in
-    let by : Contains c.args.found.now.items n ⊎ (c.in-Some.node ≡ n) → sat g.volume (formula c.args.tree.now) n ≡ true =
-    elim [ inl there ↦ all n there | inr same ↦ subst Q same holds ] in
-    by (Contains-push_cases c.args.found.now.items c.in-Some.node n (subst P c.in_ok-push.ensures.items h))
+    elim (Contains-push_cases c.args.found.now.items c.in-Some.node n (subst P c.in_ok-push.ensures.items h)) [
+      | inl there ↦ inl there
+      | inr same ↦ inr (subst Q same holds)
+    ]
 
 pub returns-in_ok-push-clause-has : goal.returns-in_ok-push-clause-has
 returns-in_ok-push-clause-has g c = λ v n fits is holds.

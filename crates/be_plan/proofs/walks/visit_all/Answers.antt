@@ -1,4 +1,4 @@
-use Rattle.std.proofs.Common.{◌≡◌, List, subst, ◌∙◌, ◌<◌, ◌^◌, ◌≤◌, suc, sym, ap, refl, true, false, Some, ℕ}
+use Rattle.std.proofs.Common.{◌≡◌, List, subst, ◌∙◌, ◌<◌, ◌^◌, ◌≤◌, suc, sym, ap, refl, true, false, Some, ℕ, inl, inr}
 use Rattle.std.specs.List.{Contains}
 use Rattle.std.specs.Option.{option_map}
 use Rattle.std.specs.declared.option.Option.{Option}
@@ -25,7 +25,7 @@ keys-init g c =
       stays = refl;
       answers = c.next_key-next.ensures.answers g.volume c.requires.1.0;
       keeps = λ n h. h;
-      satisfy = λ all. all;
+      only = λ n h. inl h;
       come = comes_first g.volume (wanted g.volume (formula c.args.tree.now)) c.args.name.now c.args.range.now.low.items (high_of c.args.range.now) _ c.args.found.now.items
           (subst Q c.low.ensures (c.next_key-next.ensures.answer g.volume c.requires.1.0));
     }
@@ -68,7 +68,7 @@ keys-preserved g c =
       stays = c.next_key-next-in-Some.ensures.stays ∙ c.visit.ensures.stays ∙ c.keys.invariant.stays;
       answers = c.next_key-next-in-Some.ensures.answers g.volume c.visit.ensures.answers;
       keeps = λ n h. c.visit.ensures.keeps n (c.keys.invariant.keeps n h);
-      satisfy = λ all. c.visit.ensures.satisfy (c.keys.invariant.satisfy all);
+      only = λ n h. elim (c.visit.ensures.only n h) [ inl old ↦ c.keys.invariant.only n old | inr is ↦ inr is ];
       come = comes_next g.volume (wanted g.volume f) name low high c.in-Some.key.items next c.keys.found.items c.visit.new.found.items
           (g.met.S.Source.sound c.args.source.now g.volume c.requires.1.0) come c.visit.ensures.keeps has
           (subst Q c.as_slice-in-Some-2.ensures.value (c.next_key-next-in-Some.ensures.answer g.volume c.visit.ensures.answers));
@@ -84,3 +84,6 @@ returns-then-ends_before-clause-has g c =
     let come : HasCome g.volume (wanted g.volume f) name low high (Some c.in-Some.key.items) c.keys.found.items = subst C (ap (λ o. option_map (λ b. b.items) o) c.in-Some.is) c.keys.invariant.come in
     came_above g.volume (wanted g.volume f) name low high c.in-Some.key.items c.keys.found.items
     (ap (is_above high) (sym c.as_slice.ensures.value) ∙ sym c.ends_before.ensures ∙ c.if-ends_before.true) come
+
+pub returns-in_err-visit-clause-only : goal.returns-in_err-visit-clause-only
+returns-in_err-visit-clause-only g c = λ n h. elim (c.visit.ensures.only n h) [ inl old ↦ c.keys.invariant.only n old | inr is ↦ inr is ]

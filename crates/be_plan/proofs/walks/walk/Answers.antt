@@ -1,5 +1,4 @@
-use Rattle.std.proofs.Common.{◌≡◌, ◌⊎◌, ◌∙◌, List, ℕ, true, sym, ap, subst, inl, inr}
-use Rattle.std.specs.List.{Contains}
+use Rattle.std.proofs.Common.{◌≡◌, ◌∙◌, List, ℕ, true, sym, ap, subst, inl, inr}
 use Rattle.std.specs.Option.{option_copied, option_map}
 use Rattle.std.specs.declared.option.Option.{Option}
 use Rattle.std.specs.declared.option.Option.TheVariants.{Some, None}
@@ -7,7 +6,7 @@ use Rattle.be_query.specs.Grammar.{Formula}
 use Rattle.be_query.specs.View.{formula}
 use Rattle.be_volume.specs.Query.{sat}
 use Rattle.be_plan.specs.Narrow.{LeavesRest, high_of}
-use Rattle.be_plan.specs.Walk.{HasNodes, HasOnly, IsNodeWithin}
+use Rattle.be_plan.specs.Walk.{HasNodes, HasOnly}
 use Rattle.be_plan.proofs.Reaching.{on_ok}
 use Rattle.be_plan.proofs.Seen.{left_key}
 use Rattle.be_plan.proofs.walks.walk.Goals as goal
@@ -15,8 +14,8 @@ use Rattle.be_plan.proofs.walks.walk.Goals as goal
 pub nodes_within-requires : goal.nodes_within-requires
 nodes_within-requires g c = (g.volume, c.requires.1.0)
 
-pub returns-in_default-clause-satisfy : goal.returns-in_default-clause-satisfy
-returns-in_default-clause-satisfy g c = λ all n h.
+pub returns-in_default-clause-only : goal.returns-in_default-clause-only
+returns-in_default-clause-only g c = λ n h.
     let f = formula c.args.tree.now in
     let name = c.args.name.now in
     let low = c.args.range.now.low.items in
@@ -29,12 +28,10 @@ returns-in_default-clause-satisfy g c = λ all n h.
     let R : Option Formula → Type 0 = λ r. LeavesRest f name c.args.kind low high r in
     let leaves : LeavesRest f name c.args.kind low high None = subst R (ap (λ r. option_map formula (option_copied r)) c.in_default.is) c.requires.1.1.1 in
     let P : ℕ → Type 0 = λ m. sat g.volume f m ≡ true in
-    let by : Contains c.args.found.now.items n ⊎ IsNodeWithin g.volume name low high n → sat g.volume f n ≡ true =
-    elim [
-      | inl there ↦ all n there
-      | inr w ↦ subst P w.node_is (left_key g.volume sound name w.key w.is_key c.args.kind c.requires.1.1.0 f low high None leaves w.within)
-    ] in
-    by (only n h)
+    elim (only n h) [
+      | inl there ↦ inl there
+      | inr w ↦ inr (subst P w.node_is (left_key g.volume sound name w.key w.is_key c.args.kind c.requires.1.1.0 f low high None leaves w.within))
+    ]
 
 pub returns-in_default-clause-has : goal.returns-in_default-clause-has
 returns-in_default-clause-has g c =
@@ -45,8 +42,8 @@ returns-in_default-clause-has g c =
     let H : Option (List ℕ) → Type 0 = λ b. HasNodes g.volume name low b found in
     on_ok c.nodes_within.result (λ has k h w _. subst H c.high.ensures (subst L c.low.ensures (has g.volume c.requires.1.0)) k h w) c.nodes_within.ensures.has
 
-pub returns-else-asks_name-clause-satisfy : goal.returns-else-asks_name-clause-satisfy
-returns-else-asks_name-clause-satisfy g c = λ all n h.
+pub returns-else-asks_name-clause-only : goal.returns-else-asks_name-clause-only
+returns-else-asks_name-clause-only g c = λ n h.
     let f = formula c.args.tree.now in
     let name = c.args.name.now in
     let low = c.args.range.now.low.items in
@@ -56,12 +53,10 @@ returns-else-asks_name-clause-satisfy g c = λ all n h.
     let R : Option Formula → Type 0 = λ r. LeavesRest f name c.args.kind low high r in
     let leaves : LeavesRest f name c.args.kind low high (Some rest) = subst R (ap (λ r. option_map formula (option_copied r)) c.in-Some.is) c.requires.1.1.1 in
     let P : ℕ → Type 0 = λ m. sat g.volume f m ≡ sat g.volume rest m in
-    let by : Contains c.args.found.now.items n ⊎ (IsNodeWithin g.volume name low high n × (sat g.volume rest n ≡ true)) → sat g.volume f n ≡ true =
-    elim [
-      | inl there ↦ all n there
-      | inr w ↦ subst P w.0.node_is (left_key g.volume sound name w.0.key w.0.is_key c.args.kind c.requires.1.1.0 f low high (Some rest) leaves w.0.within) ∙ w.1
-    ] in
-    by (c.ask_each.ensures.only n h)
+    elim (c.ask_each.ensures.only n h) [
+      | inl there ↦ inl there
+      | inr w ↦ inr (subst P w.0.node_is (left_key g.volume sound name w.0.key w.0.is_key c.args.kind c.requires.1.1.0 f low high (Some rest) leaves w.0.within) ∙ w.1)
+    ]
 
 pub returns-else-asks_name-clause-has : goal.returns-else-asks_name-clause-has
 returns-else-asks_name-clause-has g c =

@@ -1,7 +1,7 @@
 use Rattle.std.specs.Prelude.{IsTrue}
-use Rattle.std.proofs.Common.{◌≡◌, ℕ, suc, [], ◌∷◌, ◌++◌, ◌-◌, ◌+◌, ◌<◌, All, List, ap, sym, subst, ◌∙◌, refl, length, arith}
+use Rattle.std.proofs.Common.{◌≡◌, ℕ, suc, [], ◌∷◌, ◌++◌, ◌-◌, ◌+◌, ◌<◌, All, List, ap, sym, subst, ◌∙◌, length, arith}
 use Rattle.std.proofs.lemmas.List.FromFn.{length-map-range_with_len}
-use Rattle.be_pages.specs.Pages.{IsUnchanged}
+use Rattle.be_pages.specs.Pages.{IsUnchanged, times}
 use Rattle.be_tree.specs.declared.slot.Slot.{Slot}
 use Rattle.be_tree.specs.declared.slot.Slot.TheVariants.{At}
 use Rattle.be_tree.specs.Pair.{Pair}
@@ -9,7 +9,7 @@ use Rattle.be_tree.specs.Key.{IsRising, put}
 use Rattle.be_tree.specs.Page.{items_of, item_at, item_place}
 use Rattle.be_tree.specs.Slot.{IsReady, pairs_of}
 use Rattle.be_tree.specs.Tree.{AreNeighbours, child, pairs_at, pairs_below, pages_below, Becomes, IsBelow, IsTreeAt}
-use Rattle.be_tree.proofs.Putting.Puts.{becomes_beside, tree_weaker, becomes_below, becomes_since, becomes_until, child_read, held_after, becomes_trans, rising_put}
+use Rattle.be_tree.proofs.Putting.Puts.{becomes_beside, tree_weaker, becomes_below, becomes_since, becomes_until, child_read, given_up_page, kept_after, rising_put}
 use Rattle.be_tree.proofs.Putting.PutAt.{PutPlace, PutSlots, Shares, place_inside, put_place, put_slots, shares}
 use Rattle.be_tree.proofs.Nodes.Children.{AroundTwo, around_two}
 use Rattle.be_tree.proofs.Nodes.Joins.{Joined, right_changed, right_in_hand, right_length}
@@ -19,7 +19,7 @@ use Rattle.be_tree.proofs.Shape.Parts.{on_err}
 use Rattle.be_tree.proofs.Nodes.Slots.{items_count, branches_ready}
 use Rattle.be_tree.proofs.edit.+put.Goals as goal
 use Rattle.be_tree.proofs.edit.+put.Given.{Over}
-use Rattle.be_tree.proofs.edit.+put.Goals.{put_at-After-sharing_children-arg-1, put_at-After-put_shared-arg-1, put_at-After-slots_with-arg-in-Some-1, put_at-After-put_below-arg-1, put_at-After-replace_at, put_shared-After-deref-2, put_below-After-child_at-child, put_below-After-give_up-arg-1, put_below-After-give_up}
+use Rattle.be_tree.proofs.edit.+put.Goals.{put_at-After-sharing_children-arg-1, put_at-After-put_shared-arg-1, put_at-After-slots_with-arg-in-Some-1, put_at-After-put_below-arg-1, put_at-After-replace_at, put_shared-After-deref-2, put_below-After-child_at-child}
 
 -- the key's place, before the children there are looked at
 inside : (g : Over) (t : ℕ) (c : put_at-After-sharing_children-arg-1 g t) → c.saturating_sub-at.result < g.R.Look.words c.args.room.now c.args.page 1
@@ -244,26 +244,6 @@ child_tree : (g : Over) (t : ℕ) (c : put_below-After-child_at-child g t) → c
     → IsTreeAt (c.args.level - 1) 6 (g.R.Look.standing c.child_at-child.new.look) (g.R.Look.words c.child_at-child.new.look) c.child_at-child.result
 child_tree g t c e = child_read g.R.Look.kept g.R.Look.standing g.R.Look.words c.args.level (c.args.level - 1) (item_at (g.R.Look.words c.args.room.now c.args.page) c.args.place) c.child_at-child.result c.args.room.now c.child_at-child.new.look e c.requires.below c.child_at-child.ensures.child c.child_at-child.ensures.unchanged
 
-packed : (g : Over) (t : ℕ) (c : put_below-After-give_up-arg-1 g t)
-    → Becomes g.R.Look.kept g.R.Look.standing g.R.Look.words (pages_below (c.args.level - 1) (g.R.Look.words c.put_at.new.room) (pairs_of (g.R.Look.words c.put_at.new.room) c.args.pair.now c.put_at.new.slots.items)) (pairs_below (c.args.level - 1) (g.R.Look.words c.put_at.new.room) (pairs_of (g.R.Look.words c.put_at.new.room) c.args.pair.now c.put_at.new.slots.items))
-    (suc (c.args.level - 1)) (pairs_of (g.R.Look.words c.pack.new.room) c.args.pair.now c.in_ok-branches.branches.items) c.put_at.new.room c.pack.new.room
-packed g t c =
-    let mid = g.R.Look.words c.put_at.new.room in
-    let pair = c.args.pair.now in
-    let us = pairs_of (g.R.Look.words c.pack.new.room) pair c.in_ok-branches.branches.items in
-    subst (λ (xs : List Slot). Becomes g.R.Look.kept g.R.Look.standing g.R.Look.words (pages_below (c.args.level - 1) mid (pairs_of mid pair xs)) (pairs_below (c.args.level - 1) mid (pairs_of mid pair xs)) (suc (c.args.level - 1)) us c.put_at.new.room c.pack.new.room) c.deref.ensures.0 c.in_ok-branches.ensures.ok
-
-given : (g : Over) (t : ℕ) (c : put_below-After-give_up g t) → c.args.level ≡ suc (c.args.level - 1)
-    → IsTreeAt (c.args.level - 1) 6 (g.R.Look.standing c.child_at-child.new.look) (g.R.Look.words c.child_at-child.new.look) c.child_at-child.result
-    → Becomes g.R.Look.kept g.R.Look.standing g.R.Look.words (pages_below (c.args.level - 1) (g.R.Look.words c.put_at.new.room) (pairs_of (g.R.Look.words c.put_at.new.room) c.args.pair.now c.put_at.new.slots.items)) (pairs_below (c.args.level - 1) (g.R.Look.words c.put_at.new.room) (pairs_of (g.R.Look.words c.put_at.new.room) c.args.pair.now c.put_at.new.slots.items))
-    (suc (c.args.level - 1)) (pairs_of (g.R.Look.words c.pack.new.room) c.args.pair.now c.in_ok-branches.branches.items) c.put_at.new.room c.pack.new.room
-    → Becomes g.R.Look.kept g.R.Look.standing g.R.Look.words (pages_below c.args.level (g.R.Look.words c.child_at-child.new.look) (item_at (g.R.Look.words c.args.room.now c.args.page) c.args.place ∷ [])) (put c.args.pair.now (pairs_below c.args.level (g.R.Look.words c.child_at-child.new.look) (item_at (g.R.Look.words c.args.room.now c.args.page) c.args.place ∷ [])))
-    c.args.level (pairs_of (g.R.Look.words c.pack.new.room) c.args.pair.now c.in_ok-branches.branches.items) c.child_at-child.new.look c.give_up.new.self
-given g t c e tree written =
-    let xs = pairs_of (g.R.Look.words c.put_at.new.room) c.args.pair.now c.put_at.new.slots.items in
-    becomes_below g.R.Look.kept g.R.Look.standing g.R.Look.words c.args.level (c.args.level - 1) c.child_at-child.result (item_at (g.R.Look.words c.args.room.now c.args.page) c.args.place) c.args.pair.now xs xs (pairs_of (g.R.Look.words c.pack.new.room) c.args.pair.now c.in_ok-branches.branches.items)
-    c.child_at-child.new.look c.put_at.new.room c.pack.new.room c.give_up.new.self e c.child_at-child.ensures.child refl tree c.in_ok-put_at.ensures.ok written c.give_up.ensures.kept c.give_up.ensures.words c.give_up.ensures.standing
-
 pub put_below-put_at-requires : goal.put_below-put_at-requires
 put_below-put_at-requires g t c κs within =
     let e : c.args.level ≡ suc (c.args.level - 1) = omega (arith, c.if-level-eq0.false) in
@@ -292,36 +272,42 @@ put_below-returns-in_err-branches-clause-err g t c =
     on_err _ (start_trans g.R.Look.kept g.R.Look.standing g.R.Look.words c.args.room.now read c.pack.new.room (unchanged_start g.R.Look.kept g.R.Look.standing g.R.Look.words c.args.room.now read c.child_at-child.ensures.unchanged)
     (start_trans g.R.Look.kept g.R.Look.standing g.R.Look.words read c.put_at.new.room c.pack.new.room first c.in_err-branches.ensures.err))
 
-pub put_below-give_up-requires-clause-held : goal.put_below-give_up-requires-clause-held
-put_below-give_up-requires-clause-held g t c =
+pub put_below-pack-requires-clause-kept : goal.put_below-pack-requires-clause-kept
+put_below-pack-requires-clause-kept g t c =
     let e : c.args.level ≡ suc (c.args.level - 1) = omega (arith, c.if-level-eq0.false) in
-    let at = goal.at.put_below-give_up-requires-clause-held g t c in
-    let read = c.child_at-child.new.look in
+    let tree = child_tree g t (goal.at.put_below-pack-requires-clause-kept g t c).After-child_at-child e in
     let below = c.args.level - 1 in
-    let pair = c.args.pair.now in
-    let before = pages_below below (g.R.Look.words read) (items_of (g.R.Look.words read c.child_at-child.result)) in
-    let us = pairs_of (g.R.Look.words c.pack.new.room) pair c.in_ok-branches.branches.items in
-    let both = becomes_trans g.R.Look.kept g.R.Look.standing g.R.Look.words before (put pair (pairs_at below (g.R.Look.words read) c.child_at-child.result)) below (suc below) (pairs_of (g.R.Look.words c.put_at.new.room) pair c.put_at.new.slots.items) us read c.put_at.new.room c.pack.new.room c.in_ok-put_at.ensures.ok (packed g t at.After-give_up-arg-1) in
-    let tree = child_tree g t at.After-child_at-child e in
-    held_after g.R.Look.kept g.R.Look.standing g.R.Look.words before (pages_below (suc below) (g.R.Look.words c.pack.new.room) us) c.child_at-child.result read c.pack.new.room both.swaps tree.page_once tree.page_in_use
+    let read = c.child_at-child.new.look in
+    let mid = c.put_at.new.room in
+    kept_after g.R.Look.kept g.R.Look.standing g.R.Look.words (pages_below below (g.R.Look.words read) (items_of (g.R.Look.words read c.child_at-child.result))) (pages_below below (g.R.Look.words mid) (pairs_of (g.R.Look.words mid) c.args.pair.now c.put_at.new.slots.items))
+    c.child_at-child.result read mid c.in_ok-put_at.ensures.ok.swaps tree.page_once tree.page_in_use
+
+pub put_below-pack-requires-clause-apart : goal.put_below-pack-requires-clause-apart
+put_below-pack-requires-clause-apart g t c =
+    let e : c.args.level ≡ suc (c.args.level - 1) = omega (arith, c.if-level-eq0.false) in
+    let tree = child_tree g t (goal.at.put_below-pack-requires-clause-apart g t c).After-child_at-child e in
+    let below = c.args.level - 1 in
+    let read = c.child_at-child.new.look in
+    let mid = c.put_at.new.room in
+    subst (λ (xs : List Slot). times c.child_at-child.result (pages_below below (g.R.Look.words mid) (pairs_of (g.R.Look.words mid) c.args.pair.now xs)) ≡ 0) (sym c.deref.ensures.0)
+    (given_up_page g.R.Look.kept g.R.Look.standing g.R.Look.words (pages_below below (g.R.Look.words read) (items_of (g.R.Look.words read c.child_at-child.result))) (pages_below below (g.R.Look.words mid) (pairs_of (g.R.Look.words mid) c.args.pair.now c.put_at.new.slots.items))
+    c.child_at-child.result read mid c.in_ok-put_at.ensures.ok.swaps tree.page_once tree.page_in_use)
 
 pub put_below-returns-clause-ok : goal.put_below-returns-clause-ok
 put_below-returns-clause-ok g t c =
     let e : c.args.level ≡ suc (c.args.level - 1) = omega (arith, c.if-level-eq0.false) in
-    let at = goal.at.put_below-returns-clause-ok g t c in
+    let tree = child_tree g t (goal.at.put_below-returns-clause-ok g t c).After-child_at-child e in
     let read = c.child_at-child.new.look in
+    let mid = g.R.Look.words c.put_at.new.room in
+    let pair = c.args.pair.now in
+    let level = c.args.level in
     let item = item_at (g.R.Look.words c.args.room.now c.args.page) c.args.place in
-    let branches = pairs_of (g.R.Look.words c.pack.new.room) c.args.pair.now c.in_ok-branches.branches.items in
-    let since = becomes_since g.R.Look.kept g.R.Look.standing g.R.Look.words (pages_below c.args.level (g.R.Look.words read) (item ∷ [])) (put c.args.pair.now (pairs_below c.args.level (g.R.Look.words read) (item ∷ []))) c.args.level branches c.args.room.now read c.give_up.new.self c.child_at-child.ensures.unchanged
-    (given g t at.After-give_up e (child_tree g t at.After-child_at-child e) (packed g t at.After-give_up-arg-1)) in
-    subst (λ (w : ℕ → ℕ → ℕ). Becomes g.R.Look.kept g.R.Look.standing g.R.Look.words (pages_below c.args.level w (item ∷ [])) (put c.args.pair.now (pairs_below c.args.level w (item ∷ []))) c.args.level (pairs_of (g.R.Look.words c.give_up.new.self) c.args.pair.now c.in_ok-branches.branches.items) c.args.room.now c.give_up.new.self) c.child_at-child.ensures.unchanged.words
-    (subst (λ (w : ℕ → ℕ → ℕ). Becomes g.R.Look.kept g.R.Look.standing g.R.Look.words (pages_below c.args.level (g.R.Look.words read) (item ∷ [])) (put c.args.pair.now (pairs_below c.args.level (g.R.Look.words read) (item ∷ []))) c.args.level (pairs_of w c.args.pair.now c.in_ok-branches.branches.items) c.args.room.now c.give_up.new.self) (sym c.give_up.ensures.words) since)
+    let branches = pairs_of (g.R.Look.words c.pack.new.room) pair c.in_ok-branches.branches.items in
+    let over = becomes_below g.R.Look.kept g.R.Look.standing g.R.Look.words level (level - 1) c.child_at-child.result item pair (pairs_of mid pair c.put_at.new.slots.items) (pairs_of mid pair c.deref.result.now) branches read c.put_at.new.room c.pack.new.room
+    e c.child_at-child.ensures.child (ap (pairs_of mid pair) c.deref.ensures.0) tree c.in_ok-put_at.ensures.ok c.in_ok-branches.ensures.ok in
+    subst (λ (w : ℕ → ℕ → ℕ). Becomes g.R.Look.kept g.R.Look.standing g.R.Look.words (pages_below level w (item ∷ [])) (put pair (pairs_below level w (item ∷ []))) level branches c.args.room.now c.pack.new.room) c.child_at-child.ensures.unchanged.words
+    (becomes_since g.R.Look.kept g.R.Look.standing g.R.Look.words (pages_below level (g.R.Look.words read) (item ∷ [])) (put pair (pairs_below level (g.R.Look.words read) (item ∷ []))) level branches c.args.room.now read c.pack.new.room c.child_at-child.ensures.unchanged over)
 
 pub put_below-returns-clause-ready : goal.put_below-returns-clause-ready
 put_below-returns-clause-ready g t c =
-    let e : c.args.level ≡ suc (c.args.level - 1) = omega (arith, c.if-level-eq0.false) in
-    let at = goal.at.put_below-returns-clause-ready g t c in
-    let below = subst (λ (w : ℕ → ℕ → ℕ). IsBelow c.args.level (g.R.Look.standing c.give_up.new.self) (g.R.Look.words c.give_up.new.self) (pairs_of w c.args.pair.now c.in_ok-branches.branches.items)) (sym c.give_up.ensures.words)
-    (given g t at.After-give_up e (child_tree g t at.After-child_at-child e) (packed g t at.After-give_up-arg-1)).below in
-    branches_ready (c.args.level - 1) (g.R.Look.standing c.give_up.new.self) (g.R.Look.words c.give_up.new.self) c.args.pair.now c.in_ok-branches.branches.items c.in_ok-branches.ensures.branches
-    (subst (λ (n : ℕ). IsBelow n (g.R.Look.standing c.give_up.new.self) (g.R.Look.words c.give_up.new.self) (pairs_of (g.R.Look.words c.give_up.new.self) c.args.pair.now c.in_ok-branches.branches.items)) e below)
+    branches_ready (c.args.level - 1) (g.R.Look.standing c.pack.new.room) (g.R.Look.words c.pack.new.room) c.args.pair.now c.in_ok-branches.branches.items c.in_ok-branches.ensures.branches c.in_ok-branches.ensures.ok.below

@@ -1,22 +1,22 @@
 use Rattle.std.proofs.Common.{◌≡◌, ◌≤◌, ℕ, ◌+◌, ◌/◌, ◌^◌, ap, sym, ◌∙◌, arith}
 use Rattle.be_tree.specs.Page.{key_len}
-use Rattle.be_tree.proofs.Padded.{key_differs}
+use Rattle.be_tree.proofs.Bytes.Words.{more_cmp}
+use Rattle.be_tree.proofs.Padded.{key_below, key_differs}
 use Rattle.be_tree.proofs.lookup.order_at.Goals as goal
 
--- the first words decide
-pub returns-then-mine-words-clause-order : goal.returns-then-mine-words-clause-order
-returns-then-mine-words-clause-order g c =
+-- a lesser word decides
+pub returns-then-mine-first-clause-order : goal.returns-then-mine-first-clause-order
+returns-then-mine-first-clause-order g c =
+    let words = g.L.Look.words c.args.look.now c.args.page in
+    sym (key_below words c.args.at c.args.key.now c.word-mine.result c.args.first c.word-mine.ensures.value c.if-mine-first.true (omega arith) c.requires.first)
+
+-- a greater one does where the item's key has all of it
+pub returns-then-word-ge8-clause-order : goal.returns-then-word-ge8-clause-order
+returns-then-word-ge8-clause-order g c =
     let words = g.L.Look.words c.args.look.now c.args.page in
     let at = c.args.at in
-    let long : 8 ≤ key_len words at = omega (arith, c.if-len-lt8.false, ap (λ (h : ℕ). h / 2 ^ 32) c.word.ensures.value) in
-    let is : c.word-mine.result ≡ words (at + 1) = c.word-mine.ensures.value ∙ ap (λ (w : ℕ → ℕ → ℕ). w c.args.page (at + 1)) c.word.ensures.words in
-    c.cmp.ensures ∙ sym (key_differs words at c.args.key.now c.word-mine.result c.args.words.first long is (omega arith) (omega arith) c.requires.words.first c.if-mine-words.true)
-
-pub order_behind-requires-clause-long : goal.order_behind-requires-clause-long
-order_behind-requires-clause-long g c =
-    let kept = ap (λ (w : ℕ → ℕ → ℕ). w c.args.page c.args.at) (c.word-mine.ensures.words ∙ c.word.ensures.words) in
-    omega (arith, kept, c.if-len-lt8.false, c.word.ensures.value)
-
-pub order_behind-requires-clause-same : goal.order_behind-requires-clause-same
-order_behind-requires-clause-same g c =
-    sym c.if-mine-words.false ∙ (c.word-mine.ensures.value ∙ sym (ap (λ (w : ℕ → ℕ → ℕ). w c.args.page (c.args.at + 1)) c.word-mine.ensures.words))
+    let mine = c.word-mine.result in
+    let header : c.word.result ≡ words at = c.word.ensures.value ∙ ap (λ (w : ℕ → ℕ → ℕ). w c.args.page at) c.word-mine.ensures.words in
+    let long : 8 ≤ key_len words at = omega (arith, c.if-word-ge8.true, ap (λ (h : ℕ). h / 2 ^ 32) header) in
+    sym (key_differs words at c.args.key.now mine c.args.first long c.word-mine.ensures.value (omega arith) (omega arith) c.requires.first (λ e. absurd (omega (arith, e, c.if-mine-first-2.true)))
+    ∙ more_cmp mine c.args.first c.if-mine-first-2.true)

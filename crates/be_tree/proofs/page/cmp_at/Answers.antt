@@ -1,12 +1,16 @@
-use Rattle.std.proofs.Common.{◌≡◌, ℕ, ◌+◌, ◌-◌, ◌*◌, ◌/◌, ◌%◌, ◌^◌, ap, sym, subst, ◌∙◌, refl, drop, length, arith}
+use Rattle.std.proofs.Common.{◌≡◌, ℕ, ◌+◌, ◌-◌, ◌*◌, ◌/◌, ◌%◌, ◌^◌, ap, sym, subst, ◌∙◌, ◌⊎◌, refl, inl, inr, drop, length, arith}
 use Rattle.std.specs.Ordering.{nat_cmp, ordering_then}
 use Rattle.be_tree.specs.Key.{key_cmp}
 use Rattle.be_tree.specs.Page.{item_at, key_len}
-use Rattle.be_tree.proofs.Bytes.Beginnings.{either_is}
 use Rattle.be_tree.proofs.Bytes.Words.{next_word, last_word, at_end, then_same, then_other}
 use Rattle.be_tree.proofs.page.cmp_at.Given.{Over}
 use Rattle.be_tree.proofs.page.cmp_at.Goals as goal
 use Rattle.be_tree.proofs.page.cmp_at.Goals.{After-whole_word-other, After-word_from-other}
+
+-- one of two lengths, by other names
+either_is : {a b c d e : ℕ} → a ≡ b → c ≡ d → ((b ≡ c) ⊎ (b ≡ e)) → (a ≡ d) ⊎ (a ≡ e)
+either_is ab cd (inl bc) = inl (ab ∙ bc ∙ cd)
+either_is ab cd (inr be) = inr (ab ∙ be)
 
 next : (g : Over) (c : After-whole_word-other g) → key_cmp (item_at (g.L.Look.words c.args.look.now c.args.page) c.args.at).key c.args.key.now
     ≡ ordering_then (nat_cmp c.word-mine.result c.whole_word-other.result) (key_cmp (drop (8 * (c.loop-i.i + 1)) (item_at (g.L.Look.words c.args.look.now c.args.page) c.args.at).key) (drop (8 * (c.loop-i.i + 1)) c.args.key.now))

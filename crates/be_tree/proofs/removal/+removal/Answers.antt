@@ -1,5 +1,4 @@
 use Rattle.std.proofs.Common.{◌≡◌, ℕ, suc, [], ◌∷◌, ◌++◌, ◌-◌, ◌+◌, ◌<◌, ◌≤◌, All, List, take, drop, ap, sym, subst, refl, ◌∙◌, length, arith}
-use Rattle.std.proofs.lemmas.Bool.Decides.{nat_tests}
 use Rattle.std.proofs.lemmas.List.FromFn.{length-map-range_with_len}
 use Rattle.be_tree.specs.declared.slot.Slot.{Slot}
 use Rattle.be_tree.specs.declared.slot.Slot.TheVariants.{At, Branch}
@@ -17,7 +16,8 @@ use Rattle.be_tree.proofs.Frame.{start_trans, swaps_start, unchanged_trans}
 use Rattle.be_tree.proofs.Nodes.Joins.{Joined, left_changed, left_in_hand, left_length, right_changed, right_in_hand, right_length}
 use Rattle.be_tree.proofs.Nodes.Neighbours.{apart, left_count, left_page, left_readable, right_count, right_page, right_readable, slots_until}
 use Rattle.be_tree.proofs.Shape.Parts.{all_one, on_err}
-use Rattle.be_tree.proofs.Putting.Puts.{becomes_given_up, becomes_trans, held_after}
+use Rattle.be_pages.specs.Pages.{times}
+use Rattle.be_tree.proofs.Putting.Puts.{becomes_over, given_up_page, kept_after}
 use Rattle.be_tree.proofs.Removing.Removes.{at_in, key_out, leaf_removed, least_two, payload_leaf, rising_without, rising_without_left, rising_without_right}
 use Rattle.be_tree.proofs.Nodes.Slots.{branches_ready, items_count}
 use Rattle.be_tree.proofs.removal.+removal.Goals as goal
@@ -265,21 +265,22 @@ remove_alone-returns-in_err-page-clause-err g t c =
     let first = swaps_start g.R.Look.kept g.R.Look.standing g.R.Look.words (pages_below level (g.R.Look.words old) (items_of (g.R.Look.words old c.args.below))) (pages_below level (g.R.Look.words mid) (pairs_of (g.R.Look.words mid) c.args.pair.now c.remove_at.new.slots.items)) old mid c.in_ok-remove_at.ensures.ok.swaps in
     on_err _ (start_trans g.R.Look.kept g.R.Look.standing g.R.Look.words old mid c.write_branch.new.room first c.in_err-page.ensures.err)
 
-pub remove_alone-give_up-requires-clause-held : goal.remove_alone-give_up-requires-clause-held
-remove_alone-give_up-requires-clause-held g t c =
-    let old = c.args.room.now in
-    let words = g.R.Look.words old in
-    let mid = g.R.Look.words c.remove_at.new.room in
-    let last = c.write_branch.new.room in
+pub remove_alone-write_branch-requires-clause-kept : goal.remove_alone-write_branch-requires-clause-kept
+remove_alone-write_branch-requires-clause-kept g t c =
     let level = c.args.level in
-    let pair = c.args.pair.now in
-    let xs = pairs_of mid pair c.remove_at.new.slots.items in
-    let us = branch_to (g.R.Look.words last) c.in_ok-page.page ∷ [] in
-    let before = pages_below level words (items_of (words c.args.below)) in
-    let all = without c.args.key.now (pairs_at level words c.args.below) in
-    let packed = subst (λ (ss : List Slot). Becomes g.R.Look.kept g.R.Look.standing g.R.Look.words (pages_below level mid (pairs_of mid pair ss)) (pairs_below level mid (pairs_of mid pair ss)) (suc level) us c.remove_at.new.room last) c.deref.ensures.0 c.in_ok-page.ensures.ok in
-    let both = becomes_trans g.R.Look.kept g.R.Look.standing g.R.Look.words before all level (suc level) xs us old c.remove_at.new.room last c.in_ok-remove_at.ensures.ok packed in
-    held_after g.R.Look.kept g.R.Look.standing g.R.Look.words before (pages_below (suc level) (g.R.Look.words last) us) c.args.below old last both.swaps c.requires.tree.page_once c.requires.tree.page_in_use
+    let old = c.args.room.now in
+    let mid = c.remove_at.new.room in
+    kept_after g.R.Look.kept g.R.Look.standing g.R.Look.words (pages_below level (g.R.Look.words old) (items_of (g.R.Look.words old c.args.below))) (pages_below level (g.R.Look.words mid) (pairs_of (g.R.Look.words mid) c.args.pair.now c.remove_at.new.slots.items))
+    c.args.below old mid c.in_ok-remove_at.ensures.ok.swaps c.requires.tree.page_once c.requires.tree.page_in_use
+
+pub remove_alone-write_branch-requires-clause-apart : goal.remove_alone-write_branch-requires-clause-apart
+remove_alone-write_branch-requires-clause-apart g t c =
+    let level = c.args.level in
+    let old = c.args.room.now in
+    let mid = c.remove_at.new.room in
+    subst (λ (xs : List Slot). times c.args.below (pages_below level (g.R.Look.words mid) (pairs_of (g.R.Look.words mid) c.args.pair.now xs)) ≡ 0) (sym c.deref.ensures.0)
+    (given_up_page g.R.Look.kept g.R.Look.standing g.R.Look.words (pages_below level (g.R.Look.words old) (items_of (g.R.Look.words old c.args.below))) (pages_below level (g.R.Look.words mid) (pairs_of (g.R.Look.words mid) c.args.pair.now c.remove_at.new.slots.items))
+    c.args.below old mid c.in_ok-remove_at.ensures.ok.swaps c.requires.tree.page_once c.requires.tree.page_in_use)
 
 pub remove_alone-returns-clause-ok : goal.remove_alone-returns-clause-ok
 remove_alone-returns-clause-ok g t c =
@@ -289,38 +290,17 @@ remove_alone-returns-clause-ok g t c =
     let last = c.write_branch.new.room in
     let level = c.args.level in
     let pair = c.args.pair.now in
-    let xs = pairs_of mid pair c.remove_at.new.slots.items in
+    let below = c.args.below in
     let us = branch_to (g.R.Look.words last) c.in_ok-page.page ∷ [] in
-    let before = pages_below level words (items_of (words c.args.below)) in
-    let all = without c.args.key.now (pairs_at level words c.args.below) in
-    let packed = subst (λ (ss : List Slot). Becomes g.R.Look.kept g.R.Look.standing g.R.Look.words (pages_below level mid (pairs_of mid pair ss)) (pairs_below level mid (pairs_of mid pair ss)) (suc level) us c.remove_at.new.room last) c.deref.ensures.0 c.in_ok-page.ensures.ok in
-    let both = becomes_trans g.R.Look.kept g.R.Look.standing g.R.Look.words before all level (suc level) xs us old c.remove_at.new.room last c.in_ok-remove_at.ensures.ok packed in
-    let new = c.give_up.new.self in
-    let given = becomes_given_up g.R.Look.kept g.R.Look.standing g.R.Look.words before all (suc level) us c.args.below old last new both c.requires.tree.page_once c.requires.tree.page_in_use c.give_up.ensures.kept c.give_up.ensures.words
-    (c.give_up.ensures.standing c.args.below ∙ grind (arith, nat_tests)) (λ q ne. c.give_up.ensures.standing q ∙ grind (arith, nat_tests)) in
-    let now = subst (λ (w : ℕ → ℕ → ℕ). Becomes g.R.Look.kept g.R.Look.standing g.R.Look.words (c.args.below ∷ before) all (suc level) (branch_to w c.in_ok-page.page ∷ []) old new) (sym c.give_up.ensures.words) given in
-    now
+    becomes_over g.R.Look.kept g.R.Look.standing g.R.Look.words (pages_below level words (items_of (words below))) (without c.args.key.now (pairs_at level words below)) level (suc level) below (pairs_of mid pair c.remove_at.new.slots.items) us old c.remove_at.new.room last
+    c.in_ok-remove_at.ensures.ok c.requires.tree.page_once c.requires.tree.below.once c.requires.tree.page_in_use
+    (subst (λ (ss : List Slot). Becomes g.R.Look.kept g.R.Look.standing g.R.Look.words (below ∷ pages_below level mid (pairs_of mid pair ss)) (pairs_below level mid (pairs_of mid pair ss)) (suc level) us c.remove_at.new.room last) c.deref.ensures.0 c.in_ok-page.ensures.ok)
 
 pub remove_alone-returns-clause-ready : goal.remove_alone-returns-clause-ready
 remove_alone-returns-clause-ready g t c =
-    let old = c.args.room.now in
-    let words = g.R.Look.words old in
-    let mid = g.R.Look.words c.remove_at.new.room in
     let last = c.write_branch.new.room in
-    let level = c.args.level in
-    let pair = c.args.pair.now in
-    let xs = pairs_of mid pair c.remove_at.new.slots.items in
-    let us = branch_to (g.R.Look.words last) c.in_ok-page.page ∷ [] in
-    let before = pages_below level words (items_of (words c.args.below)) in
-    let all = without c.args.key.now (pairs_at level words c.args.below) in
-    let packed = subst (λ (ss : List Slot). Becomes g.R.Look.kept g.R.Look.standing g.R.Look.words (pages_below level mid (pairs_of mid pair ss)) (pairs_below level mid (pairs_of mid pair ss)) (suc level) us c.remove_at.new.room last) c.deref.ensures.0 c.in_ok-page.ensures.ok in
-    let both = becomes_trans g.R.Look.kept g.R.Look.standing g.R.Look.words before all level (suc level) xs us old c.remove_at.new.room last c.in_ok-remove_at.ensures.ok packed in
-    let new = c.give_up.new.self in
-    let given = becomes_given_up g.R.Look.kept g.R.Look.standing g.R.Look.words before all (suc level) us c.args.below old last new both c.requires.tree.page_once c.requires.tree.page_in_use c.give_up.ensures.kept c.give_up.ensures.words
-    (c.give_up.ensures.standing c.args.below ∙ grind (arith, nat_tests)) (λ q ne. c.give_up.ensures.standing q ∙ grind (arith, nat_tests)) in
-    let now = subst (λ (w : ℕ → ℕ → ℕ). Becomes g.R.Look.kept g.R.Look.standing g.R.Look.words (c.args.below ∷ before) all (suc level) (branch_to w c.in_ok-page.page ∷ []) old new) (sym c.give_up.ensures.words) given in
     let page = c.in_ok-page.page in
-    branches_ready level (g.R.Look.standing c.give_up.new.self) (g.R.Look.words c.give_up.new.self) c.args.pair.now (Branch page ∷ []) (all_one IsBranchSlot (Branch page) c.in_ok-page.ensures.small) now.below 0 (Branch page) (omega arith)
+    branches_ready c.args.level (g.R.Look.standing last) (g.R.Look.words last) c.args.pair.now (Branch page ∷ []) (all_one IsBranchSlot (Branch page) c.in_ok-page.ensures.small) c.in_ok-page.ensures.ok.below 0 (Branch page) (omega arith)
 
 pub remove_at-returns-then-level-eq0-clause-found : goal.remove_at-returns-then-level-eq0-clause-found
 remove_at-returns-then-level-eq0-clause-found g t c =

@@ -1,5 +1,5 @@
-use Rattle.std.proofs.Common.{◌≡◌, ℕ, suc, ◌-◌, ◌^◌, ◌<◌, List, ap, sym, subst, refl, ◌∙◌, arith, None}
-use Rattle.be_pages.specs.Pages.{IsUnchanged}
+use Rattle.std.proofs.Common.{◌≡◌, ℕ, suc, ◌∷◌, ◌-◌, ◌^◌, ◌<◌, List, ap, sym, subst, refl, ◌∙◌, arith, None}
+use Rattle.be_pages.specs.Pages.{IsUnchanged, times}
 use Rattle.be_tree.specs.declared.slot.Slot.{Slot}
 use Rattle.be_tree.specs.Pair.{Pair}
 use Rattle.be_tree.specs.Key.{payload_at, without}
@@ -7,11 +7,11 @@ use Rattle.be_tree.specs.Page.{items_of}
 use Rattle.be_tree.specs.Slot.{pairs_of}
 use Rattle.be_tree.specs.Tree.{pages, pairs, pairs_at, pairs_below, pages_below, IsTreeAt, BecomesTree, least_of_root}
 use Rattle.be_tree.proofs.Frame.{swaps_start, start_trans, unchanged_start, unchanged_trans}
-use Rattle.be_tree.proofs.Putting.Puts.{tree_weaker, held_after}
+use Rattle.be_tree.proofs.Putting.Puts.{given_up_page, kept_after, tree_weaker}
 use Rattle.be_tree.proofs.Shape.Parts.{on_err}
 use Rattle.be_tree.proofs.Shape.Levels.{level_bound, tree_in_use, kept_not_free}
 use Rattle.be_tree.proofs.Removing.Rests.{tree_changed, tree_same, tree_until, without_absent}
-use Rattle.be_tree.proofs.Shape.Roots.{root_tree, root_some, becomes_tree}
+use Rattle.be_tree.proofs.Shape.Roots.{root_tree, root_some}
 use Rattle.be_tree.proofs.removal.remove.Given.{Over}
 use Rattle.be_tree.proofs.removal.remove.Goals as goal
 use Rattle.be_tree.proofs.removal.remove.Goals.{After-word-level, In-Err-Absent}
@@ -134,26 +134,33 @@ returns-in_err-new-clause-err g c =
     (swaps_start g.R.Look.kept g.R.Look.standing g.R.Look.words (pages_below c.word-level.result (g.R.Look.words read) (items_of (g.R.Look.words read (c.args.root - 1)))) (pages_below c.word-level.result (g.R.Look.words c.remove_at.new.room) (pairs_of (g.R.Look.words c.remove_at.new.room) c.new-pair.result c.remove_at.new.slots.items)) read c.remove_at.new.room c.in-Ok.ensures.ok.swaps)
     c.in_err-new.ensures.err))
 
-pub give_up-requires-clause-held : goal.give_up-requires-clause-held
-give_up-requires-clause-held g c =
-    let tree = root_page g (goal.at.give_up-requires-clause-held g c).After-word-level in
+pub write_rest-requires-clause-kept : goal.write_rest-requires-clause-kept
+write_rest-requires-clause-kept g c =
+    let tree = root_page g (goal.at.write_rest-requires-clause-kept g c).After-word-level in
     let level = c.word-level.result in
-    let page = c.args.root - 1 in
-    let mid = g.R.Look.words c.remove_at.new.room in
-    let written = subst (λ (xs : List Slot). BecomesTree g.R.Look.kept g.R.Look.standing g.R.Look.words (pages_below level mid (pairs_of mid c.new-pair.result xs)) (pairs_below level mid (pairs_of mid c.new-pair.result xs)) c.in_ok-new.new c.remove_at.new.room c.write_rest.new.room)
-    c.deref.ensures.0 c.in_ok-new.ensures.ok in
-    let read = g.R.Look.words c.word-level.new.self in
-    let both = becomes_tree g.R.Look.kept g.R.Look.standing g.R.Look.words (pages_below level read (items_of (read page))) (without c.args.key.now (pairs_at level read page)) level (pairs_of mid c.new-pair.result c.remove_at.new.slots.items) c.in_ok-new.new
-    c.word-level.new.self c.remove_at.new.room c.write_rest.new.room c.in-Ok.ensures.ok written in
-    held_after g.R.Look.kept g.R.Look.standing g.R.Look.words (pages_below level read (items_of (read page))) (pages (g.R.Look.words c.write_rest.new.room) c.in_ok-new.new) page c.word-level.new.self c.write_rest.new.room both.swaps tree.page_once tree.page_in_use
+    let read = c.word-level.new.self in
+    let mid = c.remove_at.new.room in
+    kept_after g.R.Look.kept g.R.Look.standing g.R.Look.words (pages_below level (g.R.Look.words read) (items_of (g.R.Look.words read (c.args.root - 1)))) (pages_below level (g.R.Look.words mid) (pairs_of (g.R.Look.words mid) c.new-pair.result c.remove_at.new.slots.items))
+    (c.args.root - 1) read mid c.in-Ok.ensures.ok.swaps tree.page_once tree.page_in_use
+
+pub write_rest-requires-clause-apart : goal.write_rest-requires-clause-apart
+write_rest-requires-clause-apart g c =
+    let tree = root_page g (goal.at.write_rest-requires-clause-apart g c).After-word-level in
+    let level = c.word-level.result in
+    let read = c.word-level.new.self in
+    let mid = c.remove_at.new.room in
+    subst (λ (xs : List Slot). times (c.args.root - 1) (pages_below level (g.R.Look.words mid) (pairs_of (g.R.Look.words mid) c.new-pair.result xs)) ≡ 0) (sym c.deref.ensures.0)
+    (given_up_page g.R.Look.kept g.R.Look.standing g.R.Look.words (pages_below level (g.R.Look.words read) (items_of (g.R.Look.words read (c.args.root - 1)))) (pages_below level (g.R.Look.words mid) (pairs_of (g.R.Look.words mid) c.new-pair.result c.remove_at.new.slots.items))
+    (c.args.root - 1) read mid c.in-Ok.ensures.ok.swaps tree.page_once tree.page_in_use)
 
 pub returns-clause-ok : goal.returns-clause-ok
 returns-clause-ok g c =
     let at = (goal.at.returns-clause-ok g c).After-word-level in
     let level = c.word-level.result in
+    let page = c.args.root - 1 in
     let mid = g.R.Look.words c.remove_at.new.room in
-    let written = subst (λ (xs : List Slot). BecomesTree g.R.Look.kept g.R.Look.standing g.R.Look.words (pages_below level mid (pairs_of mid c.new-pair.result xs)) (pairs_below level mid (pairs_of mid c.new-pair.result xs)) c.in_ok-new.new c.remove_at.new.room c.write_rest.new.room)
+    let written = subst (λ (xs : List Slot). BecomesTree g.R.Look.kept g.R.Look.standing g.R.Look.words (page ∷ pages_below level mid (pairs_of mid c.new-pair.result xs)) (pairs_below level mid (pairs_of mid c.new-pair.result xs)) c.in_ok-new.new c.remove_at.new.room c.write_rest.new.room)
     c.deref.ensures.0 c.in_ok-new.ensures.ok in
-    tree_changed g.R.Look.kept g.R.Look.standing g.R.Look.words (without c.args.key.now) c.args.root (c.args.root - 1) level (least_of_root level) c.in_ok-new.new (pairs_of mid c.new-pair.result c.remove_at.new.slots.items)
-    c.args.room.now c.word-level.new.self c.remove_at.new.room c.write_rest.new.room c.give_up.new.self
-    (omega (arith, some g at)) (level_is g at) (same g at) (root_page g at) c.in-Ok.ensures.ok written c.give_up.ensures.kept c.give_up.ensures.words c.give_up.ensures.standing
+    tree_changed g.R.Look.kept g.R.Look.standing g.R.Look.words (without c.args.key.now) c.args.root page level (least_of_root level) c.in_ok-new.new (pairs_of mid c.new-pair.result c.remove_at.new.slots.items)
+    c.args.room.now c.word-level.new.self c.remove_at.new.room c.write_rest.new.room
+    (omega (arith, some g at)) (level_is g at) (same g at) (root_page g at) c.in-Ok.ensures.ok written

@@ -1,22 +1,13 @@
-use Rattle.std.proofs.Common.{◌≡◌, ℕ, suc, List, [], ◌∷◌, ◌++◌, ◌+◌, ◌-◌, ◌*◌, ◌<◌, ◌≤◌, length, drop, ap, sym, subst, ◌∙◌, arith, append_assoc}
-use Rattle.std.proofs.lemmas.List.{append-nil, length-append}
+use Rattle.std.proofs.Common.{◌≡◌, ℕ, List, [], ◌++◌, ◌≤◌, length, ap, sym, subst, ◌∙◌, arith}
 use Rattle.be_pages.specs.declared.room.Standing.{Standing}
 use Rattle.be_tree.specs.declared.cursor.Place.{Place}
-use Rattle.be_tree.specs.Cursor.{IsPath, pairs_along, pairs_past}
-use Rattle.be_tree.specs.Key.{IsRank}
-use Rattle.be_tree.specs.Page.{items_of, item_at, IsItem}
+use Rattle.be_tree.specs.Cursor.{IsPath, pairs_along}
 use Rattle.be_tree.specs.Range.{pairs_from}
-use Rattle.be_tree.specs.Tree.{IsTreeAt, child, pairs, pairs_at, least_of_root}
-use Rattle.be_tree.proofs.Reading.Cursors.{along_push, path_push, from_branch, leads_down, LeadsDown, root_pairs}
-use Rattle.be_tree.proofs.Frame.{unchanged_trans}
-use Rattle.be_tree.proofs.Shape.Heights.{height}
-use Rattle.be_tree.proofs.Shape.Levels.{kept_not_free}
-use Rattle.be_tree.proofs.Putting.Puts.{tree_weaker}
-use Rattle.be_tree.proofs.Shape.Roots.{root_tree, root_some}
+use Rattle.be_tree.specs.Tree.{pairs}
 use Rattle.be_tree.proofs.Nodes.Slots.{items_count}
-use Rattle.be_tree.proofs.cursor.Cursor.seek.Given.{Over}
+use Rattle.be_tree.proofs.Reading.Cursors.{along_push, path_push}
+use Rattle.be_tree.proofs.Shape.Levels.{kept_not_free}
 use Rattle.be_tree.proofs.cursor.Cursor.seek.Goals as goal
-use Rattle.be_tree.proofs.cursor.Cursor.seek.Goals.{After-saturating_sub-at}
 
 -- a path without a place
 empty : (path : List Place) → path ≡ [] → (standing : ℕ → Standing) (words : ℕ → ℕ → ℕ) → IsPath standing words path
@@ -30,140 +21,29 @@ returns-then-root-eq0-clause-remaining g c =
     let words = g.L.Look.words c.args.look.now in
     ap (pairs_along words) c.clear.ensures ∙ ap (λ (r : ℕ). pairs_from (pairs words r) c.args.from.now c.args.after) (sym c.if-root-eq0.true)
 
-pub loop-level-init : goal.loop-level-init
-loop-level-init g c =
-    let standing = g.L.Look.standing c.args.look.now in
-    let words = g.L.Look.words c.args.look.now in
-    let page = c.args.root - 1 in
-    let level = c.word-level.result in
-    let e : c.args.root ≡ suc page = omega (arith, c.if-root-eq0.false) in
-    let tree = root_tree c.args.root page level standing words e c.word-level.ensures.value c.requires.tree in
-    record {
-      least = least_of_root level;
-      some = root_some level;
-      tree = tree;
-      path = empty c.clear.new.self.items c.clear.ensures standing words;
-      short = omega (arith, ap length c.clear.ensures, height level (least_of_root level) standing words page (root_some level) tree (g.met.L.Look.pages_small c.args.look.now));
-      same = ap (λ ps. pairs_from (pairs_at level words page) c.args.from.now c.args.after ++ pairs_along words ps) c.clear.ensures
-          ∙ append-nil (pairs_from (pairs_at level words page) c.args.from.now c.args.after)
-          ∙ ap (λ xs. pairs_from xs c.args.from.now c.args.after) (sym (root_pairs c.args.root page level words e c.word-level.ensures.value));
-      unchanged = record { kept = c.word-level.ensures.kept; standing = c.word-level.ensures.standing; words = c.word-level.ensures.words };
-    }
-
--- the room after the search in a page is as at first
-words_same : (g : Over) (c : After-saturating_sub-at g) → g.L.Look.words c.rank_by.new.look ≡ g.L.Look.words c.args.look.now
-words_same g c = c.rank_by.ensures.unchanged.words ∙ c.loop-level.invariant.unchanged.words
-
-ranked : (g : Over) (c : After-saturating_sub-at g) → IsRank c.args.from.now (items_of (g.L.Look.words c.args.look.now c.loop-level.page)) c.rank_by.result
-ranked g c = subst (λ (w : ℕ → ℕ → ℕ). IsRank c.args.from.now (items_of (w c.loop-level.page)) c.rank_by.result) c.loop-level.invariant.unchanged.words c.rank_by.ensures.rank
-
-at_item : (g : Over) (c : After-saturating_sub-at g) → c.saturating_sub-at.result < g.L.Look.words c.args.look.now c.loop-level.page 1
-at_item g c = omega (arith, c.saturating_sub-at.ensures, (ranked g c).in_range, c.loop-level.invariant.tree.node.enough, c.loop-level.invariant.some, items_count (g.L.Look.words c.args.look.now c.loop-level.page))
-
-leads : (g : Over) (c : After-saturating_sub-at g) → LeadsDown c.loop-level.level (c.loop-level.level - 1) (g.L.Look.standing c.args.look.now) (g.L.Look.words c.args.look.now) c.loop-level.page c.saturating_sub-at.result (item_at (g.L.Look.words c.args.look.now c.loop-level.page) (2 + 42 * c.saturating_sub-at.result))
-leads g c = leads_down c.loop-level.level (c.loop-level.level - 1) (g.L.Look.standing c.args.look.now) (g.L.Look.words c.args.look.now) c.loop-level.invariant.least c.loop-level.page c.saturating_sub-at.result
-    (omega (arith, c.loop-level-test.true)) c.loop-level.invariant.tree (at_item g c)
-
-pub overflow_mul-at : goal.overflow_mul-at
-overflow_mul-at g c = omega (arith, at_item g (goal.at.overflow_mul-at g c).After-saturating_sub-at, c.loop-level.invariant.tree.node.is_page.few)
-
-pub overflow_add-at : goal.overflow_add-at
-overflow_add-at g c = omega (arith, at_item g (goal.at.overflow_add-at g c).After-saturating_sub-at, c.loop-level.invariant.tree.node.is_page.few)
-
-pub child_at-child-requires-clause-in_page : goal.child_at-child-requires-clause-in_page
-child_at-child-requires-clause-in_page g c = omega (arith, at_item g (goal.at.child_at-child-requires-clause-in_page g c).After-saturating_sub-at, c.loop-level.invariant.tree.node.is_page.few)
-
-pub child_at-child-requires-clause-item : goal.child_at-child-requires-clause-item
-child_at-child-requires-clause-item g c =
-    let at = (goal.at.child_at-child-requires-clause-item g c).After-saturating_sub-at in
-    subst (λ (w : ℕ → ℕ → ℕ). IsItem (w c.loop-level.page) (2 + 42 * c.saturating_sub-at.result)) (sym (words_same g at)) (c.loop-level.invariant.tree.node.is_page.each c.saturating_sub-at.result (at_item g at))
-
-pub child_at-child-requires-clause-names_page : goal.child_at-child-requires-clause-names_page
-child_at-child-requires-clause-names_page g c =
-    let at = (goal.at.child_at-child-requires-clause-names_page g c).After-saturating_sub-at in
-    subst (λ (w : ℕ → ℕ → ℕ). length (item_at (w c.loop-level.page) (2 + 42 * c.saturating_sub-at.result)).payload ≡ 8) (sym (words_same g at)) (leads g at).names_page
-
--- a page in use has a small number, an item's number is at most 12, and no level is above 13
+-- a page in use has a small number, and an item's number is at most 12
 pub overflow_cast-page : goal.overflow_cast-page
 overflow_cast-page g c =
-    let i = c.loop-level.invariant in
-    omega (arith, g.met.L.Look.pages_small c.args.look.now c.loop-level.page (kept_not_free (g.L.Look.standing c.args.look.now c.loop-level.page) i.tree.page_in_use))
-
-pub overflow_cast-at : goal.overflow_cast-at
-overflow_cast-at g c = omega (arith, at_item g (goal.at.overflow_cast-at g c).After-saturating_sub-at, c.loop-level.invariant.tree.node.is_page.few)
-
-pub overflow_cast-level : goal.overflow_cast-level
-overflow_cast-level g c = omega (arith, c.loop-level.invariant.short)
-
-pub overflow_cast-page-2 : goal.overflow_cast-page-2
-overflow_cast-page-2 g c =
-    let i = c.loop-level.invariant in
-    omega (arith, g.met.L.Look.pages_small c.args.look.now c.loop-level.page (kept_not_free (g.L.Look.standing c.args.look.now c.loop-level.page) i.tree.page_in_use))
+    let leaf = c.descend-page.ensures.leaf in
+    let page = c.descend-page.result.0 in
+    omega (arith, g.met.L.Look.pages_small c.args.look.now page (kept_not_free (g.L.Look.standing c.args.look.now page) leaf.page_in_use))
 
 pub overflow_cast-next : goal.overflow_cast-next
-overflow_cast-next g c =
-    let words = g.L.Look.words c.args.look.now in
-    let in_range = subst (λ (w : ℕ → ℕ → ℕ). c.leaf_from-next.result ≤ length (items_of (w c.loop-level.page))) c.loop-level.invariant.unchanged.words c.leaf_from-next.ensures.in_range in
-    omega (arith, in_range, items_count (words c.loop-level.page), c.loop-level.invariant.tree.node.is_page.few)
-
-pub loop-level-preserved : goal.loop-level-preserved
-loop-level-preserved g c =
-    let at = (goal.at.loop-level-preserved g c).After-saturating_sub-at in
-    let standing = g.L.Look.standing c.args.look.now in
-    let words = g.L.Look.words c.args.look.now in
-    let page = c.loop-level.page in
-    let level = c.loop-level.level in
-    let down = level - 1 in
-    let next = c.saturating_sub-at.result in
-    let path = c.loop-level.self.path.items in
-    let branch = item_at (words page) (2 + 42 * next) in
-    let place : Place = record { page = page; next = next + 1; level = level } in
-    let lead = leads g at in
-    let is = c.child_at-child.ensures.child ∙ ap (λ (w : ℕ → ℕ → ℕ). child (item_at (w page) (2 + 42 * next))) (words_same g at) in
-    let here = pairs_from (pairs_at down words (child branch)) c.args.from.now c.args.after in
-    record {
-      least = 1;
-      some = omega arith;
-      tree = subst (λ p. IsTreeAt down 1 standing words p) (sym is) lead.tree;
-      path = subst (IsPath standing words) (sym c.push.ensures.items) (path_push standing words path place c.loop-level.invariant.path
-          (record { tree = tree_weaker level c.loop-level.invariant.least standing words page c.loop-level.invariant.some c.loop-level.invariant.tree; in_range = omega (arith, at_item g at, items_count (words page)) })
-          c.loop-level.invariant.short);
-      short = omega (arith, c.loop-level.invariant.short, c.loop-level-test.true, ap length c.push.ensures.items, length-append path (place ∷ []));
-      same = ap (λ p. pairs_from (pairs_at down words p) c.args.from.now c.args.after ++ pairs_along words c.push.new.self.items) is
-          ∙ ap (λ ps. here ++ pairs_along words ps) c.push.ensures.items
-          ∙ ap (λ xs. here ++ xs) (along_push words path place)
-          ∙ sym (append_assoc here (pairs_past words place) (pairs_along words path))
-          ∙ ap (λ xs. xs ++ pairs_along words path) (sym (from_branch level down standing words c.loop-level.invariant.least page c.args.from.now c.rank_by.result next c.args.after
-          (omega (arith, c.loop-level-test.true)) c.loop-level.invariant.tree c.loop-level.invariant.some (ranked g at) c.saturating_sub-at.ensures (at_item g at)))
-          ∙ c.loop-level.invariant.same;
-      unchanged = unchanged_trans g.L.Look.kept g.L.Look.standing g.L.Look.words c.args.look.now c.rank_by.new.look c.child_at-child.new.look
-          (unchanged_trans g.L.Look.kept g.L.Look.standing g.L.Look.words c.args.look.now c.loop-level.look c.rank_by.new.look c.loop-level.invariant.unchanged c.rank_by.ensures.unchanged) c.child_at-child.ensures.unchanged;
-    }
+overflow_cast-next g c = omega (arith, c.descend-page.ensures.in_range, c.descend-page.ensures.leaf.node.is_page.few)
 
 pub returns-clause-cursor : goal.returns-clause-cursor
 returns-clause-cursor g c =
     let standing = g.L.Look.standing c.args.look.now in
     let words = g.L.Look.words c.args.look.now in
-    let page = c.loop-level.page in
-    let leaf : c.loop-level.level ≡ 0 = omega (arith, c.loop-level-test.false) in
-    let place : Place = record { page = page; next = c.leaf_from-next.result; level = 0 } in
-    let low = tree_weaker c.loop-level.level c.loop-level.invariant.least standing words page c.loop-level.invariant.some c.loop-level.invariant.tree in
-    subst (IsPath standing words) (sym c.push-2.ensures.items) (path_push standing words c.loop-level.self.path.items place c.loop-level.invariant.path
-    (record {
-      tree = subst (λ l. IsTreeAt l 1 standing words page) leaf low;
-      in_range = subst (λ (w : ℕ → ℕ → ℕ). c.leaf_from-next.result ≤ length (items_of (w page))) c.loop-level.invariant.unchanged.words c.leaf_from-next.ensures.in_range;
-    })
-    (omega (arith, c.loop-level.invariant.short)))
+    let d = c.descend-page.ensures in
+    let path = c.descend-page.new.self.path.items in
+    let place : Place = record { page = c.descend-page.result.0; next = c.descend-page.result.1; level = 0 } in
+    subst (IsPath standing words) (sym c.push.ensures.items) (path_push standing words path place d.cursor
+    (record { tree = d.leaf; in_range = omega (arith, d.in_range, items_count (words c.descend-page.result.0)) }) (omega (arith, d.short)))
 
 pub returns-clause-remaining : goal.returns-clause-remaining
 returns-clause-remaining g c =
     let words = g.L.Look.words c.args.look.now in
-    let page = c.loop-level.page in
-    let path = c.loop-level.self.path.items in
-    let leaf : c.loop-level.level ≡ 0 = omega (arith, c.loop-level-test.false) in
-    let place : Place = record { page = page; next = c.leaf_from-next.result; level = 0 } in
-    let rest = subst (λ (w : ℕ → ℕ → ℕ). drop c.leaf_from-next.result (items_of (w page)) ≡ pairs_from (items_of (w page)) c.args.from.now c.args.after) c.loop-level.invariant.unchanged.words c.leaf_from-next.ensures.rest in
-    ap (pairs_along words) c.push-2.ensures.items
-    ∙ along_push words path place
-    ∙ ap (λ xs. xs ++ pairs_along words path) (rest ∙ ap (λ l. pairs_from (pairs_at l words page) c.args.from.now c.args.after) (sym leaf))
-    ∙ c.loop-level.invariant.same
+    let path = c.descend-page.new.self.path.items in
+    let place : Place = record { page = c.descend-page.result.0; next = c.descend-page.result.1; level = 0 } in
+    ap (pairs_along words) c.push.ensures.items ∙ along_push words path place ∙ sym c.descend-page.ensures.parts

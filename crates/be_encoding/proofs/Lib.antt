@@ -1,0 +1,5 @@
+pub mod Entries
+pub mod Lengths
+pub mod Loops
+pub mod Numbers
+pub mod Values

@@ -1,0 +1,81 @@
+//! Reading the entries of one block, one after the other.
+ghost use Rattle.std.specs.Prelude.{◌≡◌, ◌<◌, ◌∷◌, length, drop, nat_eq, IfOk};
+ghost use Rattle.be_journal.specs.Blocks.{entries_at, AreEntries};
+ghost use Rattle.be_journal.specs.Journal.{IsEntry};
+
+use crate::{Dones, Entry, Ops};
+use be_encoding::{read_entry, skip_entry};
+use std::alloc::{AllocError, Global};
+use std::marker::Model;
+
+/// A reader of a block's entries. A contract sees those that are still to be read.
+#[derive(Drop)]
+pub(crate) struct BlockReader<'a> {
+    /// The bytes of the entries that are still to be read, and how many these are.
+    bytes: &'a [u8],
+    left: u64,
+}
+
+impl<'a> Model for BlockReader<'a> {
+    ghost use Rattle.std.specs.Prelude.{List};
+    ghost use Rattle.std.specs.Coded.{coded_list};
+    ghost use Rattle.be_journal.specs.Blocks.{entries_at, AreEntries};
+    ghost use Rattle.be_journal.specs.Journal.{coded_entry};
+    ghost use Rattle.be_journal.specs.declared.entries.Entry.{Entry as AnyEntry};
+
+    ghost Value = { List AnyEntry };
+
+    ghost coded = { coded_list coded_entry };
+
+    ghost view = { λ r. entries_at r.left r.bytes.now };
+
+    ghost invariant = { λ r. AreEntries r.left r.bytes.now };
+}
+
+impl<'a> BlockReader<'a> {
+    /// A reader of so many entries, whose bytes these are.
+    pub(crate) fn new(bytes: &'a [u8], left: u64) -> BlockReader<'a>
+        requires { AreEntries left bytes.now }
+        ensures { result ≡ entries_at left bytes.now }
+    {
+        BlockReader { bytes, left }
+    }
+
+    /// Whether all entries were read.
+    pub(crate) fn is_empty(&self) -> bool
+        ensures { result ≡ nat_eq (length self.now) 0 }
+    {
+        self.left == 0
+    }
+
+    /// Goes past the next entry, of which there is one. It takes no memory.
+    pub(crate) fn skip(&mut self)
+        requires { 0 < length self.old }
+        ensures { self.new ≡ drop 1 self.old }
+    {
+        let Some(rest) = skip_entry(self.bytes) else {
+            unreachable!()
+        };
+        self.bytes = rest;
+        self.left -= 1;
+    }
+
+    /// The next entry, of which there is one. Memory is taken for its two lists.
+    pub(crate) fn next(&mut self, alloc: Global) -> Result<Entry, AllocError>
+        requires { 0 < length self.old }
+        ensures next { IfOk result (λ entry. self.old ≡ entry ∷ self.new) }
+        ensures is { IfOk result IsEntry }
+    {
+        let read = read_entry(alloc, self.bytes)?;
+        let Some((by, ops, dones, rest)) = read else {
+            unreachable!()
+        };
+        self.bytes = rest;
+        self.left -= 1;
+        Ok(Entry {
+            by,
+            ops: Ops::from_vec(ops),
+            dones: Dones::from_vec(dones),
+        })
+    }
+}

@@ -1,0 +1,216 @@
+//! Blocks of entries in bytes.
+//!
+//! A block has its room from the start, so what lies in it is never moved. An entry lies in one block, whole.
+ghost use Rattle.std.specs.Prelude.{◌≡◌, ◌+◌, ◌≤◌, ◌<◌, ◌^◌, ◌++◌, ◌∷◌, [], true, false, length, get_or, nat_le, vec_len, vec_capacity, IfOk, OnOk, IsSome};
+ghost use Rattle.be_encoding.specs.Encoding.{most_bytes as longest};
+ghost use Rattle.be_journal.specs.Blocks.{entries_of, has_room, with_place, AreFilled, IsSpare};
+ghost use Rattle.be_journal.specs.declared.entries.Entry.{Entry as AnyEntry};
+
+use crate::Entry;
+use crate::block_readers::BlockReader;
+use be_encoding::{most_bytes, write_entry};
+use be_volume::{Done, Op};
+use std::alloc::{AllocError, Global};
+use std::marker::Model;
+
+/// The bytes of a block: 256 KiB.
+const ROOM: usize = 1 << 18;
+
+/// The places of a block. It has a place for each 16 entries, and an entry has four bytes or more.
+const PLACES: usize = ROOM / 64;
+
+/// Entries one after the other. A contract sees them, and how many bytes are left.
+#[derive(Drop)]
+pub(crate) struct Block {
+    /// How many entries there are.
+    count: u64,
+    bytes: Vec<u8>,
+    /// Where the first entry begins, and the 16th after it, and so on.
+    places: Vec<usize>,
+}
+
+impl Model for Block {
+    ghost use Rattle.std.specs.Prelude.{◌-◌, nat_lt, vec_len, vec_capacity, if◌then◌else◌};
+    ghost use Rattle.be_journal.specs.Blocks.{Filled, coded_filled, entries_at, AreEntries, ArePlaces};
+
+    ghost Value = { Filled };
+
+    ghost coded = { coded_filled };
+
+    ghost view = { λ b. record {
+      entries = entries_at b.count b.bytes.items;
+      room = if nat_lt (vec_len b.places) (vec_capacity b.places) then vec_capacity b.bytes - vec_len b.bytes else 0;
+    } };
+
+    ghost invariant = { λ b. AreEntries b.count b.bytes.items × ArePlaces b.places.items b.count b.bytes.items };
+}
+
+impl Block {
+    /// A block without entries, which has room for any entry.
+    pub(crate) fn new(alloc: Global) -> Result<Block, AllocError>
+        ensures empty { IfOk result (λ block. block.entries ≡ []) }
+        ensures room { IfOk result (λ block. longest 64 ≤ block.room) }
+    {
+        let bytes = Vec::with_capacity(alloc, ROOM)?;
+        let places = Vec::with_capacity(alloc, PLACES)?;
+        Ok(Block {
+            count: 0,
+            bytes,
+            places,
+        })
+    }
+
+    /// How many entries there are.
+    pub(crate) fn len(&self) -> u64
+        ensures { result ≡ length self.now.entries }
+    {
+        self.count
+    }
+
+    /// Whether there is room for any entry of so many operations.
+    pub(crate) fn has_room(&self, count: usize) -> bool
+        requires { count ≤ 64 }
+        ensures { result ≡ nat_le (longest count) self.now.room }
+    {
+        self.places.len() < self.places.capacity()
+            && most_bytes(count) <= self.bytes.capacity() - self.bytes.len()
+    }
+
+    /// Appends an entry, for which there is room. It takes no memory.
+    pub(crate) fn push(&mut self, by: u64, ops: &[Op], dones: &[Done])
+        requires some { 1 ≤ length ops.now }
+        requires few { length ops.now ≤ 64 }
+        requires each { length dones.now ≡ length ops.now }
+        requires room { longest (length ops.now) ≤ self.old.room }
+        requires fits { length self.old.entries + 1 < 2 ^ 64 }
+        ensures { self.new.entries ≡ self.old.entries ++ record { by = by; ops = ops.now; dones = dones.now } ∷ [] }
+    {
+        keep_place(&mut self.places, self.count, self.bytes.len());
+        write_entry(&mut self.bytes, by, ops, dones);
+        self.count += 1;
+    }
+
+    /// A reader of the entries.
+    pub(crate) fn reader(&self) -> BlockReader<'_>
+        ensures { result ≡ self.now.entries }
+    {
+        BlockReader::new(self.bytes.as_slice(), self.count)
+    }
+
+    /// The entry with this number in the block, from 0. Up to 15 others are gone past to find it.
+    pub(crate) fn get(&self, alloc: Global, i: u64) -> Result<Entry, AllocError>
+        requires { i < length self.now.entries }
+        ensures { IfOk result (λ entry. entry ≡ get_or self.now.entries i entry) }
+    {
+        let before = i / 16;
+        let place = self.places[before as usize];
+        let mut reader = BlockReader::new(&self.bytes[place..], self.count - 16 * before);
+        for _ in 0..i % 16 {
+            reader.skip();
+        }
+        let entry = reader.next(alloc)?;
+        Ok(entry)
+    }
+}
+
+/// Keeps the place of the next entry, where the places before have 16 entries each.
+fn keep_place(places: &mut Vec<usize>, count: u64, place: usize)
+    requires { vec_len places.old < vec_capacity places.old }
+    ensures { places.new.items ≡ with_place places.old.items count place }
+{
+    if count / 16 == places.len() as u64 {
+        places.push_reserved(place);
+    }
+}
+
+/// The block that has the entry with this number, from 0, and the entry's number there.
+pub(crate) fn block_of(blocks: &[Block], i: u64) -> (&Block, u64)
+    requires { i < length (entries_of blocks.now) }
+    ensures within { result.1 < length result.0.now.entries }
+    ensures is { (e : AnyEntry) → get_or result.0.now.entries result.1 e ≡ get_or (entries_of blocks.now) i e }
+{
+    let mut left = i;
+    for block in blocks {
+        if left < block.len() {
+            return (block, left);
+        }
+        left -= block.len();
+    }
+    unreachable!()
+}
+
+/// Whether the last of the blocks has room for any entry of so many operations.
+fn last_has_room(blocks: &[Block], count: usize) -> bool
+    requires { count ≤ 64 }
+    ensures { result ≡ has_room count blocks.now }
+{
+    match blocks.last() {
+        Some(block) => block.has_room(count),
+        None => false,
+    }
+}
+
+/// Sees to it that there is room for any entry of so many operations, in the last of the blocks or in a spare one.
+pub(crate) fn make_spare(
+    alloc: Global,
+    blocks: &[Block],
+    spare: &mut Option<Block>,
+    count: usize,
+) -> Result<(), AllocError>
+    requires few { count ≤ 64 }
+    requires spare { IsSpare spare.old }
+    ensures spare { IsSpare spare.new }
+    ensures room { OnOk result (has_room count blocks.now ≡ false → IsSome spare.new) }
+    ensures stays { IsSome spare.old → IsSome spare.new }
+{
+    if spare.is_some() || last_has_room(blocks, count) {
+        return Ok(());
+    }
+    *spare = Some(Block::new(alloc)?);
+    Ok(())
+}
+
+/// Appends an entry to the last of the blocks, which has room for it.
+fn push_last(blocks: &mut [Block], by: u64, ops: &[Op], dones: &[Done])
+    requires some { 1 ≤ length ops.now }
+    requires few { length ops.now ≤ 64 }
+    requires each { length dones.now ≡ length ops.now }
+    requires room { has_room (length ops.now) blocks.old ≡ true }
+    requires fits { length (entries_of blocks.old) + 1 < 2 ^ 64 }
+    ensures entries { entries_of blocks.new ≡ entries_of blocks.old ++ record { by = by; ops = ops.now; dones = dones.now } ∷ [] }
+    ensures filled { AreFilled blocks.old → AreFilled blocks.new }
+{
+    let last = blocks.len() - 1;
+    blocks[last].push(by, ops, dones);
+}
+
+/// Appends an entry to the last of the blocks, or else to the spare one, which is the last from then on. It takes no memory.
+pub(crate) fn append(
+    blocks: &mut Vec<Block>,
+    spare: &mut Option<Block>,
+    by: u64,
+    ops: &[Op],
+    dones: &[Done],
+)
+    requires some { 1 ≤ length ops.now }
+    requires few { length ops.now ≤ 64 }
+    requires each { length dones.now ≡ length ops.now }
+    requires filled { AreFilled blocks.old.items }
+    requires spare { IsSpare spare.old }
+    requires room { has_room (length ops.now) blocks.old.items ≡ false → IsSome spare.old }
+    requires list { vec_len blocks.old < vec_capacity blocks.old }
+    requires fits { length (entries_of blocks.old.items) + 1 < 2 ^ 64 }
+    ensures entries { entries_of blocks.new.items ≡ entries_of blocks.old.items ++ record { by = by; ops = ops.now; dones = dones.now } ∷ [] }
+    ensures filled { AreFilled blocks.new.items }
+    ensures spare { IsSpare spare.new }
+{
+    if last_has_room(blocks, ops.len()) {
+        push_last(blocks, by, ops, dones);
+        return;
+    }
+    let Some(mut block) = spare.take() else {
+        unreachable!()
+    };
+    block.push(by, ops, dones);
+    blocks.push_reserved(block);
+}

@@ -1,0 +1,157 @@
+//! The answer to a query, from what a source's own indices choose.
+//!
+//! The sides of an `||` are answered one after the other, each by itself. So a comparison that stands under `||` alone, as most do, has nothing to
+//! choose from: its index is asked for once, and no cover is made. Of a side under `&&` the choice is made as for a query of its own.
+ghost use Rattle.std.specs.Prelude.{◌≡◌, ◌⊎◌, ◌≤◌, ℕ, true, false, OnOk, IfOk, IfErr};
+ghost use Rattle.std.specs.List.{Contains};
+ghost use Rattle.std.specs.List.Sorted.{IsStrictlyIncreasing};
+ghost use Rattle.be_value.specs.Refusal.{Answers};
+ghost use Rattle.be_value.specs.declared.refusals.Refusal.TheVariants.{OutOfMemory, NotCovered};
+ghost use Rattle.be_query.specs.Grammar.{Leaf, comparisons};
+ghost use Rattle.be_query.specs.View.{formula, literal};
+ghost use Rattle.be_volume.specs.Query.{covered, sat, scan};
+ghost use Rattle.be_volume.specs.Volume.{State};
+ghost use Rattle.be_plan.specs.Walk.{Keeps};
+
+use crate::Source;
+use crate::choosing::choose_by_source;
+use crate::narrowing::narrow_one;
+use crate::ranges::Range;
+use crate::running::walk_picks;
+use crate::sorting::in_order;
+use crate::walks::{ROOM, walk};
+use be_query::{Comparison, Query, Tree};
+use be_value::Refusal;
+use std::alloc::Global;
+
+/// Adds the nodes of which a side is true that is one comparison.
+fn collect_one<S: Source>(
+    alloc: Global,
+    source: &mut S,
+    range: &mut Range,
+    tree: &Tree,
+    comparison: &Comparison,
+    found: &mut Vec<u64>,
+) -> Result<(), Refusal>
+    ghost volume: { State }
+    requires answers { S.answers_for source.old volume }
+    requires one { formula tree.now ≡ Leaf comparison.now.name comparison.now.op (literal comparison.now.literal) }
+    ensures stays { S.kept source.new ≡ S.kept source.old }
+    ensures answers { S.answers_for source.new volume }
+    ensures keeps { Keeps found.old.items found.new.items }
+    ensures only { (n : ℕ) → Contains found.new.items n → Contains found.old.items n ⊎ (sat volume (formula tree.now) n ≡ true) }
+    ensures has { OnOk result ((n : ℕ) → sat volume (formula tree.now) n ≡ true → Contains found.new.items n) }
+    ensures covered { OnOk result (covered volume (formula tree.now) ≡ true) }
+    ensures refused { IfErr result (λ e. (e ≡ OutOfMemory) ⊎ ((e ≡ NotCovered) × (covered volume (formula tree.now) ≡ false))) }
+{
+    let Some(kind) = source.kind_of(&comparison.name) else {
+        return Err(Refusal::NotCovered);
+    };
+    range.open();
+    let rest = narrow_one(range, tree, comparison, kind);
+    walk(
+        alloc,
+        source,
+        tree,
+        &comparison.name,
+        kind,
+        range,
+        rest,
+        found,
+    )
+}
+
+/// Adds the nodes of which a side is true, from the comparisons that the source's indices choose for it. It stands by itself, so that a
+/// comparison alone needs no room for a cover.
+#[inline(never)]
+fn collect_chosen<S: Source>(
+    alloc: Global,
+    source: &mut S,
+    range: &mut Range,
+    tree: &Tree,
+    found: &mut Vec<u64>,
+) -> Result<(), Refusal>
+    ghost volume: { State }
+    requires answers { S.answers_for source.old volume }
+    requires few { comparisons (formula tree.now) ≤ 256 }
+    ensures stays { S.kept source.new ≡ S.kept source.old }
+    ensures answers { S.answers_for source.new volume }
+    ensures keeps { Keeps found.old.items found.new.items }
+    ensures only { (n : ℕ) → Contains found.new.items n → Contains found.old.items n ⊎ (sat volume (formula tree.now) n ≡ true) }
+    ensures has { OnOk result ((n : ℕ) → sat volume (formula tree.now) n ≡ true → Contains found.new.items n) }
+    ensures covered { OnOk result (covered volume (formula tree.now) ≡ true) }
+    ensures refused { IfErr result (λ e. (e ≡ OutOfMemory) ⊎ ((e ≡ NotCovered) × (covered volume (formula tree.now) ≡ false))) }
+{
+    let Some(cover) = choose_by_source(alloc, tree, source)? else {
+        return Err(Refusal::NotCovered);
+    };
+    walk_picks(alloc, source, range, tree, cover.picks.as_slice(), found)
+}
+
+/// Adds the nodes of which a side of an `||` is true.
+fn collect_side<S: Source>(
+    alloc: Global,
+    source: &mut S,
+    range: &mut Range,
+    tree: &Tree,
+    found: &mut Vec<u64>,
+) -> Result<(), Refusal>
+    ghost volume: { State }
+    requires answers { S.answers_for source.old volume }
+    requires few { comparisons (formula tree.now) ≤ 256 }
+    ensures stays { S.kept source.new ≡ S.kept source.old }
+    ensures answers { S.answers_for source.new volume }
+    ensures keeps { Keeps found.old.items found.new.items }
+    ensures only { (n : ℕ) → Contains found.new.items n → Contains found.old.items n ⊎ (sat volume (formula tree.now) n ≡ true) }
+    ensures has { OnOk result ((n : ℕ) → sat volume (formula tree.now) n ≡ true → Contains found.new.items n) }
+    ensures covered { OnOk result (covered volume (formula tree.now) ≡ true) }
+    ensures refused { IfErr result (λ e. (e ≡ OutOfMemory) ⊎ ((e ≡ NotCovered) × (covered volume (formula tree.now) ≡ false))) }
+{
+    match tree {
+        Tree::Leaf(comparison) => collect_one(alloc, source, range, tree, comparison, found),
+        Tree::And(_, _) | Tree::Or(_, _) => collect_chosen(alloc, source, range, tree, found),
+    }
+}
+
+/// Adds the nodes of which the tree is true, side by side. A query of many parts under `||` leans to the left, so its last side comes first.
+fn collect<S: Source>(
+    alloc: Global,
+    source: &mut S,
+    range: &mut Range,
+    tree: &Tree,
+    found: &mut Vec<u64>,
+) -> Result<(), Refusal>
+    ghost volume: { State }
+    requires answers { S.answers_for source.old volume }
+    requires few { comparisons (formula tree.now) ≤ 256 }
+    ensures stays { S.kept source.new ≡ S.kept source.old }
+    ensures answers { S.answers_for source.new volume }
+    ensures only { (n : ℕ) → Contains found.new.items n → Contains found.old.items n ⊎ (sat volume (formula tree.now) n ≡ true) }
+    ensures has { OnOk result ((n : ℕ) → sat volume (formula tree.now) n ≡ true → Contains found.new.items n) }
+    ensures covered { OnOk result (covered volume (formula tree.now) ≡ true) }
+    ensures refused { IfErr result (λ e. (e ≡ OutOfMemory) ⊎ ((e ≡ NotCovered) × (covered volume (formula tree.now) ≡ false))) }
+{
+    let mut rest = tree;
+    'sides: while let Tree::Or(a, b) = rest {
+        collect_side(alloc, source, range, b, found)?;
+        rest = a;
+    }
+    collect_side(alloc, source, range, rest, found)
+}
+
+/// The nodes of which the query is true, ascending, from comparisons that the source's own indices choose; `explain` of the cover that
+/// `choose_from` gives tells which. A query that rests on no index is refused by `NotCovered`. It asks for the index of each comparison
+/// once, and of those under `&&` a second time for each pick. After `OutOfMemory` the source still answers for the volume.
+pub fn answer<S: Source>(alloc: Global, query: &Query, source: &mut S) -> Result<Vec<u64>, Refusal>
+    ghost volume: { State }
+    requires { S.answers_for source.old volume }
+    ensures answer { Answers (λ nodes. nodes.items) result (scan volume query.now) }
+    ensures rising { IfOk result (λ nodes. IsStrictlyIncreasing nodes.items) }
+    ensures stays { S.kept source.new ≡ S.kept source.old }
+    ensures answers { S.answers_for source.new volume }
+{
+    let mut found = Vec::with_capacity(alloc, ROOM)?;
+    let mut range = Range::whole();
+    collect(alloc, source, &mut range, query.tree(), &mut found)?;
+    Ok(in_order(alloc, found))
+}

@@ -1,0 +1,10 @@
+pub mod Keys
+pub mod Numbering
+pub mod Observed
+pub mod Parts
+pub mod Pushed
+pub mod Rebuilt
+pub mod Runs
+pub mod Same
+pub mod Stepping
+pub mod Weights

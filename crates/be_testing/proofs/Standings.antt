@@ -1,0 +1,13 @@
+-- Where pages stand.
+use Rattle.std.proofs.Common.{IsTrue, refl}
+use mathlib.Core.Bool.{false≢true}
+use Rattle.be_pages.specs.declared.room.Standing.{Standing}
+use Rattle.be_pages.specs.declared.room.Standing.TheVariants.{Free, Old, GivenUp, Taken, Filled}
+use Rattle.be_pages.specs.Pages.{is_readable, is_taken}
+
+pub taken_readable : (s : Standing) → IsTrue (is_taken s) → IsTrue (is_readable s)
+taken_readable Free taken = absurd (false≢true taken)
+taken_readable Old taken = absurd (false≢true taken)
+taken_readable GivenUp taken = absurd (false≢true taken)
+taken_readable Taken taken = refl
+taken_readable Filled taken = refl

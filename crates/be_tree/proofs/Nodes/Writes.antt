@@ -1,0 +1,160 @@
+-- Nodes in hand that are written, in the place of the pages where their items stood.
+use Rattle.std.proofs.Common.{◌≡◌, ◌≢◌, ℕ, suc, ◌+◌, ◌<◌, ◌≤◌, ◌^◌, List, [], ◌∷◌, ◌++◌, length, All, IsTrue, ap, sym, subst, ◌∙◌, refl, arith}
+use Rattle.std.proofs.lemmas.List.{length-map, map-append}
+use mathlib.Core.Bool.{false≢true}
+use Rattle.be_pages.specs.declared.room.Standing.{Standing}
+use Rattle.be_pages.specs.declared.room.Standing.TheVariants.{Free}
+use Rattle.be_pages.specs.Pages.{after_give_up, is_kept, times, StandsAt, Swaps}
+use Rattle.be_tree.specs.declared.slot.Slot.{Slot}
+use Rattle.be_tree.specs.Pair.{Pair}
+use Rattle.be_tree.specs.Page.{items_of, level_of, IsPage}
+use Rattle.be_tree.specs.Slot.{branch_to, pair_of, pairs_of, IsReady}
+use Rattle.be_tree.specs.Tree.{child, pairs_below, pages_below, IsBelow, IsWritten, Becomes}
+use Rattle.be_tree.proofs.Frame.{times_append, times_itself, times_other, one_page, alone, one_beside, two_beside, swaps_after, swaps_both, swaps_fresh, swaps_same, readable_kept}
+use Rattle.be_tree.proofs.Shape.Parts.{becomes_branch, becomes_two}
+use Rattle.be_tree.proofs.Putting.Puts.{given_up_page, swaps_given_up}
+use Rattle.be_tree.proofs.Nodes.Moves.{stands_at, stands_else}
+use Rattle.be_tree.proofs.Nodes.Slots.{all_apart_nil, child_branch, pairs_swaps, written_at}
+
+-- a page with its items, while others are written
+pub written_same : (level : ℕ) (v w : ℕ → ℕ → ℕ) (items : List Pair) (page : ℕ) → page < 2 ^ 32 → w page ≡ v page → 0 < length items
+    → IsWritten level v items (branch_to v page) → IsWritten level w items (branch_to w page)
+written_same level v w items page small same some written =
+    let is = child_branch v page small in
+    written_at level w items page small
+    (subst IsPage (sym same) (subst (λ p. IsPage (v p)) is written.is_page))
+    (ap level_of same ∙ subst (λ p. level_of (v p) ≡ level) is written.at_level)
+    (ap items_of same ∙ subst (λ p. items_of (v p) ≡ items) is written.has_items)
+    some
+
+-- a page that was free is none that is in use
+free_other : (s : ℕ → Standing) (free used : ℕ) → s free ≡ Free → IsTrue (is_kept (s used)) → free ≢ used
+free_other s free used is kept e = false≢true (ap is_kept (sym is) ∙ ap (λ q. is_kept (s q)) e ∙ kept)
+
+some_page : (p : ℕ) → 0 < times p (p ∷ [])
+some_page p = omega (arith, times_itself p)
+
+module _ {S K : Type 0} (kept_of : S → K) (standing_of : S → ℕ → Standing) (words_of : S → ℕ → ℕ → ℕ) (level : ℕ) (given : Pair) where
+  -- in one page
+  pub one_written : (slots : List Slot) (source : List ℕ) (page : ℕ) (old new : S)
+      → IsBelow level (standing_of old) (words_of old) (pairs_of (words_of old) given slots) → 6 ≤ length slots
+      → IsWritten level (words_of new) (pairs_of (words_of old) given slots) (branch_to (words_of new) page) → page < 2 ^ 32
+      → Swaps kept_of standing_of words_of source (page ∷ []) old new
+      → ((q : ℕ) → times q source + times q (pages_below level (words_of old) (pairs_of (words_of old) given slots)) ≤ 1)
+      → Becomes kept_of standing_of words_of (source ++ pages_below level (words_of old) (pairs_of (words_of old) given slots)) (pairs_below level (words_of old) (pairs_of (words_of old) given slots)) (suc level)
+      (branch_to (words_of new) page ∷ []) old new
+  one_written slots source page old new below enough written small swaps apart =
+      becomes_branch kept_of standing_of words_of level (pairs_of (words_of old) given slots) (branch_to (words_of new) page) source old new below
+      (omega (arith, enough, length-map slots (pair_of (words_of old) given))) written
+      (subst (λ p. Swaps kept_of standing_of words_of source (p ∷ []) old new) (sym (child_branch (words_of new) page small)) swaps) apart
+
+  -- in two pages
+  pub two_written : (front back slots : List Slot) (source : List ℕ) (left right : ℕ) (old new : S) → slots ≡ front ++ back
+      → IsBelow level (standing_of old) (words_of old) (pairs_of (words_of old) given slots) → 6 ≤ length front → 6 ≤ length back
+      → IsWritten level (words_of new) (pairs_of (words_of old) given front) (branch_to (words_of new) left) → left < 2 ^ 32
+      → IsWritten level (words_of new) (pairs_of (words_of old) given back) (branch_to (words_of new) right) → right < 2 ^ 32
+      → Swaps kept_of standing_of words_of source (left ∷ right ∷ []) old new
+      → ((q : ℕ) → times q source + times q (pages_below level (words_of old) (pairs_of (words_of old) given slots)) ≤ 1)
+      → times left (right ∷ []) ≡ 0
+      → Becomes kept_of standing_of words_of (source ++ pages_below level (words_of old) (pairs_of (words_of old) given slots)) (pairs_below level (words_of old) (pairs_of (words_of old) given slots)) (suc level)
+      (branch_to (words_of new) left ∷ branch_to (words_of new) right ∷ []) old new
+  two_written front back slots source left right old new is below first_enough last_enough first small last last_small swaps apart different =
+      let v = words_of old in
+      let w = words_of new in
+      let whole : pairs_of v given slots ≡ pairs_of v given front ++ pairs_of v given back = ap (pairs_of v given) is ∙ map-append (pair_of v given) front back in
+      let l : left ≡ child (branch_to w left) = sym (child_branch w left small) in
+      let r : right ≡ child (branch_to w right) = sym (child_branch w right last_small) in
+      let one : (q : ℕ) → times q (left ∷ right ∷ []) ≤ 1 = λ q. omega (arith, times_append q (left ∷ []) (right ∷ []), one_beside left (right ∷ []) different (λ p. one_page p right) q) in
+      subst (λ xs. Becomes kept_of standing_of words_of (source ++ pages_below level v xs) (pairs_below level v xs) (suc level) (branch_to w left ∷ branch_to w right ∷ []) old new) (sym whole)
+      (becomes_two kept_of standing_of words_of level (pairs_of v given front) (pairs_of v given back) (branch_to w left) (branch_to w right) source old new
+      (subst (IsBelow level (standing_of old) v) whole below)
+      (omega (arith, first_enough, length-map front (pair_of v given))) (omega (arith, last_enough, length-map back (pair_of v given))) first last
+      (subst (λ p. Swaps kept_of standing_of words_of source (p ∷ child (branch_to w right) ∷ []) old new) l (subst (λ p. Swaps kept_of standing_of words_of source (left ∷ p ∷ []) old new) r swaps))
+      (λ q. subst (λ xs. times q source + times q (pages_below level v xs) ≤ 1) whole (apart q))
+      (λ q. subst (λ p. times q (p ∷ child (branch_to w right) ∷ []) ≤ 1) l (subst (λ p. times q (left ∷ p ∷ []) ≤ 1) r (one q))))
+
+  -- the second page was taken, and then the first was written in the place of the old one
+  pub parts_written : (front back slots : List Slot) (page left right : ℕ) (old mid new : S) → slots ≡ front ++ back
+      → IsBelow level (standing_of old) (words_of old) (pairs_of (words_of old) given slots) → 6 ≤ length front → 6 ≤ length back
+      → All (IsReady (standing_of old) (words_of old)) front
+      → IsTrue (is_kept (standing_of old page)) → times page (pages_below level (words_of old) (pairs_of (words_of old) given slots)) ≡ 0
+      → IsWritten level (words_of mid) (pairs_of (words_of old) given back) (branch_to (words_of mid) right) → right < 2 ^ 32 → Swaps kept_of standing_of words_of [] (right ∷ []) old mid
+      → IsWritten level (words_of new) (pairs_of (words_of mid) given front) (branch_to (words_of new) left) → left < 2 ^ 32 → Swaps kept_of standing_of words_of (page ∷ []) (left ∷ []) mid new
+      → Becomes kept_of standing_of words_of (page ∷ pages_below level (words_of old) (pairs_of (words_of old) given slots)) (pairs_below level (words_of old) (pairs_of (words_of old) given slots)) (suc level)
+      (branch_to (words_of new) left ∷ branch_to (words_of new) right ∷ []) old new
+  parts_written front back slots page left right old mid new is below first_enough last_enough ready used apart last last_small took first small wrote =
+      let free = swaps_fresh kept_of standing_of words_of [] (right ∷ []) old mid took right (omega arith) (some_page right) in
+      let other : times right (page ∷ []) ≡ 0 = times_other right page (free_other (standing_of old) right page free used) in
+      let right_used = swaps_after kept_of standing_of words_of [] (right ∷ []) old mid took right (some_page right) in
+      let right_same = swaps_same kept_of standing_of words_of (page ∷ []) (left ∷ []) mid new wrote right other (readable_kept (standing_of mid right) right_used) in
+      let not_left : times right (left ∷ []) ≡ 0 = given_up_page kept_of standing_of words_of (page ∷ []) (left ∷ []) right mid new wrote other right_used in
+      let same = pairs_swaps kept_of standing_of words_of [] (right ∷ []) old mid took given front (all_apart_nil front) ready in
+      let swaps =
+      swaps_both kept_of standing_of words_of [] (right ∷ []) (page ∷ []) (left ∷ []) (page ∷ []) (left ∷ right ∷ []) old mid new took wrote
+      (λ q. omega arith) (λ q. omega (arith, times_append q (left ∷ []) (right ∷ []))) (λ q. one_page q page) (λ q. one_page q right) (alone (λ q. IsTrue (is_kept (standing_of old q))) page used) in
+      two_written front back slots (page ∷ []) left right old new is below first_enough last_enough
+      (subst (λ xs. IsWritten level (words_of new) xs (branch_to (words_of new) left)) same first) small
+      (written_same level (words_of mid) (words_of new) (pairs_of (words_of old) given back) right last_small right_same (omega (arith, last_enough, length-map back (pair_of (words_of old) given))) last) last_small
+      swaps (one_beside page (pages_below level (words_of old) (pairs_of (words_of old) given slots)) apart below.once)
+      (times_other left right (λ e. absurd (omega (arith, not_left, ap (λ p. times p (left ∷ [])) e, times_itself left))))
+
+  -- two neighbours were written, the first over itself
+  pub over_written : (front back : List Slot) (left right page : ℕ) (old mid new : S)
+      → IsBelow level (standing_of old) (words_of old) (pairs_of (words_of old) given (front ++ back)) → 6 ≤ length front → 6 ≤ length back
+      → IsTrue (is_kept (standing_of old left)) → IsTrue (is_kept (standing_of old right)) → left ≢ right
+      → times left (pages_below level (words_of old) (pairs_of (words_of old) given (front ++ back))) ≡ 0 → times right (pages_below level (words_of old) (pairs_of (words_of old) given (front ++ back))) ≡ 0
+      → IsWritten level (words_of mid) (pairs_of (words_of old) given front) (branch_to (words_of mid) left) → left < 2 ^ 32 → Swaps kept_of standing_of words_of (left ∷ []) (left ∷ []) old mid
+      → pairs_of (words_of mid) given back ≡ pairs_of (words_of old) given back
+      → IsWritten level (words_of new) (pairs_of (words_of mid) given back) (branch_to (words_of new) page) → page < 2 ^ 32 → Swaps kept_of standing_of words_of (right ∷ []) (page ∷ []) mid new
+      → Becomes kept_of standing_of words_of (left ∷ right ∷ pages_below level (words_of old) (pairs_of (words_of old) given (front ++ back))) (pairs_below level (words_of old) (pairs_of (words_of old) given (front ++ back))) (suc level)
+      (branch_to (words_of new) left ∷ branch_to (words_of new) page ∷ []) old new
+  over_written front back left right page old mid new below first_enough last_enough left_used right_used different left_apart right_apart first small over same last last_small wrote =
+      let none : times left (right ∷ []) ≡ 0 = times_other left right different in
+      let left_mid = swaps_after kept_of standing_of words_of (left ∷ []) (left ∷ []) old mid over left (some_page left) in
+      let left_same = swaps_same kept_of standing_of words_of (right ∷ []) (page ∷ []) mid new wrote left none (readable_kept (standing_of mid left) left_mid) in
+      let not_page : times left (page ∷ []) ≡ 0 = given_up_page kept_of standing_of words_of (right ∷ []) (page ∷ []) left mid new wrote none left_mid in
+      let swaps =
+      swaps_both kept_of standing_of words_of (left ∷ []) (left ∷ []) (right ∷ []) (page ∷ []) (left ∷ right ∷ []) (left ∷ page ∷ []) old mid new over wrote
+      (λ q. times_append q (left ∷ []) (right ∷ [])) (λ q. times_append q (left ∷ []) (page ∷ []))
+      (λ q. omega (arith, times_append q (left ∷ []) (right ∷ []), one_beside left (right ∷ []) none (λ p. one_page p right) q))
+      (λ q. one_page q left) (alone (λ q. IsTrue (is_kept (standing_of old q))) right right_used) in
+      two_written front back (front ++ back) (left ∷ right ∷ []) left page old new refl below first_enough last_enough
+      (written_same level (words_of mid) (words_of new) (pairs_of (words_of old) given front) left small left_same (omega (arith, first_enough, length-map front (pair_of (words_of old) given))) first) small
+      (subst (λ xs. IsWritten level (words_of new) xs (branch_to (words_of new) page)) same last) last_small
+      swaps (two_beside left right (pages_below level (words_of old) (pairs_of (words_of old) given (front ++ back))) different left_apart right_apart below.once) not_page
+
+  -- two neighbours, the first of which was written to a page of its own
+  module _ (left right first page : ℕ) (old mid last : S) (left_used : IsTrue (is_kept (standing_of old left))) (right_used : IsTrue (is_kept (standing_of old right))) (different : left ≢ right)
+      (took : Swaps kept_of standing_of words_of [] (first ∷ []) old mid) (wrote : Swaps kept_of standing_of words_of (right ∷ []) (page ∷ []) mid last) where
+    first_other : times first (right ∷ []) ≡ 0
+    first_other = times_other first right (free_other (standing_of old) first right (swaps_fresh kept_of standing_of words_of [] (first ∷ []) old mid took first (omega arith) (some_page first)) right_used)
+
+    first_used : IsTrue (is_kept (standing_of mid first))
+    first_used = swaps_after kept_of standing_of words_of [] (first ∷ []) old mid took first (some_page first)
+
+    pub anew_swaps : Swaps kept_of standing_of words_of (right ∷ []) (first ∷ page ∷ []) old last
+    anew_swaps =
+        swaps_both kept_of standing_of words_of [] (first ∷ []) (right ∷ []) (page ∷ []) (right ∷ []) (first ∷ page ∷ []) old mid last took wrote
+        (λ q. omega arith) (λ q. times_append q (first ∷ []) (page ∷ [])) (λ q. one_page q right) (λ q. one_page q first) (alone (λ q. IsTrue (is_kept (standing_of old q))) right right_used)
+
+    pub anew_written : (front back : List Slot) (new : S)
+        → IsBelow level (standing_of old) (words_of old) (pairs_of (words_of old) given (front ++ back)) → 6 ≤ length front → 6 ≤ length back
+        → All (IsReady (standing_of old) (words_of old)) back
+        → times left (pages_below level (words_of old) (pairs_of (words_of old) given (front ++ back))) ≡ 0 → times right (pages_below level (words_of old) (pairs_of (words_of old) given (front ++ back))) ≡ 0
+        → IsWritten level (words_of mid) (pairs_of (words_of old) given front) (branch_to (words_of mid) first) → first < 2 ^ 32
+        → IsWritten level (words_of last) (pairs_of (words_of mid) given back) (branch_to (words_of last) page) → page < 2 ^ 32
+        → kept_of new ≡ kept_of last → words_of new ≡ words_of last → StandsAt (standing_of last) (standing_of new) left (after_give_up (standing_of last left))
+        → Becomes kept_of standing_of words_of (left ∷ right ∷ pages_below level (words_of old) (pairs_of (words_of old) given (front ++ back))) (pairs_below level (words_of old) (pairs_of (words_of old) given (front ++ back))) (suc level)
+        (branch_to (words_of new) first ∷ branch_to (words_of new) page ∷ []) old new
+    anew_written front back new below first_enough last_enough ready left_apart right_apart first_written small page_written page_small kept words stands =
+        let first_same = swaps_same kept_of standing_of words_of (right ∷ []) (page ∷ []) mid last wrote first first_other (readable_kept (standing_of mid first) first_used) in
+        let not_page : times first (page ∷ []) ≡ 0 = given_up_page kept_of standing_of words_of (right ∷ []) (page ∷ []) first mid last wrote first_other first_used in
+        let same = pairs_swaps kept_of standing_of words_of [] (first ∷ []) old mid took given back (all_apart_nil back) ready in
+        let swaps =
+        swaps_given_up kept_of standing_of words_of (right ∷ []) (first ∷ page ∷ []) left old last new anew_swaps (times_other left right different) left_used kept words
+        (stands_at (standing_of last) (standing_of new) left (after_give_up (standing_of last left)) stands) (stands_else (standing_of last) (standing_of new) left (after_give_up (standing_of last left)) stands) in
+        two_written front back (front ++ back) (left ∷ right ∷ []) first page old new refl below first_enough last_enough
+        (written_same level (words_of mid) (words_of new) (pairs_of (words_of old) given front) first small (ap (λ w. w first) words ∙ first_same) (omega (arith, first_enough, length-map front (pair_of (words_of old) given))) first_written) small
+        (written_same level (words_of last) (words_of new) (pairs_of (words_of old) given back) page page_small (ap (λ w. w page) words) (omega (arith, last_enough, length-map back (pair_of (words_of old) given)))
+        (subst (λ xs. IsWritten level (words_of last) xs (branch_to (words_of last) page)) same page_written)) page_small
+        swaps (two_beside left right (pages_below level (words_of old) (pairs_of (words_of old) given (front ++ back))) different left_apart right_apart below.once) not_page

@@ -1,0 +1,51 @@
+use Rattle.std.proofs.Common.{[], ◌∷◌, ◌++◌, All, IsTrue, sym, subst, arith}
+use Rattle.be_pages.specs.Pages.{is_kept}
+use Rattle.be_tree.specs.Slot.{IsReady}
+use Rattle.be_tree.proofs.Frame.{swaps_start, start_trans, swaps_stands, readable_kept}
+use Rattle.be_tree.proofs.Shape.Below.{all_left, all_right}
+use Rattle.be_tree.proofs.Shape.Parts.{on_err}
+use Rattle.be_tree.proofs.Nodes.Slots.{all_apart_nil, all_ready_swaps}
+use Rattle.be_tree.proofs.Nodes.Writes.{parts_written}
+use Rattle.be_tree.proofs.writing.write_parts.Given.{Over}
+use Rattle.be_tree.proofs.writing.write_parts.Goals as goal
+use Rattle.be_tree.proofs.writing.write_parts.Goals.{After-split_at}
+
+-- the items of both halves can be read
+ready : (g : Over) (c : After-split_at g) → All (IsReady (g.R.Look.standing c.args.room.now) (g.R.Look.words c.args.room.now)) (c.split_at.result.0.now ++ c.split_at.result.1.now)
+ready g c = subst (All (IsReady (g.R.Look.standing c.args.room.now) (g.R.Look.words c.args.room.now))) c.split_at.ensures.by_index.0 c.requires.ready
+
+front_ready : (g : Over) (c : After-split_at g) → All (IsReady (g.R.Look.standing c.args.room.now) (g.R.Look.words c.args.room.now)) c.split_at.result.0.now
+front_ready g c = all_left (IsReady (g.R.Look.standing c.args.room.now) (g.R.Look.words c.args.room.now)) c.split_at.result.0.now c.split_at.result.1.now (ready g c)
+
+pub write_node-requires-clause-ready : goal.write_node-requires-clause-ready
+write_node-requires-clause-ready g c =
+    all_right (IsReady (g.R.Look.standing c.args.room.now) (g.R.Look.words c.args.room.now)) c.split_at.result.0.now c.split_at.result.1.now
+    (ready g (goal.at.write_node-requires-clause-ready g c).After-split_at)
+
+pub rewrite-requires-clause-ready : goal.rewrite-requires-clause-ready
+rewrite-requires-clause-ready g c =
+    all_ready_swaps g.R.Look.kept g.R.Look.standing g.R.Look.words [] (c.in_ok-right.right ∷ []) c.args.room.now c.write_node.new.room c.in_ok-right.ensures.swaps c.split_at.result.0.now (all_apart_nil c.split_at.result.0.now)
+    (front_ready g (goal.at.rewrite-requires-clause-ready g c).After-split_at)
+
+pub rewrite-requires-clause-kept : goal.rewrite-requires-clause-kept
+rewrite-requires-clause-kept g c =
+    subst (λ s. IsTrue (is_kept s))
+    (sym (swaps_stands g.R.Look.kept g.R.Look.standing g.R.Look.words [] (c.in_ok-right.right ∷ []) c.args.room.now c.write_node.new.room c.in_ok-right.ensures.swaps c.args.old (omega arith) (readable_kept (g.R.Look.standing c.args.room.now c.args.old) c.requires.kept)))
+    c.requires.kept
+
+pub rewrite-requires-clause-open : goal.rewrite-requires-clause-open
+rewrite-requires-clause-open g c = subst (λ k. IsTrue (g.R.Look.is_open k)) (sym c.in_ok-right.ensures.swaps.kept) c.requires.open
+
+pub returns-in_err-left-clause-err : goal.returns-in_err-left-clause-err
+returns-in_err-left-clause-err g c =
+    on_err _ (start_trans g.R.Look.kept g.R.Look.standing g.R.Look.words c.args.room.now c.write_node.new.room c.rewrite.new.room
+    (swaps_start g.R.Look.kept g.R.Look.standing g.R.Look.words [] (c.in_ok-right.right ∷ []) c.args.room.now c.write_node.new.room c.in_ok-right.ensures.swaps)
+    c.in_err-left.ensures.err)
+
+pub returns-clause-ok : goal.returns-clause-ok
+returns-clause-ok g c =
+    parts_written g.R.Look.kept g.R.Look.standing g.R.Look.words c.args.level c.args.pair.now c.split_at.result.0.now c.split_at.result.1.now c.args.slots.now c.args.old c.in_ok-left.left c.in_ok-right.right
+    c.args.room.now c.write_node.new.room c.rewrite.new.room c.split_at.ensures.by_index.0 c.requires.below
+    (omega (arith, c.split_at.ensures.front_len, c.requires.first)) (omega (arith, c.split_at.ensures.back_len, c.requires.second))
+    (front_ready g (goal.at.returns-clause-ok g c).After-split_at) c.requires.kept c.requires.apart
+    c.in_ok-right.ensures.ok c.in_ok-right.ensures.small c.in_ok-right.ensures.swaps c.in_ok-left.ensures.ok c.in_ok-left.ensures.small c.in_ok-left.ensures.swaps

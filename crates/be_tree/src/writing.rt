@@ -1,0 +1,497 @@
+//! A node in hand is written.
+//!
+//! # Over its page
+//! A page that was there when the write began keeps its words, so its node is written to a page that is taken for it, and
+//! the old one is given up. A page that the write has taken before, as for the last change of a list, is written over
+//! where it is: of its items those that stay where they stand are left alone, and the others are moved within the page.
+//! They are moved in the order of their numbers where all move down, as when one was taken out, and from the last one on
+//! where all move up, as when one was put in. Where some move down and others up, the node is written to another page.
+//!
+//! # Two pages
+//! A node of more than twelve items is written in two pages, of which the first is the old one where it can be. Of two
+//! neighbours the first one is written before the second, since it only takes items from there, and gives its last ones.
+ghost use Rattle.std.specs.Prelude.{◌≡◌, ◌≢◌, ℕ, suc, ◌+◌, ◌-◌, ◌^◌, ◌<◌, ◌≤◌, [], ◌∷◌, ◌++◌, true, false, length, take, drop, All, IfOk, OnErr, IfErr, IfSome, IsTrue};
+ghost use Rattle.be_pages.specs.declared.room.Standing.TheVariants.{Filled};
+ghost use Rattle.be_pages.specs.Pages.{is_kept, is_readable, is_taken, times, StandsAt, Swaps, KeepsStart};
+ghost use Rattle.be_pages.specs.Refusal.{IsFullOf};
+ghost use Rattle.be_tree.specs.Page.{item_place};
+ghost use Rattle.be_tree.specs.Slot.{IsBranchSlot, IsReady, Moves, StandsFrom, branch_to, pairs_of};
+ghost use Rattle.be_tree.specs.Tree.{IsBelow, IsWritten, Becomes, BecomesTree, least_of_root, pairs_below, pages_below};
+
+use crate::item::Item;
+use crate::page::{
+    HEADER_WORDS, ITEM_WORDS, LEAST_ITEMS, MOST_ITEMS, move_down, move_up, stands_from,
+    store_from_last, store_node,
+};
+use crate::slot::{Slot, Way};
+use arrayvec::ArrayVec;
+use be_pages::Room;
+use be_value::Refusal;
+
+/// Writes a node to a page of its own, and gives the page.
+fn write_node<R: Room>(
+    room: &mut R,
+    level: u64,
+    slots: &[Slot],
+    pair: &Item,
+) -> Result<u64, Refusal>
+    requires some { 0 < length slots.now }
+    requires few { length slots.now ≤ 12 }
+    requires ready { All (IsReady (R.standing room.old) (R.words room.old)) slots.now }
+    requires key_fits { length pair.now.key ≤ 264 }
+    requires open { IsTrue (R.is_open (R.kept room.old)) }
+    ensures ok { IfOk result (λ page. IsWritten level (R.words room.new) (pairs_of (R.words room.old) pair.now slots.now) (branch_to (R.words room.new) page)) }
+    ensures swaps { IfOk result (λ page. Swaps R.kept R.standing R.words [] (page ∷ []) room.old room.new) }
+    ensures small { IfOk result (λ page. page < 2 ^ 32) }
+    ensures err { OnErr result (KeepsStart R.kept R.standing R.words room.old room.new) }
+    ensures full { IfErr result (IsFullOf (R.full room.new)) }
+{
+    let page = room.take()?;
+    store_node(room, page, level, slots, pair);
+    Ok(page)
+}
+
+/// Which way a node's items move on its page, if it can be written over: this write has taken the page, and of the items
+/// that stand there none would be written over before it is copied.
+fn way_over<R: Room>(room: &R, page: u64, slots: &[Slot]) -> Option<Way>
+    requires readable { IsTrue (is_readable (R.standing room.now page)) }
+    requires few { length slots.now ≤ 12 }
+    ensures taken { IfSome result (λ way. IsTrue (is_taken (R.standing room.now page))) }
+    ensures moves { IfSome result (λ way. Moves way page slots.now) }
+{
+    if !room.is_taken(page) {
+        return None;
+    }
+    if move_down(page, slots) {
+        return Some(Way::Down);
+    }
+    if move_up(page, slots) {
+        return Some(Way::Up);
+    }
+    None
+}
+
+/// Writes a node over its page, which this write has taken. What stands behind its items there stays.
+fn write_over<R: Room>(room: &mut R, level: u64, page: u64, way: Way, slots: &[Slot], pair: &Item)
+    requires some { 0 < length slots.now }
+    requires few { length slots.now ≤ 12 }
+    requires ready { All (IsReady (R.standing room.old) (R.words room.old)) slots.now }
+    requires kept { IsTrue (is_kept (R.standing room.old page)) }
+    requires taken { IsTrue (is_taken (R.standing room.old page)) }
+    requires moves { Moves way page slots.now }
+    requires key_fits { length pair.now.key ≤ 264 }
+    requires open { IsTrue (R.is_open (R.kept room.old)) }
+    ensures written { IsWritten level (R.words room.new) (pairs_of (R.words room.old) pair.now slots.now) (branch_to (R.words room.new) page) }
+    ensures swaps { Swaps R.kept R.standing R.words (page ∷ []) (page ∷ []) room.old room.new }
+    ensures behind { (i : ℕ) → item_place (length slots.now) ≤ i → R.words room.new page i ≡ R.words room.old page i }
+    ensures standing { StandsAt (R.standing room.old) (R.standing room.new) page Filled }
+    ensures others { (q : ℕ) → q ≢ page → R.words room.new q ≡ R.words room.old q }
+    ensures small { page < 2 ^ 32 }
+{
+    match way {
+        Way::Down => store_node(room, page, level, slots, pair),
+        Way::Up => store_from_last(room, page, level, slots, pair),
+    }
+}
+
+/// Writes a node over its old page where that can be, else to a page of its own, and gives the old one up. Gives the page.
+fn rewrite<R: Room>(
+    room: &mut R,
+    level: u64,
+    old: u64,
+    slots: &[Slot],
+    pair: &Item,
+) -> Result<u64, Refusal>
+    requires some { 0 < length slots.now }
+    requires few { length slots.now ≤ 12 }
+    requires ready { All (IsReady (R.standing room.old) (R.words room.old)) slots.now }
+    requires kept { IsTrue (is_kept (R.standing room.old old)) }
+    requires key_fits { length pair.now.key ≤ 264 }
+    requires open { IsTrue (R.is_open (R.kept room.old)) }
+    ensures ok { IfOk result (λ page. IsWritten level (R.words room.new) (pairs_of (R.words room.old) pair.now slots.now) (branch_to (R.words room.new) page)) }
+    ensures swaps { IfOk result (λ page. Swaps R.kept R.standing R.words (old ∷ []) (page ∷ []) room.old room.new) }
+    ensures small { IfOk result (λ page. page < 2 ^ 32) }
+    ensures err { OnErr result (KeepsStart R.kept R.standing R.words room.old room.new) }
+    ensures full { IfErr result (IsFullOf (R.full room.new)) }
+{
+    if let Some(way) = way_over(room, old, slots) {
+        write_over(room, level, old, way, slots, pair);
+        return Ok(old);
+    }
+    let page = write_node(room, level, slots, pair)?;
+    room.give_up(old);
+    Ok(page)
+}
+
+/// Writes a node with what stands below it, as `rewrite` does, and gives its page.
+pub(crate) fn write_branch<R: Room>(
+    room: &mut R,
+    level: u64,
+    old: u64,
+    slots: &[Slot],
+    pair: &Item,
+) -> Result<u64, Refusal>
+    requires below { IsBelow level (R.standing room.old) (R.words room.old) (pairs_of (R.words room.old) pair.now slots.now) }
+    requires ready { All (IsReady (R.standing room.old) (R.words room.old)) slots.now }
+    requires enough { 6 ≤ length slots.now }
+    requires few { length slots.now ≤ 12 }
+    requires kept { IsTrue (is_kept (R.standing room.old old)) }
+    requires apart { times old (pages_below level (R.words room.old) (pairs_of (R.words room.old) pair.now slots.now)) ≡ 0 }
+    requires key_fits { length pair.now.key ≤ 264 }
+    requires open { IsTrue (R.is_open (R.kept room.old)) }
+    ensures ok { IfOk result (λ page. Becomes R.kept R.standing R.words
+        (old ∷ pages_below level (R.words room.old) (pairs_of (R.words room.old) pair.now slots.now))
+        (pairs_below level (R.words room.old) (pairs_of (R.words room.old) pair.now slots.now)) (suc level)
+        (branch_to (R.words room.new) page ∷ []) room.old room.new) }
+    ensures small { IfOk result (λ page. page < 2 ^ 32) }
+    ensures err { OnErr result (KeepsStart R.kept R.standing R.words room.old room.new) }
+    ensures full { IfErr result (IsFullOf (R.full room.new)) }
+{
+    let page = rewrite(room, level, old, slots, pair)?;
+    Ok(page)
+}
+
+/// Writes a node in hand in two pages, the first `cut` items in the first, and gives them. The second one is taken, and
+/// written before the first one is written as `rewrite` does.
+fn write_parts<R: Room>(
+    room: &mut R,
+    level: u64,
+    old: u64,
+    slots: &[Slot],
+    cut: usize,
+    pair: &Item,
+) -> Result<(u64, u64), Refusal>
+    requires below { IsBelow level (R.standing room.old) (R.words room.old) (pairs_of (R.words room.old) pair.now slots.now) }
+    requires ready { All (IsReady (R.standing room.old) (R.words room.old)) slots.now }
+    requires first { (6 ≤ cut) × (cut ≤ 12) }
+    requires second { (cut + 6 ≤ length slots.now) × (length slots.now ≤ cut + 12) }
+    requires kept { IsTrue (is_kept (R.standing room.old old)) }
+    requires apart { times old (pages_below level (R.words room.old) (pairs_of (R.words room.old) pair.now slots.now)) ≡ 0 }
+    requires key_fits { length pair.now.key ≤ 264 }
+    requires open { IsTrue (R.is_open (R.kept room.old)) }
+    ensures ok { IfOk result (λ both. Becomes R.kept R.standing R.words
+        (old ∷ pages_below level (R.words room.old) (pairs_of (R.words room.old) pair.now slots.now))
+        (pairs_below level (R.words room.old) (pairs_of (R.words room.old) pair.now slots.now)) (suc level)
+        (branch_to (R.words room.new) both.0 ∷ branch_to (R.words room.new) both.1 ∷ []) room.old room.new) }
+    ensures small { IfOk result (λ both. (both.0 < 2 ^ 32) × (both.1 < 2 ^ 32)) }
+    ensures err { OnErr result (KeepsStart R.kept R.standing R.words room.old room.new) }
+    ensures full { IfErr result (IsFullOf (R.full room.new)) }
+{
+    let (front, back) = slots.split_at(cut);
+    let right = write_node(room, level, back, pair)?;
+    let left = rewrite(room, level, old, front, pair)?;
+    Ok((left, right))
+}
+
+/// How many of the items the first of two pages takes: all that it can hold while six are left for the second.
+fn first_of_two(len: usize) -> usize
+    requires { (12 < len) × (len ≤ 24) }
+    ensures first { (6 ≤ result) × (result ≤ 12) }
+    ensures second { (result + 6 ≤ len) × (len ≤ result + 12) }
+{
+    if len < MOST_ITEMS + LEAST_ITEMS {
+        len - LEAST_ITEMS
+    } else {
+        MOST_ITEMS
+    }
+}
+
+/// Writes a node in hand, in one page or in two, of which the first is the old one where it can be, and gives the branches
+/// to them. The old page is given up where it isn't among them.
+pub(crate) fn pack<R: Room>(
+    room: &mut R,
+    level: u64,
+    old: u64,
+    slots: &[Slot],
+    pair: &Item,
+) -> Result<ArrayVec<Slot, 2>, Refusal>
+    requires below { IsBelow level (R.standing room.old) (R.words room.old) (pairs_of (R.words room.old) pair.now slots.now) }
+    requires ready { All (IsReady (R.standing room.old) (R.words room.old)) slots.now }
+    requires enough { 6 ≤ length slots.now }
+    requires few { length slots.now ≤ 24 }
+    requires kept { IsTrue (is_kept (R.standing room.old old)) }
+    requires apart { times old (pages_below level (R.words room.old) (pairs_of (R.words room.old) pair.now slots.now)) ≡ 0 }
+    requires key_fits { length pair.now.key ≤ 264 }
+    requires open { IsTrue (R.is_open (R.kept room.old)) }
+    ensures ok { IfOk result (λ branches. Becomes R.kept R.standing R.words
+        (old ∷ pages_below level (R.words room.old) (pairs_of (R.words room.old) pair.now slots.now))
+        (pairs_below level (R.words room.old) (pairs_of (R.words room.old) pair.now slots.now)) (suc level)
+        (pairs_of (R.words room.new) pair.now branches.items) room.old room.new) }
+    ensures branches { IfOk result (λ branches. All IsBranchSlot branches.items) }
+    ensures some { IfOk result (λ branches. (0 < length branches.items) × (length branches.items ≤ 2)) }
+    ensures err { OnErr result (KeepsStart R.kept R.standing R.words room.old room.new) }
+    ensures full { IfErr result (IsFullOf (R.full room.new)) }
+{
+    let mut branches = ArrayVec::new();
+    if slots.len() <= MOST_ITEMS {
+        let page = write_branch(room, level, old, slots, pair)?;
+        branches.push(Slot::Branch(page as u32));
+        return Ok(branches);
+    }
+    let (left, right) = write_parts(room, level, old, slots, first_of_two(slots.len()), pair)?;
+    branches.push(Slot::Branch(left as u32));
+    branches.push(Slot::Branch(right as u32));
+    Ok(branches)
+}
+
+/// Writes a node in hand whose items stood in two neighbours in one page, the first one where it can be, and gives it. The
+/// second one is given up.
+fn write_joined<R: Room>(
+    room: &mut R,
+    level: u64,
+    left: u64,
+    right: u64,
+    slots: &[Slot],
+    pair: &Item,
+) -> Result<u64, Refusal>
+    requires below { IsBelow level (R.standing room.old) (R.words room.old) (pairs_of (R.words room.old) pair.now slots.now) }
+    requires ready { All (IsReady (R.standing room.old) (R.words room.old)) slots.now }
+    requires enough { 6 ≤ length slots.now }
+    requires few { length slots.now ≤ 12 }
+    requires left_kept { IsTrue (is_kept (R.standing room.old left)) }
+    requires right_kept { IsTrue (is_kept (R.standing room.old right)) }
+    requires left_apart { times left (pages_below level (R.words room.old) (pairs_of (R.words room.old) pair.now slots.now)) ≡ 0 }
+    requires right_apart { times right (pages_below level (R.words room.old) (pairs_of (R.words room.old) pair.now slots.now)) ≡ 0 }
+    requires different { left ≢ right }
+    requires key_fits { length pair.now.key ≤ 264 }
+    requires open { IsTrue (R.is_open (R.kept room.old)) }
+    ensures ok { IfOk result (λ page. Becomes R.kept R.standing R.words
+        (left ∷ right ∷ pages_below level (R.words room.old) (pairs_of (R.words room.old) pair.now slots.now))
+        (pairs_below level (R.words room.old) (pairs_of (R.words room.old) pair.now slots.now)) (suc level)
+        (branch_to (R.words room.new) page ∷ []) room.old room.new) }
+    ensures small { IfOk result (λ page. page < 2 ^ 32) }
+    ensures err { OnErr result (KeepsStart R.kept R.standing R.words room.old room.new) }
+    ensures full { IfErr result (IsFullOf (R.full room.new)) }
+{
+    let page = write_branch(room, level, left, slots, pair)?;
+    room.give_up(right);
+    Ok(page)
+}
+
+/// Whether nothing before a place of a page is an item of these slots.
+fn all_stand_from(page: u64, place: usize, slots: &[Slot]) -> bool
+    ensures { result ≡ true → All (StandsFrom page place) slots.now }
+{
+    for j in 0..slots.len() {
+        if !stands_from(page, place, slots[j]) {
+            return false;
+        }
+    }
+    true
+}
+
+/// Writes two nodes whose items stood in two neighbours: the first over the first neighbour, where it leaves what the second
+/// one needs, and the second as `rewrite` does.
+fn write_two_over<R: Room>(
+    room: &mut R,
+    level: u64,
+    left: u64,
+    right: u64,
+    way: Way,
+    front: &[Slot],
+    back: &[Slot],
+    pair: &Item,
+) -> Result<u64, Refusal>
+    requires first { (6 ≤ length front.now) × (length front.now ≤ 12) }
+    requires second { (6 ≤ length back.now) × (length back.now ≤ 12) }
+    requires below { IsBelow level (R.standing room.old) (R.words room.old) (pairs_of (R.words room.old) pair.now (front.now ++ back.now)) }
+    requires front_ready { All (IsReady (R.standing room.old) (R.words room.old)) front.now }
+    requires back_ready { All (IsReady (R.standing room.old) (R.words room.old)) back.now }
+    requires taken { IsTrue (is_taken (R.standing room.old left)) }
+    requires moves { Moves way left front.now }
+    requires leaves { All (StandsFrom left (item_place (length front.now))) back.now }
+    requires left_kept { IsTrue (is_kept (R.standing room.old left)) }
+    requires right_kept { IsTrue (is_kept (R.standing room.old right)) }
+    requires left_apart { times left (pages_below level (R.words room.old) (pairs_of (R.words room.old) pair.now (front.now ++ back.now))) ≡ 0 }
+    requires right_apart { times right (pages_below level (R.words room.old) (pairs_of (R.words room.old) pair.now (front.now ++ back.now))) ≡ 0 }
+    requires different { left ≢ right }
+    requires key_fits { length pair.now.key ≤ 264 }
+    requires open { IsTrue (R.is_open (R.kept room.old)) }
+    ensures ok { IfOk result (λ page. Becomes R.kept R.standing R.words
+        (left ∷ right ∷ pages_below level (R.words room.old) (pairs_of (R.words room.old) pair.now (front.now ++ back.now)))
+        (pairs_below level (R.words room.old) (pairs_of (R.words room.old) pair.now (front.now ++ back.now))) (suc level)
+        (branch_to (R.words room.new) left ∷ branch_to (R.words room.new) page ∷ []) room.old room.new) }
+    ensures first_small { left < 2 ^ 32 }
+    ensures small { IfOk result (λ page. page < 2 ^ 32) }
+    ensures err { OnErr result (KeepsStart R.kept R.standing R.words room.old room.new) }
+    ensures full { IfErr result (IsFullOf (R.full room.new)) }
+{
+    write_over(room, level, left, way, front, pair);
+    let page = rewrite(room, level, right, back, pair)?;
+    Ok(page)
+}
+
+/// Writes two nodes whose items stood in two neighbours: the first to a page of its own, and the second as `rewrite` does.
+/// The first neighbour is given up.
+fn write_two_anew<R: Room>(
+    room: &mut R,
+    level: u64,
+    left: u64,
+    right: u64,
+    front: &[Slot],
+    back: &[Slot],
+    pair: &Item,
+) -> Result<(u64, u64), Refusal>
+    requires first { (6 ≤ length front.now) × (length front.now ≤ 12) }
+    requires second { (6 ≤ length back.now) × (length back.now ≤ 12) }
+    requires below { IsBelow level (R.standing room.old) (R.words room.old) (pairs_of (R.words room.old) pair.now (front.now ++ back.now)) }
+    requires front_ready { All (IsReady (R.standing room.old) (R.words room.old)) front.now }
+    requires back_ready { All (IsReady (R.standing room.old) (R.words room.old)) back.now }
+    requires left_kept { IsTrue (is_kept (R.standing room.old left)) }
+    requires right_kept { IsTrue (is_kept (R.standing room.old right)) }
+    requires left_apart { times left (pages_below level (R.words room.old) (pairs_of (R.words room.old) pair.now (front.now ++ back.now))) ≡ 0 }
+    requires right_apart { times right (pages_below level (R.words room.old) (pairs_of (R.words room.old) pair.now (front.now ++ back.now))) ≡ 0 }
+    requires different { left ≢ right }
+    requires key_fits { length pair.now.key ≤ 264 }
+    requires open { IsTrue (R.is_open (R.kept room.old)) }
+    ensures ok { IfOk result (λ both. Becomes R.kept R.standing R.words
+        (left ∷ right ∷ pages_below level (R.words room.old) (pairs_of (R.words room.old) pair.now (front.now ++ back.now)))
+        (pairs_below level (R.words room.old) (pairs_of (R.words room.old) pair.now (front.now ++ back.now))) (suc level)
+        (branch_to (R.words room.new) both.0 ∷ branch_to (R.words room.new) both.1 ∷ []) room.old room.new) }
+    ensures small { IfOk result (λ both. (both.0 < 2 ^ 32) × (both.1 < 2 ^ 32)) }
+    ensures err { OnErr result (KeepsStart R.kept R.standing R.words room.old room.new) }
+    ensures full { IfErr result (IsFullOf (R.full room.new)) }
+{
+    let first = write_node(room, level, front, pair)?;
+    let second = rewrite(room, level, right, back, pair)?;
+    room.give_up(left);
+    Ok((first, second))
+}
+
+/// Writes a node in hand whose items stood in two neighbours in two pages, the first `cut` items in the first, and gives
+/// them. Each neighbour is written over where it can be, else given up.
+fn write_two<R: Room>(
+    room: &mut R,
+    level: u64,
+    left: u64,
+    right: u64,
+    slots: &[Slot],
+    cut: usize,
+    pair: &Item,
+) -> Result<(u64, u64), Refusal>
+    requires below { IsBelow level (R.standing room.old) (R.words room.old) (pairs_of (R.words room.old) pair.now slots.now) }
+    requires ready { All (IsReady (R.standing room.old) (R.words room.old)) slots.now }
+    requires first { (6 ≤ cut) × (cut ≤ 12) }
+    requires second { (cut + 6 ≤ length slots.now) × (length slots.now ≤ cut + 12) }
+    requires left_kept { IsTrue (is_kept (R.standing room.old left)) }
+    requires right_kept { IsTrue (is_kept (R.standing room.old right)) }
+    requires left_apart { times left (pages_below level (R.words room.old) (pairs_of (R.words room.old) pair.now slots.now)) ≡ 0 }
+    requires right_apart { times right (pages_below level (R.words room.old) (pairs_of (R.words room.old) pair.now slots.now)) ≡ 0 }
+    requires different { left ≢ right }
+    requires key_fits { length pair.now.key ≤ 264 }
+    requires open { IsTrue (R.is_open (R.kept room.old)) }
+    ensures ok { IfOk result (λ both. Becomes R.kept R.standing R.words
+        (left ∷ right ∷ pages_below level (R.words room.old) (pairs_of (R.words room.old) pair.now slots.now))
+        (pairs_below level (R.words room.old) (pairs_of (R.words room.old) pair.now slots.now)) (suc level)
+        (branch_to (R.words room.new) both.0 ∷ branch_to (R.words room.new) both.1 ∷ []) room.old room.new) }
+    ensures small { IfOk result (λ both. (both.0 < 2 ^ 32) × (both.1 < 2 ^ 32)) }
+    ensures err { OnErr result (KeepsStart R.kept R.standing R.words room.old room.new) }
+    ensures full { IfErr result (IsFullOf (R.full room.new)) }
+{
+    let (front, back) = slots.split_at(cut);
+    if let Some(way) = way_over(room, left, front) {
+        if all_stand_from(left, HEADER_WORDS + ITEM_WORDS * cut, back) {
+            let page = write_two_over(room, level, left, right, way, front, back, pair)?;
+            return Ok((left, page));
+        }
+    }
+    let both = write_two_anew(room, level, left, right, front, back, pair)?;
+    Ok(both)
+}
+
+/// Writes a node in hand whose items stood in two neighbours, and gives the branches to its pages. Each neighbour is written
+/// over where it can be, else given up.
+pub(crate) fn pack_two<R: Room>(
+    room: &mut R,
+    level: u64,
+    left: u64,
+    right: u64,
+    slots: &[Slot],
+    pair: &Item,
+) -> Result<ArrayVec<Slot, 2>, Refusal>
+    requires below { IsBelow level (R.standing room.old) (R.words room.old) (pairs_of (R.words room.old) pair.now slots.now) }
+    requires ready { All (IsReady (R.standing room.old) (R.words room.old)) slots.now }
+    requires enough { 6 ≤ length slots.now }
+    requires few { length slots.now ≤ 24 }
+    requires left_kept { IsTrue (is_kept (R.standing room.old left)) }
+    requires right_kept { IsTrue (is_kept (R.standing room.old right)) }
+    requires left_apart { times left (pages_below level (R.words room.old) (pairs_of (R.words room.old) pair.now slots.now)) ≡ 0 }
+    requires right_apart { times right (pages_below level (R.words room.old) (pairs_of (R.words room.old) pair.now slots.now)) ≡ 0 }
+    requires different { left ≢ right }
+    requires key_fits { length pair.now.key ≤ 264 }
+    requires open { IsTrue (R.is_open (R.kept room.old)) }
+    ensures ok { IfOk result (λ branches. Becomes R.kept R.standing R.words
+        (left ∷ right ∷ pages_below level (R.words room.old) (pairs_of (R.words room.old) pair.now slots.now))
+        (pairs_below level (R.words room.old) (pairs_of (R.words room.old) pair.now slots.now)) (suc level)
+        (pairs_of (R.words room.new) pair.now branches.items) room.old room.new) }
+    ensures ready { IfOk result (λ branches. All (IsReady (R.standing room.new) (R.words room.new)) branches.items) }
+    ensures some { IfOk result (λ branches. (0 < length branches.items) × (length branches.items ≤ 2)) }
+    ensures two { IfOk result (λ branches. 12 < length slots.now → length branches.items ≡ 2) }
+    ensures err { OnErr result (KeepsStart R.kept R.standing R.words room.old room.new) }
+    ensures full { IfErr result (IsFullOf (R.full room.new)) }
+{
+    let mut branches = ArrayVec::new();
+    if slots.len() <= MOST_ITEMS {
+        let page = write_joined(room, level, left, right, slots, pair)?;
+        branches.push(Slot::Branch(page as u32));
+        return Ok(branches);
+    }
+    let cut = first_of_two(slots.len());
+    let (first, second) = write_two(room, level, left, right, slots, cut, pair)?;
+    branches.push(Slot::Branch(first as u32));
+    branches.push(Slot::Branch(second as u32));
+    Ok(branches)
+}
+
+/// Writes items as a tree of one page, and gives its root.
+pub(crate) fn write_first_root<R: Room>(
+    room: &mut R,
+    slots: &[Slot],
+    pair: &Item,
+) -> Result<u64, Refusal>
+    requires below { IsBelow 0 (R.standing room.old) (R.words room.old) (pairs_of (R.words room.old) pair.now slots.now) }
+    requires ready { All (IsReady (R.standing room.old) (R.words room.old)) slots.now }
+    requires some { 0 < length slots.now }
+    requires few { length slots.now ≤ 12 }
+    requires key_fits { length pair.now.key ≤ 264 }
+    requires open { IsTrue (R.is_open (R.kept room.old)) }
+    ensures ok { IfOk result (λ root. BecomesTree R.kept R.standing R.words [] (pairs_of (R.words room.old) pair.now slots.now) root room.old room.new) }
+    ensures err { OnErr result (KeepsStart R.kept R.standing R.words room.old room.new) }
+    ensures full { IfErr result (IsFullOf (R.full room.new)) }
+{
+    let top = write_node(room, 0, slots, pair)?;
+    Ok(top + 1)
+}
+
+/// Writes items as a tree of their own, over the old root's page where that can be, else it is given up. Gives the root.
+pub(crate) fn write_root<R: Room>(
+    room: &mut R,
+    level: u64,
+    old: u64,
+    slots: &[Slot],
+    pair: &Item,
+) -> Result<u64, Refusal>
+    requires below { IsBelow level (R.standing room.old) (R.words room.old) (pairs_of (R.words room.old) pair.now slots.now) }
+    requires ready { All (IsReady (R.standing room.old) (R.words room.old)) slots.now }
+    requires enough { least_of_root level ≤ length slots.now }
+    requires few { length slots.now ≤ 18 }
+    requires kept { IsTrue (is_kept (R.standing room.old old)) }
+    requires apart { times old (pages_below level (R.words room.old) (pairs_of (R.words room.old) pair.now slots.now)) ≡ 0 }
+    requires low { level < 2 ^ 32 }
+    requires key_fits { length pair.now.key ≤ 264 }
+    requires open { IsTrue (R.is_open (R.kept room.old)) }
+    ensures ok { IfOk result (λ root. BecomesTree R.kept R.standing R.words
+        (old ∷ pages_below level (R.words room.old) (pairs_of (R.words room.old) pair.now slots.now))
+        (pairs_below level (R.words room.old) (pairs_of (R.words room.old) pair.now slots.now)) root room.old room.new) }
+    ensures err { OnErr result (KeepsStart R.kept R.standing R.words room.old room.new) }
+    ensures full { IfErr result (IsFullOf (R.full room.new)) }
+{
+    if slots.len() <= MOST_ITEMS {
+        let top = rewrite(room, level, old, slots, pair)?;
+        return Ok(top + 1);
+    }
+    let (left, right) = write_parts(room, level, old, slots, first_of_two(slots.len()), pair)?;
+    let branches = [Slot::Branch(left as u32), Slot::Branch(right as u32)];
+    let top = write_node(room, level + 1, &branches, pair)?;
+    Ok(top + 1)
+}
