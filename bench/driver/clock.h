@@ -1,4 +1,4 @@
-/* Time by the clock, and the lines that are printed: `CASE VALUE`, where the value is nanoseconds or a rate. */
+/* Time by the clock, and the lines that are printed: `CASE VALUE`, where the value is nanoseconds, bytes or a rate. */
 #ifndef CLOCK_H
 #define CLOCK_H
 #include <stdint.h>

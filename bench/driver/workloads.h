@@ -8,5 +8,10 @@ void run_reads(const struct data *data);
 void run_indices(const struct data *data);
 void run_threads(const struct data *data, double seconds);
 void run_open(uint64_t pages);
-void run_journal(const struct data *data, uint64_t commits);
+
+/* How much the process's memory grows by an operation: of so many lists, after as many before. */
+void run_journal(uint64_t lists, uint64_t operations);
+
+/* The median and the worst of so many commits. They are made twice, and of each the shorter time counts. */
+void run_pauses(const struct data *data, uint64_t commits);
 #endif

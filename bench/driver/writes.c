@@ -99,15 +99,6 @@ void run_writes(const struct data *data) {
     store_close(store);
 }
 
-/* So many commits more, which a journal keeps: the caller looks at the memory. */
-void run_journal(const struct data *data, uint64_t commits) {
-    struct store *store = open_store(1);
-    uint64_t state = data->random;
-    fill(store, data);
-    for (uint64_t i = 0; i < commits; i++) must(set_random_size(store_pass(store, 0), data->nodes, &state));
-    store_close(store);
-}
-
 void run_open(uint64_t pages) {
     double start = now();
     struct store *store = store_open(pages, 1);

@@ -6,8 +6,10 @@ from collections import defaultdict
 
 from peers import NODES, PEERS, SIZES, TITLES
 
-COMMITS = (125_000, 250_000)
 POOLS = (1_024, 16_384)
+LISTS = (1, 64)
+OPERATIONS = 640_000
+COMMITS = 1_000_000
 
 
 class Results:
@@ -71,20 +73,27 @@ def measure(programs, peak, rounds, milliseconds, most):
         stop_on_other_answers(results)
         for peer in peers:
             if peer.has_journal:
-                measure_memory(results, peer.name, [peak, programs[peer.name]])
+                measure_opening(results, peer.name, [peak, programs[peer.name]])
+                measure_journal(results, peer.name, programs[peer.name])
         print(f"round {number}, load {os.getloadavg()[0]:.1f}", file=sys.stderr)
     results.loads.append(os.getloadavg()[0])
     return results
 
 
-def measure_memory(results, name, program):
-    """What opening takes at its peak, and what a commit leaves in the journal: by the process's memory."""
+def measure_opening(results, name, program):
+    """The time that opening takes, and the process's memory at its peak."""
     for pages in POOLS:
         said = dict(run([*program, "open", str(pages)]))
         results.add(name, results.nodes, f"open-{pages}", said["open"])
         results.add(name, results.nodes, f"peak-{pages}", said["peak"])
-    fewer, more = (dict(run([*program, "journal", "1000", str(commits)]))["peak"] for commits in COMMITS)
-    results.add(name, results.nodes, "journal", (more - fewer) / (COMMITS[1] - COMMITS[0]))
+
+
+def measure_journal(results, name, program):
+    """The memory that an operation leaves, by how many there are in a list, and the worst of many commits."""
+    for count in LISTS:
+        said = dict(run([program, "journal", str(OPERATIONS // count), str(count)]))
+        results.add(name, results.nodes, f"journal-{count}", said["journal"])
+    keep(results, name, results.nodes, "pauses", run([program, "pauses", "1000", str(COMMITS)]))
 
 
 def keep(results, name, nodes, workload, said):

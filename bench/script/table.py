@@ -40,7 +40,10 @@ CASES = {
     "open-16384": "opening 16,384 pages",
     "peak-1024": "memory of the process for it, 1,024 pages",
     "peak-16384": "memory of the process for it, 16,384 pages",
-    "journal": "memory a commit of one operation",
+    "journal-1": 'memory a commit of one operation, `set 1 "size" LLNG 5`',
+    "journal-64": "memory an operation of these in lists of 64",
+    "median": "the median of a million commits: set, indexed, 1,000 nodes",
+    "worst": "the worst of them",
 }
 
 
@@ -55,7 +58,7 @@ def shown(case, value):
         return f"{number(value / 1e3)} k/s"
     if case.startswith("peak-"):
         return f"{number(value / 1e6)} MB"
-    if case == "journal":
+    if case.startswith("journal-"):
         return f"{number(value)} B"
     for unit, size in (("ms", 1e6), ("µs", 1e3)):
         if value >= size:

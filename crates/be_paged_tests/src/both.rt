@@ -8,7 +8,6 @@ use arrayvec::ArrayVec;
 use be_paged::get;
 use be_pages::{Look, VecRoom};
 use be_query::Query;
-use be_testing::Counting;
 use be_value::{Kind, Name, Refusal, Value};
 use be_volume::{Done, Op, Volume};
 use std::alloc::Global;
@@ -104,22 +103,6 @@ impl Both {
         let Both { plain, room, page } = self;
         let (room, answer) = query_both(alloc, &plain, room, page, query, pick)?;
         Ok((Both { plain, room, page }, answer))
-    }
-
-    /// The same by a reader that counts its calls, and how many it has counted.
-    pub(crate) fn query_counting(
-        self,
-        alloc: Global,
-        query: &Query,
-    ) -> Result<(Both, Result<Vec<u64>, Refusal>, u64), Fail> {
-        let Both { plain, room, page } = self;
-        let counting = Counting {
-            look: room,
-            reads: 0,
-        };
-        let (counting, answer) = query_both(alloc, &plain, counting, page, query, None)?;
-        let Counting { look: room, reads } = counting;
-        Ok((Both { plain, room, page }, answer, reads))
     }
 
     /// The attribute.

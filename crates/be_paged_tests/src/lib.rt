@@ -6,6 +6,10 @@ mod asking;
 #[cfg(test)]
 mod both;
 #[cfg(test)]
+mod costs;
+#[cfg(test)]
+mod counted_room;
+#[cfg(test)]
 mod lines;
 #[cfg(test)]
 mod look_tests;

@@ -1,4 +1,4 @@
-//! Versions read by readers of the tests' own.
+//! Versions read while a write is open, by a reader of the tests' own.
 ghost use Rattle.std.specs.Prelude.{◌≡◌, IfOk};
 ghost use Rattle.be_pages.specs.Pages.{IsUnchanged, after_undo};
 ghost use Rattle.be_tree.specs.Forest.{IsWriteStart};
@@ -12,55 +12,10 @@ use crate::tests::run_lines;
 use crate::writing::{accepts, apply_pages};
 use be_pages::{Look, VecRoom};
 use be_testing::EQUAL_VALUES;
-use be_value::{Name, Refusal, Value};
+use be_value::Refusal;
 use be_volume::{Op, Volume};
 use std::alloc::Global;
 use std::test::Fail;
-
-/// Makes a node with a value.
-fn make_node(both: Both, name: &Name, value: i32) -> Result<Both, Fail> {
-    let node = both.plain.next();
-    let ops = [Op::New, Op::Set(node, name.copy(), Value::int32(value))];
-    let (both, answer) = both.write(&ops)?;
-    answer?;
-    Ok(both)
-}
-
-/// A volume with an index and a hundred nodes in it.
-fn hundred(alloc: Global) -> Result<Both, Fail> {
-    let name = Name::new("k")?;
-    let mut both = run_lines(alloc, Both::new(alloc, 128)?, "mkindex k LONG => ok")?;
-    for i in 0..100 {
-        both = make_node(both, &name, i)?;
-    }
-    Ok(both)
-}
-
-/// Fails unless a query finds so many nodes, by more reads than the one bound and fewer than the other.
-fn expect_reads(
-    alloc: Global,
-    both: Both,
-    text: &str,
-    nodes: usize,
-    above: u64,
-    below: u64,
-) -> Result<Both, Fail> {
-    let query = read_query(alloc, text)?;
-    let (both, answer, reads) = both.query_counting(alloc, &query)?;
-    if answer?.len() != nodes || reads <= above || reads >= below {
-        return Err(Fail::new(text));
-    }
-    Ok(both)
-}
-
-/// A walk over a hundred keys reads some words for each, and the look comes back with its count. The version stands.
-#[test]
-fn counting_look(rt: HostRuntime) -> Result<(), Fail> {
-    let both = hundred(rt.alloc())?;
-    let both = expect_reads(rt.alloc(), both, "k>=0", 100, 100, 100 * 200)?;
-    let _both = expect_reads(rt.alloc(), both, "k==7", 1, 0, 1000)?;
-    Ok(())
-}
 
 /// Fails unless both forms give these nodes. Gives the look as it was.
 fn expect_look<L: Look + Drop>(

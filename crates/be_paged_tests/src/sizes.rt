@@ -41,7 +41,7 @@ fn index_list(alloc: Global) -> Result<Vec<Op>, Refusal> {
 }
 
 /// Writes a list, which has to be accepted.
-fn accepted(both: Both, ops: &[Op]) -> Result<Both, Fail> {
+pub(crate) fn accepted(both: Both, ops: &[Op]) -> Result<Both, Fail> {
     let (both, answer) = both.write(ops)?;
     if answer?.len() != ops.len() {
         return Err(Fail::new("another number of answers"));
