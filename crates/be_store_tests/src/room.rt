@@ -3,6 +3,7 @@
 
 use crate::calls::{answer, write};
 use crate::races::{closed, journal_of, make_both};
+use crate::states::state_text;
 use be_language::Reply;
 use be_store::{Journal, Limits, Live, Op, Pass, Refusal, Store, parse};
 use be_testing::{Answers, reply_lines};
@@ -187,6 +188,7 @@ impl Room {
             "live" => self.watch(alloc, words),
             "seen" => seen_text(alloc, self.seen()),
             "meet" => met_text(alloc, self.meet()),
+            "state" => state_text(&self.store, alloc, &mut self.first),
             _ => Err(Refusal::BadLimits),
         }
     }
