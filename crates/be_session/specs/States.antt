@@ -6,9 +6,17 @@ use Rattle.be_state.specs.Places.{left}
 use Rattle.be_volume.specs.Volume.{State}
 use Rattle.be_volume.specs.declared.ops.Op.{Op}
 
--- the operations of a volume that are still to be told: those that were read and wait, and then those that weren't read yet
+-- the operations that were read, and wait to be told
+abbrev pub waiting : StatePlace → List Op
+waiting p = p.ready.items
+
+-- the operations of a volume that weren't read yet
+abbrev pub unread : State → StatePlace → List Op
+unread volume p = left volume p.place
+
+-- the operations of a volume that are still to be told
 abbrev pub untold : State → StatePlace → List Op
-untold volume p = p.waiting.items ++ left volume p.place
+untold volume p = waiting p ++ unread volume p
 
 -- so many operations and bytes have room for these
 abbrev pub HaveRoom : ℕ → ℕ → List Operation → List ℕ → Type 0
@@ -18,8 +26,8 @@ HaveRoom operations_room bytes_room os bytes = (length os ≤ operations_room) �
 abbrev pub LackRoom : ℕ → ℕ → List Operation → List ℕ → Type 0
 LackRoom operations_room bytes_room os bytes = (operations_room < length os) ⊎ (bytes_room < length bytes)
 
--- What waits then, where these waited and were spelled: nothing where there was room for the spelling, and else the same again.
-abbrev pub WaitThen : List Op → ℕ → ℕ → List Operation → List ℕ → List Op → Type 0
-WaitThen ops operations_room bytes_room os bytes waiting =
-    (HaveRoom operations_room bytes_room os bytes × (waiting ≡ []))
-    ⊎ (LackRoom operations_room bytes_room os bytes × (waiting ≡ ops))
+-- What waits where these waited and were spelled: nothing more where there was room for the spelling, and else the same again.
+abbrev pub WaitBehind : List Op → ℕ → ℕ → List Operation → List ℕ → List Op → Type 0
+WaitBehind ops operations_room bytes_room os bytes still =
+    (HaveRoom operations_room bytes_room os bytes × (still ≡ []))
+    ⊎ (LackRoom operations_room bytes_room os bytes × (still ≡ ops))

@@ -5,12 +5,11 @@ use Rattle.std.specs.Prelude.{is_some}
 use Rattle.be_session.specs.Fault.{fault_code}
 use Rattle.be_session.specs.Operations.{AreSpelled}
 use Rattle.be_session.specs.Sitting.{AtPin}
-use Rattle.be_session.specs.States.{LackRoom, WaitThen, untold}
+use Rattle.be_session.specs.States.{LackRoom, WaitBehind, unread, untold, waiting}
 use Rattle.be_session.specs.declared.faults.Fault.{Fault}
 use Rattle.be_session.specs.declared.faults.Fault.TheVariants.{Refused}
 use Rattle.be_session.specs.declared.lists.Operation.{Operation}
 use Rattle.be_session.specs.declared.states.StatePlace.{StatePlace}
-use Rattle.be_state.specs.Places.{left}
 use Rattle.be_state.specs.Rebuilding.{state_ops}
 use Rattle.be_value.specs.declared.refusals.Refusal.TheVariants.{OutOfMemory}
 use Rattle.be_volume.specs.Volume.{State}
@@ -39,11 +38,11 @@ short places byte_places counts os bs many size lacks =
       | inr low ↦ inr (subst (λ n. length byte_places < n) (sym size) low)
     ]
 
-stays : (ops rest waiting : List Op) (counts : Counts) (places : List Operation) (byte_places : List ℕ) (os : List Operation) (bs : List ℕ)
-    → counts.operations ≡ length os → counts.bytes ≡ length bs → WaitThen ops (length places) (length byte_places) os bs waiting
-    → StaysToTell ops rest counts places byte_places (waiting ++ rest)
-stays ops rest waiting counts places byte_places os bs many size waits =
-    elim waits [
+stays : (ops rest still : List Op) (counts : Counts) (places : List Operation) (byte_places : List ℕ) (os : List Operation) (bs : List ℕ)
+    → counts.operations ≡ length os → counts.bytes ≡ length bs → WaitBehind ops (length places) (length byte_places) os bs still
+    → StaysToTell ops rest counts places byte_places (still ++ rest)
+stays ops rest still counts places byte_places os bs many size behind =
+    elim behind [
       | inl fits ↦ inl (
         subst (λ n. n ≤ length places) (sym many) fits.0.0,
         subst (λ n. n ≤ length byte_places) (sym size) fits.0.1,
@@ -52,16 +51,16 @@ stays ops rest waiting counts places byte_places os bs many size waits =
       | inr lacks ↦ inr (short places byte_places counts os bs many size lacks.0, ap (λ (ws : List Op). ws ++ rest) lacks.1)
     ]
 
--- what waited is put out
-pub told_waiting : (volume : State) (p q : StatePlace) (counts : Counts) (places filled : List Operation) (byte_places bytes : List ℕ) (code : ℕ)
+-- what was ready is put out
+pub told_ready : (volume : State) (p q : StatePlace) (counts : Counts) (places filled : List Operation) (byte_places bytes : List ℕ) (code : ℕ)
     (os : List Operation) (bs : List ℕ)
-    → (p.waiting.items ≡ [] → untold volume p ≡ []) → length p.waiting.items ≤ 64 → q.place ≡ p.place → AreSpelled os bs p.waiting.items
-    → WaitThen p.waiting.items (length places) (length byte_places) os bs q.waiting.items
+    → length (waiting p) ≤ 64 → (waiting p ≡ [] → untold volume p ≡ []) → unread volume q ≡ unread volume p → AreSpelled os bs (waiting p)
+    → WaitBehind (waiting p) (length places) (length byte_places) os bs (waiting q)
     → code ≡ 0 → counts.operations ≡ length os → filled ≡ over os places → counts.bytes ≡ length bs → bytes ≡ over bs byte_places
     → TellsNext (untold volume p) (untold volume q) counts places filled byte_places bytes code
-told_waiting volume p q counts places filled byte_places bytes code os bs ends few place are waits done many put size texts =
-    let ops = p.waiting.items in
-    let rest = left volume p.place in
+told_ready volume p q counts places filled byte_places bytes code os bs few ends same are behind done many put size texts =
+    let ops = waiting p in
+    let rest = unread volume p in
     inr (
       ops,
       rest,
@@ -69,16 +68,16 @@ told_waiting volume p q counts places filled byte_places bytes code os bs ends f
       (few, none_left ops rest ends),
       done,
       put_out ops counts places filled byte_places bytes code os bs are done many put size texts,
-      subst (λ r. StaysToTell ops rest counts places byte_places (q.waiting.items ++ left volume r)) (sym place)
-          (stays ops rest q.waiting.items counts places byte_places os bs many size waits),
+      subst (λ later. StaysToTell ops rest counts places byte_places (waiting q ++ later)) (sym same)
+          (stays ops rest (waiting q) counts places byte_places os bs many size behind),
     )
 
 -- nothing was put out, for want of memory
 pub told_none : (volume : State) (p q : StatePlace) (counts : Counts) (places filled : List Operation) (byte_places bytes : List ℕ) (code : ℕ) (e : Fault)
-    → code ≡ fault_code e → e ≡ Refused OutOfMemory → q.place ≡ p.place → q.waiting.items ≡ p.waiting.items
+    → code ≡ fault_code e → e ≡ Refused OutOfMemory → unread volume q ≡ unread volume p → waiting q ≡ waiting p
     → TellsNext (untold volume p) (untold volume q) counts places filled byte_places bytes code
-told_none volume p q counts places filled byte_places bytes code e is none place waiting =
-    inl (is ∙ ap fault_code none, ap (λ (ws : List Op). ws ++ left volume q.place) waiting ∙ ap (λ r. p.waiting.items ++ left volume r) place)
+told_none volume p q counts places filled byte_places bytes code e is none same waits =
+    inl (is ∙ ap fault_code none, ap (λ (ws : List Op). ws ++ unread volume q) waits ∙ ap (λ later. waiting p ++ later) same)
 
 module _ (before mid still : List Op) (counts : Counts) (places filled : List Operation) (byte_places bytes : List ℕ) (code : ℕ) where
   -- the next list was told, at a pin
@@ -92,3 +91,8 @@ module _ (before mid still : List Op) (counts : Counts) (places filled : List Op
       → TellsState pin before still counts places filled byte_places bytes code
   state_untold {X} None e pinned same is = (inl (is ∙ ap (λ (r : Result X Fault). fault_code (fault_in r)) pinned), same)
   state_untold (Some n) e pinned same is = inl (is ∙ ap fault_code pinned, same)
+
+  -- there was no memory for the place itself
+  pub state_spent : (pin : Option ℕ) → still ≡ before → code ≡ 10 → TellsState pin before still counts places filled byte_places bytes code
+  state_spent None same ten = (inr ten, same)
+  state_spent (Some n) same ten = inl (ten, same)

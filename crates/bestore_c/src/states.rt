@@ -1,7 +1,7 @@
 //! The operations that make a version again, put out list by list.
-ghost use Rattle.std.specs.Prelude.{◌≡◌, ◌⊎◌, [], OnOk, true};
+ghost use Rattle.std.specs.Prelude.{◌≡◌, ◌⊎◌, ◌≤◌, [], OnOk, length, true};
 ghost use Rattle.be_store.specs.Passes.{HasRead, volume_pinned};
-ghost use Rattle.be_session.specs.States.{untold};
+ghost use Rattle.be_session.specs.States.{untold, waiting};
 ghost use Rattle.be_table.specs.Seats.{pinned_number};
 ghost use Rattle.be_volume.specs.Volume.{State};
 ghost use Rattle.bestore_c.specs.States.{TellsNext, TellsState, untold_at};
@@ -32,15 +32,15 @@ pub(crate) fn begin(alloc: Global, place: &mut PlaceHandle) -> Result<(), AllocE
     }
 }
 
-/// Puts out what waits at a place, as far as there is room; where that is all, it waits no more.
-fn tell_waiting(
+/// Puts out what is ready to be told at a place, as far as there is room. Where that is all, it is told now.
+fn tell_ready(
     alloc: Global,
     place: &mut StatePlace,
     counts: &mut Counts,
     operations: &mut [Operation],
     bytes: &mut [u8],
 ) -> u32
-    ensures told { (volume : State) → (place.old.waiting.items ≡ [] → untold volume place.old ≡ [])
+    ensures told { (volume : State) → length (waiting place.old) ≤ 64 → (waiting place.old ≡ [] → untold volume place.old ≡ [])
         → TellsNext (untold volume place.old) (untold volume place.new) counts.new operations.old operations.new bytes.old bytes.new result }
     ensures kept { (result ≡ 0) ⊎ ((counts.new ≡ counts.old) × (operations.new ≡ operations.old) × (bytes.new ≡ bytes.old)) }
 {
@@ -69,7 +69,7 @@ pub(crate) fn tell_state(
     ensures kept { (result ≡ 0) ⊎ ((counts.new ≡ counts.old) × (operations.new ≡ operations.old) × (bytes.new ≡ bytes.old)) }
 {
     match session.state(alloc, place) {
-        Ok(()) => tell_waiting(alloc, place, counts, operations, bytes),
+        Ok(()) => tell_ready(alloc, place, counts, operations, bytes),
         Err(fault) => fault.code(),
     }
 }
