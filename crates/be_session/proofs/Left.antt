@@ -1,5 +1,5 @@
 -- What is left when a list was read.
-use Rattle.std.proofs.Common.{◌≡◌, ◌≤◌, List, [], ◌++◌, length, ap, arith, refl, subst, sym, ◌∙◌}
+use Rattle.std.proofs.Common.{◌≡◌, List, [], ◌++◌, ap, sym, ◌∙◌}
 use Rattle.be_volume.specs.declared.ops.Op.{Op}
 
 -- nothing was ready: the list that was read is now, and the rest is unread
