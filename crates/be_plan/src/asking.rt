@@ -45,7 +45,11 @@ fn only_name(tree: &Tree) -> Option<&Name>
         Tree::Leaf(comparison) => Some(&comparison.name),
         Tree::And(a, b) => {
             let name = only_name(a)?;
-            if are_all_on(b, name) { Some(name) } else { None }
+            if are_all_on(b, name) {
+                Some(name)
+            } else {
+                None
+            }
         }
         Tree::Or(_, _) => None,
     }
