@@ -265,7 +265,8 @@ query name=="101*" && size>=1500 => 50 found, 6927 words read"#;
 #[test]
 fn write_costs(rt: HostRuntime) -> Result<(), Fail> {
     let rows =
-        "new;set 302 name CSTR 10150-copy.txt;set 302 size LONG 1505;set 302 kind CSTR image/png => 227 words stored, 10 pages taken, 773 words read
+        "new;set 302 name CSTR 10150-copy.txt;set 302 size LONG 1505;set 302 kind CSTR image/png \
+=> 227 words stored, 10 pages taken, 773 words read
 set 150 size LONG 1505 => 250 words stored, 9 pages taken, 487 words read
 set 150 kind CSTR image/png => 58 words stored, 4 pages taken, 215 words read
 set 150 kind CSTR text/plain => 55 words stored, 4 pages taken, 215 words read
