@@ -298,7 +298,7 @@ impl Store {
     }
 
     /// The next list of the operations that make the pinned version again on an empty store, 1 to 64, and none after the
-    /// last. A new `Place` stands before the first. The lists of one pin, from one place on, are put end to end be_state's
+    /// last. A new `Place` stands before the first. From there on the lists of one pin, put end to end, are be_state's
     /// `state_ops` of that version, and each but the last has 64. At another pin the place has no meaning: begin with a
     /// new one there.
     ///

@@ -174,6 +174,11 @@ impl Room {
         drop(self.second.move_out());
     }
 
+    /// The operations that make the version of pass 0 again.
+    fn state(&mut self, alloc: Global) -> Result<String, Refusal> {
+        state_text(&self.store, alloc, &mut self.first)
+    }
+
     fn watch(&mut self, alloc: Global, text: &str) -> Result<String, Refusal> {
         self.live = Some(Live::new(alloc, parse(alloc, text)?));
         Ok(String::from_str(alloc, "ok")?)
@@ -188,7 +193,7 @@ impl Room {
             "live" => self.watch(alloc, words),
             "seen" => seen_text(alloc, self.seen()),
             "meet" => met_text(alloc, self.meet()),
-            "state" => state_text(&self.store, alloc, &mut self.first),
+            "state" => self.state(alloc),
             _ => Err(Refusal::BadLimits),
         }
     }
