@@ -22,7 +22,7 @@ left_from s (Held node) = flat_map (held_ops s) (numbers_from s node)
 abbrev pub left : State → Place → List Op
 left s place = place.ready.items ++ left_from s place.step
 
--- the operations of the list that was given, seen by view, if one was
+-- the operations of the list that was given, seen by view; none where no list was
 abbrev pub given : {X E : Type 0} → (X → List Op) → Result (Option X) E → List Op
 given view (Ok list) = option_map_or view list []
 given view (Err e) = []
