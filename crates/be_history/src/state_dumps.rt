@@ -37,7 +37,8 @@ fn push_next(
     text: &mut String,
 ) -> Result<bool, AllocError>
     ensures whole { whole.new ≡ whole.old }
-    ensures text { OnOk result (string_bytes text.new ++ spec.cut_lines (left whole.old place.new) ≡ string_bytes text.old ++ spec.cut_lines (left whole.old place.old)) }
+    ensures text { OnOk result (string_bytes text.new ++ spec.cut_lines (left whole.old place.new)
+        ≡ string_bytes text.old ++ spec.cut_lines (left whole.old place.old)) }
     ensures can { OnOk result (All CanBeOp (left whole.old place.new) → All CanBeOp (left whole.old place.old)) }
     ensures fewer { IfOk result (λ more. more ≡ true → length (left whole.old place.new) < length (left whole.old place.old)) }
     ensures ends { IfOk result (λ more. more ≡ false → left whole.old place.new ≡ []) }

@@ -8,7 +8,7 @@ use Rattle.std.specs.Prelude.{⊤}
 use Rattle.std.specs.Result.{result_map_both}
 use Rattle.std.specs.declared.result.Result.{Result}
 use Rattle.std.specs.declared.result.Result.TheVariants.{Ok, Err}
-use Rattle.be_history.specs.Dump.{by_only_pass, cut, cut_within, dump, state_dump, write_lines}
+use Rattle.be_history.specs.Dump.{by_only_pass, cut, cut_lines, cut_within, dump, state_dump, write_lines}
 use Rattle.be_history.specs.History.{CanBeEntry, CanBeJournal, CanBeOp}
 use Rattle.be_history.proofs.CutLemmas.{few_lists}
 use Rattle.be_journal.specs.Journal.{Agrees, HasOperations, IsLegal, replay}
@@ -43,7 +43,8 @@ Alike (Err e) (Ok b) = ⊥
 Alike (Err e) (Err f) = ⊤
 
 step_alike : (old new : List Done) (r : Result (State × Done) Refusal) →
-    Alike (result_map_both (λ answer. (answer.0, old ++ answer.1 ∷ [])) (λ e. e) r) (result_map_both (λ answer. (answer.0, new ++ answer.1 ∷ [])) (λ e. e) r)
+    Alike (result_map_both (λ (answer : State × Done). (answer.0, old ++ answer.1 ∷ [])) (λ (e : Refusal). e) r)
+    (result_map_both (λ (answer : State × Done). (answer.0, new ++ answer.1 ∷ [])) (λ (e : Refusal). e) r)
 step_alike old new (Ok x) = refl
 step_alike old new (Err e) = tt
 
@@ -136,12 +137,15 @@ built (suc most) front (op ∷ ops) few legal ok can =
     let some : 1 ≤ length (take 64 (op ∷ ops)) = omega (arith, sizes) in
     let most_64 : length (take 64 (op ∷ ops)) ≤ 64 = omega (arith, sizes) in
     let each : length two.dones ≡ length list = answers_each (replay front) entry agrees in
-    let r = built most (front ++ entry ∷ []) rest (omega (arith, less, few)) (legal_push front entry legal agrees) (subst (λ (u : State). IsOk (steps u rest)) (sym after) two.back) (All-drop CanBeOp 64 (op ∷ ops) can) in
+    let accepted : IsOk (steps (replay (front ++ entry ∷ [])) rest) = subst (λ (u : State). IsOk (steps u rest)) (sym after) two.back in
+    let r : Built (front ++ entry ∷ []) (cut_within most rest) (state_after (replay (front ++ entry ∷ [])) rest) =
+    built most (front ++ entry ∷ []) rest (omega (arith, less, few)) (legal_push front entry legal agrees) accepted (All-drop CanBeOp 64 (op ∷ ops) can) in
     let parted : (front ++ entry ∷ []) ++ r.entries ≡ front ++ entry ∷ r.entries = append_assoc front (entry ∷ []) r.entries in
     record {
       entries = entry ∷ r.entries;
       legal = subst IsLegal parted r.legal;
-      volume = ap replay (sym parted) ∙ r.volume ∙ ap (λ (u : State). state_after u rest) after ∙ sym two.last ∙ ap (state_after (replay front)) whole;
+      volume = ap replay (sym parted) ∙ r.volume ∙ ap (λ (u : State). state_after u rest) after ∙ sym two.last
+          ∙ ap (λ (l : List Op). state_after (replay front) l) whole;
       can = All-cons HasWrite entry r.entries ((some, most_64, each), All-take CanBeOp 64 (op ∷ ops) can) r.can;
       lines = ap (λ (l : List ℕ). write_lines list ++ l) r.lines;
       count = ap suc r.count;
@@ -203,24 +207,28 @@ has_operations entry w = (w.is.1, All-weaker CanBeOp IsOperation (λ op can. can
 none_legal : IsLegal []
 none_legal i entry short is = absurd (omega (arith, short))
 
--- the script of a volume's state makes the volume
-pub state_dump_made : (limit : ℕ) (entries : List Entry) → CanBeJournal entries → All CanBeOp (state_ops (replay entries)) → length entries ≤ limit →
-    MakesVolume limit (state_dump (replay entries)) (replay entries) (length entries)
-state_dump_made limit entries are can short =
-    let s : State = replay entries in
-    let ops : List Op = state_ops (replay entries) in
-    let operations : All HasOperations entries = All-weaker CanBeEntry HasOperations has_operations entries are.0 in
-    let sound : IsSound (replay entries) = replay_sound entries operations (omega (arith, are.1)) in
-    let begins : IsNumbered (replay entries) = numbered empty entries empty_numbered in
-    let b : Built [] (cut (state_ops (replay entries))) (state_after empty (state_ops (replay entries))) =
-    built (length ops) [] ops (omega arith) none_legal (is_accepted (replay entries) sound begins) can in
-    let few : length (cut (state_ops (replay entries))) ≤ length entries = few_lists (length entries) ops (few_ops entries operations) in
-    let count : length b.entries ≡ length (cut (state_ops (replay entries))) = b.count in
+-- operations that the empty volume accepts make what they leave, where they are written in lists of 64
+list_made : (limit most : ℕ) (ops : List Op) (volume : State) → IsOk (steps empty ops) → state_after empty ops ≡ volume → All CanBeOp ops →
+    length ops ≤ 64 * most → most ≤ limit → MakesVolume limit (cut_lines ops) volume most
+list_made limit most ops volume accepted same can few short =
+    let b : Built [] (cut ops) (state_after empty ops) = built (length ops) [] ops (omega arith) none_legal accepted can in
+    let lists : length (cut ops) ≤ most = few_lists most ops few in
+    let count : length b.entries ≡ length (cut ops) = b.count in
     record {
       last = made limit b.entries;
       replies = dump_output 1 b.entries;
       output = subst (λ (text : List ℕ). IsOutputTo (start limit) text (made limit b.entries) (dump_output 1 b.entries)) b.lines
-          (writes_made limit b.entries b.can b.legal (omega (arith, few, count, short)));
-      volume_is = b.volume ∙ is_same (replay entries) sound begins;
-      few = omega (arith, few, count, length-map b.entries by_only_pass);
+          (writes_made limit b.entries b.can b.legal (omega (arith, lists, count, short)));
+      volume_is = b.volume ∙ same;
+      few = omega (arith, lists, count, length-map b.entries by_only_pass);
     }
+
+-- the script of a volume's state makes the volume
+pub state_dump_made : (limit : ℕ) (entries : List Entry) → CanBeJournal entries → All CanBeOp (state_ops (replay entries)) → length entries ≤ limit →
+    MakesVolume limit (state_dump (replay entries)) (replay entries) (length entries)
+state_dump_made limit entries are can short =
+    let operations : All HasOperations entries = All-weaker CanBeEntry HasOperations has_operations entries are.0 in
+    let sound : IsSound (replay entries) = replay_sound entries operations (omega (arith, are.1)) in
+    let begins : IsNumbered (replay entries) = numbered empty entries empty_numbered in
+    list_made limit (length entries) (state_ops (replay entries)) (replay entries) (is_accepted (replay entries) sound begins)
+    (is_same (replay entries) sound begins) can (few_ops entries operations) short

@@ -8,7 +8,10 @@ use Rattle.be_history.specs.History.{CanBeOp}
 use Rattle.be_history.proofs.state_dumps.entries_text.Goals as goal
 
 pub returns-clause-text : goal.returns-clause-text
-returns-clause-text c = subst (λ (v : State). IfOk c.volume_text.result (λ text. string_bytes text ≡ state_dump v)) c.in_ok-volume.ensures c.volume_text.ensures.text
+returns-clause-text c =
+    subst (λ (v : State). IfOk c.volume_text.result (λ text. string_bytes text ≡ state_dump v)) c.in_ok-volume.ensures
+    c.volume_text.ensures.text
 
 pub returns-clause-can : goal.returns-clause-can
-returns-clause-can c = subst (λ (v : State). OnOk c.volume_text.result (All CanBeOp (state_ops v))) c.in_ok-volume.ensures c.volume_text.ensures.can
+returns-clause-can c =
+    subst (λ (v : State). OnOk c.volume_text.result (All CanBeOp (state_ops v))) c.in_ok-volume.ensures c.volume_text.ensures.can

@@ -1,6 +1,6 @@
-use Rattle.std.proofs.Common.{◌≡◌, ◌<◌, ◌≤◌, ◌++◌, ◌∙◌, ℕ, List, [], length, sym, ap, subst, All}
+use Rattle.std.proofs.Common.{◌≡◌, ◌<◌, ◌≤◌, ◌++◌, ◌∙◌, List, [], length, sym, ap, subst, All}
 use Rattle.std.specs.String.{string_bytes}
-use Rattle.be_state.specs.Places.{given, left}
+use Rattle.be_state.specs.Places.{left}
 use Rattle.be_volume.specs.declared.ops.Op.{Op}
 use Rattle.be_history.specs.Dump.{cut_lines, write_lines}
 use Rattle.be_history.specs.History.{CanBeOp}
@@ -9,18 +9,21 @@ use Rattle.be_history.proofs.state_dumps.push_next.Goals as goal
 
 pub returns-in_default-clause-text : goal.returns-in_default-clause-text
 returns-in_default-clause-text c =
-    let is : left c.args.whole.now c.args.place.now ≡ left c.args.whole.now c.next_list.new.place = rw c.in_default.is at c.in_ok-ops.ensures.list in
+    let w = c.args.whole.now in
+    let is : left w c.args.place.now ≡ left w c.next_list.new.place = rw c.in_default.is at c.in_ok-ops.ensures.list in
     ap (λ (ops : List Op). string_bytes c.args.text.now ++ cut_lines ops) (sym is)
 
 pub returns-in_default-clause-can : goal.returns-in_default-clause-can
 returns-in_default-clause-can c = λ can.
-    let is : left c.args.whole.now c.args.place.now ≡ left c.args.whole.now c.next_list.new.place = rw c.in_default.is at c.in_ok-ops.ensures.list in
+    let w = c.args.whole.now in
+    let is : left w c.args.place.now ≡ left w c.next_list.new.place = rw c.in_default.is at c.in_ok-ops.ensures.list in
     subst (All CanBeOp) (sym is) can
 
 pub returns-in_default-clause-ends : goal.returns-in_default-clause-ends
 returns-in_default-clause-ends c = λ e.
-    let is : left c.args.whole.now c.args.place.now ≡ left c.args.whole.now c.next_list.new.place = rw c.in_default.is at c.in_ok-ops.ensures.list in
-    let none : left c.args.whole.now c.args.place.now ≡ [] = rw c.in_default.is at c.in_ok-ops.ensures.ends in
+    let w = c.args.whole.now in
+    let is : left w c.args.place.now ≡ left w c.next_list.new.place = rw c.in_default.is at c.in_ok-ops.ensures.list in
+    let none : left w c.args.place.now ≡ [] = rw c.in_default.is at c.in_ok-ops.ensures.ends in
     sym is ∙ none
 
 pub returns-clause-text : goal.returns-clause-text
@@ -36,14 +39,19 @@ returns-clause-text c =
     lines_step ops rest sizes.1 full (left w c.args.place.now) (string_bytes c.args.text.now) (string_bytes c.push_write.new.text) is sizes.0 pushed
 
 pub returns-clause-can : goal.returns-clause-can
-returns-clause-can c = λ can.
+returns-clause-can c = λ behind.
     let w = c.args.whole.now in
-    let is : left w c.args.place.now ≡ c.in-Some.ops.items ++ left w c.next_list.new.place = rw c.in-Some.is at c.in_ok-ops.ensures.list in
-    can_step (left w c.args.place.now) c.in-Some.ops.items (left w c.next_list.new.place) is (subst (All CanBeOp) c.as_slice.ensures.value c.in_ok-push_write.ensures.can) can
+    let ops = c.in-Some.ops.items in
+    let rest = left w c.next_list.new.place in
+    let is : left w c.args.place.now ≡ ops ++ rest = rw c.in-Some.is at c.in_ok-ops.ensures.list in
+    let can : All CanBeOp ops = subst (All CanBeOp) c.as_slice.ensures.value c.in_ok-push_write.ensures.can in
+    can_step (left w c.args.place.now) ops rest is can behind
 
 pub returns-clause-fewer : goal.returns-clause-fewer
 returns-clause-fewer c = λ more.
     let w = c.args.whole.now in
-    let is : left w c.args.place.now ≡ c.in-Some.ops.items ++ left w c.next_list.new.place = rw c.in-Some.is at c.in_ok-ops.ensures.list in
-    let sizes : (1 ≤ length c.in-Some.ops.items) × (length c.in-Some.ops.items ≤ 64) = rw c.in-Some.is at c.in_ok-ops.ensures.length in
-    fewer_left (left w c.args.place.now) c.in-Some.ops.items (left w c.next_list.new.place) is sizes.0
+    let ops = c.in-Some.ops.items in
+    let rest = left w c.next_list.new.place in
+    let is : left w c.args.place.now ≡ ops ++ rest = rw c.in-Some.is at c.in_ok-ops.ensures.list in
+    let sizes : (1 ≤ length ops) × (length ops ≤ 64) = rw c.in-Some.is at c.in_ok-ops.ensures.length in
+    fewer_left (left w c.args.place.now) ops rest is sizes.0
