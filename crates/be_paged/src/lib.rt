@@ -14,6 +14,7 @@
 //! the pages that the old version has and the new one lacks, and the other way round.
 #![tactic(auto)]
 
+mod asked;
 mod attributes;
 mod catalog;
 mod changes;
