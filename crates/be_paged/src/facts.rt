@@ -69,7 +69,7 @@ fn count_of<L: Look>(
 
 /// Whether it is known without a look that a node has no attribute: it has no number yet, or none was counted.
 fn is_bare(version: &Version, counted: Option<(u64, Option<usize>)>, node: u64) -> bool
-    ensures bare { result ≡ true → (volume : State) → IsSound volume → version.now.next ≡ volume.next → IsCounted counted volume →
+    ensures { result ≡ true → (volume : State) → IsSound volume → version.now.next ≡ volume.next → IsCounted counted volume →
         map.len (attributes_of volume.nodes node) ≡ 0 }
 {
     if node >= version.next {

@@ -72,6 +72,14 @@ same_name a b e = exact_bytes a b (tied (name_cmp a b) (sym (texts_ties a b) ∙
     tied Equal e = refl
     tied Greater e = cc
 
+-- what is remembered of an attribute is known of it
+pub known_is : (s : ℕ → Standing) (w : ℕ → ℕ → ℕ) (root node : ℕ) (name : List ℕ) (asked : Option Asked) (last : Asked) → asked ≡ Some last → last.node ≡ node → pointwise nat_eq last.name name ≡ true
+    → IsAsked s w root asked → IsFoundAt s w root (catalog_key node name) last.place
+known_is s w root node name asked last is of named told =
+    let found = subst (IsAsked s w root) is told in
+    let key = ap (λ (n : ℕ). catalog_key n last.name) of ∙ ap (catalog_key node) (same_name last.name name named) in
+    subst (λ (k : List ℕ). IsFoundAt s w root k last.place) key found
+
 none_some : {A : Type 0} (x : Pair) → None ≡ Some x → A
 none_some x e = absurd (clash e)
   where

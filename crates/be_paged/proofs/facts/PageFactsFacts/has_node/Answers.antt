@@ -5,7 +5,7 @@ use Rattle.be_paged.proofs.CatalogPairs.FactValues.{facts_since}
 use Rattle.be_paged.proofs.facts.PageFactsFacts.has_node.Goals as goal
 
 pub returns-clause-answer : goal.returns-clause-answer
-returns-clause-answer g c = λ volume of. c.is_some.ensures.value ∙ ap is_some (c.count_of.ensures.count volume of.told of.counted_is) ∙ count_there volume.nodes c.args.node
+returns-clause-answer g c = λ volume of. c.is_some.ensures ∙ ap is_some (c.count_of.ensures.count volume of.told of.counted_is) ∙ count_there volume.nodes c.args.node
 
 pub returns-clause-answers : goal.returns-clause-answers
 returns-clause-answers g c = λ volume of.
