@@ -1,5 +1,5 @@
 -- Where attributes stand in the catalog's tree, as look-ups and walks find them.
-use Rattle.std.proofs.Common.{◌≡◌, ℕ, ◌+◌, ◌≤◌, Bool, true, false, cond, List, [], ◌∷◌, ◌||◌, drop, length, IsTrue, Some, None, Ok, is_some, ap, sym, subst, ◌∙◌, refl}
+use Rattle.std.proofs.Common.{◌≡◌, ℕ, ◌+◌, ◌≤◌, Bool, true, false, cond, List, [], ◌∷◌, drop, IsTrue, Some, None, is_some, ap, sym, subst, ◌∙◌, refl}
 use Rattle.std.specs.List.{slice_get}
 use Rattle.std.specs.Option.{IfSome, IfNone, option_or}
 use Rattle.std.specs.Ordering.{is_eq, eq_by_cmp}
@@ -8,14 +8,8 @@ use Rattle.std.specs.Cmp.Lexicographic.{pointwise, texts_ties}
 use Rattle.std.specs.declared.cmp.Ordering.{Ordering}
 use Rattle.std.specs.declared.cmp.Ordering.TheVariants.{Less, Equal, Greater}
 use Rattle.std.specs.declared.option.Option.{Option}
-use Rattle.std.specs.declared.result.Result.{Result}
-use Rattle.std.specs.declared.result.Result.TheVariants.{Err}
-use Rattle.std.specs.Prelude.{nat_eq, nat_lt}
-use Rattle.std.specs.Result.{result_ok}
+use Rattle.std.specs.Prelude.{nat_eq}
 use Rattle.std.proofs.lemmas.Map.Lookups.{exact_bytes}
-use Rattle.be_value.specs.Name.{has_nul, name_from}
-use Rattle.be_value.specs.declared.refusals.Refusal.{Refusal}
-use Rattle.be_value.specs.declared.refusals.Refusal.TheVariants.{HasNul, NameLength}
 use Rattle.be_pages.specs.declared.room.Standing.{Standing}
 use Rattle.be_pages.specs.Pages.{is_readable}
 use Rattle.be_tree.specs.Key.{key_cmp, payload_at}
@@ -52,16 +46,6 @@ place_found s t v w root key (Some at) standing words none some readable in_page
 pub asked_or : (s : ℕ → Standing) (w : ℕ → ℕ → ℕ) (root : ℕ) (asked : Option Asked) (last : Asked) → IsAsked s w root asked → IsFoundAt s w root (catalog_key last.node last.name) last.place → IsAsked s w root (option_or asked (Some last))
 asked_or s w root None last first second = second
 asked_or s w root (Some a) last first second = first
-
--- the name that a text makes is the text
-pub name_kept : (text bytes : List ℕ) (made : Result (List ℕ) Refusal) (name : Option (List ℕ)) → name ≡ result_ok made → made ≡ name_from text → text ≡ bytes → IfSome name (λ n. n ≡ bytes)
-name_kept text bytes made name is from same =
-    subst (λ (o : Option (List ℕ)). IfSome o (λ n. n ≡ bytes)) (sym (is ∙ ap result_ok from)) (by (nat_lt (length text) 1 || nat_lt 63 (length text)) (has_nul text))
-  where
-    by : (long nul : Bool) → IfSome (result_ok (cond {A = Result (List ℕ) Refusal} long (Err NameLength) (cond nul (Err HasNul) (Ok text)))) (λ n. n ≡ bytes)
-    by true nul = tt
-    by false true = tt
-    by false false = same
 
 -- names that are the same byte by byte
 pub same_name : (a b : List ℕ) → pointwise nat_eq a b ≡ true → a ≡ b

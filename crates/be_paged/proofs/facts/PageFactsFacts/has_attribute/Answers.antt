@@ -20,5 +20,5 @@ returns-clause-answers g c = λ volume of.
     let same = c.attribute_place-place.ensures.unchanged in
     let last : Asked = record { node = c.args.node; name = c.args.name.now; place = c.attribute_place-place.result } in
     subst (λ (asked : Option Asked). FactsOf (g.L.Look.standing look) (g.L.Look.words look) (contents self.version.now) self.counted asked volume) (sym c.remember.ensures)
-    (facts_asked (g.L.Look.standing self.look.now) (g.L.Look.standing look) (g.L.Look.words self.look.now) (g.L.Look.words look) (contents self.version.now) self.counted self.asked last volume
+    (facts_asked (g.L.Look.standing self.look.now) (g.L.Look.standing look) (g.L.Look.words self.look.now) (g.L.Look.words look) (contents self.version.now) self.counted self.asked.now last volume
     same.standing same.words of c.attribute_place-place.ensures.found)
