@@ -1,7 +1,6 @@
 use Rattle.std.proofs.Common.{◌≡◌, ℕ, None, ap, sym, subst, rules}
 use Rattle.std.specs.declared.option.Option.{Option}
 use base.Fml.{GName}
-use borrow.Author.Rules.{lives}
 use Rattle.be_pages.specs.declared.room.Standing.{Standing}
 use Rattle.be_paged.specs.Facts.{AnswersFor, FactsOf}
 use Rattle.be_paged.specs.Page.{contents}
@@ -16,7 +15,7 @@ first_refusal-requires g c =
     let told : AnswersFor s w (contents c.args.version.now) g.volume = search rules in
     let asked : IsAsked s w c.args.version.now.catalog c.args.asked.now = search rules in
     let of : FactsOf s w (contents c.args.version.now) None c.args.asked.now g.volume = record { told = told; counted_is = tt; asked_is = asked } in
-    λ k o. (search (lives, o), (of, search rules))
+    λ k o. (search (rules, o) fits 20000 depth 60, (of, search rules))
 
 since : {S : Type 0} (P : S → Option Asked → Type 0) (x : S) (a : Option Asked) (y : S) (b : Option Asked) → y ≡ x → b ≡ a → P x a → P y b
 since P x a y b p q h = subst (λ z. P z b) (sym p) (subst (λ d. P x d) (sym q) h)
