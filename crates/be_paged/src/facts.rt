@@ -28,7 +28,7 @@ pub(crate) struct PageFacts<'a, L: Look> {
     pub(crate) look: &'a mut L,
     pub(crate) version: &'a Version,
     pub(crate) counted: Option<(u64, Option<usize>)>,
-    pub(crate) asked: Option<Asked>,
+    pub(crate) asked: &'a mut Option<Asked>,
 }
 
 /// How many attributes a node has, if it is there, by a look. A node that has no number yet isn't looked for.
@@ -69,7 +69,7 @@ fn count_of<L: Look>(
 
 /// Whether it is known without a look that a node has no attribute: it has no number yet, or none was counted.
 fn is_bare(version: &Version, counted: Option<(u64, Option<usize>)>, node: u64) -> bool
-    ensures bare { result ≡ true → (volume : State) → IsSound volume → version.now.next ≡ volume.next → IsCounted counted volume →
+    ensures { result ≡ true → (volume : State) → IsSound volume → version.now.next ≡ volume.next → IsCounted counted volume →
         map.len (attributes_of volume.nodes node) ≡ 0 }
 {
     if node >= version.next {
@@ -88,11 +88,11 @@ impl<L: Look> Facts for PageFacts<'_, L> {
     ghost use Rattle.be_paged.specs.Page.{contents};
     ghost use Rattle.be_paged.specs.Facts.{FactsOf};
 
-    ghost Kept = { GName × (L.Kept × ((ℕ → Stands) × ((ℕ → ℕ → ℕ) × ℕ))) };
+    ghost Kept = { (GName × GName) × (L.Kept × ((ℕ → Stands) × ((ℕ → ℕ → ℕ) × ℕ))) };
 
-    ghost kept = { λ f. (f.look.ghost_name, (L.kept f.look.now, (L.standing f.look.now, (L.words f.look.now, f.version.now.catalog)))) };
+    ghost kept = { λ f. ((f.look.ghost_name, f.asked.ghost_name), (L.kept f.look.now, (L.standing f.look.now, (L.words f.look.now, f.version.now.catalog)))) };
 
-    ghost answers_for = { λ f volume. FactsOf (L.standing f.look.now) (L.words f.look.now) (contents f.version.now) f.counted f.asked volume };
+    ghost answers_for = { λ f volume. FactsOf (L.standing f.look.now) (L.words f.look.now) (contents f.version.now) f.counted f.asked.now volume };
 
     fn next(&mut self) -> u64 {
         self.version.next
@@ -107,7 +107,7 @@ impl<L: Look> Facts for PageFacts<'_, L> {
             return false;
         }
         let place = attribute_place(self.look, self.version.catalog, node, name);
-        remember(&mut self.asked, node, name, place);
+        remember(self.asked, node, name, place);
         place.is_some()
     }
 

@@ -22,7 +22,7 @@ use be_value::Refusal;
 use be_volume::{Done, Op, first_refusal};
 
 /// The refusal, from NoNode to NotIndexable, that the list meets, if it meets one. It is found from the list and the old
-/// version, and nothing changes. `asked` gets the attribute that was looked for first, if one was.
+/// version, and nothing changes. `asked` gets the attribute that was looked for first, unless it has one.
 fn refusal<L: Look>(
     look: &mut L,
     version: &Version,
@@ -31,6 +31,7 @@ fn refusal<L: Look>(
 ) -> Option<Refusal>
     ghost volume: { State }
     requires answers { AnswersFor (L.standing look.old) (L.words look.old) (contents version.now) volume }
+    requires asked { IsAsked (L.standing look.old) (L.words look.old) version.now.catalog asked.old }
     requires fits { volume.next + length ops.now < 2 ^ 64 }
     ensures answer { result ≡ result_err (steps volume ops.now) }
     ensures asked { IsAsked (L.standing look.new) (L.words look.new) version.now.catalog asked.new }
@@ -40,11 +41,9 @@ fn refusal<L: Look>(
         look,
         version,
         counted: None,
-        asked: None,
+        asked,
     };
-    let refusal = first_refusal(&mut facts, ops);
-    *asked = facts.asked;
-    refusal
+    first_refusal(&mut facts, ops)
 }
 
 /// Writes a version page.

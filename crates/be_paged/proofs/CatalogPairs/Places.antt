@@ -1,24 +1,18 @@
 -- Where attributes stand in the catalog's tree, as look-ups and walks find them.
-use Rattle.std.proofs.Common.{◌≡◌, ℕ, ◌+◌, ◌≤◌, Bool, true, false, cond, List, [], ◌∷◌, ◌||◌, drop, length, IsTrue, Some, None, Ok, is_some, ap, sym, subst, ◌∙◌, refl}
+use Rattle.std.proofs.Common.{◌≡◌, ℕ, ◌+◌, ◌≤◌, Bool, true, false, cond, List, [], ◌∷◌, drop, IsTrue, Some, None, is_some, ap, sym, subst, ◌∙◌, refl}
 use Rattle.std.specs.List.{slice_get}
 use Rattle.std.specs.Option.{IfSome, IfNone, option_or}
-use Rattle.std.specs.Ordering.{is_eq, eq_by_cmp}
+use Rattle.std.specs.Ordering.{is_eq}
 use Rattle.std.specs.Cmp.{tied_itself}
 use Rattle.std.specs.Cmp.Lexicographic.{pointwise, texts_ties}
 use Rattle.std.specs.declared.cmp.Ordering.{Ordering}
 use Rattle.std.specs.declared.cmp.Ordering.TheVariants.{Less, Equal, Greater}
 use Rattle.std.specs.declared.option.Option.{Option}
-use Rattle.std.specs.declared.result.Result.{Result}
-use Rattle.std.specs.declared.result.Result.TheVariants.{Err}
-use Rattle.std.specs.Prelude.{nat_eq, nat_lt}
-use Rattle.std.specs.Result.{result_ok}
+use Rattle.std.specs.Prelude.{nat_eq}
 use Rattle.std.proofs.lemmas.Map.Lookups.{exact_bytes}
-use Rattle.be_value.specs.Name.{has_nul, name_from}
-use Rattle.be_value.specs.declared.refusals.Refusal.{Refusal}
-use Rattle.be_value.specs.declared.refusals.Refusal.TheVariants.{HasNul, NameLength}
 use Rattle.be_pages.specs.declared.room.Standing.{Standing}
 use Rattle.be_pages.specs.Pages.{is_readable}
-use Rattle.be_tree.specs.Key.{key_cmp, payload_at}
+use Rattle.be_tree.specs.Key.{payload_at}
 use Rattle.be_tree.specs.Page.{IsItem, item_at}
 use Rattle.be_tree.specs.Pair.{Pair}
 use Rattle.be_tree.specs.Range.{is_from, pairs_from}
@@ -53,16 +47,6 @@ pub asked_or : (s : ℕ → Standing) (w : ℕ → ℕ → ℕ) (root : ℕ) (as
 asked_or s w root None last first second = second
 asked_or s w root (Some a) last first second = first
 
--- the name that a text makes is the text
-pub name_kept : (text bytes : List ℕ) (made : Result (List ℕ) Refusal) (name : Option (List ℕ)) → name ≡ result_ok made → made ≡ name_from text → text ≡ bytes → IfSome name (λ n. n ≡ bytes)
-name_kept text bytes made name is from same =
-    subst (λ (o : Option (List ℕ)). IfSome o (λ n. n ≡ bytes)) (sym (is ∙ ap result_ok from)) (by (nat_lt (length text) 1 || nat_lt 63 (length text)) (has_nul text))
-  where
-    by : (long nul : Bool) → IfSome (result_ok (cond {A = Result (List ℕ) Refusal} long (Err NameLength) (cond nul (Err HasNul) (Ok text)))) (λ n. n ≡ bytes)
-    by true nul = tt
-    by false true = tt
-    by false false = same
-
 -- names that are the same byte by byte
 pub same_name : (a b : List ℕ) → pointwise nat_eq a b ≡ true → a ≡ b
 same_name a b e = exact_bytes a b (tied (name_cmp a b) (sym (texts_ties a b) ∙ e))
@@ -71,6 +55,14 @@ same_name a b e = exact_bytes a b (tied (name_cmp a b) (sym (texts_ties a b) ∙
     tied Less e = cc
     tied Equal e = refl
     tied Greater e = cc
+
+-- what is remembered of an attribute is known of it
+pub known_is : (s : ℕ → Standing) (w : ℕ → ℕ → ℕ) (root node : ℕ) (name : List ℕ) (asked : Option Asked) (last : Asked) → asked ≡ Some last → last.node ≡ node → pointwise nat_eq last.name name ≡ true
+    → IsAsked s w root asked → IsFoundAt s w root (catalog_key node name) last.place
+known_is s w root node name asked last is of named told =
+    let found = subst (IsAsked s w root) is told in
+    let key = ap (λ (n : ℕ). catalog_key n last.name) of ∙ ap (catalog_key node) (same_name last.name name named) in
+    subst (λ (k : List ℕ). IsFoundAt s w root k last.place) key found
 
 none_some : {A : Type 0} (x : Pair) → None ≡ Some x → A
 none_some x e = absurd (clash e)

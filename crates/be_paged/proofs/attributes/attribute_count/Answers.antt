@@ -6,6 +6,7 @@ use Rattle.be_tree.specs.Key.{key_cmp}
 use Rattle.be_tree.specs.Tree.{pairs}
 use Rattle.be_tree.proofs.Trees.{tree_rising}
 use Rattle.be_paged.proofs.Asking.Counting.{counted_behind, none_at_end, none_elsewhere}
+use Rattle.be_paged.proofs.Asking.Walks.{cursor_since}
 use Rattle.be_paged.proofs.attributes.attribute_count.Goals as goal
 
 pub returns-in_err-page-clause-count : goal.returns-in_err-page-clause-count
@@ -27,6 +28,15 @@ returns-then-not-is_key_at-clause-count g c = λ nodes catalog valid few.
     let same = c.is_key_at.ensures.same ∙ ap (λ (w : ℕ → ℕ → ℕ). is_eq (key_cmp (item_at (w c.in_ok-page.page) c.in_ok-page.at).key c.to_be_bytes-mark.result)) c.in_ok-page.ensures.unchanged.words in
     none_elsewhere (pairs v c.args.catalog) nodes c.args.node c.to_be_bytes-mark.result c.ranges.node.fits c.to_be_bytes-mark.ensures rising catalog (remaining seen c.seek.new.self) item c.is_key_at.result
     start c.in_ok-page.ensures.item same c.if-not-is_key_at.true
+
+pub count_rest-requires : goal.count_rest-requires
+count_rest-requires g c =
+    let first = c.in_ok-page.ensures.unchanged in
+    let last = c.is_key_at.ensures.unchanged in
+    record {
+      cursor = cursor_since (g.L.Look.standing c.seek.new.look) (g.L.Look.standing c.is_key_at.new.look) (g.L.Look.words c.seek.new.look) (g.L.Look.words c.is_key_at.new.look) c.step.new.self
+          (last.standing ∙ first.standing) (last.words ∙ first.words) c.in_ok-page.ensures.cursor;
+    }
 
 pub returns-clause-count : goal.returns-clause-count
 returns-clause-count g c = λ nodes catalog valid few.

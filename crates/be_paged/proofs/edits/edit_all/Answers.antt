@@ -20,6 +20,9 @@ loop-op-init g c = record {
   asked = c.requires.asked;
 }
 
+pub edit-requires-clause-asked : goal.edit-requires-clause-asked
+edit-requires-clause-asked g c = c.loop-op.invariant.asked
+
 pub loop-op-preserved : goal.loop-op-preserved
 loop-op-preserved g c =
     let few : length c.args.ops.now ≤ 64 = c.requires.few in

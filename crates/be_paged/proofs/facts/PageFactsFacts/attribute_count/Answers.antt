@@ -13,5 +13,5 @@ returns-clause-answers g c = λ volume of.
     let self = c.args.self.now in
     let look = c.count_of.new.look in
     let same = c.count_of.ensures.unchanged in
-    facts_since (g.L.Look.standing self.look.now) (g.L.Look.standing look) (g.L.Look.words self.look.now) (g.L.Look.words look) (contents self.version.now) self.counted c.count_of.new.counted self.asked volume
+    facts_since (g.L.Look.standing self.look.now) (g.L.Look.standing look) (g.L.Look.words self.look.now) (g.L.Look.words look) (contents self.version.now) self.counted c.count_of.new.counted self.asked.now volume
     same.standing same.words of (c.count_of.ensures.counted volume of.told of.counted_is)

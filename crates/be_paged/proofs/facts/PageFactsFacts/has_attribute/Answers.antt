@@ -8,10 +8,10 @@ use Rattle.be_paged.proofs.facts.PageFactsFacts.has_attribute.Goals as goal
 
 pub returns-then-is_bare-clause-answer : goal.returns-then-is_bare-clause-answer
 returns-then-is_bare-clause-answer g c = λ volume of.
-    sym (no_attribute volume.nodes c.args.node c.args.name.now (c.is_bare.ensures.bare c.if-is_bare.true volume of.told.sound of.told.spells.next of.counted_is))
+    sym (no_attribute volume.nodes c.args.node c.args.name.now (c.is_bare.ensures c.if-is_bare.true volume of.told.sound of.told.spells.next of.counted_is))
 
 pub returns-clause-answer : goal.returns-clause-answer
-returns-clause-answer g c = λ volume of. c.is_some.ensures.value ∙ c.attribute_place-place.ensures.there volume.nodes of.told.spells.catalog
+returns-clause-answer g c = λ volume of. c.is_some.ensures ∙ c.attribute_place-place.ensures.there volume.nodes of.told.spells.catalog
 
 pub returns-clause-answers : goal.returns-clause-answers
 returns-clause-answers g c = λ volume of.
@@ -20,5 +20,5 @@ returns-clause-answers g c = λ volume of.
     let same = c.attribute_place-place.ensures.unchanged in
     let last : Asked = record { node = c.args.node; name = c.args.name.now; place = c.attribute_place-place.result } in
     subst (λ (asked : Option Asked). FactsOf (g.L.Look.standing look) (g.L.Look.words look) (contents self.version.now) self.counted asked volume) (sym c.remember.ensures)
-    (facts_asked (g.L.Look.standing self.look.now) (g.L.Look.standing look) (g.L.Look.words self.look.now) (g.L.Look.words look) (contents self.version.now) self.counted self.asked last volume
+    (facts_asked (g.L.Look.standing self.look.now) (g.L.Look.standing look) (g.L.Look.words self.look.now) (g.L.Look.words look) (contents self.version.now) self.counted self.asked.now last volume
     same.standing same.words of c.attribute_place-place.ensures.found)
