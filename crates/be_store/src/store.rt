@@ -319,9 +319,9 @@ impl Store {
         ensures ends { IfOk result (λ list. IfNone list (left (volume_pinned pass.old.knows) place.old ≡ [])) }
         ensures wanted { IfErr result (λ e. e ≡ OutOfMemory) }
     {
-        let (look, page) = self.reader(pass);
-        let (look, list) = read_on(alloc, look, page, place);
-        *pass = look.into_seat();
+        let (reader, page) = self.reader(pass);
+        let (reader, list) = read_on(alloc, reader, page, place);
+        *pass = reader.into_seat();
         Ok(list?)
     }
 

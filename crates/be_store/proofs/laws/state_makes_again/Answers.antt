@@ -1,4 +1,4 @@
-use Rattle.be_store.proofs.States.{accepted, same}
+use Rattle.be_store.proofs.Remade.{accepted, same}
 use Rattle.be_store.proofs.laws.state_makes_again.Goals as goal
 
 pub returns-clause-accepted : goal.returns-clause-accepted
