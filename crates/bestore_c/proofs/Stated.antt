@@ -87,10 +87,10 @@ module _ (before mid still : List Op) (counts : Counts) (places filled : List Op
   state_told (Some n) x meant pinned same told = subst (λ l. TellsNext l still counts places filled byte_places bytes code) same told
 
   -- there was no pin, or no memory
-  pub state_untold : {X : Type 0} (pin : Option ℕ) (e : Fault) → AtPin {X = X} pin (Err e) (e ≡ Refused OutOfMemory) → still ≡ before → code ≡ fault_code e
+  pub state_untold : (X : Type 0) (pin : Option ℕ) (e : Fault) → AtPin {X = X} pin (Err e) (e ≡ Refused OutOfMemory) → still ≡ before → code ≡ fault_code e
       → TellsState pin before still counts places filled byte_places bytes code
-  state_untold {X} None e pinned same is = (inl (is ∙ ap (λ (r : Result X Fault). fault_code (fault_in r)) pinned), same)
-  state_untold (Some n) e pinned same is = inl (is ∙ ap fault_code pinned, same)
+  state_untold X None e pinned same is = (inl (is ∙ ap (λ (r : Result X Fault). fault_code (fault_in r)) pinned), same)
+  state_untold X (Some n) e pinned same is = inl (is ∙ ap fault_code pinned, same)
 
   -- there was no memory for the place itself
   pub state_spent : (pin : Option ℕ) → still ≡ before → code ≡ 10 → TellsState pin before still counts places filled byte_places bytes code

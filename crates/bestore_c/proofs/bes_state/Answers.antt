@@ -1,4 +1,4 @@
-use Rattle.std.proofs.Common.{◌≡◌, Some, ap, refl, subst, sym, true, ◌∙◌}
+use Rattle.std.proofs.Common.{◌≡◌, [], Some, ap, refl, subst, sym, true, ◌∙◌}
 use Rattle.std.specs.Prelude.{is_some}
 use Rattle.be_session.specs.States.{untold}
 use Rattle.be_store.specs.Passes.{HasRead, volume_pinned}
@@ -8,13 +8,13 @@ use Rattle.bestore_c.proofs.Called.{called, stays}
 use Rattle.bestore_c.proofs.Stated.{state_spent}
 use Rattle.bestore_c.proofs.bes_state.Goals as goal
 
-pub returns-in-Err-clause-pass : goal.returns-in-Err-clause-pass
-returns-in-Err-clause-pass c =
+pub returns-in_default-clause-pass : goal.returns-in_default-clause-pass
+returns-in_default-clause-pass c =
     let open_is : c.args.pass.now.live ≡ is_some c.args.pass.now.owned.value = c.args.pass.now.full in
     let full : is_some c.args.pass.now.owned.value ≡ true = sym open_is ∙ c.if-not-pass.false in
     stays c.args.pass.now.owned.value _ _ full (λ s. (
       refl,
-      state_spent _ _ _ _ _ _ _ _ (pinned_number s.knows.phase) (c.begin.ensures.same (volume_pinned s.knows)) refl,
+      state_spent _ [] _ _ _ _ _ _ _ (pinned_number s.knows.phase) (c.begin.ensures.same (volume_pinned s.knows)) refl,
     ))
 
 pub returns-clause-pass : goal.returns-clause-pass

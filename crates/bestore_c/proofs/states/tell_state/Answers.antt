@@ -18,5 +18,5 @@ pub returns-in-Err-clause-told : goal.returns-in-Err-clause-told
 returns-in-Err-clause-told c =
     let volume = volume_pinned c.args.session.now.knows in
     state_untold (untold volume c.args.place.now) (untold volume c.args.place.now) (untold volume c.state.new.place) c.args.counts.now
-    c.args.operations.now c.args.operations.now c.args.bytes.now c.args.bytes.now _
+    c.args.operations.now c.args.operations.now c.args.bytes.now c.args.bytes.now _ _
     (pinned_number c.args.session.now.knows.phase) c.in-Err.fault c.in-Err.ensures.err c.in-Err.ensures.same c.code.ensures
