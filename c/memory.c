@@ -33,6 +33,7 @@ void *__wrap_realloc(void *old, size_t size)
 
 static bes_pass mine, theirs, opened;
 static bes_prepared by_text, by_items, kept;
+static bes_place place;
 
 /* What calls put out. */
 typedef struct outs {
@@ -67,6 +68,11 @@ static uint32_t call_refresh(void) { return bes_refresh(&mine, &kept, &out.updat
 static uint32_t call_explain(void) { return bes_explain(&mine, query, sizeof query - 1, out.bytes, 64, &out.count); }
 static uint32_t call_attributes(void) { return bes_attributes(&mine, 1, &out.counts, out.listed, 4, out.bytes, 64); }
 static uint32_t call_indices(void) { return bes_indices(&mine, &out.counts, out.listed, 4, out.bytes, 64); }
+static uint32_t call_state(void)
+{
+    bes_leave(&place);
+    return bes_state(&mine, &place, &out.counts, out.listed, 4, out.bytes, 64);
+}
 static uint32_t call_journal(void) { return bes_journal(&mine, out.bytes, 64, &out.count); }
 static uint32_t call_nodes(void) { return bes_nodes(&mine, 0, out.nodes, 4, &out.count); }
 static uint32_t call_status(void) { return bes_status(&mine, &out.usage, &out.number); }
@@ -111,7 +117,7 @@ static void refuse_all(void)
 {
     uint32_t (*const with_requests[])(void) = {
         call_another, call_prepare, call_prepare_items, call_query, call_items, call_prepared, call_explain, call_attributes,
-        call_indices, call_nodes, call_journal, call_apply, call_retry
+        call_indices, call_nodes, call_state, call_journal, call_apply, call_retry
     };
     uint32_t (*const without[])(void) = {call_changes, call_get, call_status, call_unpin, call_pin, call_move};
     CHECK(bes_open(64, 2, 100, &mine) == BES_OK);
@@ -125,6 +131,53 @@ static void refuse_all(void)
     CHECK(out.number == 6 && out.nodes[0] == 3);
     for (size_t i = 0; i < sizeof without / sizeof *without; i++)
         CHECK(refuse_each(without[i]) == 0);
+}
+
+enum { MADE = 100, MOST = 4 * MADE };
+
+/* Reads a whole state, with this request refused of each first try to read a list. Answers how many operations there were, and how
+ * many tries were in vain. */
+static size_t read_state(bes_pass *pass, unsigned request, bes_operation *told, unsigned *vain)
+{
+    static bes_batch batch;
+    size_t count = 0;
+    *vain = 0;
+    do {
+        uint32_t answer;
+        requests = 0;
+        refused = request;
+        answer = bes_batch_state(pass, &place, &batch);
+        refused = 0;
+        if (answer != BES_OK) {
+            CHECK(answer == BES_NO_MEMORY && batch.count == 0);
+            ++*vain;
+            CHECK(bes_batch_state(pass, &place, &batch) == BES_OK);
+        }
+        CHECK(count + batch.count <= MOST);
+        memcpy(told + count, batch.operations, batch.count * sizeof *told);
+        count += batch.count;
+    } while (batch.count > 0);
+    CHECK(bes_leave(&place) == BES_OK);
+    return count;
+}
+
+/* No operation is lost, or told twice, where memory is refused between two lists. */
+static void refuse_between_lists(void)
+{
+    static bes_operation plain[MOST], told[MOST];
+    bes_pass pass = BES_PASS_INIT;
+    uint64_t number = 0;
+    unsigned vain = 0;
+    size_t count;
+    CHECK(bes_open(256, 1, 1000, &pass) == BES_OK && bes_make_index(&pass, "size", BES_INT64_TYPE) == BES_OK);
+    for (int64_t i = 1; i <= MADE; i++)
+        CHECK(bes_new_node(&pass, &number) == BES_OK && bes_set_int64(&pass, number, i % 2 == 0 ? "size" : "n", i) == BES_OK);
+    CHECK(bes_pin(&pass, &number) == BES_OK);
+    count = read_state(&pass, 0, plain, &vain);
+    CHECK(count == 1 + 2 * MADE && vain == 0);
+    for (unsigned request = 1; request == 1 || vain > 0; request++)
+        CHECK(read_state(&pass, request, told, &vain) == count && memcmp(plain, told, count * sizeof *plain) == 0);
+    CHECK(bes_close(&pass) == BES_OK);
 }
 
 static unsigned accepted, busy;
@@ -165,6 +218,8 @@ int main(void)
 {
     memset(&untouched, 7, sizeof untouched);
     refuse_all();
+    CHECK(bes_leave(&place) == BES_OK);
+    refuse_between_lists();
     meet_busy();
     CHECK(bes_release(&kept) == BES_OK && bes_release(&by_text) == BES_OK && bes_release(&by_items) == BES_OK);
     /* A pass that was given back isn't lost where there is no memory for its handle. */

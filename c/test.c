@@ -536,6 +536,47 @@ static void nodes_by_number(void)
     CHECK(bes_close(&pass) == BES_OK);
 }
 
+enum { MOST_BYTES = 64 * (63 + 255) };
+
+/* The operations that make a version again. What has no room for all is told again. */
+static void states(void)
+{
+    static const uint8_t expected[] = "nameannsizesize";
+    static bes_batch batch;
+    static uint8_t bytes[MOST_BYTES];
+    bes_pass pass = BES_PASS_INIT, next = BES_PASS_INIT;
+    bes_place place = BES_PLACE_INIT;
+    bes_counts counts = {7, 7};
+    bes_operation listed[64];
+    uint64_t number = 0, made[64] = {7};
+    memset(listed, 7, sizeof listed);
+    CHECK(bes_state(&pass, &place, &counts, listed, 64, bytes, MOST_BYTES) == BES_CLOSED && counts.operations == 7);
+    CHECK(bes_leave(&place) == BES_CLOSED && bes_open(64, 1, 100, &pass) == BES_OK && bes_open(64, 1, 100, &next) == BES_OK);
+    CHECK(bes_state(&pass, &place, &counts, listed, 64, bytes, MOST_BYTES) == BES_NOT_PINNED && counts.bytes == 7);
+    CHECK(bes_pin(&pass, &number) == BES_OK);
+    CHECK(bes_state(&pass, &place, &counts, listed, 64, bytes, MOST_BYTES) == BES_OK && counts.operations == 0 && counts.bytes == 0);
+    CHECK(listed[0].kind == 0x07070707 && bes_unpin(&pass) == BES_OK);
+    CHECK(bes_leave(&place) == BES_OK && bes_leave(&place) == BES_CLOSED);
+    bes_batch_clear(&batch);
+    CHECK(bes_batch_new_node(&batch) == BES_OK && bes_batch_new_node(&batch) == BES_OK);
+    CHECK(bes_batch_set_text(&batch, 1, "name", "ann") == BES_OK && bes_batch_remove_node(&batch, 2) == BES_OK);
+    CHECK(bes_batch_make_index(&batch, "size", BES_UINT64_TYPE) == BES_OK && bes_batch_set_uint64(&batch, 1, "size", 9) == BES_OK);
+    CHECK(bes_batch_apply(&pass, &batch, 1, made, 64, &number) == BES_OK && bes_pin(&pass, &number) == BES_OK);
+    CHECK(bes_state(&pass, &place, &counts, listed, 5, bytes, MOST_BYTES) == BES_OK && counts.operations == 6);
+    CHECK(counts.bytes == 15 && listed[4].kind == BES_MAKE_INDEX && listed[5].kind == 0x07070707);
+    memset(bytes, 7, sizeof bytes);
+    CHECK(bes_state(&pass, &place, &counts, listed, 6, bytes, 14) == BES_OK && counts.operations == 6 && counts.bytes == 15);
+    CHECK(memcmp(bytes, expected, 14) == 0 && bytes[14] == 7);
+    CHECK(bes_state(&pass, &place, &counts, listed, 6, bytes, 15) == BES_OK && counts.operations == 6 && counts.bytes == 15);
+    CHECK(memcmp(bytes, expected, 15) == 0 && listed[3].kind == BES_REMOVE_NODE && listed[3].node == 2);
+    CHECK(bes_apply(&next, listed, 6, bytes, 15, made, 64, &number) == BES_OK && made[0] == 1 && made[2] == 2);
+    CHECK(bes_state(&pass, &place, &counts, listed, 64, bytes, MOST_BYTES) == BES_OK && counts.operations == 0);
+    CHECK(bes_batch_state(&pass, &place, &batch) == BES_OK && batch.count == 0 && batch.used == 0);
+    CHECK(bes_leave(&place) == BES_OK && bes_batch_state(&pass, &place, &batch) == BES_OK && batch.count == 6 && batch.used == 15);
+    CHECK(bes_close(&pass) == BES_OK && bes_batch_state(&pass, &place, &batch) == BES_CLOSED && batch.count == 0);
+    CHECK(bes_leave(&place) == BES_OK && bes_new_node(&next, &number) == BES_OK && number == 3 && bes_close(&next) == BES_OK);
+}
+
 /* What is free, what waits for a pin, and whose that is. */
 static void usage(void)
 {
@@ -812,6 +853,101 @@ static void takers(int count)
         CHECK(bes_close(&users[i].pass) == BES_OK);
 }
 
+/* Sets its node's number, and makes a node, in one write and so on. A pin of another thread may hold all free pages for a while. */
+static void *grower(void *arg)
+{
+    user *it = arg;
+    bes_batch batch;
+    uint64_t made[2] = {0, 0}, number = 0;
+    for (int64_t i = 0; i < 400; i++) {
+        uint32_t answer;
+        bes_batch_clear(&batch);
+        CHECK(bes_batch_set_int64(&batch, it->first, "n", i) == BES_OK && bes_batch_new_node(&batch) == BES_OK);
+        do
+            answer = bes_batch_apply(&it->pass, &batch, BES_TRIES, made, 2, &number);
+        while (answer == BES_FULL || answer == BES_BUSY);
+        CHECK(answer == BES_OK && made[1] > 2);
+    }
+    return NULL;
+}
+
+/* Opens a store, and makes it what the pinned version is. */
+static void carry_on(bes_pass *pass, bes_pass *next)
+{
+    bes_batch batch;
+    bes_place place = BES_PLACE_INIT;
+    uint64_t made[64], number = 0;
+    CHECK(bes_open(4096, 1, 100000, next) == BES_OK);
+    for (;;) {
+        CHECK(bes_batch_state(pass, &place, &batch) == BES_OK);
+        if (batch.count == 0)
+            break;
+        CHECK(bes_batch_apply(next, &batch, 1, made, 64, &number) == BES_OK);
+    }
+    CHECK(bes_leave(&place) == BES_OK);
+}
+
+/* Whether both pinned versions are made again by the same operations. */
+static bool are_alike(bes_pass *mine, bes_pass *theirs)
+{
+    bes_batch one, other;
+    bes_place here = BES_PLACE_INIT, there = BES_PLACE_INIT;
+    bool alike;
+    do {
+        CHECK(bes_batch_state(mine, &here, &one) == BES_OK && bes_batch_state(theirs, &there, &other) == BES_OK);
+        alike = one.count == other.count && one.used == other.used && memcmp(one.bytes, other.bytes, one.used) == 0 &&
+                memcmp(one.operations, other.operations, one.count * sizeof *one.operations) == 0;
+    } while (alike && one.count > 0);
+    CHECK(bes_leave(&here) == BES_OK && bes_leave(&there) == BES_OK);
+    return alike;
+}
+
+/* Carries the state on to a new store and closes that, the old one being read at its pin as before. */
+static void carry_and_compare(bes_pass *pass)
+{
+    bes_pass next = BES_PASS_INIT;
+    uint64_t number = 0, count = 0, nodes[4] = {0, 0, 0, 0};
+    CHECK(bes_pin(pass, &number) == BES_OK);
+    carry_on(pass, &next);
+    CHECK(bes_pin(&next, &number) == BES_OK && are_alike(pass, &next));
+    CHECK(bes_find(pass, "n>=0", nodes, 2, &count) == BES_OK && count == 2 && nodes[0] == 1 && nodes[1] == 2);
+    CHECK(bes_find(&next, "n>=0", nodes + 2, 2, &count) == BES_OK && count == 2 && nodes[2] == 1 && nodes[3] == 2);
+    CHECK(bes_unpin(pass) == BES_OK && bes_close(&next) == BES_OK);
+}
+
+/* Two threads write while a third carries the state on. At last a live query goes on in the new store. */
+static void carrying(void)
+{
+    static user users[3];
+    bes_pass next = BES_PASS_INIT;
+    bes_prepared live = BES_PREPARED_INIT;
+    bes_updates updates = {7, 7};
+    pthread_t running[2];
+    uint64_t number = 0, count = 0, node = 0, place = 0, nodes[1] = {7};
+    CHECK(bes_open(4096, 3, 100000, &users[0].pass) == BES_OK && bes_make_index(&users[0].pass, "n", BES_INT64_TYPE) == BES_OK);
+    for (int i = 1; i < 3; i++) {
+        CHECK(bes_another(&users[0].pass, &users[i].pass) == BES_OK && bes_new_node(&users[0].pass, &users[i].first) == BES_OK);
+        CHECK(bes_set_int64(&users[0].pass, users[i].first, "n", 0) == BES_OK);
+    }
+    for (int i = 0; i < 2; i++)
+        CHECK(pthread_create(&running[i], NULL, grower, &users[i + 1]) == 0);
+    for (int i = 0; i < 4; i++)
+        carry_and_compare(&users[0].pass);
+    for (int i = 0; i < 2; i++)
+        CHECK(pthread_join(running[i], NULL) == 0);
+    carry_and_compare(&users[0].pass);
+    CHECK(bes_pin(&users[0].pass, &number) == BES_OK && bes_prepare_text("n>=0", &live, &place) == BES_OK);
+    CHECK(bes_refresh(&users[0].pass, &live, &updates) == BES_OK && updates.created == 2);
+    carry_on(&users[0].pass, &next);
+    CHECK(bes_remove_node(&next, 1) == BES_OK && bes_new_node(&next, &node) == BES_OK && node == 2 + 2 * 400 + 1);
+    CHECK(bes_pin(&next, &number) == BES_OK && bes_refresh(&next, &live, &updates) == BES_OK);
+    CHECK(updates.created == 0 && updates.removed == 1 && bes_changes(&live, &count, 0, nodes, 1) == BES_OK && nodes[0] == 1);
+    CHECK(bes_query_prepared(&users[0].pass, &live, nodes, 1, &count) == BES_OK && count == 2);
+    CHECK(bes_release(&live) == BES_OK && bes_close(&next) == BES_OK);
+    for (int i = 0; i < 3; i++)
+        CHECK(bes_close(&users[i].pass) == BES_OK);
+}
+
 /* A prepared query that goes from thread to thread, each with a pass of its own. */
 typedef struct handed {
     bes_pass pass;
@@ -876,6 +1012,7 @@ int main(int argc, char **argv)
     no_queries();
     prepared_queries();
     nodes_by_number();
+    states();
     usage();
     journal();
     spent();
@@ -883,6 +1020,7 @@ int main(int argc, char **argv)
     threads();
     takers(1);
     takers(60);
+    carrying();
     handed_on();
     return 0;
 }

@@ -65,7 +65,7 @@ static With at_operation(std::uint64_t operation)
 
 template <class T> constexpr bool moves_only = std::is_nothrow_move_constructible_v<T> && std::is_nothrow_move_assignable_v<T> &&
                                                !std::is_copy_constructible_v<T> && !std::is_copy_assignable_v<T>;
-static_assert(moves_only<Store> && moves_only<Pass> && moves_only<Pin> && moves_only<Prepared> && moves_only<Live>);
+static_assert(moves_only<Store> && moves_only<Pass> && moves_only<Pin> && moves_only<State> && moves_only<Prepared> && moves_only<Live>);
 
 static void c_header()
 {
@@ -281,6 +281,41 @@ static void nodes_and_status()
     refused(BES_NOT_PINNED, [&] { pin.nodes(); });
 }
 
+// The state of a store, carried on to another one by its batches: the same nodes, attributes and indices, and the same next number.
+static void states()
+{
+    Store store({256, 1, 1000}), next({256, 1, 1000});
+    store.apply(Batch().new_node().new_node().set(1, "n", "outside").set(1, "r", Raw{0, 255}).remove_node(2).make_index("n", Kind::int64));
+    for (Node node = 3; node <= 200; node++)
+        store.apply(Batch().new_node().set(node, "n", static_cast<std::int64_t>(node)));
+    Live live("n>0");
+    auto pin = store.pin();
+    CHECK(live.refresh(pin).created.size() == 198);
+    std::size_t batches = 0, operations = 0;
+    for (const Batch &batch : pin.state()) {
+        CHECK(!batch.empty() && batch.size() <= 64);
+        next.apply(batch, 1);
+        batches++;
+        operations += batch.size();
+    }
+    CHECK(operations == 200 + 1 + 2 + 1 + 198 && batches == (operations + 63) / 64);
+    CHECK(next.new_node() == 201);
+    next.remove_node(201);
+    auto again = next.pin();
+    CHECK(again.nodes() == pin.nodes() && again.query("n>0") == pin.query("n>0") && again.indices().size() == 1);
+    CHECK(again.get<std::string>(1, "n") == "outside" && again.get<Raw>(1, "r") == Raw{0, 255});
+    CHECK(live.refresh(again).created.empty() && live.refresh(again).removed.empty());
+    State state = pin.state();
+    auto at = state.begin();
+    CHECK(at->size() == 64 && ++at != state.end());
+    State moved = std::move(state);
+    CHECK(moved.begin()->size() == 64);
+    refused(BES_CLOSED, [&] { state.begin(); });
+    pin.unpin();
+    refused(BES_NOT_PINNED, [&] { moved.begin(); });
+    refused(BES_NOT_PINNED, [&] { (void)pin.state(); });
+}
+
 // A store that is full tells the version that is pinned.
 static void full()
 {
@@ -346,6 +381,7 @@ int main()
     live_queries();
     pins();
     nodes_and_status();
+    states();
     full();
     last_pass();
     threads();

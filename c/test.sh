@@ -100,6 +100,8 @@ build -O2 ../examples/c/first.c -o "$work/first"
 "$work/first" | cmp - <(echo "node 1")
 build -O2 ../examples/c/unread.c -o "$work/unread"
 "$work/unread" | cmp - <(printf '%s\n' "came 1" "came 2" "went 1" "came 3")
+build -O2 ../examples/c/carry.c -o "$work/carry"
+"$work/carry" | cmp - <(printf '%s\n' "3 stores" "ann 500" "bob 500" "in the first store 499")
 build -O2 ../examples/c/mailbox.c -o "$work/mailbox"
 "$work/mailbox" ../examples/c/letters.mbox 'MAIL:from=="*ann*"' 'MAIL:subject=="*Seeds*" || MAIL:to=="*bob*"' \
     'MAIL:when>=1741046400' |

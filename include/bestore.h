@@ -5,10 +5,11 @@
  * HANDLES. A bes_pass is one user's place in a store: it writes, pins a version and reads it. Its memory is yours. Start it
  * with BES_PASS_INIT (zero bytes), never copy it or change its fields (bes_move moves it), and close it with bes_close. The
  * store goes with its last open pass. A bes_prepared is a query that was parsed once: it is held in the same way, starts with
- * BES_PREPARED_INIT and is closed with bes_release. It belongs to no store, and may be asked through any pass.
+ * BES_PREPARED_INIT and is closed with bes_release. It belongs to no store, and may be asked through any pass. A bes_place is how
+ * far the operations that make a version again were told: it starts with BES_PLACE_INIT, and is closed with bes_leave.
  *
  * THREADS. Each thread has a pass of its own, and the calls on different passes may run at the same time; none waits for
- * another. A pass takes one call at a time, and so does a prepared query. Either may be handed to another thread where that
+ * another. A pass takes one call at a time, and so does a prepared query or a place. Each may be handed to another thread where that
  * thread's calls come after yours (a join, a lock, a started thread). Call nothing here from a signal handler, nor in a forked
  * child of a process with threads. No call is a cancellation point, so a thread that is cancelled in the deferred way, as threads
  * are by default, ends between two calls: close its pass in a cleanup handler. A thread that ends inside a call, by asynchronous
@@ -60,6 +61,14 @@ typedef struct bes_prepared {
 } bes_prepared;
 
 #define BES_PREPARED_INIT { false, NULL }
+
+/* Both fields are the library's. */
+typedef struct bes_place {
+    bool live;
+    void *at;
+} bes_place;
+
+#define BES_PLACE_INIT { false, NULL }
 
 /* What calls answer. */
 enum {
@@ -286,9 +295,9 @@ uint32_t bes_query_prepared(bes_pass *pass, bes_prepared *prepared, uint64_t *no
 
 /* Refreshes a prepared query: asks it in the pinned version, and compares with its answer at the last refresh, which at first
  * is empty. Puts out how many nodes came and how many went; the handle keeps which they are until the next refresh. Takes what
- * bes_query does, and a search in one answer for each node of the other. Refresh a query through passes of one store only:
- * nodes of another store are compared by their numbers. Faults are those of bes_query_prepared: the query stays as it was, and
- * so does what it keeps. */
+ * bes_query does, and a search in one answer for each node of the other. Refresh a query through passes of one store, or of
+ * another that its state was carried on to: nodes are compared by their numbers. Faults are those of bes_query_prepared: the query
+ * stays as it was, and so does what it keeps. */
 uint32_t bes_refresh(bes_pass *pass, bes_prepared *prepared, bes_updates *updates);
 
 /* Puts out the nodes that came at the last refresh, and those that went, each ascending, as far as there is room. Needs no pin,
@@ -328,6 +337,21 @@ uint32_t bes_attributes(bes_pass *pass, uint64_t node, bes_counts *counts, bes_o
  * BES_CLOSED, BES_NOT_PINNED, BES_NO_MEMORY. */
 uint32_t bes_indices(bes_pass *pass, bes_counts *counts, bes_operation *operations, size_t operations_room, uint8_t *bytes,
                      size_t bytes_room);
+
+/* Tells the next operations that make the pinned version again on an empty store: its next node number, its nodes with all that they
+ * have, and its indices with what they hold. They are 1 to 64, as bes_apply takes them, with the bytes that their names and values
+ * are parts of, and none where all were told. A place that is closed stands before the first of them, and is opened. Puts out how
+ * many operations and bytes there are, and of both as many as there is room for, which 64 operations and 20,352 bytes always have:
+ * where there are more, the next call tells the same again, and else those behind them. A place goes with one pin: at another one,
+ * begin with another place. Takes, for each node's number in the list, a walk over the attributes of that node, and for each of these
+ * two descents of a tree; memory for the list and for the operations of one node, and for what the place keeps, until bes_leave
+ * gives that back.
+ * BES_CLOSED (of the pass), BES_NOT_PINNED, BES_NO_MEMORY: nothing was told, and nothing is lost. */
+uint32_t bes_state(bes_pass *pass, bes_place *place, bes_counts *counts, bes_operation *operations, size_t operations_room,
+                   uint8_t *bytes, size_t bytes_room);
+
+/* Closes the place, and gives its memory back: it stands before the first operation again. BES_CLOSED: there it stood. */
+uint32_t bes_leave(bes_place *place);
 
 /* Tells the journal up to now, pinned or not: a line for each write, numbered from 1, with the pass that wrote it, its operations
  * and their answers, as in 2 by 0 set 1 "size" LONG 5 -> ok. Puts out in count how many bytes that text has (it has no zero byte
@@ -484,6 +508,17 @@ static inline uint32_t bes_batch_apply(bes_pass *pass, const bes_batch *batch, u
 {
     return bes_apply_or_retry(pass, batch->operations, batch->count, batch->bytes, batch->used, tries > 0 ? tries - 1 : 0, made,
                               made_room, number);
+}
+
+/* Puts the next operations that make the pinned version again in the place of what the batch had: for bes_batch_apply of a pass of
+ * another store. The batch is empty where all were told, and where the answer, which is one of bes_state, isn't BES_OK. */
+static inline uint32_t bes_batch_state(bes_pass *pass, bes_place *place, bes_batch *batch)
+{
+    bes_counts counts = {0, 0};
+    uint32_t answer = bes_state(pass, place, &counts, batch->operations, 64, batch->bytes, sizeof batch->bytes);
+    batch->count = (size_t)counts.operations;
+    batch->used = (size_t)counts.bytes;
+    return answer;
 }
 
 /* Single operations, each a write of its own, as bes_batch_apply with so many tries as BES_TRIES. They don't tell what goes with an

@@ -10,8 +10,8 @@
 //
 // What bestore.h says of each call holds here too. A call that the library refuses throws a Refusal, which tells the number that goes
 // with the answer, and has done nothing.
-// Store, Pass, Pin, Prepared and Live can be moved and not copied. A Pin has to go before the pass that it was made by; the pass
-// may be moved meanwhile. Each thread has a Pass of its own, and an object takes one call at a time.
+// Store, Pass, Pin, State, Prepared and Live can be moved and not copied. A Pin has to go before the pass that it was made by, and a
+// State before its Pin; the pass may be moved meanwhile. Each thread has a Pass of its own, and an object takes one call at a time.
 #ifndef BESTORE_HPP
 #define BESTORE_HPP
 
@@ -20,6 +20,7 @@
 #include <algorithm>
 #include <cstddef>
 #include <cstdint>
+#include <iterator>
 #include <memory>
 #include <optional>
 #include <stdexcept>
@@ -311,6 +312,7 @@ public:
 
 private:
     friend class Pass;
+    friend class State;
 
     Batch &add(std::uint32_t kind, Node node, std::string_view name, std::uint32_t code = 0, std::uint64_t number = 0,
                std::string_view value = {})
@@ -434,7 +436,7 @@ class Live : public Prepared {
 public:
     using Prepared::Prepared;
 
-    // Asks the query at the pin, and answers what changed. Pins of one store only.
+    // Asks the query at the pin, and answers what changed. Pins of one store, or of another that its state was carried on to.
     Updates refresh(Pin &pin);
 };
 
@@ -528,6 +530,67 @@ public:
     {
         detail::check(bes_open(limits.pages, limits.passes, limits.commits, handle()));
     }
+};
+
+// The operations that make a version again on an empty store, as batches of 1 to 64, each for one write. They are gone over once.
+//
+//     for (const bestore::Batch &batch : pin.state())
+//         other.apply(batch);
+class State {
+public:
+    class Iterator {
+    public:
+        using iterator_category = std::input_iterator_tag;
+        using value_type = Batch;
+        using difference_type = std::ptrdiff_t;
+        using pointer = const Batch *;
+        using reference = const Batch &;
+
+        reference operator*() const { return state_->batch_; }
+        pointer operator->() const { return &state_->batch_; }
+        Iterator &operator++()
+        {
+            *this = state_->next();
+            return *this;
+        }
+        void operator++(int) { ++*this; }
+        bool operator==(const Iterator &other) const { return state_ == other.state_; }
+        bool operator!=(const Iterator &other) const { return !(*this == other); }
+
+    private:
+        friend class State;
+
+        explicit Iterator(State *state) : state_(state) {}
+
+        State *state_; // none behind the last batch
+    };
+
+    // From the next batch on.
+    Iterator begin() { return next(); }
+    Iterator end() { return Iterator(nullptr); }
+
+private:
+    friend class Pin;
+
+    explicit State(bes_pass *pass) : pass_(pass) {}
+
+    Iterator next()
+    {
+        bes_counts counts{};
+        batch_.operations_.resize(64);
+        batch_.bytes_.resize(64 * (63 + 255));
+        auto *const bytes = reinterpret_cast<std::uint8_t *>(batch_.bytes_.data());
+        const auto answer = bes_state(pass_, place_.get(), &counts, batch_.operations_.data(), batch_.operations_.size(), bytes,
+                                      batch_.bytes_.size());
+        batch_.operations_.resize(counts.operations);
+        batch_.bytes_.resize(counts.bytes);
+        detail::check(answer);
+        return Iterator(batch_.empty() ? nullptr : this);
+    }
+
+    bes_pass *pass_;
+    detail::Handle<bes_place, bes_leave> place_;
+    Batch batch_;
 };
 
 // The version that was current when it was pinned. It is read, whatever is written meanwhile, until the pin goes.
@@ -627,6 +690,9 @@ public:
              });
         return indices;
     }
+
+    // The operations that make the version again on an empty store.
+    [[nodiscard]] State state() { return State(handle()); }
 
 private:
     friend class Live;

@@ -235,6 +235,82 @@ class Whole(unittest.TestCase):
             self.assertEqual((other.status().retired, other.status().oldest), (0, None))
 
 
+def carried_on(version, store):
+    """The store, which was empty, once it has the version's state."""
+    for batch in version.state():
+        store.apply(batch, tries=1)
+    return store
+
+
+def operations_of(version):
+    """All that makes a version again."""
+    told = []
+    for batch in version.state():
+        for it in batch._operations:
+            name = batch._bytes[it.name_at:it.name_at + it.name_length]
+            value = batch._bytes[it.value_at:it.value_at + it.value_length]
+            told.append((it.kind, it.code, it.node, it.number, name, value))
+    return told
+
+
+class States(unittest.TestCase):
+    def test_carried_on(self):
+        """Next number, nodes, attributes of each kind, indices, and what stands outside of its index."""
+        with bestore.open(64, 1, 100) as store, bestore.open(64, 1, 100) as other:
+            store.apply(bestore.Batch().new_node().new_node().new_node().set(1, "k", "before").set(1, "r", b"\0\xff").remove_node(2))
+            store.apply(bestore.Batch().make_index("k", bestore.STRING).make_index("n", bestore.INT32))
+            store.apply(bestore.Batch().set(3, "k", "behind").set(3, "n", -5, bestore.INT32).set(3, "m", "a/b", bestore.MIME))
+            with store.pin() as version, carried_on(version, other).pin() as again:
+                self.assertEqual(operations_of(again), operations_of(version))
+                self.assertEqual((list(again), again.indices()), ([1, 3], {"k": bestore.STRING, "n": bestore.INT32}))
+                self.assertEqual([again.attributes(node) for node in (1, 3)], [version.attributes(node) for node in (1, 3)])
+                for query in ('k == "*"', "n < 0"):
+                    self.assertEqual((version.query(query), again.query(query)), ([3], [3]))
+            self.assertEqual(other.new_node(), 4)
+
+    def test_list_by_list(self):
+        with bestore.open(256, 1, 100) as store:
+            with store.pin() as version:
+                self.assertEqual(list(version.state()), [])
+            for _ in range(3):
+                batch = bestore.Batch()
+                while len(batch) < 64:
+                    batch.new_node()
+                store.apply(batch)
+            store.new_node()
+            with store.pin() as version:
+                self.assertEqual([len(batch) for batch in version.state()], [64, 64, 64, 1])
+                first, second = version.state(), version.state()
+                self.assertEqual((len(next(first)), len(next(second)), len(next(first))), (64, 64, 64))
+            with self.assertRaises(bestore.NotPinned):
+                next(second)
+
+    def test_while_others_write(self):
+        """A pin of the old store goes on reading; a query asked there and then in the new store tells no change."""
+        with bestore.open(4096, 3, 100000) as store, store.another() as first, store.another() as second:
+            store.apply(bestore.Batch().make_index("n", bestore.INT64).new_node().new_node().set(1, "n", 1).set(2, "n", 2))
+
+            def write(user, node):
+                for number in range(200):
+                    user.apply(bestore.Batch().set(node, "n", number).new_node())
+            running = [threading.Thread(target=write, args=it) for it in ((first, 1), (second, 2))]
+            for thread in running:
+                thread.start()
+            for _ in range(3):
+                with store.pin() as version, bestore.open(4096, 1) as other, carried_on(version, other).pin() as again:
+                    self.assertEqual(operations_of(again), operations_of(version))
+                    self.assertEqual(again.query("n >= 0"), version.query("n >= 0"))
+            for thread in running:
+                thread.join()
+            with bestore.prepare("n >= 0") as live, store.pin() as version, bestore.open(4096, 1) as other:
+                self.assertEqual(version.refresh(live), ([1, 2], []))
+                with carried_on(version, other).pin() as again:
+                    self.assertEqual((again.refresh(live), len(list(again))), (([], []), 402))
+                other.remove_node(1)
+                with other.pin() as again:
+                    self.assertEqual((again.refresh(live), version.query("n >= 0")), (([], [1]), [1, 2]))
+
+
 class WhatIsCarried(unittest.TestCase):
     def test_operations(self):
         with bestore.open(64, 1, 100) as store:

@@ -13,7 +13,7 @@ VERSION = "0.1.0"
 
 
 class Handle(ctypes.Structure):
-    """A bes_pass or a bes_prepared, which begin alike."""
+    """A bes_pass, a bes_prepared or a bes_place, which are alike."""
 
     _fields_ = [("live", ctypes.c_bool), ("at", ctypes.c_void_p)]
 
@@ -102,6 +102,8 @@ def _arguments() -> dict[str, List[Any]]:
         "bes_get": [handle, word, text, size, ctypes.POINTER(Attribute), text, size],
         "bes_attributes": [handle, word, *listed],
         "bes_indices": [handle, *listed],
+        "bes_state": [handle, handle, *listed],
+        "bes_leave": [handle],
         "bes_journal": [handle, text, size, words],
         "bes_version": [],
     }

@@ -174,6 +174,14 @@ class Pass(Owner):
         return Version(self)
 
 
+class _Place(Owner):
+    """How far the operations that make a version again were told."""
+
+    def close(self) -> None:
+        """Gives the place up, if it was begun."""
+        calls.bes_leave(ctypes.byref(self._handle))
+
+
 class Version:
     """The version that was current when the pass was pinned. It is read until the pin is given up. `version[node]` has a node's
     attributes, `node in version` tells whether the node is there, and `for node in version` goes over all nodes."""
@@ -232,7 +240,8 @@ class Version:
 
     def refresh(self, prepared: Prepared) -> Tuple[List[int], List[int]]:
         """Which nodes came and which went since the prepared query was refreshed last: two lists, ascending. At first all of
-        its nodes come. Refresh a query in versions of one store only."""
+        its nodes come. Refresh a query in versions of one store, or of another that its state was carried on to: nodes are compared by
+        their numbers."""
         updates, query = Updates(), ctypes.byref(prepared._handle)
         check(calls.bes_refresh(self._pass(), query, ctypes.byref(updates)))
         created, removed = _words(updates.created), _words(updates.removed)
@@ -271,6 +280,23 @@ class Version:
     def indices(self) -> Dict[str, Kind]:
         """The indices: a dict of names and kinds, by ascending names."""
         return {name: Kind(told.code) for told, name, _ in self._list(calls.bes_indices)}
+
+    def state(self) -> Iterator[Batch]:
+        """The operations that make the version again on an empty store, as batches of 1 to 64, each for one `Pass.apply`:
+
+            for batch in version.state():
+                other.apply(batch)
+        """
+        counts, most = Counts(), 64 * (63 + 255)
+        with _Place() as place:
+            while True:
+                operations, texts = (Operation * 64)(), ctypes.create_string_buffer(most)
+                check(calls.bes_state(self._pass(), ctypes.byref(place._handle), ctypes.byref(counts), operations, 64, texts, most))
+                if counts.operations == 0:
+                    return
+                batch = Batch()
+                batch._operations, batch._bytes = operations[:counts.operations], texts.raw[:counts.bytes]
+                yield batch
 
     def get(self, node: int, name: str) -> Optional[Value]:
         """A node's attribute, or None: a str, bytes or an int."""

@@ -3,7 +3,7 @@ use Rattle.std.specs.Prelude.{◌≡◌, ◌≤◌, ⊤, vec_len}
 use Rattle.be_table.specs.declared.limits.Limits.{Limits}
 use Rattle.be_table.specs.Rule.{IsWithin}
 use Rattle.be_command_line.specs.declared.tasks.Task.{Task}
-use Rattle.be_command_line.specs.declared.tasks.Task.TheVariants.{Run, RunAndTell, Race, Shell, Check, Dump}
+use Rattle.be_command_line.specs.declared.tasks.Task.TheVariants.{Run, RunAndTell, Race, Shell, Check, Dump, DumpState}
 
 -- the limits with one pass, whatever their own number of passes
 abbrev pub for_one : Limits → Limits
@@ -22,3 +22,4 @@ IsTask (Race files limits) = IsWithin (for_one limits) × (1 ≤ vec_len files) 
 IsTask (Shell file limits) = AreForOne limits
 IsTask (Check file) = ⊤
 IsTask (Dump file) = ⊤
+IsTask (DumpState file) = ⊤

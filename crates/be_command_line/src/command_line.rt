@@ -1,8 +1,8 @@
 //! The command line.
 //!
 //! `bestore run [--journal] [--pages N] [--commits N] FILE`, `bestore race [--pages N] [--commits N] SCRIPT...`, `bestore
-//! shell [--pages N] [--commits N] [FILE]`, `bestore check FILE` and `bestore dump FILE`. `clap` reads the words, writes
-//! the help and the version, and tells what is wrong. How many scripts a race takes is for the program to look at.
+//! shell [--pages N] [--commits N] [FILE]`, `bestore check FILE` and `bestore dump [--state] FILE`. `clap` reads the words,
+//! writes the help and the version, and tells what is wrong. How many scripts a race takes is for the program to look at.
 ghost use Rattle.std.specs.Prelude.{IfOk, IfSome};
 ghost use Rattle.be_command_line.specs.Task.{AreForOne, IsTask};
 
@@ -20,6 +20,9 @@ const FILE: &str = "FILE";
 
 /// The option of `run`.
 const JOURNAL: &str = "journal";
+
+/// The option of `dump`.
+const STATE: &str = "state";
 
 /// The arguments of `race`.
 const SCRIPT: &str = "SCRIPT";
@@ -138,11 +141,16 @@ fn check_command<'a>(alloc: Global) -> Result<Command<'a>, AllocError> {
 }
 
 fn dump_command<'a>(alloc: Global) -> Result<Command<'a>, AllocError> {
+    let state = Arg::new(alloc, STATE)
+        .long(STATE)
+        .help("Print a script that makes its last state alone, and not its history")
+        .action(ArgAction::SetTrue);
     journal_command(
         alloc,
         "dump",
         "Print the script that makes a journal's writes again",
-    )
+    )?
+    .arg(state)
 }
 
 /// Reads the words of a command line, which begin with the program's name. An error is `clap`'s: a request for help or for
@@ -258,6 +266,7 @@ fn dump_task(alloc: Global, matches: &ArgMatches) -> Result<Option<Task>, AllocE
     ensures { IfOk result (λ task. IfSome task IsTask) }
 {
     match file_of(alloc, matches)? {
+        Some(file) if matches.get_flag(STATE) => Ok(Some(Task::DumpState(file))),
         Some(file) => Ok(Some(Task::Dump(file))),
         None => Ok(None),
     }

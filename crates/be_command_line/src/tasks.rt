@@ -16,4 +16,6 @@ pub enum Task {
     Check(String),
     /// To print the script of the journal that a file tells.
     Dump(String),
+    /// To print the script that makes the volume of that journal, and not its history.
+    DumpState(String),
 }

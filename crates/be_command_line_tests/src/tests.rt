@@ -12,7 +12,7 @@ fn numbers(task: &Task) -> (u64, u64, u64) {
     let limits = match task {
         Task::Run(_, limits) | Task::RunAndTell(_, limits) => limits,
         Task::Race(_, limits) | Task::Shell(_, limits) => limits,
-        Task::Check(_) | Task::Dump(_) => return (0, 0, 0),
+        Task::Check(_) | Task::Dump(_) | Task::DumpState(_) => return (0, 0, 0),
     };
     (limits.pages, limits.passes, limits.commits)
 }
@@ -24,6 +24,7 @@ fn name_of(task: &Task) -> &'static str {
         Task::RunAndTell(..) => "run --journal",
         Task::Check(..) => "check",
         Task::Dump(..) => "dump",
+        Task::DumpState(..) => "dump --state",
         Task::Race(..) => "race",
         Task::Shell(..) => "shell",
     }
@@ -34,6 +35,7 @@ fn file_at(task: &Task, place: usize) -> Option<&str> {
     match task {
         Task::Run(file, _) | Task::RunAndTell(file, _) if place == 0 => Some(file.as_str()),
         Task::Check(file) | Task::Dump(file) if place == 0 => Some(file.as_str()),
+        Task::DumpState(file) if place == 0 => Some(file.as_str()),
         Task::Shell(Some(file), _) if place == 0 => Some(file.as_str()),
         Task::Race(files, _) => files.get(place).map(|file| file.as_str()),
         _ => None,
@@ -114,6 +116,8 @@ run f --pages 9 --journal => run --journal 9 1 1000000 f
 check f => check 0 0 0 f
 check - => check 0 0 0 -
 dump check => dump 0 0 0 check
+dump --state f => dump --state 0 0 0 f
+dump - --state => dump --state 0 0 0 -
 shell => shell 1024 1 1000000
 shell --pages 8 --commits 1 f => shell 8 1 1 f
 race a => race 1024 1 1000000 a
@@ -138,6 +142,8 @@ run => MissingRequiredArgument
 run f g => UnknownArgument
 check => MissingRequiredArgument
 dump f g => UnknownArgument
+dump --state => MissingRequiredArgument
+check --state f => UnknownArgument
 check --pages 8 f => UnknownArgument
 race --journal f g => UnknownArgument
 walk f => InvalidSubcommand

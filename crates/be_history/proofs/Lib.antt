@@ -1,4 +1,5 @@
 pub mod CheckLemmas
+pub mod CutLemmas
 pub mod Cuts
 pub mod LineLemmas
 pub mod NumberLemmas

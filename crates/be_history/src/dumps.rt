@@ -19,7 +19,7 @@ fn push_lines(alloc: Global, text: &mut String, ops: &[Op]) -> Result<(), AllocE
 }
 
 /// The lines of one write: its operation, or a batch of several.
-fn write_text(alloc: Global, ops: &[Op]) -> Result<String, AllocError>
+pub(crate) fn write_text(alloc: Global, ops: &[Op]) -> Result<String, AllocError>
     ensures { IfOk result (λ text. string_bytes text ≡ spec.write_lines ops.now) }
 {
     let mut text = String::new(alloc);

@@ -2,7 +2,7 @@
 //! journal.
 //!
 //! Every test passes with any one request for memory refused: a call that wanted memory is made again.
-use be_history::{Finding, check, dump, journal_told, read_journal};
+use be_history::{Finding, check, dump, dump_state, journal_told, read_journal};
 use be_journal::{Entry, entry_line};
 use std::alloc::{AllocError, Global};
 use std::test::Fail;
@@ -26,6 +26,36 @@ begin\nset 1 \"n\" ULNG 4294967295\nset 1 \"o\" ULLG 18446744073709551615\ncommi
 begin\nset 1 \"é\" MIMS \"text/plain\"\nset 1 \"r\" RAWT \"00ff\"\nnew\ncommit\n\
 mkindex \"l\" LONG\n\
 begin\nunset 1 \"l\"\ndrop 2\nrmindex \"l\"\ncommit\n";
+
+/// What makes their last state: attributes by the bytes of their names, and no index.
+const EACH_STATE: &str = "\
+begin\n\
+new\n\
+set 1 \"a -> b; c\\\"\\\\\\n\\r\" CSTR \"; > \\\" -> ok\"\n\
+set 1 \"m\" LLNG -9223372036854775808\n\
+set 1 \"n\" ULNG 4294967295\n\
+set 1 \"o\" ULLG 18446744073709551615\n\
+set 1 \"r\" RAWT \"00ff\"\n\
+set 1 \"é\" MIMS \"text/plain\"\n\
+new\n\
+drop 2\n\
+commit\n";
+
+/// A journal with an attribute that stands outside of its index, and one that doesn't.
+const OUTSIDE: &str = "\
+1 by 0 new; set 1 \"k\" LONG 5; mkindex \"k\" LONG -> node 1; ok; ok\n\
+2 by 1 mkindex \"j\" LONG -> ok\n\
+3 by 0 set 1 \"j\" LONG 6 -> ok\n";
+
+/// What makes its last state.
+const OUTSIDE_STATE: &str = "\
+begin\n\
+new\n\
+set 1 \"k\" LONG 5\n\
+mkindex \"j\" LONG\n\
+mkindex \"k\" LONG\n\
+set 1 \"j\" LONG 6\n\
+commit\n";
 
 /// The entries of a text; asked once more where memory was wanted.
 fn read(alloc: Global, text: &str) -> Result<Option<Vec<Entry>>, AllocError> {
@@ -53,6 +83,13 @@ fn dumped(alloc: Global, entries: &[Entry]) -> Result<String, AllocError> {
     match dump(alloc, entries) {
         Ok(text) => Ok(text),
         Err(_) => dump(alloc, entries),
+    }
+}
+
+fn state_dumped(alloc: Global, text: &str) -> Result<Option<String>, AllocError> {
+    match dump_state(alloc, text.as_bytes()) {
+        Ok(script) => Ok(script),
+        Err(_) => dump_state(alloc, text.as_bytes()),
     }
 }
 
@@ -196,5 +233,74 @@ fn journals_are_dumped(rt: HostRuntime) -> Result<(), Fail> {
     };
     let text = dumped(alloc, &entries)?;
     assert_eq!(rt; text.as_str(), EACH_DUMPED);
+    Ok(())
+}
+
+/// Fails unless this is the script of a text's state, or none.
+fn check_state(alloc: Global, text: &str, expected: Option<&str>) -> Result<(), Fail> {
+    let script = state_dumped(alloc, text)?;
+    match (&script, expected) {
+        (Some(script), Some(expected)) if script.as_str() == expected => Ok(()),
+        (None, None) => Ok(()),
+        _ => Err(Fail::new(text)),
+    }
+}
+
+/// A refused entry changes nothing, and answers aren't looked at.
+#[test]
+fn states_are_dumped(rt: HostRuntime) -> Result<(), Fail> {
+    let alloc = rt.alloc();
+    for (text, expected) in [
+        ("", Some("")),
+        ("pass 0\n", None),
+        ("1 by 0 new -> node 1\n", Some("new\n")),
+        ("1 by 0 drop 1 -> ok\n2 by 0 new -> node 7\n", Some("new\n")),
+        (EACH, Some(EACH_STATE)),
+        (OUTSIDE, Some(OUTSIDE_STATE)),
+    ] {
+        check_state(alloc, text, expected)?;
+    }
+    Ok(())
+}
+
+/// A journal of so many nodes.
+fn nodes_told(alloc: Global, count: u64) -> Result<String, AllocError> {
+    let mut text = String::new(alloc);
+    for n in 1..=count {
+        text.push_str(format!(in alloc; "{n} by 0 new -> node {n}\n")?.as_str())?;
+    }
+    Ok(text)
+}
+
+/// The script of their state: a batch for each 64, and one for the rest where it is more than one.
+fn nodes_dumped(alloc: Global, count: u64) -> Result<String, AllocError> {
+    let mut text = String::new(alloc);
+    for n in 1..=count {
+        if n % 64 == 1 && n < count {
+            text.push_str("begin\n")?;
+        }
+        text.push_str("new\n")?;
+        if n % 64 == 0 || n == count && n % 64 != 1 {
+            text.push_str("commit\n")?;
+        }
+    }
+    Ok(text)
+}
+
+fn texts_of_nodes(alloc: Global, count: u64) -> Result<(String, String), AllocError> {
+    Ok((nodes_told(alloc, count)?, nodes_dumped(alloc, count)?))
+}
+
+/// Lists at and beside their bound.
+#[test]
+fn states_of_many_lists(rt: HostRuntime) -> Result<(), Fail> {
+    let alloc = rt.alloc();
+    for count in [2, 63, 64, 65, 66, 128, 129] {
+        let (told, dumped) = match texts_of_nodes(alloc, count) {
+            Ok(texts) => texts,
+            Err(_) => texts_of_nodes(alloc, count)?,
+        };
+        check_state(alloc, told.as_str(), Some(dumped.as_str()))?;
+    }
     Ok(())
 }

@@ -233,3 +233,17 @@ pub fn first_wrong(alloc: Global, entries: &[Entry]) -> Result<Option<u64>, Allo
     }
     Ok(None)
 }
+
+/// The volume after these entries, one after the other, as `Journal::replay` makes it: an entry that the volume refuses changes
+/// nothing as a whole. It costs what the entries change.
+pub fn replay(alloc: Global, entries: &[Entry]) -> Result<Volume, AllocError>
+    requires are { All model.IsEntry entries.now }
+    requires few { length entries.now < 2 ^ 32 }
+    ensures { IfOk result (λ volume. volume ≡ model.replay entries.now) }
+{
+    let mut volume = Volume::new(alloc);
+    for entry in entries {
+        volume = enter(volume, entry)?;
+    }
+    Ok(volume)
+}

@@ -13,6 +13,6 @@ mod readers;
 mod texts;
 
 pub use entries::{Dones, Entry, Ops};
-pub use journals::{Journal, first_wrong};
+pub use journals::{Journal, first_wrong, replay};
 pub use laws::{by_pass_append, legal_front, legal_last, legal_push, replay_push, replay_sound};
 pub use texts::{done_text, entry_line, op_text, quoted, value_text};

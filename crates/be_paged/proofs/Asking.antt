@@ -2,3 +2,4 @@
 pub mod Walks
 pub mod SourceKeys
 pub mod RangeNodes
+pub mod Counting

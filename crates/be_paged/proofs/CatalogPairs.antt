@@ -1,5 +1,6 @@
 -- The pairs of the catalog, and the nodes and attributes that they tell.
 pub mod Finding
+pub mod Places
 pub mod Validity
 pub mod Segments
 pub mod NodeKeys

@@ -1,12 +1,15 @@
 -- What a version in hand tells of a volume.
-use Rattle.std.specs.Prelude.{◌≡◌, ℕ, Bool, IfSome}
+use Rattle.std.specs.Prelude.{◌≡◌, ℕ, IfSome}
+use Rattle.std.specs.Option.{option_map}
 use Rattle.std.specs.FinMap as map
 use Rattle.std.specs.declared.option.Option.{Option}
 use Rattle.be_pages.specs.declared.room.Standing.{Standing}
-use Rattle.be_volume.specs.Maps.{attributes_of}
+use Rattle.be_volume.specs.Maps.{Nodes}
 use Rattle.be_volume.specs.Sound.{IsSound}
 use Rattle.be_volume.specs.Volume.{State}
 use Rattle.be_paged.specs.Page.{Contents}
+use Rattle.be_paged.specs.Place.{IsAsked}
+use Rattle.be_paged.specs.declared.asked.Asked.{Asked}
 use Rattle.be_paged.specs.Version.{IsInHand, Spells}
 
 -- the contents in hand spell this volume, which is sound
@@ -15,16 +18,17 @@ pub record AnswersFor (standing : ℕ → Standing) (words : ℕ → ℕ → ℕ
   pub spells : Spells words c volume
   pub sound : IsSound volume
 
--- what is remembered of a node: whether it is there, and how many attributes it has
-abbrev pub IsSought : Option (ℕ × Bool) → State → Type 0
-IsSought sought volume = IfSome sought (λ last. last.1 ≡ map.contains_key volume.nodes last.0)
+-- how many attributes a node has, if it is there
+abbrev pub count_of : Nodes → ℕ → Option ℕ
+count_of nodes node = option_map (λ attributes. map.len attributes) (map.get nodes node)
 
-abbrev pub IsCounted : Option (ℕ × ℕ) → State → Type 0
-IsCounted counted volume = IfSome counted (λ last. last.1 ≡ map.len (attributes_of volume.nodes last.0))
+-- what is remembered of a node is so
+abbrev pub IsCounted : Option (ℕ × Option ℕ) → State → Type 0
+IsCounted counted volume = IfSome counted (λ last. last.1 ≡ count_of volume.nodes last.0)
 
 -- a reader of the contents, with what it remembers
 pub record FactsOf (standing : ℕ → Standing) (words : ℕ → ℕ → ℕ) (c : Contents)
-    (sought : Option (ℕ × Bool)) (counted : Option (ℕ × ℕ)) (volume : State) : Type 0 where
+    (counted : Option (ℕ × Option ℕ)) (asked : Option Asked) (volume : State) : Type 0 where
   pub told : AnswersFor standing words c volume
-  pub sought_is : IsSought sought volume
   pub counted_is : IsCounted counted volume
+  pub asked_is : IsAsked standing words c.catalog asked

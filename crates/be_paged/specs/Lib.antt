@@ -7,4 +7,5 @@ pub mod Nodes
 pub mod Facts
 pub mod Changes
 pub mod Source
+pub mod Place
 pub mod Entries

@@ -13,11 +13,13 @@ ghost use Rattle.be_tree.specs.Tree.{IsTree, pairs};
 ghost use Rattle.be_volume.specs.Maps.{Nodes as AllNodes, attributes_of};
 ghost use Rattle.be_volume.specs.Sound.{IsName};
 ghost use Rattle.be_paged.specs.Catalog.{IsCatalog, catalog_key};
+ghost use Rattle.be_paged.specs.Facts.{count_of};
+ghost use Rattle.be_paged.specs.Place.{IsPlaceOf};
 ghost use Rattle.be_paged.specs.Reading.{AreValid, attribute_pair, front_of_node, is_of};
 
 use crate::catalog::value_at;
 use be_pages::Look;
-use be_tree::{Cursor, key_at};
+use be_tree::{Cursor, is_key_at, key_at};
 use be_value::{Name, Value};
 use std::alloc::{AllocError, Global};
 use std::str;
@@ -73,21 +75,36 @@ fn pass_attribute<L: Look>(look: &mut L, cursor: &mut Cursor, node: u64) -> bool
     next_attribute(look, cursor, node).is_some()
 }
 
-/// How many attributes the node has. It walks over the first words of their keys.
-pub(crate) fn attribute_count<L: Look>(look: &mut L, catalog: u64, node: u64) -> usize
-    requires tree { IsTree (L.standing look.old) (L.words look.old) catalog }
-    ensures count { (nodes : AllNodes) → IsCatalog (pairs (L.words look.old) catalog) nodes → AreValid nodes →
-        map.len (attributes_of nodes node) ≤ 64 → result ≡ map.len (attributes_of nodes node) }
+/// How many of the node's attributes come next. It goes no further than the most that a node has.
+fn count_rest<L: Look>(look: &mut L, cursor: &mut Cursor, node: u64) -> usize
+    requires cursor { IsCursor (L.standing look.old) (L.words look.old) cursor.old }
+    ensures count { length (front_of_node node (remaining (L.words look.old) cursor.old)) ≤ 64 →
+        result ≡ length (front_of_node node (remaining (L.words look.old) cursor.old)) }
     ensures unchanged { IsUnchanged L.kept L.standing L.words look.old look.new }
 {
-    let mut cursor = Cursor::new();
-    cursor.seek(look, catalog, &node.to_be_bytes(), true);
     for count in 0..MAX_ATTRIBUTES {
-        if !pass_attribute(look, &mut cursor, node) {
+        if !pass_attribute(look, cursor, node) {
             return count;
         }
     }
     MAX_ATTRIBUTES
+}
+
+/// How many attributes the node has, if it is there. One descent leads to its mark, and from there a walk goes over the first words of the keys.
+pub(crate) fn attribute_count<L: Look>(look: &mut L, catalog: u64, node: u64) -> Option<usize>
+    requires tree { IsTree (L.standing look.old) (L.words look.old) catalog }
+    ensures count { (nodes : AllNodes) → IsCatalog (pairs (L.words look.old) catalog) nodes → AreValid nodes →
+        map.len (attributes_of nodes node) ≤ 64 → result ≡ count_of nodes node }
+    ensures unchanged { IsUnchanged L.kept L.standing L.words look.old look.new }
+{
+    let mark = node.to_be_bytes();
+    let mut cursor = Cursor::new();
+    cursor.seek(look, catalog, &mark, false);
+    let (page, at) = cursor.step(look)?;
+    if !is_key_at(look, page, at, &mark) {
+        return None;
+    }
+    Some(count_rest(look, &mut cursor, node))
 }
 
 /// The name in the key of the item at a place of the catalog, behind its node.
@@ -96,6 +113,7 @@ fn name_at<L: Look>(look: &mut L, page: u64, at: usize) -> Option<Name>
     requires in_page { at + 42 ≤ 512 }
     requires item { IsItem (L.words look.old page) at }
     ensures name { (node : ℕ) (name : List ℕ) → IsName name → (item_at (L.words look.old page) at).key ≡ catalog_key node name → result ≡ Some name }
+    ensures behind { IfSome result (λ name. name ≡ drop 8 (item_at (L.words look.old page) at).key) }
     ensures unchanged { IsUnchanged L.kept L.standing L.words look.old look.new }
 {
     let key = key_at(look, page, at);
@@ -156,15 +174,38 @@ pub(crate) fn list_attributes<L: Look>(
     Ok(list)
 }
 
-/// The name of the node's first attribute, if it has one.
-pub(crate) fn first_attribute<L: Look>(look: &mut L, catalog: u64, node: u64) -> Option<Name>
+/// The name and the place of the node's next attribute, and a step past it; none once all were given. Its value isn't read.
+fn next_name<L: Look>(look: &mut L, cursor: &mut Cursor, node: u64) -> Option<(Name, (u64, usize))>
+    requires cursor { IsCursor (L.standing look.old) (L.words look.old) cursor.old }
+    ensures name { (name : List ℕ) (value : AnyValue) → IsName name →
+        slice_get (front_of_node node (remaining (L.words look.old) cursor.old)) 0 ≡ Some (attribute_pair node (name, value)) → option_map (λ found. found.0) result ≡ Some name }
+    ensures none { slice_get (front_of_node node (remaining (L.words look.old) cursor.old)) 0 ≡ None → option_map (λ found. found.0) result ≡ None }
+    ensures item { IfSome result (λ found. slice_get (front_of_node node (remaining (L.words look.old) cursor.old)) 0
+        ≡ Some (item_at (L.words look.old found.1.0) found.1.1)) }
+    ensures readable { IfSome result (λ found. IsTrue (is_readable (L.standing look.old found.1.0))) }
+    ensures in_page { IfSome result (λ found. found.1.1 + 42 ≤ 512) }
+    ensures fits { IfSome result (λ found. IsItem (L.words look.old found.1.0) found.1.1) }
+    ensures behind { IfSome result (λ found. found.0 ≡ drop 8 (item_at (L.words look.old found.1.0) found.1.1).key) }
+    ensures unchanged { IsUnchanged L.kept L.standing L.words look.old look.new }
+{
+    let (page, at) = next_attribute(look, cursor, node)?;
+    let name = name_at(look, page, at)?;
+    Some((name, (page, at)))
+}
+
+/// The name of the node's first attribute, and where that stands in the catalog's tree, if the node has one.
+pub(crate) fn first_attribute<L: Look>(
+    look: &mut L,
+    catalog: u64,
+    node: u64,
+) -> Option<(Name, (u64, usize))>
     requires tree { IsTree (L.standing look.old) (L.words look.old) catalog }
     ensures name { (nodes : AllNodes) → IsCatalog (pairs (L.words look.old) catalog) nodes → AreValid nodes →
-        result ≡ option_map (λ e. e.0) (slice_get (map.entries (attributes_of nodes node)) 0) }
+        option_map (λ found. found.0) result ≡ option_map (λ e. e.0) (slice_get (map.entries (attributes_of nodes node)) 0) }
+    ensures place { IfSome result (λ found. IsPlaceOf (L.standing look.new) (L.words look.new) catalog (catalog_key node found.0) found.1.0 found.1.1) }
     ensures unchanged { IsUnchanged L.kept L.standing L.words look.old look.new }
 {
     let mut cursor = Cursor::new();
     cursor.seek(look, catalog, &node.to_be_bytes(), true);
-    let (name, _) = next_value(look, &mut cursor, node)?;
-    Some(name)
+    next_name(look, &mut cursor, node)
 }

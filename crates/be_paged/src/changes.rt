@@ -19,6 +19,7 @@ ghost use Rattle.be_volume.specs.declared.maps.Index.{Index as AnyIndex};
 ghost use Rattle.be_paged.specs.Catalog.{IsIndexOf};
 ghost use Rattle.be_paged.specs.Changes.{Changes, IsReady, repaired, with_indices, key_taken, key_put};
 ghost use Rattle.be_paged.specs.Page.{contents, IsNamedAt};
+ghost use Rattle.be_paged.specs.Place.{IsKnownOf};
 ghost use Rattle.be_paged.specs.Version.{IsInHand, Spells};
 
 use crate::entries::{index_at, search, set_root};
@@ -172,15 +173,18 @@ fn change_at<R: Room>(
     Ok(())
 }
 
-/// Changes the node's pair in the index of a name, if there is one. The value that the node has is read only then.
+/// Changes the node's pair in the index of a name, if there is one. The value that the node has is read only then, and
+/// looked for only where nothing is known of it.
 pub(crate) fn change_entry<R: Room>(
     room: &mut R,
     version: &mut Version,
     node: u64,
     name: &Name,
+    known: Option<Option<(u64, usize)>>,
     new: Option<&Value>,
 ) -> Result<(), Refusal>
     requires in_hand { IsInHand (R.standing room.old) (R.words room.old) (contents version.old) }
+    requires known { IsKnownOf (R.standing room.old) (R.words room.old) version.old.catalog node name.now known }
     requires open { IsTrue (R.is_open (R.kept room.old)) }
     ensures changes { OnOk result (Changes R.kept R.standing R.words (contents version.old) (contents version.new) room.old room.new) }
     ensures spells { OnOk result ((volume : State) → Spells (R.words room.old) (contents version.old) volume → IsSound volume →
@@ -196,7 +200,7 @@ pub(crate) fn change_entry<R: Room>(
     let Ok(at) = search(&version.entries, name) else {
         return Ok(());
     };
-    let old = value_in(room, version.catalog, node, name);
+    let old = value_in(room, version.catalog, node, name, known);
     change_at(room, version, at, node, old.as_ref(), new)?;
     Ok(())
 }

@@ -10,8 +10,10 @@ ghost use Rattle.be_volume.specs.Volume.{State, step, steps};
 ghost use Rattle.be_volume.specs.declared.ops.Op.TheVariants as ops;
 ghost use Rattle.be_paged.specs.Changes.{Changes, IsBare, SetsWhatStands, Steps, Reaches};
 ghost use Rattle.be_paged.specs.Page.{contents};
+ghost use Rattle.be_paged.specs.Place.{IsAsked, IsKnownOf};
 ghost use Rattle.be_paged.specs.Version.{IsInHand, Spells};
 
+use crate::asked::{Asked, known_of};
 use crate::attributes::first_attribute;
 use crate::catalog::{catalog_key, payload_of};
 use crate::changes::change_entry;
@@ -55,8 +57,10 @@ fn set_value<R: Room>(
     node: u64,
     name: &Name,
     value: &Value,
+    known: Option<Option<(u64, usize)>>,
 ) -> Result<Done, Refusal>
     requires in_hand { IsInHand (R.standing room.old) (R.words room.old) (contents version.old) }
+    requires known { IsKnownOf (R.standing room.old) (R.words room.old) version.old.catalog node name.now known }
     requires open { IsTrue (R.is_open (R.kept room.old)) }
     ensures changes { OnOk result (Changes R.kept R.standing R.words (contents version.old) (contents version.new) room.old room.new) }
     ensures steps { IfOk result (λ done. (volume : State) → Spells (R.words room.old) (contents version.old) volume → IsSound volume →
@@ -67,7 +71,7 @@ fn set_value<R: Room>(
     ensures err { OnErr result (KeepsStart R.kept R.standing R.words room.old room.new) }
     ensures full { IfErr result (IsFullOf (R.full room.new)) }
 {
-    change_entry(room, version, node, name, Some(value))?;
+    change_entry(room, version, node, name, known, Some(value))?;
     let key = catalog_key(node, name);
     version.catalog = insert(room, version.catalog, &key, &payload_of(value))?;
     Ok(Done::Unit)
@@ -79,8 +83,10 @@ fn unset_value<R: Room>(
     version: &mut Version,
     node: u64,
     name: &Name,
+    known: Option<Option<(u64, usize)>>,
 ) -> Result<Done, Refusal>
     requires in_hand { IsInHand (R.standing room.old) (R.words room.old) (contents version.old) }
+    requires known { IsKnownOf (R.standing room.old) (R.words room.old) version.old.catalog node name.now known }
     requires open { IsTrue (R.is_open (R.kept room.old)) }
     ensures changes { OnOk result (Changes R.kept R.standing R.words (contents version.old) (contents version.new) room.old room.new) }
     ensures steps { IfOk result (λ done. (volume : State) → Spells (R.words room.old) (contents version.old) volume → IsSound volume →
@@ -89,7 +95,7 @@ fn unset_value<R: Room>(
     ensures err { OnErr result (KeepsStart R.kept R.standing R.words room.old room.new) }
     ensures full { IfErr result (IsFullOf (R.full room.new)) }
 {
-    change_entry(room, version, node, name, None)?;
+    change_entry(room, version, node, name, known, None)?;
     let key = catalog_key(node, name);
     version.catalog = remove(room, version.catalog, &key)?;
     Ok(Done::Unit)
@@ -128,7 +134,7 @@ fn remove_index<R: Room>(room: &mut R, version: &mut Version, name: &Name) -> Do
     Done::Unit
 }
 
-/// Takes all attributes of a node away, each with its pair.
+/// Takes all attributes of a node away, each with its pair. Of an attribute the name is read, and its value only where the name has an index.
 fn unset_all<R: Room>(room: &mut R, version: &mut Version, node: u64) -> Result<(), Refusal>
     requires in_hand { IsInHand (R.standing room.old) (R.words room.old) (contents version.old) }
     requires open { IsTrue (R.is_open (R.kept room.old)) }
@@ -140,10 +146,10 @@ fn unset_all<R: Room>(room: &mut R, version: &mut Version, node: u64) -> Result<
     ensures full { IfErr result (IsFullOf (R.full room.new)) }
 {
     for _ in 0..MAX_ATTRIBUTES {
-        let Some(name) = first_attribute(room, version.catalog, node) else {
+        let Some((name, place)) = first_attribute(room, version.catalog, node) else {
             return Ok(());
         };
-        unset_value(room, version, node, &name)?;
+        unset_value(room, version, node, &name, Some(Some(place)))?;
     }
     Ok(())
 }
@@ -164,9 +170,15 @@ fn drop_node<R: Room>(room: &mut R, version: &mut Version, node: u64) -> Result<
     Ok(Done::Unit)
 }
 
-/// One operation.
-fn edit<R: Room>(room: &mut R, version: &mut Version, op: &Op) -> Result<Done, Refusal>
+/// One operation, with what is remembered of an attribute, which may be another one.
+fn edit<R: Room>(
+    room: &mut R,
+    version: &mut Version,
+    op: &Op,
+    asked: &Option<Asked>,
+) -> Result<Done, Refusal>
     requires in_hand { IsInHand (R.standing room.old) (R.words room.old) (contents version.old) }
+    requires asked { IsAsked (R.standing room.old) (R.words room.old) version.old.catalog asked.now }
     requires next { version.old.next + 1 < 2 ^ 64 }
     requires open { IsTrue (R.is_open (R.kept room.old)) }
     ensures changes { OnOk result (Changes R.kept R.standing R.words (contents version.old) (contents version.new) room.old room.new) }
@@ -181,24 +193,32 @@ fn edit<R: Room>(room: &mut R, version: &mut Version, op: &Op) -> Result<Done, R
     match op {
         Op::New => add_node(room, version),
         Op::Drop(node) => drop_node(room, version, *node),
-        Op::Set(node, name, value) => set_value(room, version, *node, name, value),
-        Op::Unset(node, name) => unset_value(room, version, *node, name),
+        Op::Set(node, name, value) => {
+            let known = known_of(asked, *node, name);
+            set_value(room, version, *node, name, value, known)
+        }
+        Op::Unset(node, name) => {
+            let known = known_of(asked, *node, name);
+            unset_value(room, version, *node, name, known)
+        }
         Op::MkIndex(name, kind) => Ok(make_index(room, version, name, *kind)),
         Op::RmIndex(name) => Ok(remove_index(room, version, name)),
     }
 }
 
 /// A list of operations that are accepted, one after the other, whose answers enter an empty list. It is filled where it stands, since a list that is
-/// given by value costs its whole capacity.
+/// given by value costs its whole capacity. What is remembered of an attribute serves the first operation, since the trees have changed after it.
 pub(crate) fn edit_all<R: Room>(
     room: &mut R,
     version: &mut Version,
     ops: &[Op],
+    asked: Option<Asked>,
     dones: &mut ArrayVec<Done, 64>,
 ) -> Result<(), Refusal>
     requires few { length ops.now ≤ 64 }
     requires empty { dones.old.items ≡ [] }
     requires in_hand { IsInHand (R.standing room.old) (R.words room.old) (contents version.old) }
+    requires asked { IsAsked (R.standing room.old) (R.words room.old) version.old.catalog asked }
     requires fits { version.old.next + 64 < 2 ^ 64 }
     requires open { IsTrue (R.is_open (R.kept room.old)) }
     ensures changes { OnOk result (Changes R.kept R.standing R.words (contents version.old) (contents version.new) room.old room.new) }
@@ -209,9 +229,11 @@ pub(crate) fn edit_all<R: Room>(
     ensures err { OnErr result (KeepsStart R.kept R.standing R.words room.old room.new) }
     ensures full { IfErr result (IsFullOf (R.full room.new)) }
 {
+    let mut first = asked;
     for op in ops {
         op.valid();
-        dones.push(edit(room, version, op)?);
+        dones.push(edit(room, version, op, &first)?);
+        first = None;
     }
     Ok(())
 }

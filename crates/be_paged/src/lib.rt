@@ -14,6 +14,7 @@
 //! the pages that the old version has and the new one lacks, and the other way round.
 #![tactic(auto)]
 
+mod asked;
 mod attributes;
 mod catalog;
 mod changes;
@@ -27,6 +28,7 @@ pub mod laws;
 mod marks;
 mod on_page;
 mod paged_source;
+mod paged_whole;
 mod reading;
 mod spelling;
 mod version;
@@ -34,6 +36,7 @@ mod writes;
 
 pub use first::first_page;
 pub use paged_source::{PagedSource, source};
+pub use paged_whole::{PagedWhole, whole};
 pub use reading::{attrs, get, indices, nodes};
 pub use spelling::one_spelling;
 pub use writes::{apply, apply_into};

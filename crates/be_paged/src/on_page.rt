@@ -82,7 +82,7 @@ fn is_named<L: Look>(look: &mut L, page: u64, i: usize, name: &Name) -> bool
 }
 
 /// The index of a name on a version page, if there is one. Of most indices on the way it reads one word.
-fn find_index<L: Look>(look: &mut L, page: u64, name: &Name) -> Option<FoundIndex>
+pub(crate) fn find_index<L: Look>(look: &mut L, page: u64, name: &Name) -> Option<FoundIndex>
     requires version { (volume : State) × IsVersion (L.standing look.old) (L.words look.old) page volume }
     ensures found { IsFound (contents_of (L.words look.new page)).entries name.now result }
     ensures unchanged { IsUnchanged L.kept L.standing L.words look.old look.new }

@@ -1,17 +1,19 @@
 //! Reading a volume from its version page.
-ghost use Rattle.std.specs.Prelude.{◌≡◌, IsOk, IfErr, Ok, false};
+ghost use Rattle.std.specs.Prelude.{◌≡◌, IsOk, IfErr, IfSome, Ok, false, is_some};
+ghost use Rattle.std.specs.FinMap as map;
 ghost use Rattle.std.specs.Option.{option_map_or};
 ghost use Rattle.be_pages.specs.Pages.{IsUnchanged};
 ghost use Rattle.be_query.specs.View.{literal};
 ghost use Rattle.be_tree.specs.Tree.{IsTree, pairs};
-ghost use Rattle.be_volume.specs.Maps.{Nodes as AllNodes};
+ghost use Rattle.be_volume.specs.Maps.{Nodes as AllNodes, attributes_of};
 ghost use Rattle.be_value.specs.Refusal.{Answers};
 ghost use Rattle.be_value.specs.declared.refusals.Refusal.TheVariants.{OutOfMemory};
 ghost use Rattle.be_volume.specs.Query.{holds};
 ghost use Rattle.be_volume.specs.Reading.{attribute, attributes_at, index_kinds};
 ghost use Rattle.be_volume.specs.Volume.{State};
-ghost use Rattle.be_paged.specs.Catalog.{IsCatalog, value_at};
+ghost use Rattle.be_paged.specs.Catalog.{IsCatalog, catalog_key as key_in_catalog, value_at};
 ghost use Rattle.be_paged.specs.Nodes.{nodes_from};
+ghost use Rattle.be_paged.specs.Place.{IsFoundAt, IsKnownOf};
 ghost use Rattle.be_paged.specs.Reading.{AreValid};
 ghost use Rattle.be_paged.specs.Version.{IsVersion};
 
@@ -28,15 +30,56 @@ use be_tree::{find_place, has_key};
 use be_value::{Kind, Name, Refusal, Value};
 use std::alloc::Global;
 
-/// A node's value at a name, from the catalog's tree.
-#[inline(always)]
-pub(crate) fn value_in<L: Look>(look: &mut L, catalog: u64, node: u64, name: &Name) -> Option<Value>
+/// Where a node's attribute stands in the catalog's tree, if the node has it: its page, and its place there. It costs one descent.
+pub(crate) fn attribute_place<L: Look>(
+    look: &mut L,
+    catalog: u64,
+    node: u64,
+    name: &Name,
+) -> Option<(u64, usize)>
     requires tree { IsTree (L.standing look.old) (L.words look.old) catalog }
+    ensures there { (nodes : AllNodes) → IsCatalog (pairs (L.words look.old) catalog) nodes → is_some result ≡ map.contains_key (attributes_of nodes node) name.now }
+    ensures found { IsFoundAt (L.standing look.new) (L.words look.new) catalog (key_in_catalog node name.now) result }
+    ensures unchanged { IsUnchanged L.kept L.standing L.words look.old look.new }
+{
+    find_place(look, catalog, &catalog_key(node, name))
+}
+
+/// Where the item of a key stands, which is known or looked for.
+#[inline(always)]
+fn place_of<L: Look>(
+    look: &mut L,
+    catalog: u64,
+    key: &[u8],
+    known: Option<Option<(u64, usize)>>,
+) -> Option<(u64, usize)>
+    requires tree { IsTree (L.standing look.old) (L.words look.old) catalog }
+    requires known { IfSome known (IsFoundAt (L.standing look.old) (L.words look.old) catalog key.now) }
+    ensures found { IsFoundAt (L.standing look.new) (L.words look.new) catalog key.now result }
+    ensures unchanged { IsUnchanged L.kept L.standing L.words look.old look.new }
+{
+    match known {
+        Some(found) => found,
+        None => find_place(look, catalog, key),
+    }
+}
+
+/// A node's value at a name, from the catalog's tree. Where it is known whether and where the attribute stands, it makes no descent.
+#[inline(always)]
+pub(crate) fn value_in<L: Look>(
+    look: &mut L,
+    catalog: u64,
+    node: u64,
+    name: &Name,
+    known: Option<Option<(u64, usize)>>,
+) -> Option<Value>
+    requires tree { IsTree (L.standing look.old) (L.words look.old) catalog }
+    requires known { IsKnownOf (L.standing look.old) (L.words look.old) catalog node name.now known }
     ensures value { (nodes : AllNodes) → IsCatalog (pairs (L.words look.old) catalog) nodes → AreValid nodes → result ≡ value_at nodes node name.now }
     ensures unchanged { IsUnchanged L.kept L.standing L.words look.old look.new }
 {
     let key = catalog_key(node, name);
-    let (page, at) = find_place(look, catalog, &key)?;
+    let (page, at) = place_of(look, catalog, &key, known)?;
     value_at(look, page, at)
 }
 
@@ -68,7 +111,7 @@ pub fn get<L: Look>(look: &mut L, version_page: u64, node: u64, name: &Name) -> 
     ensures unchanged { IsUnchanged L.kept L.standing L.words look.old look.new }
 {
     let catalog = look.word(version_page, 3);
-    value_in(look, catalog, node, name)
+    value_in(look, catalog, node, name, None)
 }
 
 /// The attributes of a node, by ascending bytes of their names. It is refused with NoNode where the node isn't

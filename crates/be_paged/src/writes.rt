@@ -8,9 +8,11 @@ ghost use Rattle.be_volume.specs.Sound.{IsName};
 ghost use Rattle.be_volume.specs.Volume.{State, steps};
 ghost use Rattle.be_paged.specs.Changes.{Applies, IsRefusedList};
 ghost use Rattle.be_paged.specs.Facts.{AnswersFor};
+ghost use Rattle.be_paged.specs.Place.{IsAsked};
 ghost use Rattle.be_paged.specs.Version.{IsVersion};
 ghost use Rattle.be_paged.specs.Page.{contents, contents_of, IsVersionPage};
 
+use crate::asked::Asked;
 use crate::edits::edit_all;
 use crate::facts::PageFacts;
 use crate::version::{Version, fill_version, store_version};
@@ -20,19 +22,26 @@ use be_value::Refusal;
 use be_volume::{Done, Op, first_refusal};
 
 /// The refusal, from NoNode to NotIndexable, that the list meets, if it meets one. It is found from the list and the old
-/// version, and nothing changes.
-fn refusal<L: Look>(look: &mut L, version: &Version, ops: &[Op]) -> Option<Refusal>
+/// version, and nothing changes. `asked` gets the attribute that was looked for first, unless it has one.
+fn refusal<L: Look>(
+    look: &mut L,
+    version: &Version,
+    ops: &[Op],
+    asked: &mut Option<Asked>,
+) -> Option<Refusal>
     ghost volume: { State }
     requires answers { AnswersFor (L.standing look.old) (L.words look.old) (contents version.now) volume }
+    requires asked { IsAsked (L.standing look.old) (L.words look.old) version.now.catalog asked.old }
     requires fits { volume.next + length ops.now < 2 ^ 64 }
     ensures answer { result ≡ result_err (steps volume ops.now) }
+    ensures asked { IsAsked (L.standing look.new) (L.words look.new) version.now.catalog asked.new }
     ensures unchanged { IsUnchanged L.kept L.standing L.words look.old look.new }
 {
     let mut facts = PageFacts {
         look,
         version,
-        sought: None,
         counted: None,
+        asked,
     };
     first_refusal(&mut facts, ops)
 }
@@ -99,10 +108,11 @@ pub fn apply_into<R: Room>(
         entries: ArrayVec::new(),
     };
     fill_version(room, version_page, &mut version);
-    if let Some(reason) = refusal(room, &version, ops) {
+    let mut asked = None;
+    if let Some(reason) = refusal(room, &version, ops, &mut asked) {
         return Err(reason);
     }
-    edit_all(room, &mut version, ops, dones)?;
+    edit_all(room, &mut version, ops, asked, dones)?;
     let page = replace_version(room, version_page, &version)?;
     Ok(page)
 }

@@ -27,6 +27,21 @@ pub on_ok : {A E : Type 0} {P Q : Type 0} (r : Result A E) → (P → Q) → OnO
 on_ok (Ok x) f h = f h
 on_ok (Err e) f h = h
 
+-- a walk over a range of an index has each node of which the formula is true, and of which the index has a value whose key lies in the range
+pub has_seen : (s : State) (f : Formula) (name : List ℕ) (kind : Kind) (low : List ℕ) (high : Option (List ℕ)) (found : List ℕ) →
+    IsSound s → index_kind s name ≡ Some kind → HasWithin s f name low high found →
+    (node : ℕ) (value : Value) → sees s node name ≡ Some value → (IsPair kind value node → Within low high (key value node)) → sat s f node ≡ true → Contains found node
+has_seen s f name kind low high found sound is_kind within node value seen range sat_n = by (map.get s.indices name) refl
+  where
+    by : (i : Option Index) → map.get s.indices name ≡ i → Contains found node
+    by None none = let no : None ≡ Some kind = sym (ap (λ i. option_map (λ (i : Index). i.kind) i) none) ∙ is_kind in cc
+    by (Some index) some =
+        let paired : map.get index.pairs node ≡ Some value = sym (ap (λ i. seen_in i (attribute s node name) node) some) ∙ seen in
+        let p : IsPaired s name index.kind node value = sound.pairs name index node value some paired in
+        let kinds : index.kind ≡ kind = same_Some index.kind kind (sym (ap (λ i. option_map (λ (i : Index). i.kind) i) some) ∙ is_kind) in
+        within (key value node) (record { index = index; node = node; value = value; there = some; paired = paired; is = refl })
+        (range (record { is_value = p.is_value; kind_is = p.kind_is ∙ kinds; node_fits = p.node_fits })) sat_n
+
 -- a walk over the range of a pick has what is reached by way of it
 pub has_reached : (s : State) (f : Formula) (pick : ℕ) (c : Comparison) (kind : Kind) (low : List ℕ) (high : Option (List ℕ)) (found : List ℕ) →
     IsSound s → slice_get (leaves f) pick ≡ Some c → index_kind s c.name ≡ Some kind →
@@ -36,17 +51,7 @@ has_reached s f pick c kind low high found sound there is_kind range within = λ
     let P : Comparison → Type 0 = λ d. (sees s node d.name ≡ Some r.value) × Allows pick 0 f d.name r.value in
     let same : r.picked ≡ c = same_Some r.picked c (sym r.there ∙ there) in
     let at_c : (sees s node c.name ≡ Some r.value) × Allows pick 0 f c.name r.value = subst P same (r.seen, r.allows) in
-    by node r.value sat_n at_c.0 at_c.1 (map.get s.indices c.name) refl
-  where
-    by : (node : ℕ) (value : Value) → sat s f node ≡ true → sees s node c.name ≡ Some value → Allows pick 0 f c.name value →
-        (i : Option Index) → map.get s.indices c.name ≡ i → Contains found node
-    by node value sat_n sees_n allows None none = let no : None ≡ Some kind = sym (ap (λ i. option_map (λ (i : Index). i.kind) i) none) ∙ is_kind in cc
-    by node value sat_n sees_n allows (Some index) some =
-        let paired : map.get index.pairs node ≡ Some value = sym (ap (λ i. seen_in i (attribute s node c.name) node) some) ∙ sees_n in
-        let p : IsPaired s c.name index.kind node value = sound.pairs c.name index node value some paired in
-        let kinds : index.kind ≡ kind = same_Some index.kind kind (sym (ap (λ i. option_map (λ (i : Index). i.kind) i) some) ∙ is_kind) in
-        within (key value node) (record { index = index; node = node; value = value; there = some; paired = paired; is = refl })
-        (range value node (record { is_value = p.is_value; kind_is = p.kind_is ∙ kinds; node_fits = p.node_fits }) allows) sat_n
+    has_seen s f c.name kind low high found sound is_kind within node r.value at_c.0 (λ pair. range r.value node pair at_c.1) sat_n
 
 -- what was there before or is one of the nodes with a key in a range, and wanted, was there before or has such a key
 pub added_within : (s : State) (name l low : List ℕ) (h high : Option (List ℕ)) (none nodes before : List ℕ) (Wanted : ℕ → Type 0) →

@@ -1,5 +1,5 @@
--- What is found of one comparison, and of an "or" side by side.
-use Rattle.std.proofs.Common.{◌≡◌, ◌⊎◌, ◌≤◌, ◌<◌, ◌&&◌, ◌||◌, ℕ, Bool, true, false, List, refl, sym, ap, ◌∙◌, subst, inl, inr, Some, None, is_some, arith}
+-- What is found of comparisons of one name, and of an "or" side by side.
+use Rattle.std.proofs.Common.{◌≡◌, ◌⊎◌, ◌≤◌, ◌<◌, ◌+◌, ◌&&◌, ◌||◌, ℕ, Bool, true, false, List, refl, sym, ap, ◌∙◌, subst, inl, inr, Some, None, is_some, arith}
 use Rattle.std.specs.List.{Contains}
 use Rattle.std.specs.Option.{option_map, option_map_or}
 use Rattle.std.specs.FinMap as map
@@ -10,18 +10,16 @@ use Rattle.std.specs.declared.result.Result.TheVariants.{Ok, Err}
 use Rattle.be_value.specs.Key.{key}
 use Rattle.be_value.specs.declared.values.Kind.{Kind}
 use Rattle.be_value.specs.declared.values.Value.{Value}
-use Rattle.be_query.specs.Grammar.{Formula, Leaf, And, Or, Literal, comparisons}
-use Rattle.be_query.specs.declared.tree.Cmp.{Cmp}
+use Rattle.be_query.specs.Grammar.{Formula, Leaf, And, Or, comparisons}
 use Rattle.be_volume.specs.Query.{covered, has_index, holds, sat, sees}
 use Rattle.be_volume.specs.Reading.{index_kind}
 use Rattle.be_volume.specs.Sound.{IsSound}
 use Rattle.be_volume.specs.Volume.{State}
 use Rattle.be_volume.specs.declared.maps.Index.{Index}
-use Rattle.be_plan.specs.Cover.{Comparison}
 use Rattle.be_plan.specs.Narrow.{Allows, IsPair, Within}
-use Rattle.be_plan.specs.Walk.{HasWithin}
-use Rattle.be_plan.proofs.Reaching.{has_reached}
-use Rattle.be_plan.proofs.Ways.{or_cases}
+use Rattle.be_plan.specs.Walk.{AreAllOn, HasWithin}
+use Rattle.be_plan.proofs.Reaching.{has_seen}
+use Rattle.be_plan.proofs.Ways.{and_first, and_second, or_cases}
 
 has_kind : (s : State) (name : List ℕ) (o : Option Kind) → o ≡ index_kind s name → is_some o ≡ has_index s name
 has_kind s name o e = ap (λ (k : Option Kind). is_some k) e ∙ by (map.get s.indices name)
@@ -30,30 +28,45 @@ has_kind s name o e = ap (λ (k : Option Kind). is_some k) e ∙ by (map.get s.i
     by None = refl
     by (Some index) = refl
 
--- one comparison rests on an index where its name has a kind
-pub leaf_rests : (s : State) (f : Formula) (name : List ℕ) (op : Cmp) (literal : Literal) (o : Option Kind) → f ≡ Leaf name op literal → o ≡ index_kind s name → covered s f ≡ is_some o
-leaf_rests s f name op literal o one kind = ap (covered s) one ∙ sym (has_kind s name o kind)
+-- comparisons of one name rest on an index where the name has a kind
+pub named_rests : (s : State) (f : Formula) (name : List ℕ) (o : Option Kind) → AreAllOn f name → o ≡ index_kind s name → covered s f ≡ is_some o
+named_rests s (Leaf own op literal) name o on kind = ap (has_index s) on ∙ sym (has_kind s name o kind)
+named_rests s (And a b) name o on kind =
+    ap (λ t. t || covered s b) (named_rests s a name o on.0 kind) ∙ ap (λ t. is_some o || t) (named_rests s b name o on.1 kind) ∙ twice (is_some o)
+  where
+    twice : (x : Bool) → (x || x) ≡ x
+    twice true = refl
+    twice false = refl
+named_rests s (Or a b) name o on kind = absurd on
 
--- a walk over the range of one comparison has all nodes of which it is true
-pub leaf_found : (s : State) (f : Formula) (name : List ℕ) (op : Cmp) (literal : Literal) (kind : Kind) (low : List ℕ) (high : Option (List ℕ)) (found : List ℕ) →
-    IsSound s → f ≡ Leaf name op literal → index_kind s name ≡ Some kind →
+-- the name of comparisons that are true of a node sees a value there
+named_seen : (s : State) (f : Formula) (name : List ℕ) (n : ℕ) → AreAllOn f name → sat s f n ≡ true → sees s n name ≡ None → ⊥
+named_seen s (Leaf own op literal) name n on h none =
+    let no : false ≡ true = ap (λ o. option_map_or (λ value. holds op value literal) o false) (sym none ∙ ap (sees s n) (sym on)) ∙ h in cc
+named_seen s (And a b) name n on h none = named_seen s a name n on.0 (and_first (sat s a n) (sat s b n) h) none
+named_seen s (Or a b) name n on h none = on
+
+-- and it is a value that they allow, by way of any of them
+named_allows : (s : State) (f : Formula) (name : List ℕ) (n : ℕ) (value : Value) (pick at : ℕ) → AreAllOn f name → sat s f n ≡ true → sees s n name ≡ Some value → Allows pick at f name value
+named_allows s (Leaf own op literal) name n value pick at on h seen =
+    λ same. ap (λ o. option_map_or (λ v. holds op v literal) o false) (sym seen ∙ ap (sees s n) (sym on)) ∙ h
+named_allows s (And a b) name n value pick at on h seen = (
+  named_allows s a name n value pick at on.0 (and_first (sat s a n) (sat s b n) h) seen,
+  named_allows s b name n value pick (at + comparisons a) on.1 (and_second (sat s a n) (sat s b n) h) seen,
+)
+named_allows s (Or a b) name n value pick at on h seen = absurd on
+
+-- a walk over the range of comparisons of one name has all nodes of which they are true
+pub named_found : (s : State) (f : Formula) (name : List ℕ) (kind : Kind) (low : List ℕ) (high : Option (List ℕ)) (found : List ℕ) →
+    IsSound s → AreAllOn f name → index_kind s name ≡ Some kind →
     ((v : Value) (n : ℕ) → IsPair kind v n → Allows 0 0 f name v → Within low high (key v n)) → HasWithin s f name low high found →
     (n : ℕ) → sat s f n ≡ true → Contains found n
-leaf_found s f name op literal kind low high found sound one is_kind = subst P (sym one) at_leaf
+named_found s f name kind low high found sound on is_kind range within n h = by (sees s n name) refl
   where
-    P : Formula → Type 0
-    P g = ((v : Value) (n : ℕ) → IsPair kind v n → Allows 0 0 g name v → Within low high (key v n)) → HasWithin s g name low high found → (n : ℕ) → sat s g n ≡ true → Contains found n
-
-    at_leaf : P (Leaf name op literal)
-    at_leaf range within n h = by (sees s n name) refl h
-      where
-        picked : Comparison
-        picked = record { name = name; op = op; literal = literal }
-
-        by : (o : Option Value) → sees s n name ≡ o → option_map_or (λ value. holds op value literal) o false ≡ true → Contains found n
-        by None e t = cc
-        by (Some value) e t =
-            has_reached s (Leaf name op literal) 0 picked kind low high found sound refl is_kind range within n (record { picked = picked; there = refl; value = value; seen = e; allows = λ same. t }) h
+    by : (o : Option Value) → sees s n name ≡ o → Contains found n
+    by None none = absurd (named_seen s f name n on h none)
+    by (Some value) seen =
+        has_seen s f name kind low high found sound is_kind within n value seen (λ pair. range value n pair (named_allows s f name n value 0 0 on h seen)) h
 
 -- a refusal by memory is one by memory or by a lack of indices
 pub by_memory : {A E : Type 0} (P Q : E → Type 0) (r : Result A E) → IfErr r P → IfErr r (λ e. P e ⊎ Q e)

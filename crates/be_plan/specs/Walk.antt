@@ -27,9 +27,11 @@ asks_name (Or a b) name = asks_name a name || asks_name b name
 abbrev pub is_true_at : State → ℕ → List ℕ → Cmp → Literal → Bool
 is_true_at s node name op literal = option_map_or (λ value. holds op value literal) (attribute s node name) false
 
--- the formula is true of each of the nodes
-abbrev pub AllSatisfy : State → Formula → List ℕ → Type 0
-AllSatisfy s f found = (n : ℕ) → Contains found n → sat s f n ≡ true
+-- each comparison of the formula is on this name, and none stands under "or"
+abbrev pub AreAllOn : Formula → List ℕ → Type 0
+AreAllOn (Leaf own op literal) name = own ≡ name
+AreAllOn (And a b) name = AreAllOn a name × AreAllOn b name
+AreAllOn (Or a b) name = ⊥
 
 -- each of the nodes is still there
 abbrev pub Keeps : List ℕ → List ℕ → Type 0

@@ -1,41 +1,72 @@
 //! The answer to a query, from what a source's own indices choose.
 //!
 //! The sides of an `||` are answered one after the other, each by itself. So a comparison that stands under `||` alone, as most do, has nothing to
-//! choose from: its index is asked for once, and no cover is made. Of a side under `&&` the choice is made as for a query of its own.
-ghost use Rattle.std.specs.Prelude.{◌≡◌, ◌⊎◌, ◌≤◌, ℕ, true, false, OnOk, IfOk, IfErr};
+//! choose from, and neither have comparisons of one name under `&&`, as the two ends of a range: their index is asked for once, and no cover is
+//! made. Of any other side under `&&` the choice is made as for a query of its own.
+ghost use Rattle.std.specs.Prelude.{◌≡◌, ◌⊎◌, ◌≤◌, ℕ, true, false, OnOk, IfOk, IfErr, IfSome};
 ghost use Rattle.std.specs.List.{Contains};
+ghost use Rattle.std.specs.Option.{option_copied};
 ghost use Rattle.std.specs.List.Sorted.{IsStrictlyIncreasing};
 ghost use Rattle.be_value.specs.Refusal.{Answers};
 ghost use Rattle.be_value.specs.declared.refusals.Refusal.TheVariants.{OutOfMemory, NotCovered};
-ghost use Rattle.be_query.specs.Grammar.{Leaf, comparisons};
-ghost use Rattle.be_query.specs.View.{formula, literal};
+ghost use Rattle.be_query.specs.Grammar.{comparisons};
+ghost use Rattle.be_query.specs.View.{formula};
 ghost use Rattle.be_volume.specs.Query.{covered, sat, scan};
 ghost use Rattle.be_volume.specs.Volume.{State};
-ghost use Rattle.be_plan.specs.Walk.{Keeps};
+ghost use Rattle.be_plan.specs.Walk.{AreAllOn, Keeps};
 
 use crate::Source;
 use crate::choosing::choose_by_source;
-use crate::narrowing::narrow_one;
+use crate::narrowing::narrow_beside;
 use crate::ranges::Range;
 use crate::running::walk_picks;
 use crate::sorting::in_order;
 use crate::walks::{ROOM, walk};
-use be_query::{Comparison, Query, Tree};
-use be_value::Refusal;
+use be_query::{Query, Tree};
+use be_value::{Name, Refusal};
 use std::alloc::Global;
 
-/// Adds the nodes of which a side is true that is one comparison.
-fn collect_one<S: Source>(
+/// Whether each comparison is on this name, and none stands under `||`.
+fn are_all_on(tree: &Tree, name: &Name) -> bool
+    ensures { result ≡ true → AreAllOn (formula tree.now) name.now }
+{
+    match tree {
+        Tree::Leaf(comparison) => comparison.name == *name,
+        Tree::And(a, b) => are_all_on(a, name) && are_all_on(b, name),
+        Tree::Or(_, _) => false,
+    }
+}
+
+/// The name that each comparison is on, if it is one, and none stands under `||`.
+fn only_name(tree: &Tree) -> Option<&Name>
+    ensures { IfSome (option_copied result) (λ name. AreAllOn (formula tree.now) name) }
+{
+    match tree {
+        Tree::Leaf(comparison) => Some(&comparison.name),
+        Tree::And(a, b) => {
+            let name = only_name(a)?;
+            if are_all_on(b, name) {
+                Some(name)
+            } else {
+                None
+            }
+        }
+        Tree::Or(_, _) => None,
+    }
+}
+
+/// Adds the nodes of which a side is true whose comparisons are all on one name.
+fn collect_named<S: Source>(
     alloc: Global,
     source: &mut S,
     range: &mut Range,
     tree: &Tree,
-    comparison: &Comparison,
+    name: &Name,
     found: &mut Vec<u64>,
 ) -> Result<(), Refusal>
     ghost volume: { State }
     requires answers { S.answers_for source.old volume }
-    requires one { formula tree.now ≡ Leaf comparison.now.name comparison.now.op (literal comparison.now.literal) }
+    requires named { AreAllOn (formula tree.now) name.now }
     ensures stays { S.kept source.new ≡ S.kept source.old }
     ensures answers { S.answers_for source.new volume }
     ensures keeps { Keeps found.old.items found.new.items }
@@ -44,25 +75,16 @@ fn collect_one<S: Source>(
     ensures covered { OnOk result (covered volume (formula tree.now) ≡ true) }
     ensures refused { IfErr result (λ e. (e ≡ OutOfMemory) ⊎ ((e ≡ NotCovered) × (covered volume (formula tree.now) ≡ false))) }
 {
-    let Some(kind) = source.kind_of(&comparison.name) else {
+    let Some(kind) = source.kind_of(name) else {
         return Err(Refusal::NotCovered);
     };
     range.open();
-    let rest = narrow_one(range, tree, comparison, kind);
-    walk(
-        alloc,
-        source,
-        tree,
-        &comparison.name,
-        kind,
-        range,
-        rest,
-        found,
-    )
+    let rest = narrow_beside(range, tree, name, kind);
+    walk(alloc, source, tree, name, kind, range, rest, found)
 }
 
-/// Adds the nodes of which a side is true, from the comparisons that the source's indices choose for it. It stands by itself, so that a
-/// comparison alone needs no room for a cover.
+/// Adds the nodes of which a side is true, from the comparisons that the source's indices choose for it. It stands by itself, so that
+/// comparisons of one name need no room for a cover.
 #[inline(never)]
 fn collect_chosen<S: Source>(
     alloc: Global,
@@ -107,9 +129,9 @@ fn collect_side<S: Source>(
     ensures covered { OnOk result (covered volume (formula tree.now) ≡ true) }
     ensures refused { IfErr result (λ e. (e ≡ OutOfMemory) ⊎ ((e ≡ NotCovered) × (covered volume (formula tree.now) ≡ false))) }
 {
-    match tree {
-        Tree::Leaf(comparison) => collect_one(alloc, source, range, tree, comparison, found),
-        Tree::And(_, _) | Tree::Or(_, _) => collect_chosen(alloc, source, range, tree, found),
+    match only_name(tree) {
+        Some(name) => collect_named(alloc, source, range, tree, name, found),
+        None => collect_chosen(alloc, source, range, tree, found),
     }
 }
 
@@ -141,7 +163,8 @@ fn collect<S: Source>(
 
 /// The nodes of which the query is true, ascending, from comparisons that the source's own indices choose; `explain` of the cover that
 /// `choose_from` gives tells which. A query that rests on no index is refused by `NotCovered`. It asks for the index of each comparison
-/// once, and of those under `&&` a second time for each pick. After `OutOfMemory` the source still answers for the volume.
+/// once, or once for all of one name under `&&`, and of others under `&&` a second time for each pick. After `OutOfMemory` the source still
+/// answers for the volume.
 pub fn answer<S: Source>(alloc: Global, query: &Query, source: &mut S) -> Result<Vec<u64>, Refusal>
     ghost volume: { State }
     requires { S.answers_for source.old volume }

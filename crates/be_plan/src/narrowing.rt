@@ -20,7 +20,7 @@ ghost use Rattle.be_value.specs.Key.{key as key_bytes, value_key, IsValue};
 ghost use Rattle.be_value.specs.Name.{has_nul};
 ghost use Rattle.be_value.specs.Value.{kind_of};
 ghost use Rattle.be_value.specs.declared.values.Value.{Value as AnyValue};
-ghost use Rattle.be_query.specs.Grammar.{comparisons, Exact, Leaf};
+ghost use Rattle.be_query.specs.Grammar.{comparisons, Exact};
 ghost use Rattle.be_query.specs.View.{formula, literal};
 ghost use Rattle.be_volume.specs.Maps.{name_cmp};
 ghost use Rattle.be_volume.specs.Query.{holds, holds_of_number, is_true_of, literal_number, sat};
@@ -336,30 +336,14 @@ pub(crate) fn rest_of_or<'a>(tree: &'a Tree, rest: Option<&'a Tree>) -> Option<&
     }
 }
 
-/// Leaves out keys of values at which the comparison is false, of the index of its name. What is left to ask of the nodes of the other keys: none,
-/// where the range decides the comparison, and else the tree, which is this comparison.
-pub(crate) fn narrow_one<'a>(
-    range: &mut Range,
-    tree: &'a Tree,
-    comparison: &Comparison,
-    kind: Kind,
-) -> Option<&'a Tree>
-    requires one { formula tree.now ≡ Leaf comparison.now.name comparison.now.op (literal comparison.now.literal) }
-    ensures within { (k : List ℕ) → IsIn range.new k → IsIn range.old k }
-    ensures keeps { (pick at : ℕ) (v : AnyValue) (n : ℕ) → IsPair kind v n → Allows pick at (formula tree.now) comparison.now.name v →
-        IsIn range.old (key_bytes v n) → IsIn range.new (key_bytes v n) }
-    ensures leaves { LeavesRest (formula tree.now) comparison.now.name kind range.new.low.items (high_of range.new) (option_map formula (option_copied result)) }
-{
-    if narrow(range, comparison, kind) {
-        None
-    } else {
-        Some(tree)
-    }
-}
-
 /// Leaves out keys of values that a node can't have at this name where the part is true of it. An `||` leaves out none, since neither of its
 /// sides need be true. What is left to ask of the nodes of the other keys, none where the range decides the part.
-fn narrow_beside<'a>(range: &mut Range, tree: &'a Tree, name: &Name, kind: Kind) -> Option<&'a Tree>
+pub(crate) fn narrow_beside<'a>(
+    range: &mut Range,
+    tree: &'a Tree,
+    name: &Name,
+    kind: Kind,
+) -> Option<&'a Tree>
     ensures within { (k : List ℕ) → IsIn range.new k → IsIn range.old k }
     ensures keeps { (pick at : ℕ) (v : AnyValue) (n : ℕ) → IsPair kind v n → Allows pick at (formula tree.now) name.now v →
         IsIn range.old (key_bytes v n) → IsIn range.new (key_bytes v n) }

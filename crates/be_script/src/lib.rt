@@ -6,6 +6,6 @@
 #![tactic(auto)]
 
 pub use be_command_line::{Task, task};
-pub use be_history::{Finding, check, dump, journal_told};
+pub use be_history::{Finding, check, dump, dump_state, journal_told};
 pub use be_serving::{Gate, Limits, OpenGate, RunFault, laws, race, read_files, run, run_and_tell};
 pub use be_shell::{Ends, Line, Peer, Terminal, converse, shell};

@@ -3,14 +3,14 @@ use Rattle.std.proofs.Common.{◌≡◌, ◌≤◌, ◌<◌, ◌+◌, ℕ, Bool,
 use Rattle.std.proofs.lemmas.Bool.Decides.{nat_tests}
 use Rattle.std.proofs.lemmas.List.{append-nil, length-map, length_push, map-append}
 use Rattle.std.proofs.lemmas.List.Concat.{flat_map-cons}
-use Rattle.std.proofs.lemmas.List.Elements.{All-head, All-tail}
+use Rattle.std.proofs.lemmas.List.Elements.{All-head, All-tail, All-weaker}
 use Rattle.std.specs.List.{flat_map, list_all}
 use Rattle.be_history.specs.Dump.{by_only_pass, dump, op_line, write_lines}
 use Rattle.be_history.specs.History.{CanBeJournal, CanBeOp, CanBeEntry}
 use Rattle.be_history.proofs.LineLemmas.{op_part}
 use Rattle.be_history.proofs.OpLemmas.{op_asked}
 use Rattle.be_history.proofs.PartLemmas.{in_line, part_line}
-use Rattle.be_journal.specs.Journal.{Agrees, IsLegal, replay}
+use Rattle.be_journal.specs.Journal.{Agrees, IsEntry, IsLegal, replay}
 use Rattle.be_journal.specs.Text.{op_text}
 use Rattle.be_journal.specs.declared.entries.Entry.{Entry}
 use Rattle.be_journal.proofs.LegalLemmas.{legal_front, legal_last, replay_push}
@@ -145,8 +145,12 @@ entry_written limit front entry agrees room =
     ∙ (ap (λ (b : Bool). cond b (Ok (entered (made limit front) entry.ops agrees.0 entry.dones, entry.dones)) (Err CommitsSpent)) short
     ∙ ap (λ (s : Store). Ok (s, entry.dones)) same)
 
+-- the entry has 1 to 64 operations, each one of the program
+abbrev pub HasWrite : Entry → Type 0
+HasWrite entry = IsEntry entry × All CanBeOp entry.ops
+
 -- the lines of further entries, run on the store that the first ones made
-entries_made : (limit : ℕ) (front rest : List Entry) → All CanBeEntry rest → IsLegal (front ++ rest) → length (front ++ rest) ≤ limit →
+entries_made : (limit : ℕ) (front rest : List Entry) → All HasWrite rest → IsLegal (front ++ rest) → length (front ++ rest) ≤ limit →
     Outputs (opening (made limit front)) (lines_of (dump rest)) (opening (made limit (front ++ rest))) (dump_output (length front + 1) rest)
 entries_made limit front [] are legal short =
     let s = opening (made limit front) in (
@@ -158,7 +162,7 @@ entries_made limit front [] are legal short =
       refl,
     )
 entries_made limit front (entry ∷ rest) are legal short =
-    let w = All-head CanBeEntry entry rest are in
+    let w = All-head HasWrite entry rest are in
     let old = made limit front in
     let new = made limit (front ++ entry ∷ []) in
     let last = opening (made limit (front ++ entry ∷ rest)) in
@@ -172,13 +176,19 @@ entries_made limit front (entry ∷ rest) are legal short =
     let behind : Outputs (opening new) (lines_of (dump rest)) last (dump_output (length front + 1 + 1) rest) =
     subst (λ (n : ℕ). Outputs (opening new) (lines_of (dump rest)) last (dump_output (n + 1) rest)) long
     (subst (λ (es : List Entry). Outputs (opening new) (lines_of (dump rest)) (opening (made limit es)) (dump_output (length (front ++ entry ∷ []) + 1) rest)) parted
-    (entries_made limit (front ++ entry ∷ []) rest (All-tail CanBeEntry entry rest are) joined fits)) in
+    (entries_made limit (front ++ entry ∷ []) rest (All-tail HasWrite entry rest are) joined fits)) in
     subst (λ (text : List ℕ). Outputs (opening old) (lines_of text) last (dump_output (length front + 1) (entry ∷ rest)))
     (sym (flat_map-cons (λ (e : Entry). write_lines e.ops) entry rest))
     (subst (λ (n : ℕ). Outputs (opening old) (lines_of (write_lines entry.ops ++ dump rest)) last (write_output n entry ++ dump_output (length front + 1 + 1) rest)) (sym numbered)
-    (one_write old new last entry.dones (dump rest) (dump_output (length front + 1 + 1) rest) behind entry.ops w.is.0 w.is.1 w.ops accepted))
+    (one_write old new last entry.dones (dump rest) (dump_output (length front + 1 + 1) rest) behind entry.ops w.0.0 w.0.1 w.1 accepted))
+
+-- the lines of writes make their journal
+pub writes_made : (limit : ℕ) (entries : List Entry) → All HasWrite entries → IsLegal entries → length entries ≤ limit →
+    IsOutputTo (start limit) (dump entries) (made limit entries) (dump_output 1 entries)
+writes_made limit entries are legal short = (opening (made limit entries), entries_made limit [] entries are legal short, refl)
 
 -- the script of a journal makes it again
 pub dump_made : (limit : ℕ) (entries : List Entry) → CanBeJournal entries → IsLegal entries → length entries ≤ limit →
     IsOutputTo (start limit) (dump entries) (made limit entries) (dump_output 1 entries)
-dump_made limit entries are legal short = (opening (made limit entries), entries_made limit [] entries are.0 legal short, refl)
+dump_made limit entries are legal short =
+    writes_made limit entries (All-weaker CanBeEntry HasWrite (λ entry w. (w.is, w.ops)) entries are.0) legal short

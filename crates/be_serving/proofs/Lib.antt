@@ -13,4 +13,5 @@ pub mod ReadLemmas
 pub mod ReplyLemmas
 pub mod RunLemmas
 pub mod ScanLemmas
+pub mod StateDumpLemmas
 pub mod TellLemmas

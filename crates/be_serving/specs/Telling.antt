@@ -1,5 +1,5 @@
 -- What a run writes that tells its journal, and what the script of a journal is answered.
-use Rattle.std.specs.Prelude.{◌≡◌, ◌⊎◌, ℕ, ◌+◌, ◌<◌, ◌^◌, List, [], ◌∷◌, ◌++◌, flat_map, length, map, nat_lt, if◌then◌else◌, IfSome, None}
+use Rattle.std.specs.Prelude.{◌≡◌, ◌⊎◌, ℕ, ◌+◌, ◌<◌, ◌≤◌, ◌^◌, List, [], ◌∷◌, ◌++◌, flat_map, length, map, nat_lt, if◌then◌else◌, IfSome, None}
 use Rattle.std.specs.Io.KnownBytes.{Keeps}
 use Rattle.std.specs.declared.option.Option.{Option}
 use Rattle.be_history.specs.Dump.{by_only_pass}
@@ -9,6 +9,7 @@ use Rattle.be_journal.specs.declared.entries.Entry.{Entry}
 use Rattle.be_language.specs.Reply.{ok, queued, committed, text_of}
 use Rattle.be_table.specs.Versions.{CanSpellEach}
 use Rattle.be_table.specs.declared.limits.Limits.{Limits as StoreLimits}
+use Rattle.be_volume.specs.Volume.{State}
 use Rattle.be_volume.specs.declared.ops.Op.{Op}
 use Rattle.be_serving.specs.Output.{IsFrontOfOutput, IsOutputTo, done_reply}
 use Rattle.be_serving.specs.Run.{AreFirstReplies, Wrote}
@@ -53,3 +54,11 @@ write_output number entry =
 abbrev pub dump_output : ℕ → List Entry → List ℕ
 dump_output n [] = []
 dump_output n (entry ∷ entries) = write_output n entry ++ dump_output (n + 1) entries
+
+-- A run of the script on a store of one pass with so much room in its journal leaves this volume, by so many writes at most.
+pub record MakesVolume (limit : ℕ) (script : List ℕ) (volume : State) (most : ℕ) : Type 0 where
+  pub last : Store
+  pub replies : List ℕ
+  pub output : IsOutputTo (start limit) script last replies
+  pub volume_is : last.volume ≡ volume
+  pub few : length last.journal ≤ most

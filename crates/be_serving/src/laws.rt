@@ -1,14 +1,15 @@
 //! Laws of the definitions. Each does nothing; its contract is the law.
-ghost use Rattle.std.specs.Prelude.{◌≡◌, ◌≤◌, ℕ, List, length};
-ghost use Rattle.be_history.specs.Dump.{dump};
-ghost use Rattle.be_history.specs.History.{CanBeJournal};
-ghost use Rattle.be_journal.specs.Journal.{IsLegal};
+ghost use Rattle.std.specs.Prelude.{◌≡◌, ◌≤◌, ℕ, All, List, length};
+ghost use Rattle.be_history.specs.Dump.{dump, state_dump};
+ghost use Rattle.be_history.specs.History.{CanBeJournal, CanBeOp};
+ghost use Rattle.be_journal.specs.Journal.{IsLegal, replay};
 ghost use Rattle.be_journal.specs.declared.entries.Entry.{Entry as AnyEntry};
 ghost use Rattle.be_serving.specs.Output.{IsOutputTo, Session, Replies, Serves};
 ghost use Rattle.be_language.specs.Reply.{Reply};
 ghost use Rattle.be_language.specs.Request.{Request};
 ghost use Rattle.be_serving.specs.Store.{Store, Joins, start};
-ghost use Rattle.be_serving.specs.Telling.{dump_output, made};
+ghost use Rattle.be_serving.specs.Telling.{MakesVolume, dump_output, made};
+ghost use Rattle.be_state.specs.Rebuilding.{state_ops};
 
 /// A store of one pass has no others: it is always as its pass left it.
 pub fn nobody_joins()
@@ -27,4 +28,12 @@ pub fn answered_alone()
 pub fn dump_makes_journal()
     ensures { (limit : ℕ) (entries : List AnyEntry) → CanBeJournal entries → IsLegal entries → length entries ≤ limit →
         IsOutputTo (start limit) (dump entries) (made limit entries) (dump_output 1 entries) }
+{}
+
+/// The script of the state that a journal leaves makes this state: a run of it, where memory and pages are there, leaves the
+/// journal's volume, by no more writes than the journal has. Of the operations of a volume at hand be_history's `dump_state`
+/// says that they are such of the program.
+pub fn state_dump_makes_volume()
+    ensures { (limit : ℕ) (entries : List AnyEntry) → CanBeJournal entries → All CanBeOp (state_ops (replay entries)) → length entries ≤ limit →
+        MakesVolume limit (state_dump (replay entries)) (replay entries) (length entries) }
 {}

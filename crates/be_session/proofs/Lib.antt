@@ -5,3 +5,4 @@ pub mod Spelt
 pub mod Covers
 pub mod Same
 pub mod Crosses
+pub mod Left

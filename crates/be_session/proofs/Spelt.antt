@@ -1,7 +1,7 @@
 -- Bytes that grow at the end: what lay within them stays.
 use Rattle.std.proofs.Common.{◌≡◌, ◌<◌, ◌≤◌, ◌+◌, ℕ, List, [], ◌∷◌, ◌++◌, arith, drop}
 use Rattle.std.proofs.Common.{get_or, length, map, length-append, length-drop, refl, sym, ap, subst, take, ◌∙◌}
-use Rattle.std.proofs.lemmas.List.{append_assoc, append-nil, drop-append-le, drop_at, map_more, take-append-le, take_all}
+use Rattle.std.proofs.lemmas.List.{append_assoc, append-nil, drop-append-le, drop_at, map_more, take_more, take-append-le, take_all}
 use Rattle.be_volume.specs.declared.ops.Op.{Op}
 use Rattle.be_session.specs.Meaning.{IsMeant}
 use Rattle.be_session.specs.Operations.{AreMeantWithin, AreSpelled, IsMeantBy, ArePartsWithin, all_parts, both_parts, part}
@@ -82,3 +82,20 @@ listed_next f xs i d os later o bytes all low are grown within is pushed =
     subst (λ ns. AreSpelled ns all (map f (take (i + 1) xs))) (sym pushed)
     (subst (λ ops. AreSpelled (os ++ o ∷ []) all ops) (sym (map_more f xs i d low))
     (spelled_next os o bytes all (map f (take i xs)) (f (get_or xs i d)) are grown within is))
+
+-- one more of a list that is spelled as it is
+pub spelled_more : (ops : List Op) (i : ℕ) (d : Op) (os later : List Operation) (o : Operation) (bytes all : List ℕ) → i < length ops
+    → AreSpelled os bytes (take i ops) → all ≡ bytes ++ both_parts o all → ArePartsWithin o (length all) → IsMeantBy o all (get_or ops i d)
+    → later ≡ os ++ o ∷ []
+    → AreSpelled later all (take (i + 1) ops)
+spelled_more ops i d os later o bytes all low are grown within is pushed =
+    subst (λ ns. AreSpelled ns all (take (i + 1) ops)) (sym pushed)
+    (subst (λ xs. AreSpelled (os ++ o ∷ []) all xs) (sym (take_more ops i d low))
+    (spelled_next os o bytes all (take i ops) (get_or ops i d) are grown within is))
+
+-- parts that mean an operation, where they lie
+pub meant_by : (o : Operation) (bytes name value : List ℕ) (op : Op) → part bytes o.name_at o.name_length ≡ name → part bytes o.value_at o.value_length ≡ value
+    → IsMeant o.kind o.node name o.code o.number value op → IsMeantBy o bytes op
+meant_by o bytes name value op named valued is =
+    subst (λ n. IsMeant o.kind o.node n o.code o.number (part bytes o.value_at o.value_length) op) (sym named)
+    (subst (λ v. IsMeant o.kind o.node name o.code o.number v op) (sym valued) is)

@@ -5,3 +5,4 @@ pub mod Operations
 pub mod Items
 pub mod Explained
 pub mod Prepared
+pub mod States

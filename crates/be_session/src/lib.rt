@@ -15,6 +15,7 @@ mod retrying;
 mod session;
 mod shared;
 mod spellings;
+mod states;
 
 pub use faults::{Fault, ListFault};
 pub use items::{PredicateItem, query_of_items};
@@ -22,4 +23,5 @@ pub use lists::{Operation, operations};
 pub use meanings::{kind_of_code, name, operation, spelled, value};
 pub use preparing::{Prepared, prepare, prepare_items};
 pub use session::{Session, may_move, query_of, sent};
-pub use spellings::{Spelling, attributes_spelled, indices_spelled};
+pub use spellings::{Spelling, attributes_spelled, indices_spelled, operations_spelled};
+pub use states::StatePlace;

@@ -137,3 +137,18 @@ pub fn operation(
         _ => Err(Fault::NoOperation),
     }
 }
+
+/// The number, the node and the name that mean this operation, and the type code, the number and the bytes of its value: the parts
+/// that `operation` takes, and 0 or no bytes for what the operation has no use for.
+pub(crate) fn operation_spelled(op: &Op) -> (u32, u64, &[u8], (u32, u64, &[u8]))
+    ensures { IsMeant result.0 result.1 result.2.now result.3.0 result.3.1 result.3.2.now op.now }
+{
+    match op {
+        Op::New => (0, 0, b"", (0, 0, b"")),
+        Op::Drop(node) => (1, *node, b"", (0, 0, b"")),
+        Op::Set(node, name, value) => (2, *node, name.as_str().as_bytes(), spelled(value)),
+        Op::Unset(node, name) => (3, *node, name.as_str().as_bytes(), (0, 0, b"")),
+        Op::MkIndex(name, kind) => (4, 0, name.as_str().as_bytes(), (kind.code(), 0, b"")),
+        Op::RmIndex(name) => (5, 0, name.as_str().as_bytes(), (0, 0, b"")),
+    }
+}

@@ -1,6 +1,7 @@
 //! A pass with its share of the store, and its calls.
 ghost use Rattle.std.specs.Prelude.{◌≡◌, ◌⊎◌, ◌≤◌, ◌+◌, ℕ, [], None, Ok, IfOk, IfErr, OnErr, OnOk, is_some, length, string_bytes, vec_len};
 ghost use Rattle.be_session.specs.Explained.{explanation_in};
+ghost use Rattle.be_session.specs.States.{untold, waiting};
 ghost use Rattle.be_session.specs.Sitting.{AtPin, HasMet, IsHandedOut, IsPinned, IsUnwritten, IsUnwrittenAtLast, IsNoQuery};
 ghost use Rattle.be_session.specs.Sitting.{IsOpened, IsUnpinnedAt, IsUnrefreshed, ReadAnswers};
 ghost use Rattle.be_session.specs.declared.faults.Fault.TheVariants.{AlreadyPinned, NoPass, NotPinned, Refused};
@@ -21,11 +22,11 @@ ghost use Rattle.be_value.specs.declared.refusals.Refusal.TheVariants.{OutOfMemo
 ghost use Rattle.be_volume.specs.Query.{scan};
 ghost use Rattle.be_volume.specs.Reading.{attribute, attributes_at, index_kinds};
 
-use crate::Fault;
 use crate::explaining::cover_text;
 use crate::passes::{put_last, take_last};
 use crate::retrying::apply_or_retry;
 use crate::shared::Shared;
+use crate::{Fault, StatePlace};
 use be_store::laws::seen_is_legal;
 use be_store::{
     ArrayVec, Done, Kind, Limits, Live, Name, Op, Pass, Query, Refusal, Status, Store, Updates,
@@ -414,6 +415,35 @@ impl Session {
             return Err(Fault::NotPinned);
         };
         Ok(self.shared.store().indices(alloc, &mut self.pass)?)
+    }
+
+    /// Reads on, where nothing is ready to be told: the next operations are then that make the pinned version again on an empty
+    /// store, up to 64, and none where all were told. OutOfMemory: nothing is lost.
+    ///
+    /// A place goes with one pin. At another pin it tells what is left there behind the same steps, and what was ready is still of
+    /// the first.
+    pub fn state(&mut self, alloc: Global, place: &mut StatePlace) -> Result<(), Fault>
+        ensures store { (self.new.store ≡ self.old.store) × (self.new.spare ≡ self.old.spare) }
+        ensures read { HasRead self.old.knows self.new.knows }
+        ensures same { untold (volume_pinned self.old.knows) place.new ≡ untold (volume_pinned self.old.knows) place.old }
+        ensures few { length (waiting place.new) ≤ 64 }
+        ensures ends { OnOk result (waiting place.new ≡ [] → untold (volume_pinned self.old.knows) place.old ≡ []) }
+        ensures err { AtPin (pinned_number self.old.knows.phase) result (IfErr result (λ e. e ≡ Refused OutOfMemory)) }
+    {
+        let Some(_) = self.pass.pinned() else {
+            return Err(Fault::NotPinned);
+        };
+        if !place.ready.is_empty() {
+            return Ok(());
+        }
+        let store = self.shared.store();
+        match store.state(alloc, &mut self.pass, &mut place.place)? {
+            Some(ops) => {
+                place.ready = ops;
+                Ok(())
+            }
+            None => Ok(()),
+        }
     }
 }
 

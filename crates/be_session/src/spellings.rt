@@ -1,11 +1,12 @@
-//! Attributes and indices as other languages are told of them: as the operations that would make them.
+//! Attributes, indices and operations as other languages are told of them: as operations, with the bytes that their parts are in.
 ghost use Rattle.std.specs.Prelude.{◌≡◌, ◌++◌, IfOk, IfErr, length, map};
 ghost use Rattle.be_session.specs.Operations.{AreSpelled, IsMeantBy, ArePartsWithin, both_parts, makes, sets};
 ghost use Rattle.be_session.specs.declared.faults.Fault.TheVariants.{Refused};
 ghost use Rattle.be_value.specs.declared.refusals.Refusal.TheVariants.{OutOfMemory};
 
+use crate::meanings::operation_spelled;
 use crate::{Fault, Operation, spelled};
-use be_store::{Kind, Name, Refusal, Value};
+use be_store::{Kind, Name, Op, Refusal, Value};
 use std::alloc::Global;
 
 /// Operations as they are spelled, with the bytes that their parts are in.
@@ -100,6 +101,40 @@ pub fn indices_spelled(alloc: Global, list: &[(Name, Kind)]) -> Result<Spelling,
     let mut bytes = Vec::new(alloc);
     for (name, kind) in list {
         let operation = spell_index(&mut bytes, name, *kind)?;
+        operations.push(operation)?;
+    }
+    Ok(Spelling { operations, bytes })
+}
+
+fn spell(bytes: &mut Vec<u8>, op: &Op) -> Result<Operation, Fault>
+    ensures more { IfOk result (λ o. bytes.new.items ≡ bytes.old.items ++ both_parts o bytes.new.items) }
+    ensures meant { IfOk result (λ o. ArePartsWithin o (length bytes.new.items) × IsMeantBy o bytes.new.items op.now) }
+    ensures err { IfErr result (λ e. e ≡ Refused OutOfMemory) }
+{
+    let (kind, node, name, (code, number, data)) = operation_spelled(op);
+    let (name_at, name_length) = append(bytes, name)?;
+    let (value_at, value_length) = append(bytes, data)?;
+    Ok(Operation {
+        kind,
+        code,
+        node,
+        number,
+        name_at,
+        name_length,
+        value_at,
+        value_length,
+    })
+}
+
+/// Operations, spelled in the list's order. OutOfMemory.
+pub fn operations_spelled(alloc: Global, list: &[Op]) -> Result<Spelling, Fault>
+    ensures ok { IfOk result (λ s. AreSpelled s.operations.items s.bytes.items list.now) }
+    ensures err { IfErr result (λ e. e ≡ Refused OutOfMemory) }
+{
+    let mut operations = Vec::new(alloc);
+    let mut bytes = Vec::new(alloc);
+    for op in list {
+        let operation = spell(&mut bytes, op)?;
         operations.push(operation)?;
     }
     Ok(Spelling { operations, bytes })

@@ -1,6 +1,7 @@
 -- How far the operations of a volume were read.
-use Rattle.std.specs.Prelude.{◌<◌, ℕ, ◌+◌, ◌-◌, ⊤, List, [], ◌++◌, Some, None}
+use Rattle.std.specs.Prelude.{◌<◌, ℕ, ◌+◌, ◌-◌, ⊤, List, [], ◌++◌}
 use Rattle.std.specs.List.{flat_map}
+use Rattle.std.specs.Option.{option_map_or}
 use Rattle.std.specs.declared.option.Option.{Option}
 use Rattle.std.specs.declared.result.Result.{Result}
 use Rattle.std.specs.declared.result.Result.TheVariants.{Ok, Err}
@@ -21,10 +22,9 @@ left_from s (Held node) = flat_map (held_ops s) (numbers_from s node)
 abbrev pub left : State → Place → List Op
 left s place = place.ready.items ++ left_from s place.step
 
--- the operations of the list that was given, seen by view, if one was
+-- the operations of the list that was given, seen by view; none where no list was
 abbrev pub given : {X E : Type 0} → (X → List Op) → Result (Option X) E → List Op
-given view (Ok (Some ops)) = view ops
-given view (Ok None) = []
+given view (Ok list) = option_map_or view list []
 given view (Err e) = []
 
 -- not the last step

@@ -7,3 +7,4 @@ pub mod Alone
 pub mod Retries
 pub mod Calls
 pub mod Statuses
+pub mod Remade

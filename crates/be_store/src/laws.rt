@@ -2,17 +2,20 @@
 //!
 //! Each law does nothing; its contract is the law, for the crates above. The laws of the only pass speak of what a pass
 //! knows before and after a call: `alone` says of a pass at hand that it is such.
-ghost use Rattle.std.specs.Prelude.{◌≡◌, ◌≤◌, ◌<◌, ℕ, List, length};
+ghost use Rattle.std.specs.Prelude.{◌≡◌, ◌≤◌, ◌<◌, ℕ, List, IsOk, length};
 ghost use Rattle.be_journal.specs.Journal.{IsLegal, by_pass};
 ghost use Rattle.be_store.specs.Alone.{IsAlone, WritesNext};
 ghost use Rattle.be_store.specs.History.{Accepts, Learns, IsReason, IsRefusedAt, Pins as IsPin};
-ghost use Rattle.be_store.specs.Passes.{IsPassOf, volume_pinned, volume_seen};
+ghost use Rattle.be_state.specs.Rebuilding.{state_ops};
+ghost use Rattle.be_store.specs.Passes.{IsPassOf, IsPinnedTo, volume_pinned, volume_seen};
 ghost use Rattle.be_table.specs.History.{AreOfPasses};
 ghost use Rattle.be_table.specs.Rule.{entries};
 ghost use Rattle.be_table.specs.Steps.{IsPass};
 ghost use Rattle.be_table.specs.Versions.{CanSpellEach};
 ghost use Rattle.be_table.specs.declared.pass.Knowledge.{Knowledge};
 ghost use Rattle.be_value.specs.declared.refusals.Refusal.{Refusal};
+ghost use Rattle.be_volume.specs.Ahead.{state_after};
+ghost use Rattle.be_volume.specs.Volume.{empty, steps};
 ghost use Rattle.be_volume.specs.declared.ops.Done.{Done};
 ghost use Rattle.be_volume.specs.declared.ops.Op.{Op};
 
@@ -37,6 +40,12 @@ pub fn seen_is_legal(store: &Store, pass: &Pass)
 /// A pass that has just pinned reads the volume after all that it has seen.
 pub fn pin_reads_all_seen()
     ensures { (a c : Knowledge) (n : ℕ) → IsPin a c n → volume_pinned c ≡ volume_seen c }
+{}
+
+/// The operations that `Store::state` reads of a pinned version are accepted by an empty volume, and make it that version's.
+pub fn state_makes_again()
+    ensures accepted { (a : Knowledge) (n : ℕ) → IsPass a → IsPinnedTo a n → IsOk (steps empty (state_ops (volume_pinned a))) }
+    ensures same { (a : Knowledge) (n : ℕ) → IsPass a → IsPinnedTo a n → state_after empty (state_ops (volume_pinned a)) ≡ volume_pinned a }
 {}
 
 /// The only pass of a store has the number 0, and has written all that it has seen.

@@ -2,7 +2,7 @@
 //!
 //! A pin that is forgotten holds its version's pages for as long as the store lives. So a program that leaves a function by
 //! `?` asks through a `Pinned`, which unpins when it goes.
-ghost use Rattle.std.specs.Prelude.{◌≡◌, ◌⊎◌, ℕ, true, false, None, Ok, Err, IsOk, IfOk, IfErr};
+ghost use Rattle.std.specs.Prelude.{◌≡◌, ◌⊎◌, ◌<◌, ◌≤◌, ◌++◌, ℕ, true, false, [], None, Ok, Err, IsOk, IfOk, IfErr, IfNone, IfSome, length};
 ghost use Rattle.std.specs.List.Sorted.{IsStrictlyIncreasing};
 ghost use Rattle.be_store.specs.History.{Pins};
 ghost use Rattle.be_store.specs.Live.{Refreshes};
@@ -14,6 +14,7 @@ ghost use Rattle.be_table.specs.Trace.{with_history};
 ghost use Rattle.be_paged.specs.Nodes.{nodes_from};
 ghost use Rattle.be_plan.specs.Cover.{chosen, covers};
 ghost use Rattle.be_plan.specs.Explain.{are_places};
+ghost use Rattle.be_state.specs.Places.{given, left};
 ghost use Rattle.be_value.specs.Refusal.{Answers};
 ghost use Rattle.be_value.specs.declared.refusals.Refusal.TheVariants.{OutOfMemory, NotCovered};
 ghost use Rattle.be_volume.specs.Query.{scan, has_index, covered};
@@ -23,7 +24,9 @@ use crate::answers::{Answer, Updates};
 use crate::{Live, Pass, Store};
 use be_plan::Cover;
 use be_query::Query;
+use be_state::Place;
 use be_value::{Kind, Name, Refusal, Value};
+use be_volume::Op;
 use std::alloc::Global;
 
 /// A pass that is pinned for as long as this lives. Whichever way it goes, the pass is unpinned then.
@@ -132,6 +135,21 @@ impl Pinned<'_> {
         ensures list { Answers (λ list. list.items) result (Ok (nodes_from (volume_pinned self.old.pass.now.knows) from most)) }
     {
         self.store.nodes(alloc, self.pass, from, most)
+    }
+
+    /// As `Store::state`.
+    pub fn state(&mut self, alloc: Global, place: &mut Place) -> Result<Option<Vec<Op>>, Refusal>
+        requires pinned { (n : ℕ) × IsPinnedTo self.old.pass.now.knows n }
+        ensures same_reference { self.new.pass.ghost_name ≡ self.old.pass.ghost_name }
+        ensures store { (self.new.store.now ≡ self.old.store.now) × (self.new.number ≡ self.old.number) }
+        ensures read { HasRead self.old.pass.now.knows self.new.pass.now.knows }
+        ensures list { left (volume_pinned self.old.pass.now.knows) place.old ≡ given (λ ops. ops.items) result ++ left (volume_pinned self.old.pass.now.knows) place.new }
+        ensures length { IfOk result (λ list. IfSome list (λ ops. (1 ≤ length ops.items) × (length ops.items ≤ 64))) }
+        ensures full { IfOk result (λ list. IfSome list (λ ops. length ops.items < 64 → left (volume_pinned self.old.pass.now.knows) place.new ≡ [])) }
+        ensures ends { IfOk result (λ list. IfNone list (left (volume_pinned self.old.pass.now.knows) place.old ≡ [])) }
+        ensures wanted { IfErr result (λ e. e ≡ OutOfMemory) }
+    {
+        self.store.state(alloc, self.pass, place)
     }
 
     /// As `Live::refresh`.

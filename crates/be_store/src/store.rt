@@ -1,10 +1,11 @@
 //! The store, and the calls of its passes.
-ghost use Rattle.std.specs.Prelude.{◌≡◌, ◌⊎◌, ◌≤◌, ◌<◌, ℕ, true, false, [], ◌∷◌, None, Some, Ok, MatchResult, IsOk, IfOk, IfErr, OnErr, length, map, string_bytes};
+ghost use Rattle.std.specs.Prelude.{◌≡◌, ◌⊎◌, ◌≤◌, ◌<◌, ◌++◌, ℕ, true, false, [], ◌∷◌, None, Some, Ok, MatchResult, IsOk, IfOk, IfErr, IfNone, IfSome, OnErr, length, map, string_bytes};
 ghost use Rattle.be_store.specs.Passes.{IsPassOf, IsPinnedTo, HasRead, volume_pinned};
 ghost use Rattle.be_store.specs.History.{Accepts, Learns, IsReason, IsLastReason, IsUntold, Pins, text_seen};
 
 use crate::answers::Answer;
 use crate::asking::{ask, choose_at};
+use crate::states::read_on;
 use crate::tries::{stand_back, was_busy};
 use crate::writing::write;
 use crate::{Limits, Pass};
@@ -13,6 +14,7 @@ use be_journal::Journal;
 use be_paged::{attrs, first_page, get, indices, nodes};
 use be_plan::Cover;
 use be_query::Query;
+use be_state::Place;
 use be_table::{PinnedLook, Status, VersionTable};
 use be_value::{Kind, Name, Refusal, Value};
 use be_volume::{Done, Op};
@@ -55,6 +57,7 @@ impl Store {
     ghost use Rattle.be_plan.specs.Explain.{are_places};
     ghost use Rattle.be_value.specs.declared.refusals.Refusal.TheVariants.{OutOfMemory, NotCovered};
     ghost use Rattle.be_volume.specs.Query.{scan, has_index, covered};
+    ghost use Rattle.be_state.specs.Places.{given, left};
     ghost use Rattle.be_volume.specs.Reading.{attribute, attributes_at, index_kinds};
 
     /// A store with an empty journal, and its passes in the order of their numbers, which have seen nothing.
@@ -292,6 +295,34 @@ impl Store {
         let list = nodes(alloc, &mut look, page, from, most);
         *pass = look.into_seat();
         list
+    }
+
+    /// The next list of the operations that make the pinned version again on an empty store, 1 to 64, and none after the
+    /// last. A new `Place` stands before the first. From there on the lists of one pin, put end to end, are be_state's
+    /// `state_ops` of that version, and each but the last has 64. At another pin the place has no meaning: begin with a
+    /// new one there.
+    ///
+    /// OutOfMemory where a growth was refused: nothing is lost then, and the call may be made again. All calls together
+    /// read the attributes of each number that was given twice, and for each attribute they search its index twice.
+    pub fn state(
+        &self,
+        alloc: Global,
+        pass: &mut Pass,
+        place: &mut Place,
+    ) -> Result<Option<Vec<Op>>, Refusal>
+        requires pass { IsPassOf self.now pass.old }
+        requires pinned { (n : ℕ) × IsPinnedTo pass.old.knows n }
+        ensures pass { IsPassOf self.now pass.new × HasRead pass.old.knows pass.new.knows }
+        ensures list { left (volume_pinned pass.old.knows) place.old ≡ given (λ ops. ops.items) result ++ left (volume_pinned pass.old.knows) place.new }
+        ensures length { IfOk result (λ list. IfSome list (λ ops. (1 ≤ length ops.items) × (length ops.items ≤ 64))) }
+        ensures full { IfOk result (λ list. IfSome list (λ ops. length ops.items < 64 → left (volume_pinned pass.old.knows) place.new ≡ [])) }
+        ensures ends { IfOk result (λ list. IfNone list (left (volume_pinned pass.old.knows) place.old ≡ [])) }
+        ensures wanted { IfErr result (λ e. e ≡ OutOfMemory) }
+    {
+        let (reader, page) = self.reader(pass);
+        let (reader, list) = read_on(alloc, reader, page, place);
+        *pass = reader.into_seat();
+        Ok(list?)
     }
 
     /// The journal's text up to now, as `Journal::text` has it, while passes are in use. A pin stays.

@@ -12,4 +12,6 @@ mod room;
 #[cfg(test)]
 mod sizes;
 #[cfg(test)]
+mod states;
+#[cfg(test)]
 mod tests;

@@ -3,6 +3,7 @@
 
 use crate::calls::{answer, write};
 use crate::races::{closed, journal_of, make_both};
+use crate::states::state_text;
 use be_language::Reply;
 use be_store::{Journal, Limits, Live, Op, Pass, Refusal, Store, parse};
 use be_testing::{Answers, reply_lines};
@@ -173,6 +174,11 @@ impl Room {
         drop(self.second.move_out());
     }
 
+    /// The operations that make the version of pass 0 again.
+    fn state(&mut self, alloc: Global) -> Result<String, Refusal> {
+        state_text(&self.store, alloc, &mut self.first)
+    }
+
     fn watch(&mut self, alloc: Global, text: &str) -> Result<String, Refusal> {
         self.live = Some(Live::new(alloc, parse(alloc, text)?));
         Ok(String::from_str(alloc, "ok")?)
@@ -187,6 +193,7 @@ impl Room {
             "live" => self.watch(alloc, words),
             "seen" => seen_text(alloc, self.seen()),
             "meet" => met_text(alloc, self.meet()),
+            "state" => self.state(alloc),
             _ => Err(Refusal::BadLimits),
         }
     }

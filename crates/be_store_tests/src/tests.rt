@@ -1,7 +1,7 @@
 //! Worked examples of the store, by its public calls.
 //!
 //! A test is a room and a text of requests with their replies. `0` and `1` before a request name the pass that makes it;
-//! `head` gives the first line of what pass 0 is answered.
+//! `head` gives the first line of what pass 0 is answered, and `state` the operations that make its version again.
 
 use crate::room::{Room, for_one, for_two};
 use be_store::{Kind, Limits, Name, Op, Refusal, Store, Value};
@@ -94,6 +94,20 @@ fn pinned_for_a_read(rt: HostRuntime) -> Result<(), Fail> {
 0 attrs 1 / 0 indices / 0 refresh => attrs 1 / \"k\" LONG 5 / indices 1 / \"k\" LONG / created 1 / removed
 0 query j==5 / 0 attrs 9 / 0 unpin => refused 17 NotCovered / refused 2 NoNode / not pinned";
     check_lines(rt.alloc(), &mut for_one(rt.alloc(), 64, 100)?, lines)
+}
+
+/// The operations that make a version again: a number that was dropped, an attribute outside of its index and one in it. A pin
+/// has the same ones, whatever is written meanwhile.
+#[test]
+fn states(rt: HostRuntime) -> Result<(), Fail> {
+    let lines = "0 new;set 1 k LONG 5;new;drop 2 => commit 1 / node 1 / ok / node 2 / ok
+state => new / set 1 \"k\" LONG 5 / new / drop 2
+0 mkindex k LONG;mkindex j LONG;set 1 j LONG 6 / 0 pin => commit 2 / ok / ok / ok / pin 2
+1 new;set 1 j LONG 7;set 3 k LONG 8;rmindex j => commit 3 / node 3 / ok / ok / ok
+state => new / set 1 \"k\" LONG 5 / new / drop 2 / mkindex \"j\" LONG / mkindex \"k\" LONG / set 1 \"j\" LONG 6
+0 unpin => ok
+state => new / set 1 \"j\" LONG 7 / set 1 \"k\" LONG 5 / new / drop 2 / new / mkindex \"k\" LONG / set 3 \"k\" LONG 8";
+    check_lines(rt.alloc(), &mut for_two(rt.alloc(), 64, 100)?, lines)
 }
 
 /// A part so many times.

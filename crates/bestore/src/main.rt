@@ -1,6 +1,6 @@
 //! `bestore`: runs a script and writes the reply to each of its lines to standard output, races scripts against one
 //! another and writes the replies of each and their journal, or answers the lines of standard input as they come. It also
-//! checks a journal that was written, and writes the script that makes it again.
+//! checks a journal that was written, and writes the script that makes it again, or its last state alone.
 //!
 //! The status is 0 for a run, a race or a shell to its end, for a journal that is right and for a request for help or for the
 //! version, 2 for a command line that says nothing that can be done, and 1, with one line on standard error, where it stopped
@@ -9,8 +9,8 @@
 #![tactic(auto)]
 
 use be_script::{
-    Ends, Finding, Limits, OpenGate, Peer, RunFault, Task, Terminal, check, dump, journal_told,
-    race, read_files, run, run_and_tell, shell, task,
+    Ends, Finding, Limits, OpenGate, Peer, RunFault, Task, Terminal, check, dump, dump_state,
+    journal_told, race, read_files, run, run_and_tell, shell, task,
 };
 use clap::Error;
 use clap::error::ErrorKind;
@@ -258,6 +258,19 @@ fn dump_file<R: Runtime + AllocGlobal>(rt: &R, file: &str) -> io::Result<ExitCod
     }
 }
 
+/// Prints the script that makes the last state of the journal again that a file tells.
+fn dump_state_of_file<R: Runtime + AllocGlobal>(rt: &R, file: &str) -> io::Result<ExitCode> {
+    let text = match read_whole(rt, file) {
+        Ok(text) => text,
+        Err(error) => return fail_whole(rt, file, &error),
+    };
+    match dump_state(rt.alloc(), &text) {
+        Ok(Some(script)) => print_text(rt, script.as_str(), ExitCode::SUCCESS),
+        Ok(None) => fail_without_journal(rt, file),
+        Err(_) => fail(rt, reason(RunFault::Memory)),
+    }
+}
+
 fn run_task<R: Runtime + AllocGlobal + Threads + Wait + Sync>(
     rt: &R,
     task: &Task,
@@ -270,6 +283,7 @@ fn run_task<R: Runtime + AllocGlobal + Threads + Wait + Sync>(
         Task::Shell(file, limits) => open_shell(rt, file, *limits, is_terminal),
         Task::Check(file) => check_file(rt, file.as_str()),
         Task::Dump(file) => dump_file(rt, file.as_str()),
+        Task::DumpState(file) => dump_state_of_file(rt, file.as_str()),
     }
 }
 

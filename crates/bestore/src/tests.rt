@@ -32,6 +32,8 @@ fn exit_statuses(rt: HostRuntime) -> Result<(), Fail> {
         ("bestore check no-such-folder/a", 1),
         ("bestore dump", 2),
         ("bestore dump no-such-folder/a", 1),
+        ("bestore dump --state", 2),
+        ("bestore dump --state no-such-folder/a", 1),
         ("bestore shell --help", 0),
         ("bestore shell --pages 7", 2),
         ("bestore shell a b", 2),

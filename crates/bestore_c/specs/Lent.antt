@@ -5,9 +5,13 @@ use Rattle.be_session.specs.Prepared.{PreparedQuery}
 use Rattle.be_session.specs.Sitting.{Sitting}
 use Rattle.be_session.specs.contracts.preparing.Prepared as prepared
 use Rattle.be_session.specs.contracts.session.Session as session
+use Rattle.be_session.specs.contracts.states.StatePlace as place
+use Rattle.be_session.specs.declared.states.StatePlace.{StatePlace}
 use Rattle.bestore_c.specs.contracts.owned.Owned as owned
+use Rattle.bestore_c.specs.contracts.owned_place.OwnedPlace as owned_place
 use Rattle.bestore_c.specs.contracts.owned_query.OwnedQuery as owned_query
 use Rattle.bestore_c.specs.declared.owned.Owned.{Owned}
+use Rattle.bestore_c.specs.declared.owned_place.OwnedPlace.{OwnedPlace}
 use Rattle.bestore_c.specs.declared.owned_query.OwnedQuery.{OwnedQuery}
 
 -- what is owned, with this session in the place of the one that it was
@@ -24,3 +28,10 @@ with_query o p = record o { value = Some p }
 
 abbrev pub LendsQuery : MutBor OwnedQuery → MutBor PreparedQuery → Fml
 LendsQuery o p = Lends owned_query.the_row prepared.the_row o p (with_query o.now)
+
+-- and of a place
+abbrev pub with_place : OwnedPlace → StatePlace → OwnedPlace
+with_place o p = record o { value = Some p }
+
+abbrev pub LendsPlace : MutBor OwnedPlace → MutBor StatePlace → Fml
+LendsPlace o p = Lends owned_place.the_row place.the_row o p (with_place o.now)

@@ -3,3 +3,4 @@ pub mod Lent
 pub mod Places
 pub mod Calls
 pub mod Usage
+pub mod States

@@ -2,6 +2,7 @@
 ghost use Rattle.std.specs.Prelude.{◌≡◌, is_some};
 
 use crate::owned::Owned;
+use crate::owned_place::OwnedPlace;
 use crate::owned_query::OwnedQuery;
 use be_session::sent;
 
@@ -20,6 +21,16 @@ pub struct Handle {
 pub struct PreparedHandle {
     pub live: bool,
     pub owned: OwnedQuery,
+    ghost full: { live ≡ is_some owned.value },
+}
+
+/// What C holds of how far a version's operations were told: closed, before the first of them, or open with the place. Zero bytes
+/// are a closed one.
+#[repr(C)]
+#[derive(Drop)]
+pub struct PlaceHandle {
+    pub live: bool,
+    pub owned: OwnedPlace,
     ghost full: { live ≡ is_some owned.value },
 }
 

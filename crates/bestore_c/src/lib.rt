@@ -19,6 +19,7 @@ ghost use Rattle.be_table.specs.Trace.{with_history};
 ghost use Rattle.be_volume.specs.Reading.{attributes_at, index_kinds};
 ghost use Rattle.bestore_c.specs.Calls.{AnswersWhetherOpen, Calls, Explains, Finds, FindsBuilt, FindsPrepared, GivesAnother, IsClosed};
 ghost use Rattle.bestore_c.specs.Calls.{IsTextFault, Listed, MovesHandle, Opens, Prepares, PutsOutAtPin, Reads, RefreshesPrepared, Refuses, ShowsChanges, TellsJournal, WritesSpelled};
+ghost use Rattle.bestore_c.specs.States.{TellsState, untold_at};
 ghost use Rattle.bestore_c.specs.Usage.{TellsUsage};
 
 mod asking;
@@ -26,10 +27,12 @@ mod handle;
 mod listing;
 mod loose;
 mod owned;
+mod owned_place;
 mod owned_query;
 mod places;
 mod reading;
 mod refusing;
+mod states;
 mod telling;
 #[cfg(test)]
 mod tests;
@@ -40,13 +43,15 @@ use be_session::{
     query_of_items,
 };
 use be_store::{ArrayVec, Limits};
-use handle::{Attribute, Counts, Handle, PreparedHandle, UpdateCounts, Usage};
+use handle::{Attribute, Counts, Handle, PlaceHandle, PreparedHandle, UpdateCounts, Usage};
 use listing::{tell_attributes, tell_indices};
 use owned::Owned;
+use owned_place::OwnedPlace;
 use owned_query::OwnedQuery;
 use places::{put, put_nodes};
 use reading::read;
 use refusing::{refuse, refuse_list};
+use states::{begin, tell_state};
 use std::alloc::Global;
 use std::mem;
 use telling::usage_of;
@@ -469,6 +474,48 @@ pub extern "C" fn bes_indices(
     }
     let answer = pass.owned.lent().indices(alloc);
     tell_indices(alloc, answer, counts, listed, bytes)
+}
+
+/// Puts out the next operations that make the pinned version again, 64 at most and none after the last. Puts out how many they
+/// are, and how many bytes their parts are in, and of both as much as there is room for: where that is all, the place goes behind
+/// them.
+#[unsafe(no_mangle)]
+pub extern "C" fn bes_state(
+    alloc: Global,
+    pass: &mut Handle,
+    place: &mut PlaceHandle,
+    counts: &mut Counts,
+    listed: &mut [Operation],
+    bytes: &mut [u8],
+) -> u32
+    ensures pass { Calls pass.old.owned.value pass.new.owned.value ((result ≡ 64) × (place.new.owned.value ≡ place.old.owned.value))
+        (λ s t. HasRead s.knows t.knows × TellsState (pinned_number s.knows.phase)
+        (untold_at (volume_pinned s.knows) place.old.owned.value) (untold_at (volume_pinned s.knows) place.new.owned.value)
+        counts.new listed.old listed.new bytes.old bytes.new result) }
+    ensures kept { (result ≡ 0) ⊎ ((counts.new ≡ counts.old) × (listed.new ≡ listed.old) × (bytes.new ≡ bytes.old)) }
+{
+    if !pass.live {
+        return CLOSED;
+    }
+    let Ok(()) = begin(alloc, place) else {
+        return NO_MEMORY;
+    };
+    tell_state(alloc, pass.owned.lent(), place.owned.lent(), counts, listed, bytes)
+}
+
+/// Closes the handle of a place: it stands before the first operation again.
+#[unsafe(no_mangle)]
+pub extern "C" fn bes_leave(alloc: Global, place: &mut PlaceHandle) -> u32
+    ensures closed { place.new.owned.value ≡ None }
+    ensures answer { AnswersWhetherOpen place.old.owned.value result }
+{
+    if !place.live {
+        return CLOSED;
+    }
+    let left = mem::replace(&mut place.owned, OwnedPlace::none(alloc)).into_box();
+    place.live = false;
+    drop(left);
+    DONE
 }
 
 /// Parses the query of this text, and opens the handle with it.

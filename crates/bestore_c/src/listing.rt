@@ -19,7 +19,8 @@ use be_session::{Fault, Operation, Spelling, attributes_spelled, indices_spelled
 use be_store::{Kind, Name, Value};
 use std::alloc::Global;
 
-fn put_spelling(
+/// Puts out how many operations a spelling has and how many bytes, and of both as many as there is room for.
+pub(crate) fn put_spelling(
     spelling: &Spelling,
     counts: &mut Counts,
     operations: &mut [Operation],

@@ -1,7 +1,7 @@
 //! The exports, called from Rattle. The tests in C show what only C can.
 //!
 //! A test is a text: a line is a call, and behind ` => ` what it answers and what then stands where it puts out. Numbers are 7
-//! before, and nodes and bytes 9. `0` and `1` are the handles of two passes.
+//! before, and nodes and bytes 9. `0` and `1` are the handles of two passes; `state` asks the first.
 
 mod calls;
 mod desk;
@@ -137,6 +137,22 @@ fn lists_attributes(rt: HostRuntime) -> Result<(), Fail> {
 0 pin => 0 1
 0 attributes 2 => 2 7 7 7 7 1 9
 0 attributes 1 => 0 1 2 2 1 1 107";
+    check(rt.alloc(), lines)
+}
+
+/// There is room for one of the two operations at first, and then for both: what was told whole comes once.
+#[test]
+fn tells_its_state(rt: HostRuntime) -> Result<(), Fail> {
+    let lines = "state => 64 7 7 7 7 1 9 9
+0 open 1 => 0
+0 write kv 00,21 => 0 1 1 0 9 9
+state => 66 7 7 7 7 1 9 9
+0 pin => 0 1
+state 1 => 0 2 2 0 0 0 107 118
+state => 0 2 2 0 0 0 107 118
+state => 0 0 0 7 7 1 9 9
+leave => 0
+leave => 64";
     check(rt.alloc(), lines)
 }
 

@@ -2,7 +2,7 @@
 use Rattle.std.proofs.Common.{◌≡◌, ℕ, zero, suc, ◌+◌, ◌<◌, ◌≤◌, ◌^◌, Bool, true, false, cond, List, [], ◌∷◌, ◌++◌, length, map, take, drop, get_or, Some, None, inl, inr, ap, sym, subst, ◌∙◌, refl, arith, T, ◌&&◌, is_some}
 use Rattle.std.specs.Int.{to_be_bytes, w64}
 use Rattle.std.specs.List.{slice_get}
-use Rattle.std.specs.Option.{IfSome}
+use Rattle.std.specs.Option.{IfSome, option_map}
 use Rattle.std.specs.Ordering.{is_eq, is_lt, ordering_reverse}
 use Rattle.std.specs.Cmp.{tied_itself}
 use Rattle.std.specs.declared.cmp.Ordering.{Ordering}
@@ -180,6 +180,26 @@ module _ (xs : List Pair) (nodes : Nodes) (node : ℕ) (fits : node < 2 ^ 64) (r
 
       at : slice_get now 0 ≡ slice_get (drop i (map (attribute_pair node) (fin.entries (attributes_of nodes node)))) 0
       at = ap (λ ys. slice_get ys 0) stands ∙ ap (λ ys. slice_get (drop i ys) 0) walked
+
+  -- what a walk reads first is the first name
+  pub first_name : (r : Option (List ℕ)) (now : List Pair) → now ≡ front_of_node node (pairs_from xs (to_be_bytes w64 node) true)
+      → ((name : List ℕ) (value : Value) → IsName name → slice_get now 0 ≡ Some (attribute_pair node (name, value)) → r ≡ Some name) → (slice_get now 0 ≡ None → r ≡ None)
+      → r ≡ option_map (λ (e : List ℕ × Value). e.0) (slice_get (fin.entries (attributes_of nodes node)) 0)
+  first_name r now stands reads ends = elim (cases_lt 0 (length (fin.entries (attributes_of nodes node)))) [
+    | inl lt ↦
+        let e = get_or (fin.entries (attributes_of nodes node)) 0 d in
+        let valid = entry_valid 0 d lt in
+        reads e.0 e.1 valid.0 (at ∙ mapped_get (attribute_pair node) (fin.entries (attributes_of nodes node)) 0 d lt)
+        ∙ sym (ap (option_map (λ (x : List ℕ × Value). x.0)) (get_at (fin.entries (attributes_of nodes node)) 0 d lt))
+    | inr past ↦ ends (at ∙ mapped_none (attribute_pair node) (fin.entries (attributes_of nodes node)) 0 past)
+        ∙ sym (ap (option_map (λ (x : List ℕ × Value). x.0)) (get_past (fin.entries (attributes_of nodes node)) 0 past))
+  ]
+    where
+      d : List ℕ × Value
+      d = ([], Rawt [])
+
+      at : slice_get now 0 ≡ slice_get (drop 0 (map (attribute_pair node) (fin.entries (attributes_of nodes node)))) 0
+      at = ap (λ ys. slice_get ys 0) stands ∙ ap (λ ys. slice_get ys 0) walked
 
 -- a walk that ends has listed all
 pub all_listed : {A : Type 0} (es list : List A) (i : ℕ) → list ≡ take i es → i ≤ length es → None ≡ slice_get (drop i es) 0 → list ≡ es

@@ -1,7 +1,7 @@
 -- What the trees of a version in hand answer about its volume.
-use Rattle.std.proofs.Common.{◌≡◌, ℕ, ◌<◌, ◌^◌, Bool, true, false, unwrap_or, List, [], ◌∷◌, length, Some, None, Ok, Err, ap, sym, ◌∙◌, refl, is_some}
+use Rattle.std.proofs.Common.{◌≡◌, ℕ, ◌<◌, ◌^◌, Bool, true, false, unwrap_or, List, [], ◌∷◌, length, Some, None, Ok, Err, ap, sym, subst, ◌∙◌, refl, is_some}
 use Rattle.std.specs.Int.{to_be_bytes, w64}
-use Rattle.std.specs.Option.{option_map, option_map_or}
+use Rattle.std.specs.Option.{option_map, option_map_or, option_or}
 use Rattle.std.specs.Result.{IfOk, IfErr, is_ok}
 use Rattle.std.specs.declared.option.Option.{Option}
 use Rattle.std.specs.declared.result.Result.{Result}
@@ -10,6 +10,7 @@ use Rattle.std.proofs.lemmas.List.{append-nil}
 use Rattle.be_value.specs.Name.{name_from}
 use Rattle.be_value.specs.Key.{IsValue}
 use Rattle.be_value.specs.declared.values.Value.{Value}
+use Rattle.be_pages.specs.declared.room.Standing.{Standing}
 use Rattle.be_tree.specs.Pair.{Pair}
 use Rattle.be_tree.specs.Key.{payload_at}
 use Rattle.be_value.specs.declared.refusals.Refusal.TheVariants.{NoNode}
@@ -18,11 +19,14 @@ use Rattle.be_volume.specs.Reading.{attributes_at}
 use Rattle.be_volume.specs.Volume.{State}
 use Rattle.be_volume.specs.Indices.{Indices}
 use Rattle.be_paged.specs.Entry.{Entry}
-use Rattle.be_paged.specs.Facts.{IsCounted}
-use Rattle.be_paged.specs.Page.{IsNamedAt, IsGapAt}
+use Rattle.be_paged.specs.Facts.{FactsOf, IsCounted}
+use Rattle.be_paged.specs.Page.{Contents, IsNamedAt, IsGapAt}
+use Rattle.be_paged.specs.Place.{IsFoundAt}
 use Rattle.be_paged.specs.Catalog.{catalog_key, payload_of, value_at, stored, IsCatalog}
 use Rattle.be_paged.specs.Reading.{AreValid}
+use Rattle.be_paged.specs.declared.asked.Asked.{Asked}
 use Rattle.be_paged.specs.Version.{AreEntriesOf}
+use Rattle.be_paged.proofs.CatalogPairs.Places.{asked_or}
 use Rattle.be_paged.proofs.CatalogPairs.Segments.{value_there}
 use Rattle.be_paged.proofs.CatalogPairs.Validity.{named}
 use Rattle.be_paged.proofs.IndexEntries.Indexing.{entries_len, named_found, gap_none}
@@ -92,15 +96,24 @@ attributes_some s node = by (fin.get s.nodes node)
     by None h = cc
     by (Some a) h = refl
 
--- a node whose attributes were counted, and are none
-pub bare_counted : (counted : Option (ℕ × ℕ)) (last : ℕ × ℕ) (volume : State) (node : ℕ) → counted ≡ Some last → last.0 ≡ node → last.1 ≡ 0 → IsCounted counted volume → fin.len (attributes_of volume.nodes node) ≡ 0
-bare_counted None last volume node is of bare told = cc
-bare_counted (Some x) last volume node is of bare told =
-    let same : x ≡ last = ap (λ o. unwrap_or o last) is in
-    ap (λ n. fin.len (attributes_of volume.nodes n)) (sym (ap (λ (y : ℕ × ℕ). y.0) same ∙ of)) ∙ sym told ∙ ap (λ (y : ℕ × ℕ). y.1) same ∙ bare
-
+-- a node that has no attribute has none of this name
 pub no_attribute : (nodes : Nodes) (node : ℕ) (name : List ℕ) → fin.len (attributes_of nodes node) ≡ 0 → fin.contains_key (attributes_of nodes node) name ≡ false
 no_attribute nodes node name bare = ap (λ (a : Attributes). is_some (fin.get a name)) (fin.empty_of_len (attributes_of nodes node) bare) ∙ ap is_some (fin.get-empty name_cmp name)
+
+-- the facts after reads, with what is remembered of a node then
+pub facts_since : (s t : ℕ → Standing) (v w : ℕ → ℕ → ℕ) (c : Contents) (counted now : Option (ℕ × Option ℕ)) (asked : Option Asked) (volume : State) → t ≡ s → w ≡ v → FactsOf s v c counted asked volume
+    → IsCounted now volume → FactsOf t w c now asked volume
+facts_since s t v w c counted now asked volume standing words of told =
+    let read : FactsOf t w c counted asked volume =
+    subst (λ (u : ℕ → Standing). FactsOf u w c counted asked volume) (sym standing) (subst (λ (x : ℕ → ℕ → ℕ). FactsOf s x c counted asked volume) (sym words) of) in
+    record { told = read.told; counted_is = told; asked_is = read.asked_is }
+
+-- and of an attribute
+pub facts_asked : (s t : ℕ → Standing) (v w : ℕ → ℕ → ℕ) (c : Contents) (counted : Option (ℕ × Option ℕ)) (asked : Option Asked) (last : Asked) (volume : State) → t ≡ s → w ≡ v → FactsOf s v c counted asked volume
+    → IsFoundAt t w c.catalog (catalog_key last.node last.name) last.place → FactsOf t w c counted (option_or asked (Some last)) volume
+facts_asked s t v w c counted asked last volume standing words of found =
+    let read = facts_since s t v w c counted counted asked volume standing words of of.counted_is in
+    record { told = read.told; counted_is = read.counted_is; asked_is = asked_or t w c.catalog asked last read.asked_is found }
 
 -- what is true of each value whose payload stands is true of the node's value, and of none it is false
 pub holds_read : (items : List Pair) (nodes : Nodes) (node : ℕ) (name k payload : List ℕ) (told : Bool) (holds : Value → Bool) → IsCatalog items nodes → AreValid nodes → node < 2 ^ 64 → name_from name ≡ Ok name

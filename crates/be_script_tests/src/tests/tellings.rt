@@ -1,6 +1,6 @@
-//! Runs that tell their journal, and the script that makes the journal again.
+//! Runs that tell their journal, and the scripts that make the journal again, or its state alone.
 use super::LIMITS;
-use be_history::{Finding, check, dump, journal_told};
+use be_history::{Finding, check, dump, dump_state, journal_told};
 use be_serving::{Limits, RunFault, run_and_tell};
 use be_testing::Narrow;
 use std::alloc::{AllocError, Global};
@@ -17,6 +17,12 @@ const DUMPED: &str = "new\nset 1 \"k\" LONG 5\nbegin\nnew\nset 2 \"k\" LONG 6\nc
 
 const TOLD_AGAIN: &str = "node 1\nok\nok\nqueued\nqueued\ncommit 3\nnode 2\nok\njournal 3\n\
 1 by 0 new -> node 1\n2 by 0 set 1 \"k\" LONG 5 -> ok\n3 by 0 new; set 2 \"k\" LONG 6 -> node 2; ok\nreplay ok\n";
+
+const STATE: &str = "begin\nnew\nset 1 \"k\" LONG 5\nnew\nset 2 \"k\" LONG 6\ncommit\n";
+
+const STATE_TOLD: &str =
+    "ok\nqueued\nqueued\nqueued\nqueued\ncommit 1\nnode 1\nok\nnode 2\nok\njournal 1\n\
+1 by 0 new; set 1 \"k\" LONG 5; new; set 2 \"k\" LONG 6 -> node 1; ok; node 2; ok\nreplay ok\n";
 
 /// Whether a run of a script that tells its journal writes this, at the second run where memory may have been wanted at the
 /// first. It is told that the journal is legal.
@@ -42,6 +48,18 @@ fn dump_told(alloc: Global, told: &str) -> Result<String, AllocError> {
     }
 }
 
+/// Whether this is the script of the state that was told, at the second try where memory may have been wanted at the first.
+fn has_state(alloc: Global, told: &str) -> bool {
+    is_state(alloc, told) || is_state(alloc, told)
+}
+
+fn is_state(alloc: Global, told: &str) -> bool {
+    match dump_state(alloc, told.as_bytes()) {
+        Ok(Some(script)) => script.as_str() == STATE,
+        Ok(None) | Err(_) => false,
+    }
+}
+
 fn is_right(alloc: Global, told: &str) -> Result<bool, AllocError> {
     Ok(matches!(&check(alloc, told.as_bytes())?, Finding::Right))
 }
@@ -51,6 +69,16 @@ fn is_right(alloc: Global, told: &str) -> Result<bool, AllocError> {
 fn journal_is_made_again(rt: HostRuntime) -> Result<(), Fail> {
     assert!(rt; tells(rt.alloc(), SCRIPT, TOLD)?);
     assert!(rt; tells(rt.alloc(), DUMPED, TOLD_AGAIN)?);
+    Ok(())
+}
+
+/// The script of the state makes it by one write, and has the same state.
+#[test]
+fn state_is_made_again(rt: HostRuntime) -> Result<(), Fail> {
+    let alloc = rt.alloc();
+    assert!(rt; has_state(alloc, TOLD));
+    assert!(rt; tells(alloc, STATE, STATE_TOLD)?);
+    assert!(rt; has_state(alloc, STATE_TOLD));
     Ok(())
 }
 

@@ -1,9 +1,9 @@
 //! The exports as texts: each is called, and what it answers and puts out is told as numbers.
-use crate::handle::{Attribute, Counts, Handle, PreparedHandle, UpdateCounts};
+use crate::handle::{Attribute, Counts, Handle, PlaceHandle, PreparedHandle, UpdateCounts};
 use crate::{
     bes_apply, bes_apply_or_retry, bes_attributes, bes_changes, bes_explain, bes_get, bes_indices,
     bes_journal, bes_meet, bes_open, bes_pin, bes_prepare, bes_prepare_items, bes_query,
-    bes_query_items, bes_query_prepared, bes_refresh,
+    bes_query_items, bes_query_prepared, bes_refresh, bes_state,
 };
 use be_session::{Operation, PredicateItem};
 use be_value::word_of;
@@ -235,6 +235,38 @@ pub(crate) fn indices(alloc: Global, pass: &mut Handle) -> Told {
         counts_text(alloc, answer, counts, listed.first()),
         &bytes,
     )
+}
+
+fn state_in(
+    alloc: Global,
+    pass: &mut Handle,
+    place: &mut PlaceHandle,
+    listed: &mut [Operation],
+) -> Told {
+    let mut bytes = [9; 2];
+    let mut counts = Counts {
+        operations: 7,
+        bytes: 7,
+    };
+    let answer = bes_state(alloc, pass, place, &mut counts, listed, &mut bytes);
+    with_bytes(
+        alloc,
+        counts_text(alloc, answer, counts, listed.first()),
+        &bytes,
+    )
+}
+
+/// The next operations that make the pinned version again, in room for one or two and for two bytes.
+pub(crate) fn state(
+    alloc: Global,
+    pass: &mut Handle,
+    place: &mut PlaceHandle,
+    words: &str,
+) -> Told {
+    match words {
+        "1" => state_in(alloc, pass, place, &mut [spelled(7, 7)]),
+        _ => state_in(alloc, pass, place, &mut [spelled(7, 7), spelled(7, 7)]),
+    }
 }
 
 pub(crate) fn journal(alloc: Global, pass: &mut Handle) -> Told {

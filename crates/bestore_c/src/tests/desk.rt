@@ -1,21 +1,23 @@
 //! The handles of a test, and its calls line by line.
 use super::calls::{
     Told, answer_text, attributes, changes, explain, get, indices, journal, meet, open, pin,
-    prepare, prepare_items, query, query_items, query_prepared, refresh, retry, write,
+    prepare, prepare_items, query, query_items, query_prepared, refresh, retry, state, write,
 };
-use crate::handle::{Handle, PreparedHandle};
+use crate::handle::{Handle, PlaceHandle, PreparedHandle};
 use crate::owned::Owned;
+use crate::owned_place::OwnedPlace;
 use crate::owned_query::OwnedQuery;
-use crate::{bes_another, bes_close, bes_move, bes_release, bes_unpin};
+use crate::{bes_another, bes_close, bes_leave, bes_move, bes_release, bes_unpin};
 use std::alloc::{AllocError, Global};
 use std::test::Fail;
 
-/// Two handles of passes, and one of a prepared query.
+/// Two handles of passes, one of a prepared query, and one of a place.
 #[derive(Drop)]
 struct Desk {
     mine: Handle,
     theirs: Handle,
     kept: PreparedHandle,
+    place: PlaceHandle,
 }
 
 pub(crate) fn closed(alloc: Global) -> Handle {
@@ -29,6 +31,13 @@ fn unprepared(alloc: Global) -> PreparedHandle {
     PreparedHandle {
         live: false,
         owned: OwnedQuery::none(alloc),
+    }
+}
+
+fn not_begun(alloc: Global) -> PlaceHandle {
+    PlaceHandle {
+        live: false,
+        owned: OwnedPlace::none(alloc),
     }
 }
 
@@ -83,6 +92,8 @@ fn call_prepared(alloc: Global, kept: &mut PreparedHandle, command: &str, words:
 fn call(alloc: Global, desk: &mut Desk, request: &str) -> Told {
     let (command, words) = request.split_once(" ").unwrap_or((request, ""));
     match command {
+        "state" => state(alloc, &mut desk.mine, &mut desk.place, words),
+        "leave" => answer_text(alloc, bes_leave(alloc, &mut desk.place)),
         "0" => call_by(alloc, &mut desk.mine, &mut desk.kept, words),
         "1" => call_by(alloc, &mut desk.theirs, &mut desk.kept, words),
         "another" => answer_text(alloc, bes_another(alloc, &mut desk.mine, &mut desk.theirs)),
@@ -97,6 +108,7 @@ pub(crate) fn check(alloc: Global, lines: &str) -> Result<(), Fail> {
         mine: closed(alloc),
         theirs: closed(alloc),
         kept: unprepared(alloc),
+        place: not_begun(alloc),
     };
     for line in lines.lines() {
         let (request, expected) = line.split_once(" => ").unwrap_or((line, ""));

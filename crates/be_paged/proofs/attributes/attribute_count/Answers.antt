@@ -1,46 +1,52 @@
-use Rattle.std.proofs.Common.{◌≡◌, ℕ, ◌∙◌, ap, sym, drop, List, true, is_some, arith}
-use Rattle.std.specs.FinMap as fin
-use Rattle.std.specs.Int.{to_be_bytes, w64}
-use Rattle.std.specs.List.{slice_get}
+use Rattle.std.proofs.Common.{ℕ, ◌∙◌, ap}
+use Rattle.std.specs.Ordering.{is_eq}
 use Rattle.be_tree.specs.Cursor.{remaining}
-use Rattle.be_tree.specs.Pair.{Pair}
-use Rattle.be_tree.specs.Range.{pairs_from}
+use Rattle.be_tree.specs.Page.{item_at}
+use Rattle.be_tree.specs.Key.{key_cmp}
 use Rattle.be_tree.specs.Tree.{pairs}
-use Rattle.be_tree.proofs.Frame.{unchanged_trans}
 use Rattle.be_tree.proofs.Trees.{tree_rising}
-use Rattle.be_volume.specs.Maps.{attributes_of}
-use Rattle.be_paged.specs.Reading.{front_of_node}
-use Rattle.be_paged.proofs.Asking.Walks.{none_left, one_left, drop_next, counted, cursor_since}
+use Rattle.be_paged.proofs.Asking.Counting.{counted_behind, none_at_end, none_elsewhere}
+use Rattle.be_paged.proofs.Asking.Walks.{cursor_since}
 use Rattle.be_paged.proofs.attributes.attribute_count.Goals as goal
 
-pub loop-count-preserved : goal.loop-count-preserved
-loop-count-preserved g c =
+pub returns-in_err-page-clause-count : goal.returns-in_err-page-clause-count
+returns-in_err-page-clause-count g c = λ nodes catalog valid few.
     let v = g.L.Look.words c.args.look.now in
-    let mid = g.L.Look.words c.loop-count.look in
-    let node = c.args.node in
-    let all = front_of_node node (pairs_from (pairs v c.args.catalog) (to_be_bytes w64 node) true) in
-    let step = c.pass_attribute.ensures.unchanged in
-    let some : is_some (slice_get (drop c.loop-count.count all) 0) ≡ true = ap (λ (xs : List Pair). is_some (slice_get xs 0)) (sym c.loop-count.invariant.rest) ∙ sym c.pass_attribute.ensures.found ∙ c.if-not-pass_attribute.false in
-    record {
-      cursor = cursor_since (g.L.Look.standing c.loop-count.look) (g.L.Look.standing c.pass_attribute.new.look) mid (g.L.Look.words c.pass_attribute.new.look) c.pass_attribute.new.cursor step.standing step.words c.pass_attribute.ensures.cursor;
-      rest = ap (λ (w : ℕ → ℕ → ℕ). front_of_node node (remaining w c.pass_attribute.new.cursor)) step.words ∙ c.pass_attribute.ensures.rest c.if-not-pass_attribute.false ∙ ap (λ (xs : List Pair). drop 1 xs) c.loop-count.invariant.rest ∙ drop_next all c.loop-count.count;
-      passed = omega (arith, one_left all c.loop-count.count some);
-      unchanged = unchanged_trans g.L.Look.kept g.L.Look.standing g.L.Look.words c.args.look.now c.loop-count.look c.pass_attribute.new.look c.loop-count.invariant.unchanged step;
-    }
-
-pub returns-then-not-pass_attribute-clause-count : goal.returns-then-not-pass_attribute-clause-count
-returns-then-not-pass_attribute-clause-count g c = λ nodes catalog valid few.
-    let v = g.L.Look.words c.args.look.now in
-    let node = c.args.node in
-    let all = front_of_node node (pairs_from (pairs v c.args.catalog) (to_be_bytes w64 node) true) in
     let rising = tree_rising (g.L.Look.standing c.args.look.now) v c.args.catalog c.requires.tree in
-    none_left all c.loop-count.count c.loop-count.invariant.passed (ap (λ (xs : List Pair). is_some (slice_get xs 0)) (sym c.loop-count.invariant.rest) ∙ sym c.pass_attribute.ensures.found ∙ c.if-not-pass_attribute.true)
-    ∙ counted (pairs v c.args.catalog) nodes node c.ranges.node.fits rising catalog valid ∙ sym (fin.len-entries (attributes_of nodes node))
+    let now = remaining (g.L.Look.words c.seek.new.look) c.seek.new.self in
+    let start = ap (λ (w : ℕ → ℕ → ℕ). remaining w c.seek.new.self) c.seek.ensures.unchanged.words ∙ c.seek.ensures.remaining in
+    c.from_residual.ensures
+    ∙ none_at_end (pairs v c.args.catalog) nodes c.args.node c.to_be_bytes-mark.result c.ranges.node.fits c.to_be_bytes-mark.ensures rising catalog now start c.in_err-page.ensures.none
+
+pub returns-then-not-is_key_at-clause-count : goal.returns-then-not-is_key_at-clause-count
+returns-then-not-is_key_at-clause-count g c = λ nodes catalog valid few.
+    let v = g.L.Look.words c.args.look.now in
+    let rising = tree_rising (g.L.Look.standing c.args.look.now) v c.args.catalog c.requires.tree in
+    let seen = g.L.Look.words c.seek.new.look in
+    let item = item_at (seen c.in_ok-page.page) c.in_ok-page.at in
+    let start = ap (λ (w : ℕ → ℕ → ℕ). remaining w c.seek.new.self) c.seek.ensures.unchanged.words ∙ c.seek.ensures.remaining in
+    let same = c.is_key_at.ensures.same ∙ ap (λ (w : ℕ → ℕ → ℕ). is_eq (key_cmp (item_at (w c.in_ok-page.page) c.in_ok-page.at).key c.to_be_bytes-mark.result)) c.in_ok-page.ensures.unchanged.words in
+    none_elsewhere (pairs v c.args.catalog) nodes c.args.node c.to_be_bytes-mark.result c.ranges.node.fits c.to_be_bytes-mark.ensures rising catalog (remaining seen c.seek.new.self) item c.is_key_at.result
+    start c.in_ok-page.ensures.item same c.if-not-is_key_at.true
+
+pub count_rest-requires : goal.count_rest-requires
+count_rest-requires g c =
+    let first = c.in_ok-page.ensures.unchanged in
+    let last = c.is_key_at.ensures.unchanged in
+    record {
+      cursor = cursor_since (g.L.Look.standing c.seek.new.look) (g.L.Look.standing c.is_key_at.new.look) (g.L.Look.words c.seek.new.look) (g.L.Look.words c.is_key_at.new.look) c.step.new.self
+          (last.standing ∙ first.standing) (last.words ∙ first.words) c.in_ok-page.ensures.cursor;
+    }
 
 pub returns-clause-count : goal.returns-clause-count
 returns-clause-count g c = λ nodes catalog valid few.
     let v = g.L.Look.words c.args.look.now in
-    let node = c.args.node in
     let rising = tree_rising (g.L.Look.standing c.args.look.now) v c.args.catalog c.requires.tree in
-    let all = counted (pairs v c.args.catalog) nodes node c.ranges.node.fits rising catalog valid in
-    omega (arith, few, all, fin.len-entries (attributes_of nodes node), c.loop-count.invariant.passed, c.loop-count-test.false)
+    let seen = g.L.Look.words c.seek.new.look in
+    let item = item_at (seen c.in_ok-page.page) c.in_ok-page.at in
+    let start = ap (λ (w : ℕ → ℕ → ℕ). remaining w c.seek.new.self) c.seek.ensures.unchanged.words ∙ c.seek.ensures.remaining in
+    let same = c.is_key_at.ensures.same ∙ ap (λ (w : ℕ → ℕ → ℕ). is_eq (key_cmp (item_at (w c.in_ok-page.page) c.in_ok-page.at).key c.to_be_bytes-mark.result)) c.in_ok-page.ensures.unchanged.words in
+    let rest = remaining (g.L.Look.words c.is_key_at.new.look) c.step.new.self in
+    let left = ap (λ (w : ℕ → ℕ → ℕ). remaining w c.step.new.self) (c.is_key_at.ensures.unchanged.words ∙ c.in_ok-page.ensures.unchanged.words) ∙ c.in_ok-page.ensures.remaining in
+    counted_behind (pairs v c.args.catalog) nodes c.args.node c.to_be_bytes-mark.result c.ranges.node.fits c.to_be_bytes-mark.ensures rising catalog valid (remaining seen c.seek.new.self) rest item c.is_key_at.result c.count_rest.result
+    start c.in_ok-page.ensures.item left same c.if-not-is_key_at.false few c.count_rest.ensures.count

@@ -17,7 +17,7 @@ returns-in_default-clause-spells g c = λ volume spells sound.
     (subst (λ (es : List Entry). IsGapAt es c.args.name.now c.in_default.field-0) c.deref.ensures.0 c.in_default.ensures.absent)
 
 pub value_in-old-requires : goal.value_in-old-requires
-value_in-old-requires g c = record { tree = c.requires.in_hand.trees.each 0 0 (omega arith) }
+value_in-old-requires g c = record { tree = c.requires.in_hand.trees.each 0 0 (omega arith); known = c.requires.known }
 
 pub change_at-requires-clause-in_hand : goal.change_at-requires-clause-in_hand
 change_at-requires-clause-in_hand g c =

@@ -52,3 +52,9 @@ returns-in-RmIndex-clause-stays g c = λ volume spells sound stands. absurd (sub
 
 pub returns-in-Set-clause-stays : goal.returns-in-Set-clause-stays
 returns-in-Set-clause-stays g c = IfOk-weaker c.set_value.result _ _ (λ done e volume spells sound stands. e volume spells sound (subst (SetsWhatStands volume) c.in-Set.is stands)) c.set_value.ensures.stays
+
+pub set_value-requires-clause-known : goal.set_value-requires-clause-known
+set_value-requires-clause-known g c = c.known_of-known.ensures (g.R.Look.standing c.args.room.now) (g.R.Look.words c.args.room.now) c.args.version.now.catalog c.requires.asked
+
+pub unset_value-requires-clause-known : goal.unset_value-requires-clause-known
+unset_value-requires-clause-known g c = c.known_of-known-in-Unset.ensures (g.R.Look.standing c.args.room.now) (g.R.Look.words c.args.room.now) c.args.version.now.catalog c.requires.asked

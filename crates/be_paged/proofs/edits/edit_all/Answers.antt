@@ -17,7 +17,11 @@ loop-op-init g c = record {
   stays = λ volume spells sound stands. (spells, refl);
   next = omega arith;
   counted = ap length c.requires.empty;
+  asked = c.requires.asked;
 }
+
+pub edit-requires-clause-asked : goal.edit-requires-clause-asked
+edit-requires-clause-asked g c = c.loop-op.invariant.asked
 
 pub loop-op-preserved : goal.loop-op-preserved
 loop-op-preserved g c =
@@ -48,6 +52,7 @@ loop-op-preserved g c =
           );
       next = omega (arith, c.loop-op.invariant.next, c.in_ok-edit.ensures.next);
       counted = ap length c.push.ensures.items ∙ length-append _ _ ∙ ap (λ n. n + 1) c.loop-op.invariant.counted;
+      asked = tt;
     }
 
 pub returns-in_err-edit-clause-err : goal.returns-in_err-edit-clause-err

@@ -3,6 +3,7 @@ use Rattle.be_volume.specs.Sound.{IsSound}
 use Rattle.be_volume.specs.Volume.{State, steps}
 use Rattle.be_paged.specs.Changes.{Changes, Reaches, SetsWhatStands}
 use Rattle.be_paged.specs.Page.{contents}
+use Rattle.be_paged.specs.Place.{IsAsked}
 use Rattle.be_paged.specs.Version.{Spells}
 use Rattle.be_paged.proofs.edits.edit_all.Given as goal
 
@@ -16,4 +17,5 @@ invariant-loop-op g l = record {
       Spells (g.R.Look.words l.room) (contents l.version) volume × (l.version.entries.items ≡ l.initial.version.entries.items);
   next : l.version.next ≤ l.initial.version.next + l.op-index;
   counted : length l.dones.items ≡ l.op-index;
+  asked : IsAsked (g.R.Look.standing l.room) (g.R.Look.words l.room) l.version.catalog l.first;
 }

@@ -28,6 +28,9 @@ pub unset_value-requires-clause-in_hand : goal.unset_value-requires-clause-in_ha
 unset_value-requires-clause-in_hand g c =
     in_hand_since g.R.Look.kept g.R.Look.standing g.R.Look.words (contents c.loop.version) c.loop.room c.first_attribute.new.look c.first_attribute.ensures.unchanged c.loop.invariant.changes.in_hand
 
+pub unset_value-requires-clause-known : goal.unset_value-requires-clause-known
+unset_value-requires-clause-known g c = c.in-Some.ensures.place
+
 pub loop-preserved : goal.loop-preserved
 loop-preserved g c =
     let step = changes_since g.R.Look.kept g.R.Look.standing g.R.Look.words (contents c.loop.version) (contents c.unset_value.new.version) c.loop.room c.first_attribute.new.look c.unset_value.new.room

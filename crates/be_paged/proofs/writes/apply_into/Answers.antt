@@ -9,6 +9,9 @@ use Rattle.be_paged.proofs.Applying.Applied.{page_stays, applied}
 use Rattle.be_paged.proofs.Applying.Composing.{changes_since, start_after}
 use Rattle.be_paged.proofs.writes.apply_into.Goals as goal
 
+pub edit_all-requires-clause-asked : goal.edit_all-requires-clause-asked
+edit_all-requires-clause-asked g c = c.refusal.ensures.asked
+
 pub replace_version-requires-clause-in_use : goal.replace_version-requires-clause-in_use
 replace_version-requires-clause-in_use g c =
     let before = contents c.fill_version.new.version in

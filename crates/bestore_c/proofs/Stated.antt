@@ -1,0 +1,98 @@
+-- What is told of the operations that make a version again.
+use Rattle.std.proofs.Common.{◌≡◌, ◌⊎◌, ◌≤◌, ◌<◌, ℕ, List, [], ◌++◌, length, Option, Some, None, Result, Ok, Err, false, inl, inr, refl, ap, sym, subst, ◌∙◌}
+use Rattle.std.proofs.lemmas.Bool.{true≢false}
+use Rattle.std.specs.Prelude.{is_some}
+use Rattle.be_session.specs.Fault.{fault_code}
+use Rattle.be_session.specs.Operations.{AreSpelled}
+use Rattle.be_session.specs.Sitting.{AtPin}
+use Rattle.be_session.specs.States.{LackRoom, WaitBehind, unread, untold, waiting}
+use Rattle.be_session.specs.declared.faults.Fault.{Fault}
+use Rattle.be_session.specs.declared.faults.Fault.TheVariants.{Refused}
+use Rattle.be_session.specs.declared.lists.Operation.{Operation}
+use Rattle.be_session.specs.declared.states.StatePlace.{StatePlace}
+use Rattle.be_state.specs.Rebuilding.{state_ops}
+use Rattle.be_value.specs.declared.refusals.Refusal.TheVariants.{OutOfMemory}
+use Rattle.be_volume.specs.Volume.{State}
+use Rattle.be_volume.specs.declared.ops.Op.{Op}
+use Rattle.bestore_c.proofs.Finding.{fault_in}
+use Rattle.bestore_c.proofs.Lists.{put_out}
+use Rattle.bestore_c.specs.Places.{over}
+use Rattle.bestore_c.specs.States.{StaysToTell, TellsNext, TellsState, untold_at}
+use Rattle.bestore_c.specs.declared.handle.Counts.{Counts}
+
+-- a place that was just begun stands where its handle did, which was closed
+pub begun : (volume : State) (o : Option StatePlace) (p : StatePlace) → is_some o ≡ false → untold volume p ≡ state_ops volume → untold volume p ≡ untold_at volume o
+begun volume None p closed is = is
+begun volume (Some q) p closed is = absurd (true≢false closed)
+
+-- where the list is empty, so is what is left of both
+none_left : (ops rest : List Op) → (ops ≡ [] → ops ++ rest ≡ []) → ops ≡ [] → rest ≡ []
+none_left ops rest ends none = subst (λ (xs : List Op). xs ++ rest ≡ []) none (ends none)
+
+short : (places : List Operation) (byte_places : List ℕ) (counts : Counts) (os : List Operation) (bs : List ℕ)
+    → counts.operations ≡ length os → counts.bytes ≡ length bs → LackRoom (length places) (length byte_places) os bs
+    → (length places < counts.operations) ⊎ (length byte_places < counts.bytes)
+short places byte_places counts os bs many size lacks =
+    elim lacks [
+      | inl low ↦ inl (subst (λ n. length places < n) (sym many) low)
+      | inr low ↦ inr (subst (λ n. length byte_places < n) (sym size) low)
+    ]
+
+stays : (ops rest still : List Op) (counts : Counts) (places : List Operation) (byte_places : List ℕ) (os : List Operation) (bs : List ℕ)
+    → counts.operations ≡ length os → counts.bytes ≡ length bs → WaitBehind ops (length places) (length byte_places) os bs still
+    → StaysToTell ops rest counts places byte_places (still ++ rest)
+stays ops rest still counts places byte_places os bs many size behind =
+    elim behind [
+      | inl fits ↦ inl (
+        subst (λ n. n ≤ length places) (sym many) fits.0.0,
+        subst (λ n. n ≤ length byte_places) (sym size) fits.0.1,
+        ap (λ (ws : List Op). ws ++ rest) fits.1,
+      )
+      | inr lacks ↦ inr (short places byte_places counts os bs many size lacks.0, ap (λ (ws : List Op). ws ++ rest) lacks.1)
+    ]
+
+-- what was ready is put out
+pub told_ready : (volume : State) (p q : StatePlace) (counts : Counts) (places filled : List Operation) (byte_places bytes : List ℕ) (code : ℕ)
+    (os : List Operation) (bs : List ℕ)
+    → length (waiting p) ≤ 64 → (waiting p ≡ [] → untold volume p ≡ []) → unread volume q ≡ unread volume p → AreSpelled os bs (waiting p)
+    → WaitBehind (waiting p) (length places) (length byte_places) os bs (waiting q)
+    → code ≡ 0 → counts.operations ≡ length os → filled ≡ over os places → counts.bytes ≡ length bs → bytes ≡ over bs byte_places
+    → TellsNext (untold volume p) (untold volume q) counts places filled byte_places bytes code
+told_ready volume p q counts places filled byte_places bytes code os bs few ends same are behind done many put size texts =
+    let ops = waiting p in
+    let rest = unread volume p in
+    inr (
+      ops,
+      rest,
+      refl,
+      (few, none_left ops rest ends),
+      done,
+      put_out ops counts places filled byte_places bytes code os bs are done many put size texts,
+      subst (λ later. StaysToTell ops rest counts places byte_places (waiting q ++ later)) (sym same)
+          (stays ops rest (waiting q) counts places byte_places os bs many size behind),
+    )
+
+-- nothing was put out, for want of memory
+pub told_none : (volume : State) (p q : StatePlace) (counts : Counts) (places filled : List Operation) (byte_places bytes : List ℕ) (code : ℕ) (e : Fault)
+    → code ≡ fault_code e → e ≡ Refused OutOfMemory → unread volume q ≡ unread volume p → waiting q ≡ waiting p
+    → TellsNext (untold volume p) (untold volume q) counts places filled byte_places bytes code
+told_none volume p q counts places filled byte_places bytes code e is none same waits =
+    inl (is ∙ ap fault_code none, ap (λ (ws : List Op). ws ++ unread volume q) waits ∙ ap (λ later. waiting p ++ later) same)
+
+module _ (before mid still : List Op) (counts : Counts) (places filled : List Operation) (byte_places bytes : List ℕ) (code : ℕ) where
+  -- the next list was told, at a pin
+  pub state_told : {X : Type 0} (pin : Option ℕ) (x : X) (meant : Type 0) → AtPin {X = X} pin (Ok x) meant → mid ≡ before
+      → TellsNext mid still counts places filled byte_places bytes code → TellsState pin before still counts places filled byte_places bytes code
+  state_told None x meant pinned same told = cc
+  state_told (Some n) x meant pinned same told = subst (λ l. TellsNext l still counts places filled byte_places bytes code) same told
+
+  -- there was no pin, or no memory
+  pub state_untold : (X : Type 0) (pin : Option ℕ) (e : Fault) → AtPin {X = X} pin (Err e) (e ≡ Refused OutOfMemory) → still ≡ before → code ≡ fault_code e
+      → TellsState pin before still counts places filled byte_places bytes code
+  state_untold X None e pinned same is = (inl (is ∙ ap (λ (r : Result X Fault). fault_code (fault_in r)) pinned), same)
+  state_untold X (Some n) e pinned same is = inl (is ∙ ap fault_code pinned, same)
+
+  -- there was no memory for the place itself
+  pub state_spent : (pin : Option ℕ) → still ≡ before → code ≡ 10 → TellsState pin before still counts places filled byte_places bytes code
+  state_spent None same ten = (inr ten, same)
+  state_spent (Some n) same ten = inl (ten, same)

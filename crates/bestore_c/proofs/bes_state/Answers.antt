@@ -1,0 +1,30 @@
+use Rattle.std.proofs.Common.{◌≡◌, [], Some, ap, refl, subst, sym, true, ◌∙◌}
+use Rattle.std.specs.Prelude.{is_some}
+use Rattle.be_session.specs.States.{untold}
+use Rattle.be_store.specs.Passes.{HasRead, volume_pinned}
+use Rattle.be_table.specs.Seats.{pinned_number}
+use Rattle.bestore_c.specs.States.{TellsState, untold_at}
+use Rattle.bestore_c.proofs.Called.{called, stays}
+use Rattle.bestore_c.proofs.Stated.{state_spent}
+use Rattle.bestore_c.proofs.bes_state.Goals as goal
+
+pub returns-in_default-clause-pass : goal.returns-in_default-clause-pass
+returns-in_default-clause-pass c =
+    let open_is : c.args.pass.now.live ≡ is_some c.args.pass.now.owned.value = c.args.pass.now.full in
+    let full : is_some c.args.pass.now.owned.value ≡ true = sym open_is ∙ c.if-not-pass.false in
+    stays c.args.pass.now.owned.value _ _ full (λ s. (
+      refl,
+      state_spent _ [] _ _ _ _ _ _ _ (pinned_number s.knows.phase) (c.begin.ensures.same (volume_pinned s.knows)) refl,
+    ))
+
+pub returns-clause-pass : goal.returns-clause-pass
+returns-clause-pass c =
+    let was : c.args.pass.now.owned.value ≡ Some c.lent.result.now = c.lent.ensures.value in
+    let volume = volume_pinned c.lent.result.now.knows in
+    let there : untold volume c.lent-2.result.now ≡ untold_at volume c.args.place.now.owned.value =
+    ap (untold_at volume) (sym c.lent-2.ensures.value) ∙ c.begin.ensures.same volume in
+    called c.args.pass.now.owned.value _ c.lent.result.now c.tell_state.new.session _ _ was refl c.tell_state.ensures.store.0 c.tell_state.ensures.store.1 (
+      c.tell_state.ensures.read,
+      subst (λ before. TellsState (pinned_number c.lent.result.now.knows.phase) before (untold volume c.tell_state.new.place) c.tell_state.new.counts
+      c.args.listed.now c.tell_state.new.operations c.args.bytes.now c.tell_state.new.bytes c.tell_state.result) there c.tell_state.ensures.told,
+    )

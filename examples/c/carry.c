@@ -1,0 +1,138 @@
+/* A process that runs for long: two threads write letters, more than the journal of one store takes. Where a store takes no more, its
+ * state is carried on to a new one, and the threads go on there. A pin of the first store goes on reading it. */
+#include "bestore.h"
+#include <pthread.h>
+#include <stdio.h>
+#include <stdlib.h>
+
+enum { WRITERS = 2, LETTERS = 500, COMMITS = 1000 };
+
+/* The writers' passes, and where they wait for a new store. */
+typedef struct office {
+    bes_pass passes[WRITERS];
+    bes_pass first; /* of the first store, pinned to its last version */
+    pthread_mutex_t lock;
+    pthread_cond_t moved;
+    int at_work; /* how many writers have letters left */
+    int waiting; /* how many of these wait for a new store */
+    int stores;  /* how many there were */
+} office;
+
+typedef struct writer {
+    office *office;
+    bes_pass *pass;
+    const char *name;
+} writer;
+
+static void stop_at(const char *what, uint32_t answer)
+{
+    if (answer != BES_OK) {
+        fprintf(stderr, "%s: %s\n", what, bes_strerror(answer));
+        exit(1);
+    }
+}
+
+/* Makes a new store what the pinned version is. */
+static void carry_on(bes_pass *old, bes_pass *next)
+{
+    bes_batch batch;
+    bes_place place = BES_PLACE_INIT;
+    uint64_t made[64], number = 0;
+    stop_at("state", bes_batch_state(old, &place, &batch));
+    while (batch.count > 0) {
+        stop_at("carry on", bes_batch_apply(next, &batch, 1, made, 64, &number));
+        stop_at("state", bes_batch_state(old, &place, &batch));
+    }
+    bes_leave(&place);
+}
+
+/* Gives the writers passes of a new store, while none of them writes. */
+static void move(office *it)
+{
+    bes_pass next = BES_PASS_INIT;
+    uint64_t number = 0;
+    stop_at("open", bes_open(1024, WRITERS, COMMITS, &next));
+    stop_at("pin", bes_pin(&it->passes[0], &number));
+    carry_on(&it->passes[0], &next);
+    stop_at("keep", it->stores == 1 ? bes_move(&it->passes[0], &it->first) : bes_close(&it->passes[0]));
+    for (int i = 1; i < WRITERS; i++) {
+        stop_at("close", bes_close(&it->passes[i]));
+        stop_at("another", bes_another(&next, &it->passes[i]));
+    }
+    stop_at("move", bes_move(&next, &it->passes[0]));
+    it->stores++;
+    it->waiting = 0;
+    pthread_cond_broadcast(&it->moved);
+}
+
+/* Waits for a new store, as the others do; the last one to come makes it. */
+static void wait_for_store(office *it)
+{
+    pthread_mutex_lock(&it->lock);
+    int store = it->stores;
+    if (++it->waiting == it->at_work)
+        move(it);
+    while (it->stores == store)
+        pthread_cond_wait(&it->moved, &it->lock);
+    pthread_mutex_unlock(&it->lock);
+}
+
+/* Has no letters left. Where all others wait, they wait for nobody now. */
+static void go_home(office *it)
+{
+    pthread_mutex_lock(&it->lock);
+    if (--it->at_work == it->waiting && it->waiting > 0)
+        move(it);
+    pthread_mutex_unlock(&it->lock);
+}
+
+/* Two writes for each letter, and each of them once more in the next store where this one takes none. */
+static void *write_letters(void *arg)
+{
+    writer *it = arg;
+    for (int i = 0; i < LETTERS; i++) {
+        uint64_t letter = 0;
+        uint32_t answer;
+        while ((answer = bes_new_node(it->pass, &letter)) == BES_COMMITS_SPENT)
+            wait_for_store(it->office);
+        stop_at("new letter", answer);
+        while ((answer = bes_set_text(it->pass, letter, "MAIL:from", it->name)) == BES_COMMITS_SPENT)
+            wait_for_store(it->office);
+        stop_at("sender", answer);
+    }
+    go_home(it->office);
+    return NULL;
+}
+
+/* How many letters there are in the pinned version that meet the query. */
+static unsigned long long letters(bes_pass *pass, const char *query)
+{
+    uint64_t count = 0, none = 0;
+    stop_at(query, bes_find(pass, query, &none, 0, &count));
+    return count;
+}
+
+int main(void)
+{
+    static office it = {{BES_PASS_INIT}, BES_PASS_INIT, PTHREAD_MUTEX_INITIALIZER, PTHREAD_COND_INITIALIZER, WRITERS, 0, 1};
+    writer writers[WRITERS] = {{&it, &it.passes[0], "ann"}, {&it, &it.passes[1], "bob"}};
+    pthread_t running[WRITERS];
+    uint64_t number = 0;
+    stop_at("open", bes_open(1024, WRITERS, COMMITS, &it.passes[0]));
+    stop_at("another", bes_another(&it.passes[0], &it.passes[1]));
+    stop_at("index", bes_make_index(&it.passes[0], "MAIL:from", BES_STRING_TYPE));
+    for (int i = 0; i < WRITERS; i++)
+        if (pthread_create(&running[i], NULL, write_letters, &writers[i]) != 0)
+            return 1;
+    for (int i = 0; i < WRITERS; i++)
+        pthread_join(running[i], NULL);
+    stop_at("pin", bes_pin(&it.passes[0], &number));
+    printf("%d stores\n", it.stores);
+    printf("ann %llu\n", letters(&it.passes[0], "MAIL:from==ann"));
+    printf("bob %llu\n", letters(&it.passes[0], "MAIL:from==bob"));
+    printf("in the first store %llu\n", letters(&it.first, "MAIL:from==*"));
+    for (int i = 0; i < WRITERS; i++)
+        stop_at("close", bes_close(&it.passes[i]));
+    stop_at("close", bes_close(&it.first));
+    return 0;
+}
