@@ -500,7 +500,14 @@ pub extern "C" fn bes_state(
     let Ok(()) = begin(alloc, place) else {
         return NO_MEMORY;
     };
-    tell_state(alloc, pass.owned.lent(), place.owned.lent(), counts, listed, bytes)
+    tell_state(
+        alloc,
+        pass.owned.lent(),
+        place.owned.lent(),
+        counts,
+        listed,
+        bytes,
+    )
 }
 
 /// Closes the handle of a place: it stands before the first operation again.

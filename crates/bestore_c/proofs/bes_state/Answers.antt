@@ -26,5 +26,5 @@ returns-clause-pass c =
     called c.args.pass.now.owned.value _ c.lent.result.now c.tell_state.new.session _ _ was refl c.tell_state.ensures.store.0 c.tell_state.ensures.store.1 (
       c.tell_state.ensures.read,
       subst (λ before. TellsState (pinned_number c.lent.result.now.knows.phase) before (untold volume c.tell_state.new.place) c.tell_state.new.counts
-      c.args.listed.now c.tell_state.new.operations c.args.bytes.now c.tell_state.new.bytes c.tell_state.result) there c.tell_state.ensures.told,
+          c.args.listed.now c.tell_state.new.operations c.args.bytes.now c.tell_state.new.bytes c.tell_state.result) there c.tell_state.ensures.told,
     )
