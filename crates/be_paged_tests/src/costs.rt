@@ -47,7 +47,7 @@ fn make_node(alloc: Global, both: Both, node: u64) -> Result<Both, Fail> {
 }
 
 /// The volume that each row is about.
-fn filled(alloc: Global) -> Result<Both, Fail> {
+pub(crate) fn filled(alloc: Global) -> Result<Both, Fail> {
     let indices = "mkindex name CSTR / mkindex size LONG => ok / ok";
     let mut both = run_lines(alloc, Both::new(alloc, 1024)?, indices)?;
     for node in 1..=NODES {

@@ -1,4 +1,5 @@
-//! Versions read while a write is open, by a reader of the tests' own.
+//! Versions read by another look than their room: one that counts its calls, and while a write is open one that sees what stood
+//! before it.
 ghost use Rattle.std.specs.Prelude.{◌≡◌, IfOk};
 ghost use Rattle.be_pages.specs.Pages.{IsUnchanged, after_undo};
 ghost use Rattle.be_tree.specs.Forest.{IsWriteStart};
@@ -6,12 +7,13 @@ ghost use Rattle.be_paged.specs.Version.{IsVersion};
 
 use crate::asking::{query_both, read_query};
 use crate::both::Both;
+use crate::costs::filled;
 use crate::lines::nodes_text;
 use crate::test_looks::Before;
 use crate::tests::run_lines;
 use crate::writing::{accepts, apply_pages};
 use be_pages::{Look, VecRoom};
-use be_testing::EQUAL_VALUES;
+use be_testing::{Counting, EQUAL_VALUES};
 use be_value::Refusal;
 use be_volume::{Op, Volume};
 use std::alloc::Global;
@@ -35,6 +37,32 @@ fn expect_look<L: Look + Drop>(
         return Ok(look);
     }
     Err(Fail::new(text))
+}
+
+/// Fails unless both forms give these nodes, the one over pages by a look that counts its calls. Gives both as they were.
+fn expect_counting(alloc: Global, both: Both, text: &str, expected: &str) -> Result<Both, Fail> {
+    let Both { plain, room, page } = both;
+    let counting = Counting {
+        look: room,
+        reads: 0,
+    };
+    let counting = expect_look(alloc, &plain, counting, page, text, expected)?;
+    Ok(Both {
+        plain,
+        room: counting.look,
+        page,
+    })
+}
+
+/// A walk over a hundred names, which looks at each node. The version stands in the room that comes back, and can be written on.
+#[test]
+fn counting_look(rt: HostRuntime) -> Result<(), Fail> {
+    let query = r#"name=="101*" && size>=2900"#;
+    let both = filled(rt.alloc())?;
+    let both = expect_counting(rt.alloc(), both, query, "nodes 170 222 274\n")?;
+    let both = run_lines(rt.alloc(), both, "drop 222 => ok")?;
+    let _both = expect_counting(rt.alloc(), both, query, "nodes 170 274\n")?;
+    Ok(())
 }
 
 /// An equal volume, copied again where memory is refused.
