@@ -6,6 +6,8 @@
 #[cfg(test)]
 mod calls;
 #[cfg(test)]
+mod carrying;
+#[cfg(test)]
 mod races;
 #[cfg(test)]
 mod room;

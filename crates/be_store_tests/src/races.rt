@@ -32,7 +32,7 @@ fn make_at_last(store: &Store, pass: &mut Pass) -> Result<(), Refusal>
 }
 
 /// Makes a hundred nodes. Whether each was accepted.
-fn make_hundred(store: &Store, mut pass: Pass) -> (Pass, bool)
+pub(crate) fn make_hundred(store: &Store, mut pass: Pass) -> (Pass, bool)
     requires { IsPassOf store.now pass }
     ensures { StaysPass store.now pass result.0 }
 {

@@ -2,6 +2,7 @@
 //! clause.
 
 use crate::calls::{answer, write};
+use crate::carrying::carry_meanwhile;
 use crate::races::{closed, journal_of, make_both};
 use crate::states::state_text;
 use be_language::Reply;
@@ -123,20 +124,25 @@ fn met_text(alloc: Global, met: Option<u64>) -> Result<String, Refusal> {
 }
 
 impl Room {
-    /// Writes one operation by pass 0. Its number, or why it was refused.
-    fn write_once(&mut self, op: Op) -> Result<u64, Refusal> {
-        match write(&self.store, &mut self.first, &[op]) {
+    /// Writes a list by pass 0. Its number, or why it was refused.
+    fn write_once(&mut self, ops: &[Op]) -> Result<u64, Refusal> {
+        match write(&self.store, &mut self.first, ops) {
             Ok((number, _)) => Ok(number),
             Err(refusal) => Err(refusal),
         }
     }
 
     /// The same, once more where memory is refused.
-    pub(crate) fn write(&mut self, op: Op) -> Result<u64, Refusal> {
-        match self.write_once(op.copy()) {
-            Err(Refusal::OutOfMemory) => self.write_once(op),
+    pub(crate) fn write_list(&mut self, ops: &[Op]) -> Result<u64, Refusal> {
+        match self.write_once(ops) {
+            Err(Refusal::OutOfMemory) => self.write_once(ops),
             answer => answer,
         }
+    }
+
+    /// The same of one operation.
+    pub(crate) fn write(&mut self, op: Op) -> Result<u64, Refusal> {
+        self.write_list(&[op])
     }
 
     /// What pass 0 is answered.
@@ -174,9 +180,16 @@ impl Room {
         drop(self.second.move_out());
     }
 
-    /// The operations that make the version of pass 0 again.
-    fn state(&mut self, alloc: Global) -> Result<String, Refusal> {
+    fn state_once(&mut self, alloc: Global) -> Result<String, Refusal> {
         state_text(&self.store, alloc, &mut self.first)
+    }
+
+    /// The operations that make the version of pass 0 again, told once more where memory is refused.
+    pub(crate) fn state(&mut self, alloc: Global) -> Result<String, Refusal> {
+        match self.state_once(alloc) {
+            Err(Refusal::OutOfMemory) => self.state_once(alloc),
+            text => text,
+        }
     }
 
     fn watch(&mut self, alloc: Global, text: &str) -> Result<String, Refusal> {
@@ -235,6 +248,24 @@ impl Room {
         let is_accepted = first.1 && second.1;
         let journal = journal_of(alloc, store, first.0, second.0)?;
         Ok((journal, is_accepted))
+    }
+
+    /// The state at the pin of pass 0 is carried on, while pass 1 makes a hundred nodes, each on a thread of its own. The room to
+    /// which it was carried on, and whether each node was accepted.
+    pub(crate) fn carry<R: Threads + Sync>(
+        &mut self,
+        rt: &R,
+        alloc: Global,
+    ) -> Result<(Room, bool), Refusal> {
+        if !self.has_second {
+            return Err(Refusal::BadLimits);
+        }
+        let writer = self.second.move_out();
+        let reader = self.first.move_out();
+        let (written, read) = carry_meanwhile(rt, alloc, &self.store, writer, reader);
+        self.second = written.0;
+        self.first = read.0;
+        Ok((read.1?, written.1))
     }
 }
 

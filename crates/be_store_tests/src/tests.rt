@@ -8,6 +8,7 @@ use be_store::{Kind, Limits, Name, Op, Refusal, Store, Value};
 use be_testing::{OUTSIDE_LIMITS, check_lines, has_hundred_by_each, numbered};
 use std::alloc::{AllocError, Global};
 use std::test::Fail;
+use std::thread::Threads;
 
 /// How many passes a store with these limits has.
 fn count_passes(alloc: Global, pages: u64, passes: u64, commits: u64) -> Result<u64, Refusal> {
@@ -385,4 +386,43 @@ fn two_writers(rt: HostRuntime) -> Result<(), Fail> {
     assert!(rt; is_accepted);
     assert!(rt; has_hundred_by_each(&journal)?);
     Ok(())
+}
+
+/// Writes lists of different kinds: nodes and one that is dropped, an attribute outside of its index and two in theirs, and
+/// indices. Then it pins. The state there is of two lists.
+fn write_and_pin(alloc: Global, room: &mut Room) -> Result<(), Fail> {
+    let lines = "0 new;set 1 k LONG 5;new;drop 2 => commit 1 / node 1 / ok / node 2 / ok
+0 mkindex k LONG;mkindex j LONG;set 1 j LONG 6 => commit 2 / ok / ok / ok
+0 new;set 3 k LONG 8 => commit 3 / node 3 / ok";
+    check_lines(alloc, room, lines)?;
+    for _ in 0..64 {
+        room.write(Op::New)?;
+    }
+    check_lines(alloc, room, "0 pin => pin 67")
+}
+
+/// Fails unless its journal has two lists, which make this state.
+fn check_carried(alloc: Global, carried: &mut Room, state: &str) -> Result<(), Fail> {
+    check_lines(alloc, carried, "0 pin => pin 2")?;
+    if carried.state(alloc)?.as_str() != state {
+        return Err(Fail::new("another state"));
+    }
+    Ok(())
+}
+
+/// Carries the state of the room's pin on, while a hundred nodes are made. Whether each was accepted.
+fn carry<R: Threads + Sync>(rt: &R, alloc: Global, room: &mut Room) -> Result<bool, Fail> {
+    let state = room.state(alloc)?;
+    let (mut carried, is_accepted) = room.carry(rt, alloc)?;
+    check_carried(alloc, &mut carried, state.as_str())?;
+    Ok(is_accepted)
+}
+
+/// A state is carried on to a second store while another thread writes: it is the one of the pin, and all writes are accepted.
+#[test]
+fn carried_meanwhile(rt: HostRuntime) -> Result<(), Fail> {
+    let mut room = for_two(rt.alloc(), 1024, 1000)?;
+    write_and_pin(rt.alloc(), &mut room)?;
+    assert!(rt; carry(&rt, rt.alloc(), &mut room)?);
+    check_lines(rt.alloc(), &mut room, "0 unpin / 0 pin => ok / pin 167")
 }
