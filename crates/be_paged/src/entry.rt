@@ -56,6 +56,7 @@ fn byte_or_zero(bytes: &[u8], i: usize) -> u8
 }
 
 /// The eight bytes from a place on, as a word, with zeros past the end.
+#[inline]
 pub(crate) fn word_from(bytes: &[u8], from: usize) -> u64
     requires { from ≤ 64 }
     ensures { to_be_bytes w64 result ≡ map (λ k. slice_index bytes.now k) (range_with_len from 8) }
