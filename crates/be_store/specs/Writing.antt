@@ -24,11 +24,11 @@ pub record Begins (k : Knowledge) : Type 0 where
   pub begun : (q : ℕ) → standing_among k.places q ≡ at_start (has (reach_at k.seen (length k.seen)) q)
   pub spelt : SpellsVolume (reach_at k.seen (length k.seen)) (word_of_page k.words) (page_at k.seen (length k.seen)) (volume_seen k)
 
--- An early scan: a whole one where 256 or more pages are retired beyond those that the last one left, and else nothing.
+-- An early scan: a whole one where 32 or more pages are retired beyond those that the last one left, and else nothing.
 abbrev pub ScansEarly : Work → Work → Type 0
 ScansEarly old new =
-    ((count_by is_retired old.knows.places < old.left + 256) × (new ≡ old))
-    ⊎ ((old.left + 256 ≤ count_by is_retired old.knows.places) × ((least : ℕ) × MakesScan old new least))
+    ((count_by is_retired old.knows.places < old.left + 32) × (new ≡ old))
+    ⊎ ((old.left + 32 ≤ count_by is_retired old.knows.places) × ((least : ℕ) × MakesScan old new least))
 
 -- the pass is still the same pass, with its pin
 pub record IsSame (a c : Knowledge) : Type 0 where

@@ -32,9 +32,10 @@ use be_volume::{Done, Op};
 use std::marker::{Brand, Model};
 
 /// A retired page is used again only once a scan has freed it. A write that lets the pool run empty first goes through
-/// the memory of every page, where those that were given up last are still near: 256 of them are a mebibyte, which a
-/// processor's cache holds. A scan that comes so late costs less than a load for each page that it frees.
-const EARLY: usize = 256;
+/// the memory of every page, where those that were given up last are still near. A write gives up 6 to 16, all of which use
+/// the same few lines of the cache, so those of two or three writes are still in its nearest levels. A scan a write
+/// would find no more of them there, and costs a load for each pass.
+const EARLY: usize = 32;
 
 /// The lock is held by this pass. It has no `Drop`, so it ends in `unlock`.
 pub struct Writing<'a> {
@@ -196,11 +197,11 @@ impl<'a> Writing<'a> {
         }
     }
 
-    /// Whether a scan pays though pages may be free: 256 or more pages are retired beyond those that the last whole scan
+    /// Whether a scan pays though pages may be free: 32 or more pages are retired beyond those that the last whole scan
     /// had to leave for readers, which are no more than are retired now. No step.
     pub fn is_scan_due(&self) -> bool
-        ensures due { result ≡ true → self.now.left + 256 ≤ count_by is_retired self.now.knows.places }
-        ensures not_yet { result ≡ false → count_by is_retired self.now.knows.places < self.now.left + 256 }
+        ensures due { result ≡ true → self.now.left + 32 ≤ count_by is_retired self.now.knows.places }
+        ensures not_yet { result ≡ false → count_by is_retired self.now.knows.places < self.now.left + 32 }
         ensures left { self.now.left ≤ count_by is_retired self.now.knows.places }
     {
         self.ledger.pool.retired().saturating_sub(self.ledger.left) >= EARLY

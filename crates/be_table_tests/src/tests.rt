@@ -105,7 +105,7 @@ fn check_scanned(alloc: Global, room: &mut Room, written: u64) -> Result<(), Fai
 }
 
 fn is_early(written: u64) -> bool {
-    written >= 64 && written < 128
+    written >= 8 && written < 16
 }
 
 fn scans_early(alloc: Global, room: &mut Room) -> Result<bool, Fail> {
@@ -114,7 +114,7 @@ fn scans_early(alloc: Global, room: &mut Room) -> Result<bool, Fail> {
     Ok(is_early(before) && is_early(beyond))
 }
 
-/// A scan is due once 256 pages are retired, and, where a pin keeps them, again once there are 256 more.
+/// A scan is due once 32 pages are retired, and, where a pin keeps them, again once there are 32 more.
 #[test]
 fn scan_due(rt: HostRuntime) -> Result<(), Fail> {
     assert!(rt; scans_early(rt.alloc(), &mut opened(rt.alloc(), 1024)?)?);
