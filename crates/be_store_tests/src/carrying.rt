@@ -1,5 +1,4 @@
 //! A state that is carried on to a room of its own, list by list, while another pass writes.
-ghost use Rattle.std.specs.Prelude.{◌≡◌};
 ghost use Rattle.be_store.specs.Passes.{IsPassOf};
 ghost use Rattle.be_store_tests.specs.Staying.{StaysPass};
 
