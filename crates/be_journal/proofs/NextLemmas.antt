@@ -10,7 +10,7 @@ use Rattle.be_encoding.specs.Decoding.{entry_at, found, Found}
 use Rattle.be_journal.specs.Blocks.{bytes_of, entries_at, IsStored, AreEntries}
 use Rattle.be_journal.specs.Journal.{IsEntry}
 use Rattle.be_journal.specs.declared.entries.Entry.{Entry}
-use Rattle.be_journal.proofs.BlockLemmas.{Taken, taken}
+use Rattle.be_journal.proofs.BlockLemmas.{taken}
 
 -- no bytes have no entry
 pub none_at : entries_at 0 [] ≡ []

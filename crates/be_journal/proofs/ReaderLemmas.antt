@@ -1,5 +1,5 @@
 -- A reader that has read so many entries, one after the other.
-use Rattle.std.proofs.Common.{◌≡◌, ◌<◌, ℕ, suc, ◌+◌, ◌-◌, List, [], ◌∷◌, length, drop, get_or, sym, ap, ◌∙◌, add-one, drop-cons, length-drop, arith}
+use Rattle.std.proofs.Common.{◌≡◌, ◌<◌, ℕ, suc, ◌+◌, ◌-◌, List, ◌∷◌, length, drop, get_or, sym, ap, ◌∙◌, add-one, drop-cons, length-drop, arith}
 use Rattle.be_journal.specs.declared.entries.Entry.{Entry}
 
 -- what was read at a place, and what is left

@@ -1,5 +1,5 @@
 -- The places of pages, and what becomes of them.
-use Rattle.std.specs.Prelude.{◌≡◌, ℕ, ◌<◌, ◌≤◌, List, Bool, true, false, length, slice_index, slice_index_or, if◌then◌else◌, nat_lt}
+use Rattle.std.specs.Prelude.{ℕ, ◌<◌, ◌≤◌, List, Bool, true, false, length, slice_index, slice_index_or, if◌then◌else◌, nat_lt}
 use Rattle.be_pages.specs.declared.page_pool.Place.{Place}
 use Rattle.be_pages.specs.declared.page_pool.Place.TheVariants.{Free, Reserved, Filled, Current, GivenUp, Retired}
 use Rattle.be_pages.specs.declared.page_pool.Ending.{Ending}

@@ -1,5 +1,5 @@
 -- What is heard and said at a terminal, other than `help`.
-use Rattle.std.proofs.Common.{◌≡◌, ◌≢◌, List, ℕ}
+use Rattle.std.proofs.Common.{◌≢◌, List, ℕ}
 use Rattle.be_shell.specs.Conversation.{hears, says, flushes, fails}
 use Rattle.be_shell.specs.Terminal.{help_line}
 

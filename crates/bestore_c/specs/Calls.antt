@@ -1,5 +1,5 @@
 -- What calls make of handles.
-use Rattle.std.specs.Prelude.{◌≡◌, ◌⊎◌, ℕ, ◌+◌, List, length, map, Option, None, Some, Ok, Err}
+use Rattle.std.specs.Prelude.{◌≡◌, ◌⊎◌, ℕ, List, length, map, Option, None, Some, Ok, Err}
 use Rattle.std.specs.declared.result.Result.{Result}
 use Rattle.be_journal.specs.Journal.{IsLegal}
 use Rattle.be_query.specs.Grammar.{Formula, IsTextOf}

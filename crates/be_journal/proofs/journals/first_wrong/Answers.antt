@@ -1,4 +1,4 @@
-use Rattle.std.proofs.Common.{◌≡◌, ◌<◌, ◌≤◌, ◌+◌, ◌*◌, sym, ap, subst, ◌∙◌, Ok, Some, arith}
+use Rattle.std.proofs.Common.{◌≡◌, ◌≤◌, ◌+◌, ◌*◌, sym, ap, subst, Ok, Some, arith}
 use Rattle.be_volume.specs.Volume.{steps}
 use Rattle.be_journal.specs.Journal.{Agrees, IsFirstWrong}
 use Rattle.be_journal.proofs.LegalLemmas.{replay_agreed, agree_more, front_legal, not_agreed, past}

@@ -1,4 +1,4 @@
-use Rattle.std.proofs.Common.{ℕ, Bool, false, ap, sym, subst, ◌∙◌}
+use Rattle.std.proofs.Common.{ℕ, false, ap, sym, subst, ◌∙◌}
 use Rattle.std.specs.Option.{option_map_or}
 use Rattle.std.specs.declared.option.Option.{Option}
 use Rattle.be_query.specs.View.{literal}

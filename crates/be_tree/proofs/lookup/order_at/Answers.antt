@@ -1,4 +1,4 @@
-use Rattle.std.proofs.Common.{◌≡◌, ◌≤◌, ℕ, ◌+◌, ◌/◌, ◌^◌, ap, sym, ◌∙◌, arith}
+use Rattle.std.proofs.Common.{◌≡◌, ◌≤◌, ℕ, ◌/◌, ◌^◌, ap, sym, ◌∙◌, arith}
 use Rattle.be_tree.specs.Page.{key_len}
 use Rattle.be_tree.proofs.Bytes.Words.{more_cmp}
 use Rattle.be_tree.proofs.Padded.{key_below, key_differs}

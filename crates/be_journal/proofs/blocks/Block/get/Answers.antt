@@ -1,7 +1,6 @@
 use Rattle.std.proofs.Common.{◌≡◌, ◌<◌, ◌+◌, ◌-◌, ◌*◌, ◌/◌, List, ℕ, length, take, drop, ap, ◌∙◌, arith}
 use Rattle.std.proofs.lemmas.List.{drop-drop}
 use Rattle.be_journal.specs.Blocks.{Filled, entries_at}
-use Rattle.be_journal.proofs.BlockLemmas.{Holds}
 use Rattle.be_journal.proofs.PlaceLemmas.{from_before}
 use Rattle.be_journal.proofs.blocks.Block.get.Goals as goal
 

@@ -1,4 +1,4 @@
-use Rattle.std.proofs.Common.{◌≡◌, ◌∙◌, ◌<◌, ◌≤◌, ◌++◌, ◌∷◌, [], ℕ, sym, ap, subst, arith, length, refl, true, false, slice_set}
+use Rattle.std.proofs.Common.{◌≡◌, ◌∙◌, ◌<◌, ◌≤◌, ◌∷◌, [], sym, ap, subst, arith, length, refl, true, false, slice_set}
 use Rattle.std.proofs.lemmas.List.{get_or_default, length-set, length-append}
 use Rattle.be_pages.specs.declared.page_pool.Place.TheVariants.{Current}
 use Rattle.be_pages.specs.Pages.{times}

@@ -1,4 +1,4 @@
-use Rattle.std.proofs.Common.{◌≡◌, ◌∙◌, ◌<◌, ◌+◌, sym, ap, subst, arith, length, refl, true, false, slice_set}
+use Rattle.std.proofs.Common.{◌∙◌, sym, ap, subst, arith, length, refl, true, false, slice_set}
 use Rattle.std.proofs.lemmas.List.{length-set, length-drop}
 use Rattle.be_pages.specs.declared.page_pool.Place.TheVariants.{Free}
 use Rattle.be_pages.specs.Pages.{times}

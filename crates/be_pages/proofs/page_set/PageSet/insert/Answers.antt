@@ -1,4 +1,4 @@
-use Rattle.std.proofs.Common.{◌≡◌, ℕ, ◌+◌, ◌<◌, ◌∙◌, sym, false, arith}
+use Rattle.std.proofs.Common.{◌≡◌, ◌∙◌, sym, false, arith}
 use Rattle.std.proofs.lemmas.List.{get_or_default}
 use Rattle.be_pages.specs.PageSet.{has_page}
 use Rattle.be_pages.proofs.PageSets.{room_left, counted_in, once_in}

@@ -9,7 +9,7 @@ use Rattle.be_table.specs.Rule.{entries, ledger_places, page_at, pass_of}
 use Rattle.be_table.specs.Seats.{pin_of}
 use Rattle.be_table.specs.Ledger.{is_of_next}
 use Rattle.be_table.specs.Reading.{word_of_page}
-use Rattle.be_table.specs.Steps.{IsPass, commit_of, pages_from, publishes}
+use Rattle.be_table.specs.Steps.{commit_of, pages_from, publishes}
 use Rattle.be_table.specs.Trace.{with_history}
 use Rattle.be_table.specs.Versions.{SpellsVolume}
 use Rattle.be_table.proofs.Keeping.{spells_kept}
