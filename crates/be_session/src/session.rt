@@ -95,6 +95,28 @@ fn pass_of(session: Session) -> Pass
     pass
 }
 
+/// A session with a pass, in a box; no other pass waits with it. Where memory is refused it comes back.
+fn in_box(
+    alloc: Global,
+    shared: Arc<Shared, Global>,
+    pass: Pass,
+) -> Result<Box<Session, Global>, Session>
+    requires { IsPassOf shared.value pass }
+    ensures session { IfOk result (λ s. (s.value.store ≡ shared.value) × (s.value.spare ≡ 0)) }
+    ensures knows { IfOk result (λ s. s.value.knows ≡ pass.knows) }
+    ensures back { IfErr result (λ s. (s.store ≡ shared.value) × (s.knows ≡ pass.knows)) }
+{
+    let session = Session {
+        shared,
+        pass,
+        spare: Vec::new(alloc),
+    };
+    match Box::new(alloc, session) {
+        Ok(session) => Ok(session),
+        Err(AllocFailed { value }) => Err(value),
+    }
+}
+
 /// A session with a pass that was given back, in a box. NoPass where none is there, and OutOfMemory: the pass is given back again.
 fn of_returned(alloc: Global, shared: Arc<Shared, Global>) -> Result<Box<Session, Global>, Fault>
     ensures session { IfOk result (λ s. (s.value.store ≡ shared.value) × (s.value.spare ≡ 0)) }
@@ -104,39 +126,12 @@ fn of_returned(alloc: Global, shared: Arc<Shared, Global>) -> Result<Box<Session
     let Some(pass) = shared.take_returned() else {
         return Err(Fault::NoPass);
     };
-    let session = Session {
-        shared,
-        pass,
-        spare: Vec::new(alloc),
-    };
-    match Box::new(alloc, session) {
+    match in_box(alloc, shared, pass) {
         Ok(session) => Ok(session),
-        Err(AllocFailed { value }) => {
-            value.close();
+        Err(session) => {
+            session.close();
             Err(Fault::Refused(Refusal::OutOfMemory))
         }
-    }
-}
-
-/// A session with a pass that nobody has used, in a box. Where memory is refused the pass comes back.
-fn of_unused(
-    alloc: Global,
-    shared: Arc<Shared, Global>,
-    pass: Pass,
-) -> Result<Box<Session, Global>, Pass>
-    requires { IsPassOf shared.value pass }
-    ensures session { IfOk result (λ s. (s.value.store ≡ shared.value) × (s.value.spare ≡ 0)) }
-    ensures knows { IfOk result (λ s. s.value.knows ≡ pass.knows) }
-    ensures err { IfErr result (λ p. IsPassOf shared.value p × (p.knows ≡ pass.knows)) }
-{
-    let session = Session {
-        shared,
-        pass,
-        spare: Vec::new(alloc),
-    };
-    match Box::new(alloc, session) {
-        Ok(session) => Ok(session),
-        Err(AllocFailed { value }) => Err(pass_of(value)),
     }
 }
 
@@ -179,10 +174,10 @@ impl Session {
         let Some(pass) = take_last(self.shared.store(), &mut self.spare) else {
             return of_returned(alloc, shared);
         };
-        match of_unused(alloc, shared, pass) {
+        match in_box(alloc, shared, pass) {
             Ok(session) => Ok(session),
-            Err(pass) => {
-                put_last(self.shared.store(), &mut self.spare, pass);
+            Err(session) => {
+                put_last(self.shared.store(), &mut self.spare, pass_of(session));
                 Err(Fault::Refused(Refusal::OutOfMemory))
             }
         }
