@@ -1,20 +1,46 @@
 //! What a query answered, or what is said of it, put out; and queries that are prepared.
-ghost use Rattle.std.specs.Prelude.{◌≡◌, ◌⊎◌, ℕ, List, length, string_bytes};
+ghost use Rattle.std.specs.Prelude.{◌≡◌, ◌⊎◌, ℕ, List, IfErr, IfOk, false, length, string_bytes, true};
 ghost use Rattle.std.specs.declared.option.Option.{Option as AnyOption};
 ghost use Rattle.std.specs.declared.result.Result.{Result as AnyResult};
-ghost use Rattle.be_session.specs.Sitting.{AtPin, ReadAnswers};
+ghost use Rattle.be_query.specs.Grammar.{IsTextOf};
+ghost use Rattle.be_session.specs.Sitting.{AtPin, IsNoQuery, ReadAnswers};
+ghost use Rattle.be_session.specs.declared.faults.Fault.{Fault as AnyFault};
 ghost use Rattle.be_store.specs.Passes.{HasRead, volume_pinned};
 ghost use Rattle.be_table.specs.Seats.{pinned_number};
 ghost use Rattle.be_value.specs.declared.refusals.Refusal.{Refusal as AnyRefusal};
 ghost use Rattle.be_volume.specs.Query.{scan};
-ghost use Rattle.bestore_c.specs.Calls.{PutsOutAtPin, Refreshed};
+ghost use Rattle.bestore_c.specs.Calls.{IsClosed, PutsOutAtPin, Refreshed, Refuses};
 ghost use Rattle.bestore_c.specs.Places.{over};
 
+use crate::CLOSED;
 use crate::handle::UpdateCounts;
 use crate::places::put;
 use crate::refusing::refuse;
-use be_session::{Fault, Prepared, Session};
+use be_query::Query;
+use be_session::{Fault, Prepared, Session, query_of};
 use std::alloc::Global;
+
+/// The query of this text, for a handle that is open; else what a call answers that did nothing, and the number that it puts out.
+pub(crate) fn query_for(
+    alloc: Global,
+    live: bool,
+    text: &[u8],
+    number: &mut u64,
+) -> Result<Query, u32>
+    ensures live { IfOk result (λ _. live ≡ true) }
+    ensures query { IfOk result (λ query. IsTextOf text.now query) }
+    ensures closed { IfErr result (λ code. live ≡ false → IsClosed number.new code) }
+    ensures refused { IfErr result (λ code. live ≡ true → (e : AnyFault) × Refuses e number.new code × IsNoQuery text.now e) }
+{
+    if !live {
+        *number = 0;
+        return Err(CLOSED);
+    }
+    match query_of(alloc, text) {
+        Ok(query) => Ok(query),
+        Err(fault) => Err(refuse(fault, number)),
+    }
+}
 
 /// Puts out how many nodes a session found, and as many of them as there is room for; or what its fault carries. What that says of
 /// the version is known of what the session told.

@@ -37,10 +37,9 @@ mod telling;
 #[cfg(test)]
 mod tests;
 
-use asking::{find_prepared, put_text, refresh_prepared, tell, tell_text};
+use asking::{find_prepared, put_text, query_for, refresh_prepared, tell, tell_text};
 use be_session::{
-    Operation, PredicateItem, Session, name, operations, prepare, prepare_items, query_of,
-    query_of_items,
+    Operation, PredicateItem, Session, name, operations, prepare, prepare_items, query_of_items,
 };
 use be_store::{ArrayVec, Limits};
 use handle::{Attribute, Counts, Handle, PlaceHandle, PreparedHandle, UpdateCounts, Usage};
@@ -62,7 +61,7 @@ const DONE: u32 = 0;
 const NO_MEMORY: u32 = 10;
 
 /// The handle holds nothing.
-const CLOSED: u32 = 64;
+pub(crate) const CLOSED: u32 = 64;
 
 /// The handle that is to be opened is open.
 const OPEN: u32 = 65;
@@ -305,13 +304,9 @@ pub extern "C" fn bes_query(
     ensures pass { Calls pass.old.owned.value pass.new.owned.value (IsClosed count.new result) (λ s t. Finds s t text.now nodes.old nodes.new count.new result) }
     ensures kept { (result ≡ 0) ⊎ (nodes.new ≡ nodes.old) }
 {
-    if !pass.live {
-        *count = 0;
-        return CLOSED;
-    }
-    let query = match query_of(alloc, text) {
+    let query = match query_for(alloc, pass.live, text, count) {
         Ok(query) => query,
-        Err(fault) => return refuse(fault, count),
+        Err(code) => return code,
     };
     let answer = pass.owned.lent().query(alloc, &query);
     tell(answer, nodes, count)
@@ -355,13 +350,9 @@ pub extern "C" fn bes_explain(
     ensures pass { Calls pass.old.owned.value pass.new.owned.value (IsClosed count.new result) (λ s t. Explains s t text.now bytes.old bytes.new count.new result) }
     ensures kept { (result ≡ 0) ⊎ (bytes.new ≡ bytes.old) }
 {
-    if !pass.live {
-        *count = 0;
-        return CLOSED;
-    }
-    let query = match query_of(alloc, text) {
+    let query = match query_for(alloc, pass.live, text, count) {
         Ok(query) => query,
-        Err(fault) => return refuse(fault, count),
+        Err(code) => return code,
     };
     let answer = pass.owned.lent().explain(alloc, &query);
     tell_text(answer, bytes, count)

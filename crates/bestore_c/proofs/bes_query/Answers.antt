@@ -1,10 +1,17 @@
-use Rattle.std.proofs.Common.{◌≡◌, Some, inr, refl}
+use Rattle.std.proofs.Common.{◌≡◌, Some, inl, inr, refl}
 use Rattle.be_table.specs.Seats.{pinned_number}
 use Rattle.be_store.specs.Passes.{volume_pinned}
 use Rattle.be_volume.specs.Query.{scan}
 use Rattle.bestore_c.specs.Calls.{Finds, IsClosed}
-use Rattle.bestore_c.proofs.Called.{called}
+use Rattle.bestore_c.proofs.Called.{called, unasked}
 use Rattle.bestore_c.proofs.bes_query.Goals as goal
+
+pub returns-in-Err-clause-pass : goal.returns-in-Err-clause-pass
+returns-in-Err-clause-pass c =
+    let number = c.query_for.new.number in
+    unasked c.args.pass.now.owned.value c.args.pass.now.live (IsClosed number c.in-Err.code)
+    (λ s t. Finds s t c.args.text.now c.args.nodes.now c.args.nodes.now number c.in-Err.code) c.args.pass.now.full c.in-Err.ensures.closed
+    (λ open s. let r = c.in-Err.ensures.refused open in inl (r.0, r.1, r.2, refl))
 
 pub returns-clause-pass : goal.returns-clause-pass
 returns-clause-pass c =
@@ -14,7 +21,7 @@ returns-clause-pass c =
     c.query-answer.ensures.store.1
     (inr (
       c.in-Ok.query,
-      c.in-Ok.ensures.ok,
+      c.in-Ok.ensures.query,
       c.query-answer.ensures.read,
       c.tell.ensures.found (pinned_number c.lent.result.now.knows.phase)
           (scan (volume_pinned c.lent.result.now.knows) c.in-Ok.query) c.query-answer.ensures.nodes,

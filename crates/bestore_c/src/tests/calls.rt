@@ -119,35 +119,32 @@ pub(crate) fn meet(alloc: Global, pass: &mut Handle) -> Told {
     number_text(alloc, answer, number)
 }
 
-pub(crate) fn write(alloc: Global, pass: &mut Handle, words: &str) -> Told {
+/// Writes a list, or writes it with so many tries more.
+fn write_trying(alloc: Global, pass: &mut Handle, words: &str, retries: Option<u32>) -> Told {
     let (bytes, list) = words.split_once(" ").unwrap_or((words, ""));
     let (bytes, list) = (bytes_of(alloc, bytes)?, list_of(alloc, list)?);
     let (mut number, mut made) = (7, [9; 4]);
-    let answer = bes_apply(
-        alloc,
-        pass,
-        list.as_slice(),
-        bytes.as_slice(),
-        &mut made,
-        &mut number,
-    );
+    let answer = match retries {
+        None => bes_apply(alloc, pass, &list, &bytes, &mut made, &mut number),
+        Some(retries) => bes_apply_or_retry(
+            alloc,
+            pass,
+            &list,
+            &bytes,
+            retries,
+            &mut made,
+            &mut number,
+        ),
+    };
     with_nodes(alloc, number_text(alloc, answer, number), &made)
 }
 
+pub(crate) fn write(alloc: Global, pass: &mut Handle, words: &str) -> Told {
+    write_trying(alloc, pass, words, None)
+}
+
 pub(crate) fn retry(alloc: Global, pass: &mut Handle, words: &str) -> Told {
-    let (bytes, list) = words.split_once(" ").unwrap_or((words, ""));
-    let (bytes, list) = (bytes_of(alloc, bytes)?, list_of(alloc, list)?);
-    let (mut number, mut made) = (7, [9; 4]);
-    let answer = bes_apply_or_retry(
-        alloc,
-        pass,
-        list.as_slice(),
-        bytes.as_slice(),
-        3,
-        &mut made,
-        &mut number,
-    );
-    with_nodes(alloc, number_text(alloc, answer, number), &made)
+    write_trying(alloc, pass, words, Some(3))
 }
 
 pub(crate) fn query(alloc: Global, pass: &mut Handle, words: &str) -> Told {
