@@ -415,9 +415,11 @@ unset_asked node name h is u =
     (ends_behind (codes "unset ") (decimal node ++ text) (ends_behind (decimal node) text (ends_behind (codes " ") (quoted name) word.ends))) refl
     ∙ (command_read (codes "unset") (32 ∷ (decimal node ++ rest)) commands.Unset refl refl refl
     ∙ (ap (λ (o : Option (List ℕ × List ℕ)). answer
-    (option_and_then (λ (words : List ℕ × List ℕ). option_map (λ n. write (named (λ m. Unset n m) words.1)) (word_in words.0)) o))
+    (option_map (λ (words : ℕ × List ℕ). write (named (λ m. Unset words.0 m) words.1))
+    (option_and_then (λ (words : List ℕ × List ℕ). option_map (λ (n : ℕ). (n, words.1)) (word_in words.0)) o)))
     (two_read (32 ∷ (decimal node ++ rest)) (decimal node) rest name (number_read node rest h refl) (last_name name u))
-    ∙ (ap (λ (o : Option ℕ). answer (option_map (λ n. write (named (λ m. Unset n m) name)) o)) (word_of_decimal node h)
+    ∙ (ap (λ (o : Option ℕ). answer (option_map (λ (words : ℕ × List ℕ). write (named (λ m. Unset words.0 m) words.1)) (option_map (λ (n : ℕ). (n, name)) o)))
+    (word_of_decimal node h)
     ∙ ap (λ r. write (result_map_both (λ m. Unset node m) (λ e. e) r)) is)))
 
 mkindex_asked : (name : List ℕ) (kind : Kind) → name_from name ≡ Ok name → IsUtf8 name → asked (op_text (MkIndex name kind)) ≡ write (Ok (MkIndex name kind))

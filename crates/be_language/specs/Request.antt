@@ -68,8 +68,12 @@ only_number_in rest = option_and_then word_in (one_word rest)
 abbrev pub drop_in : List ℕ → Option Request
 drop_in rest = option_map (λ node. write (Ok (Drop node))) (only_number_in rest)
 
+-- the only two words, a number and another one
+abbrev pub number_and_word_in : List ℕ → Option (ℕ × List ℕ)
+number_and_word_in rest = option_and_then (λ words. option_map (λ n. (n, words.1)) (word_in words.0)) (two_words rest)
+
 abbrev pub unset_in : List ℕ → Option Request
-unset_in rest = option_and_then (λ words. option_map (λ node. write (named (λ name. Unset node name) words.1)) (word_in words.0)) (two_words rest)
+unset_in rest = option_map (λ words. write (named (λ name. Unset words.0 name) words.1)) (number_and_word_in rest)
 
 abbrev pub mkindex_in : List ℕ → Option Request
 mkindex_in rest = option_and_then (λ words. option_map (λ kind. write (named (λ name. MkIndex name kind) words.0)) (kind_in words.1)) (two_words rest)
@@ -78,7 +82,7 @@ abbrev pub rmindex_in : List ℕ → Option Request
 rmindex_in rest = option_map (λ name. write (named RmIndex name)) (one_word rest)
 
 abbrev pub get_in : List ℕ → Option Request
-get_in rest = option_and_then (λ words. option_map (λ node. get node (name_from words.1)) (word_in words.0)) (two_words rest)
+get_in rest = option_map (λ words. get words.0 (name_from words.1)) (number_and_word_in rest)
 
 abbrev pub attrs_in : List ℕ → Option Request
 attrs_in rest = option_map attrs (only_number_in rest)

@@ -3,7 +3,7 @@
 //! A line is looked at in a fixed order: is it a text at all, has it a reply at all, then its command word and the words
 //! behind it. Whatever doesn't fit makes it a bad line. Names and values that fit and that no store takes leave their
 //! refusal in the request.
-ghost use Rattle.std.specs.Prelude.{◌≡◌, IfOk};
+ghost use Rattle.std.specs.Prelude.{◌≡◌, IfOk, string_bytes};
 ghost use Rattle.std.specs.Option.{option_map};
 ghost use Rattle.std.specs.Str.Lines.{strip_carriage_return};
 ghost use Rattle.std.specs.List.{list_all};
@@ -152,14 +152,24 @@ fn attrs_request(alloc: Global, rest: &[char]) -> Result<Option<Request>, AllocE
     }
 }
 
-fn unset_request(alloc: Global, rest: &[char]) -> Result<Option<Request>, AllocError>
-    ensures { IfOk result (λ request. option_map request_of request ≡ spec.unset_in rest.now) }
+/// The only two words, the number of a node and a name.
+fn node_and_name(alloc: Global, rest: &[char]) -> Result<Option<(u64, String)>, AllocError>
+    ensures { IfOk result (λ words. option_map (λ p. (p.0, string_bytes p.1)) words ≡ spec.number_and_word_in rest.now) }
 {
     let Some((node, name)) = two_words(alloc, rest)? else {
         return Ok(None);
     };
     match word_of(node.as_bytes()) {
-        Some(node) => Ok(Some(Request::Write(unset_op(node, name.as_str())))),
+        Some(node) => Ok(Some((node, name))),
+        None => Ok(None),
+    }
+}
+
+fn unset_request(alloc: Global, rest: &[char]) -> Result<Option<Request>, AllocError>
+    ensures { IfOk result (λ request. option_map request_of request ≡ spec.unset_in rest.now) }
+{
+    match node_and_name(alloc, rest)? {
+        Some((node, name)) => Ok(Some(Request::Write(unset_op(node, name.as_str())))),
         None => Ok(None),
     }
 }
@@ -167,11 +177,8 @@ fn unset_request(alloc: Global, rest: &[char]) -> Result<Option<Request>, AllocE
 fn get_request(alloc: Global, rest: &[char]) -> Result<Option<Request>, AllocError>
     ensures { IfOk result (λ request. option_map request_of request ≡ spec.get_in rest.now) }
 {
-    let Some((node, name)) = two_words(alloc, rest)? else {
-        return Ok(None);
-    };
-    match word_of(node.as_bytes()) {
-        Some(node) => Ok(Some(Request::Get(node, Name::new(name.as_str())))),
+    match node_and_name(alloc, rest)? {
+        Some((node, name)) => Ok(Some(Request::Get(node, Name::new(name.as_str())))),
         None => Ok(None),
     }
 }
