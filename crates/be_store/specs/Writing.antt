@@ -1,5 +1,6 @@
 -- What one write makes of the pass that holds the lock.
-use Rattle.std.specs.Prelude.{◌≡◌, ◌⊎◌, ◌≤◌, ◌<◌, ◌+◌, ℕ, false, List, [], ◌∷◌, ◌++◌, count_by, length}
+use Rattle.std.specs.Prelude.{◌≡◌, ◌⊎◌, ◌≤◌, ◌<◌, ◌+◌, ℕ, false, List, [], ◌∷◌, ◌++◌, MatchResult, count_by, length}
+use Rattle.std.specs.declared.result.Result.{Result}
 use Rattle.be_core.specs.Machine.{has}
 use Rattle.be_journal.specs.Journal.{Agrees}
 use Rattle.be_pages.specs.Place.{is_retired}
@@ -49,6 +50,10 @@ pub record IsHeldBack (a c : Knowledge) (ops : List Op) (e : Refusal) : Type 0 w
   pub same : IsSame a c
   pub seen : c.seen ≡ a.seen
   pub reason : IsRefusedAt c ops e
+
+-- what a write that has the lock answers: it publishes, or is held back
+abbrev pub Writes : Knowledge → Knowledge → List Op → List Done → Result ℕ Refusal → Type 0
+Writes a c ops dones result = MatchResult result (λ n. Publishes a c ops n dones) (λ e. IsHeldBack a c ops e)
 
 -- where no page is left, room was made for an entry of so many operations
 abbrev pub HasRoomAtFull : Work → ℕ → Refusal → Type 0

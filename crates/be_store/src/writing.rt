@@ -1,8 +1,8 @@
 //! One write, while the lock is held.
-ghost use Rattle.std.specs.Prelude.{◌≡◌, [], ◌+◌, ◌^◌, ◌<◌, ◌≤◌, IfOk, IfErr, MatchResult, false, length};
+ghost use Rattle.std.specs.Prelude.{◌≡◌, [], ◌+◌, ◌^◌, ◌<◌, ◌≤◌, IfOk, IfErr, false, length};
 ghost use Rattle.be_paged.specs.Changes.{Applies, IsRefusedList};
 ghost use Rattle.be_paged.specs.Version.{IsVersion};
-ghost use Rattle.be_store.specs.Writing.{Begins, HasRoomAtFull, Publishes, IsHeldBack, ScansEarly};
+ghost use Rattle.be_store.specs.Writing.{Begins, HasRoomAtFull, ScansEarly, Writes};
 ghost use Rattle.be_table.specs.declared.pass.Knowledge.{Knowledge};
 ghost use Rattle.be_table.specs.Place.{Work};
 ghost use Rattle.be_table.specs.Reading.{open_of, standing_among, standing_in_work, word_of_page, words_of};
@@ -59,9 +59,7 @@ fn write_current(
     requires count { (1 ≤ length ops.now) × (length ops.now ≤ 64) }
     requires empty { dones.old.items ≡ [] }
     ensures table { writing.new.table ≡ writing.old.table }
-    ensures answer { MatchResult result
-        (λ n. Publishes writing.old.knows writing.new.knows ops.now n dones.new.items)
-        (λ e. IsHeldBack writing.old.knows writing.new.knows ops.now e) }
+    ensures answer { Writes writing.old.knows writing.new.knows ops.now dones.new.items result }
     ensures room { IfErr result (HasRoomAtFull writing.new (length ops.now)) }
 {
     let (_, version_page) = writing.current();
@@ -89,13 +87,9 @@ pub(crate) fn write(
     requires count { (1 ≤ length ops.now) × (length ops.now ≤ 64) }
     requires empty { dones.old.items ≡ [] }
     ensures table { writing.new.table ≡ writing.old.table }
-    ensures answer { MatchResult result
-        (λ n. Publishes writing.old.knows writing.new.knows ops.now n dones.new.items)
-        (λ e. IsHeldBack writing.old.knows writing.new.knows ops.now e) }
+    ensures answer { Writes writing.old.knows writing.new.knows ops.now dones.new.items result }
     ensures room { IfErr result (HasRoomAtFull writing.new (length ops.now)) }
-    ensures early { (between : Work) × ScansEarly writing.old between × MatchResult result
-        (λ n. Publishes between.knows writing.new.knows ops.now n dones.new.items)
-        (λ e. IsHeldBack between.knows writing.new.knows ops.now e) }
+    ensures early { (between : Work) × ScansEarly writing.old between × Writes between.knows writing.new.knows ops.now dones.new.items result }
 {
     scan_early(writing);
     write_current(writing, ops, dones)
