@@ -71,6 +71,10 @@ HaveReplied limits journal k (script ∷ scripts) (text ∷ texts) = IsReplied l
 abbrev pub AreRepliesOf : StoreLimits → ℕ → List (List ℕ) → List SeatFacts → List (List ℕ) → Type 0
 AreRepliesOf limits k scripts passes texts = (journal : List Entry) → KeepsSeen journal (map knows_of passes) → HaveReplied limits journal k scripts texts
 
+-- a pass of the store for each script has served it, and these are the replies
+abbrev pub AreServed : Opened → List (List ℕ) → List SeatFacts → List (List ℕ) → Type 0
+AreServed store scripts passes texts = HaveServed store 0 scripts passes × AreRepliesOf store.limits 0 scripts passes texts
+
 -- the line of a pass, and its replies
 abbrev pub pass_line : ℕ → List ℕ
 pass_line k = codes "pass " ++ (decimal k ++ codes "\n")

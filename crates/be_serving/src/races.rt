@@ -14,7 +14,7 @@ ghost use Rattle.std.specs.List.{list_any};
 ghost use Rattle.be_journal.specs.Journal.{IsLegal};
 ghost use Rattle.be_journal.specs.Text.{result_text};
 ghost use Rattle.be_serving.specs.Gates.{AreAllTold, AreTold, line_count};
-ghost use Rattle.be_serving.specs.Race.{IsOutcome, AreFirstTexts, AreRepliesOf, HaveServed, IsNew, IsRace, RaceLeaves, pass_line, replies_text};
+ghost use Rattle.be_serving.specs.Race.{IsOutcome, AreFirstTexts, AreServed, IsNew, IsRace, RaceLeaves, pass_line, replies_text};
 ghost use Rattle.be_serving.specs.Run.{Wrote, IsFrontOf, IsLate};
 ghost use Rattle.be_store.specs.Passes.{IsPassOf};
 ghost use Rattle.std.specs.String.{string_bytes};
@@ -143,10 +143,8 @@ fn serve_in<'s, E, R: Threads, G: Gate + Sync>(
     scripts: &'s Vec<Vec<u8>>,
     gate: &'s G,
 ) -> Result<(Vec<Pass>, Vec<Vec<u8>>), RunFault>
-    requires new { AreNew store.now 0 passes.items }
-    requires count { length passes.items ≡ length scripts.now.items }
-    ensures served { IfOk result (λ r. HaveServed store.now 0 (map (λ s. s.items) scripts.now.items) r.0.items) }
-    ensures replied { IfOk result (λ r. AreRepliesOf store.now.limits 0 (map (λ s. s.items) scripts.now.items) r.0.items (map (λ s. s.items) r.1.items)) }
+    requires { AreNew store.now 0 passes.items × (length passes.items ≡ length scripts.now.items) }
+    ensures served { IfOk result (λ r. AreServed store.now (map (λ s. s.items) scripts.now.items) r.0.items (map (λ s. s.items) r.1.items)) }
     ensures told { OnOk result (AreAllTold (G.begun gate.now) (G.ended gate.now) (map (λ s. s.items) scripts.now.items)) }
     ensures fault { IfErr result (λ e. e ≡ RunFault.Memory) }
 {
@@ -166,10 +164,8 @@ fn serve_at_once<R: Threads + Wait, G: Gate + Sync>(
     scripts: &Vec<Vec<u8>>,
     gate: &G,
 ) -> Result<(Vec<Pass>, Vec<Vec<u8>>), RunFault>
-    requires new { AreNew store.now 0 passes.items }
-    requires count { length passes.items ≡ length scripts.now.items }
-    ensures served { IfOk result (λ r. HaveServed store.now 0 (map (λ s. s.items) scripts.now.items) r.0.items) }
-    ensures replied { IfOk result (λ r. AreRepliesOf store.now.limits 0 (map (λ s. s.items) scripts.now.items) r.0.items (map (λ s. s.items) r.1.items)) }
+    requires { AreNew store.now 0 passes.items × (length passes.items ≡ length scripts.now.items) }
+    ensures served { IfOk result (λ r. AreServed store.now (map (λ s. s.items) scripts.now.items) r.0.items (map (λ s. s.items) r.1.items)) }
     ensures told { OnOk result (AreAllTold (G.begun gate.now) (G.ended gate.now) (map (λ s. s.items) scripts.now.items)) }
     ensures fault { IfErr result (λ e. e ≡ RunFault.Memory) }
 {
@@ -178,8 +174,7 @@ fn serve_at_once<R: Threads + Wait, G: Gate + Sync>(
         rt,
         move |scope| -> Result<(Vec<Pass>, Vec<Vec<u8>>), RunFault>
             requires { AreNew store.now 0 passes.items × (length passes.items ≡ length scripts.now.items) }
-            ensures served { IfOk result (λ r. HaveServed store.entry.now 0 (map (λ s. s.items) scripts.entry.now.items) r.0.items) }
-            ensures replied { IfOk result (λ r. AreRepliesOf store.entry.now.limits 0
+            ensures served { IfOk result (λ r. AreServed store.entry.now
                 (map (λ s. s.items) scripts.entry.now.items) r.0.items (map (λ s. s.items) r.1.items)) }
             ensures told { OnOk result (AreAllTold (G.begun gate.entry.now) (G.ended gate.entry.now) (map (λ s. s.items) scripts.entry.now.items)) }
             ensures fault { IfErr result (λ e. e ≡ RunFault.Memory) }

@@ -37,8 +37,7 @@ returns-in-Ok g c =
       λ k below. subst (λ n. Told n (slice_index_or (map items_of scripts) k [])) (zero-add k) (all.2 k below),
     )) in
     record {
-      served = on_both c.part.result both both (λ r h _. h.0);
-      replied = on_both c.part.result both both (λ r h _. h.1);
+      served = on_both c.part.result both both (λ r h _. (h.0, h.1));
       told = on_both c.part.result both both (λ r h _. h.2);
       fault = c.part.ensures.fault;
     }
