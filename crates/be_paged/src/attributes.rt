@@ -21,11 +21,9 @@ use crate::catalog::value_at;
 use be_pages::Look;
 use be_tree::{Cursor, is_key_at, key_at};
 use be_value::{Name, Value};
+use be_volume::MAX_ATTRIBUTES;
 use std::alloc::{AllocError, Global};
 use std::str;
-
-/// The most attributes that a node has.
-const MAX_ATTRIBUTES: usize = 64;
 
 /// Whether the key of the item at a place begins with the node. Its first word tells.
 fn is_of_node<L: Look>(look: &mut L, page: u64, at: usize, node: u64) -> bool

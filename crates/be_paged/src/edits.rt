@@ -24,13 +24,7 @@ use arrayvec::ArrayVec;
 use be_pages::Room;
 use be_tree::{clear, insert, remove};
 use be_value::{Kind, Name, Refusal, Value};
-use be_volume::{Done, Op};
-
-/// The most attributes that a node has.
-const MAX_ATTRIBUTES: usize = 64;
-
-/// The most indices that a volume has.
-const MAX_INDICES: usize = 32;
+use be_volume::{Done, MAX_ATTRIBUTES, MAX_INDICES, Op};
 
 /// A new node: its mark enters the catalog.
 fn add_node<R: Room>(room: &mut R, version: &mut Version) -> Result<Done, Refusal>

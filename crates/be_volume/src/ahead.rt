@@ -15,9 +15,11 @@ ghost use Rattle.be_volume.specs.Ahead.{state_after, next_after, node_after, att
 use crate::{Facts, Op};
 use be_value::{Kind, Name, Refusal, Value};
 
-const MAX_ATTRIBUTES: usize = 64;
+/// The most attributes that a node has.
+pub const MAX_ATTRIBUTES: usize = 64;
 
-const MAX_INDICES: usize = 32;
+/// The most indices that a volume has.
+pub const MAX_INDICES: usize = 32;
 
 /// The refusal, `NoNode` to `NotIndexable`, of the first operation of the list that is refused, or none where all are
 /// accepted. It takes no memory and changes nothing: a caller asks it before the first change.

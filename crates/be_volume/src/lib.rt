@@ -16,7 +16,7 @@ mod pairs;
 mod queries;
 mod volumes;
 
-pub use ahead::first_refusal;
+pub use ahead::{MAX_ATTRIBUTES, MAX_INDICES, first_refusal};
 pub use facts::Facts;
 pub use laws::sound_steps;
 pub use ops::{Done, Op};
