@@ -12,6 +12,9 @@ ghost use Rattle.be_pages.specs.Refusal.{IsFullOf};
 
 use be_value::Refusal;
 
+/// How many words a page has.
+pub const PAGE_WORDS: usize = 512;
+
 /// Where a page stands in a write.
 #[derive(Clone, Copy, Debug, PartialEq, Eq)]
 pub enum Standing {

@@ -9,7 +9,7 @@ ghost use Rattle.be_pages.specs.Refusal.{IsFullOf, IsLimitOrMemory};
 ghost use Rattle.be_pages.specs.VecRoom.{NoneFree, standing_in, standings, pool_word};
 
 use crate::page_pool::PagePool;
-use crate::room::{Look, Room, Standing};
+use crate::room::{Look, PAGE_WORDS, Room, Standing};
 use be_value::Refusal;
 use std::alloc::{AllocError, Global};
 
@@ -41,7 +41,7 @@ impl Look for VecRoom {
     ghost pages_small = { λ r q some. small_in (places r.pool) q r.at_most some };
 
     fn word(&mut self, page: u64, i: usize) -> u64 {
-        self.words[page as usize * 512 + i]
+        self.words[page as usize * PAGE_WORDS + i]
     }
 }
 
@@ -66,7 +66,7 @@ impl Room for VecRoom {
 
     #[tactic(auto, using(crate::proofs::Rooms::stands_set, crate::proofs::Rooms::unretired_set, crate::proofs::Rooms::in_hand, crate::proofs::Rooms::inside))]
     fn fill(&mut self, page: u64, i: usize, word: u64) {
-        self.words[page as usize * 512 + i] = word;
+        self.words[page as usize * PAGE_WORDS + i] = word;
         self.pool.fill(page);
     }
 
@@ -94,7 +94,7 @@ impl VecRoom {
         ensures pages { IfOk result (λ r. length (places r.pool) ≡ pages) }
         ensures free { IfOk result (λ r. (q : ℕ) → standing_in (places r.pool) q ≡ Free) }
     {
-        let words = vec![in alloc; 0; pages * 512]?;
+        let words = vec![in alloc; 0; pages * PAGE_WORDS]?;
         let pool = PagePool::new(alloc, pages, 0)?;
         Ok(VecRoom { words, pool })
     }

@@ -8,6 +8,7 @@ use crate::marks::Marks;
 use crate::rule::Deal;
 use crate::seat::{Base, Seat};
 use crate::table::{Inner, PAGES};
+use be_pages::PAGE_WORDS;
 
 /// Each pass gets a seat.
 pub(crate) fn deal(table: &Inner, rest: &mut Base, limits: Limits, seats: &mut Vec<Seat>)
@@ -29,13 +30,13 @@ pub(crate) fn deal(table: &Inner, rest: &mut Base, limits: Limits, seats: &mut V
 }
 
 /// The words of the first page lie at page 0.
-pub(crate) fn lay_first(words: &mut Vec<u64>, first: &[u64; 512])
+pub(crate) fn lay_first(words: &mut Vec<u64>, first: &[u64; PAGE_WORDS])
     requires { 528 + 512 ≤ vec_len words.old }
     ensures { (length words.new.items ≡ length words.old.items)
         × ((k : ℕ) → k < 528 → slice_index words.new.items k ≡ slice_index words.old.items k)
         × ((i : ℕ) → i < 512 → slice_index words.new.items (528 + i) ≡ slice_index first.now i) }
 {
-    for i in 0..512 {
+    for i in 0..PAGE_WORDS {
         words[PAGES + i] = first[i];
     }
 }

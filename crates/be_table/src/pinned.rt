@@ -11,7 +11,7 @@ use crate::marks::Marks;
 use crate::rule::PinnedWord;
 use crate::seat::{Base, Seat};
 use crate::table::{PAGES, VersionTable};
-use be_pages::Look;
+use be_pages::{Look, PAGE_WORDS};
 use std::marker::Model;
 
 /// A pinned pass that reads pages.
@@ -52,7 +52,7 @@ impl<'a> PinnedLook<'a> {
         ensures word { result ≡ slice_index self.old.knows.image (word_place page i) }
     {
         let table = self.table;
-        let word = PAGES + 512 * page as usize + i;
+        let word = PAGES + PAGE_WORDS * page as usize + i;
         table.table.shared.load::<PinnedWord>(&mut self.base, word)
     }
 

@@ -19,7 +19,7 @@ use crate::writing::Writing;
 use atomic_table::Table;
 use be_core::Phase;
 use be_journal::Journal;
-use be_pages::PagePool;
+use be_pages::{PAGE_WORDS, PagePool};
 use be_value::Refusal;
 use std::alloc::Global;
 use std::marker::Model;
@@ -33,7 +33,7 @@ pub(crate) const CURRENT: usize = 8;
 /// The announcement of pass k is the word ANNOUNCE + 8 * k, on a cache line of its own.
 pub(crate) const ANNOUNCE: usize = 16;
 
-/// Then come the pages, of 512 words each.
+/// Then come the pages, of `PAGE_WORDS` each.
 pub(crate) const PAGES: usize = 528;
 
 pub(crate) type Inner = Table<Option<Ledger>, View, Limits, Law, Global>;
@@ -81,7 +81,7 @@ impl VersionTable {
     pub fn open(
         alloc: Global,
         limits: Limits,
-        first: &[u64; 512],
+        first: &[u64; PAGE_WORDS],
     ) -> Result<(VersionTable, Vec<Seat>), Refusal>
         requires { IsVersion (λ q. at_start (has (0 ∷ []) q)) (λ q i. slice_index first.now i) 0 empty }
         ensures { MatchResult result
@@ -106,7 +106,7 @@ impl VersionTable {
             pool,
             left: 0,
         }));
-        let Ok(mut words) = vec![in alloc; 0; PAGES + 512 * limits.pages as usize] else {
+        let Ok(mut words) = vec![in alloc; 0; PAGES + PAGE_WORDS * limits.pages as usize] else {
             return Err(Refusal::OutOfMemory);
         };
         lay_first(&mut words, first);
@@ -224,7 +224,7 @@ impl VersionTable {
         ensures word { result ≡ slice_index seat.old.knows.image (word_place page i) }
     {
         let (mut base, marks) = seat.move_out().into_base();
-        let word = PAGES + 512 * page as usize + i;
+        let word = PAGES + PAGE_WORDS * page as usize + i;
         let found = self.table.shared.load::<PinnedWord>(&mut base, word);
         *seat = Seat::of(base, marks);
         found

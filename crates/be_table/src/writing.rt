@@ -26,7 +26,7 @@ use crate::seat::{Base, Seat};
 use crate::status::{Announcement, Found, Status, older};
 use crate::table::{ANNOUNCE, CURRENT, LOCK, PAGES, VersionTable};
 use be_journal::replay_push;
-use be_pages::Place;
+use be_pages::{PAGE_WORDS, Place};
 use be_value::Refusal;
 use be_volume::{Done, Op};
 use std::marker::{Brand, Model};
@@ -121,7 +121,7 @@ impl<'a> Writing<'a> {
         ensures word { result ≡ slice_index self.old.knows.words (word_place page i) }
     {
         let table = self.table;
-        let word = PAGES + 512 * page as usize + i;
+        let word = PAGES + PAGE_WORDS * page as usize + i;
         table.table.shared.load::<OwnWord>(&mut self.base, word)
     }
 
@@ -160,7 +160,7 @@ impl<'a> Writing<'a> {
         table
             .table
             .shared
-            .load::<GiveUp>(&mut self.base, PAGES + 512 * page as usize);
+            .load::<GiveUp>(&mut self.base, PAGES + PAGE_WORDS * page as usize);
         self.ledger.pool.give_up(page);
     }
 
@@ -376,7 +376,7 @@ fn tell_taken(table: &VersionTable, base: &mut Base, page: u64)
     ensures seat { (base.new.table_id ≡ base.old.table_id) × (base.new.id ≡ base.old.id) }
     ensures me { base.new.me ≡ (takes_page (pass_of base.old.me.0) page ∷ [], base.old.me.1) }
 {
-    let at = PAGES + 512 * page as usize;
+    let at = PAGES + PAGE_WORDS * page as usize;
     table.table.shared.load::<TakePage>(base, at);
 }
 
@@ -393,7 +393,7 @@ fn fill_word(table: &VersionTable, base: &mut Base, page: u64, i: usize, word: u
         (pass_of base.new.me.0).history }
 {
     let shared = &table.table.shared;
-    let at = PAGES + 512 * page as usize + i;
+    let at = PAGES + PAGE_WORDS * page as usize + i;
     let found = shared.load::<FoundFill>(base, at);
     if found != word {
         shared.store::<Fill>(base, at, word);
