@@ -18,7 +18,7 @@ const MAX_LEN: usize = 4096;
 
 /// A query: a tree of at most 256 comparisons whose names and values canonical text can spell. A contract sees the
 /// tree, without where it lies in memory.
-#[derive(Drop)]
+#[derive(Debug, Drop)]
 pub struct Query {
     pub(crate) tree: Box<Tree>,
 }

@@ -21,7 +21,7 @@ pub enum Cmp {
 }
 
 /// What an attribute is compared with.
-#[derive(Drop)]
+#[derive(Debug, Drop)]
 pub enum Literal {
     /// Of `==` and `!=`.
     Pattern(Pattern),
@@ -30,7 +30,7 @@ pub enum Literal {
 }
 
 /// A comparison of an attribute.
-#[derive(Drop)]
+#[derive(Debug, Drop)]
 pub struct Comparison {
     pub name: Name,
     pub op: Cmp,
@@ -38,6 +38,7 @@ pub struct Comparison {
 }
 
 /// Comparisons under `&&` and `||`. It is dropped in a loop: no tree makes that recurse, however deep it is.
+#[derive(Debug)]
 pub enum Tree {
     Leaf(Comparison),
     And(Box<Tree>, Box<Tree>),

@@ -5,7 +5,9 @@ ghost use Rattle.be_value.specs.Value.{kind_of, code_of, kind_name, kind_number,
 ghost use Rattle.be_value.specs.Key.{IsValue};
 ghost use Rattle.be_value.specs.declared.values.Kind.{Kind as AnyKind};
 ghost use Rattle.std.specs.Cmp.{partial_equiv_from_equiv};
-ghost use Rattle.std.specs.Cmp.Lexicographic.{pointwise, nat_list_eq_equiv};
+ghost use Rattle.std.specs.Cmp.Lexicographic.{bytes_decides, pointwise, nat_list_eq_equiv};
+ghost use Rattle.std.specs.Hash as fed;
+ghost use Rattle.std.proofs.Common.{ap};
 ghost use Rattle.std.specs.Result as results;
 
 use crate::Refusal;
@@ -13,6 +15,7 @@ use arrayvec::{ArrayString, ArrayVec};
 use std::alloc::AllocError;
 use std::cmp::Ordering;
 use std::fmt;
+use std::hash::{Hash, Hasher};
 use std::marker::Model;
 
 /// The kinds of value, with the names of their type codes.
@@ -165,6 +168,16 @@ impl Eq for Text {
     ghost laws = { nat_list_eq_equiv };
 }
 
+impl Hash for Text {
+    ghost hash_input = { λ t. fed.str t };
+
+    ghost respects_eq = { λ s t e. ap fed.str ((bytes_decides s t).0 e) };
+
+    fn hash<H: Hasher>(&self, state: &mut H) {
+        self.as_str().hash(state);
+    }
+}
+
 /// The text in quotes.
 impl fmt::Debug for Text {
     fn fmt<W: fmt::Write>(&self, f: &mut fmt::Formatter<W>) -> fmt::Result {
@@ -229,6 +242,16 @@ impl Eq for Bytes {
     ghost laws = { nat_list_eq_equiv };
 }
 
+impl Hash for Bytes {
+    ghost hash_input = { λ b. fed.slice fed.u8 b };
+
+    ghost respects_eq = { λ s t e. ap (fed.slice fed.u8) ((bytes_decides s t).0 e) };
+
+    fn hash<H: Hasher>(&self, state: &mut H) {
+        self.as_slice().hash(state);
+    }
+}
+
 /// The bytes as a list of numbers.
 impl fmt::Debug for Bytes {
     fn fmt<W: fmt::Write>(&self, f: &mut fmt::Formatter<W>) -> fmt::Result {
@@ -237,7 +260,7 @@ impl fmt::Debug for Bytes {
 }
 
 /// A value of an attribute. Values of two kinds are never equal.
-#[derive(Debug, Drop, PartialEq, Eq)]
+#[derive(Debug, Drop, PartialEq, Eq, Hash)]
 pub enum Value {
     Cstr(Text),
     Long(i32),

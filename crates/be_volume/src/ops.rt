@@ -9,7 +9,7 @@ use be_value::{Kind, Name, Value, valid};
 use std::alloc::AllocError;
 
 /// One operation. Nodes are called by their numbers.
-#[derive(Debug, Drop, PartialEq, Eq)]
+#[derive(Debug, Drop, PartialEq, Eq, Hash)]
 pub enum Op {
     /// Makes a node, with the next number. Numbers begin at 1 and are never used again.
     New,
@@ -27,7 +27,7 @@ pub enum Op {
 }
 
 /// What an accepted operation answers.
-#[derive(Clone, Copy, Debug, Default, PartialEq, Eq)]
+#[derive(Clone, Copy, Debug, Default, PartialEq, Eq, Hash)]
 pub enum Done {
     /// The number of the new node.
     Node(u64),
