@@ -172,7 +172,7 @@ fn is_distinct(given: &[u64]) -> bool
 }
 
 impl State {
-    ghost use Rattle.std.specs.Prelude.{IfOk, OnErr, IsOk, IsOkUnless, IsTrue, IsFalse, IfSome, IsNone, ◌↔◌, All, ◌&&◌, ◌||◌, not, slice_index, slice_index_or};
+    ghost use Rattle.std.specs.Prelude.{IfOk, OnErr, IsOk, IsOkUnless, IsTrue, IsFalse, IfNone, IfSome, IsNone, ◌↔◌, All, ◌&&◌, ◌||◌, not, slice_index, slice_index_or};
     ghost use Rattle.be_core.specs.Machine.{World, Allowed, after_event, MayLook, after_look, MayAnnounce, after_announce, MayLookAgain};
     ghost use Rattle.be_core.specs.Machine.{after_look_again, MayUnpin, after_unpin, MayLock, after_lock, MayUnlock, after_unlock, MayFill};
     ghost use Rattle.be_core.specs.Machine.{after_fill, MayRead, HasOpenWrite, MayScan, after_scan, MayPublish, after_publish, has, first_state};
@@ -224,14 +224,24 @@ impl State {
         self.words[page as usize][i]
     }
 
+    /// The phase of the pass with this number, if there is one.
+    fn phase(&self, k: u64) -> Option<Phase>
+        ensures phase { IfSome result (λ phase. (k < vec_len self.now.phases) × (slice_index_or self.now.phases.items k Phase.Idle ≡ phase)) }
+        ensures none { IfNone result (vec_len self.now.phases ≤ k) }
+    {
+        if k >= self.phases.len() as u64 {
+            return None;
+        }
+        Some(self.phases[k as usize])
+    }
+
     fn look(&mut self, k: u64) -> bool
         ensures done { MakesStep self.old (λ w. MayLook w k) (λ w. after_look w k) result self.new }
         ensures size { page_count self.new ≡ page_count self.old }
     {
-        if k >= self.phases.len() as u64 {
+        let Some(phase) = self.phase(k) else {
             return false;
-        }
-        let phase = self.phases[k as usize];
+        };
         if let Phase::Idle | Phase::Looked(_) = phase {
             self.phases[k as usize] = Phase::Looked(self.current);
         }
@@ -242,15 +252,12 @@ impl State {
         ensures done { MakesStep self.old (λ w. MayAnnounce w k) (λ w. after_announce w k) result self.new }
         ensures size { page_count self.new ≡ page_count self.old }
     {
-        if k >= self.phases.len() as u64 {
-            return false;
-        }
-        match self.phases[k as usize] {
-            Phase::Looked(a) => {
+        match self.phase(k) {
+            Some(Phase::Looked(a)) => {
                 self.phases[k as usize] = Phase::Announced(a);
                 true
             }
-            Phase::Idle | Phase::Announced(_) | Phase::Pinned(_, _) => false,
+            Some(Phase::Idle | Phase::Announced(_) | Phase::Pinned(_, _)) | None => false,
         }
     }
 
@@ -258,15 +265,12 @@ impl State {
         ensures done { MakesStep self.old (λ w. MayLookAgain w k) (λ w. after_look_again w k) result self.new }
         ensures size { page_count self.new ≡ page_count self.old }
     {
-        if k >= self.phases.len() as u64 {
-            return false;
-        }
-        match self.phases[k as usize] {
-            Phase::Announced(a) => {
+        match self.phase(k) {
+            Some(Phase::Announced(a)) => {
                 self.phases[k as usize] = Phase::Pinned(a, self.current);
                 true
             }
-            Phase::Idle | Phase::Looked(_) | Phase::Pinned(_, _) => false,
+            Some(Phase::Idle | Phase::Looked(_) | Phase::Pinned(_, _)) | None => false,
         }
     }
 
@@ -274,15 +278,12 @@ impl State {
         ensures done { MakesStep self.old (λ w. MayUnpin w k) (λ w. after_unpin w k) result self.new }
         ensures size { page_count self.new ≡ page_count self.old }
     {
-        if k >= self.phases.len() as u64 {
-            return false;
-        }
-        match self.phases[k as usize] {
-            Phase::Pinned(_, _) => {
+        match self.phase(k) {
+            Some(Phase::Pinned(_, _)) => {
                 self.phases[k as usize] = Phase::Idle;
                 true
             }
-            Phase::Idle | Phase::Looked(_) | Phase::Announced(_) => false,
+            Some(Phase::Idle | Phase::Looked(_) | Phase::Announced(_)) | None => false,
         }
     }
 
