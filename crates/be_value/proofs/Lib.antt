@@ -1,2 +1,3 @@
 pub mod KeyOrder
 pub mod KeyPairs
+pub mod Spelled

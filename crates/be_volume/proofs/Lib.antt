@@ -1,7 +1,6 @@
 pub mod FactLemmas
 pub mod KeyLemmas
 pub mod MapLemmas
-pub mod Numbers
 pub mod RefusalLemmas
 pub mod Soundness
 pub mod StepLemmas

@@ -3,9 +3,8 @@
 //! A comparison on a name that has an index sees what the index holds for a node, and else the node's attribute; of a
 //! node of which it sees nothing it is false, `!=` too. This is the definition, node by node; a plan that walks the
 //! indices has to give the same nodes.
-ghost use Rattle.std.specs.Prelude.{◌≡◌, IfSome, Some};
+ghost use Rattle.std.specs.Prelude.{◌≡◌};
 ghost use Rattle.std.specs.Option.{option_copied};
-ghost use Rattle.be_value.specs.Number.{number_in, digits_in};
 ghost use Rattle.be_query.specs.View.{formula, literal as literal_of};
 ghost use Rattle.be_volume.specs.Query.{sees, sat, covered, holds, holds_of_text, holds_of_number, literal_number, is_true_of, is_true_of_match};
 
@@ -89,43 +88,16 @@ fn holds_of_number(op: Cmp, n: i128, literal: &Literal) -> bool
     }
 }
 
-/// What 1 to 18 decimal digits stand for. Most literals have no more, and so many fit 64 bits.
-fn short_digits_of(text: &[u8]) -> Option<u64>
-    ensures { IfSome result (λ n. digits_in text.now ≡ Some n) }
-{
-    if text.is_empty() || text.len() > 18 {
-        return None;
-    }
-    let mut value = 0u64;
-    for c in text {
-        if !c.is_ascii_digit() {
-            return None;
-        }
-        value = 10 * value + u64::from(*c - b'0');
-    }
-    Some(value)
-}
-
-/// The number that a text spells, if it spells one.
-fn spelt_number(text: &str) -> Option<i128>
-    ensures { result ≡ number_in text.now }
-{
-    match short_digits_of(text.as_bytes()) {
-        Some(value) => Some(i128::from(value)),
-        None => number_of(text),
-    }
-}
-
 /// The number that a literal spells, if it spells one. A pattern with a wildcard spells none; the number of a plain one
 /// is read from its characters, after the backslashes went.
 pub fn literal_number(literal: &Literal) -> Option<i128>
     ensures { result ≡ literal_number (literal_of literal.now) }
 {
     match literal {
-        Literal::Text(words) => spelt_number(words.as_str()),
+        Literal::Text(words) => number_of(words.as_str()),
         Literal::Pattern(pattern) => {
             if pattern.is_plain() {
-                spelt_number(pattern.prefix())
+                number_of(pattern.prefix())
             } else {
                 None
             }
