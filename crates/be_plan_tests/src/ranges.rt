@@ -39,49 +39,21 @@ LLNG -9223372036854775808 -9223372036854775807 -1 0 1 9223372036854775806 922337
 ULNG 0 1 2147483647 2147483648 2147483649 4294967294 4294967295
 ULLG 0 1 9223372036854775807 9223372036854775808 9223372036854775809 18446744073709551614 18446744073709551615";
 
-/// How many of seven rising values A to G are so to each of them.
-const KEYS: &str = "keys k==A => 1
-keys k<A => 0
-keys k<=A => 1
-keys k>A => 6
-keys k>=A => 7
-keys k==B => 1
-keys k<B => 1
-keys k<=B => 2
-keys k>B => 5
-keys k>=B => 6
-keys k==C => 1
-keys k<C => 2
-keys k<=C => 3
-keys k>C => 4
-keys k>=C => 5
-keys k==D => 1
-keys k<D => 3
-keys k<=D => 4
-keys k>D => 3
-keys k>=D => 4
-keys k==E => 1
-keys k<E => 4
-keys k<=E => 5
-keys k>E => 2
-keys k>=E => 3
-keys k==F => 1
-keys k<F => 5
-keys k<=F => 6
-keys k>F => 1
-keys k>=F => 2
-keys k==G => 1
-keys k<G => 6
-keys k<=G => 7
-keys k>G => 0
-keys k>=G => 1";
+/// How many keys of seven rising values each range of a comparison with one of them holds, where so many are below it.
+fn keys_of_value(alloc: Global, value: &str, below: u64) -> Result<String, AllocError> {
+    let above = 6u64.wrapping_sub(below);
+    let to = below.wrapping_add(1);
+    let from = above.wrapping_add(1);
+    format!(in alloc; "keys k=={value} => 1\nkeys k<{value} => {below}\nkeys k<={value} => {to}\nkeys k>{value} => {above}\nkeys k>={value} => {from}\n")
+}
 
-/// These lines with the values in place of A to G.
+/// The same for each of them.
 fn keys_of_values(alloc: Global, values: &str) -> Result<String, AllocError> {
-    let mut letters = "A B C D E F G".split(' ');
-    let mut lines = String::from_str(alloc, KEYS)?;
-    for word in values.split(' ') {
-        lines = lines.replace(alloc, letters.next().unwrap_or("?"), word)?;
+    let mut lines = String::new(alloc);
+    let mut below: u64 = 0;
+    for value in values.split(' ') {
+        lines.push_str(keys_of_value(alloc, value, below)?.as_str())?;
+        below = below.wrapping_add(1);
     }
     Ok(lines)
 }
