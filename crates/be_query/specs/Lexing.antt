@@ -1,5 +1,5 @@
 -- How a query's text, a list of bytes, is cut into tokens. The longest token is taken.
-use Rattle.std.specs.Prelude.{ℕ, ◌+◌, ◌-◌, zero, suc, Bool, true, false, List, [], ◌∷◌, take, ◌||◌, not, ◌==◌, if◌then◌else◌}
+use Rattle.std.specs.Prelude.{◌≡◌, ◌≢◌, ◌≤◌, ◌<◌, ◌⊎◌, ℕ, ◌+◌, ◌-◌, zero, suc, Bool, true, false, List, [], ◌∷◌, length, slice_index, take, ◌||◌, not, ◌==◌, if◌then◌else◌}
 use Rattle.be_query.specs.declared.lexer.Span.{Span}
 use Rattle.be_query.specs.declared.lexer.Span.TheVariants.{Ends, Breaks}
 use Rattle.be_query.specs.declared.tree.Cmp.TheVariants.{Eq, Ne, Lt, Le, Gt, Ge}
@@ -23,6 +23,16 @@ is_word b = not (is_separator b || is_quote b || is_sign b || (b == 0))
 -- a quoted text may end or break off at the byte, or takes the next one as it stands
 abbrev pub is_mark : ℕ → ℕ → Bool
 is_mark quote b = (b == quote) || (b == 0) || (b == 92)
+
+-- the place behind a byte, and behind the one that it takes if it is a backslash
+abbrev pub IsBehind : List ℕ → ℕ → ℕ → Type 0
+IsBehind bytes at next =
+    ((slice_index bytes at ≢ 92) × (next ≡ at + 1))
+    ⊎ ((slice_index bytes at ≡ 92) × (at + 1 < length bytes) × (slice_index bytes (at + 1) ≢ 0) × (next ≡ at + 1 + 1))
+
+-- a backslash stands there, and behind it a NUL or nothing
+abbrev pub IsLone : List ℕ → ℕ → Type 0
+IsLone bytes at = (slice_index bytes at ≡ 92) × ((length bytes ≤ at + 1) ⊎ ((at + 1 < length bytes) × (slice_index bytes (at + 1) ≡ 0)))
 
 abbrev pub further : Span → Span
 further (Ends n) = Ends (n + 1)

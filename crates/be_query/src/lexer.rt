@@ -1,8 +1,8 @@
 //! How a query's text is cut into tokens. The longest token is taken; a name or value is a word or a quoted text.
-ghost use Rattle.std.specs.Prelude.{false, true, ◌||◌, ℕ, ◌≡◌, ◌≤◌, ◌<◌, ◌+◌, ◌==◌, length, take, drop, slice_get, slice_index, IfSome};
+ghost use Rattle.std.specs.Prelude.{false, true, ◌||◌, ℕ, ◌≡◌, ◌≤◌, ◌<◌, ◌+◌, ◌==◌, length, take, drop, slice_get, slice_index, IfNone, IfSome};
 ghost use Rattle.std.specs.List.{list_any};
 ghost use Rattle.be_query.specs.View.{IsClean, IsCleanFront, token_of, IsFront, SignIs};
-ghost use Rattle.be_query.specs.Lexing.{is_quote, is_separator, is_sign, is_word, is_mark, word_span, quoted_span};
+ghost use Rattle.be_query.specs.Lexing.{IsBehind, IsLone, is_quote, is_separator, is_sign, is_word, is_mark, word_span, quoted_span};
 
 use crate::token::Token;
 use crate::tree::Cmp;
@@ -67,28 +67,39 @@ fn is_sign(b: u8) -> bool
         || b == b')'
 }
 
+/// The place behind a byte, and behind the one that it takes if it is a backslash; none where that is a NUL, or isn't there.
+fn behind(bytes: &[u8], at: usize) -> Option<usize>
+    requires { at < length bytes.now }
+    ensures next { IfSome result (λ next. IsBehind bytes.now at next) }
+    ensures within { IfSome result (λ next. (at < next) × (next ≤ length bytes.now)) }
+    ensures lone { IfNone result (IsLone bytes.now at) }
+{
+    let next = at + 1;
+    if bytes[at] != b'\\' {
+        return Some(next);
+    }
+    if next == bytes.len() {
+        return None;
+    }
+    if bytes[next] == 0 {
+        return None;
+    }
+    Some(next + 1)
+}
+
 /// How far the word at the front goes.
 fn word_span(bytes: &[u8]) -> Span
     ensures { result ≡ word_span false bytes.now }
 {
     let mut at = 0;
     'word: while at < bytes.len() {
-        let b = bytes[at];
-        if !is_word(b) {
+        if !is_word(bytes[at]) {
             return Span::Ends(at);
         }
-        if b == b'\\' {
-            let next = at + 1;
-            if next == bytes.len() {
-                return Span::Breaks(next);
-            }
-            if bytes[next] == 0 {
-                return Span::Breaks(next);
-            }
-            at = next + 1;
-            continue 'word;
-        }
-        at += 1;
+        let Some(next) = behind(bytes, at) else {
+            return Span::Breaks(at + 1);
+        };
+        at = next;
     }
     Span::Ends(at)
 }
@@ -152,18 +163,10 @@ fn span_behind(quote: u8, bytes: &[u8], front: usize) -> Span
         if b == 0 {
             return Span::Breaks(at);
         }
-        if b == b'\\' {
-            let next = at + 1;
-            if next == bytes.len() {
-                return Span::Breaks(next);
-            }
-            if bytes[next] == 0 {
-                return Span::Breaks(next);
-            }
-            at = next + 1;
-            continue 'quoted;
-        }
-        at += 1;
+        let Some(next) = behind(bytes, at) else {
+            return Span::Breaks(at + 1);
+        };
+        at = next;
     }
     Span::Breaks(at)
 }
