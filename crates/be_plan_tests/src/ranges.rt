@@ -44,7 +44,9 @@ fn keys_of_value(alloc: Global, value: &str, below: u64) -> Result<String, Alloc
     let above = 6u64.wrapping_sub(below);
     let to = below.wrapping_add(1);
     let from = above.wrapping_add(1);
-    format!(in alloc; "keys k=={value} => 1\nkeys k<{value} => {below}\nkeys k<={value} => {to}\nkeys k>{value} => {above}\nkeys k>={value} => {from}\n")
+    format!(in alloc;
+        "keys k=={value} => 1\nkeys k<{value} => {below}\nkeys k<={value} => {to}\nkeys k>{value} => {above}\nkeys k>={value} => {from}\n"
+    )
 }
 
 /// The same for each of them.

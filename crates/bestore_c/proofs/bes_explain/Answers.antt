@@ -8,4 +8,4 @@ returns-in-Err-clause-pass c =
     let number = c.query_for.new.number in
     unasked c.args.pass.now.owned.value c.args.pass.now.live (IsClosed number c.in-Err.code)
     (λ s t. Explains s t c.args.text.now c.args.bytes.now c.args.bytes.now number c.in-Err.code) c.args.pass.now.full c.in-Err.ensures.closed
-    (λ open s. let r = c.in-Err.ensures.refused open in inl (r.0, r.1, r.2, refl))
+    (λ full s. let r = c.in-Err.ensures.refused full in inl (r.0, r.1, r.2, refl))

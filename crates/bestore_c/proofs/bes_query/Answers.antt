@@ -11,7 +11,7 @@ returns-in-Err-clause-pass c =
     let number = c.query_for.new.number in
     unasked c.args.pass.now.owned.value c.args.pass.now.live (IsClosed number c.in-Err.code)
     (λ s t. Finds s t c.args.text.now c.args.nodes.now c.args.nodes.now number c.in-Err.code) c.args.pass.now.full c.in-Err.ensures.closed
-    (λ open s. let r = c.in-Err.ensures.refused open in inl (r.0, r.1, r.2, refl))
+    (λ full s. let r = c.in-Err.ensures.refused full in inl (r.0, r.1, r.2, refl))
 
 pub returns-clause-pass : goal.returns-clause-pass
 returns-clause-pass c =
