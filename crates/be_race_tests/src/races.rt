@@ -1,6 +1,6 @@
 //! Races: scripts at once, each on a thread of its own.
 use be_serving::{Gate, Limits, OpenGate, RunFault, race};
-use be_testing::{Narrow, longest_list};
+use be_testing::{Narrow, list_with_room, longest_list};
 use be_value::word_of;
 use std::alloc::{AllocError, Global};
 use std::io::Write;
@@ -528,10 +528,7 @@ fn may_write(ended: Result<bool, RunFault>, written: &str) -> bool {
 #[test]
 fn refused_memory(rt: HostRuntime) -> Result<(), Fail> {
     let alloc = rt.alloc();
-    let mut written: Vec<u8> = match Vec::with_capacity(alloc, 256) {
-        Ok(room) => room,
-        Err(_) => Vec::with_capacity(alloc, 256)?,
-    };
+    let mut written = list_with_room(alloc)?;
     let scripts = match scripts_of(alloc, &["new\n", ""]) {
         Ok(scripts) => scripts,
         Err(_) => scripts_of(alloc, &["new\n", ""])?,

@@ -1,5 +1,5 @@
 //! What the tests of several crates share: worked examples as texts, the loop that goes over their lines, the texts of
-//! replies, a reader and a writer of pages that count, and a writer of bytes that fails.
+//! replies, a reader and a writer of pages that count, a writer of bytes that fails, and a list with room for bytes.
 //!
 //! It stands here once, and is proved once. A test looks at what comes, and needs no contract, so most has none.
 #![tactic(auto)]
@@ -20,4 +20,4 @@ pub use long_lists::longest_list;
 pub use replies::{done_lines, list_of, reply_lines};
 pub use stores::{OUTSIDE_LIMITS, has_hundred_by_each, is_legal, numbered, pair_of};
 pub use storing::Storing;
-pub use writers::Narrow;
+pub use writers::{Narrow, list_with_room};

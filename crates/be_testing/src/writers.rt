@@ -1,4 +1,5 @@
-//! A writer that fails.
+//! What a test writes to: a writer that fails, and a list with room.
+use std::alloc::{AllocError, Global};
 use std::io::{self, Write};
 
 /// Takes a byte a write while it has room, then fails or takes nothing. It needs no memory: it looks whether each byte is
@@ -57,5 +58,14 @@ impl Write for Narrow<'_> {
 
     fn flush(&mut self) -> io::Result<()> {
         Ok(())
+    }
+}
+
+/// An empty list with room for 256 bytes, into which a test writes without a request for memory. The room is asked for once more where
+/// it is refused.
+pub fn list_with_room(alloc: Global) -> Result<Vec<u8>, AllocError> {
+    match Vec::with_capacity(alloc, 256) {
+        Ok(list) => Ok(list),
+        Err(_) => Vec::with_capacity(alloc, 256),
     }
 }

@@ -1,7 +1,7 @@
 //! Readers and writers that fail, and requests for memory that are refused.
 use super::{By, LIMITS, check_bytes, run_by};
 use be_serving::{RunFault, run};
-use be_testing::Narrow;
+use be_testing::{Narrow, list_with_room};
 use std::alloc::Global;
 use std::io::Read;
 use std::test::Fail;
@@ -178,10 +178,7 @@ fn is_among(text: &str, texts: &str) -> bool {
 #[test]
 fn refused_memory(rt: HostRuntime) -> Result<(), Fail> {
     let alloc = rt.alloc();
-    let mut written: Vec<u8> = match Vec::with_capacity(alloc, 256) {
-        Ok(room) => room,
-        Err(_) => Vec::with_capacity(alloc, 256)?,
-    };
+    let mut written = list_with_room(alloc)?;
     let script = b"new\nset 1 size LONG 5\nmkindex size LONG\nquery size==5\n";
     let result = run_by(By::SharedStore, alloc, script, &mut written, LIMITS.commits);
     assert!(rt; may_write(end_of(result), str::from_utf8(&written)?));

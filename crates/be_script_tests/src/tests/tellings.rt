@@ -2,7 +2,7 @@
 use super::LIMITS;
 use be_history::{Finding, check, dump, dump_state, journal_told};
 use be_serving::{Limits, RunFault, run_and_tell};
-use be_testing::Narrow;
+use be_testing::{Narrow, list_with_room};
 use std::alloc::{AllocError, Global};
 use std::str;
 use std::test::Fail;
@@ -139,10 +139,7 @@ fn may_tell(ended: Result<bool, RunFault>, told: &str) -> bool {
 #[test]
 fn refused_memory_of_a_telling(rt: HostRuntime) -> Result<(), Fail> {
     let alloc = rt.alloc();
-    let mut told: Vec<u8> = match Vec::with_capacity(alloc, 256) {
-        Ok(room) => room,
-        Err(_) => Vec::with_capacity(alloc, 256)?,
-    };
+    let mut told = list_with_room(alloc)?;
     let ended = run_and_tell(alloc, &mut b"new\n".as_slice(), &mut told, LIMITS);
     assert!(rt; may_tell(ended, str::from_utf8(&told)?));
     Ok(())
