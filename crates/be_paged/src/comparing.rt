@@ -9,7 +9,7 @@ ghost use Rattle.be_tree.specs.Page.{IsItem, item_at};
 ghost use Rattle.be_value.specs.Key.{IsValue};
 ghost use Rattle.be_value.specs.Name.{text_from};
 ghost use Rattle.be_value.specs.declared.values.Value.{Value as AnyValue};
-ghost use Rattle.be_volume.specs.Query.{holds, holds_of_number, holds_of_text, is_true_of, literal_number};
+ghost use Rattle.be_volume.specs.Query.{holds, holds_of_number, holds_of_text, literal_number};
 ghost use Rattle.be_paged.specs.Catalog.{payload_of as payload};
 
 use crate::catalog::{kind_at, number32_at, number64_at};
@@ -18,8 +18,7 @@ use be_pages::Look;
 use be_query::{Cmp, Comparison, Literal};
 use be_tree::fill_payload;
 use be_value::Kind;
-use be_volume::literal_number;
-use std::cmp::Ordering;
+use be_volume::{is_true_of, literal_number};
 use std::str;
 
 /// Whether a comparison is true of the value that the payload of the item at a place tells.
@@ -103,19 +102,5 @@ fn number_holds(comparison: &Comparison, n: i128) -> bool
     match literal_number(&comparison.literal) {
         Some(m) => is_true_of(comparison.op, n.cmp(&m)),
         None => false,
-    }
-}
-
-/// Whether an operator is true of two things in this order.
-fn is_true_of(op: Cmp, order: Ordering) -> bool
-    ensures { result ≡ is_true_of op order }
-{
-    match op {
-        Cmp::Eq => order.is_eq(),
-        Cmp::Ne => order.is_ne(),
-        Cmp::Lt => order.is_lt(),
-        Cmp::Le => order.is_le(),
-        Cmp::Gt => order.is_gt(),
-        Cmp::Ge => order.is_ge(),
     }
 }

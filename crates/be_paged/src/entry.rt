@@ -1,7 +1,5 @@
 //! An index as a version page tells it.
-ghost use Rattle.std.specs.Prelude.{◌≡◌, ℕ, ◌+◌, ◌<◌, ◌≤◌, IsTrue, map, slice_index};
-ghost use Rattle.std.specs.Int.{to_be_bytes, w64};
-ghost use Rattle.std.specs.List.{range_with_len};
+ghost use Rattle.std.specs.Prelude.{◌≡◌, ℕ, ◌+◌, ◌<◌, ◌≤◌, IsTrue, slice_index};
 ghost use Rattle.be_pages.specs.Pages.{IsUnchanged, is_readable, OnlyWrites};
 ghost use Rattle.be_pages.specs.declared.room.Standing.TheVariants.{Filled};
 ghost use Rattle.be_volume.specs.Maps.{name_cmp};
@@ -11,6 +9,7 @@ ghost use Rattle.be_paged.specs.Page.{kind_numbered as kind_of_number, entry_at,
 
 use arrayvec::ArrayVec;
 use be_pages::{Look, Room};
+use be_tree::word_from;
 use be_value::{Kind, Name};
 use std::cmp::Ordering;
 use std::marker::Model;
@@ -46,42 +45,6 @@ impl Default for Entry {
             root: 0,
         }
     }
-}
-
-/// The byte at a place, or 0 past the end.
-fn byte_or_zero(bytes: &[u8], i: usize) -> u8
-    ensures { result ≡ slice_index bytes.now i }
-{
-    if i < bytes.len() { bytes[i] } else { 0 }
-}
-
-/// The eight bytes from a place on, as a word, with zeros past the end.
-pub(crate) fn word_from(bytes: &[u8], from: usize) -> u64
-    requires { from ≤ 64 }
-    ensures { to_be_bytes w64 result ≡ map (λ k. slice_index bytes.now k) (range_with_len from 8) }
-{
-    if from + 8 <= bytes.len() {
-        return u64::from_be_bytes([
-            bytes[from],
-            bytes[from + 1],
-            bytes[from + 2],
-            bytes[from + 3],
-            bytes[from + 4],
-            bytes[from + 5],
-            bytes[from + 6],
-            bytes[from + 7],
-        ]);
-    }
-    u64::from_be_bytes([
-        byte_or_zero(bytes, from),
-        byte_or_zero(bytes, from + 1),
-        byte_or_zero(bytes, from + 2),
-        byte_or_zero(bytes, from + 3),
-        byte_or_zero(bytes, from + 4),
-        byte_or_zero(bytes, from + 5),
-        byte_or_zero(bytes, from + 6),
-        byte_or_zero(bytes, from + 7),
-    ])
 }
 
 /// The kind that pages call by a number.

@@ -14,8 +14,9 @@ ghost use Rattle.be_paged.specs.Page.{contents_of, entry_at, IsEntry, IsNamedAt,
 ghost use Rattle.be_paged.specs.Source.{IsFound, IsKnown};
 ghost use Rattle.be_paged.specs.Version.{IsVersion};
 
-use crate::entry::{kind_numbered, word_from};
+use crate::entry::kind_numbered;
 use be_pages::Look;
+use be_tree::word_from;
 use be_value::{Kind, Name};
 use std::cmp::Ordering;
 

@@ -184,8 +184,8 @@ fn last_word(bytes: &[u8], from: usize) -> u64
     whole_word(bytes, last) << (8 * (from - last))
 }
 
-/// The eight bytes from a place on, as a word, with zeros past the end.
-pub(crate) fn word_from(bytes: &[u8], from: usize) -> u64
+/// The eight bytes from a place on, the first of them highest, as a word, with zeros past the end.
+pub fn word_from(bytes: &[u8], from: usize) -> u64
     requires { from ≤ 328 }
     ensures { to_be_bytes w64 result ≡ map (λ k. slice_index bytes.now k) (range_with_len from 8) }
 {

@@ -20,5 +20,5 @@ pub use ahead::{MAX_ATTRIBUTES, MAX_INDICES, first_refusal};
 pub use facts::Facts;
 pub use laws::sound_steps;
 pub use ops::{Done, Op};
-pub use queries::{holds, literal_number};
+pub use queries::{holds, is_true_of, literal_number};
 pub use volumes::Volume;

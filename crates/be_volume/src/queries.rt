@@ -105,8 +105,8 @@ pub fn literal_number(literal: &Literal) -> Option<i128>
     }
 }
 
-/// Whether an operator is true of two things in this order.
-fn is_true_of(op: Cmp, order: Ordering) -> bool
+/// Whether an operator is true of two things in this order, the value first.
+pub fn is_true_of(op: Cmp, order: Ordering) -> bool
     ensures { result ≡ is_true_of op order }
 {
     match op {
