@@ -19,7 +19,7 @@ ghost use Rattle.be_paged.specs.Reading.{AreValid, attribute_pair, front_of_node
 
 use crate::catalog::value_at;
 use be_pages::Look;
-use be_tree::{Cursor, is_key_at, key_at};
+use be_tree::{Cursor, LENGTH_BITS, is_key_at, key_at};
 use be_value::{Name, Value};
 use be_volume::MAX_ATTRIBUTES;
 use std::alloc::{AllocError, Global};
@@ -33,7 +33,7 @@ fn is_of_node<L: Look>(look: &mut L, page: u64, at: usize, node: u64) -> bool
     ensures of_node { result ≡ is_of node (item_at (L.words look.old page) at).key }
     ensures unchanged { IsUnchanged L.kept L.standing L.words look.old look.new }
 {
-    let key_len = look.word(page, at) >> 32;
+    let key_len = look.word(page, at) >> LENGTH_BITS;
     if key_len < 8 {
         return false;
     }

@@ -13,7 +13,7 @@ ghost use Rattle.be_tree.specs.Tree.{IsTree, pairs};
 ghost use Rattle.be_paged.specs.Nodes.{is_mark, marked};
 
 use be_pages::Look;
-use be_tree::Cursor;
+use be_tree::{Cursor, LENGTH_BITS};
 use std::alloc::{AllocError, Global};
 
 /// The node whose mark the item at a place of the catalog is, if it is one. Its first word tells, and the second is the node.
@@ -26,7 +26,7 @@ fn mark_at<L: Look>(look: &mut L, page: u64, at: usize) -> Option<u64>
     ensures none { IfNone result (is_mark (item_at (L.words look.old page) at).key ≡ false) }
     ensures unchanged { IsUnchanged L.kept L.standing L.words look.old look.new }
 {
-    let key_len = look.word(page, at) >> 32;
+    let key_len = look.word(page, at) >> LENGTH_BITS;
     if key_len != 8 {
         return None;
     }

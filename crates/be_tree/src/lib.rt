@@ -45,7 +45,7 @@ pub use edit::insert;
 pub use laws::{tree_beside, tree_kept, tree_replaced, tree_undone};
 pub use lookup::{find, find_into, find_place, has_key, is_key_at};
 pub use numbers::numbers_within;
-pub use page::word_from;
+pub use page::{LENGTH_BITS, word_from};
 pub use payload::{
     fill_payload, payload_byte_at, payload_len_at, payload_number_at, payload_number32_at,
 };

@@ -15,7 +15,7 @@ ghost use Rattle.be_tree.specs.Key.{IsBranchFor, IsGap, IsRank, key_cmp, payload
 ghost use Rattle.be_tree.specs.Words.{IsFirst};
 ghost use Rattle.be_tree.specs.Tree.{IsTree, pairs};
 
-use crate::page::{HEADER_WORDS, ITEM_WORDS, child_at, cmp_at, first_word};
+use crate::page::{HEADER_WORDS, ITEM_WORDS, LENGTH_BITS, child_at, cmp_at, first_word};
 use crate::payload::fill_payload;
 use arrayvec::ArrayVec;
 use be_pages::Look;
@@ -195,7 +195,7 @@ fn order_at<L: Look>(look: &mut L, page: u64, at: usize, key: &[u8], first: u64)
     if mine < first {
         return Ordering::Less;
     }
-    if mine > first && look.word(page, at) >> 32 >= 8 {
+    if mine > first && look.word(page, at) >> LENGTH_BITS >= 8 {
         return Ordering::Greater;
     }
     cmp_at(look, page, at, key)

@@ -15,7 +15,7 @@ ghost use Rattle.be_tree.specs.Words.{IsFirstOf};
 
 use crate::cursor::Cursor;
 use crate::lookup::is_above;
-use crate::page::{HEADER_WORDS, ITEM_WORDS, first_word, number_behind};
+use crate::page::{HEADER_WORDS, ITEM_WORDS, LENGTH_BITS, first_word, number_behind};
 use be_pages::Look;
 use std::alloc::AllocError;
 
@@ -161,6 +161,6 @@ fn number_at<L: Look>(look: &mut L, page: u64, at: usize) -> u64
     ensures number { result ≡ number_of (item_at (L.words look.old page) at).key }
     ensures unchanged { IsUnchanged L.kept L.standing L.words look.old look.new }
 {
-    let key_len = (look.word(page, at) >> 32) as usize;
+    let key_len = (look.word(page, at) >> LENGTH_BITS) as usize;
     number_behind(look, page, at + key_len / 8, key_len % 8)
 }

@@ -25,6 +25,9 @@ pub(crate) const HEADER_WORDS: usize = 2;
 /// How many words an item has: one for its lengths, and 41 for at most 328 bytes.
 pub(crate) const ITEM_WORDS: usize = 42;
 
+/// An item's first word tells how long its key is in the bits above these, and in these how long its payload is.
+pub const LENGTH_BITS: usize = 32;
+
 /// How many items a page has at most.
 pub(crate) const MOST_ITEMS: usize = 12;
 
@@ -40,7 +43,7 @@ pub(crate) fn child_at<L: Look>(look: &mut L, page: u64, at: usize) -> u64
     ensures child { result ≡ child (item_at (L.words look.old page) at) }
     ensures unchanged { IsUnchanged L.kept L.standing L.words look.old look.new }
 {
-    let key_len = (look.word(page, at) >> 32) as usize;
+    let key_len = (look.word(page, at) >> LENGTH_BITS) as usize;
     number_behind(look, page, at + 1 + key_len / 8, key_len % 8)
 }
 
@@ -78,7 +81,7 @@ pub(crate) fn cmp_at<L: Look>(look: &mut L, page: u64, at: usize, key: &[u8]) ->
     ensures order { result ≡ key_cmp (item_at (L.words look.old page) at).key key.now }
     ensures unchanged { IsUnchanged L.kept L.standing L.words look.old look.new }
 {
-    let len = (look.word(page, at) >> 32) as usize;
+    let len = (look.word(page, at) >> LENGTH_BITS) as usize;
     let common = least_of(len, key.len());
     for i in 0..common / 8 {
         let mine = look.word(page, at + 1 + i);
@@ -245,7 +248,7 @@ pub(crate) fn store_item<R: Room>(room: &mut R, page: u64, at: usize, item: &Ite
     room.fill(
         page,
         at,
-        ((key_len as u64) << 32) + (bytes.len() - key_len) as u64,
+        ((key_len as u64) << LENGTH_BITS) + (bytes.len() - key_len) as u64,
     );
     store_bytes(room, page, at + 1, bytes);
 }
@@ -268,7 +271,7 @@ fn copy_item<R: Room>(room: &mut R, page: u64, at: usize, from: u64, place: usiz
     }
     let header = room.word(from, place);
     room.fill(page, at, header);
-    let n = ((header >> 32) + header % (1 << 32)) as usize;
+    let n = ((header >> LENGTH_BITS) + header % (1 << LENGTH_BITS)) as usize;
     for i in 0..(n + 7) / 8 {
         let word = room.word(from, place + 1 + i);
         room.fill(page, at + 1 + i, word);
@@ -288,8 +291,8 @@ fn store_branch<R: Room>(room: &mut R, page: u64, at: usize, child: u64)
     ensures fits { IsItem (R.words room.new page) at }
     ensures only { OnlyWrites R.kept R.standing R.words page at (at + 42) room.old room.new }
 {
-    let key_len = (room.word(child, 2) >> 32) as usize;
-    room.fill(page, at, ((key_len as u64) << 32) + 8);
+    let key_len = (room.word(child, 2) >> LENGTH_BITS) as usize;
+    room.fill(page, at, ((key_len as u64) << LENGTH_BITS) + 8);
     let whole = key_len / 8;
     for i in 0..whole {
         let word = room.word(child, 3 + i);

@@ -6,7 +6,7 @@ ghost use Rattle.std.specs.Int.{from_be_bytes, w32, w64};
 ghost use Rattle.be_pages.specs.Pages.{IsUnchanged, is_readable};
 ghost use Rattle.be_tree.specs.Page.{IsItem, bytes_at, item_at, words_for};
 
-use crate::page::{fill_bytes, number_behind, straddled};
+use crate::page::{LENGTH_BITS, fill_bytes, number_behind, straddled};
 use arrayvec::ArrayVec;
 use be_pages::Look;
 
@@ -19,7 +19,7 @@ pub fn payload_len_at<L: Look>(look: &mut L, page: u64, at: usize) -> usize
     ensures fits { result ≤ 328 }
     ensures unchanged { IsUnchanged L.kept L.standing L.words look.old look.new }
 {
-    (look.word(page, at) % (1 << 32)) as usize
+    (look.word(page, at) % (1 << LENGTH_BITS)) as usize
 }
 
 /// The byte of a payload at a place.
@@ -31,7 +31,7 @@ pub fn payload_byte_at<L: Look>(look: &mut L, page: u64, at: usize, from: usize)
     ensures byte { result ≡ slice_index (item_at (L.words look.old page) at).payload from }
     ensures unchanged { IsUnchanged L.kept L.standing L.words look.old look.new }
 {
-    let key_len = (look.word(page, at) >> 32) as usize;
+    let key_len = (look.word(page, at) >> LENGTH_BITS) as usize;
     let place = key_len + from;
     let bytes = look.word(page, at + 1 + place / 8).to_be_bytes();
     bytes[place % 8]
@@ -46,7 +46,7 @@ pub fn payload_number_at<L: Look>(look: &mut L, page: u64, at: usize, from: usiz
     ensures number { result ≡ from_be_bytes w64 (take 8 (drop from (item_at (L.words look.old page) at).payload)) }
     ensures unchanged { IsUnchanged L.kept L.standing L.words look.old look.new }
 {
-    let key_len = (look.word(page, at) >> 32) as usize;
+    let key_len = (look.word(page, at) >> LENGTH_BITS) as usize;
     let place = key_len + from;
     number_behind(look, page, at + 1 + place / 8, place % 8)
 }
@@ -60,7 +60,7 @@ pub fn payload_number32_at<L: Look>(look: &mut L, page: u64, at: usize, from: us
     ensures number { result ≡ from_be_bytes w32 (take 4 (drop from (item_at (L.words look.old page) at).payload)) }
     ensures unchanged { IsUnchanged L.kept L.standing L.words look.old look.new }
 {
-    let key_len = (look.word(page, at) >> 32) as usize;
+    let key_len = (look.word(page, at) >> LENGTH_BITS) as usize;
     let place = key_len + from;
     number32_behind(look, page, at + 1 + place / 8, place % 8)
 }
@@ -91,8 +91,8 @@ pub fn fill_payload<L: Look>(look: &mut L, page: u64, at: usize, payload: &mut A
     ensures unchanged { IsUnchanged L.kept L.standing L.words look.old look.new }
 {
     let header = look.word(page, at);
-    let key_len = (header >> 32) as usize;
+    let key_len = (header >> LENGTH_BITS) as usize;
     let from = at + 1 + key_len / 8;
-    let payload_len = (header % (1 << 32)) as usize;
+    let payload_len = (header % (1 << LENGTH_BITS)) as usize;
     fill_bytes(look, page, from, key_len % 8, payload_len, payload);
 }

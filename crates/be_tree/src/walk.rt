@@ -10,7 +10,7 @@ ghost use Rattle.be_tree.specs.Range.{first_from, pair_in};
 ghost use Rattle.be_tree.specs.Tree.{IsTree, pairs};
 
 use crate::cursor::Cursor;
-use crate::page::fill_bytes;
+use crate::page::{LENGTH_BITS, fill_bytes};
 use arrayvec::ArrayVec;
 use be_pages::Look;
 
@@ -57,6 +57,6 @@ pub(crate) fn fill_key<L: Look>(look: &mut L, page: u64, at: usize, key: &mut Ar
     ensures key { key.new.items ≡ (item_at (L.words look.old page) at).key }
     ensures unchanged { IsUnchanged L.kept L.standing L.words look.old look.new }
 {
-    let key_len = (look.word(page, at) >> 32) as usize;
+    let key_len = (look.word(page, at) >> LENGTH_BITS) as usize;
     fill_bytes(look, page, at + 1, 0, key_len, key);
 }
