@@ -12,7 +12,7 @@ ghost use Rattle.be_history.specs.Parts as spec;
 use crate::lists::{read_dones, read_ops};
 use crate::parts::{skip, split_around, without_last_two};
 use crate::ranges::{dones_can_be, ops_can_be};
-use be_journal::{Dones, Entry, Ops, entry_line};
+use be_journal::{Entry, Items, entry_line};
 use be_value::word_of;
 use be_volume::{Done, Op};
 use std::alloc::{AllocError, Global};
@@ -30,8 +30,8 @@ fn entry_of(by: u64, ops: Vec<Op>, dones: Vec<Done>) -> Option<Entry>
     }
     Some(Entry {
         by,
-        ops: Ops::from_vec(ops),
-        dones: Dones::from_vec(dones),
+        ops: Items::from_vec(ops),
+        dones: Items::from_vec(dones),
     })
 }
 

@@ -3,7 +3,7 @@ ghost use Rattle.std.specs.Prelude.{◌≡◌, ◌<◌, ◌∷◌, length, drop,
 ghost use Rattle.be_journal.specs.Blocks.{entries_at, AreEntries};
 ghost use Rattle.be_journal.specs.Journal.{IsEntry};
 
-use crate::{Dones, Entry, Ops};
+use crate::{Entry, Items};
 use be_encoding::{read_entry, skip_entry};
 use std::alloc::{AllocError, Global};
 use std::marker::Model;
@@ -74,8 +74,8 @@ impl<'a> BlockReader<'a> {
         self.left -= 1;
         Ok(Entry {
             by,
-            ops: Ops::from_vec(ops),
-            dones: Dones::from_vec(dones),
+            ops: Items::from_vec(ops),
+            dones: Items::from_vec(dones),
         })
     }
 }

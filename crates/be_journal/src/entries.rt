@@ -1,93 +1,49 @@
 //! Entries of a journal.
 //!
-//! The lists of an entry are small types of this crate over a `Vec`, which contracts see as lists. They are made from a
-//! `Vec` and give it back without memory.
+//! The lists of an entry are of a small type of this crate over a `Vec`, which contracts see as a list. It is made from a
+//! `Vec` and gives it back without memory.
 ghost use Rattle.std.specs.Prelude.{◌≡◌};
 
 use be_volume::{Done, Op};
 use std::marker::Model;
 
-/// Operations in their order. A contract sees the list.
+/// Operations, or the answers to them, in their order. A contract sees the list.
 #[derive(Drop)]
-pub struct Ops {
-    ops: Vec<Op>,
+pub struct Items<T> {
+    items: Vec<T>,
 }
 
-impl Model for Ops {
+impl<T> Model for Items<T> {
     ghost use Rattle.std.specs.Prelude.{List};
     ghost use Rattle.std.specs.Coded.{coded_list};
-    ghost use Rattle.be_volume.specs.declared.ops.Op.{Op as AnyOp};
-    ghost use Rattle.be_volume.specs.Coded.{coded_op};
 
-    ghost Value = { List AnyOp };
+    ghost Value = { List T };
 
-    ghost coded = { coded_list coded_op };
+    ghost coded = { coded_list T.code };
 
-    ghost view = { λ o. o.ops.items };
+    ghost view = { λ it. it.items.items };
 }
 
-impl Ops {
-    /// These operations; no memory is taken.
-    pub fn from_vec(ops: Vec<Op>) -> Ops
-        ensures { result ≡ ops.items }
+impl<T: Drop> Items<T> {
+    /// These items; no memory is taken.
+    pub fn from_vec(items: Vec<T>) -> Items<T>
+        ensures { result ≡ items.items }
     {
-        Ops { ops }
+        Items { items }
     }
 
-    /// The operations; no memory is taken.
-    pub fn into_vec(self) -> Vec<Op>
+    /// The items; no memory is taken.
+    pub fn into_vec(self) -> Vec<T>
         ensures { result.items ≡ self }
     {
-        let Ops { ops } = self;
-        ops
+        let Items { items } = self;
+        items
     }
 
-    pub fn as_slice(&self) -> &[Op]
+    pub fn as_slice(&self) -> &[T]
         ensures { result.now ≡ self.now }
     {
-        self.ops.as_slice()
-    }
-}
-
-/// The answers to operations in their order. A contract sees the list.
-#[derive(Drop)]
-pub struct Dones {
-    dones: Vec<Done>,
-}
-
-impl Model for Dones {
-    ghost use Rattle.std.specs.Prelude.{List};
-    ghost use Rattle.std.specs.Coded.{coded_list};
-    ghost use Rattle.be_volume.specs.declared.ops.Done.{Done as AnyDone};
-    ghost use Rattle.be_volume.specs.Coded.{coded_done};
-
-    ghost Value = { List AnyDone };
-
-    ghost coded = { coded_list coded_done };
-
-    ghost view = { λ d. d.dones.items };
-}
-
-impl Dones {
-    /// These answers; no memory is taken.
-    pub fn from_vec(dones: Vec<Done>) -> Dones
-        ensures { result ≡ dones.items }
-    {
-        Dones { dones }
-    }
-
-    /// The answers; no memory is taken.
-    pub fn into_vec(self) -> Vec<Done>
-        ensures { result.items ≡ self }
-    {
-        let Dones { dones } = self;
-        dones
-    }
-
-    pub fn as_slice(&self) -> &[Done]
-        ensures { result.now ≡ self.now }
-    {
-        self.dones.as_slice()
+        self.items.as_slice()
     }
 }
 
@@ -97,7 +53,7 @@ pub struct Entry {
     /// The number of the pass that made it.
     pub by: u64,
     /// Its 1 to 64 operations.
-    pub ops: Ops,
+    pub ops: Items<Op>,
     /// The answer to each.
-    pub dones: Dones,
+    pub dones: Items<Done>,
 }

@@ -12,7 +12,7 @@ mod laws;
 mod readers;
 mod texts;
 
-pub use entries::{Dones, Entry, Ops};
+pub use entries::{Entry, Items};
 pub use journals::{Journal, first_wrong, replay};
 pub use laws::{by_pass_append, legal_front, legal_last, legal_push, replay_push, replay_sound};
 pub use texts::{done_text, entry_line, op_text, quoted, value_text};

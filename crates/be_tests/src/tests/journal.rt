@@ -5,7 +5,7 @@
 //! of its volume, and the attributes of node 1 there.
 
 use super::lines::{first_number, replies};
-use be_journal::{Dones, Entry, Journal, Ops};
+use be_journal::{Entry, Items, Journal};
 use be_language::Reply;
 use be_testing::{is_legal, list_of, reply_lines};
 use be_value::{Name, Refusal, Value, word_of};
@@ -20,8 +20,8 @@ fn push(journal: &mut Journal, ops: Vec<Op>, dones: Vec<Done>) -> Result<(), Ref
     }
     journal.push(Entry {
         by: 0,
-        ops: Ops::from_vec(ops),
-        dones: Dones::from_vec(dones),
+        ops: Items::from_vec(ops),
+        dones: Items::from_vec(dones),
     })
 }
 
