@@ -11,7 +11,7 @@ ghost use Rattle.be_paged.specs.Version.{IsVersion};
 use crate::same::same_lists;
 use be_paged::{attrs, indices, source};
 use be_pages::{Look, VecRoom};
-use be_plan::{Cover, Picks, Source, choose, covers, run};
+use be_plan::{Cover, Picks, Source, choose_from, covers, run};
 use be_query::{Query, parse};
 use be_value::{Kind, Name, Refusal, Value};
 use be_volume::Volume;
@@ -27,14 +27,19 @@ pub(crate) fn read_query(alloc: Global, text: &str) -> Result<Query, Refusal> {
 }
 
 /// What a query is answered from: one pick that is given, or what is chosen.
-fn cover_of(
+fn cover_of<S: Source>(
     alloc: Global,
     query: &Query,
     pick: Option<usize>,
-    indices: &[(Name, Kind)],
-) -> Result<Cover, Refusal> {
+    source: &mut S,
+) -> Result<Cover, Refusal>
+    ghost volume: { State }
+    requires answers { S.answers_for source.old volume }
+    ensures answers { S.answers_for source.new volume }
+    ensures stays { S.kept source.new ≡ S.kept source.old }
+{
     let Some(place) = pick else {
-        return choose(alloc, query, indices);
+        return choose_from(alloc, query, source);
     };
     let mut places = Vec::new(alloc);
     places.push(place)?;
@@ -60,12 +65,12 @@ fn walked<S: Source>(
     run(alloc, cover, query, source)
 }
 
-/// The nodes of a query. The plain volume isn't asked: it tells for which volume the source answers.
+/// The nodes of a query, from one pick or from what is chosen. The plain volume isn't asked: it tells for which volume the source answers.
 fn ask<S: Source>(
     alloc: Global,
     _plain: &Volume,
     query: &Query,
-    cover: &Cover,
+    pick: Option<usize>,
     source: &mut S,
 ) -> Result<Vec<u64>, Refusal>
     ghost volume: { State }
@@ -73,10 +78,11 @@ fn ask<S: Source>(
     ensures answers { S.answers_for source.new volume }
     ensures stays { S.kept source.new ≡ S.kept source.old }
 {
-    if !covers(cover, query, source) {
+    let cover = cover_of(alloc, query, pick, source)?;
+    if !covers(&cover, query, source) {
         return Err(Refusal::BadLimits);
     }
-    walked(alloc, query, cover, source)
+    walked(alloc, query, &cover, source)
 }
 
 /// The nodes of a query over pages, and the look as it was.
@@ -91,17 +97,8 @@ fn ask_pages<L: Look>(
     requires version { IsVersion (L.standing look) (L.words look) page plain.now }
     ensures unchanged { IsUnchanged L.kept L.standing L.words look result.0 }
 {
-    let mut look = look;
-    let list = match indices(alloc, &mut look, page) {
-        Ok(list) => list,
-        Err(refusal) => return (look, Err(refusal)),
-    };
-    let cover = match cover_of(alloc, query, pick, &list) {
-        Ok(cover) => cover,
-        Err(refusal) => return (look, Err(refusal)),
-    };
     let mut reader = source(look, page);
-    let answer = ask(alloc, plain, query, &cover, &mut reader);
+    let answer = ask(alloc, plain, query, pick, &mut reader);
     (reader.into_look(), answer)
 }
 

@@ -5,7 +5,6 @@ pub mod Choice
 pub mod Ends
 pub mod Fronts
 pub mod Integers
-pub mod Listed
 pub mod Leaving
 pub mod LongTexts
 pub mod Marked

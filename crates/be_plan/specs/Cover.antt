@@ -7,7 +7,6 @@ use Rattle.std.specs.declared.result.Result.{Result}
 use Rattle.std.specs.declared.result.Result.TheVariants.{Ok, Err}
 use Rattle.be_value.specs.declared.refusals.Refusal.{Refusal}
 use Rattle.be_value.specs.declared.refusals.Refusal.TheVariants.{NotCovered}
-use Rattle.be_value.specs.declared.values.Kind.{Kind}
 use Rattle.be_pattern.specs.Match.{Part, Run, One, Among, Only}
 use Rattle.be_pattern.specs.Canonical.{is_plain}
 use Rattle.be_query.specs.declared.tree.Comparison as code
@@ -18,7 +17,6 @@ use Rattle.be_query.specs.declared.tree.Cmp.TheVariants.{Eq, Ne, Lt, Le, Gt, Ge}
 use Rattle.be_query.specs.Grammar.{Literal}
 use Rattle.be_query.specs.Grammar.{Wild, Exact}
 use Rattle.be_plan.specs.declared.plans.Cover.{Cover}
-use Rattle.std.specs.Cmp.Lexicographic.{pointwise}
 
 -- a comparison, without where it lies in memory
 pub record Comparison : Type 0 where
@@ -49,10 +47,6 @@ rests_on indexed f pick = option_map_or (λ c. indexed c.name) (slice_get (leave
 -- the picks cover the query
 abbrev pub covers : (List ℕ → Bool) → List ℕ → Formula → Bool
 covers indexed picks f = list_all (rests_on indexed f) picks && covers_part picks 0 f
-
--- the list has an index of that name
-abbrev pub is_listed : List (List ℕ × Kind) → List ℕ → Bool
-is_listed indices name = list_any (λ index. pointwise nat_eq index.0 name) indices
 
 -- the pattern begins with a literal character
 abbrev pub begins_literally : List Part → Bool

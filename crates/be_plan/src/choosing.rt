@@ -8,35 +8,19 @@ ghost use Rattle.be_value.specs.Refusal.{Answers};
 ghost use Rattle.be_value.specs.declared.refusals.Refusal.TheVariants.{OutOfMemory, NotCovered};
 ghost use Rattle.be_query.specs.Grammar.{comparisons};
 ghost use Rattle.be_query.specs.View.{formula, literal};
-ghost use Rattle.be_volume.specs.Query.{covered, has_index, rests};
+ghost use Rattle.be_volume.specs.Query.{covered, has_index};
 ghost use Rattle.be_volume.specs.Volume.{State};
 ghost use Rattle.be_plan.specs.Explain.{are_places};
-ghost use Rattle.be_plan.specs.Cover.{chosen, choice, covers, cheaper, both_covers, is_listed, score_of};
+ghost use Rattle.be_plan.specs.Cover.{chosen, choice, covers, cheaper, both_covers, score_of};
 
 use crate::{Cover, Picks, Source};
 use be_query::{Cmp, Comparison, Literal, Query, Tree};
-use be_value::{Kind, Name, Refusal};
+use be_value::Refusal;
 use std::alloc::{AllocError, Global};
 
-/// The comparisons to answer the query from, where the volume has these indices. Of an `&&` it takes the covered side with the lower score,
-/// the left one at a tie. A query that rests on no index is refused by `NotCovered`. One pass over the tree, and a look through the list for each
-/// comparison.
-pub fn choose(alloc: Global, query: &Query, indices: &[(Name, Kind)]) -> Result<Cover, Refusal>
-    ensures choice { Answers (λ cover. cover) result (chosen (is_listed indices.now) (query.now)) }
-    // What is chosen covers the query, so each pick is a place; and nothing is exactly where it rests on no index.
-    ensures covers { IfOk result (λ cover. covers (is_listed indices.now) cover.picks (query.now) ≡ true) }
-    ensures rests { IfOk result (λ _. rests (is_listed indices.now) (query.now) ≡ true) }
-    ensures places { IfOk result (λ cover. are_places query.now cover.picks ≡ true) }
-    ensures refused { IfErr result (λ e. (e ≡ OutOfMemory) ⊎ ((e ≡ NotCovered) × (rests (is_listed indices.now) (query.now) ≡ false))) }
-{
-    match choose_by_list(alloc, query.tree(), indices)? {
-        Some(cover) => Ok(cover),
-        None => Err(Refusal::NotCovered),
-    }
-}
-
-/// The same comparisons, where a source tells which names have an index. It asks for the names of the query alone, once for each comparison,
-/// so the number of the volume's indices doesn't matter.
+/// The comparisons to answer the query from. Of an `&&` it takes the covered side with the lower score, the left one at a tie. A query that
+/// rests on no index is refused by `NotCovered`. The source is asked for the names of the query alone, once for each comparison, so the number
+/// of the volume's indices doesn't matter.
 pub fn choose_from<S: Source>(
     alloc: Global,
     query: &Query,
@@ -45,6 +29,7 @@ pub fn choose_from<S: Source>(
     ghost volume: { State }
     requires { S.answers_for source.old volume }
     ensures choice { Answers (λ cover. cover) result (chosen (has_index volume) query.now) }
+    // What is chosen covers the query, so each pick is a place; and nothing is exactly where it rests on no index.
     ensures covers { IfOk result (λ cover. covers (has_index volume) cover.picks query.now ≡ true) }
     ensures rests { IfOk result (λ _. covered volume query.now ≡ true) }
     ensures places { IfOk result (λ cover. are_places query.now cover.picks ≡ true) }
@@ -58,20 +43,7 @@ pub fn choose_from<S: Source>(
     }
 }
 
-/// The choice for a whole query, by a list of the indices.
-fn choose_by_list(
-    alloc: Global,
-    tree: &Tree,
-    indices: &[(Name, Kind)],
-) -> Result<Option<Cover>, AllocError>
-    requires { comparisons (formula tree.now) ≤ 256 }
-    ensures choice { IfOk result (λ cover. cover ≡ choice (is_listed indices.now) 0 (formula tree.now)) }
-{
-    let PartChoice { cover, end: _ } = choose_in(alloc, tree, 0, indices)?;
-    Ok(cover)
-}
-
-/// The choice for a whole query, where a source tells which names have an index.
+/// The choice for a whole query, if it is covered.
 pub(crate) fn choose_by_source<S: Source>(
     alloc: Global,
     tree: &Tree,
@@ -84,7 +56,7 @@ pub(crate) fn choose_by_source<S: Source>(
     ensures stays { S.kept source.new ≡ S.kept source.old }
     ensures answers { S.answers_for source.new volume }
 {
-    let PartChoice { cover, end: _ } = choose_asking(alloc, tree, 0, source)?;
+    let PartChoice { cover, end: _ } = choose_part(alloc, tree, 0, source)?;
     Ok(cover)
 }
 
@@ -106,47 +78,8 @@ struct PartChoice {
     end: usize,
 }
 
-/// The choice for a part of a query whose first comparison has the place `at`.
-fn choose_in(
-    alloc: Global,
-    tree: &Tree,
-    at: usize,
-    indices: &[(Name, Kind)],
-) -> Result<PartChoice, AllocError>
-    requires { at + comparisons (formula tree.now) ≤ 256 }
-    ensures choice { IfOk result (λ c. c.cover ≡ choice (is_listed indices.now) at (formula tree.now)) }
-    ensures end { IfOk result (λ c. c.end ≡ at + comparisons (formula tree.now)) }
-    ensures small { IfOk result (λ c. IfSome c.cover (λ cover. cover.score ≤ 5 * comparisons (formula tree.now))) }
-{
-    match tree {
-        Tree::Leaf(comparison) => {
-            let indexed = is_listed(indices, &comparison.name);
-            Ok(choose_leaf(comparison, at, indexed))
-        }
-        Tree::And(a, b) => {
-            let left = choose_in(alloc, a, at, indices)?;
-            let right = choose_in(alloc, b, left.end, indices)?;
-            let end = right.end;
-            let cover = cheaper(left.cover, right.cover);
-            Ok(PartChoice { cover, end })
-        }
-        Tree::Or(a, b) => {
-            let left = choose_in(alloc, a, at, indices)?;
-            let right = choose_in(alloc, b, left.end, indices)?;
-            let end = right.end;
-            match (left.cover, right.cover) {
-                (Some(left), Some(right)) => Ok(PartChoice {
-                    cover: Some(join(alloc, left, right)?),
-                    end,
-                }),
-                _ => Ok(PartChoice { cover: None, end }),
-            }
-        }
-    }
-}
-
-/// The same, where the source tells which names have an index: it is asked once for each comparison.
-fn choose_asking<S: Source>(
+/// The choice for a part of a query whose first comparison has the place `at`. The source is asked once for each comparison.
+fn choose_part<S: Source>(
     alloc: Global,
     tree: &Tree,
     at: usize,
@@ -167,15 +100,15 @@ fn choose_asking<S: Source>(
             Ok(choose_leaf(comparison, at, indexed))
         }
         Tree::And(a, b) => {
-            let left = choose_asking(alloc, a, at, source)?;
-            let right = choose_asking(alloc, b, left.end, source)?;
+            let left = choose_part(alloc, a, at, source)?;
+            let right = choose_part(alloc, b, left.end, source)?;
             let end = right.end;
             let cover = cheaper(left.cover, right.cover);
             Ok(PartChoice { cover, end })
         }
         Tree::Or(a, b) => {
-            let left = choose_asking(alloc, a, at, source)?;
-            let right = choose_asking(alloc, b, left.end, source)?;
+            let left = choose_part(alloc, a, at, source)?;
+            let right = choose_part(alloc, b, left.end, source)?;
             let end = right.end;
             match (left.cover, right.cover) {
                 (Some(left), Some(right)) => Ok(PartChoice {
@@ -237,13 +170,6 @@ fn join(alloc: Global, left: Cover, right: Cover) -> Result<Cover, AllocError>
         picks: Picks::new(places),
         score: left.score + right.score,
     })
-}
-
-/// Whether the list has an index of that name.
-fn is_listed(indices: &[(Name, Kind)], name: &Name) -> bool
-    ensures { result ≡ is_listed indices.now name.now }
-{
-    indices.iter().any(|index| index.0 == *name)
 }
 
 /// How dear it is to answer from the comparison.

@@ -1,6 +1,6 @@
 //! Whether picks cover a query.
 //!
-//! `run` takes any picks that cover. Those of `choose` do; picks from elsewhere are tested here.
+//! `run` takes any picks that cover. Those of `choose_from` do; picks from elsewhere are tested here.
 ghost use Rattle.std.specs.Prelude.{◌≡◌, ◌≤◌, ◌+◌};
 ghost use Rattle.std.specs.List.{list_all};
 ghost use Rattle.be_query.specs.Grammar.{comparisons};

@@ -5,7 +5,7 @@
 //! escape these walks; of an `&&` one side is enough, of an `||` both are needed. The answer depends on no plan: any picks that cover give
 //! the ascending list of all nodes of which the query is true.
 //!
-//! `choose` picks, `run` walks, `explain` says what was picked. `Source` is what is walked: a plain volume, or a reader of pages.
+//! `choose_from` picks, `run` walks, `explain` says what was picked, and `answer` does all of a query. `Source` is what is walked: a plain volume, or a reader of pages.
 #![tactic(auto)]
 
 mod asking;
@@ -13,7 +13,6 @@ mod choosing;
 mod coverage;
 mod evaluating;
 mod explaining;
-mod laws;
 mod narrowing;
 mod plain;
 mod plans;
@@ -25,10 +24,9 @@ mod spine;
 mod walks;
 
 pub use asking::answer;
-pub use choosing::{choose, choose_from};
+pub use choosing::choose_from;
 pub use coverage::covers;
 pub use explaining::explain;
-pub use laws::list_stands_for_volume;
 pub use plain::{VolumeSource, volume_source};
 pub use plans::{Cover, Picks};
 pub use running::run;

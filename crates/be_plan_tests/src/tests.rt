@@ -8,10 +8,12 @@
 //! key that lies in it and one for its end: `nodes 2 3 asks nnn`. The commands `keys`, `looks` and `kinds` count what is
 //! asked for where the source tells the kinds, and `ranges` counts the ranges that answer a query whole.
 
+ghost use Rattle.std.specs.Prelude.{◌≡◌, true, IfOk};
 ghost use Rattle.be_volume.specs.Volume.{State};
+ghost use Rattle.be_plan.specs.Explain.{are_places};
 
 use crate::counting::{nodes_by, nodes_chosen};
-use be_plan::{Cover, Picks, Source, choose, explain, volume_source};
+use be_plan::{Cover, Picks, Source, choose_from, explain, volume_source};
 use be_query::{Query, parse};
 use be_testing::{Answers, check_lines, list_of};
 use be_value::{Kind, Name, Refusal, word_of};
@@ -163,18 +165,17 @@ fn counted(
     }
 }
 
-fn indices_of(volume: &Volume) -> Result<Vec<(Name, Kind)>, Refusal> {
-    volume.indices()
-}
-
-/// What is chosen where the volume's indices are listed.
-fn chosen(alloc: Global, volume: &Volume, query: &Query) -> Result<Cover, Refusal> {
-    choose(alloc, query, &indices_of(volume)?)
+/// What is chosen by the volume's indices.
+fn chosen(alloc: Global, volume: &Volume, query: &Query) -> Result<Cover, Refusal>
+    ensures places { IfOk result (λ cover. are_places query.now cover.picks ≡ true) }
+{
+    let mut source = volume_source(volume);
+    choose_from(alloc, query, &mut source)
 }
 
 /// The text of the same.
 fn explained(alloc: Global, volume: &Volume, query: &Query) -> Result<String, Refusal> {
-    let cover = choose(alloc, query, &indices_of(volume)?)?;
+    let cover = chosen(alloc, volume, query)?;
     explain(alloc, query, &cover)
 }
 
