@@ -16,62 +16,68 @@ use std::alloc::{AllocError, Global};
 use std::collections::BTreeMap;
 use std::marker::Model;
 
-/// The attributes of a node.
+/// A map from names to values of one type.
 #[derive(Drop)]
-pub struct Attributes {
-    values: BTreeMap<Name, Value>,
+pub struct Named<V> {
+    named: BTreeMap<Name, V>,
 }
 
-impl Model for Attributes {
+impl<V> Model for Named<V> {
     ghost use Rattle.std.specs.FinMap as map;
-    ghost use Rattle.be_volume.specs.Maps as maps;
+    ghost use Rattle.std.specs.Coded.{coded_ℕ, coded_list};
+    ghost use Rattle.be_volume.specs.Maps.{name_cmp};
 
-    ghost Value = { maps.Attributes };
+    ghost Value = { map.FinMap name_cmp V };
 
-    ghost coded = { maps.coded_attributes };
+    ghost coded = { map.code (coded_list coded_ℕ) V.code };
 
-    ghost view = { λ a. map.from_entries a.values.entries };
+    ghost view = { λ m. map.from_entries m.named.entries };
 }
 
-impl Attributes {
-    pub fn new(alloc: Global) -> Attributes
+impl<V: Drop> Named<V> {
+    pub fn new(alloc: Global) -> Named<V>
         ensures { result ≡ map.empty }
     {
-        Attributes {
-            values: BTreeMap::new(alloc),
+        Named {
+            named: BTreeMap::new(alloc),
         }
     }
 
     pub fn len(&self) -> usize
         ensures { result ≡ map.len self.now }
     {
-        self.values.len()
+        self.named.len()
     }
 
-    pub fn get(&self, name: &Name) -> Option<&Value>
+    pub fn get(&self, name: &Name) -> Option<&V>
         ensures { option_copied result ≡ map.get self.now name.now }
     {
-        self.values.get(name)
+        self.named.get(name)
     }
 
-    pub fn insert(&mut self, name: Name, value: Value) -> Result<(), AllocError>
+    pub fn insert(&mut self, name: Name, value: V) -> Result<(), AllocError>
         ensures { OnOk result (self.new ≡ map.insert self.old name value) }
     {
-        self.values.insert(name, value)?;
+        self.named.insert(name, value)?;
         Ok(())
     }
 
     pub fn remove(&mut self, name: &Name)
         ensures { self.new ≡ map.remove self.old name.now }
     {
-        self.values.remove(name);
+        self.named.remove(name);
     }
+}
 
+/// The attributes of a node.
+pub type Attributes = Named<Value>;
+
+impl Named<Value> {
     /// The attributes, by ascending names.
     pub fn list(&self, alloc: Global) -> Result<Vec<(Name, Value)>, AllocError>
         ensures { IfOk result (λ list. list.items ≡ map.entries self.now) }
     {
-        attributes_in(alloc, &self.values)
+        attributes_in(alloc, &self.named)
     }
 }
 
@@ -190,74 +196,26 @@ fn kinds_in(alloc: Global, indices: &BTreeMap<Name, Index>) -> Result<Vec<(Name,
 }
 
 /// The indices.
-#[derive(Drop)]
-pub struct Indices {
-    indices: BTreeMap<Name, Index>,
-}
+pub type Indices = Named<Index>;
 
-impl Model for Indices {
-    ghost use Rattle.std.specs.FinMap as map;
-    ghost use Rattle.be_volume.specs.Indices as maps;
-
-    ghost Value = { maps.Indices };
-
-    ghost coded = { maps.coded_indices };
-
-    ghost view = { λ i. map.from_entries i.indices.entries };
-}
-
-impl Indices {
+impl Named<Index> {
     ghost use Rattle.std.specs.Prelude.{◌≡◌, IfOk, OnOk};
     ghost use Rattle.std.specs.Prelude.{map as each};
-    ghost use Rattle.std.specs.Option.{option_copied};
     ghost use Rattle.std.specs.FinMap as map;
     ghost use Rattle.be_volume.specs.Indices.{with_pair, without_pair, without_node};
-
-    pub fn new(alloc: Global) -> Indices
-        ensures { result ≡ map.empty }
-    {
-        Indices {
-            indices: BTreeMap::new(alloc),
-        }
-    }
-
-    pub fn len(&self) -> usize
-        ensures { result ≡ map.len self.now }
-    {
-        self.indices.len()
-    }
-
-    pub fn get(&self, name: &Name) -> Option<&Index>
-        ensures { option_copied result ≡ map.get self.now name.now }
-    {
-        self.indices.get(name)
-    }
-
-    pub fn insert(&mut self, name: Name, index: Index) -> Result<(), AllocError>
-        ensures { OnOk result (self.new ≡ map.insert self.old name index) }
-    {
-        self.indices.insert(name, index)?;
-        Ok(())
-    }
-
-    pub fn remove(&mut self, name: &Name)
-        ensures { self.new ≡ map.remove self.old name.now }
-    {
-        self.indices.remove(name);
-    }
 
     /// The kinds of the indices, by ascending names.
     pub fn kinds(&self, alloc: Global) -> Result<Vec<(Name, Kind)>, AllocError>
         ensures { IfOk result (λ list. list.items ≡ each (λ e. (e.0, e.1.kind)) (map.entries self.now)) }
     {
-        kinds_in(alloc, &self.indices)
+        kinds_in(alloc, &self.named)
     }
 
     /// The node lost its value at the name.
     pub fn unpair(&mut self, name: &Name, node: u64)
         ensures { self.new ≡ without_pair self.old name.now node }
     {
-        let Some(index) = self.indices.get_mut(name) else {
+        let Some(index) = self.named.get_mut(name) else {
             return;
         };
         index.pairs.remove(node);
@@ -267,14 +225,14 @@ impl Indices {
     pub fn unpair_all(&mut self, node: u64)
         ensures { self.new ≡ without_node self.old node }
     {
-        unpair_each(&mut self.indices, node);
+        unpair_each(&mut self.named, node);
     }
 
     /// The node has this value at the name: its old pair leaves the index of the name, and the new one enters if the kinds agree.
     pub fn pair(&mut self, name: &Name, node: u64, value: Value) -> Result<(), AllocError>
         ensures { OnOk result (self.new ≡ with_pair self.old name.now node value) }
     {
-        let Some(index) = self.indices.get_mut(name) else {
+        let Some(index) = self.named.get_mut(name) else {
             return Ok(());
         };
         index.pair(node, value)
@@ -297,12 +255,12 @@ impl Index {
     }
 }
 
-impl Clone for Attributes {
+impl Clone for Named<Value> {
     ghost is_clone = { λ a b. b ≡ a };
 
-    fn clone(&self) -> Result<Attributes, AllocError> {
-        let values = self.values.clone()?;
-        Ok(Attributes { values })
+    fn clone(&self) -> Result<Named<Value>, AllocError> {
+        let named = self.named.clone()?;
+        Ok(Named { named })
     }
 }
 
@@ -325,11 +283,11 @@ impl Clone for Index {
     }
 }
 
-impl Clone for Indices {
+impl Clone for Named<Index> {
     ghost is_clone = { λ a b. b ≡ a };
 
-    fn clone(&self) -> Result<Indices, AllocError> {
-        let indices = self.indices.clone()?;
-        Ok(Indices { indices })
+    fn clone(&self) -> Result<Named<Index>, AllocError> {
+        let named = self.named.clone()?;
+        Ok(Named { named })
     }
 }
