@@ -17,8 +17,8 @@ pub(crate) struct BlockReader<'a> {
 }
 
 impl<'a> Model for BlockReader<'a> {
-    ghost use Rattle.std.specs.Prelude.{List};
     ghost use Rattle.std.specs.Coded.{coded_list};
+    ghost use Rattle.std.specs.Prelude.{List};
     ghost use Rattle.be_journal.specs.Blocks.{entries_at, AreEntries};
     ghost use Rattle.be_journal.specs.Journal.{coded_entry};
     ghost use Rattle.be_journal.specs.declared.entries.Entry.{Entry as AnyEntry};

@@ -3,11 +3,11 @@
 //! An entry is appended in one of two ways. `push` takes the memory that it needs. A writer that must not fail once it has
 //! published takes the memory first, by `reserve`, and then appends by `push_reserved`, which takes none.
 ghost use Rattle.std.specs.Prelude.{◌≡◌, ◌≤◌, ◌<◌, ◌^◌, ◌↔◌, ℕ, length, get_or, true, IfOk, IfErr, OnOk, Ok, [], ◌++◌, ◌+◌, vec_len, vec_capacity, All};
-ghost use Rattle.be_volume.specs.Ahead.{state_after};
-ghost use Rattle.be_volume.specs.Volume.{steps};
+ghost use Rattle.std.specs.String.{string_bytes};
 ghost use Rattle.be_value.specs.Refusal.{Answers};
 ghost use Rattle.be_value.specs.declared.refusals.Refusal.TheVariants.{OutOfMemory};
-ghost use Rattle.std.specs.String.{string_bytes};
+ghost use Rattle.be_volume.specs.Ahead.{state_after};
+ghost use Rattle.be_volume.specs.Volume.{steps};
 ghost use Rattle.be_journal.specs.Journal as model;
 ghost use Rattle.be_journal.specs.Text.{lines_from};
 

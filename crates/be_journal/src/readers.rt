@@ -20,8 +20,8 @@ pub(crate) struct Reader<'a> {
 }
 
 impl<'a> Model for Reader<'a> {
-    ghost use Rattle.std.specs.Prelude.{List, ◌++◌};
     ghost use Rattle.std.specs.Coded.{coded_list};
+    ghost use Rattle.std.specs.Prelude.{List, ◌++◌};
     ghost use Rattle.be_journal.specs.Blocks.{entries_of, AreFilled};
     ghost use Rattle.be_journal.specs.Journal.{coded_entry};
     ghost use Rattle.be_journal.specs.declared.entries.Entry.{Entry as AnyEntry};

@@ -2,8 +2,8 @@
 //!
 //! An attribute and its pair in an index change one after the other. Between the two the contents spell a volume of which an index says other
 //! than the attribute, so what is kept from one change to the next is that the trees stand, apart from what they say.
-ghost use Rattle.std.specs.Prelude.{◌≡◌, ℕ, ◌<◌, length, IsTrue, IfOk, IfErr, OnOk, OnErr, IfSome, IfNone, Some, None, option_map, true, is_some, List};
 ghost use Rattle.std.specs.Option.{option_copied};
+ghost use Rattle.std.specs.Prelude.{◌≡◌, ℕ, ◌<◌, length, IsTrue, IfOk, IfErr, OnOk, OnErr, IfSome, IfNone, Some, None, option_map, true, is_some, List};
 ghost use Rattle.be_value.specs.Key.{key, IsValue};
 ghost use Rattle.be_value.specs.Value.{kind_of as kind_in, is_indexable};
 ghost use Rattle.be_value.specs.declared.values.Value.{Value as AnyValue};

@@ -8,10 +8,9 @@ ghost use Rattle.std.specs.Prelude.{◌≡◌, true, OnOk, IfErr};
 ghost use Rattle.std.specs.Option.{option_copied, option_map};
 ghost use Rattle.be_value.specs.declared.refusals.Refusal.TheVariants.{OutOfMemory};
 ghost use Rattle.be_query.specs.View.{literal};
-ghost use Rattle.be_volume.specs.Reading.{attribute};
+ghost use Rattle.be_volume.specs.Reading.{attribute, index_kind};
 ghost use Rattle.be_volume.specs.Volume.{State};
 ghost use Rattle.be_volume.specs.Keys.{IsKey, IsNextKey};
-ghost use Rattle.be_volume.specs.Reading.{index_kind};
 ghost use Rattle.be_volume.specs.Sound.{IsSound};
 ghost use Rattle.be_plan.specs.Walk.{HasNodes, HasOnly, Keeps, is_true_at};
 

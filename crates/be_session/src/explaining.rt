@@ -1,9 +1,9 @@
 //! What a query would be answered from.
 ghost use Rattle.std.specs.Prelude.{◌≡◌, Bool, List, Ok, true, ℕ, string_bytes};
+ghost use Rattle.be_value.specs.Refusal.{Answers};
 ghost use Rattle.be_plan.specs.Cover.{chosen};
 ghost use Rattle.be_plan.specs.Explain.{are_places};
 ghost use Rattle.be_session.specs.Explained.{explanation_where};
-ghost use Rattle.be_value.specs.Refusal.{Answers};
 
 use be_store::{Cover, Query, Refusal, explain};
 use std::alloc::Global;

@@ -1,8 +1,8 @@
 //! Why a call of a session did nothing.
 ghost use Rattle.std.specs.Prelude.{◌≡◌};
+ghost use Rattle.be_value.specs.declared.refusals.Refusal.TheVariants.{OutOfMemory};
 ghost use Rattle.be_session.specs.Fault.{fault_carried, fault_code};
 ghost use Rattle.be_session.specs.declared.faults.Fault.TheVariants.{Refused};
-ghost use Rattle.be_value.specs.declared.refusals.Refusal.TheVariants.{OutOfMemory};
 
 use be_store::Refusal;
 use std::alloc::{AllocError, AllocFailed};

@@ -1,8 +1,7 @@
 //! Predicates in reverse Polish order as other languages spell them.
 ghost use Rattle.std.specs.Prelude.{◌≡◌, ◌<◌, ℕ, List, IfOk, IfErr, map};
 ghost use Rattle.be_query.specs.Rpn.{item_of};
-ghost use Rattle.be_session.specs.Items.{AreItemsMeant, AreItemsMisspelt, IsBuilt, IsItemMeant, IsItemMisspelt, IsNoItem, IsUnbuilt};
-ghost use Rattle.be_session.specs.Items.{item_told};
+ghost use Rattle.be_session.specs.Items.{AreItemsMeant, AreItemsMisspelt, IsBuilt, IsItemMeant, IsItemMisspelt, IsNoItem, IsUnbuilt, item_told};
 ghost use Rattle.be_session.specs.Operations.{part};
 ghost use Rattle.be_session.specs.declared.faults.Fault.TheVariants.{NoItem};
 

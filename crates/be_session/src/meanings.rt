@@ -1,12 +1,12 @@
 //! Operations and values as other languages spell them: numbers and bytes.
-ghost use Rattle.std.specs.Prelude.{◌≡◌, ◌≢◌, ◌<◌, ◌^◌, Ok, IfOk, IfErr, IfSome, IfNone, IsUtf8};
 ghost use Rattle.std.specs.Int.{cast_signed, w32, w64};
 ghost use Rattle.std.specs.Int.RustNames.{FitsSigned};
-ghost use Rattle.be_session.specs.Meaning.{HasNoMore, IsMeant, IsValueMeant, IsNoName, IsNoOperation, IsNoValue};
-ghost use Rattle.be_session.specs.declared.faults.Fault.TheVariants.{NotUtf8, NoKind, NoValue};
+ghost use Rattle.std.specs.Prelude.{◌≡◌, ◌≢◌, ◌<◌, ◌^◌, Ok, IfOk, IfErr, IfSome, IfNone, IsUtf8};
 ghost use Rattle.be_value.specs.Name.{name_from};
 ghost use Rattle.be_value.specs.Value.{code_of};
 ghost use Rattle.be_value.specs.declared.values.Kind.{Kind as AnyKind};
+ghost use Rattle.be_session.specs.Meaning.{HasNoMore, IsMeant, IsValueMeant, IsNoName, IsNoOperation, IsNoValue};
+ghost use Rattle.be_session.specs.declared.faults.Fault.TheVariants.{NotUtf8, NoKind, NoValue};
 
 use crate::Fault;
 use be_store::{Kind, Name, Op, Value};

@@ -1,8 +1,8 @@
 //! Passes of a store that nobody has used yet: the first ones by their numbers, in that order.
 ghost use Rattle.std.specs.Prelude.{◌≡◌, ◌<◌, ◌+◌, ◌↔◌, IfSome, IsSome, MatchOption, vec_capacity, vec_len};
-ghost use Rattle.be_store.specs.Passes.{IsPassOf};
 ghost use Rattle.be_table.specs.Rule.{newcomer};
 ghost use Rattle.be_table.specs.Works.{AreNew};
+ghost use Rattle.be_store.specs.Passes.{IsPassOf};
 
 use be_store::{Pass, Store};
 

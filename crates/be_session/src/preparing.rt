@@ -1,13 +1,13 @@
 //! Queries that are parsed once and kept, to be asked again.
 ghost use Rattle.std.specs.Prelude.{◌≡◌, ℕ, IfOk, IfErr};
 ghost use Rattle.be_query.specs.Grammar.{Formula, IsTextOf};
+ghost use Rattle.be_volume.specs.Query.{scan};
+ghost use Rattle.be_table.specs.Seats.{pinned_number};
+ghost use Rattle.be_store.specs.Live.{Refreshes};
+ghost use Rattle.be_store.specs.Passes.{HasRead, IsPinnedTo, volume_pinned};
 ghost use Rattle.be_session.specs.Items.{IsBuilt, IsUnbuilt};
 ghost use Rattle.be_session.specs.Prepared.{IsUnasked};
 ghost use Rattle.be_session.specs.Sitting.{AtPin, IsNoQuery, IsUnrefreshed, ReadAnswers};
-ghost use Rattle.be_store.specs.Live.{Refreshes};
-ghost use Rattle.be_store.specs.Passes.{HasRead, IsPinnedTo, volume_pinned};
-ghost use Rattle.be_table.specs.Seats.{pinned_number};
-ghost use Rattle.be_volume.specs.Query.{scan};
 
 use crate::session::{Session, query_of};
 use crate::{Fault, ListFault, PredicateItem, query_of_items};

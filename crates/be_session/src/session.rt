@@ -1,26 +1,25 @@
 //! A pass with its share of the store, and its calls.
 ghost use Rattle.std.specs.Prelude.{◌≡◌, ◌⊎◌, ◌≤◌, ◌+◌, ℕ, [], None, Ok, IfOk, IfErr, OnErr, OnOk, is_some, length, string_bytes, vec_len};
-ghost use Rattle.be_session.specs.Explained.{explanation_in};
-ghost use Rattle.be_session.specs.States.{untold, waiting};
-ghost use Rattle.be_session.specs.Sitting.{AtPin, HasMet, IsHandedOut, IsPinned, IsUnwritten, IsUnwrittenAtLast, IsNoQuery};
-ghost use Rattle.be_session.specs.Sitting.{IsOpened, IsUnpinnedAt, IsUnrefreshed, ReadAnswers};
-ghost use Rattle.be_session.specs.declared.faults.Fault.TheVariants.{AlreadyPinned, NoPass, NotPinned, Refused};
+ghost use Rattle.be_value.specs.declared.refusals.Refusal.{Refusal as AnyRefusal};
+ghost use Rattle.be_value.specs.declared.refusals.Refusal.TheVariants.{OutOfMemory};
+ghost use Rattle.be_query.specs.Grammar.{IsTextOf};
+ghost use Rattle.be_volume.specs.Query.{scan};
+ghost use Rattle.be_volume.specs.Reading.{attribute, attributes_at, index_kinds};
 ghost use Rattle.be_journal.specs.Journal.{IsLegal};
 ghost use Rattle.be_paged.specs.Nodes.{nodes_from};
-ghost use Rattle.be_query.specs.Grammar.{IsTextOf};
-ghost use Rattle.be_store.specs.History.{Accepts, IsUntold, Learns, Pins, text_seen};
-ghost use Rattle.be_store.specs.Live.{Refreshes};
-ghost use Rattle.be_store.specs.Passes.{HasRead, IsPassOf, IsPinnedTo, volume_pinned};
-ghost use Rattle.be_store.specs.Statuses.{TellsStatus};
 ghost use Rattle.be_table.specs.Rule.{IsWithin, entries, newcomer};
 ghost use Rattle.be_table.specs.Seats.{pinned_number};
 ghost use Rattle.be_table.specs.Steps.{unpins};
 ghost use Rattle.be_table.specs.Trace.{with_history};
 ghost use Rattle.be_table.specs.Works.{AreNew, FoundHeld, IsOpenRefused};
-ghost use Rattle.be_value.specs.declared.refusals.Refusal.{Refusal as AnyRefusal};
-ghost use Rattle.be_value.specs.declared.refusals.Refusal.TheVariants.{OutOfMemory};
-ghost use Rattle.be_volume.specs.Query.{scan};
-ghost use Rattle.be_volume.specs.Reading.{attribute, attributes_at, index_kinds};
+ghost use Rattle.be_store.specs.History.{Accepts, IsUntold, Learns, Pins, text_seen};
+ghost use Rattle.be_store.specs.Live.{Refreshes};
+ghost use Rattle.be_store.specs.Passes.{HasRead, IsPassOf, IsPinnedTo, volume_pinned};
+ghost use Rattle.be_store.specs.Statuses.{TellsStatus};
+ghost use Rattle.be_session.specs.Explained.{explanation_in};
+ghost use Rattle.be_session.specs.Sitting.{AtPin, HasMet, IsHandedOut, IsPinned, IsUnwritten, IsUnwrittenAtLast, IsNoQuery, IsOpened, IsUnpinnedAt, IsUnrefreshed, ReadAnswers};
+ghost use Rattle.be_session.specs.States.{untold, waiting};
+ghost use Rattle.be_session.specs.declared.faults.Fault.TheVariants.{AlreadyPinned, NoPass, NotPinned, Refused};
 
 use crate::explaining::cover_text;
 use crate::passes::{put_last, take_last};
@@ -50,8 +49,8 @@ impl Model for Session {
     ghost Value = { Sitting };
 
     ghost use Rattle.std.specs.Prelude.{vec_len};
-    ghost use Rattle.be_store.specs.Passes.{IsPassOf};
     ghost use Rattle.be_table.specs.Works.{AreNew};
+    ghost use Rattle.be_store.specs.Passes.{IsPassOf};
 
     ghost view = { λ s. record { store = s.shared.value; knows = s.pass.knows; spare = vec_len s.spare } };
 

@@ -1,8 +1,8 @@
 //! What the sessions of a store share: the store, and the passes that were given back.
 ghost use Rattle.std.specs.Prelude.{◌≡◌, ◌≤◌, ◌<◌, IfOk, IfSome, vec_len};
-ghost use Rattle.be_session.specs.Sitting.{AreAllSeats, IsUnpinnedOf, MayWaitAt};
-ghost use Rattle.be_store.specs.Passes.{IsPassOf};
 ghost use Rattle.be_table.specs.Works.{AreNew};
+ghost use Rattle.be_store.specs.Passes.{IsPassOf};
+ghost use Rattle.be_session.specs.Sitting.{AreAllSeats, IsUnpinnedOf, MayWaitAt};
 
 use crate::passes::take_last;
 use be_store::laws::seen_is_legal;
@@ -79,8 +79,8 @@ pub(crate) struct Shared {
 }
 
 impl Model for Shared {
-    ghost use Rattle.be_session.specs.Sitting.{AreAllSeats};
     ghost use Rattle.be_table.specs.Place.{Opened};
+    ghost use Rattle.be_session.specs.Sitting.{AreAllSeats};
 
     ghost Value = { Opened };
 

@@ -1,8 +1,8 @@
 //! Attributes, indices and operations as other languages are told of them: as operations, with the bytes that their parts are in.
 ghost use Rattle.std.specs.Prelude.{◌≡◌, ◌++◌, IfOk, IfErr, length, map};
+ghost use Rattle.be_value.specs.declared.refusals.Refusal.TheVariants.{OutOfMemory};
 ghost use Rattle.be_session.specs.Operations.{AreSpelled, IsMeantBy, ArePartsWithin, both_parts, makes, sets};
 ghost use Rattle.be_session.specs.declared.faults.Fault.TheVariants.{Refused};
-ghost use Rattle.be_value.specs.declared.refusals.Refusal.TheVariants.{OutOfMemory};
 
 use crate::meanings::operation_spelled;
 use crate::{Fault, Operation, spelled};

@@ -18,12 +18,12 @@ pub struct StatePlace {
 
 impl StatePlace {
     ghost use Rattle.std.specs.Prelude.{◌≡◌, IfOk, IfErr};
+    ghost use Rattle.be_value.specs.declared.refusals.Refusal.TheVariants.{OutOfMemory};
+    ghost use Rattle.be_volume.specs.Volume.{State};
+    ghost use Rattle.be_state.specs.Rebuilding.{state_ops};
     ghost use Rattle.be_session.specs.Operations.{AreSpelled};
     ghost use Rattle.be_session.specs.States.{WaitBehind, unread, untold, waiting};
     ghost use Rattle.be_session.specs.declared.faults.Fault.TheVariants.{Refused};
-    ghost use Rattle.be_state.specs.Rebuilding.{state_ops};
-    ghost use Rattle.be_value.specs.declared.refusals.Refusal.TheVariants.{OutOfMemory};
-    ghost use Rattle.be_volume.specs.Volume.{State};
 
     /// Before the first operation. No memory is taken.
     pub fn new(alloc: Global) -> StatePlace

@@ -1,7 +1,7 @@
 //! A plain volume, read whole.
-ghost use Rattle.std.specs.Prelude.{◌≡◌, IfOk};
 ghost use Rattle.std.specs.FinMap as map;
 ghost use Rattle.std.specs.Option.{option_map};
+ghost use Rattle.std.specs.Prelude.{◌≡◌, IfOk};
 ghost use Rattle.be_volume.specs.Reading.{index_kinds};
 ghost use Rattle.be_state.specs.Rebuilding.{is_held};
 

@@ -2,9 +2,9 @@
 //!
 //! A whole is read by four calls, and each may change the reader itself, as a cursor moves. `kept` names what no call changes,
 //! and `answers_for` says by a relation which volume it reads: a reader of pages spells a volume but can't compute it.
-ghost use Rattle.std.specs.Prelude.{◌≡◌, IfOk};
 ghost use Rattle.std.specs.FinMap as map;
 ghost use Rattle.std.specs.Option.{option_map};
+ghost use Rattle.std.specs.Prelude.{◌≡◌, IfOk};
 ghost use Rattle.be_volume.specs.Reading.{index_kinds};
 ghost use Rattle.be_volume.specs.Volume.{State};
 ghost use Rattle.be_state.specs.Rebuilding.{is_held};

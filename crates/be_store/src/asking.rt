@@ -1,13 +1,13 @@
 //! Queries on a version, over any reader of its pages.
-ghost use Rattle.std.specs.Prelude.{◌≡◌, ◌⊎◌, true, false, IfOk, IfErr};
 ghost use Rattle.std.specs.List.Sorted.{IsStrictlyIncreasing};
-ghost use Rattle.be_paged.specs.Version.{IsVersion};
-ghost use Rattle.be_plan.specs.Cover.{chosen, covers};
-ghost use Rattle.be_plan.specs.Explain.{are_places};
+ghost use Rattle.std.specs.Prelude.{◌≡◌, ◌⊎◌, true, false, IfOk, IfErr};
 ghost use Rattle.be_value.specs.Refusal.{Answers};
 ghost use Rattle.be_value.specs.declared.refusals.Refusal.TheVariants.{OutOfMemory, NotCovered};
 ghost use Rattle.be_volume.specs.Query.{scan, has_index, covered};
 ghost use Rattle.be_volume.specs.Volume.{State};
+ghost use Rattle.be_plan.specs.Cover.{chosen, covers};
+ghost use Rattle.be_plan.specs.Explain.{are_places};
+ghost use Rattle.be_paged.specs.Version.{IsVersion};
 
 use be_paged::source;
 use be_pages::Look;

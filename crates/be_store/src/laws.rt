@@ -3,21 +3,21 @@
 //! Each law does nothing; its contract is the law, for the crates above. The laws of the only pass speak of what a pass
 //! knows before and after a call: `alone` says of a pass at hand that it is such.
 ghost use Rattle.std.specs.Prelude.{◌≡◌, ◌≤◌, ◌<◌, ℕ, List, IsOk, length};
-ghost use Rattle.be_journal.specs.Journal.{IsLegal, by_pass};
-ghost use Rattle.be_store.specs.Alone.{IsAlone, WritesNext};
-ghost use Rattle.be_store.specs.History.{Accepts, Learns, IsReason, IsRefusedAt, Pins as IsPin};
-ghost use Rattle.be_state.specs.Rebuilding.{state_ops};
-ghost use Rattle.be_store.specs.Passes.{IsPassOf, IsPinnedTo, volume_pinned, volume_seen};
-ghost use Rattle.be_table.specs.History.{AreOfPasses};
-ghost use Rattle.be_table.specs.Rule.{entries};
-ghost use Rattle.be_table.specs.Steps.{IsPass};
-ghost use Rattle.be_table.specs.Versions.{CanSpellEach};
-ghost use Rattle.be_table.specs.declared.pass.Knowledge.{Knowledge};
 ghost use Rattle.be_value.specs.declared.refusals.Refusal.{Refusal};
 ghost use Rattle.be_volume.specs.Ahead.{state_after};
 ghost use Rattle.be_volume.specs.Volume.{empty, steps};
 ghost use Rattle.be_volume.specs.declared.ops.Done.{Done};
 ghost use Rattle.be_volume.specs.declared.ops.Op.{Op};
+ghost use Rattle.be_journal.specs.Journal.{IsLegal, by_pass};
+ghost use Rattle.be_state.specs.Rebuilding.{state_ops};
+ghost use Rattle.be_table.specs.History.{AreOfPasses};
+ghost use Rattle.be_table.specs.Rule.{entries};
+ghost use Rattle.be_table.specs.Steps.{IsPass};
+ghost use Rattle.be_table.specs.Versions.{CanSpellEach};
+ghost use Rattle.be_table.specs.declared.pass.Knowledge.{Knowledge};
+ghost use Rattle.be_store.specs.Alone.{IsAlone, WritesNext};
+ghost use Rattle.be_store.specs.History.{Accepts, Learns, IsReason, IsRefusedAt, Pins as IsPin};
+ghost use Rattle.be_store.specs.Passes.{IsPassOf, IsPinnedTo, volume_pinned, volume_seen};
 
 use crate::{Pass, Store};
 use be_journal::replay_push;

@@ -2,23 +2,23 @@
 //!
 //! A pin that is forgotten holds its version's pages for as long as the store lives. So a program that leaves a function by
 //! `?` asks through a `Pinned`, which unpins when it goes.
-ghost use Rattle.std.specs.Prelude.{◌≡◌, ◌⊎◌, ◌<◌, ◌≤◌, ◌++◌, ℕ, true, false, [], None, Ok, Err, IsOk, IfOk, IfErr, IfNone, IfSome, length};
 ghost use Rattle.std.specs.List.Sorted.{IsStrictlyIncreasing};
-ghost use Rattle.be_store.specs.History.{Pins};
-ghost use Rattle.be_store.specs.Live.{Refreshes};
-ghost use Rattle.be_store.specs.Passes.{IsBetweenCalls, IsBetweenCalls-prop, IsPassOf, IsPinnedTo, HasRead, volume_pinned};
-ghost use Rattle.be_table.specs.Works.{IsSeatOf};
-ghost use Rattle.be_table.specs.Seats.{pinned_number};
-ghost use Rattle.be_table.specs.Steps.{unpins};
-ghost use Rattle.be_table.specs.Trace.{with_history};
-ghost use Rattle.be_paged.specs.Nodes.{nodes_from};
-ghost use Rattle.be_plan.specs.Cover.{chosen, covers};
-ghost use Rattle.be_plan.specs.Explain.{are_places};
-ghost use Rattle.be_state.specs.Places.{given, left};
+ghost use Rattle.std.specs.Prelude.{◌≡◌, ◌⊎◌, ◌<◌, ◌≤◌, ◌++◌, ℕ, true, false, [], None, Ok, Err, IsOk, IfOk, IfErr, IfNone, IfSome, length};
 ghost use Rattle.be_value.specs.Refusal.{Answers};
 ghost use Rattle.be_value.specs.declared.refusals.Refusal.TheVariants.{OutOfMemory, NotCovered};
 ghost use Rattle.be_volume.specs.Query.{scan, has_index, covered};
 ghost use Rattle.be_volume.specs.Reading.{attribute, attributes_at, index_kinds};
+ghost use Rattle.be_state.specs.Places.{given, left};
+ghost use Rattle.be_plan.specs.Cover.{chosen, covers};
+ghost use Rattle.be_plan.specs.Explain.{are_places};
+ghost use Rattle.be_paged.specs.Nodes.{nodes_from};
+ghost use Rattle.be_table.specs.Seats.{pinned_number};
+ghost use Rattle.be_table.specs.Steps.{unpins};
+ghost use Rattle.be_table.specs.Trace.{with_history};
+ghost use Rattle.be_table.specs.Works.{IsSeatOf};
+ghost use Rattle.be_store.specs.History.{Pins};
+ghost use Rattle.be_store.specs.Live.{Refreshes};
+ghost use Rattle.be_store.specs.Passes.{IsBetweenCalls, IsBetweenCalls-prop, IsPassOf, IsPinnedTo, HasRead, volume_pinned};
 
 use crate::answers::{Answer, Updates};
 use crate::{Live, Pass, Store};

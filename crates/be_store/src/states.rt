@@ -1,8 +1,8 @@
 //! The operations that make a version again, over any reader of its pages.
 ghost use Rattle.std.specs.Prelude.{◌≡◌, ◌<◌, ◌≤◌, ◌++◌, [], IfNone, IfOk, IfSome, length};
-ghost use Rattle.be_paged.specs.Version.{IsVersion};
-ghost use Rattle.be_state.specs.Places.{given, left};
 ghost use Rattle.be_volume.specs.Volume.{State};
+ghost use Rattle.be_state.specs.Places.{given, left};
+ghost use Rattle.be_paged.specs.Version.{IsVersion};
 
 use be_paged::whole;
 use be_pages::Look;

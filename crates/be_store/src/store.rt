@@ -1,7 +1,7 @@
 //! The store, and the calls of its passes.
 ghost use Rattle.std.specs.Prelude.{◌≡◌, ◌⊎◌, ◌≤◌, ◌<◌, ◌++◌, ℕ, true, false, [], ◌∷◌, None, Some, Ok, MatchResult, IsOk, IfOk, IfErr, IfNone, IfSome, OnErr, length, map, string_bytes};
-ghost use Rattle.be_store.specs.Passes.{IsPassOf, IsPinnedTo, HasRead, volume_pinned};
 ghost use Rattle.be_store.specs.History.{Accepts, Learns, IsReason, IsLastReason, IsUntold, Pins, text_seen};
+ghost use Rattle.be_store.specs.Passes.{IsPassOf, IsPinnedTo, HasRead, volume_pinned};
 
 use crate::answers::Answer;
 use crate::asking::{ask, choose_at};
@@ -36,29 +36,29 @@ impl Model for Store {
 }
 
 impl Store {
-    ghost use Rattle.std.specs.Prelude.{All};
-    ghost use Rattle.be_store.specs.Calls.{HasWrites, ReadsFronts};
-    ghost use Rattle.be_store.specs.Statuses.{TellsStatus};
     ghost use Rattle.std.specs.List.Sorted.{IsStrictlyIncreasing};
+    ghost use Rattle.std.specs.Prelude.{All};
+    ghost use Rattle.be_value.specs.Refusal.{Answers};
+    ghost use Rattle.be_value.specs.declared.refusals.Refusal.TheVariants.{OutOfMemory, NotCovered};
+    ghost use Rattle.be_volume.specs.Query.{scan, has_index, covered};
+    ghost use Rattle.be_volume.specs.Reading.{attribute, attributes_at, index_kinds};
     ghost use Rattle.be_journal.specs.Journal.{IsLegal};
-    ghost use Rattle.be_table.specs.History.{StartsWith, AreOfPasses};
+    ghost use Rattle.be_state.specs.Places.{given, left};
+    ghost use Rattle.be_plan.specs.Cover.{chosen, covers};
+    ghost use Rattle.be_plan.specs.Explain.{are_places};
     ghost use Rattle.be_paged.specs.Nodes.{nodes_from};
     ghost use Rattle.be_paged.specs.Version.{IsVersion};
+    ghost use Rattle.be_table.specs.History.{StartsWith, AreOfPasses};
     ghost use Rattle.be_table.specs.Reading.{pinned_standing, word_of_page};
     ghost use Rattle.be_table.specs.Rule.{IsWithin};
     ghost use Rattle.be_table.specs.Seats.{pinned_number};
     ghost use Rattle.be_table.specs.Steps.{Has, KeepsSeen, longer, met, unpins};
-    ghost use Rattle.be_table.specs.Versions.{CanSpellEach};
     ghost use Rattle.be_table.specs.Trace.{with_history};
-    ghost use Rattle.be_table.specs.declared.pass.Move.TheVariants as moves;
+    ghost use Rattle.be_table.specs.Versions.{CanSpellEach};
     ghost use Rattle.be_table.specs.Works.{AllAt, AreNew, FoundHeld, IsOpenRefused, Moves, knows_of};
-    ghost use Rattle.be_value.specs.Refusal.{Answers};
-    ghost use Rattle.be_plan.specs.Cover.{chosen, covers};
-    ghost use Rattle.be_plan.specs.Explain.{are_places};
-    ghost use Rattle.be_value.specs.declared.refusals.Refusal.TheVariants.{OutOfMemory, NotCovered};
-    ghost use Rattle.be_volume.specs.Query.{scan, has_index, covered};
-    ghost use Rattle.be_state.specs.Places.{given, left};
-    ghost use Rattle.be_volume.specs.Reading.{attribute, attributes_at, index_kinds};
+    ghost use Rattle.be_table.specs.declared.pass.Move.TheVariants as moves;
+    ghost use Rattle.be_store.specs.Calls.{HasWrites, ReadsFronts};
+    ghost use Rattle.be_store.specs.Statuses.{TellsStatus};
 
     /// A store with an empty journal, and its passes in the order of their numbers, which have seen nothing.
     ///

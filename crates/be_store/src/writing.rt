@@ -1,13 +1,13 @@
 //! One write, while the lock is held.
 ghost use Rattle.std.specs.Prelude.{◌≡◌, [], ◌+◌, ◌^◌, ◌<◌, ◌≤◌, IfOk, IfErr, false, length};
+ghost use Rattle.be_volume.specs.Volume.{State};
 ghost use Rattle.be_paged.specs.Changes.{Applies, IsRefusedList};
 ghost use Rattle.be_paged.specs.Version.{IsVersion};
-ghost use Rattle.be_store.specs.Writing.{Begins, HasRoomAtFull, ScansEarly, Writes};
-ghost use Rattle.be_table.specs.declared.pass.Knowledge.{Knowledge};
 ghost use Rattle.be_table.specs.Place.{Work};
 ghost use Rattle.be_table.specs.Reading.{open_of, standing_among, standing_in_work, word_of_page, words_of};
 ghost use Rattle.be_table.specs.Works.{IsSpent, TakesLock};
-ghost use Rattle.be_volume.specs.Volume.{State};
+ghost use Rattle.be_table.specs.declared.pass.Knowledge.{Knowledge};
+ghost use Rattle.be_store.specs.Writing.{Begins, HasRoomAtFull, ScansEarly, Writes};
 
 use arrayvec::ArrayVec;
 use be_paged::apply_into;

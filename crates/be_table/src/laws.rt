@@ -6,13 +6,11 @@
 //! step; the state that the table shows before allows the event, and the one that it shows afterwards is the event's. A
 //! step whose word has no event leaves the machine as it was. The calls of the table are proved from the same lemmas.
 ghost use Rattle.std.specs.Prelude.{ℕ, List, Option};
+ghost use Rattle.be_table.specs.Laws.{GiveUpIsNoEvent, PublishIsItsEvent, UnlockIsItsEvent, CompareIsNoEvent, SplitIsNoEvent, JoinIsNoEvent, ArrivalIsNoEvent, EventsAreMoves, RunsAreSound, FrontsRun, LockIsItsEvent, ScanIsItsEvent, FillIsItsEvent, FoundFillIsItsEvent, OwnReadIsNoEvent, TakeIsNoEvent};
+ghost use Rattle.be_table.specs.Laws.{LookIsItsEvent, AnnounceIsItsEvent, LookAgainIsItsEvent, UnpinIsItsEvent, PinnedReadIsItsEvent};
 ghost use Rattle.be_table.specs.declared.ledger.Ledger.{Ledger};
 ghost use Rattle.be_table.specs.declared.limits.Limits.{Limits};
 ghost use Rattle.be_table.specs.declared.pass.Knowledge.{Knowledge};
-ghost use Rattle.be_table.specs.Laws.{LookIsItsEvent, AnnounceIsItsEvent, LookAgainIsItsEvent, UnpinIsItsEvent, PinnedReadIsItsEvent};
-ghost use Rattle.be_table.specs.Laws.{LockIsItsEvent, ScanIsItsEvent, FillIsItsEvent, FoundFillIsItsEvent, OwnReadIsNoEvent, TakeIsNoEvent};
-ghost use Rattle.be_table.specs.Laws.{GiveUpIsNoEvent, PublishIsItsEvent, UnlockIsItsEvent, CompareIsNoEvent, SplitIsNoEvent};
-ghost use Rattle.be_table.specs.Laws.{JoinIsNoEvent, ArrivalIsNoEvent, EventsAreMoves, RunsAreSound, FrontsRun};
 
 /// A load of the current number is Look.
 pub fn look()

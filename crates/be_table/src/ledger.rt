@@ -3,9 +3,9 @@
 //! Who holds the lock has the ledger in hand and changes it as plain data. It keeps no volume: the pages are the
 //! volume.
 ghost use Rattle.std.specs.Prelude.{◌≡◌, ◌≤◌, ℕ, count_by, map, length};
-ghost use Rattle.be_journal.specs.Journal.{Grows, extended, with_room};
 ghost use Rattle.be_pages.specs.PagePool.{places};
 ghost use Rattle.be_pages.specs.Place.{is_retired, retired_at, undone_place, swept_place, published_place};
+ghost use Rattle.be_journal.specs.Journal.{Grows, extended, with_room};
 
 use be_journal::Journal;
 use be_pages::PagePool;

@@ -71,9 +71,9 @@ impl<'a> PinnedLook<'a> {
 
 impl<'a> Look for PinnedLook<'a> {
     ghost use Rattle.std.specs.Prelude.{true};
-    ghost use Rattle.be_table.specs.declared.pass.Knowledge.{Knowledge};
     ghost use Rattle.be_table.specs.Place.{Opened};
     ghost use Rattle.be_table.specs.Reading.{steady, word_of_page, small_pin};
+    ghost use Rattle.be_table.specs.declared.pass.Knowledge.{Knowledge};
 
     ghost Kept = { Opened × Knowledge };
 

@@ -4,8 +4,7 @@
 //! its pass is the definition that its name carries.
 ghost use Rattle.std.specs.Prelude.{[]};
 ghost use Rattle.be_table.specs.Rule.{Shows, everyone, first_seat, other_seats, seats_together};
-ghost use Rattle.be_table.specs.Steps.{LookMoves, LockMoves, UnlockMoves, Compared, Arrived, AnnounceMoves, LookAgainMoves, UnpinMoves};
-ghost use Rattle.be_table.specs.Steps.{ScanMoves, PinnedRead, OwnRead, FillMoves, FoundFillMoves, PageTaken, GiveUpMoves, PublishMoves};
+ghost use Rattle.be_table.specs.Steps.{LookMoves, LockMoves, UnlockMoves, Compared, Arrived, AnnounceMoves, LookAgainMoves, UnpinMoves, ScanMoves, PinnedRead, OwnRead, FillMoves, FoundFillMoves, PageTaken, GiveUpMoves, PublishMoves};
 
 use crate::ledger::Ledger;
 use crate::limits::Limits;

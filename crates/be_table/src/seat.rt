@@ -5,8 +5,8 @@
 //! the journal the pass has seen, and its pin.
 ghost use Rattle.std.specs.Prelude.{◌≡◌, ℕ, ◌<◌, true, false, [], ◌∷◌, length, IsTrue};
 ghost use Rattle.be_core.specs.Machine.{has};
-ghost use Rattle.be_table.specs.Rule.{pass_of, page_at, reach_at};
 ghost use Rattle.be_core.specs.declared.event.Phase.TheVariants.{Pinned};
+ghost use Rattle.be_table.specs.Rule.{pass_of, page_at, reach_at};
 
 use crate::ledger::Ledger;
 use crate::marks::Marks;

@@ -59,19 +59,19 @@ impl Model for VersionTable {
 }
 
 impl VersionTable {
-    ghost use Rattle.be_table.specs.Works.{IsSeatOf, SeesMore, TakesLock, FoundHeld, PinsCurrent, Moves, AreNew, IsOpenRefused, AllAt, knows_of};
-    ghost use Rattle.be_table.specs.Steps.{announces, unpins, met, longer, Has, KeepsSeen};
+    ghost use Rattle.std.specs.Prelude.{[], ◌∷◌, take};
     ghost use Rattle.be_core.specs.declared.event.Phase.TheVariants.{Pinned};
+    ghost use Rattle.be_volume.specs.Volume.{empty};
     ghost use Rattle.be_journal.specs.Journal.{IsLegal, replay};
+    ghost use Rattle.be_paged.specs.Version.{IsVersion};
+    ghost use Rattle.be_table.specs.History.{StartsWith, AreOfPasses};
     ghost use Rattle.be_table.specs.Reading.{pinned_standing, word_of_page};
     ghost use Rattle.be_table.specs.Rule.{IsWithin, entries};
+    ghost use Rattle.be_table.specs.Steps.{announces, unpins, met, longer, Has, KeepsSeen};
     ghost use Rattle.be_table.specs.Trace.{with_history};
-    ghost use Rattle.be_table.specs.declared.pass.Move.TheVariants as moves;
-    ghost use Rattle.be_table.specs.History.{StartsWith, AreOfPasses};
-    ghost use Rattle.std.specs.Prelude.{[], ◌∷◌, take};
     ghost use Rattle.be_table.specs.Versions.{at_start, CanSpellEach};
-    ghost use Rattle.be_paged.specs.Version.{IsVersion};
-    ghost use Rattle.be_volume.specs.Volume.{empty};
+    ghost use Rattle.be_table.specs.Works.{IsSeatOf, SeesMore, TakesLock, FoundHeld, PinsCurrent, Moves, AreNew, IsOpenRefused, AllAt, knows_of};
+    ghost use Rattle.be_table.specs.declared.pass.Move.TheVariants as moves;
 
     /// A table with an empty journal, and the seats of its passes in the order of their numbers. Version 0 is the page
     /// `first`, which spells the empty volume, at page 0; the other pages are free.

@@ -3,20 +3,18 @@
 //! A write takes pages, fills them, gives pages up, and publishes. Until it publishes, nothing of it can be seen by
 //! others, and `unlock` undoes it. It is never let go of but by `unlock`, since it has no `Drop`: so the ledger always
 //! comes back.
-ghost use Rattle.std.specs.Prelude.{◌≡◌, ◌≤◌, All, suc, ◌+◌, ◌*◌, ◌^◌, ◌<◌, true, false, [], ◌∷◌, length, count_by, None, MatchResult, ℕ};
-ghost use Rattle.std.specs.Prelude.{map, slice_index, IsTrue, List, IfOk, IfErr, IfSome, IfNone, ◌≢◌, Ok, string_bytes};
-ghost use Rattle.be_volume.specs.Sound.{IsOperation};
-ghost use Rattle.be_pages.specs.declared.room.Standing.TheVariants.{Taken, Filled as Full};
-ghost use Rattle.be_table.specs.Reading.{standing_among};
+ghost use Rattle.std.specs.Prelude.{map, slice_index, IsTrue, List, IfOk, IfErr, IfSome, IfNone, ◌≢◌, Ok, string_bytes, ◌≡◌, ◌≤◌, All, suc, ◌+◌, ◌*◌, ◌^◌, ◌<◌, true, false, [], ◌∷◌, length, count_by, None, MatchResult, ℕ};
 ghost use Rattle.be_pages.specs.Place.{is_in_hand, is_held_page, is_retired, place_of, given_place};
+ghost use Rattle.be_pages.specs.declared.room.Standing.TheVariants.{Taken, Filled as Full};
+ghost use Rattle.be_volume.specs.Sound.{IsOperation};
+ghost use Rattle.be_table.specs.Reading.{standing_among};
 ghost use Rattle.be_table.specs.Rule.{Reaches, announce_word, pass_of, one_step_on, word_place, current_word};
+ghost use Rattle.be_table.specs.Statuses.{FindsOldest, LieAt, Tells};
+ghost use Rattle.be_table.specs.Steps.{AreFound, fill_moves, given_moves, given_of, scans_of, NoneRetiredLater, IsPass, IsFound, MayPublish, publishes, MayBeFilled, MayReadAnnouncement, IsPart, fills_word};
+ghost use Rattle.be_table.specs.Steps.{takes_page, gives_up, scans, scans_out, scans_all, least_found, IsLeastAnnounced, IsOwnLeast, UnreachedAreFree};
 ghost use Rattle.be_table.specs.Trace.{Makes, with_history};
 ghost use Rattle.be_table.specs.Works.{Moves};
-ghost use Rattle.be_table.specs.Statuses.{FindsOldest, LieAt, Tells};
-ghost use Rattle.be_table.specs.Steps.{AreFound, fill_moves, given_moves, given_of, scans_of};
 ghost use Rattle.be_table.specs.declared.pass.Move.TheVariants as moves;
-ghost use Rattle.be_table.specs.Steps.{NoneRetiredLater, IsPass, IsFound, MayPublish, publishes, MayBeFilled, MayReadAnnouncement, IsPart, fills_word};
-ghost use Rattle.be_table.specs.Steps.{takes_page, gives_up, scans, scans_out, scans_all, least_found, IsLeastAnnounced, IsOwnLeast, UnreachedAreFree};
 
 use crate::ledger::Ledger;
 use crate::limits::Limits;
@@ -59,21 +57,20 @@ impl<'a> Model for Writing<'a> {
 }
 
 impl<'a> Writing<'a> {
-    ghost use Rattle.be_pages.specs.Refusal.{IsFullOf};
-    ghost use Rattle.be_table.specs.Works.{IsSeatOf, HasNoRoom, MakesScan, TakesPage, FindsNone};
-    ghost use Rattle.be_table.specs.Rule.{page_at, entries};
-    ghost use Rattle.be_table.specs.Steps.{entry_by};
-    ghost use Rattle.be_journal.specs.Journal.{Agrees, replay};
-    ghost use Rattle.be_journal.specs.Text.{lines_from};
     ghost use Rattle.be_value.specs.Refusal.{Answers};
-    ghost use Rattle.be_table.specs.Steps.{without_lock};
-    ghost use Rattle.be_table.specs.Seats.{pin_of};
-    ghost use Rattle.be_table.specs.Reading.{word_of_page};
     ghost use Rattle.be_core.specs.Machine.{bit};
     ghost use Rattle.be_pages.specs.Pages.{is_kept, times};
+    ghost use Rattle.be_pages.specs.Refusal.{IsFullOf};
+    ghost use Rattle.be_volume.specs.Ahead.{state_after};
+    ghost use Rattle.be_journal.specs.Journal.{Agrees, replay};
+    ghost use Rattle.be_journal.specs.Text.{lines_from};
     ghost use Rattle.be_paged.specs.Page.{reach};
     ghost use Rattle.be_paged.specs.Version.{IsVersion};
-    ghost use Rattle.be_volume.specs.Ahead.{state_after};
+    ghost use Rattle.be_table.specs.Reading.{word_of_page};
+    ghost use Rattle.be_table.specs.Rule.{page_at, entries};
+    ghost use Rattle.be_table.specs.Seats.{pin_of};
+    ghost use Rattle.be_table.specs.Steps.{entry_by, without_lock};
+    ghost use Rattle.be_table.specs.Works.{IsSeatOf, HasNoRoom, MakesScan, TakesPage, FindsNone};
 
     pub(crate) fn of(
         table: &'a VersionTable,

@@ -4,13 +4,13 @@
 //! then carried through those operations, so nothing is copied and no memory is taken. A list of n costs n steps a fact.
 //! The count of attributes would cost n looks for each of them, so it is made only for a new name, and where the old count
 //! and the sets of the node before it reach the limit together.
+ghost use Rattle.std.specs.FinMap as map;
 ghost use Rattle.std.specs.Prelude.{◌≡◌, ◌≤◌, ◌<◌, ◌+◌, ◌^◌, IsOk, false, length, nat_le};
 ghost use Rattle.std.specs.Result.{result_err};
-ghost use Rattle.std.specs.FinMap as map;
+ghost use Rattle.be_volume.specs.Ahead.{state_after, next_after, node_after, attribute_after, count_after, sets_after, index_after, indices_after, IsThere};
 ghost use Rattle.be_volume.specs.Maps.{attributes_of};
 ghost use Rattle.be_volume.specs.Volume.{State, step, steps};
 ghost use Rattle.be_volume.specs.declared.ops.Op.TheVariants as ops;
-ghost use Rattle.be_volume.specs.Ahead.{state_after, next_after, node_after, attribute_after, count_after, sets_after, index_after, indices_after, IsThere};
 
 use crate::{Facts, Op};
 use be_value::{Kind, Name, Refusal, Value};

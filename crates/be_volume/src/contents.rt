@@ -2,8 +2,8 @@
 //!
 //! Refusals are found ahead, so here each operation only does its work. Where memory is refused in its midst, what is left
 //! is not said: the caller keeps equal contents beside these, or lets the volume go.
-ghost use Rattle.std.specs.Prelude.{◌≡◌, ℕ, ◌<◌, ◌^◌, ◌+◌, IsOk, IfOk, Ok};
 ghost use Rattle.std.specs.FinMap as map;
+ghost use Rattle.std.specs.Prelude.{◌≡◌, ℕ, ◌<◌, ◌^◌, ◌+◌, IsOk, IfOk, Ok};
 ghost use Rattle.be_volume.specs.Maps.{attributes_of};
 ghost use Rattle.be_volume.specs.Volume as model;
 ghost use Rattle.be_volume.specs.Volume.{step};

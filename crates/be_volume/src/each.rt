@@ -1,7 +1,6 @@
 //! What is done to each index.
-ghost use Rattle.std.specs.Prelude.{◌≡◌};
-ghost use Rattle.std.specs.Prelude.{map};
 ghost use Rattle.std.specs.BTreeMap as tree;
+ghost use Rattle.std.specs.Prelude.{map, ◌≡◌};
 ghost use Rattle.be_volume.specs.Indices.{unpaired};
 ghost use Rattle.be_volume.specs.Maps.{name_cmp};
 

@@ -3,8 +3,8 @@
 //! Whether an operation is refused depends on a few facts about the volume: whether a node is there, how many attributes
 //! it has, which indices there are. A reader of these facts is all that is needed to refuse a list of operations before
 //! anything is changed, wherever the volume is kept.
-ghost use Rattle.std.specs.Prelude.{◌≡◌};
 ghost use Rattle.std.specs.FinMap as map;
+ghost use Rattle.std.specs.Prelude.{◌≡◌};
 ghost use Rattle.be_volume.specs.Maps.{attributes_of};
 ghost use Rattle.be_volume.specs.Volume.{State};
 

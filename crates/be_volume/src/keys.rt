@@ -2,13 +2,13 @@
 //!
 //! A walk through an index asks for the least key from some bytes on. The bytes may be of any length, while no key has
 //! more than 264: a text of 255, a zero byte and a node.
-ghost use Rattle.std.specs.Prelude.{◌≡◌, ◌≤◌, ◌<◌, ℕ, List, Some, IfSome, length, nat_eq, refl};
 ghost use Rattle.std.specs.BTreeMap.Range.{is_from_start};
-ghost use Rattle.std.specs.Ordering.{nat_cmp};
 ghost use Rattle.std.specs.Cmp.{partial_equiv_from_equiv};
 ghost use Rattle.std.specs.Cmp.Lexicographic.{pointwise, slice_cmp, nat_list_eq_equiv, nat_list_cmp_total, texts_po, texts_ties};
-ghost use Rattle.be_volume.specs.PairKeys.{is_at_or_after, own_key};
+ghost use Rattle.std.specs.Ordering.{nat_cmp};
+ghost use Rattle.std.specs.Prelude.{◌≡◌, ◌≤◌, ◌<◌, ℕ, List, Some, IfSome, length, nat_eq, refl};
 ghost use Rattle.be_volume.specs.Maps.{name_cmp};
+ghost use Rattle.be_volume.specs.PairKeys.{is_at_or_after, own_key};
 
 use arrayvec::ArrayVec;
 use be_value::{Value, key_of};

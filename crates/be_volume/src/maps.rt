@@ -1,12 +1,12 @@
 //! The maps that a volume keeps, each seen as a finite map.
 //!
 //! Each wrapper has one exact clause a call, so that above this file nothing speaks of the trees that the maps are kept in.
-ghost use Rattle.std.specs.Prelude.{◌≡◌, IsSome, IsOk, IfOk, OnOk, OnErr, IsTrue};
-ghost use Rattle.std.specs.Prelude.{map as each};
-ghost use Rattle.std.specs.Option.{option_copied};
-ghost use Rattle.std.specs.FinMap as map;
 ghost use Rattle.std.specs.BTreeMap as tree;
+ghost use Rattle.std.specs.FinMap as map;
+ghost use Rattle.std.specs.Option.{option_copied};
 ghost use Rattle.std.specs.Ordering.{nat_cmp};
+ghost use Rattle.std.specs.Prelude.{map as each};
+ghost use Rattle.std.specs.Prelude.{◌≡◌, IsSome, IsOk, IfOk, OnOk, OnErr, IsTrue};
 ghost use Rattle.be_volume.specs.Maps.{attributes_of, with_attribute, name_cmp};
 
 use crate::each::unpair_each;
@@ -23,8 +23,8 @@ pub struct Named<V> {
 }
 
 impl<V> Model for Named<V> {
-    ghost use Rattle.std.specs.FinMap as map;
     ghost use Rattle.std.specs.Coded.{coded_ℕ, coded_list};
+    ghost use Rattle.std.specs.FinMap as map;
     ghost use Rattle.be_volume.specs.Maps.{name_cmp};
 
     ghost Value = { map.FinMap name_cmp V };
@@ -199,9 +199,9 @@ fn kinds_in(alloc: Global, indices: &BTreeMap<Name, Index>) -> Result<Vec<(Name,
 pub type Indices = Named<Index>;
 
 impl Named<Index> {
-    ghost use Rattle.std.specs.Prelude.{◌≡◌, IfOk, OnOk};
-    ghost use Rattle.std.specs.Prelude.{map as each};
     ghost use Rattle.std.specs.FinMap as map;
+    ghost use Rattle.std.specs.Prelude.{map as each};
+    ghost use Rattle.std.specs.Prelude.{◌≡◌, IfOk, OnOk};
     ghost use Rattle.be_volume.specs.Indices.{with_pair, without_pair, without_node};
 
     /// The kinds of the indices, by ascending names.

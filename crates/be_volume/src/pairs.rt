@@ -3,9 +3,9 @@
 //! A node has one pair at most, so the pairs are kept by their nodes, and that is what a contract sees. Beside them
 //! stand their keys in the order of their bytes, so a walk through the index finds each next key in one search of a
 //! tree and looks at no other pair.
-ghost use Rattle.std.specs.Prelude.{◌≡◌, OnOk, true};
-ghost use Rattle.std.specs.Option.{option_copied, option_map};
 ghost use Rattle.std.specs.FinMap as map;
+ghost use Rattle.std.specs.Option.{option_copied, option_map};
+ghost use Rattle.std.specs.Prelude.{◌≡◌, OnOk, true};
 ghost use Rattle.be_volume.specs.PairKeys.{IsKeyOf, IsNext};
 
 use crate::keys::{IndexKey, start_of};
@@ -25,11 +25,11 @@ pub struct Pairs {
 
 impl Model for Pairs {
     ghost use Rattle.std.specs.BTreeSet.{contains};
-    ghost use Rattle.std.specs.Ordering.{nat_cmp};
     ghost use Rattle.std.specs.FinMap as map;
+    ghost use Rattle.std.specs.Ordering.{nat_cmp};
     ghost use Rattle.be_value.specs.declared.values.Value.{Value as AnyValue};
-    ghost use Rattle.be_volume.specs.PairKeys.{AreKeysOf};
     ghost use Rattle.be_volume.specs.Maps as maps;
+    ghost use Rattle.be_volume.specs.PairKeys.{AreKeysOf};
 
     ghost Value = { map.FinMap nat_cmp AnyValue };
 

@@ -3,8 +3,8 @@
 //! A comparison on a name that has an index sees what the index holds for a node, and else the node's attribute; of a
 //! node of which it sees nothing it is false, `!=` too. This is the definition, node by node; a plan that walks the
 //! indices has to give the same nodes.
-ghost use Rattle.std.specs.Prelude.{◌≡◌};
 ghost use Rattle.std.specs.Option.{option_copied};
+ghost use Rattle.std.specs.Prelude.{◌≡◌};
 ghost use Rattle.be_query.specs.View.{formula, literal as literal_of};
 ghost use Rattle.be_volume.specs.Query.{sees, sat, covered, holds, holds_of_text, holds_of_number, literal_number, is_true_of, is_true_of_match};
 

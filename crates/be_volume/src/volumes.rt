@@ -3,16 +3,16 @@
 //! A volume holds nodes, each with a number and typed attributes, and indices that are made and removed by name, as the
 //! attributes and indices of the Be File System (Giampaolo, "Practical File System Design"; the Be Book, `fs_attr.h` and
 //! `fs_index.h`). That a new index is empty and takes only attributes set after its making is this project's own choice.
-ghost use Rattle.std.specs.Prelude.{◌≡◌, ◌<◌, ◌≤◌, ◌^◌, ◌+◌, IsOk, IfOk, IfErr, IfSome, Ok, length, true};
 ghost use Rattle.std.specs.Option.{option_map};
-ghost use Rattle.be_volume.specs.Keys.{IsKey, IsNextKey};
-ghost use Rattle.be_volume.specs.Query.{scan};
-ghost use Rattle.be_volume.specs.Sound.{IsSound};
+ghost use Rattle.std.specs.Prelude.{◌≡◌, ◌<◌, ◌≤◌, ◌^◌, ◌+◌, IsOk, IfOk, IfErr, IfSome, Ok, length, true};
+ghost use Rattle.std.specs.Result.{result_err};
 ghost use Rattle.be_value.specs.Refusal.{Answers};
 ghost use Rattle.be_value.specs.declared.refusals.Refusal.TheVariants.{OutOfMemory};
-ghost use Rattle.std.specs.Result.{result_err};
-ghost use Rattle.be_volume.specs.Volume as model;
+ghost use Rattle.be_volume.specs.Keys.{IsKey, IsNextKey};
+ghost use Rattle.be_volume.specs.Query.{scan};
 ghost use Rattle.be_volume.specs.Reading.{attribute, attributes_at, index_kinds, index_kind};
+ghost use Rattle.be_volume.specs.Sound.{IsSound};
+ghost use Rattle.be_volume.specs.Volume as model;
 
 use crate::contents::{Contents, Standing};
 use crate::queries::{covers, satisfies};
