@@ -7,7 +7,7 @@ use be_journal::{Entry, entry_line, first_wrong};
 use std::alloc::{AllocError, Global};
 
 /// What the check of a text finds.
-#[derive(Drop)]
+#[derive(Debug, Drop, PartialEq, Eq)]
 pub enum Finding {
     /// The text tells no journal.
     NoJournal,

@@ -1,9 +1,9 @@
 //! Laws of the definitions. Each does nothing; its contract is the law.
 ghost use Rattle.std.specs.Prelude.{◌≡◌, ℕ, List, Ok};
+ghost use Rattle.be_volume.specs.declared.ops.Op.{Op as AnyOp};
 ghost use Rattle.be_journal.specs.Text.{lines_from, op_text};
 ghost use Rattle.be_journal.specs.declared.entries.Entry.{Entry as AnyEntry};
 ghost use Rattle.be_language.specs.Request.{asked, write};
-ghost use Rattle.be_volume.specs.declared.ops.Op.{Op as AnyOp};
 ghost use Rattle.be_history.specs.Finding.{TextTells};
 ghost use Rattle.be_history.specs.History.{CanBeJournal, CanBeOp};
 

@@ -2,12 +2,12 @@
 //!
 //! What is read here is right where the text is one that was printed, and else anything: an entry is printed again once it
 //! is read, and is taken only where that gives the line.
-ghost use Rattle.std.specs.Prelude.{◌≡◌, List, All, Some, IfOk, codes};
 ghost use Rattle.std.specs.List.{join_by};
 ghost use Rattle.std.specs.Option.{option_map};
-ghost use Rattle.be_journal.specs.Text.{op_text, done_text};
+ghost use Rattle.std.specs.Prelude.{◌≡◌, List, All, Some, IfOk, codes};
 ghost use Rattle.be_volume.specs.declared.ops.Done.{Done as AnyDone};
 ghost use Rattle.be_volume.specs.declared.ops.Op.{Op as AnyOp};
+ghost use Rattle.be_journal.specs.Text.{op_text, done_text};
 ghost use Rattle.be_history.specs.History as history;
 ghost use Rattle.be_history.specs.Parts as spec;
 

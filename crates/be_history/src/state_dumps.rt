@@ -2,8 +2,8 @@
 //!
 //! The journal is replayed on a plain volume, and the operations that make this volume are written list by list. Whatever
 //! the journal was, the script has no more writes than it.
-ghost use Rattle.std.specs.Prelude.{◌≡◌, ◌<◌, ◌++◌, [], All, IfOk, OnOk, length, true, false};
 ghost use Rattle.std.specs.Option.{option_map};
+ghost use Rattle.std.specs.Prelude.{◌≡◌, ◌<◌, ◌++◌, [], All, IfOk, OnOk, length, true, false};
 ghost use Rattle.std.specs.String.{string_bytes};
 ghost use Rattle.be_journal.specs.Journal as model;
 ghost use Rattle.be_state.specs.Places.{left};

@@ -2,8 +2,8 @@
 //!
 //! It is the end of what was printed: the line `journal N`, the journal's text, and `replay ok`. No line of a journal's text
 //! begins with a `j`, so the last line that does is where it begins.
-ghost use Rattle.std.specs.Prelude.{◌≡◌, ◌≢◌, ◌↔◌, ◌++◌, ℕ, true, List, Some, IfOk, IfSome, MatchOption, codes};
 ghost use Rattle.std.specs.Option.{option_map};
+ghost use Rattle.std.specs.Prelude.{◌≡◌, ◌≢◌, ◌↔◌, ◌++◌, ℕ, true, List, Some, IfOk, IfSome, MatchOption, codes};
 ghost use Rattle.be_journal.specs.Text.{result_text};
 ghost use Rattle.be_journal.specs.declared.entries.Entry.{Entry as AnyEntry};
 ghost use Rattle.be_history.specs.Finding as spec;

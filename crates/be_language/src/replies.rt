@@ -13,7 +13,7 @@ use be_volume::Done;
 use std::alloc::{AllocError, Global};
 
 /// The reply to a line.
-#[derive(Drop)]
+#[derive(Debug, Drop)]
 pub enum Reply {
     /// The line has no reply.
     Silent,

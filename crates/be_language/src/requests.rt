@@ -3,14 +3,14 @@
 //! A line is looked at in a fixed order: is it a text at all, has it a reply at all, then its command word and the words
 //! behind it. Whatever doesn't fit makes it a bad line. Names and values that fit and that no store takes leave their
 //! refusal in the request.
-ghost use Rattle.std.specs.Prelude.{◌≡◌, IfOk, string_bytes};
-ghost use Rattle.std.specs.Option.{option_map};
-ghost use Rattle.std.specs.Str.Lines.{strip_carriage_return};
 ghost use Rattle.std.specs.List.{list_all};
+ghost use Rattle.std.specs.Option.{option_map};
+ghost use Rattle.std.specs.Prelude.{◌≡◌, IfOk, string_bytes};
 ghost use Rattle.std.specs.Str.{chars};
+ghost use Rattle.std.specs.Str.Lines.{strip_carriage_return};
 ghost use Rattle.be_value.specs.Name.{name_from};
-ghost use Rattle.be_language.specs.Words.{is_blank};
 ghost use Rattle.be_language.specs.Request as spec;
+ghost use Rattle.be_language.specs.Words.{is_blank};
 
 use crate::commands::{Command, command_named};
 use crate::values::{kind_of, value_of};
@@ -21,7 +21,7 @@ use std::alloc::{AllocError, Global};
 use std::str;
 
 /// What a line asks for.
-#[derive(Drop)]
+#[derive(Debug, Drop)]
 pub enum Request {
     /// The line has no reply.
     Silent,

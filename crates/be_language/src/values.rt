@@ -2,8 +2,8 @@
 //!
 //! A word that spells no value of its kind makes a bad line. One that does may still be no value that a store takes (a
 //! text of more than 255 bytes): that is a refusal, which comes behind all causes of a bad line.
-ghost use Rattle.std.specs.Prelude.{◌≡◌, ◌<◌, IfOk, IfSome};
 ghost use Rattle.std.specs.Option.{option_map};
+ghost use Rattle.std.specs.Prelude.{◌≡◌, ◌<◌, IfOk, IfSome};
 ghost use Rattle.be_language.specs.Values as spec;
 
 use be_value::{Kind, Refusal, Value, number_of, word_of};

@@ -4,8 +4,8 @@
 //! to the next quote without a backslash, behind which a blank or the end has to stand; in it a backslash stands before
 //! `"`, `\`, `n` (LF) and `r` (CR) alone. Any other word is taken as it is. A word is handed out as the text that it
 //! stands for, so what reads numbers, names and values doesn't see how a word was written.
-ghost use Rattle.std.specs.Prelude.{◌≡◌, IfOk, position, take, drop};
 ghost use Rattle.std.specs.Option.{option_map};
+ghost use Rattle.std.specs.Prelude.{◌≡◌, IfOk, position, take, drop};
 ghost use Rattle.std.specs.String.{string_bytes};
 ghost use Rattle.be_language.specs.Words as spec;
 
