@@ -9,7 +9,6 @@ ghost use Rattle.be_paged.specs.Version.{IsVersion};
 
 use crate::asking::read_query;
 use crate::both::Both;
-use crate::counted_room::CountedRoom;
 use crate::lines::request_of;
 use crate::sizes::{accepted, numbered};
 use crate::tests::run_lines;
@@ -19,7 +18,7 @@ use be_paged::{apply_into, get, source};
 use be_pages::{Look, Room};
 use be_plan::answer;
 use be_query::Query;
-use be_testing::{Counting, Storing, list_of};
+use be_testing::{Counted, list_of};
 use be_value::{Name, Refusal, Value, word_of};
 use be_volume::{Op, Volume};
 use std::alloc::{AllocError, Global};
@@ -70,10 +69,7 @@ fn count_get(both: Both, node: u64, name: &Name) -> Cost {
         room,
         page,
     } = both;
-    let mut look = Counting {
-        look: room,
-        reads: 0,
-    };
+    let mut look = Counted::new(room);
     let value = get(&mut look, page, node, name);
     Cost::Read {
         found: value.is_some() as u64,
@@ -101,11 +97,7 @@ fn answer_pages<L: Look>(
 /// What a query costs, or its refusal.
 fn count_query(alloc: Global, both: Both, query: &Query) -> Result<Cost, Refusal> {
     let Both { plain, room, page } = both;
-    let look = Counting {
-        look: room,
-        reads: 0,
-    };
-    let (look, nodes) = answer_pages(alloc, &plain, look, page, query);
+    let (look, nodes) = answer_pages(alloc, &plain, Counted::new(room), page, query);
     let found = nodes?.len() as u64;
     Ok(Cost::Read {
         found,
@@ -147,14 +139,10 @@ fn count_write(both: Both, ops: &[Op]) -> Result<Cost, Fail> {
     if ops.is_empty() || ops.len() > 64 || plain.next() > u64::MAX - 65 {
         return Err(Fail::new("no list, or no node number is left"));
     }
-    let mut room = CountedRoom {
-        room: Storing { room, stores: 0 },
-        reads: 0,
-        takes: 0,
-    };
+    let mut room = Counted::new(room);
     apply_counted(&plain, &mut room, page, ops)?;
     Ok(Cost::Write {
-        stores: room.room.stores,
+        stores: room.stores,
         takes: room.takes,
         reads: room.reads,
     })

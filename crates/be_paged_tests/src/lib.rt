@@ -8,8 +8,6 @@ mod both;
 #[cfg(test)]
 mod costs;
 #[cfg(test)]
-mod counted_room;
-#[cfg(test)]
 mod lines;
 #[cfg(test)]
 mod look_tests;

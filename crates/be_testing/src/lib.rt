@@ -1,23 +1,21 @@
 //! What the tests of several crates share: worked examples as texts, the loop that goes over their lines, the texts of
-//! replies, a reader and a writer of pages that count, a writer of bytes that fails, and a list with room for bytes.
+//! replies, pages that count what is asked of them, a writer of bytes that fails, and a list with room for bytes.
 //!
 //! It stands here once, and is proved once. A test looks at what comes, and needs no contract, so most has none.
 #![tactic(auto)]
 
-mod counting;
+mod counted;
 mod examples;
 mod lines;
 mod long_lists;
 mod replies;
 mod stores;
-mod storing;
 mod writers;
 
-pub use counting::Counting;
+pub use counted::Counted;
 pub use examples::{COVERAGE, EQUAL_VALUES, EXAMPLES, LISTS, TEXTS, TWO_INDICES};
 pub use lines::{Answers, behind, check_lines};
 pub use long_lists::longest_list;
 pub use replies::{done_lines, list_of, reply_lines};
 pub use stores::{OUTSIDE_LIMITS, has_hundred_by_each, is_legal, numbered, pair_of};
-pub use storing::Storing;
 pub use writers::{Narrow, list_with_room};

@@ -5,7 +5,7 @@ ghost use Rattle.be_pages.specs.Pages.{IsUnchanged};
 ghost use Rattle.be_tree.specs.Tree.{IsTree};
 
 use be_pages::{Look, Room, VecRoom};
-use be_testing::Counting;
+use be_testing::Counted;
 use be_tree::{Cursor, clear, find, has_key, insert, range};
 use be_value::Refusal;
 use std::alloc::Global;
@@ -90,10 +90,7 @@ fn steps<L: Look>(look: &mut L, root: u64, count: u64) -> bool
 fn counting_look(rt: HostRuntime) -> Result<(), Fail> {
     let mut room = room_of(rt.alloc(), 64)?;
     let root = filled(&mut room, 100)?;
-    let mut look = Counting {
-        look: room,
-        reads: 0,
-    };
+    let mut look = Counted::new(room);
     assert!(rt; finds(&mut look, root, 100));
     let found = look.reads;
     assert!(rt; found < 201 * 50);
@@ -102,7 +99,7 @@ fn counting_look(rt: HostRuntime) -> Result<(), Fail> {
     assert!(rt; ranged < found + 101 * 50);
     assert!(rt; steps(&mut look, root, 100));
     assert!(rt; look.reads < ranged + 101 * 8);
-    let mut room = look.look;
+    let mut room = look.pages;
     clear(&mut room, root);
     assert_eq!(rt; room.free(), 64);
     Ok(())

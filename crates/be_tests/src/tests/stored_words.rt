@@ -7,7 +7,7 @@ use super::counting_look::room_of;
 use super::lines::{first_number, replies};
 use super::tree::put_number;
 use be_pages::{Look, Room, VecRoom};
-use be_testing::Storing;
+use be_testing::Counted;
 use be_tree::{insert, remove};
 use be_value::Refusal;
 use std::alloc::Global;
@@ -107,7 +107,7 @@ pub(crate) fn stored_by(alloc: Global, line: &str) -> Result<String, Refusal> {
     let (step, _) = first_number(steps);
     let mut room = room_of(alloc, 256)?;
     let root = put_keys(&mut room)?;
-    let mut room = Storing { room, stores: 0 };
+    let mut room = Counted::new(room);
     let _root = change(&mut room, root, kind, count, step)?;
     let stores = room.stores;
     Ok(format!(in alloc; "{stores}")?)
