@@ -7,7 +7,7 @@
 ghost use Rattle.std.specs.FinMap as map;
 ghost use Rattle.std.specs.Prelude.{◌≡◌, ◌≤◌, ◌<◌, ◌+◌, ◌^◌, IsOk, false, length, nat_le};
 ghost use Rattle.std.specs.Result.{result_err};
-ghost use Rattle.be_volume.specs.Ahead.{state_after, next_after, node_after, attribute_after, count_after, sets_after, index_after, indices_after, IsThere};
+ghost use Rattle.be_volume.specs.Ahead.{AreDone, StillAnswers, state_after, next_after, node_after, attribute_after, count_after, sets_after, index_after, indices_after, IsThere};
 ghost use Rattle.be_volume.specs.Maps.{attributes_of};
 ghost use Rattle.be_volume.specs.Volume.{State, step, steps};
 ghost use Rattle.be_volume.specs.declared.ops.Op.TheVariants as ops;
@@ -43,11 +43,9 @@ pub fn first_refusal<F: Facts>(facts: &mut F, ops: &[Op]) -> Option<Refusal>
 fn refusal_after<F: Facts>(facts: &mut F, before: &[Op], op: &Op) -> Option<Refusal>
     ghost volume: { State }
     requires answers { F.answers_for facts.old volume }
-    requires accepted { IsOk (steps volume before.now) }
-    requires fits { volume.next + length before.now < 2 ^ 64 }
+    requires before { AreDone volume before.now }
     ensures answer { result ≡ result_err (step (state_after volume before.now) op.now) }
-    ensures stays { F.kept facts.new ≡ F.kept facts.old }
-    ensures answers { F.answers_for facts.new volume }
+    ensures reads { StillAnswers F.kept F.answers_for volume facts.old facts.new }
 {
     match op {
         Op::New => None,
@@ -62,11 +60,9 @@ fn refusal_after<F: Facts>(facts: &mut F, before: &[Op], op: &Op) -> Option<Refu
 fn drop_refusal<F: Facts>(facts: &mut F, before: &[Op], node: u64) -> Option<Refusal>
     ghost volume: { State }
     requires answers { F.answers_for facts.old volume }
-    requires accepted { IsOk (steps volume before.now) }
-    requires fits { volume.next + length before.now < 2 ^ 64 }
+    requires before { AreDone volume before.now }
     ensures answer { result ≡ result_err (step (state_after volume before.now) (ops.Drop node)) }
-    ensures stays { F.kept facts.new ≡ F.kept facts.old }
-    ensures answers { F.answers_for facts.new volume }
+    ensures reads { StillAnswers F.kept F.answers_for volume facts.old facts.new }
 {
     if has_node(facts, before, node) {
         None
@@ -84,11 +80,9 @@ fn set_refusal<F: Facts>(
 ) -> Option<Refusal>
     ghost volume: { State }
     requires answers { F.answers_for facts.old volume }
-    requires accepted { IsOk (steps volume before.now) }
-    requires fits { volume.next + length before.now < 2 ^ 64 }
+    requires before { AreDone volume before.now }
     ensures answer { result ≡ result_err (step (state_after volume before.now) (ops.Set node name.now value.now)) }
-    ensures stays { F.kept facts.new ≡ F.kept facts.old }
-    ensures answers { F.answers_for facts.new volume }
+    ensures reads { StillAnswers F.kept F.answers_for volume facts.old facts.new }
 {
     if has_attribute(facts, before, node, name) {
         return None;
@@ -105,11 +99,9 @@ fn set_refusal<F: Facts>(
 fn unset_refusal<F: Facts>(facts: &mut F, before: &[Op], node: u64, name: &Name) -> Option<Refusal>
     ghost volume: { State }
     requires answers { F.answers_for facts.old volume }
-    requires accepted { IsOk (steps volume before.now) }
-    requires fits { volume.next + length before.now < 2 ^ 64 }
+    requires before { AreDone volume before.now }
     ensures answer { result ≡ result_err (step (state_after volume before.now) (ops.Unset node name.now)) }
-    ensures stays { F.kept facts.new ≡ F.kept facts.old }
-    ensures answers { F.answers_for facts.new volume }
+    ensures reads { StillAnswers F.kept F.answers_for volume facts.old facts.new }
 {
     if has_attribute(facts, before, node, name) {
         None
@@ -125,8 +117,7 @@ fn make_refusal<F: Facts>(facts: &mut F, before: &[Op], name: &Name, kind: Kind)
     requires answers { F.answers_for facts.old volume }
     requires accepted { IsOk (steps volume before.now) }
     ensures answer { result ≡ result_err (step (state_after volume before.now) (ops.MkIndex name.now kind)) }
-    ensures stays { F.kept facts.new ≡ F.kept facts.old }
-    ensures answers { F.answers_for facts.new volume }
+    ensures reads { StillAnswers F.kept F.answers_for volume facts.old facts.new }
 {
     if has_index(facts, before, name) {
         Some(Refusal::IndexExists)
@@ -144,8 +135,7 @@ fn remove_refusal<F: Facts>(facts: &mut F, before: &[Op], name: &Name) -> Option
     requires answers { F.answers_for facts.old volume }
     requires accepted { IsOk (steps volume before.now) }
     ensures answer { result ≡ result_err (step (state_after volume before.now) (ops.RmIndex name.now)) }
-    ensures stays { F.kept facts.new ≡ F.kept facts.old }
-    ensures answers { F.answers_for facts.new volume }
+    ensures reads { StillAnswers F.kept F.answers_for volume facts.old facts.new }
 {
     if has_index(facts, before, name) {
         None
@@ -169,11 +159,9 @@ fn next_after(op: &Op, next: u64) -> u64
 fn has_node<F: Facts>(facts: &mut F, before: &[Op], node: u64) -> bool
     ghost volume: { State }
     requires answers { F.answers_for facts.old volume }
-    requires accepted { IsOk (steps volume before.now) }
-    requires fits { volume.next + length before.now < 2 ^ 64 }
+    requires before { AreDone volume before.now }
     ensures answer { result ≡ map.contains_key (state_after volume before.now).nodes node }
-    ensures stays { F.kept facts.new ≡ F.kept facts.old }
-    ensures answers { F.answers_for facts.new volume }
+    ensures reads { StillAnswers F.kept F.answers_for volume facts.old facts.new }
 {
     let mut next = facts.next();
     let mut there = facts.has_node(node);
@@ -198,11 +186,9 @@ fn node_after(op: &Op, next: u64, there: bool, node: u64) -> bool
 fn has_attribute<F: Facts>(facts: &mut F, before: &[Op], node: u64, name: &Name) -> bool
     ghost volume: { State }
     requires answers { F.answers_for facts.old volume }
-    requires accepted { IsOk (steps volume before.now) }
-    requires fits { volume.next + length before.now < 2 ^ 64 }
+    requires before { AreDone volume before.now }
     ensures answer { result ≡ map.contains_key (attributes_of (state_after volume before.now).nodes node) name.now }
-    ensures stays { F.kept facts.new ≡ F.kept facts.old }
-    ensures answers { F.answers_for facts.new volume }
+    ensures reads { StillAnswers F.kept F.answers_for volume facts.old facts.new }
 {
     let mut next = facts.next();
     let mut there = facts.has_attribute(node, name);
@@ -230,11 +216,9 @@ fn attribute_after(op: &Op, next: u64, there: bool, node: u64, name: &Name) -> b
 fn is_full<F: Facts>(facts: &mut F, before: &[Op], node: u64) -> bool
     ghost volume: { State }
     requires answers { F.answers_for facts.old volume }
-    requires accepted { IsOk (steps volume before.now) }
-    requires fits { volume.next + length before.now < 2 ^ 64 }
+    requires before { AreDone volume before.now }
     ensures answer { result ≡ nat_le 64 (map.len (attributes_of (state_after volume before.now).nodes node)) }
-    ensures stays { F.kept facts.new ≡ F.kept facts.old }
-    ensures answers { F.answers_for facts.new volume }
+    ensures reads { StillAnswers F.kept F.answers_for volume facts.old facts.new }
 {
     may_be_full(facts, before, node) && attribute_count(facts, before, node) >= MAX_ATTRIBUTES
 }
@@ -244,11 +228,9 @@ fn is_full<F: Facts>(facts: &mut F, before: &[Op], node: u64) -> bool
 fn may_be_full<F: Facts>(facts: &mut F, before: &[Op], node: u64) -> bool
     ghost volume: { State }
     requires answers { F.answers_for facts.old volume }
-    requires accepted { IsOk (steps volume before.now) }
-    requires fits { volume.next + length before.now < 2 ^ 64 }
+    requires before { AreDone volume before.now }
     ensures few { result ≡ false → map.len (attributes_of (state_after volume before.now).nodes node) < 64 }
-    ensures stays { F.kept facts.new ≡ F.kept facts.old }
-    ensures answers { F.answers_for facts.new volume }
+    ensures reads { StillAnswers F.kept F.answers_for volume facts.old facts.new }
 {
     let old = facts.attribute_count(node);
     let mut sets = 0;
@@ -279,11 +261,9 @@ fn sets_after(op: &Op, sets: usize, node: u64) -> usize
 fn attribute_count<F: Facts>(facts: &mut F, before: &[Op], node: u64) -> usize
     ghost volume: { State }
     requires answers { F.answers_for facts.old volume }
-    requires accepted { IsOk (steps volume before.now) }
-    requires fits { volume.next + length before.now < 2 ^ 64 }
+    requires before { AreDone volume before.now }
     ensures answer { result ≡ map.len (attributes_of (state_after volume before.now).nodes node) }
-    ensures stays { F.kept facts.new ≡ F.kept facts.old }
-    ensures answers { F.answers_for facts.new volume }
+    ensures reads { StillAnswers F.kept F.answers_for volume facts.old facts.new }
 {
     let mut next = facts.next();
     let mut count = facts.attribute_count(node);
@@ -299,11 +279,9 @@ fn attribute_count<F: Facts>(facts: &mut F, before: &[Op], node: u64) -> usize
 fn sets_again<F: Facts>(facts: &mut F, before: &[Op], op: &Op) -> bool
     ghost volume: { State }
     requires answers { F.answers_for facts.old volume }
-    requires accepted { IsOk (steps volume before.now) }
-    requires fits { volume.next + length before.now < 2 ^ 64 }
+    requires before { AreDone volume before.now }
     ensures answer { IsThere (state_after volume before.now) op.now result }
-    ensures stays { F.kept facts.new ≡ F.kept facts.old }
-    ensures answers { F.answers_for facts.new volume }
+    ensures reads { StillAnswers F.kept F.answers_for volume facts.old facts.new }
 {
     match op {
         Op::Set(node, name, _) => has_attribute(facts, before, *node, name),
@@ -330,8 +308,7 @@ fn has_index<F: Facts>(facts: &mut F, before: &[Op], name: &Name) -> bool
     requires answers { F.answers_for facts.old volume }
     requires accepted { IsOk (steps volume before.now) }
     ensures answer { result ≡ map.contains_key (state_after volume before.now).indices name.now }
-    ensures stays { F.kept facts.new ≡ F.kept facts.old }
-    ensures answers { F.answers_for facts.new volume }
+    ensures reads { StillAnswers F.kept F.answers_for volume facts.old facts.new }
 {
     let mut there = facts.has_index(name);
     for op in before {
@@ -356,8 +333,7 @@ fn index_count<F: Facts>(facts: &mut F, before: &[Op]) -> usize
     requires answers { F.answers_for facts.old volume }
     requires accepted { IsOk (steps volume before.now) }
     ensures answer { result ≡ map.len (state_after volume before.now).indices }
-    ensures stays { F.kept facts.new ≡ F.kept facts.old }
-    ensures answers { F.answers_for facts.new volume }
+    ensures reads { StillAnswers F.kept F.answers_for volume facts.old facts.new }
 {
     let mut count = facts.index_count();
     for op in before {

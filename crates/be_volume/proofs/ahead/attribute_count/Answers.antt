@@ -29,8 +29,8 @@ loop-i-preserved g c =
     let ok : IsOk (steps g.volume c.args.before.now) = c.requires.1.1.0 in
     let there = c.sets_again-has.ensures.answer in
     record {
-      stays = c.sets_again-has.ensures.stays ∙ c.loop-i.invariant.stays;
-      answers = c.sets_again-has.ensures.answers;
+      stays = c.sets_again-has.ensures.reads.0 ∙ c.loop-i.invariant.stays;
+      answers = c.sets_again-has.ensures.reads.1;
       next = c.next_after-next.ensures ∙ next_turn g.volume c.args.before.now c.loop-i.i c.index-before-i.result c.loop-i-test.true c.index-before-i.is ok c.loop-i.next c.loop-i.invariant.next;
       bound = subst (λ n. n ≤ g.volume.next + (c.loop-i.i + 1)) (sym c.next_after-next.ensures) (bound_turn g.volume c.args.before.now c.loop-i.i c.index-before-i.result c.loop-i-test.true c.index-before-i.is ok c.loop-i.next c.loop-i.invariant.bound);
       count = c.count_after-count.ensures
