@@ -20,33 +20,36 @@ type Written = Result<(u64, ArrayVec<Done, 64>), Refusal>;
 /// Names, each with its value or its kind.
 type Listed<T> = Result<Vec<(Name, T)>, Refusal>;
 
-fn written_text(alloc: Global, written: Written) -> Result<String, Refusal> {
+/// What is answered as a text, or why it was refused.
+pub(crate) type Text = Result<String, Refusal>;
+
+fn written_text(alloc: Global, written: Written) -> Text {
     let (number, dones) = written?;
     Ok(reply_lines(alloc, &Reply::Committed(number, dones))?)
 }
 
 /// The answer's pin, and then its nodes.
-fn nodes_text(alloc: Global, answer: Result<Answer, Refusal>) -> Result<String, Refusal> {
+fn nodes_text(alloc: Global, answer: Result<Answer, Refusal>) -> Text {
     let Answer { pin, nodes } = answer?;
     let mut text = reply_lines(alloc, &Reply::Pinned(pin))?;
     text.push_str(reply_lines(alloc, &Reply::Nodes(nodes))?.as_str())?;
     Ok(text)
 }
 
-fn updates_text(alloc: Global, updates: Result<Updates, Refusal>) -> Result<String, Refusal> {
+fn updates_text(alloc: Global, updates: Result<Updates, Refusal>) -> Text {
     let Updates { created, removed } = updates?;
     Ok(reply_lines(alloc, &Reply::Updates(created, removed))?)
 }
 
-fn attributes_text(alloc: Global, list: Listed<Value>) -> Result<String, Refusal> {
+fn attributes_text(alloc: Global, list: Listed<Value>) -> Text {
     Ok(reply_lines(alloc, &Reply::Attributes(list?))?)
 }
 
-fn kinds_text(alloc: Global, list: Listed<Kind>) -> Result<String, Refusal> {
+fn kinds_text(alloc: Global, list: Listed<Kind>) -> Text {
     Ok(reply_lines(alloc, &Reply::Kinds(list?))?)
 }
 
-fn text_of(alloc: Global, reply: Reply) -> Result<String, Refusal> {
+fn text_of(alloc: Global, reply: Reply) -> Text {
     Ok(reply_lines(alloc, &reply)?)
 }
 
@@ -61,7 +64,7 @@ pub(crate) fn write(store: &Store, pass: &mut Pass, ops: &[Op]) -> Written
     store.apply(pass, ops)
 }
 
-fn pin(store: &Store, alloc: Global, pass: &mut Pass) -> Result<String, Refusal>
+fn pin(store: &Store, alloc: Global, pass: &mut Pass) -> Text
     requires { IsPassOf store.now pass.old }
     ensures { StaysPass store.now pass.old pass.new }
 {
@@ -71,7 +74,7 @@ fn pin(store: &Store, alloc: Global, pass: &mut Pass) -> Result<String, Refusal>
     }
 }
 
-fn unpin(store: &Store, alloc: Global, pass: &mut Pass) -> Result<String, Refusal>
+fn unpin(store: &Store, alloc: Global, pass: &mut Pass) -> Text
     requires { IsPassOf store.now pass.old }
     ensures { StaysPass store.now pass.old pass.new }
 {
@@ -84,7 +87,7 @@ fn unpin(store: &Store, alloc: Global, pass: &mut Pass) -> Result<String, Refusa
     }
 }
 
-fn find(store: &Store, alloc: Global, pass: &mut Pass, text: &str) -> Result<String, Refusal>
+fn find(store: &Store, alloc: Global, pass: &mut Pass, text: &str) -> Text
     requires pass { IsPassOf store.now pass.old }
     requires pinned { (n : ℕ) × IsPinnedTo pass.old.knows n }
     ensures { StaysPass store.now pass.old pass.new }
@@ -95,30 +98,28 @@ fn find(store: &Store, alloc: Global, pass: &mut Pass, text: &str) -> Result<Str
     }
 }
 
-fn refresh(
-    store: &Store,
-    alloc: Global,
-    pass: &mut Pass,
-    live: &mut Option<Live>,
-) -> Result<String, Refusal>
-    requires pass { IsPassOf store.now pass.old }
-    requires pinned { (n : ℕ) × IsPinnedTo pass.old.knows n }
+/// What came to a live query and went since it was asked last, at the pin, or at a pin that goes with the read.
+fn refresh(store: &Store, pass: &mut Pass, live: &mut Live) -> Result<Updates, Refusal>
+    requires { IsPassOf store.now pass.old }
     ensures { StaysPass store.now pass.old pass.new }
 {
-    match live {
-        Some(live) => updates_text(alloc, live.refresh(store, pass)),
-        None => text_of(alloc, Reply::NoLiveQuery),
+    match pass.pinned() {
+        Some(_) => live.refresh(store, pass),
+        None => refresh_once(store, pass, live),
     }
 }
 
+fn refresh_once(store: &Store, pass: &mut Pass, live: &mut Live) -> Result<Updates, Refusal>
+    requires pass { IsPassOf store.now pass.old }
+    requires unpinned { pinned_number pass.old.knows.phase ≡ None }
+    ensures { StaysPass store.now pass.old pass.new }
+{
+    let mut version = store.pinned(pass);
+    version.refresh(live)
+}
+
 /// Reads by a pinned pass.
-fn read(
-    store: &Store,
-    alloc: Global,
-    pass: &mut Pass,
-    live: &mut Option<Live>,
-    request: &Request,
-) -> Result<String, Refusal>
+fn read(store: &Store, alloc: Global, pass: &mut Pass, request: &Request) -> Text
     requires pass { IsPassOf store.now pass.old }
     requires pinned { (n : ℕ) × IsPinnedTo pass.old.knows n }
     ensures { StaysPass store.now pass.old pass.new }
@@ -128,19 +129,12 @@ fn read(
         Request::Get(node, Ok(name)) => text_of(alloc, Reply::Value(store.get(pass, *node, name))),
         Request::Attrs(node) => attributes_text(alloc, store.attrs(alloc, pass, *node)),
         Request::Indices => kinds_text(alloc, store.indices(alloc, pass)),
-        Request::Refresh => refresh(store, alloc, pass, live),
         _ => text_of(alloc, Reply::BadLine),
     }
 }
 
 /// Reads by a pass that isn't pinned, at a pin that goes with the read.
-fn read_once(
-    store: &Store,
-    alloc: Global,
-    pass: &mut Pass,
-    live: &mut Option<Live>,
-    request: &Request,
-) -> Result<String, Refusal>
+fn read_once(store: &Store, alloc: Global, pass: &mut Pass, request: &Request) -> Text
     requires pass { IsPassOf store.now pass.old }
     requires unpinned { pinned_number pass.old.knows.phase ≡ None }
     ensures { StaysPass store.now pass.old pass.new }
@@ -161,22 +155,12 @@ fn read_once(
         Request::Get(node, Ok(name)) => text_of(alloc, Reply::Value(version.get(*node, name))),
         Request::Attrs(node) => attributes_text(alloc, version.attrs(alloc, *node)),
         Request::Indices => kinds_text(alloc, version.indices(alloc)),
-        Request::Refresh => match live {
-            Some(live) => updates_text(alloc, version.refresh(live)),
-            None => text_of(alloc, Reply::NoLiveQuery),
-        },
         _ => text_of(alloc, Reply::BadLine),
     }
 }
 
-/// What isn't a write.
-fn ask(
-    store: &Store,
-    alloc: Global,
-    pass: &mut Pass,
-    live: &mut Option<Live>,
-    request: &Request,
-) -> Result<String, Refusal>
+/// What is neither a write nor of a live query.
+fn ask(store: &Store, alloc: Global, pass: &mut Pass, request: &Request) -> Text
     requires { IsPassOf store.now pass.old }
     ensures { StaysPass store.now pass.old pass.new }
 {
@@ -184,9 +168,20 @@ fn ask(
         Request::Pin => pin(store, alloc, pass),
         Request::Unpin => unpin(store, alloc, pass),
         _ => match pass.pinned() {
-            Some(_) => read(store, alloc, pass, live, request),
-            None => read_once(store, alloc, pass, live, request),
+            Some(_) => read(store, alloc, pass, request),
+            None => read_once(store, alloc, pass, request),
         },
+    }
+}
+
+/// What a refresh finds, or that there is no live query.
+fn updates(store: &Store, alloc: Global, pass: &mut Pass, live: &mut Option<Live>) -> Text
+    requires { IsPassOf store.now pass.old }
+    ensures { StaysPass store.now pass.old pass.new }
+{
+    match live {
+        Some(live) => updates_text(alloc, refresh(store, pass, live)),
+        None => text_of(alloc, Reply::NoLiveQuery),
     }
 }
 
@@ -203,7 +198,7 @@ pub(crate) fn answer(
     pass: &mut Pass,
     live: &mut Option<Live>,
     words: &str,
-) -> Result<String, Refusal>
+) -> Text
     requires { IsPassOf store.now pass.old }
     ensures { StaysPass store.now pass.old pass.new }
 {
@@ -213,7 +208,8 @@ pub(crate) fn answer(
         Err(_) => {}
     }
     match asked(alloc, words) {
-        Ok(request) => ask(store, alloc, pass, live, &request),
+        Ok(Request::Refresh) => updates(store, alloc, pass, live),
+        Ok(request) => ask(store, alloc, pass, &request),
         Err(refusal) => Err(refusal),
     }
 }

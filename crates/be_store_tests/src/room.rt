@@ -1,13 +1,13 @@
 //! A store with its passes, which replies to requests. What is known of them is its invariant, so that no method has a
 //! clause.
 
-use crate::calls::{answer, write};
+use crate::calls::{Text, answer, write};
 use crate::carrying::carry_meanwhile;
 use crate::races::{closed, journal_of, make_both};
 use crate::states::state_text;
 use be_language::Reply;
 use be_store::{Journal, Limits, Live, Op, Pass, Refusal, Store, parse};
-use be_testing::{Answers, reply_lines};
+use be_testing::{Answers, both_of, reply_lines};
 use std::alloc::Global;
 use std::marker::Model;
 use std::thread::Threads;
@@ -67,13 +67,8 @@ fn open_for_two(alloc: Global, pages: u64, commits: u64) -> Result<Room, Refusal
         passes: 2,
         commits,
     };
-    let (store, mut passes) = Store::open(alloc, limits)?;
-    let Some(second) = passes.pop() else {
-        return Err(Refusal::BadLimits);
-    };
-    let Some(first) = passes.pop() else {
-        return Err(Refusal::BadLimits);
-    };
+    let (store, passes) = Store::open(alloc, limits)?;
+    let (first, second) = both_of(passes)?;
     Ok(Room {
         store,
         first,
@@ -101,14 +96,14 @@ pub(crate) fn for_two(alloc: Global, pages: u64, commits: u64) -> Result<Room, R
 }
 
 /// The first line of a reply.
-fn first_line(alloc: Global, reply: Result<String, Refusal>) -> Result<String, Refusal> {
+fn first_line(alloc: Global, reply: Text) -> Text {
     let reply = reply?;
     let line = reply.as_str().lines().next().unwrap_or("");
     Ok(String::from_str(alloc, line)?)
 }
 
 /// How much of the journal each of two passes has seen.
-fn seen_text(alloc: Global, seen: Option<(u64, u64)>) -> Result<String, Refusal> {
+fn seen_text(alloc: Global, seen: Option<(u64, u64)>) -> Text {
     match seen {
         Some((first, second)) => Ok(format!(in alloc; "seen {first} {second}")?),
         None => Err(Refusal::BadLimits),
@@ -116,7 +111,7 @@ fn seen_text(alloc: Global, seen: Option<(u64, u64)>) -> Result<String, Refusal>
 }
 
 /// How much of the journal two passes have seen that met.
-fn met_text(alloc: Global, met: Option<u64>) -> Result<String, Refusal> {
+fn met_text(alloc: Global, met: Option<u64>) -> Text {
     match met {
         Some(number) => Ok(format!(in alloc; "met {number}")?),
         None => Err(Refusal::BadLimits),
@@ -146,12 +141,12 @@ impl Room {
     }
 
     /// What pass 0 is answered.
-    fn answer_first(&mut self, alloc: Global, words: &str) -> Result<String, Refusal> {
+    fn answer_first(&mut self, alloc: Global, words: &str) -> Text {
         answer(&self.store, alloc, &mut self.first, &mut self.live, words)
     }
 
     /// What pass 1 is answered.
-    fn answer_second(&mut self, alloc: Global, words: &str) -> Result<String, Refusal> {
+    fn answer_second(&mut self, alloc: Global, words: &str) -> Text {
         if !self.has_second {
             return Err(Refusal::BadLimits);
         }
@@ -180,24 +175,24 @@ impl Room {
         drop(self.second.move_out());
     }
 
-    fn state_once(&mut self, alloc: Global) -> Result<String, Refusal> {
+    fn state_once(&mut self, alloc: Global) -> Text {
         state_text(&self.store, alloc, &mut self.first)
     }
 
     /// The operations that make the version of pass 0 again, told once more where memory is refused.
-    pub(crate) fn state(&mut self, alloc: Global) -> Result<String, Refusal> {
+    pub(crate) fn state(&mut self, alloc: Global) -> Text {
         match self.state_once(alloc) {
             Err(Refusal::OutOfMemory) => self.state_once(alloc),
             text => text,
         }
     }
 
-    fn watch(&mut self, alloc: Global, text: &str) -> Result<String, Refusal> {
+    fn watch(&mut self, alloc: Global, text: &str) -> Text {
         self.live = Some(Live::new(alloc, parse(alloc, text)?));
         Ok(String::from_str(alloc, "ok")?)
     }
 
-    fn answer(&mut self, alloc: Global, request: &str) -> Result<String, Refusal> {
+    fn answer(&mut self, alloc: Global, request: &str) -> Text {
         let (who, words) = request.split_once(" ").unwrap_or((request, ""));
         match who {
             "0" => self.answer_first(alloc, words),
@@ -270,7 +265,7 @@ impl Room {
 }
 
 impl Answers for Room {
-    fn reply(&mut self, alloc: Global, request: &str) -> Result<String, Refusal> {
+    fn reply(&mut self, alloc: Global, request: &str) -> Text {
         match self.answer(alloc, request) {
             Err(Refusal::OutOfMemory) => Err(Refusal::OutOfMemory),
             Err(refusal) => Ok(reply_lines(alloc, &Reply::Refused(refusal))?),

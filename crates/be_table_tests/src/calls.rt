@@ -10,15 +10,18 @@ use be_value::{Kind, Name, Refusal, Value};
 use be_volume::Op;
 use std::alloc::{AllocError, Global};
 
+/// What is answered as a text, or why it was refused.
+pub(crate) type Text = Result<String, Refusal>;
+
 /// The number, told again where memory is refused.
-pub(crate) fn number_text(alloc: Global, number: u64) -> Result<String, Refusal> {
+pub(crate) fn number_text(alloc: Global, number: u64) -> Text {
     match format!(in alloc; "{number}\n") {
         Err(_) => Ok(format!(in alloc; "{number}\n")?),
         Ok(text) => Ok(text),
     }
 }
 
-fn text_of(alloc: Global, reply: Reply) -> Result<String, Refusal> {
+fn text_of(alloc: Global, reply: Reply) -> Text {
     Ok(reply_lines(alloc, &reply)?)
 }
 
@@ -33,7 +36,7 @@ fn kind_text(alloc: Global, kind: Option<Kind>) -> Result<String, AllocError> {
 }
 
 /// The value by the reader of pages, the index's kind, and the value by a source of queries.
-fn told_text(alloc: Global, told: Told) -> Result<String, Refusal> {
+fn told_text(alloc: Global, told: Told) -> Text {
     let mut text = text_of(alloc, Reply::Value(told.value))?;
     text.push_str(kind_text(alloc, told.kind)?.as_str())?;
     text.push_str(text_of(alloc, Reply::Value(told.asked))?.as_str())?;
@@ -49,11 +52,7 @@ fn push(text: &mut String, part: &str) -> Result<(), Refusal> {
 }
 
 /// Appends a reply, or the line that tells why it was refused.
-fn push_reply(
-    alloc: Global,
-    text: &mut String,
-    reply: Result<String, Refusal>,
-) -> Result<(), Refusal> {
+fn push_reply(alloc: Global, text: &mut String, reply: Text) -> Result<(), Refusal> {
     match reply {
         Ok(reply) => push(text, reply.as_str()),
         Err(Refusal::OutOfMemory) => Err(Refusal::OutOfMemory),
@@ -62,11 +61,7 @@ fn push_reply(
 }
 
 /// Two replies, one behind the other.
-pub(crate) fn both_texts(
-    alloc: Global,
-    first: Result<String, Refusal>,
-    second: Result<String, Refusal>,
-) -> Result<String, Refusal> {
+pub(crate) fn both_texts(alloc: Global, first: Text, second: Text) -> Text {
     let mut text = String::new(alloc);
     push_reply(alloc, &mut text, first)?;
     push_reply(alloc, &mut text, second)?;
@@ -80,7 +75,7 @@ fn read_pinned(
     seat: Seat,
     words: &str,
     request: &Request,
-) -> (Seat, Result<String, Refusal>)
+) -> (Seat, Text)
     requires { IsPinnedSeat table.now seat }
     ensures { IsPinnedSeat table.now result.0 }
 {
@@ -101,14 +96,14 @@ fn read_pinned(
 }
 
 /// The pin, or that the pass is pinned.
-fn pin_text(alloc: Global, pin: Option<u64>) -> Result<String, Refusal> {
+fn pin_text(alloc: Global, pin: Option<u64>) -> Text {
     match pin {
         Some(number) => text_of(alloc, Reply::Pinned(number)),
         None => text_of(alloc, Reply::AlreadyPinned),
     }
 }
 
-fn unpin_text(alloc: Global, was_pinned: bool) -> Result<String, Refusal> {
+fn unpin_text(alloc: Global, was_pinned: bool) -> Text {
     if was_pinned {
         text_of(alloc, Reply::Done)
     } else {
@@ -117,7 +112,7 @@ fn unpin_text(alloc: Global, was_pinned: bool) -> Result<String, Refusal> {
 }
 
 /// What an open write answers.
-pub(crate) fn write_text(alloc: Global, answer: Result<u64, Refusal>) -> Result<String, Refusal> {
+pub(crate) fn write_text(alloc: Global, answer: Result<u64, Refusal>) -> Text {
     number_text(alloc, answer?)
 }
 
@@ -130,12 +125,7 @@ fn ops_of(alloc: Global, words: &str) -> Result<Vec<Op>, Refusal> {
 }
 
 /// What a pass is answered by the lock and the writes under it.
-fn answer_write(
-    table: &VersionTable,
-    alloc: Global,
-    seat: &mut Seat,
-    words: &str,
-) -> Result<String, Refusal>
+fn answer_write(table: &VersionTable, alloc: Global, seat: &mut Seat, words: &str) -> Text
     requires { IsResting table.now seat.old }
     ensures { StaysSeat table.now seat.old seat.new }
 {
@@ -155,12 +145,7 @@ fn asked(alloc: Global, words: &str) -> Result<Request, Refusal> {
 
 /// What a pass reads, if it is pinned.
 #[tactic(auto, using(crate::proofs::Phases::pinned_phase))]
-fn answer_read(
-    table: &VersionTable,
-    alloc: Global,
-    seat: &mut Seat,
-    words: &str,
-) -> Result<String, Refusal>
+fn answer_read(table: &VersionTable, alloc: Global, seat: &mut Seat, words: &str) -> Text
     requires { IsResting table.now seat.old }
     ensures { IsResting table.now seat.new }
 {
@@ -181,12 +166,7 @@ fn is_read(words: &str) -> bool {
 }
 
 /// What a pass is answered.
-pub(crate) fn answer(
-    table: &VersionTable,
-    alloc: Global,
-    seat: &mut Seat,
-    words: &str,
-) -> Result<String, Refusal>
+pub(crate) fn answer(table: &VersionTable, alloc: Global, seat: &mut Seat, words: &str) -> Text
     requires { IsResting table.now seat.old }
     ensures { IsResting table.now seat.new }
 {
@@ -200,12 +180,7 @@ pub(crate) fn answer(
 }
 
 /// What a pass is answered to several requests, with a comma and a space between them.
-pub(crate) fn answers(
-    table: &VersionTable,
-    alloc: Global,
-    seat: &mut Seat,
-    requests: &str,
-) -> Result<String, Refusal>
+pub(crate) fn answers(table: &VersionTable, alloc: Global, seat: &mut Seat, requests: &str) -> Text
     requires { IsResting table.now seat.old }
     ensures { IsResting table.now seat.new }
 {

@@ -6,7 +6,7 @@ use crate::room::open;
 use crate::writes::enter_many;
 use be_journal::Journal;
 use be_table::{Limits, Seat, VersionTable};
-use be_testing::pair_of;
+use be_testing::{both_of, pair_of};
 use be_value::Refusal;
 use std::alloc::Global;
 use std::thread;
@@ -61,13 +61,8 @@ fn race_once<R: Threads + Sync>(rt: &R, alloc: Global) -> Result<(Journal, bool)
         passes: 2,
         commits: 1000,
     };
-    let (table, mut seats) = open(alloc, limits)?;
-    let Some(second) = seats.pop() else {
-        return Err(Refusal::BadLimits);
-    };
-    let Some(first) = seats.pop() else {
-        return Err(Refusal::BadLimits);
-    };
+    let (table, seats) = open(alloc, limits)?;
+    let (first, second) = both_of(seats)?;
     let (first, second) = enter_both(rt, &table, first, second);
     let journal = journal_of(alloc, table, first.0, second.0)?;
     Ok((journal, first.1 && second.1))

@@ -4,12 +4,12 @@ ghost use Rattle.std.specs.Prelude.{◌≡◌, length, IfOk};
 ghost use Rattle.be_table.specs.Works.{AreNew};
 ghost use Rattle.be_table_tests.specs.Resting.{IsResting};
 
-use crate::calls::{answer, answers, both_texts, number_text, write_text};
+use crate::calls::{Text, answer, answers, both_texts, number_text, write_text};
 use crate::writes::{act, enter_many, in_write};
 use be_language::Reply;
 use be_paged::first_page;
 use be_table::{Limits, Seat, VersionTable};
-use be_testing::{Answers, reply_lines};
+use be_testing::{Answers, both_of, reply_lines};
 use be_value::{Refusal, word_of};
 use be_volume::Op;
 use std::alloc::Global;
@@ -62,12 +62,7 @@ fn open_room(alloc: Global, pages: u64) -> Result<Room, Refusal> {
     let Some(third) = seats.pop() else {
         return Err(Refusal::BadLimits);
     };
-    let Some(second) = seats.pop() else {
-        return Err(Refusal::BadLimits);
-    };
-    let Some(first) = seats.pop() else {
-        return Err(Refusal::BadLimits);
-    };
+    let (first, second) = both_of(seats)?;
     Ok(Room {
         table,
         first,
@@ -91,7 +86,7 @@ fn answer_two(
     second: &mut Seat,
     third: &mut Seat,
     requests: &str,
-) -> Result<String, Refusal>
+) -> Text
     requires { IsResting table.now second.old × IsResting table.now third.old }
     ensures { IsResting table.now second.new × IsResting table.now third.new }
 {
@@ -109,7 +104,7 @@ fn hold(
     second: &mut Seat,
     third: &mut Seat,
     requests: &str,
-) -> Result<String, Refusal>
+) -> Text
     requires { IsResting table.now holder.old × IsResting table.now second.old × IsResting table.now third.old }
     ensures { IsResting table.now holder.new × IsResting table.now second.new × IsResting table.now third.new }
 {
@@ -132,7 +127,7 @@ fn write_between(
     holder: &mut Seat,
     second: &mut Seat,
     requests: &str,
-) -> Result<String, Refusal>
+) -> Text
     requires { IsResting table.now holder.old × IsResting table.now second.old }
     ensures { IsResting table.now holder.new × IsResting table.now second.new }
 {
@@ -177,7 +172,7 @@ fn pin_late(
     if entered { Some((looked, pin)) } else { None }
 }
 
-fn late_text(alloc: Global, late: Option<(u64, u64)>) -> Result<String, Refusal> {
+fn late_text(alloc: Global, late: Option<(u64, u64)>) -> Text {
     match late {
         Some((looked, pin)) => both_texts(
             alloc,
@@ -194,15 +189,15 @@ impl Room {
         in_write(&self.table, &mut self.first, ops, words)
     }
 
-    fn answer_first(&mut self, alloc: Global, words: &str) -> Result<String, Refusal> {
+    fn answer_first(&mut self, alloc: Global, words: &str) -> Text {
         answer(&self.table, alloc, &mut self.first, words)
     }
 
-    fn answer_second(&mut self, alloc: Global, words: &str) -> Result<String, Refusal> {
+    fn answer_second(&mut self, alloc: Global, words: &str) -> Text {
         answer(&self.table, alloc, &mut self.second, words)
     }
 
-    fn hold(&mut self, alloc: Global, requests: &str) -> Result<String, Refusal> {
+    fn hold(&mut self, alloc: Global, requests: &str) -> Text {
         hold(
             &self.table,
             alloc,
@@ -213,7 +208,7 @@ impl Room {
         )
     }
 
-    fn write_between(&mut self, alloc: Global, requests: &str) -> Result<String, Refusal> {
+    fn write_between(&mut self, alloc: Global, requests: &str) -> Text {
         write_between(
             &self.table,
             alloc,
@@ -243,7 +238,7 @@ impl Room {
         both
     }
 
-    fn answer(&mut self, alloc: Global, request: &str) -> Result<String, Refusal> {
+    fn answer(&mut self, alloc: Global, request: &str) -> Text {
         let (who, words) = request.split_once(" ").unwrap_or((request, ""));
         match who {
             "0" => self.answer_first(alloc, words),
@@ -262,7 +257,7 @@ impl Room {
 }
 
 impl Answers for Room {
-    fn reply(&mut self, alloc: Global, request: &str) -> Result<String, Refusal> {
+    fn reply(&mut self, alloc: Global, request: &str) -> Text {
         match self.answer(alloc, request) {
             Err(Refusal::OutOfMemory) => Err(Refusal::OutOfMemory),
             Err(refusal) => Ok(reply_lines(alloc, &Reply::Refused(refusal))?),

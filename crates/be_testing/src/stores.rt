@@ -36,6 +36,16 @@ pub fn pair_of<T: Drop>(alloc: Global, first: T, second: T) -> Result<Vec<T>, Al
     Ok(list)
 }
 
+/// The first and the second of a list of two.
+pub fn both_of<T: Drop>(mut list: Vec<T>) -> Result<(T, T), Refusal>
+    ensures { IfOk result (λ both. list.items ≡ both.0 ∷ both.1 ∷ []) }
+{
+    match (list.pop(), list.pop()) {
+        (Some(second), Some(first)) if list.is_empty() => Ok((first, second)),
+        _ => Err(Refusal::BadLimits),
+    }
+}
+
 /// Whether the journal is legal, looked at again where memory is refused.
 pub fn is_legal(journal: &Journal) -> Result<bool, Refusal> {
     match journal.check() {
