@@ -2,26 +2,4 @@
 #![tactic(auto)]
 
 #[cfg(test)]
-mod asking;
-#[cfg(test)]
-mod both;
-#[cfg(test)]
-mod costs;
-#[cfg(test)]
-mod lines;
-#[cfg(test)]
-mod look_tests;
-#[cfg(test)]
-mod nodes;
-#[cfg(test)]
-mod random_lists;
-#[cfg(test)]
-mod same;
-#[cfg(test)]
-mod sizes;
-#[cfg(test)]
-mod test_looks;
-#[cfg(test)]
 mod tests;
-#[cfg(test)]
-mod writing;

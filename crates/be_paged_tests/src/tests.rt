@@ -3,9 +3,22 @@
 //!
 //! A list of several operations has `;` between them. `pick PLACE TEXT` is a query by one pick, and `free` the number of free
 //! pages, which the room alone answers.
-use crate::asking::read_query;
-use crate::both::Both;
-use crate::lines::{answer_text, nodes_text, refused, request_of, written_text};
+
+mod asking;
+mod both;
+mod costs;
+mod lines;
+mod look_tests;
+mod nodes;
+mod random_lists;
+mod same;
+mod sizes;
+mod test_looks;
+mod writing;
+
+use crate::tests::asking::read_query;
+use crate::tests::both::Both;
+use crate::tests::lines::{answer_text, nodes_text, refused, request_of, written_text};
 use be_language::{Reply, Request};
 use be_testing::{EXAMPLES, LISTS, TWO_INDICES, behind, list_of};
 use be_value::{Name, Refusal, word_of};

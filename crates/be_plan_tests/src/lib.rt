@@ -4,8 +4,4 @@
 #![tactic(auto)]
 
 #[cfg(test)]
-mod counting;
-#[cfg(test)]
-mod ranges;
-#[cfg(test)]
 mod tests;

@@ -8,11 +8,14 @@
 //! key that lies in it and one for its end: `nodes 2 3 asks nnn`. The commands `keys`, `looks` and `kinds` count what is
 //! asked for where the source tells the kinds, and `ranges` counts the ranges that answer a query whole.
 
+mod counting;
+mod ranges;
+
 ghost use Rattle.std.specs.Prelude.{◌≡◌, true, IfOk};
 ghost use Rattle.be_volume.specs.Volume.{State};
 ghost use Rattle.be_plan.specs.Explain.{are_places};
 
-use crate::counting::{nodes_by, nodes_chosen};
+use crate::tests::counting::{nodes_by, nodes_chosen};
 use be_plan::{Cover, Picks, Source, choose_from, explain, volume_source};
 use be_query::{Query, parse};
 use be_testing::{Answers, check_lines, list_of};

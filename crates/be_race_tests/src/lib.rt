@@ -4,6 +4,4 @@
 #![tactic(auto)]
 
 #[cfg(test)]
-mod gates;
-#[cfg(test)]
-mod races;
+mod tests;

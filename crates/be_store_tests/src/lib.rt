@@ -4,16 +4,4 @@
 #![tactic(auto)]
 
 #[cfg(test)]
-mod calls;
-#[cfg(test)]
-mod carrying;
-#[cfg(test)]
-mod races;
-#[cfg(test)]
-mod room;
-#[cfg(test)]
-mod sizes;
-#[cfg(test)]
-mod states;
-#[cfg(test)]
 mod tests;

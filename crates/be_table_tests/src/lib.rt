@@ -4,14 +4,4 @@
 #![tactic(auto)]
 
 #[cfg(test)]
-mod calls;
-#[cfg(test)]
-mod races;
-#[cfg(test)]
-mod reads;
-#[cfg(test)]
-mod room;
-#[cfg(test)]
 mod tests;
-#[cfg(test)]
-mod writes;

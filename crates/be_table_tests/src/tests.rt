@@ -3,8 +3,14 @@
 //! A test is a room and a text of requests with their replies. `0` and `1` name the pass that makes a request. `hold`
 //! and `between` have the first pass hold the lock while others are answered; `turn` makes the next pass the first.
 
-use crate::races::race;
-use crate::room::{Room, count_seats, opened};
+mod calls;
+mod races;
+mod reads;
+mod room;
+mod writes;
+
+use crate::tests::races::race;
+use crate::tests::room::{Room, count_seats, opened};
 use be_table::Limits;
 use be_testing::{OUTSIDE_LIMITS, check_lines, has_hundred_by_each};
 use be_value::Refusal;
@@ -72,6 +78,12 @@ fn stale_announcement(rt: HostRuntime) -> Result<(), Fail> {
     check_lines(rt.alloc(), &mut opened(rt.alloc(), 64)?, lines)
 }
 
+#[test]
+fn meeting(rt: HostRuntime) -> Result<(), Fail> {
+    let lines = "0 new / 1 seen / meet / 0 seen / 1 seen => 1 / 0 / 1 / 1 / 1";
+    check_lines(rt.alloc(), &mut opened(rt.alloc(), 64)?, lines)
+}
+
 /// Enters nodes until a scan is due, and tells how many. BadLimits where it is not after 1,000.
 fn enter_until_due(room: &mut Room) -> Result<u64, Refusal> {
     for count in 0..1000 {
@@ -116,12 +128,6 @@ fn scans_early(alloc: Global, room: &mut Room) -> Result<bool, Fail> {
 fn scan_due(rt: HostRuntime) -> Result<(), Fail> {
     assert!(rt; scans_early(rt.alloc(), &mut opened(rt.alloc(), 1024)?)?);
     Ok(())
-}
-
-#[test]
-fn meeting(rt: HostRuntime) -> Result<(), Fail> {
-    let lines = "0 new / 1 seen / meet / 0 seen / 1 seen => 1 / 0 / 1 / 1 / 1";
-    check_lines(rt.alloc(), &mut opened(rt.alloc(), 64)?, lines)
 }
 
 /// Two passes enter a hundred nodes each, each on a thread of its own.

@@ -50,3 +50,12 @@ pub fn reply_lines(alloc: Global, reply: &Reply) -> Result<String, AllocError> {
         text => text,
     }
 }
+
+/// What is answered, where a refusal is a reply like any other, unless it is for want of memory.
+pub fn answer_lines(alloc: Global, answer: Result<String, Refusal>) -> Result<String, Refusal> {
+    match answer {
+        Err(Refusal::OutOfMemory) => Err(Refusal::OutOfMemory),
+        Err(refusal) => Ok(reply_lines(alloc, &Reply::Refused(refusal))?),
+        answer => answer,
+    }
+}

@@ -24,6 +24,20 @@ const STATE_TOLD: &str =
     "ok\nqueued\nqueued\nqueued\nqueued\ncommit 1\nnode 1\nok\nnode 2\nok\njournal 1\n\
 1 by 0 new; set 1 \"k\" LONG 5; new; set 2 \"k\" LONG 6 -> node 1; ok; node 2; ok\nreplay ok\n";
 
+/// What a run of a line tells, and what it tells where the line is refused for want of memory.
+const OF_ONE: &str = "node 1\njournal 1\n1 by 0 new -> node 1\nreplay ok\n";
+
+const OF_NONE: &str = "refused 10 OutOfMemory\njournal 0\nreplay ok\n";
+
+/// Whether a run that ended so may have told this: all, or for want of memory a front.
+fn may_tell(ended: Result<bool, RunFault>, told: &str) -> bool {
+    match ended {
+        Ok(legal) => legal && (told == OF_ONE || told == OF_NONE),
+        Err(RunFault::Memory) => OF_ONE.starts_with(told) || OF_NONE.starts_with(told),
+        Err(_) => false,
+    }
+}
+
 /// Whether a run of a script that tells its journal writes this, at the second run where memory may have been wanted at the
 /// first. It is told that the journal is legal.
 fn tells(alloc: Global, script: &str, told: &str) -> Result<bool, Fail> {
@@ -119,20 +133,6 @@ fn failing_writer_of_a_telling(rt: HostRuntime) -> Result<(), Fail> {
         }
     }
     Ok(())
-}
-
-/// What a run of a line tells, and what it tells where the line is refused for want of memory.
-const OF_ONE: &str = "node 1\njournal 1\n1 by 0 new -> node 1\nreplay ok\n";
-
-const OF_NONE: &str = "refused 10 OutOfMemory\njournal 0\nreplay ok\n";
-
-/// Whether a run that ended so may have told this: all, or for want of memory a front.
-fn may_tell(ended: Result<bool, RunFault>, told: &str) -> bool {
-    match ended {
-        Ok(legal) => legal && (told == OF_ONE || told == OF_NONE),
-        Err(RunFault::Memory) => OF_ONE.starts_with(told) || OF_NONE.starts_with(told),
-        Err(_) => false,
-    }
 }
 
 /// A request for memory that is refused is told as Memory, or by the line, over a writer that needs none.

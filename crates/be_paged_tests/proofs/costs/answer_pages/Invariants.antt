@@ -1,4 +1,0 @@
-use Rattle.be_paged_tests.proofs.costs.answer_pages.Given as goal
-
-abbrev pub ghost-answer : goal.ghost-answer
-ghost-answer g a = g.volume

@@ -1,4 +1,0 @@
-use Rattle.be_paged_tests.proofs.costs.count_query.Given as goal
-
-abbrev pub ghost-answer_pages : goal.ghost-answer_pages
-ghost-answer_pages a = a._plain.now

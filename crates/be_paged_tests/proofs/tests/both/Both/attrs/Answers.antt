@@ -1,0 +1,6 @@
+use Rattle.be_paged_tests.proofs.Since.{stands_since}
+use Rattle.be_paged_tests.proofs.tests.both.Both.attrs.Goals as goal
+
+pub invariant_of-self : goal.invariant_of-self
+invariant_of-self c =
+    stands_since _ _ _ _ c.self.inside.page c.self.inside.plain c.attrs_pages-list.ensures.unchanged.standing c.attrs_pages-list.ensures.unchanged.words c.self.invariant

@@ -1,0 +1,132 @@
+//! Both forms of a volume, the plain one and the one over pages, which have to give the same answers.
+//!
+//! That the pages spell the plain volume is kept by the type, so a test that goes from one call to the next states nothing.
+use crate::tests::asking::{attrs_pages, attrs_plain, indices_pages, indices_plain, query_both};
+use crate::tests::same::same_lists;
+use crate::tests::writing::{accepts, apply_pages, refuses, room_of};
+use arrayvec::ArrayVec;
+use be_paged::get;
+use be_pages::{Look, VecRoom};
+use be_query::Query;
+use be_value::{Kind, Name, Refusal, Value};
+use be_volume::{Done, Op, Volume};
+use std::alloc::Global;
+use std::marker::Model;
+use std::test::Fail;
+
+/// A plain volume, and a room with the version page of an equal one.
+#[derive(Drop)]
+pub(crate) struct Both {
+    pub(crate) plain: Volume,
+    pub(crate) room: VecRoom,
+    pub(crate) page: u64,
+}
+
+impl Model for Both {
+    ghost use Rattle.std.specs.Prelude.{ℕ};
+    ghost use Rattle.be_tree.specs.Forest.{IsWriteStart};
+    ghost use Rattle.be_paged.specs.Version.{IsVersion};
+
+    ghost Value = { ℕ };
+
+    ghost view = { λ b. b.page };
+
+    ghost invariant = { λ b. IsVersion (⟦<VecRoom as Look>⟧.standing b.room) (⟦<VecRoom as Look>⟧.words b.room) b.page b.plain
+        × IsWriteStart (⟦<VecRoom as Look>⟧.standing b.room) };
+}
+
+/// An answer that both forms gave, if they did.
+fn agreed<T: Drop>(same: bool, answer: T, otherwise: &str) -> Result<T, Fail> {
+    if same {
+        Ok(answer)
+    } else {
+        Err(Fail::new(otherwise))
+    }
+}
+
+/// The indices that both forms gave, if they did.
+fn agreed_indices(
+    list: Result<Vec<(Name, Kind)>, Refusal>,
+    plain: Result<Vec<(Name, Kind)>, Refusal>,
+) -> Result<Vec<(Name, Kind)>, Fail> {
+    let list = list?;
+    let plain = plain?;
+    let same = list.as_slice() == plain.as_slice();
+    agreed(same, list, "the forms have other indices")
+}
+
+impl Both {
+    /// Both forms of the empty volume, the one in a room of so many pages.
+    pub(crate) fn new(alloc: Global, pages: u64) -> Result<Both, Refusal> {
+        let (room, page) = room_of(alloc, pages)?;
+        Ok(Both {
+            plain: Volume::new(alloc),
+            room,
+            page,
+        })
+    }
+
+    /// Applies a list, and gives the answer of both. A write that is accepted is kept, and one that is refused is undone.
+    pub(crate) fn write(
+        self,
+        ops: &[Op],
+    ) -> Result<(Both, Result<ArrayVec<Done, 64>, Refusal>), Fail> {
+        let Both {
+            mut plain,
+            mut room,
+            page,
+        } = self;
+        if ops.is_empty() || ops.len() > 64 || plain.next() > u64::MAX - 65 {
+            return Err(Fail::new("no list, or no node number is left"));
+        }
+        match apply_pages(&plain, &mut room, page, ops) {
+            Ok((page, dones)) => {
+                room.keep();
+                accepts(&mut plain, ops, dones.as_slice())?;
+                Ok((Both { plain, room, page }, Ok(dones)))
+            }
+            Err(refusal) => {
+                room.undo();
+                refuses(&mut plain, ops, refusal)?;
+                Ok((Both { plain, room, page }, Err(refusal)))
+            }
+        }
+    }
+
+    /// The answer to a query, from one pick or from what is chosen.
+    pub(crate) fn query(
+        self,
+        alloc: Global,
+        query: &Query,
+        pick: Option<usize>,
+    ) -> Result<(Both, Result<Vec<u64>, Refusal>), Fail> {
+        let Both { plain, room, page } = self;
+        let (room, answer) = query_both(alloc, &plain, room, page, query, pick)?;
+        Ok((Both { plain, room, page }, answer))
+    }
+
+    /// The attribute.
+    pub(crate) fn get(&mut self, node: u64, name: &Name) -> Result<Option<Value>, Fail> {
+        let value = get(&mut self.room, self.page, node, name);
+        let same = value == self.plain.get(node, name);
+        agreed(same, value, "the forms have another attribute")
+    }
+
+    /// The attributes, or the refusal.
+    pub(crate) fn attrs(
+        &mut self,
+        alloc: Global,
+        node: u64,
+    ) -> Result<Result<Vec<(Name, Value)>, Refusal>, Fail> {
+        let list = attrs_pages(alloc, &mut self.room, self.page, node);
+        let same = same_lists(&list, &attrs_plain(&self.plain, node));
+        agreed(same, list, "the forms have other attributes")
+    }
+
+    /// The indices.
+    pub(crate) fn indices(&mut self, alloc: Global) -> Result<Vec<(Name, Kind)>, Fail> {
+        let list = indices_pages(alloc, &mut self.room, self.page);
+        let plain = indices_plain(&self.plain);
+        agreed_indices(list, plain)
+    }
+}

@@ -1,0 +1,266 @@
+//! What requests cost the volume in pages: how many words of pages they read and store, and how many pages they take.
+//!
+//! A row is `REQUEST => COST`, in the words of a script. Each row has a volume of its own, which is made alike each time: a page
+//! that is used again has words of what was written there before, and of these none is stored again. So a cost hangs on no
+//! other row, and is the same in each run. It is told exactly: a row fails where its cost grows, and where it falls.
+ghost use Rattle.std.specs.Prelude.{◌≤◌, ◌<◌, ◌+◌, ◌^◌, length, IsTrue};
+ghost use Rattle.be_volume.specs.Volume.{State};
+ghost use Rattle.be_paged.specs.Version.{IsVersion};
+
+use crate::tests::asking::read_query;
+use crate::tests::both::Both;
+use crate::tests::lines::request_of;
+use crate::tests::run_lines;
+use crate::tests::sizes::{accepted, numbered};
+use arrayvec::ArrayVec;
+use be_language::Request;
+use be_paged::{apply_into, get, source};
+use be_pages::{Look, Room};
+use be_plan::answer;
+use be_query::Query;
+use be_testing::{Counted, list_of};
+use be_value::{Name, Refusal, Value, word_of};
+use be_volume::{Op, Volume};
+use std::alloc::{AllocError, Global};
+use std::test::Fail;
+
+/// How many nodes of the volume have attributes. The next one is bare.
+const NODES: u64 = 300;
+
+/// The list that makes a node. Its name and its size have an index, and its kind has none. Names and sizes come in an order that
+/// is far from rising.
+fn node_text(alloc: Global, node: u64) -> Result<String, AllocError> {
+    let name = 10_000 + node.wrapping_mul(271) % NODES;
+    let size = node.wrapping_mul(577) % NODES * 10;
+    format!(in alloc;
+        "new;set {node} name CSTR {name}-document.txt;set {node} size LONG {size};set {node} kind CSTR text/plain"
+    )
+}
+
+fn make_node(alloc: Global, both: Both, node: u64) -> Result<Both, Fail> {
+    let text = match node_text(alloc, node) {
+        Err(_) => node_text(alloc, node)?,
+        Ok(text) => text,
+    };
+    accepted(both, &list_of(alloc, text.as_str())?)
+}
+
+/// The volume that each row is about.
+pub(crate) fn filled(alloc: Global) -> Result<Both, Fail> {
+    let indices = "mkindex name CSTR / mkindex size LONG => ok / ok";
+    let mut both = run_lines(alloc, Both::new(alloc, 1024)?, indices)?;
+    for node in 1..=NODES {
+        both = make_node(alloc, both, node)?;
+    }
+    run_lines(alloc, both, "new => node 301")
+}
+
+/// What a request costs.
+#[derive(Clone, Copy)]
+enum Cost {
+    Read { found: u64, reads: u64 },
+    Write { stores: u64, takes: u64, reads: u64 },
+}
+
+/// Whether a node has an attribute, and what the look at it costs.
+fn count_get(both: Both, node: u64, name: &Name) -> Cost {
+    let Both {
+        plain: _plain,
+        room,
+        page,
+    } = both;
+    let mut look = Counted::new(room);
+    let value = get(&mut look, page, node, name);
+    Cost::Read {
+        found: value.is_some() as u64,
+        reads: look.reads,
+    }
+}
+
+/// The nodes of a query, as a store asks for them, and the look. The plain volume isn't asked: it tells which volume the pages
+/// spell.
+fn answer_pages<L: Look>(
+    alloc: Global,
+    _plain: &Volume,
+    look: L,
+    page: u64,
+    query: &Query,
+) -> (L, Result<Vec<u64>, Refusal>)
+    ghost volume: { State }
+    requires version { IsVersion (L.standing look) (L.words look) page volume }
+{
+    let mut reader = source(look, page);
+    let nodes = answer(alloc, query, &mut reader);
+    (reader.into_look(), nodes)
+}
+
+/// What a query costs, or its refusal.
+fn count_query(alloc: Global, both: Both, query: &Query) -> Result<Cost, Refusal> {
+    let Both { plain, room, page } = both;
+    let (look, nodes) = answer_pages(alloc, &plain, Counted::new(room), page, query);
+    let found = nodes?.len() as u64;
+    Ok(Cost::Read {
+        found,
+        reads: look.reads,
+    })
+}
+
+/// The same by a query's text, of another volume where memory is refused.
+fn query_cost(alloc: Global, text: &str) -> Result<Cost, Fail> {
+    let query = read_query(alloc, text)?;
+    match count_query(alloc, filled(alloc)?, &query) {
+        Err(Refusal::OutOfMemory) => Ok(count_query(alloc, filled(alloc)?, &query)?),
+        cost => Ok(cost?),
+    }
+}
+
+/// Applies a list to the pages. The plain volume isn't asked: it tells which volume they spell.
+fn apply_counted<R: Room>(
+    _plain: &Volume,
+    room: &mut R,
+    page: u64,
+    ops: &[Op],
+) -> Result<(), Refusal>
+    ghost volume: { State }
+    requires version { IsVersion (R.standing room.old) (R.words room.old) page volume }
+    requires some { 1 ≤ length ops.now }
+    requires few { length ops.now ≤ 64 }
+    requires fits { volume.next + 64 < 2 ^ 64 }
+    requires open { IsTrue (R.is_open (R.kept room.old)) }
+{
+    let mut dones = ArrayVec::new();
+    let _page = apply_into(room, page, ops, &mut dones)?;
+    Ok(())
+}
+
+/// What a list costs that is accepted.
+fn count_write(both: Both, ops: &[Op]) -> Result<Cost, Fail> {
+    let Both { plain, room, page } = both;
+    if ops.is_empty() || ops.len() > 64 || plain.next() > u64::MAX - 65 {
+        return Err(Fail::new("no list, or no node number is left"));
+    }
+    let mut room = Counted::new(room);
+    apply_counted(&plain, &mut room, page, ops)?;
+    Ok(Cost::Write {
+        stores: room.stores,
+        takes: room.takes,
+        reads: room.reads,
+    })
+}
+
+/// One of several sets in a list: of the sizes of nodes far apart, or of new names on the bare node.
+fn set_of(kind: &str, number: u8) -> Result<Op, Refusal> {
+    if kind == "names" {
+        return Ok(Op::Set(NODES + 1, numbered(number)?, Value::int32(1)));
+    }
+    let node = 1 + u64::from(number) * 421 % NODES;
+    let size = Value::int32(number as i32 * 45 + 5);
+    Ok(Op::Set(node, Name::new("size")?, size))
+}
+
+fn sets_of(alloc: Global, kind: &str, count: u8) -> Result<Vec<Op>, Refusal> {
+    let mut ops = Vec::new(alloc);
+    for number in 0..count {
+        ops.push(set_of(kind, number)?)?;
+    }
+    Ok(ops)
+}
+
+/// The operations of a row: so many sizes or names, or a list in the words of a script.
+fn ops_of(alloc: Global, request: &str) -> Result<Vec<Op>, Refusal> {
+    let (kind, count) = request.split_once(" ").unwrap_or((request, ""));
+    if kind != "sizes" && kind != "names" {
+        return list_of(alloc, request);
+    }
+    let count = (word_of(count.as_bytes()).unwrap_or(0) % 256) as u8;
+    match sets_of(alloc, kind, count) {
+        Err(Refusal::OutOfMemory) => sets_of(alloc, kind, count),
+        ops => ops,
+    }
+}
+
+fn write_cost(alloc: Global, request: &str) -> Result<Cost, Fail> {
+    let ops = ops_of(alloc, request)?;
+    count_write(filled(alloc)?, &ops)
+}
+
+fn cost_of(alloc: Global, request: &str) -> Result<Cost, Fail> {
+    match request_of(alloc, request)? {
+        Request::Get(node, name) => Ok(count_get(filled(alloc)?, node, &name?)),
+        Request::Query(text) => query_cost(alloc, text.as_str()),
+        _ => write_cost(alloc, request),
+    }
+}
+
+/// The row of a request with the cost that it has.
+fn row_of(alloc: Global, request: &str, cost: Cost) -> Result<String, AllocError> {
+    match cost {
+        Cost::Read { found, reads } => {
+            format!(in alloc; "{request} => {found} found, {reads} words read")
+        }
+        Cost::Write {
+            stores,
+            takes,
+            reads,
+        } => format!(in alloc;
+            "{request} => {stores} words stored, {takes} pages taken, {reads} words read"
+        ),
+    }
+}
+
+/// Fails unless a row is so, with the row as it would be right.
+fn expect_row(alloc: Global, row: &str) -> Result<(), Fail> {
+    let (request, _) = row.split_once(" => ").unwrap_or((row, ""));
+    let cost = cost_of(alloc, request)?;
+    let text = match row_of(alloc, request, cost) {
+        Err(_) => row_of(alloc, request, cost)?,
+        Ok(text) => text,
+    };
+    if text.as_str() == row {
+        return Ok(());
+    }
+    Err(Fail::new(text.as_str()))
+}
+
+fn expect_rows(alloc: Global, rows: &str) -> Result<(), Fail> {
+    for row in rows.lines() {
+        expect_row(alloc, row)?;
+    }
+    Ok(())
+}
+
+/// By what each would grow: the get by a second descent of the catalog's tree; a query of one node by a second descent of its
+/// index's tree, or by a look at the node; a range and a front by a descent for each key, where they go along the leaves; and
+/// the filter, which makes a descent of the catalog's tree for each of a hundred nodes, by a hundred for each word that a descent
+/// reads more.
+#[test]
+fn read_costs(rt: HostRuntime) -> Result<(), Fail> {
+    let rows = r#"get 150 size => 1 found, 48 words read
+query name=="10150-document.txt" => 1 found, 43 words read
+query size==1500 => 1 found, 56 words read
+query size>=1000 && size<2000 => 100 found, 430 words read
+query name=="101*" => 100 found, 427 words read
+query name=="101*" && size>=1500 => 50 found, 6927 words read"#;
+    expect_rows(rt.alloc(), rows)
+}
+
+/// A new node, a set with an index, two sets without one, of which the second sets what stands, lists of sets of many nodes and
+/// of one, and a drop.
+///
+/// By what each would grow: in pages by one that is copied twice in a list, as the version's page for each operation, or by one of
+/// a tree that doesn't change; in words stored by a page that is written whole where it could be edited, or by words that are
+/// written though they stand; and in words read by a descent more, or by what is asked anew for each set of a list.
+#[test]
+fn write_costs(rt: HostRuntime) -> Result<(), Fail> {
+    let rows =
+        "new;set 302 name CSTR 10150-copy.txt;set 302 size LONG 1505;set 302 kind CSTR image/png \
+=> 227 words stored, 10 pages taken, 674 words read
+set 150 size LONG 1505 => 250 words stored, 9 pages taken, 447 words read
+set 150 kind CSTR image/png => 58 words stored, 4 pages taken, 215 words read
+set 150 kind CSTR text/plain => 55 words stored, 4 pages taken, 215 words read
+sizes 64 => 5712 words stored, 115 pages taken, 21210 words read
+names 8 => 131 words stored, 5 pages taken, 805 words read
+names 64 => 512 words stored, 11 pages taken, 6505 words read
+drop 150 => 225 words stored, 10 pages taken, 767 words read";
+    expect_rows(rt.alloc(), rows)
+}

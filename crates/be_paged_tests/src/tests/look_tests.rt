@@ -1,0 +1,162 @@
+//! Versions read by another look than their room: one that counts its calls, and while a write is open one that sees what stood
+//! before it.
+ghost use Rattle.std.specs.Prelude.{◌≡◌, IfOk};
+ghost use Rattle.be_pages.specs.Pages.{IsUnchanged, after_undo};
+ghost use Rattle.be_tree.specs.Forest.{IsWriteStart};
+ghost use Rattle.be_paged.specs.Version.{IsVersion};
+
+use crate::tests::asking::{query_both, read_query};
+use crate::tests::both::Both;
+use crate::tests::costs::filled;
+use crate::tests::lines::nodes_text;
+use crate::tests::run_lines;
+use crate::tests::test_looks::Before;
+use crate::tests::writing::{accepts, apply_pages};
+use be_pages::{Look, VecRoom};
+use be_testing::{Counted, EQUAL_VALUES};
+use be_value::Refusal;
+use be_volume::{Op, Volume};
+use std::alloc::Global;
+use std::test::Fail;
+
+/// Fails unless both forms give these nodes. Gives the look as it was.
+fn expect_look<L: Look + Drop>(
+    alloc: Global,
+    plain: &Volume,
+    look: L,
+    page: u64,
+    text: &str,
+    expected: &str,
+) -> Result<L, Fail>
+    requires version { IsVersion (L.standing look) (L.words look) page plain.now }
+    ensures unchanged { IfOk result (λ r. IsUnchanged L.kept L.standing L.words look r) }
+{
+    let query = read_query(alloc, text)?;
+    let (look, answer) = query_both(alloc, plain, look, page, &query, None)?;
+    if nodes_text(alloc, answer)?.as_str() == expected {
+        return Ok(look);
+    }
+    Err(Fail::new(text))
+}
+
+/// Fails unless both forms give these nodes, the one over pages by a look that counts its calls. Gives both as they were.
+fn expect_counting(alloc: Global, both: Both, text: &str, expected: &str) -> Result<Both, Fail> {
+    let Both { plain, room, page } = both;
+    let counting = Counted::new(room);
+    let counting = expect_look(alloc, &plain, counting, page, text, expected)?;
+    Ok(Both {
+        plain,
+        room: counting.pages,
+        page,
+    })
+}
+
+/// A walk over a hundred names, which looks at each node. The version stands in the room that comes back, and can be written on.
+#[test]
+fn counting_look(rt: HostRuntime) -> Result<(), Fail> {
+    let query = r#"name=="101*" && size>=2900"#;
+    let both = filled(rt.alloc())?;
+    let both = expect_counting(rt.alloc(), both, query, "nodes 170 222 274\n")?;
+    let both = run_lines(rt.alloc(), both, "drop 222 => ok")?;
+    let _both = expect_counting(rt.alloc(), both, query, "nodes 170 274\n")?;
+    Ok(())
+}
+
+/// An equal volume, copied again where memory is refused.
+fn copy_of(plain: &Volume) -> Result<Volume, Refusal>
+    ensures { IfOk result (λ copy. copy ≡ plain.now) }
+{
+    match plain.copy() {
+        Err(Refusal::OutOfMemory) => plain.copy(),
+        copy => copy,
+    }
+}
+
+/// Fails unless the version that stood when the open write began gives these nodes. Gives the room as it was.
+fn expect_before(
+    alloc: Global,
+    plain: &Volume,
+    room: VecRoom,
+    page: u64,
+    text: &str,
+    expected: &str,
+) -> Result<VecRoom, Fail>
+    requires version { IsVersion (λ q. after_undo (⟦<VecRoom as Look>⟧.standing room q)) (⟦<VecRoom as Look>⟧.words room) page plain.now }
+    ensures unchanged { IfOk result (λ r. IsUnchanged ⟦<VecRoom as Look>⟧.kept ⟦<VecRoom as Look>⟧.standing ⟦<VecRoom as Look>⟧.words room r) }
+{
+    let before = Before { look: room };
+    let before = expect_look(alloc, plain, before, page, text, expected)?;
+    Ok(before.look)
+}
+
+/// Reads a version and the copy of which a node was dropped, while the write is open.
+fn read_copies(
+    alloc: Global,
+    original: &Volume,
+    copy: &Volume,
+    room: VecRoom,
+    page: u64,
+    new_page: u64,
+) -> Result<VecRoom, Fail>
+    requires before { IsVersion (λ q. after_undo (⟦<VecRoom as Look>⟧.standing room q)) (⟦<VecRoom as Look>⟧.words room) page original.now }
+    requires version { IsVersion (⟦<VecRoom as Look>⟧.standing room) (⟦<VecRoom as Look>⟧.words room) new_page copy.now }
+    ensures version { IfOk result (λ r. IsVersion (⟦<VecRoom as Look>⟧.standing r) (⟦<VecRoom as Look>⟧.words r) new_page copy.now) }
+{
+    let room = expect_before(alloc, original, room, page, "k==x", "nodes 1 3\n")?;
+    let room = expect_look(alloc, copy, room, new_page, "k==x", "nodes 3\n")?;
+    Ok(room)
+}
+
+/// Drops node 1 of the copy, and gives it with the room and the new version page, while the write is open.
+fn drop_first(
+    original: &Volume,
+    mut copy: Volume,
+    mut room: VecRoom,
+    page: u64,
+) -> Result<(Volume, VecRoom, u64), Fail>
+    requires same { copy ≡ original.now }
+    requires version { IsVersion (⟦<VecRoom as Look>⟧.standing room) (⟦<VecRoom as Look>⟧.words room) page original.now }
+    requires start { IsWriteStart (⟦<VecRoom as Look>⟧.standing room) }
+    ensures before { IfOk result (λ r. IsVersion (λ q. after_undo (⟦<VecRoom as Look>⟧.standing r.1 q)) (⟦<VecRoom as Look>⟧.words r.1) page original.now) }
+    ensures version { IfOk result (λ r. IsVersion (⟦<VecRoom as Look>⟧.standing r.1) (⟦<VecRoom as Look>⟧.words r.1) r.2 r.0) }
+{
+    if original.next() > u64::MAX - 65 {
+        return Err(Fail::new("no node number is left"));
+    }
+    let ops = [Op::Drop(1)];
+    match apply_pages(original, &mut room, page, &ops) {
+        Ok((new_page, dones)) => {
+            accepts(&mut copy, &ops, dones.as_slice())?;
+            Ok((copy, room, new_page))
+        }
+        Err(_) => Err(Fail::new("the drop is refused")),
+    }
+}
+
+/// Keeps the write, and reads the copy.
+fn read_kept(alloc: Global, copy: &Volume, mut room: VecRoom, page: u64) -> Result<(), Fail>
+    requires version { IsVersion (⟦<VecRoom as Look>⟧.standing room) (⟦<VecRoom as Look>⟧.words room) page copy.now }
+{
+    room.keep();
+    let _room = expect_look(alloc, copy, room, page, "k==x", "nodes 3\n")?;
+    Ok(())
+}
+
+/// Drops node 1 of a copy. The version page of before the write stands for the original, until the write is kept.
+fn drop_of_copy(alloc: Global, both: Both) -> Result<(), Fail> {
+    let Both {
+        plain: original,
+        room,
+        page,
+    } = both;
+    let copy = copy_of(&original)?;
+    let (copy, room, new_page) = drop_first(&original, copy, room, page)?;
+    let room = read_copies(alloc, &original, &copy, room, page, new_page)?;
+    read_kept(alloc, &copy, room, new_page)
+}
+
+#[test]
+fn volume_copy(rt: HostRuntime) -> Result<(), Fail> {
+    let both = run_lines(rt.alloc(), Both::new(rt.alloc(), 64)?, EQUAL_VALUES)?;
+    drop_of_copy(rt.alloc(), both)
+}

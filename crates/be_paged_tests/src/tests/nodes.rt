@@ -1,0 +1,155 @@
+//! The nodes of a version from a number on, of volumes that a leaf holds and that it doesn't: a leaf has 12 pairs at most.
+//!
+//! A row is `FROM MOST => NODES`. What is refused memory is asked again, as elsewhere here.
+ghost use Rattle.be_pages.specs.Pages.{IsUnchanged};
+ghost use Rattle.be_volume.specs.Volume.{State};
+ghost use Rattle.be_paged.specs.Version.{IsVersion};
+
+use crate::tests::both::Both;
+use crate::tests::sizes::numbered;
+use be_paged::nodes;
+use be_pages::{Look, VecRoom};
+use be_value::{Refusal, Value, word_of};
+use be_volume::Op;
+use std::alloc::Global;
+use std::test::Fail;
+
+/// The nodes over pages.
+fn nodes_pages(
+    alloc: Global,
+    room: &mut VecRoom,
+    page: u64,
+    from: u64,
+    most: usize,
+) -> Result<Vec<u64>, Refusal>
+    requires version { (volume : State) × IsVersion (⟦<VecRoom as Look>⟧.standing room.old) (⟦<VecRoom as Look>⟧.words room.old) page volume }
+    ensures unchanged { IsUnchanged ⟦<VecRoom as Look>⟧.kept ⟦<VecRoom as Look>⟧.standing ⟦<VecRoom as Look>⟧.words room.old room.new }
+{
+    match nodes(alloc, room, page, from, most) {
+        Err(Refusal::OutOfMemory) => nodes(alloc, room, page, from, most),
+        answer => answer,
+    }
+}
+
+/// The nodes of the form over pages, with both forms as they were.
+fn nodes_of(alloc: Global, both: Both, from: u64, most: usize) -> Result<(Both, Vec<u64>), Fail> {
+    let Both {
+        plain,
+        mut room,
+        page,
+    } = both;
+    let list = nodes_pages(alloc, &mut room, page, from, most)?;
+    Ok((Both { plain, room, page }, list))
+}
+
+fn number(word: &str) -> u64 {
+    word_of(word.as_bytes()).unwrap_or(u64::MAX)
+}
+
+/// Whether these are the numbers, with a space between them, or `none`.
+fn are_numbers(list: &[u64], words: &str) -> bool {
+    if list.is_empty() {
+        return words == "none";
+    }
+    let mut rest = words;
+    for node in list {
+        let (word, behind) = rest.split_once(" ").unwrap_or((rest, ""));
+        if number(word) != *node {
+            return false;
+        }
+        rest = behind;
+    }
+    rest.is_empty()
+}
+
+/// Fails unless a row is so.
+fn expect_row(alloc: Global, both: Both, row: &str) -> Result<Both, Fail> {
+    let Some((asked, expected)) = row.split_once(" => ") else {
+        return Err(Fail::new(row));
+    };
+    let (from, most) = asked.split_once(" ").unwrap_or((asked, ""));
+    let (both, list) = nodes_of(alloc, both, number(from), number(most) as usize)?;
+    if !are_numbers(&list, expected) {
+        return Err(Fail::new(row));
+    }
+    Ok(both)
+}
+
+fn expect_rows(alloc: Global, mut both: Both, rows: &str) -> Result<Both, Fail> {
+    for row in rows.lines() {
+        both = expect_row(alloc, both, row)?;
+    }
+    Ok(both)
+}
+
+/// Writes one operation, which has to be accepted.
+fn written(both: Both, op: Op) -> Result<Both, Fail> {
+    let (both, answer) = both.write(&[op])?;
+    answer?;
+    Ok(both)
+}
+
+/// Makes so many nodes.
+fn with_nodes(mut both: Both, count: u64) -> Result<Both, Fail> {
+    for _ in 0..count {
+        both = written(both, Op::New)?;
+    }
+    Ok(both)
+}
+
+/// Gives a node 26 attributes, more than two leaves hold.
+fn with_attributes(mut both: Both, node: u64) -> Result<Both, Fail> {
+    for letter in 0..26u8 {
+        both = written(both, Op::Set(node, numbered(letter)?, Value::int32(1)))?;
+    }
+    Ok(both)
+}
+
+#[test]
+fn bare_nodes(rt: HostRuntime) -> Result<(), Fail> {
+    let both = Both::new(rt.alloc(), 128)?;
+    let both = expect_rows(rt.alloc(), both, "0 9 => none\n1 0 => none")?;
+    let both = with_nodes(both, 1)?;
+    let both = expect_rows(
+        rt.alloc(),
+        both,
+        "0 9 => 1\n1 1 => 1\n1 0 => none\n2 9 => none",
+    )?;
+    let both = with_nodes(both, 11)?;
+    let rows = "0 99 => 1 2 3 4 5 6 7 8 9 10 11 12
+0 1 => 1
+5 3 => 5 6 7
+12 9 => 12
+13 9 => none";
+    let both = expect_rows(rt.alloc(), both, rows)?;
+    let both = with_nodes(both, 1)?;
+    let rows = "0 13 => 1 2 3 4 5 6 7 8 9 10 11 12 13
+12 2 => 12 13
+13 1 => 13
+18446744073709551615 9 => none";
+    let _both = expect_rows(rt.alloc(), both, rows)?;
+    Ok(())
+}
+
+/// Of a hundred nodes two are removed, and the ones at the ends and before the gap have attributes.
+#[test]
+fn nodes_with_attributes(rt: HostRuntime) -> Result<(), Fail> {
+    let mut both = with_nodes(Both::new(rt.alloc(), 128)?, 100)?;
+    for node in [1, 50, 51, 100] {
+        both = with_attributes(both, node)?;
+    }
+    for node in [51, 52] {
+        both = written(both, Op::Drop(node))?;
+    }
+    let rows = "0 2 => 1 2
+2 1 => 2
+49 4 => 49 50 53 54
+50 1 => 50
+51 2 => 53 54
+98 99 => 98 99 100
+101 1 => none";
+    let both = expect_rows(rt.alloc(), both, rows)?;
+    let (_both, list) = nodes_of(rt.alloc(), both, 0, 1000)?;
+    assert_eq!(rt; list.len(), 98);
+    Ok(())
+}

@@ -1,0 +1,254 @@
+//! Random lists of operations on both forms of a volume.
+use crate::tests::asking::read_query;
+use crate::tests::both::Both;
+use crate::tests::sizes::numbered;
+use arrayvec::ArrayVec;
+use be_value::{Kind, Refusal, Value, word_of};
+use be_volume::{Done, Op};
+use std::alloc::{AllocError, Global};
+use std::test::Fail;
+
+/// Numbers by xorshift.
+#[derive(Drop)]
+struct Random {
+    state: u64,
+}
+
+impl Random {
+    /// The next number below a limit.
+    fn below(&mut self, limit: u64) -> u64 {
+        let mut x = self.state;
+        x ^= x.wrapping_mul(1 << 13);
+        x ^= x >> 7;
+        x ^= x.wrapping_mul(1 << 17);
+        self.state = x;
+        if limit == 0 { 0 } else { x % limit }
+    }
+}
+
+/// What lists are made of: of the youngest nodes so many, so many names, one new node in so many that could be, and the pages
+/// of the room.
+#[derive(Drop)]
+struct Mix {
+    nodes: u64,
+    names: u64,
+    news: u64,
+    pages: u64,
+}
+
+fn random_value(random: &mut Random) -> Option<Value> {
+    if random.below(4) > 0 {
+        return Some(Value::int32((random.below(8) % 8) as i32 - 4));
+    }
+    let letters = [b'x'; 255];
+    let length = match random.below(8) {
+        0 => random.below(256),
+        _ => 1,
+    };
+    Value::text(str::from_utf8(&letters[..length as usize % 256]).ok()?).ok()
+}
+
+fn random_kind(random: &mut Random) -> Kind {
+    match random.below(8) {
+        0 => Kind::Rawt,
+        1 | 2 => Kind::Cstr,
+        _ => Kind::Long,
+    }
+}
+
+fn random_op(random: &mut Random, mix: &Mix, next: u64) -> Option<Op> {
+    if next == 1 {
+        return Some(Op::New);
+    }
+    let node = next.wrapping_sub(1 + random.below(mix.nodes) % 256);
+    let name = numbered((random.below(mix.names) % 256) as u8).ok()?;
+    match random.below(16) {
+        0 | 1 if random.below(mix.news) == 0 => Some(Op::New),
+        2 if random.below(mix.news) == 0 && random.below(mix.news) == 0 => Some(Op::Drop(node)),
+        3 | 4 => Some(Op::MkIndex(name, random_kind(random))),
+        5 => Some(Op::RmIndex(name)),
+        6 | 7 => Some(Op::Unset(node, name)),
+        _ => Some(Op::Set(node, name, random_value(random)?)),
+    }
+}
+
+/// A list of 1 to 4 operations.
+fn random_list(
+    alloc: Global,
+    random: &mut Random,
+    mix: &Mix,
+    next: u64,
+) -> Result<Vec<Op>, AllocError> {
+    let mut ops = Vec::new(alloc);
+    for _ in 0..1 + random.below(4) % 4 {
+        if let Some(op) = random_op(random, mix, next) {
+            ops.push(op)?;
+        }
+    }
+    Ok(ops)
+}
+
+/// A random list. Where memory is refused, the same list is made again.
+fn list_of(
+    alloc: Global,
+    random: &mut Random,
+    mix: &Mix,
+    next: u64,
+) -> Result<Vec<Op>, AllocError> {
+    let state = random.state;
+    match random_list(alloc, random, mix, next) {
+        Err(_) => {
+            random.state = state;
+            random_list(alloc, random, mix, next)
+        }
+        ops => ops,
+    }
+}
+
+/// Notes how a list was answered: 0, or the number of its refusal.
+fn note(seen: &mut [u64; 23], answer: &Result<ArrayVec<Done, 64>, Refusal>) {
+    let place = match answer {
+        Ok(_) => 0,
+        Err(refusal) => usize::from(refusal.number()) % 23,
+    };
+    seen[place] = seen[place].wrapping_add(1);
+}
+
+/// Writes a random list.
+fn random_write(
+    alloc: Global,
+    random: &mut Random,
+    mix: &Mix,
+    both: Both,
+    seen: &mut [u64; 23],
+) -> Result<Both, Fail> {
+    let ops = list_of(alloc, random, mix, both.plain.next())?;
+    let (both, answer) = both.write(&ops)?;
+    note(seen, &answer);
+    Ok(both)
+}
+
+/// Queries of few names, some of which have an index.
+const QUERIES: &str = "aa==1
+aa>=0 && ab<2
+aa<0 || ab==x
+ab!=1 && (ac>1 || ad<=0)
+!(aa<0 || ac==3)
+ac==\"x*\"
+ad>=-4 && ac>=-4 && ab>=-4
+ab>x || ab<x";
+
+/// Asks both forms for an attribute, and for all of its node.
+fn random_attributes(
+    alloc: Global,
+    random: &mut Random,
+    mix: &Mix,
+    both: &mut Both,
+) -> Result<(), Fail> {
+    let node = both.plain.next().wrapping_sub(random.below(mix.nodes));
+    let name = numbered((random.below(mix.names) % 256) as u8)?;
+    let _value = both.get(node, &name)?;
+    let _attributes = both.attrs(alloc, node)?;
+    Ok(())
+}
+
+/// Asks both forms a query.
+fn random_query(alloc: Global, random: &mut Random, both: Both) -> Result<Both, Fail> {
+    let text = QUERIES.lines().nth(random.below(8) as usize).unwrap_or("");
+    let query = read_query(alloc, text)?;
+    let (both, _answer) = both.query(alloc, &query, None)?;
+    Ok(both)
+}
+
+/// Asks both forms for what is random.
+fn random_reads(alloc: Global, random: &mut Random, mix: &Mix, both: Both) -> Result<Both, Fail> {
+    let mut both = both;
+    random_attributes(alloc, random, mix, &mut both)?;
+    let _indices = both.indices(alloc)?;
+    random_query(alloc, random, both)
+}
+
+/// Writes a random list, and reads where that is asked for.
+fn random_turn(
+    alloc: Global,
+    random: &mut Random,
+    mix: &Mix,
+    both: Both,
+    reads: bool,
+    seen: &mut [u64; 23],
+) -> Result<Both, Fail> {
+    let both = random_write(alloc, random, mix, both, seen)?;
+    if !reads {
+        return Ok(both);
+    }
+    random_reads(alloc, random, mix, both)
+}
+
+/// Writes random lists, and reads at each eighth.
+fn run_mix(
+    alloc: Global,
+    random: &mut Random,
+    mix: &Mix,
+    lists: u64,
+    seen: &mut [u64; 23],
+) -> Result<(), Fail> {
+    let mut both = Both::new(alloc, mix.pages)?;
+    for i in 0..lists {
+        both = random_turn(alloc, random, mix, both, i % 8 == 0, seen)?;
+    }
+    Ok(())
+}
+
+/// Of four sorts: few names, many nodes, one node with many names, and a small room.
+fn mix_of(sort: u64) -> Mix {
+    match sort {
+        0 => Mix {
+            nodes: 16,
+            names: 4,
+            news: 1,
+            pages: 64,
+        },
+        1 => Mix {
+            nodes: 64,
+            names: 8,
+            news: 1,
+            pages: 256,
+        },
+        2 => Mix {
+            nodes: 1,
+            names: 96,
+            news: 256,
+            pages: 128,
+        },
+        _ => Mix {
+            nodes: 8,
+            names: 4,
+            news: 1,
+            pages: 16,
+        },
+    }
+}
+
+/// Whether more than 100 lists were answered so.
+fn is_often(seen: &[u64; 23], number: &str) -> bool {
+    let place = word_of(number.as_bytes()).unwrap_or(0) as usize % 23;
+    seen[place] > 100
+}
+
+/// 10,000 lists. Many are accepted, and many refused by the volume in each way, and for want of pages.
+#[test]
+fn random_lists(rt: HostRuntime) -> Result<(), Fail> {
+    let mut random = Random {
+        state: 88172645463325252,
+    };
+    let mut seen = [0; 23];
+    for i in 0..20 {
+        run_mix(rt.alloc(), &mut random, &mix_of(i % 4), 500, &mut seen)?;
+    }
+    for number in "0 2 3 4 5 6 7 8 11".split(' ') {
+        if !is_often(&seen, number) {
+            return Err(Fail::new(number));
+        }
+    }
+    Ok(())
+}

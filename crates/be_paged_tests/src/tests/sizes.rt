@@ -1,0 +1,111 @@
+//! The greatest sizes, by the plain volume and by the one over pages: a list of 64 operations is taken, 64 attributes of a node
+//! and 32 indices are taken and listed whole, and one attribute and one index more are refused.
+use crate::tests::both::Both;
+use be_value::{Kind, Name, Refusal, Value};
+use be_volume::Op;
+use std::alloc::Global;
+use std::str;
+use std::test::Fail;
+
+/// One of 256 names of two letters, from `aa` on.
+pub(crate) fn numbered(number: u8) -> Result<Name, Refusal> {
+    let letters = [b'a' + number / 16, b'a' + number % 16];
+    Name::new(str::from_utf8(&letters).unwrap_or(""))
+}
+
+fn sized(number: u8) -> Result<Op, Refusal> {
+    Ok(Op::Set(1, numbered(number)?, Value::int32(1)))
+}
+
+fn index(number: u8) -> Result<Op, Refusal> {
+    Ok(Op::MkIndex(numbered(number)?, Kind::Long))
+}
+
+/// A node and 63 attributes of it.
+fn node_list(alloc: Global) -> Result<Vec<Op>, Refusal> {
+    let mut ops = Vec::new(alloc);
+    ops.push(Op::New)?;
+    for number in 0..63u8 {
+        ops.push(sized(number)?)?;
+    }
+    Ok(ops)
+}
+
+/// 32 indices.
+fn index_list(alloc: Global) -> Result<Vec<Op>, Refusal> {
+    let mut ops = Vec::new(alloc);
+    for number in 0..32u8 {
+        ops.push(index(number)?)?;
+    }
+    Ok(ops)
+}
+
+/// Writes a list, which has to be accepted.
+pub(crate) fn accepted(both: Both, ops: &[Op]) -> Result<Both, Fail> {
+    let (both, answer) = both.write(ops)?;
+    if answer?.len() != ops.len() {
+        return Err(Fail::new("another number of answers"));
+    }
+    Ok(both)
+}
+
+/// Fails unless a write of one operation is refused so.
+fn refused(both: Both, op: Op, refusal: Refusal) -> Result<(), Fail> {
+    let (_both, answer) = both.write(&[op])?;
+    match answer {
+        Err(other) if other == refusal => Ok(()),
+        _ => Err(Fail::new("one more is taken, or refused otherwise")),
+    }
+}
+
+/// Both forms once they have taken a list of so many operations.
+fn with_list(alloc: Global, ops: &[Op], count: usize) -> Result<Both, Fail> {
+    if ops.len() != count {
+        return Err(Fail::new("another number of operations"));
+    }
+    accepted(Both::new(alloc, 64)?, ops)
+}
+
+/// Fails unless both forms list so many attributes of node 1.
+fn lists_attributes(alloc: Global, both: &mut Both, count: usize) -> Result<(), Fail> {
+    if both.attrs(alloc, 1)??.len() == count {
+        return Ok(());
+    }
+    Err(Fail::new("another number of attributes"))
+}
+
+/// Fails unless both forms list so many indices.
+fn lists_indices(alloc: Global, both: &mut Both, count: usize) -> Result<(), Fail> {
+    if both.indices(alloc)?.len() == count {
+        return Ok(());
+    }
+    Err(Fail::new("another number of indices"))
+}
+
+/// Both forms with a node of 64 attributes, 63 of which came by the list that made it.
+fn with_attributes(alloc: Global, ops: &[Op]) -> Result<Both, Fail> {
+    let both = with_list(alloc, ops, 64)?;
+    accepted(both, &[sized(63)?])
+}
+
+#[test]
+fn most_operations_and_attributes(rt: HostRuntime) -> Result<(), Fail> {
+    let ops = match node_list(rt.alloc()) {
+        Err(Refusal::OutOfMemory) => node_list(rt.alloc())?,
+        ops => ops?,
+    };
+    let mut both = with_attributes(rt.alloc(), &ops)?;
+    lists_attributes(rt.alloc(), &mut both, 64)?;
+    refused(both, sized(64)?, Refusal::TooManyAttrs)
+}
+
+#[test]
+fn most_indices(rt: HostRuntime) -> Result<(), Fail> {
+    let ops = match index_list(rt.alloc()) {
+        Err(Refusal::OutOfMemory) => index_list(rt.alloc())?,
+        ops => ops?,
+    };
+    let mut both = with_list(rt.alloc(), &ops, 32)?;
+    lists_indices(rt.alloc(), &mut both, 32)?;
+    refused(both, index(32)?, Refusal::TooManyIndices)
+}

@@ -1,0 +1,270 @@
+//! A store with its passes, which replies to requests. What is known of them is its invariant, so that no method has a
+//! clause.
+
+use crate::tests::calls::{Text, answer, write};
+use crate::tests::carrying::carry_meanwhile;
+use crate::tests::races::{closed, journal_of, make_both};
+use crate::tests::states::state_text;
+use be_store::{Journal, Limits, Live, Op, Pass, Refusal, Store, parse};
+use be_testing::{Answers, answer_lines, both_of};
+use std::alloc::Global;
+use std::marker::Model;
+use std::thread::Threads;
+
+/// A store for one pass or for two, and a live query.
+#[derive(Drop)]
+pub(crate) struct Room {
+    store: Store,
+    first: Pass,
+    /// Blank where there is none.
+    second: Pass,
+    has_second: bool,
+    /// For how many passes the store is.
+    passes: u64,
+    live: Option<Live>,
+}
+
+impl Model for Room {
+    ghost use Rattle.std.specs.Prelude.{◌≡◌, true};
+    ghost use Rattle.be_store.specs.Passes.{IsPassOf};
+    ghost use Rattle.be_table.specs.Place.{Opened};
+
+    ghost Value = { Opened };
+
+    ghost view = { λ r. r.store };
+
+    ghost invariant = { λ r. IsPassOf r.store r.first × (r.first.knows.number ≡ 0)
+        × (r.has_second ≡ true → IsPassOf r.store r.second × (r.second.knows.number ≡ 1)) × (r.store.limits.passes ≡ r.passes) };
+}
+
+/// The store of a room for one pass.
+fn open_for_one(alloc: Global, pages: u64, commits: u64) -> Result<Room, Refusal> {
+    let limits = Limits {
+        pages,
+        passes: 1,
+        commits,
+    };
+    let (store, mut passes) = Store::open(alloc, limits)?;
+    let Some(mut second) = passes.pop() else {
+        return Err(Refusal::BadLimits);
+    };
+    let first = second.move_out();
+    Ok(Room {
+        store,
+        first,
+        second,
+        has_second: false,
+        passes: 1,
+        live: None,
+    })
+}
+
+/// The store of a room for two passes.
+fn open_for_two(alloc: Global, pages: u64, commits: u64) -> Result<Room, Refusal> {
+    let limits = Limits {
+        pages,
+        passes: 2,
+        commits,
+    };
+    let (store, passes) = Store::open(alloc, limits)?;
+    let (first, second) = both_of(passes)?;
+    Ok(Room {
+        store,
+        first,
+        second,
+        has_second: true,
+        passes: 2,
+        live: None,
+    })
+}
+
+/// A room for one pass, opened again where memory is refused.
+pub(crate) fn for_one(alloc: Global, pages: u64, commits: u64) -> Result<Room, Refusal> {
+    match open_for_one(alloc, pages, commits) {
+        Err(Refusal::OutOfMemory) => open_for_one(alloc, pages, commits),
+        room => room,
+    }
+}
+
+/// A room for two passes, opened again where memory is refused.
+pub(crate) fn for_two(alloc: Global, pages: u64, commits: u64) -> Result<Room, Refusal> {
+    match open_for_two(alloc, pages, commits) {
+        Err(Refusal::OutOfMemory) => open_for_two(alloc, pages, commits),
+        room => room,
+    }
+}
+
+/// The first line of a reply.
+fn first_line(alloc: Global, reply: Text) -> Text {
+    let reply = reply?;
+    let line = reply.as_str().lines().next().unwrap_or("");
+    Ok(String::from_str(alloc, line)?)
+}
+
+/// How much of the journal each of two passes has seen.
+fn seen_text(alloc: Global, seen: Option<(u64, u64)>) -> Text {
+    match seen {
+        Some((first, second)) => Ok(format!(in alloc; "seen {first} {second}")?),
+        None => Err(Refusal::BadLimits),
+    }
+}
+
+/// How much of the journal two passes have seen that met.
+fn met_text(alloc: Global, met: Option<u64>) -> Text {
+    match met {
+        Some(number) => Ok(format!(in alloc; "met {number}")?),
+        None => Err(Refusal::BadLimits),
+    }
+}
+
+impl Room {
+    /// Writes a list by pass 0. Its number, or why it was refused.
+    fn write_once(&mut self, ops: &[Op]) -> Result<u64, Refusal> {
+        match write(&self.store, &mut self.first, ops) {
+            Ok((number, _)) => Ok(number),
+            Err(refusal) => Err(refusal),
+        }
+    }
+
+    /// The same, once more where memory is refused.
+    pub(crate) fn write_list(&mut self, ops: &[Op]) -> Result<u64, Refusal> {
+        match self.write_once(ops) {
+            Err(Refusal::OutOfMemory) => self.write_once(ops),
+            answer => answer,
+        }
+    }
+
+    /// The same of one operation.
+    pub(crate) fn write(&mut self, op: Op) -> Result<u64, Refusal> {
+        self.write_list(&[op])
+    }
+
+    /// What pass 0 is answered.
+    fn answer_first(&mut self, alloc: Global, words: &str) -> Text {
+        answer(&self.store, alloc, &mut self.first, &mut self.live, words)
+    }
+
+    /// What pass 1 is answered.
+    fn answer_second(&mut self, alloc: Global, words: &str) -> Text {
+        if !self.has_second {
+            return Err(Refusal::BadLimits);
+        }
+        answer(&self.store, alloc, &mut self.second, &mut self.live, words)
+    }
+
+    /// How much of the journal each of the two passes has seen.
+    fn seen(&self) -> Option<(u64, u64)> {
+        if !self.has_second {
+            return None;
+        }
+        Some((self.first.seen(), self.second.seen()))
+    }
+
+    /// Pass 1 meets pass 0. How much of the journal both have seen.
+    fn meet(&mut self) -> Option<u64> {
+        if !self.has_second {
+            return None;
+        }
+        Some(self.store.meet(&mut self.second, &mut self.first))
+    }
+
+    /// Drops pass 1, whether it is pinned or not.
+    pub(crate) fn lose_second(&mut self) {
+        self.has_second = false;
+        drop(self.second.move_out());
+    }
+
+    fn state_once(&mut self, alloc: Global) -> Text {
+        state_text(&self.store, alloc, &mut self.first)
+    }
+
+    /// The operations that make the version of pass 0 again, told once more where memory is refused.
+    pub(crate) fn state(&mut self, alloc: Global) -> Text {
+        match self.state_once(alloc) {
+            Err(Refusal::OutOfMemory) => self.state_once(alloc),
+            text => text,
+        }
+    }
+
+    fn watch(&mut self, alloc: Global, text: &str) -> Text {
+        self.live = Some(Live::new(alloc, parse(alloc, text)?));
+        Ok(String::from_str(alloc, "ok")?)
+    }
+
+    fn answer(&mut self, alloc: Global, request: &str) -> Text {
+        let (who, words) = request.split_once(" ").unwrap_or((request, ""));
+        match who {
+            "0" => self.answer_first(alloc, words),
+            "1" => self.answer_second(alloc, words),
+            "head" => first_line(alloc, self.answer_first(alloc, words)),
+            "live" => self.watch(alloc, words),
+            "seen" => seen_text(alloc, self.seen()),
+            "meet" => met_text(alloc, self.meet()),
+            "state" => self.state(alloc),
+            _ => Err(Refusal::BadLimits),
+        }
+    }
+
+    /// The journal's length, and whether it is legal, of a store for one pass.
+    pub(crate) fn close(self, alloc: Global) -> Result<(u64, bool), Refusal> {
+        let Room {
+            store,
+            first,
+            second: _,
+            has_second: _,
+            passes,
+            live: _,
+        } = self;
+        if passes != 1 {
+            return Err(Refusal::BadLimits);
+        }
+        closed(alloc, store, first)
+    }
+
+    /// Two passes make a hundred nodes each, each on a thread of its own. The journal, and whether each write was accepted.
+    pub(crate) fn race<R: Threads + Sync>(
+        self,
+        rt: &R,
+        alloc: Global,
+    ) -> Result<(Journal, bool), Refusal> {
+        let Room {
+            store,
+            first,
+            second,
+            has_second,
+            passes,
+            live: _,
+        } = self;
+        if passes != 2 || !has_second {
+            return Err(Refusal::BadLimits);
+        }
+        let (first, second) = make_both(rt, &store, first, second);
+        let is_accepted = first.1 && second.1;
+        let journal = journal_of(alloc, store, first.0, second.0)?;
+        Ok((journal, is_accepted))
+    }
+
+    /// The state at the pin of pass 0 is carried on, while pass 1 makes a hundred nodes, each on a thread of its own. The room to
+    /// which it was carried on, and whether each node was accepted.
+    pub(crate) fn carry<R: Threads + Sync>(
+        &mut self,
+        rt: &R,
+        alloc: Global,
+    ) -> Result<(Room, bool), Refusal> {
+        if !self.has_second {
+            return Err(Refusal::BadLimits);
+        }
+        let writer = self.second.move_out();
+        let reader = self.first.move_out();
+        let (written, read) = carry_meanwhile(rt, alloc, &self.store, writer, reader);
+        self.second = written.0;
+        self.first = read.0;
+        Ok((read.1?, written.1))
+    }
+}
+
+impl Answers for Room {
+    fn reply(&mut self, alloc: Global, request: &str) -> Text {
+        answer_lines(alloc, self.answer(alloc, request))
+    }
+}

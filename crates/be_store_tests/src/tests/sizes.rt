@@ -1,0 +1,149 @@
+//! What is asked and answered at sizes between their bounds. No contract rules out a want of memory at one size alone.
+//!
+//! A row has the greatest size, and then requests with their replies, as all tests of a room have. In them `@` is the size, and
+//! `{PART}` the part once for each number from 2 to the size, with the number in place of `#`: so what stands before it, and
+//! it, are as many as the size says.
+
+use crate::tests::room::{Room, for_one};
+use be_store::{Name, Op, Refusal, Value};
+use be_testing::check_lines;
+use be_value::word_of;
+use std::alloc::{AllocError, Global};
+use std::test::Fail;
+
+/// Comparisons, operations and attributes, indices, bytes of a query, of a name and of a value; each is read of the version of a
+/// pin that goes with the read, and of one that stands.
+const ROWS: &str = "256
+0 mkindex k LONG;new;set 1 k LONG 0 => commit 1 / ok / node 1 / ok
+0 query k==0{||k==#} / 0 query k<1{&&k<#} => pin 1 / nodes 1 / pin 1 / nodes 1
+live k==0{||k==#} / 0 pin / 0 refresh / 0 query k!=1{&&k!=#} => ok / pin 1 / created 1 / removed / pin 1 / nodes 1
+
+64
+0 new / 0 set 1 a1 LONG 1{;set 1 a# LONG 1} => commit 1 / node 1 / commit 2 / ok{ / ok}
+head attrs 1 / 0 pin / head attrs 1 => attrs @ / pin 2 / attrs @
+0 unset 1 a1{;unset 1 a#} => commit 3 / ok{ / ok}
+
+32
+0 mkindex i1 LONG{;mkindex i# CSTR} => commit 1 / ok{ / ok}
+head indices / 0 pin / head indices => indices @ / pin 1 / indices @
+
+4093
+0 mkindex k CSTR => commit 1 / ok
+0 query k==x{x} / live k<x{x} / 0 pin / 0 refresh => pin 1 / nodes / ok / pin 1 / created / removed
+
+63
+0 mkindex n{n} LONG;new;set 1 n{n} LONG 5 => commit 1 / ok / node 1 / ok
+0 get 1 n{n} / 0 query n{n}==5 / 0 pin / 0 get 1 n{n} => LONG 5 / pin 1 / nodes 1 / pin 1 / LONG 5
+
+255
+0 mkindex k CSTR;new;set 1 k CSTR x{x};set 1 r MIMS x{x} => commit 1 / ok / node 1 / ok / ok
+0 get 1 k / 0 query k==x{x} / 0 pin / 0 get 1 r => CSTR \"x{x}\" / pin 1 / nodes 1 / pin 1 / MIMS \"x{x}\"";
+
+/// Appends a part once for each number from 2 to the size.
+fn push_each(alloc: Global, text: &mut String, part: &str, size: u64) -> Result<(), AllocError> {
+    for number in 2..=size {
+        let number = format!(in alloc; "{number}")?;
+        text.push_str(part.replace(alloc, "#", number.as_str())?.as_str())?;
+    }
+    Ok(())
+}
+
+/// The requests and replies of a row at this size.
+fn lines_at(alloc: Global, row: &str, size: u64) -> Result<String, AllocError> {
+    let mut text = String::new(alloc);
+    let number = format!(in alloc; "{size}")?;
+    let row = row.replace(alloc, "@", number.as_str())?;
+    for part in row.as_str().split('}') {
+        let (once, each) = part.split_once("{").unwrap_or((part, ""));
+        text.push_str(once)?;
+        push_each(alloc, &mut text, each, size)?;
+    }
+    Ok(text)
+}
+
+/// Fails unless a new room gives the replies of a row at this size.
+fn check_size(alloc: Global, row: &str, size: u64) -> Result<(), Fail> {
+    let lines = match lines_at(alloc, row, size) {
+        Err(_) => lines_at(alloc, row, size)?,
+        Ok(lines) => lines,
+    };
+    let pages = size.saturating_add(256);
+    check_lines(alloc, &mut for_one(alloc, pages, 20_000)?, lines.as_str())
+}
+
+/// The same at ten sizes by equal steps, and at halves of the greatest, and halves of these.
+fn check_row(alloc: Global, row: &str) -> Result<(), Fail> {
+    let (most, row) = row.split_once("\n").unwrap_or(("", row));
+    let most = word_of(most.as_bytes()).unwrap_or(1);
+    for step in 1..=10u64 {
+        check_size(alloc, row, most.saturating_mul(step) / 10)?;
+    }
+    let mut size = most;
+    for _ in 0..13 {
+        size /= 2;
+        check_size(alloc, row, size.max(1))?;
+    }
+    Ok(())
+}
+
+/// Each row at each of its sizes.
+#[test]
+fn sizes(rt: HostRuntime) -> Result<(), Fail> {
+    for row in ROWS.split("\n\n") {
+        check_row(rt.alloc(), row)?;
+    }
+    Ok(())
+}
+
+/// How many nodes there are when a query and a live one are asked.
+const COUNTS: &str =
+    "1 3 6 16 40 100 251 631 1000 1585 2000 3000 3981 5000 6000 7000 8000 9000 10000";
+
+/// What finds all of so many nodes, by the version after this many writes.
+fn found_lines(alloc: Global, count: u64, pin: u64) -> Result<String, AllocError> {
+    let mut nodes = String::from_str(alloc, "1")?;
+    push_each(alloc, &mut nodes, " #", count)?;
+    format!(in alloc;
+        "live k==7 / 0 refresh / 0 query k==7 => ok / created {nodes} / removed / pin {pin} / nodes {nodes}
+0 pin / 0 refresh / 0 query k>6 && k!=8 || k==9 => pin {pin} / created / removed / pin {pin} / nodes {nodes}
+live k>6 / 0 refresh / 0 unpin => ok / created {nodes} / removed / ok"
+    )
+}
+
+/// Makes the nodes behind so many, up to a count.
+fn make_nodes(room: &mut Room, made: u64, count: u64) -> Result<(), Refusal> {
+    for node in made.saturating_add(1)..=count {
+        room.write(Op::New)?;
+        room.write(Op::Set(node, Name::new("k")?, Value::int32(7)))?;
+    }
+    Ok(())
+}
+
+/// The same, and looks at what finds all of them.
+fn find_nodes(alloc: Global, room: &mut Room, made: u64, count: u64) -> Result<(), Fail> {
+    make_nodes(room, made, count)?;
+    let pin = count.saturating_mul(2).saturating_add(1);
+    let lines = match found_lines(alloc, count, pin) {
+        Err(_) => found_lines(alloc, count, pin)?,
+        Ok(lines) => lines,
+    };
+    check_lines(alloc, room, lines.as_str())
+}
+
+/// Makes an index and then nodes, up to each count.
+fn find_growing(alloc: Global, room: &mut Room) -> Result<(), Fail> {
+    check_lines(alloc, room, "0 mkindex k LONG => commit 1 / ok")?;
+    let mut made = 0;
+    for count in COUNTS.split(' ') {
+        let count = word_of(count.as_bytes()).unwrap_or(0);
+        find_nodes(alloc, room, made, count)?;
+        made = count;
+    }
+    Ok(())
+}
+
+/// Nodes of an answer and of a live query.
+#[test]
+fn many_nodes(rt: HostRuntime) -> Result<(), Fail> {
+    find_growing(rt.alloc(), &mut for_one(rt.alloc(), 16384, 30_000)?)
+}

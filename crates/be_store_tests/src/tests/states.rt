@@ -1,0 +1,67 @@
+//! The operations that make a version again, a line each.
+ghost use Rattle.std.specs.Prelude.{◌≡◌, ℕ, None};
+ghost use Rattle.be_store.specs.Passes.{IsPassOf, IsPinnedTo};
+ghost use Rattle.be_store.specs.Seats.{pinned_number};
+ghost use Rattle.be_store_tests.specs.Staying.{StaysPass};
+
+use crate::tests::calls::Text;
+use be_journal::op_text;
+use be_store::{Op, Pass, Place, Refusal, Store};
+use std::alloc::{AllocError, Global};
+
+/// The next operations, none behind the last, or why they were refused.
+type List = Result<Option<Vec<Op>>, Refusal>;
+
+/// Adds a line for each of these operations; false where there are none.
+fn push_list(alloc: Global, list: List, text: &mut String) -> Result<bool, Refusal> {
+    let Some(ops) = list? else {
+        return Ok(false);
+    };
+    push_lines(alloc, ops.as_slice(), text)?;
+    Ok(true)
+}
+
+fn push_lines(alloc: Global, ops: &[Op], text: &mut String) -> Result<(), AllocError> {
+    for op in ops {
+        text.push_str(op_text(alloc, op)?.as_str())?;
+        text.push_str("\n")?;
+    }
+    Ok(())
+}
+
+/// The first list, at a pin that goes with the read.
+fn first_list(store: &Store, alloc: Global, pass: &mut Pass, place: &mut Place) -> List
+    requires pass { IsPassOf store.now pass.old }
+    requires unpinned { pinned_number pass.old.knows.phase ≡ None }
+    ensures { StaysPass store.now pass.old pass.new }
+{
+    let mut version = store.pinned(pass);
+    version.state(alloc, place)
+}
+
+/// The next list at the pin; of a pass that isn't pinned, the first.
+fn next_list(store: &Store, alloc: Global, pass: &mut Pass, place: &mut Place) -> List
+    requires { IsPassOf store.now pass.old }
+    ensures { StaysPass store.now pass.old pass.new }
+{
+    match pass.pinned() {
+        Some(_) => store.state(alloc, pass, place),
+        None => first_list(store, alloc, pass, place),
+    }
+}
+
+/// The operations of up to a hundred lists at the pin; of the first list alone, where the pass isn't pinned.
+pub(crate) fn state_text(store: &Store, alloc: Global, pass: &mut Pass) -> Text
+    requires { IsPassOf store.now pass.old }
+    ensures { StaysPass store.now pass.old pass.new }
+{
+    let mut place = Place::new(alloc);
+    let mut text = String::new(alloc);
+    for _ in 0..100 {
+        let list = next_list(store, alloc, pass, &mut place);
+        if !push_list(alloc, list, &mut text)? || pass.pinned().is_none() {
+            return Ok(text);
+        }
+    }
+    Ok(text)
+}

@@ -1,0 +1,48 @@
+//! Writes by two threads, and the end of a table.
+ghost use Rattle.std.specs.Prelude.{◌≡◌};
+ghost use Rattle.be_table_tests.specs.Resting.{IsResting, StaysSeat};
+
+use crate::tests::room::open;
+use crate::tests::writes::enter_many;
+use be_journal::Journal;
+use be_table::{Limits, Seat, VersionTable};
+use be_testing::{both_of, pair_of};
+use be_value::Refusal;
+use std::alloc::Global;
+use std::thread;
+use std::thread::Threads;
+
+/// Enters a hundred nodes. Whether it did.
+fn enter_hundred(table: &VersionTable, mut seat: Seat) -> (Seat, bool)
+    requires { IsResting table.now seat }
+    ensures { StaysSeat table.now seat result.0 }
+{
+    let entered = enter_many(table, &mut seat, 100);
+    (seat, entered)
+}
+
+/// The journal after two passes have entered a hundred nodes each, each on a thread of its own, and whether each was entered.
+fn race_once<R: Threads + Sync>(rt: &R, alloc: Global) -> Result<(Journal, bool), Refusal> {
+    let limits = Limits {
+        pages: 64,
+        passes: 2,
+        commits: 1000,
+    };
+    let (table, seats) = open(alloc, limits)?;
+    let (first, second) = both_of(seats)?;
+    let (first, second) = thread::join(
+        rt,
+        || enter_hundred(&table, first),
+        || enter_hundred(&table, second),
+    );
+    let seats = pair_of(alloc, first.0, second.0)?;
+    Ok((table.close(seats), first.1 && second.1))
+}
+
+/// The same, once more where memory is refused.
+pub(crate) fn race<R: Threads + Sync>(rt: &R, alloc: Global) -> Result<(Journal, bool), Refusal> {
+    match race_once(rt, alloc) {
+        Err(Refusal::OutOfMemory) => race_once(rt, alloc),
+        answer => answer,
+    }
+}

@@ -1,0 +1,247 @@
+//! A table with its seats, which replies to requests. What is known of them is its invariant, so that no method has a
+//! clause.
+ghost use Rattle.std.specs.Prelude.{◌≡◌, length, IfOk};
+ghost use Rattle.be_table.specs.Works.{AreNew};
+ghost use Rattle.be_table_tests.specs.Resting.{IsResting};
+
+use crate::tests::calls::{Text, answer, answers, both_texts, number_text, write_text};
+use crate::tests::writes::{act, enter_many, in_write};
+use be_paged::first_page;
+use be_table::{Limits, Seat, VersionTable};
+use be_testing::{Answers, answer_lines, both_of};
+use be_value::{Refusal, word_of};
+use be_volume::Op;
+use std::alloc::Global;
+use std::marker::Model;
+use std::mem;
+
+/// A table for three passes.
+#[derive(Drop)]
+pub(crate) struct Room {
+    table: VersionTable,
+    first: Seat,
+    second: Seat,
+    third: Seat,
+}
+
+impl Model for Room {
+    ghost use Rattle.be_table.specs.Place.{Opened};
+    ghost use Rattle.be_table_tests.specs.Resting.{IsResting};
+
+    ghost Value = { Opened };
+
+    ghost view = { λ r. r.table };
+
+    ghost invariant = { λ r. IsResting r.table r.first × IsResting r.table r.second × IsResting r.table r.third };
+}
+
+/// A table with these limits and its seats. Version 0 spells the empty volume.
+pub(crate) fn open(alloc: Global, limits: Limits) -> Result<(VersionTable, Vec<Seat>), Refusal>
+    ensures { IfOk result (λ r. (r.0.limits ≡ limits) × (length r.1.items ≡ limits.passes) × AreNew r.0 0 r.1.items) }
+{
+    VersionTable::open(alloc, limits, &first_page())
+}
+
+/// How many seats a table with these limits has.
+pub(crate) fn count_seats(alloc: Global, limits: Limits) -> Result<usize, Refusal> {
+    let (_, seats) = match open(alloc, limits) {
+        Err(Refusal::OutOfMemory) => open(alloc, limits)?,
+        answer => answer?,
+    };
+    Ok(seats.len())
+}
+
+fn open_room(alloc: Global, pages: u64) -> Result<Room, Refusal> {
+    let limits = Limits {
+        pages,
+        passes: 3,
+        commits: 1000,
+    };
+    let (table, mut seats) = open(alloc, limits)?;
+    let Some(third) = seats.pop() else {
+        return Err(Refusal::BadLimits);
+    };
+    let (first, second) = both_of(seats)?;
+    Ok(Room {
+        table,
+        first,
+        second,
+        third,
+    })
+}
+
+/// A room with so many pages, opened again where memory is refused.
+pub(crate) fn opened(alloc: Global, pages: u64) -> Result<Room, Refusal> {
+    match open_room(alloc, pages) {
+        Err(Refusal::OutOfMemory) => open_room(alloc, pages),
+        room => room,
+    }
+}
+
+/// What two passes are answered, whose requests stand before and behind ` | `, while another one holds the lock.
+fn hold(
+    table: &VersionTable,
+    alloc: Global,
+    holder: &mut Seat,
+    second: &mut Seat,
+    third: &mut Seat,
+    requests: &str,
+) -> Text
+    requires { IsResting table.now holder.old × IsResting table.now second.old × IsResting table.now third.old }
+    ensures { IsResting table.now holder.new × IsResting table.now second.new × IsResting table.now third.new }
+{
+    let (before, behind) = requests.split_once(" | ").unwrap_or((requests, ""));
+    let writing = match table.lock(holder.move_out()) {
+        Ok(writing) => writing,
+        Err((kept, refusal)) => {
+            *holder = kept;
+            return Err(refusal);
+        }
+    };
+    let first = answers(table, alloc, second, before);
+    let last = answers(table, alloc, third, behind);
+    *holder = writing.unlock();
+    both_texts(alloc, first, last)
+}
+
+/// What a pass is answered before and after another one, which holds the lock, enters a node.
+fn write_between(
+    table: &VersionTable,
+    alloc: Global,
+    holder: &mut Seat,
+    second: &mut Seat,
+    requests: &str,
+) -> Text
+    requires { IsResting table.now holder.old × IsResting table.now second.old }
+    ensures { IsResting table.now holder.new × IsResting table.now second.new }
+{
+    let (before, behind) = requests.split_once(" | ").unwrap_or((requests, ""));
+    let mut writing = match table.lock(holder.move_out()) {
+        Ok(writing) => writing,
+        Err((kept, refusal)) => {
+            *holder = kept;
+            return Err(refusal);
+        }
+    };
+    let first = answers(table, alloc, second, before);
+    let entered = act(&mut writing, &[Op::New], "");
+    let last = answers(table, alloc, second, behind);
+    *holder = writing.unlock();
+    both_texts(
+        alloc,
+        first,
+        both_texts(alloc, write_text(alloc, entered), last),
+    )
+}
+
+/// A pass looks, another one enters so many nodes, and then the first announces what it saw and looks again. What it saw
+/// at both looks.
+#[tactic(auto, using(crate::proofs::Phases::idle_at_rest))]
+fn pin_late(
+    table: &VersionTable,
+    writer: &mut Seat,
+    reader: &mut Seat,
+    count: u64,
+) -> Option<(u64, u64)>
+    requires { IsResting table.now writer.old × IsResting table.now reader.old }
+    ensures { IsResting table.now writer.new × IsResting table.now reader.new }
+{
+    if reader.pinned().is_some() {
+        return None;
+    }
+    let looked = table.look(reader);
+    let entered = enter_many(table, writer, count);
+    table.announce(reader, looked);
+    let pin = table.look_again(reader).0;
+    if entered { Some((looked, pin)) } else { None }
+}
+
+fn late_text(alloc: Global, late: Option<(u64, u64)>) -> Text {
+    match late {
+        Some((looked, pin)) => both_texts(
+            alloc,
+            number_text(alloc, looked),
+            number_text(alloc, pin),
+        ),
+        None => Err(Refusal::BadLimits),
+    }
+}
+
+impl Room {
+    /// Writes by pass 0, or what it finds under the lock.
+    pub(crate) fn in_write(&mut self, ops: &[Op], words: &str) -> Result<u64, Refusal> {
+        in_write(&self.table, &mut self.first, ops, words)
+    }
+
+    fn answer_first(&mut self, alloc: Global, words: &str) -> Text {
+        answer(&self.table, alloc, &mut self.first, words)
+    }
+
+    fn answer_second(&mut self, alloc: Global, words: &str) -> Text {
+        answer(&self.table, alloc, &mut self.second, words)
+    }
+
+    fn hold(&mut self, alloc: Global, requests: &str) -> Text {
+        hold(
+            &self.table,
+            alloc,
+            &mut self.first,
+            &mut self.second,
+            &mut self.third,
+            requests,
+        )
+    }
+
+    fn write_between(&mut self, alloc: Global, requests: &str) -> Text {
+        write_between(
+            &self.table,
+            alloc,
+            &mut self.first,
+            &mut self.second,
+            requests,
+        )
+    }
+
+    fn pin_late(&mut self, count: u64) -> Option<(u64, u64)> {
+        pin_late(&self.table, &mut self.first, &mut self.second, count)
+    }
+
+    /// Makes the second pass the first, the third the second, and the first the third.
+    fn turn(&mut self) {
+        mem::swap(&mut self.first, &mut self.second);
+        mem::swap(&mut self.second, &mut self.third);
+    }
+
+    /// The second pass meets the first.
+    fn meet(&mut self) -> u64 {
+        let (second, first, both) = self
+            .table
+            .meet(self.second.move_out(), self.first.move_out());
+        self.second = second;
+        self.first = first;
+        both
+    }
+
+    fn answer(&mut self, alloc: Global, request: &str) -> Text {
+        let (who, words) = request.split_once(" ").unwrap_or((request, ""));
+        match who {
+            "0" => self.answer_first(alloc, words),
+            "1" => self.answer_second(alloc, words),
+            "hold" => self.hold(alloc, words),
+            "between" => self.write_between(alloc, words),
+            "late" => late_text(alloc, self.pin_late(word_of(words.as_bytes()).unwrap_or(0))),
+            "turn" => {
+                self.turn();
+                Ok(String::new(alloc))
+            }
+            "meet" => number_text(alloc, self.meet()),
+            _ => Err(Refusal::BadLimits),
+        }
+    }
+}
+
+impl Answers for Room {
+    fn reply(&mut self, alloc: Global, request: &str) -> Text {
+        answer_lines(alloc, self.answer(alloc, request))
+    }
+}
