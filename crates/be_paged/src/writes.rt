@@ -94,8 +94,7 @@ pub fn apply_into<R: Room>(
 ) -> Result<u64, Refusal>
     ghost volume: { State }
     requires version { IsVersion (R.standing room.old) (R.words room.old) version_page volume }
-    requires some { 1 ≤ length ops.now }
-    requires few { length ops.now ≤ 64 }
+    requires count { (1 ≤ length ops.now) × (length ops.now ≤ 64) }
     requires fits { volume.next + 64 < 2 ^ 64 }
     requires open { IsTrue (R.is_open (R.kept room.old)) }
     requires empty { dones.old.items ≡ [] }
@@ -125,8 +124,7 @@ pub fn apply<R: Room>(
 ) -> Result<(u64, ArrayVec<Done, 64>), Refusal>
     ghost volume: { State }
     requires version { IsVersion (R.standing room.old) (R.words room.old) version_page volume }
-    requires some { 1 ≤ length ops.now }
-    requires few { length ops.now ≤ 64 }
+    requires count { (1 ≤ length ops.now) × (length ops.now ≤ 64) }
     requires fits { volume.next + 64 < 2 ^ 64 }
     requires open { IsTrue (R.is_open (R.kept room.old)) }
     ensures ok { IfOk result (λ r. Applies R.kept R.standing R.words version_page r.0 volume ops.now r.1.items room.old room.new) }

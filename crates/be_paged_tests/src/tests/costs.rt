@@ -123,8 +123,7 @@ fn apply_counted<R: Room>(
 ) -> Result<(), Refusal>
     ghost volume: { State }
     requires version { IsVersion (R.standing room.old) (R.words room.old) page volume }
-    requires some { 1 ≤ length ops.now }
-    requires few { length ops.now ≤ 64 }
+    requires count { (1 ≤ length ops.now) × (length ops.now ≤ 64) }
     requires fits { volume.next + 64 < 2 ^ 64 }
     requires open { IsTrue (R.is_open (R.kept room.old)) }
 {

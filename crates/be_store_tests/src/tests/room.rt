@@ -19,9 +19,9 @@ pub(crate) struct Room {
     /// Blank where there is none.
     second: Pass,
     has_second: bool,
+    live: Option<Live>,
     /// For how many passes the store is.
     passes: u64,
-    live: Option<Live>,
 }
 
 impl Model for Room {
