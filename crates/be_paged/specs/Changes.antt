@@ -24,6 +24,8 @@ use Rattle.be_volume.specs.declared.ops.Done.{Done}
 use Rattle.be_volume.specs.declared.ops.Done.TheVariants.{Unit as Nothing}
 use Rattle.be_volume.specs.declared.ops.Op.{Op}
 use Rattle.be_volume.specs.declared.ops.Op.TheVariants.{New, Set, MkIndex, Drop, Unset, RmIndex}
+use Rattle.be_paged.specs.declared.changes.Turn.{Turn}
+use Rattle.be_paged.specs.declared.changes.Turn.TheVariants as turns
 use Rattle.be_paged.specs.Page.{Contents, contents_of, roots, reach}
 use Rattle.be_paged.specs.Version.{IsInHand, IsVersion, Spells}
 
@@ -50,6 +52,11 @@ key_taken (options.Some k) pairs = without k pairs
 abbrev pub key_put : Option (List ℕ) → List Pair → List Pair
 key_put options.None pairs = pairs
 key_put (options.Some k) pairs = put (record { key = k; payload = [] }) pairs
+
+-- as one or the other becomes of the key
+abbrev pub key_turned : Turn → Option (List ℕ) → List Pair → List Pair
+key_turned turns.Leaves key pairs = key_taken key pairs
+key_turned turns.Enters key pairs = key_put key pairs
 
 -- what is left to drop of a volume: it is the same volume once the node has left
 pub record Leaves (volume left : State) (node : ℕ) : Type 0 where

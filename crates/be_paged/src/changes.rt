@@ -17,7 +17,7 @@ ghost use Rattle.be_volume.specs.Sound.{IsSound};
 ghost use Rattle.be_volume.specs.Volume.{State};
 ghost use Rattle.be_volume.specs.declared.maps.Index.{Index as AnyIndex};
 ghost use Rattle.be_paged.specs.Catalog.{IsIndexOf};
-ghost use Rattle.be_paged.specs.Changes.{Changes, IsReady, repaired, with_indices, key_taken, key_put};
+ghost use Rattle.be_paged.specs.Changes.{Changes, IsReady, repaired, with_indices, key_turned};
 ghost use Rattle.be_paged.specs.Page.{contents, IsNamedAt};
 ghost use Rattle.be_paged.specs.Place.{IsKnownOf};
 ghost use Rattle.be_paged.specs.Version.{IsInHand, Spells};
@@ -67,43 +67,34 @@ fn holds_both<L: Look>(
     }
 }
 
-/// Takes a key out of a tree, if there is one to take.
-fn take_key<R: Room>(
-    room: &mut R,
-    root: u64,
-    key: &Option<ArrayVec<u8, 264>>,
-) -> Result<u64, Refusal>
-    requires tree { IsTree (R.standing room.old) (R.words room.old) root }
-    requires open { IsTrue (R.is_open (R.kept room.old)) }
-    ensures ok { IfOk result (λ new. BecomesTree R.kept R.standing R.words (pages (R.words room.old) root)
-        (key_taken (option_map (λ k. k.items) key.now) (pairs (R.words room.old) root)) new room.old room.new) }
-    ensures none { IfOk result (λ new. option_map (λ k. k.items) key.now ≡ None → new ≡ root) }
-    ensures err { OnErr result (KeepsStart R.kept R.standing R.words room.old room.new) }
-    ensures full { IfErr result (IsFullOf (R.full room.new)) }
-{
-    match key {
-        Some(key) => remove(room, root, key),
-        None => Ok(root),
-    }
+/// What becomes of a key.
+#[derive(Clone, Copy)]
+enum Turn {
+    Leaves,
+    Enters,
 }
 
-/// Puts a key without a payload into a tree, if there is one to put.
-fn put_key<R: Room>(
+/// Takes a key out of a tree, or puts it in without a payload, if there is one.
+fn turn_key<R: Room>(
     room: &mut R,
     root: u64,
+    turn: Turn,
     key: &Option<ArrayVec<u8, 264>>,
 ) -> Result<u64, Refusal>
     requires tree { IsTree (R.standing room.old) (R.words room.old) root }
     requires open { IsTrue (R.is_open (R.kept room.old)) }
     ensures ok { IfOk result (λ new. BecomesTree R.kept R.standing R.words (pages (R.words room.old) root)
-        (key_put (option_map (λ k. k.items) key.now) (pairs (R.words room.old) root)) new room.old room.new) }
+        (key_turned turn (option_map (λ k. k.items) key.now) (pairs (R.words room.old) root)) new room.old room.new) }
     ensures none { IfOk result (λ new. option_map (λ k. k.items) key.now ≡ None → new ≡ root) }
     ensures err { OnErr result (KeepsStart R.kept R.standing R.words room.old room.new) }
     ensures full { IfErr result (IsFullOf (R.full room.new)) }
 {
-    match key {
-        Some(key) => insert(room, root, key, &[]),
-        None => Ok(root),
+    let Some(key) = key else {
+        return Ok(root);
+    };
+    match turn {
+        Turn::Leaves => remove(room, root, key),
+        Turn::Enters => insert(room, root, key, &[]),
     }
 }
 
@@ -137,8 +128,8 @@ fn change_root<R: Room>(
     if holds_both(room, root, &leaves, &enters) {
         return Ok(root);
     }
-    let rest = take_key(room, root, &leaves)?;
-    let last = put_key(room, rest, &enters)?;
+    let rest = turn_key(room, root, Turn::Leaves, &leaves)?;
+    let last = turn_key(room, rest, Turn::Enters, &enters)?;
     Ok(last)
 }
 

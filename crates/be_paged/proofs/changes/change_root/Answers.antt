@@ -27,8 +27,8 @@ pub returns-clause-swaps : goal.returns-clause-swaps
 returns-clause-swaps g c =
     let w = g.R.Look.words in
     let read = c.holds_both.new.look in
-    let mid = c.take_key.new.room in
-    let new = c.put_key.new.room in
+    let mid = c.turn_key.new.room in
+    let new = c.turn_key-2.new.room in
     let first = swaps_since g.R.Look.kept g.R.Look.standing g.R.Look.words (pages (w read) c.args.root) (pages (w mid) c.in_ok-rest.rest) c.args.room.now read mid c.holds_both.ensures.unchanged c.in_ok-rest.ensures.ok.swaps in
     swaps_trans g.R.Look.kept g.R.Look.standing g.R.Look.words (pages (w c.args.room.now) c.args.root) (pages (w mid) c.in_ok-rest.rest) (pages (w new) c.in_ok-last.last) c.args.room.now mid new
     (subst (λ (v : ℕ → ℕ → ℕ). Swaps g.R.Look.kept g.R.Look.standing g.R.Look.words (pages v c.args.root) (pages (w mid) c.in_ok-rest.rest) c.args.room.now mid) c.holds_both.ensures.unchanged.words first)
@@ -47,7 +47,7 @@ returns-clause-keys g c = λ index h ready.
     let mid = c.in_ok-rest.ensures.ok.has_pairs ∙ ap (λ (v : ℕ → ℕ → ℕ). key_taken leaves (pairs v c.args.root)) c.holds_both.ensures.unchanged.words in
     let rest = subst (λ (xs : List Pair). IsIndexOf xs (unpaired index node)) (sym mid) out in
     subst (λ (xs : List Pair). IsIndexOf xs (repaired index node (option_copied c.args.new))) (sym c.in_ok-last.ensures.ok.has_pairs)
-    (entered index kind node (option_copied c.args.old) c.ranges.node.fits ready (pairs (w c.take_key.new.room) c.in_ok-rest.rest) enters (option_copied c.args.new)
+    (entered index kind node (option_copied c.args.old) c.ranges.node.fits ready (pairs (w c.turn_key.new.room) c.in_ok-rest.rest) enters (option_copied c.args.new)
     (seen_some (λ k. k.items) (Leaves kind node (option_copied c.args.new)) c.key_in-enters.result c.key_in-enters.ensures.some)
     (seen_none (λ k. k.items) (HasNone kind (option_copied c.args.new)) c.key_in-enters.result c.key_in-enters.ensures.none) rest)
 
@@ -68,15 +68,15 @@ returns-clause-stays g c = λ v of_kind indexable was is found.
 
 pub returns-in_err-rest-clause-err : goal.returns-in_err-rest-clause-err
 returns-in_err-rest-clause-err g c =
-    let k = start_since g.R.Look.kept g.R.Look.standing g.R.Look.words c.args.room.now c.holds_both.new.look c.take_key.new.room c.holds_both.ensures.unchanged c.in_err-rest.ensures.err in
+    let k = start_since g.R.Look.kept g.R.Look.standing g.R.Look.words c.args.room.now c.holds_both.new.look c.turn_key.new.room c.holds_both.ensures.unchanged c.in_err-rest.ensures.err in
     search (rules, k)
 
 pub returns-in_err-last-clause-err : goal.returns-in_err-last-clause-err
 returns-in_err-last-clause-err g c =
-    let mid = c.take_key.new.room in
-    let more = start_trans g.R.Look.kept g.R.Look.standing g.R.Look.words c.holds_both.new.look mid c.put_key.new.room
+    let mid = c.turn_key.new.room in
+    let more = start_trans g.R.Look.kept g.R.Look.standing g.R.Look.words c.holds_both.new.look mid c.turn_key-2.new.room
     (swaps_start g.R.Look.kept g.R.Look.standing g.R.Look.words _ _ c.holds_both.new.look mid c.in_ok-rest.ensures.ok.swaps) c.in_err-last.ensures.err in
-    let k = start_since g.R.Look.kept g.R.Look.standing g.R.Look.words c.args.room.now c.holds_both.new.look c.put_key.new.room c.holds_both.ensures.unchanged more in
+    let k = start_since g.R.Look.kept g.R.Look.standing g.R.Look.words c.args.room.now c.holds_both.new.look c.turn_key-2.new.room c.holds_both.ensures.unchanged more in
     search (rules, k)
 
 pub returns-clause-apart : goal.returns-clause-apart
