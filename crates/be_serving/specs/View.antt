@@ -4,7 +4,9 @@ use Rattle.std.specs.Option.{option_map}
 use Rattle.std.specs.declared.option.Option.{Option}
 use Rattle.be_volume.specs.declared.ops.Op.{Op}
 use Rattle.be_store.specs.Live.{LiveQuery}
-use Rattle.be_serving.specs.Output.{Session}
+use Rattle.be_language.specs.Reply.{Reply}
+use Rattle.be_language.specs.Request.{Request}
+use Rattle.be_serving.specs.Output.{Replies, Session}
 use Rattle.be_serving.specs.Store.{Store}
 use Rattle.be_serving.specs.declared.client.Client.{Client}
 
@@ -19,7 +21,11 @@ queued_ops client = unwrap_or (queue client) []
 abbrev pub session : Store → Client → Session
 session store client = record { store = store; batch = queue client; live = client.live }
 
--- the same from its parts: with no batch open, with these operations queued, and with this live query
+-- what is replied to this request is said of the store, whatever the script has beside it: both are left as they are
+abbrev pub RepliesToAny : Store → Request → Reply → Type 0
+RepliesToAny store request reply = (client : Client) → Replies (session store client) request reply (session store client)
+
+-- a session from its parts: with no batch open, with these operations queued, and with this live query
 abbrev pub unbatched : Store → Option LiveQuery → Session
 unbatched store l = record { store = store; batch = None; live = l }
 

@@ -9,7 +9,7 @@ ghost use Rattle.be_serving.specs.Output as spec;
 ghost use Rattle.be_language.specs.Request as requests;
 ghost use Rattle.be_serving.specs.Store.{Store, Joins};
 ghost use Rattle.be_language.specs.View.{request_of, reply_of};
-ghost use Rattle.be_serving.specs.View.{session, queued_ops, unbatched, batched, watched};
+ghost use Rattle.be_serving.specs.View.{RepliesToAny, session, queued_ops, unbatched, batched, watched};
 ghost use Rattle.be_store.specs.Live.{LiveQuery};
 
 use crate::client::Client;
@@ -133,8 +133,7 @@ fn commit<S: Server>(server: &mut S, client: &mut Client) -> Reply
 }
 
 fn query<S: Server>(alloc: Global, server: &mut S, text: &str) -> Reply
-    ensures replies { (client : Client) →
-        spec.Replies (session (S.shows server.new) client) (requests.query text.now) (reply_of result) (session (S.shows server.new) client) }
+    ensures replies { RepliesToAny (S.shows server.new) (requests.query text.now) (reply_of result) }
     ensures joins { Joins (S.shows server.old) (S.shows server.new) }
     ensures stays { S.kept server.new ≡ S.kept server.old }
 {
@@ -149,8 +148,7 @@ fn query<S: Server>(alloc: Global, server: &mut S, text: &str) -> Reply
 
 /// What a query would be answered from. The query's own faults come before the cover's refusal.
 fn explain_query<S: Server>(alloc: Global, server: &mut S, text: &str) -> Reply
-    ensures replies { (client : Client) →
-        spec.Replies (session (S.shows server.new) client) (requests.explain text.now) (reply_of result) (session (S.shows server.new) client) }
+    ensures replies { RepliesToAny (S.shows server.new) (requests.explain text.now) (reply_of result) }
     ensures joins { Joins (S.shows server.old) (S.shows server.new) }
     ensures stays { S.kept server.new ≡ S.kept server.old }
 {
@@ -169,8 +167,7 @@ fn explain_query<S: Server>(alloc: Global, server: &mut S, text: &str) -> Reply
 }
 
 fn get<S: Server>(server: &mut S, node: u64, name: Result<Name, Refusal>) -> Reply
-    ensures replies { (client : Client) →
-        spec.Replies (session (S.shows server.new) client) (requests.get node name) (reply_of result) (session (S.shows server.new) client) }
+    ensures replies { RepliesToAny (S.shows server.new) (requests.get node name) (reply_of result) }
     ensures joins { Joins (S.shows server.old) (S.shows server.new) }
     ensures stays { S.kept server.new ≡ S.kept server.old }
 {
@@ -181,8 +178,7 @@ fn get<S: Server>(server: &mut S, node: u64, name: Result<Name, Refusal>) -> Rep
 }
 
 fn attrs<S: Server>(server: &mut S, node: u64) -> Reply
-    ensures replies { (client : Client) →
-        spec.Replies (session (S.shows server.new) client) (requests.attrs node) (reply_of result) (session (S.shows server.new) client) }
+    ensures replies { RepliesToAny (S.shows server.new) (requests.attrs node) (reply_of result) }
     ensures joins { Joins (S.shows server.old) (S.shows server.new) }
     ensures stays { S.kept server.new ≡ S.kept server.old }
 {
@@ -193,8 +189,7 @@ fn attrs<S: Server>(server: &mut S, node: u64) -> Reply
 }
 
 fn indices<S: Server>(server: &mut S) -> Reply
-    ensures replies { (client : Client) →
-        spec.Replies (session (S.shows server.new) client) requests.indices (reply_of result) (session (S.shows server.new) client) }
+    ensures replies { RepliesToAny (S.shows server.new) requests.indices (reply_of result) }
     ensures joins { Joins (S.shows server.old) (S.shows server.new) }
     ensures stays { S.kept server.new ≡ S.kept server.old }
 {
