@@ -1,14 +1,10 @@
 """A shared, multi-version store of nodes with attributes, indices and queries, in memory.
 
-    import bestore
-
     with bestore.open() as store:
         store.make_index("MAIL:from", bestore.STRING)
-        node = store.new_node()
-        store.set(node, "MAIL:from", "ann")
+        store.set(store.new_node(), "MAIL:from", "ann")
         with store.pin() as version:
-            for found in version.query("MAIL:from==ann"):
-                print(found, version[found]["MAIL:from"])
+            print(list(version.query("MAIL:from==ann")))
 
 A `Pass` is one user's place in a store. Each thread has one of its own: the thread that opened the store makes it by
 `another`, before that thread starts, since a pass takes one call at a time. What a call refuses is raised as a `Refusal`, of
