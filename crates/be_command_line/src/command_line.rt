@@ -45,6 +45,14 @@ fn number_option<'a>(
         .default_value(default)
 }
 
+/// An option that is given or not.
+fn flag<'a>(alloc: Global, name: &'a str, help: &'a str) -> Arg<'a> {
+    Arg::new(alloc, name)
+        .long(name)
+        .help(help)
+        .action(ArgAction::SetTrue)
+}
+
 /// A command that takes the limits of a store, and its files.
 fn command<'a>(
     alloc: Global,
@@ -80,10 +88,11 @@ fn run_command<'a>(alloc: Global) -> Result<Command<'a>, AllocError> {
         .help("The script, a command a line; - is standard input")
         .required(true)
         .action(ArgAction::Set);
-    let journal = Arg::new(alloc, JOURNAL)
-        .long(JOURNAL)
-        .help("Print the journal and its check behind the replies")
-        .action(ArgAction::SetTrue);
+    let journal = flag(
+        alloc,
+        JOURNAL,
+        "Print the journal and its check behind the replies",
+    );
     command(
         alloc,
         "run",
@@ -141,10 +150,11 @@ fn check_command<'a>(alloc: Global) -> Result<Command<'a>, AllocError> {
 }
 
 fn dump_command<'a>(alloc: Global) -> Result<Command<'a>, AllocError> {
-    let state = Arg::new(alloc, STATE)
-        .long(STATE)
-        .help("Print a script that makes its last state alone, and not its history")
-        .action(ArgAction::SetTrue);
+    let state = flag(
+        alloc,
+        STATE,
+        "Print a script that makes its last state alone, and not its history",
+    );
     journal_command(
         alloc,
         "dump",
