@@ -32,6 +32,17 @@ pub enum Fault {
 }
 
 impl Fault {
+    /// The number that goes with the fault: what its refusal carries, as the pass that is writing or the byte of a text, and 0
+    /// where it carries nothing.
+    pub fn carried(&self) -> u64
+        ensures { result ≡ fault_carried self.now }
+    {
+        match self {
+            Fault::Refused(refusal) => refusal.carried().unwrap_or(0),
+            _ => 0,
+        }
+    }
+
     /// The number by which other languages know the fault. It is never 0.
     pub fn code(&self) -> u32
         ensures { result ≡ fault_code self.now }
@@ -48,17 +59,6 @@ impl Fault {
             Fault::NoValue => 73,
             Fault::BadPart => 74,
             Fault::NoItem => 75,
-        }
-    }
-
-    /// The number that goes with the fault: what its refusal carries, as the pass that is writing or the byte of a text, and 0
-    /// where it carries nothing.
-    pub fn carried(&self) -> u64
-        ensures { result ≡ fault_carried self.now }
-    {
-        match self {
-            Fault::Refused(refusal) => refusal.carried().unwrap_or(0),
-            _ => 0,
         }
     }
 }

@@ -22,11 +22,11 @@ pub fn shell<F: Peer, P: Peer>(
     peer: &mut P,
     limits: Limits,
 ) -> Result<(), RunFault>
-    ensures limits { (result ≡ Err RunFault.Limits) ↔ AreBad limits }
     ensures talked { OnOk result ((mid : Session) × (last : Session)
         × spec.TalkedTo F.does (opening (start limits.commits)) first.old mid first.new × spec.TalkedTo P.does mid peer.old last peer.new
         × CanSpellEach limits.pages last.store.journal) }
     ensures fault { IfErr result (λ e. spec.ShellLeaves F.does P.does e (opening (start limits.commits)) first.old first.new peer.old peer.new) }
+    ensures limits { (result ≡ Err RunFault.Limits) ↔ AreBad limits }
 {
     if !limits.are_within() {
         return Err(RunFault::Limits);
