@@ -7,3 +7,4 @@ pub mod Children
 pub mod Joins
 pub mod Alone
 pub mod Writes
+pub mod Sides

@@ -15,6 +15,7 @@ ghost use Rattle.be_tree.specs.Key.{key_cmp, payload_at, without};
 ghost use Rattle.std.specs.Ordering.{is_eq};
 ghost use Rattle.be_tree.specs.Page.{IsItem, IsPage, item_at, items_of, item_place};
 ghost use Rattle.be_tree.specs.Pair.{Pair};
+ghost use Rattle.be_tree.specs.Sides.{in_order, left_of, right_of};
 ghost use Rattle.be_tree.specs.Slot.{IsReady, pair_of, pairs_of};
 ghost use Rattle.be_tree.specs.Stop.{IfAbsent, IfRefused};
 ghost use Rattle.be_tree.specs.declared.stop.Stop.TheVariants.{Absent};
@@ -24,7 +25,10 @@ ghost use Rattle.be_tree.specs.Tree.{pairs_at, pairs_below};
 use crate::item::Item;
 use crate::lookup::rank;
 use crate::page::{HEADER_WORDS, ITEM_WORDS, child_at, cmp_at, fill_slots};
-use crate::siblings::{append, count_of, slots_with, slots_with_one, spare_child, two_children};
+use crate::siblings::{
+    Side, count_of, pages_in_order, slots_beside, slots_with, slots_with_one, spare_child,
+    two_children,
+};
 use crate::slot::Slot;
 use crate::stop::Stop;
 use crate::writing::{pack_two, write_branch, write_root};
@@ -178,12 +182,12 @@ fn remove_at<R: Room>(
     }
     if at + 1 < count_of(room, page) {
         let (here, next) = two_children(room, level, page, at);
-        let two = remove_left(room, level - 1, here, next, key, pair)?;
+        let two = remove_beside(room, level - 1, Side::Left, here, next, key, pair)?;
         slots_with(room, page, at, two, slots);
         return Ok(());
     }
     let (before, here) = two_children(room, level, page, at - 1);
-    let two = remove_right(room, level - 1, before, here, key, pair)?;
+    let two = remove_beside(room, level - 1, Side::Right, here, before, key, pair)?;
     slots_with(room, page, at - 1, two, slots);
     Ok(())
 }
@@ -219,72 +223,39 @@ fn remove_alone<R: Room>(
     Ok(Slot::Branch(page as u32))
 }
 
-/// Takes a key out below the first of two neighbours, and writes both anew.
+/// Takes a key out below one of two neighbours, which stands on this side, and writes both anew.
 #[cycle(removal)]
-fn remove_left<R: Room>(
+fn remove_beside<R: Room>(
     room: &mut R,
     level: u64,
-    left: u64,
-    right: u64,
+    side: Side,
+    here: u64,
+    other: u64,
     key: &[u8],
     pair: &Item,
 ) -> Result<ArrayVec<Slot, 2>, Stop>
-    requires neighbours { AreNeighbours level (R.standing room.old) (R.words room.old) left right }
+    requires tree { IsTreeAt level 6 (R.standing room.old) (R.words room.old) here }
+    requires neighbours { AreNeighbours level (R.standing room.old) (R.words room.old) (left_of side here other) (right_of side here other) }
     requires key_fits { length pair.now.key ≤ 264 }
     requires open { IsTrue (R.is_open (R.kept room.old)) }
     ensures ok { IfOk result (λ slots. Becomes R.kept R.standing R.words
-        (left ∷ right ∷ pages_below level (R.words room.old) (items_of (R.words room.old left) ++ items_of (R.words room.old right)))
-        (without key.now (pairs_at level (R.words room.old) left) ++ pairs_at level (R.words room.old) right) (suc level)
+        (left_of side here other ∷ right_of side here other ∷ pages_below level (R.words room.old)
+        (items_of (R.words room.old (left_of side here other)) ++ items_of (R.words room.old (right_of side here other))))
+        (in_order side (without key.now (pairs_at level (R.words room.old) here)) (pairs_at level (R.words room.old) other)) (suc level)
         (pairs_of (R.words room.new) pair.now slots.items) room.old room.new) }
     ensures ready { IfOk result (λ slots. All (IsReady (R.standing room.new) (R.words room.new)) slots.items) }
     ensures some { IfOk result (λ slots. (0 < length slots.items) × (length slots.items ≤ 2)) }
     ensures err { OnErr result (KeepsStart R.kept R.standing R.words room.old room.new) }
     ensures full { IfErr result (λ stop. IfRefused stop (IsFullOf (R.full room.new))) }
-    ensures found { IfOk result (λ slots. payload_at (pairs_at level (R.words room.old) left) key.now ≢ None) }
+    ensures found { IfOk result (λ slots. payload_at (pairs_at level (R.words room.old) here) key.now ≢ None) }
     ensures stopped { IfErr result (λ stop. IfAbsent stop
-        ((payload_at (pairs_at level (R.words room.old) left) key.now ≡ None) × IsUnchanged R.kept R.standing R.words room.old room.new)
-        (payload_at (pairs_at level (R.words room.old) left) key.now ≢ None)) }
-{
-    let mut slots = ArrayVec::new();
-    remove_at(room, level, left, key, pair, &mut slots)?;
-    let mut others = ArrayVec::new();
-    fill_slots(room, right, &mut others);
-    append(&mut slots, &others);
-    let branches = pack_two(room, level, left, right, &slots, pair)?;
-    Ok(branches)
-}
-
-/// Takes a key out below the second of two neighbours, and writes both anew.
-#[cycle(removal)]
-fn remove_right<R: Room>(
-    room: &mut R,
-    level: u64,
-    left: u64,
-    right: u64,
-    key: &[u8],
-    pair: &Item,
-) -> Result<ArrayVec<Slot, 2>, Stop>
-    requires neighbours { AreNeighbours level (R.standing room.old) (R.words room.old) left right }
-    requires key_fits { length pair.now.key ≤ 264 }
-    requires open { IsTrue (R.is_open (R.kept room.old)) }
-    ensures ok { IfOk result (λ slots. Becomes R.kept R.standing R.words
-        (left ∷ right ∷ pages_below level (R.words room.old) (items_of (R.words room.old left) ++ items_of (R.words room.old right)))
-        (pairs_at level (R.words room.old) left ++ without key.now (pairs_at level (R.words room.old) right)) (suc level)
-        (pairs_of (R.words room.new) pair.now slots.items) room.old room.new) }
-    ensures ready { IfOk result (λ slots. All (IsReady (R.standing room.new) (R.words room.new)) slots.items) }
-    ensures some { IfOk result (λ slots. (0 < length slots.items) × (length slots.items ≤ 2)) }
-    ensures err { OnErr result (KeepsStart R.kept R.standing R.words room.old room.new) }
-    ensures full { IfErr result (λ stop. IfRefused stop (IsFullOf (R.full room.new))) }
-    ensures found { IfOk result (λ slots. payload_at (pairs_at level (R.words room.old) right) key.now ≢ None) }
-    ensures stopped { IfErr result (λ stop. IfAbsent stop
-        ((payload_at (pairs_at level (R.words room.old) right) key.now ≡ None) × IsUnchanged R.kept R.standing R.words room.old room.new)
-        (payload_at (pairs_at level (R.words room.old) right) key.now ≢ None)) }
+        ((payload_at (pairs_at level (R.words room.old) here) key.now ≡ None) × IsUnchanged R.kept R.standing R.words room.old room.new)
+        (payload_at (pairs_at level (R.words room.old) here) key.now ≢ None)) }
 {
     let mut less = ArrayVec::new();
-    remove_at(room, level, right, key, pair, &mut less)?;
-    let mut slots = ArrayVec::new();
-    fill_slots(room, left, &mut slots);
-    append(&mut slots, &less);
+    remove_at(room, level, here, key, pair, &mut less)?;
+    let slots = slots_beside(room, side, less, other);
+    let (left, right) = pages_in_order(side, here, other);
     let branches = pack_two(room, level, left, right, &slots, pair)?;
     Ok(branches)
 }

@@ -1,16 +1,37 @@
 //! Two neighbours among the children of a node.
-ghost use Rattle.std.specs.Prelude.{◌≡◌, ℕ, suc, ◌+◌, ◌-◌, ◌<◌, ◌≤◌, [], ◌∷◌, ◌++◌, length, take, drop, All, IfSome, IsTrue};
+ghost use Rattle.std.specs.Prelude.{◌≡◌, ℕ, suc, ◌+◌, ◌-◌, ◌<◌, ◌≤◌, [], ◌∷◌, ◌++◌, length, map, take, drop, All, IfSome, IsTrue};
+ghost use Rattle.std.specs.List.{range_with_len};
 ghost use Rattle.be_pages.specs.Pages.{IsUnchanged, is_readable};
 ghost use Rattle.be_tree.specs.Page.{IsPage, item_at, items_of, item_place};
 ghost use Rattle.be_tree.specs.Pair.{Pair};
+ghost use Rattle.be_tree.specs.Sides.{in_order, left_of, right_of};
 ghost use Rattle.be_tree.specs.Slot.{IsReady, pair_of, pairs_of};
 ghost use Rattle.be_tree.specs.Tree.{AreNeighbours, IsTreeAt, child};
+ghost use Rattle.be_tree.specs.declared.slot.Slot.TheVariants.{At};
 
 use crate::edit::replace_at;
 use crate::page::{HEADER_WORDS, ITEM_WORDS, LEAST_ITEMS, MOST_ITEMS, child_at, fill_slots};
 use crate::slot::Slot;
 use arrayvec::ArrayVec;
 use be_pages::Look;
+
+/// On which side of its neighbour a page stands.
+#[derive(Clone, Copy)]
+pub(crate) enum Side {
+    Left,
+    Right,
+}
+
+/// Of two neighbours the left one and the right one, where the first of these pages stands on this side.
+pub(crate) fn pages_in_order(side: Side, one: u64, other: u64) -> (u64, u64)
+    ensures left { result.0 ≡ left_of side one other }
+    ensures right { result.1 ≡ right_of side one other }
+{
+    match side {
+        Side::Left => (one, other),
+        Side::Right => (other, one),
+    }
+}
 
 /// The child at a number of an inner node, and the next one.
 pub(crate) fn two_children<L: Look>(look: &mut L, level: u64, page: u64, at: usize) -> (u64, u64)
@@ -116,6 +137,45 @@ pub(crate) fn slots_with_one<L: Look>(
 {
     fill_slots(look, page, slots);
     slots[at] = slot;
+}
+
+/// Slots of two neighbours from left to right, where the first ones are of the page on this side.
+fn slots_in_order(
+    side: Side,
+    mut one: ArrayVec<Slot, 24>,
+    mut other: ArrayVec<Slot, 24>,
+) -> ArrayVec<Slot, 24>
+    requires { length one.items + length other.items ≤ 24 }
+    ensures { result.items ≡ in_order side one.items other.items }
+{
+    match side {
+        Side::Left => {
+            append(&mut one, &other);
+            one
+        }
+        Side::Right => {
+            append(&mut other, &one);
+            other
+        }
+    }
+}
+
+/// The slots of what the page on this side has now, and of the items of the other one, from left to right.
+pub(crate) fn slots_beside<L: Look>(
+    look: &mut L,
+    side: Side,
+    one: ArrayVec<Slot, 24>,
+    other: u64,
+) -> ArrayVec<Slot, 24>
+    requires readable { IsTrue (is_readable (L.standing look.old other)) }
+    requires page { IsPage (L.words look.old other) }
+    requires few { length one.items ≤ 12 }
+    ensures slots { result.items ≡ in_order side one.items (map (λ j. At (item_place j) other) (range_with_len 0 (L.words look.old other 1))) }
+    ensures unchanged { IsUnchanged L.kept L.standing L.words look.old look.new }
+{
+    let mut others = ArrayVec::new();
+    fill_slots(look, other, &mut others);
+    slots_in_order(side, one, others)
 }
 
 /// How many items a page has.

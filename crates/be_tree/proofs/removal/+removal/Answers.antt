@@ -1,5 +1,5 @@
-use Rattle.std.proofs.Common.{◌≡◌, ℕ, suc, [], ◌∷◌, ◌++◌, ◌-◌, ◌+◌, ◌<◌, ◌≤◌, All, List, take, drop, ap, sym, subst, refl, ◌∙◌, length, arith}
-use Rattle.std.proofs.lemmas.List.FromFn.{length-map-range_with_len}
+use Rattle.std.proofs.Common.{◌≡◌, ℕ, suc, [], ◌∷◌, ◌++◌, ◌-◌, ◌+◌, ◌<◌, ◌≤◌, All, List, map, IsTrue, take, drop, ap, sym, subst, refl, ◌∙◌, length, arith}
+use Rattle.std.specs.List.{range_with_len}
 use Rattle.be_tree.specs.declared.slot.Slot.{Slot}
 use Rattle.be_tree.specs.declared.slot.Slot.TheVariants.{At, Branch}
 use Rattle.be_tree.specs.Pair.{Pair}
@@ -13,16 +13,18 @@ use Rattle.be_tree.specs.Tree.{Becomes, child, least_of_root, pairs_at, pairs_be
 use Rattle.be_tree.proofs.Nodes.Alone.{AroundOne, around_one}
 use Rattle.be_tree.proofs.Nodes.Children.{AroundTwo, around_two, first_changed, second_changed}
 use Rattle.be_tree.proofs.Frame.{start_trans, swaps_start, unchanged_trans}
-use Rattle.be_tree.proofs.Nodes.Joins.{Joined, left_changed, left_in_hand, left_length, right_changed, right_in_hand, right_length}
-use Rattle.be_tree.proofs.Nodes.Neighbours.{apart, left_count, left_page, left_readable, right_count, right_page, right_readable, slots_until}
+use Rattle.be_tree.proofs.Nodes.Joins.{Joined}
+use Rattle.be_tree.proofs.Nodes.Neighbours.{apart, slots_until}
+use Rattle.be_tree.proofs.Nodes.Sides.{both_changed, both_in_hand, both_length, both_trees, other_page, other_readable, rising_less}
+use Rattle.be_tree.specs.Sides.{in_order, left_of, right_of}
 use Rattle.be_tree.proofs.Shape.Parts.{all_one, on_err}
-use Rattle.be_pages.specs.Pages.{times}
+use Rattle.be_pages.specs.Pages.{is_kept, times}
 use Rattle.be_tree.proofs.Putting.Puts.{becomes_over, given_up_page, kept_after}
-use Rattle.be_tree.proofs.Removing.Removes.{at_in, key_out, leaf_removed, least_two, payload_leaf, rising_without, rising_without_left, rising_without_right}
+use Rattle.be_tree.proofs.Removing.Removes.{at_in, key_out, leaf_removed, least_two, payload_leaf, rising_without}
 use Rattle.be_tree.proofs.Nodes.Slots.{branches_ready, items_count}
 use Rattle.be_tree.proofs.removal.+removal.Goals as goal
 use Rattle.be_tree.proofs.removal.+removal.Given.{Over}
-use Rattle.be_tree.proofs.removal.+removal.Goals.{remove_at-After-slots_with-arg-1, remove_at-After-slots_with-arg-2-1, remove_at-After-slots_with_one-arg-1, remove_left-After-deref-2, remove_right-After-deref-2}
+use Rattle.be_tree.proofs.removal.+removal.Goals.{remove_at-After-slots_with-arg-1, remove_at-After-slots_with-arg-2-1, remove_at-After-slots_with_one-arg-1, remove_beside-After-deref}
 
 pub remove_at-slots_without-requires-clause-in_page : goal.remove_at-slots_without-requires-clause-in_page
 remove_at-slots_without-requires-clause-in_page g t c =
@@ -88,12 +90,12 @@ next_place : (g : Over) (t : ℕ) (c : remove_at-After-slots_with-arg-1 g t) →
 next_place g t c = omega (arith, c.if-at-count_of.true, next_counted g t c)
 
 next_around : (g : Over) (t : ℕ) (c : remove_at-After-slots_with-arg-1 g t)
-    → AroundTwo g.R.Look.kept g.R.Look.standing g.R.Look.words c.args.level (c.args.level - 1) c.args.page c.saturating_sub-at.result (λ (xs ys : List Pair). without c.args.key.now xs ++ ys) (pairs_of (g.R.Look.words c.remove_left.new.room) c.args.pair.now c.in_ok-two.two.items) c.args.room.now c.remove_left.new.room
+    → AroundTwo g.R.Look.kept g.R.Look.standing g.R.Look.words c.args.level (c.args.level - 1) c.args.page c.saturating_sub-at.result (λ (xs ys : List Pair). without c.args.key.now xs ++ ys) (pairs_of (g.R.Look.words c.remove_beside.new.room) c.args.pair.now c.in_ok-two.two.items) c.args.room.now c.remove_beside.new.room
 next_around g t c =
     let old = c.args.room.now in
     let here = c.count_of.new.look in
     let same = unchanged_trans g.R.Look.kept g.R.Look.standing g.R.Look.words c.args.room.now c.spare_child.new.look c.count_of.new.look (unchanged_trans g.R.Look.kept g.R.Look.standing g.R.Look.words c.args.room.now c.rank.new.look c.spare_child.new.look c.rank.ensures.unchanged c.spare_child.ensures.unchanged) c.count_of.ensures.unchanged in
-    let mid = c.remove_left.new.room in
+    let mid = c.remove_beside.new.room in
     let us = pairs_of (g.R.Look.words mid) c.args.pair.now c.in_ok-two.two.items in
     around_two g.R.Look.kept g.R.Look.standing g.R.Look.words c.args.level (c.args.level - 1) (least_of_root c.args.level) c.args.page c.saturating_sub-at.result c.two_children-here.result.0 c.two_children-here.result.1 old here c.two_children-here.new.look (next_level g t c) c.requires.tree (next_place g t c) same c.two_children-here.ensures.unchanged c.two_children-here.ensures.left c.two_children-here.ensures.right (λ (xs ys : List Pair). without c.args.key.now xs ++ ys) us mid c.in_ok-two.ensures.ok
 
@@ -116,12 +118,12 @@ before_place : (g : Over) (t : ℕ) (c : remove_at-After-slots_with-arg-2-1 g t)
 before_place g t c = omega (arith, before_is g t c, at_in g.R.Look.kept g.R.Look.standing g.R.Look.words c.args.level c.args.page c.args.key.now c.rank.result c.saturating_sub-at.result c.args.room.now c.requires.tree c.rank.ensures.rank c.saturating_sub-at.ensures)
 
 before_around : (g : Over) (t : ℕ) (c : remove_at-After-slots_with-arg-2-1 g t)
-    → AroundTwo g.R.Look.kept g.R.Look.standing g.R.Look.words c.args.level (c.args.level - 1) c.args.page (c.saturating_sub-at.result - 1) (λ (xs ys : List Pair). xs ++ without c.args.key.now ys) (pairs_of (g.R.Look.words c.remove_right.new.room) c.args.pair.now c.in_ok-two-2.two.items) c.args.room.now c.remove_right.new.room
+    → AroundTwo g.R.Look.kept g.R.Look.standing g.R.Look.words c.args.level (c.args.level - 1) c.args.page (c.saturating_sub-at.result - 1) (λ (xs ys : List Pair). xs ++ without c.args.key.now ys) (pairs_of (g.R.Look.words c.remove_beside-2.new.room) c.args.pair.now c.in_ok-two-2.two.items) c.args.room.now c.remove_beside-2.new.room
 before_around g t c =
     let old = c.args.room.now in
     let here = c.count_of.new.look in
     let same = unchanged_trans g.R.Look.kept g.R.Look.standing g.R.Look.words c.args.room.now c.spare_child.new.look c.count_of.new.look (unchanged_trans g.R.Look.kept g.R.Look.standing g.R.Look.words c.args.room.now c.rank.new.look c.spare_child.new.look c.rank.ensures.unchanged c.spare_child.ensures.unchanged) c.count_of.ensures.unchanged in
-    let mid = c.remove_right.new.room in
+    let mid = c.remove_beside-2.new.room in
     let us = pairs_of (g.R.Look.words mid) c.args.pair.now c.in_ok-two-2.two.items in
     around_two g.R.Look.kept g.R.Look.standing g.R.Look.words c.args.level (c.args.level - 1) (least_of_root c.args.level) c.args.page (c.saturating_sub-at.result - 1) c.two_children-before.result.0 c.two_children-before.result.1 old here c.two_children-before.new.look (before_level g t c) c.requires.tree (before_place g t c) same c.two_children-before.ensures.unchanged c.two_children-before.ensures.left c.two_children-before.ensures.right (λ (xs ys : List Pair). xs ++ without c.args.key.now ys) us mid c.in_ok-two-2.ensures.ok
 
@@ -382,7 +384,7 @@ remove_at-returns-in_err-two-clause-stopped g t c =
     let read = c.two_children-here.new.look in
     let down = down_read g.R.Look.kept g.R.Look.standing g.R.Look.words level page k c.rank.result at old c.requires.tree c.rank.ensures.rank c.saturating_sub-at.ensures (level - 1) e c.two_children-here.result.0 at here read refl same c.two_children-here.ensures.unchanged c.two_children-here.ensures.left in
     let since = unchanged_trans g.R.Look.kept g.R.Look.standing g.R.Look.words old here read same c.two_children-here.ensures.unchanged in
-    passed_stop c.from_residual-in_err-two.result c.in_err-two.field-0.0 _ _ _ _ c.from_residual-in_err-two.ensures.1 down (unchanged_trans g.R.Look.kept g.R.Look.standing g.R.Look.words old read c.remove_left.new.room since) c.in_err-two.ensures.stopped
+    passed_stop c.from_residual-in_err-two.result c.in_err-two.field-0.0 _ _ _ _ c.from_residual-in_err-two.ensures.1 down (unchanged_trans g.R.Look.kept g.R.Look.standing g.R.Look.words old read c.remove_beside.new.room since) c.in_err-two.ensures.stopped
 
 pub remove_at-returns-clause-found : goal.remove_at-returns-clause-found
 remove_at-returns-clause-found g t c =
@@ -419,186 +421,107 @@ remove_at-returns-in_err-two-2-clause-stopped g t c =
     let read = c.two_children-before.new.look in
     let down = down_read g.R.Look.kept g.R.Look.standing g.R.Look.words level page k c.rank.result at old c.requires.tree c.rank.ensures.rank c.saturating_sub-at.ensures (level - 1) e c.two_children-before.result.1 (at - 1 + 1) here read is same c.two_children-before.ensures.unchanged c.two_children-before.ensures.right in
     let since = unchanged_trans g.R.Look.kept g.R.Look.standing g.R.Look.words old here read same c.two_children-before.ensures.unchanged in
-    passed_stop c.from_residual-in_err-two-2.result c.in_err-two-2.field-0.0 _ _ _ _ c.from_residual-in_err-two-2.ensures.1 down (unchanged_trans g.R.Look.kept g.R.Look.standing g.R.Look.words old read c.remove_right.new.room since) c.in_err-two-2.ensures.stopped
+    passed_stop c.from_residual-in_err-two-2.result c.in_err-two-2.field-0.0 _ _ _ _ c.from_residual-in_err-two-2.ensures.1 down (unchanged_trans g.R.Look.kept g.R.Look.standing g.R.Look.words old read c.remove_beside-2.new.room since) c.in_err-two-2.ensures.stopped
 
--- the first of two neighbours has lost the key, and the items of both are in hand
-left_slots : (g : Over) (t : ℕ) (c : remove_left-After-deref-2 g t) → c.deref-2.result.now ≡ c.remove_at.new.slots.items ++ c.fill_slots.new.slots.items
-left_slots g t c = c.deref-2.ensures.0 ∙ c.append.ensures ∙ ap (λ (xs : List Slot). c.remove_at.new.slots.items ++ xs) c.deref.ensures.0
+-- one of two neighbours has lost the key, and the items of both are in hand
+less_of : (g : Over) (t : ℕ) (c : remove_beside-After-deref g t) → List Pair
+less_of g t c = without c.args.key.now (pairs_at c.args.level (g.R.Look.words c.args.room.now) c.args.here)
 
-left_both : (g : Over) (t : ℕ) (c : remove_left-After-deref-2 g t)
-    → Joined g.R.Look.kept g.R.Look.standing g.R.Look.words c.args.level c.args.left c.args.right (without c.args.key.now (pairs_at c.args.level (g.R.Look.words c.args.room.now) c.args.left) ++ pairs_at c.args.level (g.R.Look.words c.args.room.now) c.args.right) c.args.pair.now c.deref-2.result.now c.args.room.now c.fill_slots.new.look
-left_both g t c =
+both_slots : (g : Over) (t : ℕ) (c : remove_beside-After-deref g t)
+    → c.deref.result.now ≡ in_order c.args.side c.remove_at.new.slots.items (map (λ (j : ℕ). At (item_place j) c.args.other) (range_with_len 0 (g.R.Look.words c.remove_at.new.room c.args.other 1)))
+both_slots g t c = c.deref.ensures.0 ∙ c.slots_beside-slots.ensures.slots
+
+both_joined : (g : Over) (t : ℕ) (c : remove_beside-After-deref g t)
+    → Joined g.R.Look.kept g.R.Look.standing g.R.Look.words c.args.level (left_of c.args.side c.args.here c.args.other) (right_of c.args.side c.args.here c.args.other)
+    (in_order c.args.side (less_of g t c) (pairs_at c.args.level (g.R.Look.words c.args.room.now) c.args.other)) c.args.pair.now c.deref.result.now c.args.room.now c.slots_beside-slots.new.look
+both_joined g t c =
+    both_changed g.R.Look.kept g.R.Look.standing g.R.Look.words c.args.level c.args.room.now (less_of g t c) c.args.pair.now c.remove_at.new.slots.items c.remove_at.new.room c.deref.result.now c.slots_beside-slots.new.look
+    c.slots_beside-slots.ensures.unchanged c.args.side c.args.here c.args.other c.requires.neighbours c.in_ok-remove_at.ensures.ok (both_slots g t c)
+    (rising_less g.R.Look.kept g.R.Look.standing g.R.Look.words c.args.level c.args.room.now c.args.key.now c.args.side c.args.here c.args.other c.requires.neighbours)
+
+both_total : (g : Over) (t : ℕ) (c : remove_beside-After-deref g t) → length c.deref.result.now ≡ length c.remove_at.new.slots.items + g.R.Look.words c.args.room.now c.args.other 1
+both_total g t c =
+    both_length g.R.Look.kept g.R.Look.standing g.R.Look.words c.args.level c.args.room.now (less_of g t c) c.args.pair.now c.remove_at.new.slots.items c.remove_at.new.room c.deref.result.now c.slots_beside-slots.new.look
+    c.slots_beside-slots.ensures.unchanged c.args.side c.args.here c.args.other c.requires.neighbours c.in_ok-remove_at.ensures.ok (both_slots g t c)
+
+pub remove_beside-slots_beside-slots-requires-clause-readable : goal.remove_beside-slots_beside-slots-requires-clause-readable
+remove_beside-slots_beside-slots-requires-clause-readable g t c =
+    other_readable g.R.Look.kept g.R.Look.standing g.R.Look.words c.args.level c.args.room.now (without c.args.key.now (pairs_at c.args.level (g.R.Look.words c.args.room.now) c.args.here)) c.args.pair.now c.remove_at.new.slots.items c.remove_at.new.room
+    c.args.side c.args.here c.args.other c.requires.neighbours c.in_ok-remove_at.ensures.ok
+
+pub remove_beside-slots_beside-slots-requires-clause-page : goal.remove_beside-slots_beside-slots-requires-clause-page
+remove_beside-slots_beside-slots-requires-clause-page g t c =
+    other_page g.R.Look.kept g.R.Look.standing g.R.Look.words c.args.level c.args.room.now (without c.args.key.now (pairs_at c.args.level (g.R.Look.words c.args.room.now) c.args.here)) c.args.pair.now c.remove_at.new.slots.items c.remove_at.new.room
+    c.args.side c.args.here c.args.other c.requires.neighbours c.in_ok-remove_at.ensures.ok
+
+pub remove_beside-slots_beside-slots-requires-clause-few : goal.remove_beside-slots_beside-slots-requires-clause-few
+remove_beside-slots_beside-slots-requires-clause-few g t c = c.in_ok-remove_at.ensures.some.1
+
+-- the two pages by the names that they have in the code
+left_is : (P : ℕ → Type 0) (l m : ℕ) → l ≡ m → P m → P l
+left_is P l m e h = subst P (sym e) h
+
+pub remove_beside-pack_two-requires-clause-below : goal.remove_beside-pack_two-requires-clause-below
+remove_beside-pack_two-requires-clause-below g t c = (both_joined g t (goal.at.remove_beside-pack_two-requires-clause-below g t c).After-deref).below
+
+pub remove_beside-pack_two-requires-clause-ready : goal.remove_beside-pack_two-requires-clause-ready
+remove_beside-pack_two-requires-clause-ready g t c =
+    both_in_hand g.R.Look.kept g.R.Look.standing g.R.Look.words c.args.level c.args.room.now (without c.args.key.now (pairs_at c.args.level (g.R.Look.words c.args.room.now) c.args.here)) c.args.pair.now c.remove_at.new.slots.items c.remove_at.new.room c.deref.result.now c.slots_beside-slots.new.look
+    c.slots_beside-slots.ensures.unchanged c.args.side c.args.here c.args.other c.requires.neighbours c.in_ok-remove_at.ensures.ok (both_slots g t (goal.at.remove_beside-pack_two-requires-clause-ready g t c).After-deref) c.in_ok-remove_at.ensures.ready
+
+pub remove_beside-pack_two-requires-clause-enough : goal.remove_beside-pack_two-requires-clause-enough
+remove_beside-pack_two-requires-clause-enough g t c =
     let words = g.R.Look.words c.args.room.now in
-    let level = c.args.level in
-    left_changed g.R.Look.kept g.R.Look.standing g.R.Look.words c.args.level c.args.left c.args.right c.args.room.now c.requires.neighbours (without c.args.key.now (pairs_at c.args.level (g.R.Look.words c.args.room.now) c.args.left)) c.args.pair.now c.remove_at.new.slots.items c.fill_slots.new.slots.items c.deref-2.result.now c.remove_at.new.room c.fill_slots.new.look c.fill_slots.ensures.unchanged c.in_ok-remove_at.ensures.ok c.fill_slots.ensures.slots (left_slots g t c)
-    (rising_without_left c.args.key.now (pairs_at level words c.args.left) (pairs_at level words c.args.right) c.requires.neighbours.rising)
+    let trees = both_trees g.R.Look.kept g.R.Look.standing g.R.Look.words c.args.level c.args.room.now c.args.side c.args.here c.args.other c.requires.neighbours in
+    let len = both_total g t (goal.at.remove_beside-pack_two-requires-clause-enough g t c).After-deref in
+    omega (arith, len, c.in_ok-remove_at.ensures.some, items_count (words c.args.here), items_count (words c.args.other), trees.0.node.enough, trees.1.node.enough)
 
-left_ready : (g : Over) (t : ℕ) (c : remove_left-After-deref-2 g t) → All (IsReady (g.R.Look.standing c.fill_slots.new.look) (g.R.Look.words c.fill_slots.new.look)) c.deref-2.result.now
-left_ready g t c =
-    left_in_hand g.R.Look.kept g.R.Look.standing g.R.Look.words c.args.level c.args.left c.args.right c.args.room.now c.requires.neighbours (without c.args.key.now (pairs_at c.args.level (g.R.Look.words c.args.room.now) c.args.left)) c.args.pair.now c.remove_at.new.slots.items c.fill_slots.new.slots.items c.deref-2.result.now c.remove_at.new.room c.fill_slots.new.look c.fill_slots.ensures.unchanged c.in_ok-remove_at.ensures.ok c.fill_slots.ensures.slots (left_slots g t c) c.in_ok-remove_at.ensures.ready
+pub remove_beside-pack_two-requires-clause-few : goal.remove_beside-pack_two-requires-clause-few
+remove_beside-pack_two-requires-clause-few g t c =
+    let trees = both_trees g.R.Look.kept g.R.Look.standing g.R.Look.words c.args.level c.args.room.now c.args.side c.args.here c.args.other c.requires.neighbours in
+    let len = both_total g t (goal.at.remove_beside-pack_two-requires-clause-few g t c).After-deref in
+    omega (arith, len, c.in_ok-remove_at.ensures.some, trees.1.node.is_page.few)
 
-left_total : (g : Over) (t : ℕ) (c : remove_left-After-deref-2 g t) → length c.deref-2.result.now ≡ length c.remove_at.new.slots.items + g.R.Look.words c.args.room.now c.args.right 1
-left_total g t c =
-    left_length g.R.Look.kept g.R.Look.standing g.R.Look.words c.args.level c.args.left c.args.right c.args.room.now c.requires.neighbours (without c.args.key.now (pairs_at c.args.level (g.R.Look.words c.args.room.now) c.args.left)) c.args.pair.now c.remove_at.new.slots.items c.fill_slots.new.slots.items c.deref-2.result.now c.remove_at.new.room c.fill_slots.new.look c.fill_slots.ensures.unchanged c.in_ok-remove_at.ensures.ok c.fill_slots.ensures.slots (left_slots g t c)
+pub remove_beside-pack_two-requires-clause-left_kept : goal.remove_beside-pack_two-requires-clause-left_kept
+remove_beside-pack_two-requires-clause-left_kept g t c =
+    left_is (λ (p : ℕ). IsTrue (is_kept (g.R.Look.standing c.slots_beside-slots.new.look p))) c.pages_in_order.result.0 (left_of c.args.side c.args.here c.args.other) c.pages_in_order.ensures.left
+    (both_joined g t (goal.at.remove_beside-pack_two-requires-clause-left_kept g t c).After-deref).left_is_kept
 
--- the second of two neighbours has lost the key, and the items of both are in hand
-right_slots : (g : Over) (t : ℕ) (c : remove_right-After-deref-2 g t) → c.deref-2.result.now ≡ c.fill_slots.new.slots.items ++ c.remove_at.new.slots.items
-right_slots g t c = c.deref-2.ensures.0 ∙ c.append.ensures ∙ ap (λ (xs : List Slot). c.fill_slots.new.slots.items ++ xs) c.deref.ensures.0
+pub remove_beside-pack_two-requires-clause-right_kept : goal.remove_beside-pack_two-requires-clause-right_kept
+remove_beside-pack_two-requires-clause-right_kept g t c =
+    left_is (λ (p : ℕ). IsTrue (is_kept (g.R.Look.standing c.slots_beside-slots.new.look p))) c.pages_in_order.result.1 (right_of c.args.side c.args.here c.args.other) c.pages_in_order.ensures.right
+    (both_joined g t (goal.at.remove_beside-pack_two-requires-clause-right_kept g t c).After-deref).right_is_kept
 
-right_both : (g : Over) (t : ℕ) (c : remove_right-After-deref-2 g t)
-    → Joined g.R.Look.kept g.R.Look.standing g.R.Look.words c.args.level c.args.left c.args.right (pairs_at c.args.level (g.R.Look.words c.args.room.now) c.args.left ++ without c.args.key.now (pairs_at c.args.level (g.R.Look.words c.args.room.now) c.args.right)) c.args.pair.now c.deref-2.result.now c.args.room.now c.fill_slots.new.look
-right_both g t c =
-    let words = g.R.Look.words c.args.room.now in
-    let level = c.args.level in
-    right_changed g.R.Look.kept g.R.Look.standing g.R.Look.words c.args.level c.args.left c.args.right c.args.room.now c.requires.neighbours (without c.args.key.now (pairs_at c.args.level (g.R.Look.words c.args.room.now) c.args.right)) c.args.pair.now c.remove_at.new.slots.items c.fill_slots.new.slots.items c.deref-2.result.now c.remove_at.new.room c.fill_slots.new.look c.fill_slots.ensures.unchanged c.in_ok-remove_at.ensures.ok c.fill_slots.ensures.slots (right_slots g t c)
-    (rising_without_right c.args.key.now (pairs_at level words c.args.left) (pairs_at level words c.args.right) c.requires.neighbours.rising)
+pub remove_beside-pack_two-requires-clause-left_apart : goal.remove_beside-pack_two-requires-clause-left_apart
+remove_beside-pack_two-requires-clause-left_apart g t c =
+    let read = g.R.Look.words c.slots_beside-slots.new.look in
+    left_is (λ (p : ℕ). times p (pages_below c.args.level read (pairs_of read c.args.pair.now c.deref.result.now)) ≡ 0) c.pages_in_order.result.0 (left_of c.args.side c.args.here c.args.other) c.pages_in_order.ensures.left
+    (both_joined g t (goal.at.remove_beside-pack_two-requires-clause-left_apart g t c).After-deref).left_beside
 
-right_ready : (g : Over) (t : ℕ) (c : remove_right-After-deref-2 g t) → All (IsReady (g.R.Look.standing c.fill_slots.new.look) (g.R.Look.words c.fill_slots.new.look)) c.deref-2.result.now
-right_ready g t c =
-    right_in_hand g.R.Look.kept g.R.Look.standing g.R.Look.words c.args.level c.args.left c.args.right c.args.room.now c.requires.neighbours (without c.args.key.now (pairs_at c.args.level (g.R.Look.words c.args.room.now) c.args.right)) c.args.pair.now c.remove_at.new.slots.items c.fill_slots.new.slots.items c.deref-2.result.now c.remove_at.new.room c.fill_slots.new.look c.fill_slots.ensures.unchanged c.in_ok-remove_at.ensures.ok c.fill_slots.ensures.slots (right_slots g t c) c.in_ok-remove_at.ensures.ready
+pub remove_beside-pack_two-requires-clause-right_apart : goal.remove_beside-pack_two-requires-clause-right_apart
+remove_beside-pack_two-requires-clause-right_apart g t c =
+    let read = g.R.Look.words c.slots_beside-slots.new.look in
+    left_is (λ (p : ℕ). times p (pages_below c.args.level read (pairs_of read c.args.pair.now c.deref.result.now)) ≡ 0) c.pages_in_order.result.1 (right_of c.args.side c.args.here c.args.other) c.pages_in_order.ensures.right
+    (both_joined g t (goal.at.remove_beside-pack_two-requires-clause-right_apart g t c).After-deref).right_beside
 
-right_total : (g : Over) (t : ℕ) (c : remove_right-After-deref-2 g t) → length c.deref-2.result.now ≡ g.R.Look.words c.args.room.now c.args.left 1 + length c.remove_at.new.slots.items
-right_total g t c =
-    right_length g.R.Look.kept g.R.Look.standing g.R.Look.words c.args.level c.args.left c.args.right c.args.room.now c.requires.neighbours (without c.args.key.now (pairs_at c.args.level (g.R.Look.words c.args.room.now) c.args.right)) c.args.pair.now c.remove_at.new.slots.items c.fill_slots.new.slots.items c.deref-2.result.now c.remove_at.new.room c.fill_slots.new.look c.fill_slots.ensures.unchanged c.in_ok-remove_at.ensures.ok c.fill_slots.ensures.slots (right_slots g t c)
+pub remove_beside-pack_two-requires-clause-different : goal.remove_beside-pack_two-requires-clause-different
+remove_beside-pack_two-requires-clause-different g t c = λ e.
+    apart g.R.Look.kept g.R.Look.standing g.R.Look.words c.args.level (left_of c.args.side c.args.here c.args.other) (right_of c.args.side c.args.here c.args.other) c.args.room.now c.requires.neighbours
+    (sym c.pages_in_order.ensures.left ∙ e ∙ c.pages_in_order.ensures.right)
 
-pub remove_left-fill_slots-requires-clause-readable : goal.remove_left-fill_slots-requires-clause-readable
-remove_left-fill_slots-requires-clause-readable g t c =
-    let old = c.args.room.now in
-    let words = g.R.Look.words old in
-    let l = c.args.left in
-    let level = c.args.level in
-    let all = without c.args.key.now (pairs_at level words l) in
-    right_readable g.R.Look.kept g.R.Look.standing g.R.Look.words level l c.args.right old c.requires.neighbours all c.args.pair.now c.remove_at.new.slots.items c.remove_at.new.room c.in_ok-remove_at.ensures.ok
+pub remove_beside-returns-in_err-branches-clause-err : goal.remove_beside-returns-in_err-branches-clause-err
+remove_beside-returns-in_err-branches-clause-err g t c =
+    let both = both_joined g t (goal.at.remove_beside-returns-in_err-branches-clause-err g t c).After-deref in
+    on_err _ (start_trans g.R.Look.kept g.R.Look.standing g.R.Look.words c.args.room.now c.slots_beside-slots.new.look c.pack_two.new.room both.start c.in_err-branches.ensures.err)
 
-pub remove_left-fill_slots-requires-clause-page : goal.remove_left-fill_slots-requires-clause-page
-remove_left-fill_slots-requires-clause-page g t c =
-    let old = c.args.room.now in
-    let words = g.R.Look.words old in
-    let l = c.args.left in
-    let level = c.args.level in
-    let all = without c.args.key.now (pairs_at level words l) in
-    right_page g.R.Look.kept g.R.Look.standing g.R.Look.words level l c.args.right old c.requires.neighbours all c.args.pair.now c.remove_at.new.slots.items c.remove_at.new.room c.in_ok-remove_at.ensures.ok
-
-pub remove_left-append-requires : goal.remove_left-append-requires
-remove_left-append-requires g t c =
-    let old = c.args.room.now in
-    let words = g.R.Look.words old in
-    let l = c.args.left in
-    let r = c.args.right in
-    let level = c.args.level in
-    let two = c.requires.neighbours in
-    let mid = c.remove_at.new.room in
-    let all = without c.args.key.now (pairs_at level words l) in
-    let count = right_count g.R.Look.kept g.R.Look.standing g.R.Look.words level l r old two all c.args.pair.now c.remove_at.new.slots.items mid c.in_ok-remove_at.ensures.ok in
-    let len = ap length c.fill_slots.ensures.slots ∙ length-map-range_with_len (λ (j : ℕ). At (item_place j) r) 0 (g.R.Look.words mid r 1) in
-    omega (arith, len, count, two.right_tree.node.is_page.few, c.in_ok-remove_at.ensures.some, ap length c.deref.ensures.0)
-
-pub remove_left-pack_two-requires-clause-below : goal.remove_left-pack_two-requires-clause-below
-remove_left-pack_two-requires-clause-below g t c = (left_both g t (goal.at.remove_left-pack_two-requires-clause-below g t c).After-deref-2).below
-
-pub remove_left-pack_two-requires-clause-ready : goal.remove_left-pack_two-requires-clause-ready
-remove_left-pack_two-requires-clause-ready g t c = left_ready g t (goal.at.remove_left-pack_two-requires-clause-ready g t c).After-deref-2
-
-pub remove_left-pack_two-requires-clause-enough : goal.remove_left-pack_two-requires-clause-enough
-remove_left-pack_two-requires-clause-enough g t c =
-    let words = g.R.Look.words c.args.room.now in
-    let two = c.requires.neighbours in
-    let len = left_total g t (goal.at.remove_left-pack_two-requires-clause-enough g t c).After-deref-2 in
-    omega (arith, len, c.in_ok-remove_at.ensures.some, items_count (words c.args.left), items_count (words c.args.right), two.left_tree.node.enough, two.right_tree.node.enough)
-
-pub remove_left-pack_two-requires-clause-left_kept : goal.remove_left-pack_two-requires-clause-left_kept
-remove_left-pack_two-requires-clause-left_kept g t c = (left_both g t (goal.at.remove_left-pack_two-requires-clause-left_kept g t c).After-deref-2).left_is_kept
-
-pub remove_left-pack_two-requires-clause-right_kept : goal.remove_left-pack_two-requires-clause-right_kept
-remove_left-pack_two-requires-clause-right_kept g t c = (left_both g t (goal.at.remove_left-pack_two-requires-clause-right_kept g t c).After-deref-2).right_is_kept
-
-pub remove_left-pack_two-requires-clause-left_apart : goal.remove_left-pack_two-requires-clause-left_apart
-remove_left-pack_two-requires-clause-left_apart g t c = (left_both g t (goal.at.remove_left-pack_two-requires-clause-left_apart g t c).After-deref-2).left_beside
-
-pub remove_left-pack_two-requires-clause-right_apart : goal.remove_left-pack_two-requires-clause-right_apart
-remove_left-pack_two-requires-clause-right_apart g t c = (left_both g t (goal.at.remove_left-pack_two-requires-clause-right_apart g t c).After-deref-2).right_beside
-
-pub remove_left-pack_two-requires-clause-different : goal.remove_left-pack_two-requires-clause-different
-remove_left-pack_two-requires-clause-different g t c =
-    apart g.R.Look.kept g.R.Look.standing g.R.Look.words c.args.level c.args.left c.args.right c.args.room.now c.requires.neighbours
-
-pub remove_left-returns-in_err-branches-clause-err : goal.remove_left-returns-in_err-branches-clause-err
-remove_left-returns-in_err-branches-clause-err g t c =
-    let both = left_both g t (goal.at.remove_left-returns-in_err-branches-clause-err g t c).After-deref-2 in
-    on_err _ (start_trans g.R.Look.kept g.R.Look.standing g.R.Look.words c.args.room.now c.fill_slots.new.look c.pack_two.new.room both.start c.in_err-branches.ensures.err)
-
-pub remove_left-returns-clause-ok : goal.remove_left-returns-clause-ok
-remove_left-returns-clause-ok g t c =
-    let both = left_both g t (goal.at.remove_left-returns-clause-ok g t c).After-deref-2 in
-    both.written (pairs_of (g.R.Look.words c.pack_two.new.room) c.args.pair.now c.in_ok-branches.branches.items) c.pack_two.new.room c.in_ok-branches.ensures.ok
-
-pub remove_right-fill_slots-requires-clause-readable : goal.remove_right-fill_slots-requires-clause-readable
-remove_right-fill_slots-requires-clause-readable g t c =
-    let old = c.args.room.now in
-    let words = g.R.Look.words old in
-    let r = c.args.right in
-    let level = c.args.level in
-    let all = without c.args.key.now (pairs_at level words r) in
-    left_readable g.R.Look.kept g.R.Look.standing g.R.Look.words level c.args.left r old c.requires.neighbours all c.args.pair.now c.remove_at.new.slots.items c.remove_at.new.room c.in_ok-remove_at.ensures.ok
-
-pub remove_right-fill_slots-requires-clause-page : goal.remove_right-fill_slots-requires-clause-page
-remove_right-fill_slots-requires-clause-page g t c =
-    let old = c.args.room.now in
-    let words = g.R.Look.words old in
-    let r = c.args.right in
-    let level = c.args.level in
-    let all = without c.args.key.now (pairs_at level words r) in
-    left_page g.R.Look.kept g.R.Look.standing g.R.Look.words level c.args.left r old c.requires.neighbours all c.args.pair.now c.remove_at.new.slots.items c.remove_at.new.room c.in_ok-remove_at.ensures.ok
-
-pub remove_right-append-requires : goal.remove_right-append-requires
-remove_right-append-requires g t c =
-    let old = c.args.room.now in
-    let words = g.R.Look.words old in
-    let l = c.args.left in
-    let r = c.args.right in
-    let level = c.args.level in
-    let two = c.requires.neighbours in
-    let mid = c.remove_at.new.room in
-    let all = without c.args.key.now (pairs_at level words r) in
-    let count = left_count g.R.Look.kept g.R.Look.standing g.R.Look.words level l r old two all c.args.pair.now c.remove_at.new.slots.items mid c.in_ok-remove_at.ensures.ok in
-    let len = ap length c.fill_slots.ensures.slots ∙ length-map-range_with_len (λ (j : ℕ). At (item_place j) l) 0 (g.R.Look.words mid l 1) in
-    omega (arith, len, count, two.left_tree.node.is_page.few, c.in_ok-remove_at.ensures.some, ap length c.deref.ensures.0)
-
-pub remove_right-pack_two-requires-clause-below : goal.remove_right-pack_two-requires-clause-below
-remove_right-pack_two-requires-clause-below g t c = (right_both g t (goal.at.remove_right-pack_two-requires-clause-below g t c).After-deref-2).below
-
-pub remove_right-pack_two-requires-clause-ready : goal.remove_right-pack_two-requires-clause-ready
-remove_right-pack_two-requires-clause-ready g t c = right_ready g t (goal.at.remove_right-pack_two-requires-clause-ready g t c).After-deref-2
-
-pub remove_right-pack_two-requires-clause-enough : goal.remove_right-pack_two-requires-clause-enough
-remove_right-pack_two-requires-clause-enough g t c =
-    let words = g.R.Look.words c.args.room.now in
-    let two = c.requires.neighbours in
-    let len = right_total g t (goal.at.remove_right-pack_two-requires-clause-enough g t c).After-deref-2 in
-    omega (arith, len, c.in_ok-remove_at.ensures.some, items_count (words c.args.left), items_count (words c.args.right), two.left_tree.node.enough, two.right_tree.node.enough)
-
-pub remove_right-pack_two-requires-clause-left_kept : goal.remove_right-pack_two-requires-clause-left_kept
-remove_right-pack_two-requires-clause-left_kept g t c = (right_both g t (goal.at.remove_right-pack_two-requires-clause-left_kept g t c).After-deref-2).left_is_kept
-
-pub remove_right-pack_two-requires-clause-right_kept : goal.remove_right-pack_two-requires-clause-right_kept
-remove_right-pack_two-requires-clause-right_kept g t c = (right_both g t (goal.at.remove_right-pack_two-requires-clause-right_kept g t c).After-deref-2).right_is_kept
-
-pub remove_right-pack_two-requires-clause-left_apart : goal.remove_right-pack_two-requires-clause-left_apart
-remove_right-pack_two-requires-clause-left_apart g t c = (right_both g t (goal.at.remove_right-pack_two-requires-clause-left_apart g t c).After-deref-2).left_beside
-
-pub remove_right-pack_two-requires-clause-right_apart : goal.remove_right-pack_two-requires-clause-right_apart
-remove_right-pack_two-requires-clause-right_apart g t c = (right_both g t (goal.at.remove_right-pack_two-requires-clause-right_apart g t c).After-deref-2).right_beside
-
-pub remove_right-pack_two-requires-clause-different : goal.remove_right-pack_two-requires-clause-different
-remove_right-pack_two-requires-clause-different g t c =
-    apart g.R.Look.kept g.R.Look.standing g.R.Look.words c.args.level c.args.left c.args.right c.args.room.now c.requires.neighbours
-
-pub remove_right-returns-in_err-branches-clause-err : goal.remove_right-returns-in_err-branches-clause-err
-remove_right-returns-in_err-branches-clause-err g t c =
-    let both = right_both g t (goal.at.remove_right-returns-in_err-branches-clause-err g t c).After-deref-2 in
-    on_err _ (start_trans g.R.Look.kept g.R.Look.standing g.R.Look.words c.args.room.now c.fill_slots.new.look c.pack_two.new.room both.start c.in_err-branches.ensures.err)
-
-pub remove_right-returns-clause-ok : goal.remove_right-returns-clause-ok
-remove_right-returns-clause-ok g t c =
-    let both = right_both g t (goal.at.remove_right-returns-clause-ok g t c).After-deref-2 in
-    both.written (pairs_of (g.R.Look.words c.pack_two.new.room) c.args.pair.now c.in_ok-branches.branches.items) c.pack_two.new.room c.in_ok-branches.ensures.ok
+pub remove_beside-returns-clause-ok : goal.remove_beside-returns-clause-ok
+remove_beside-returns-clause-ok g t c =
+    let both = both_joined g t (goal.at.remove_beside-returns-clause-ok g t c).After-deref in
+    let read = g.R.Look.words c.slots_beside-slots.new.look in
+    let new = c.pack_two.new.room in
+    let items = pairs_of read c.args.pair.now c.deref.result.now in
+    let us = pairs_of (g.R.Look.words new) c.args.pair.now c.in_ok-branches.branches.items in
+    let Written : ℕ → ℕ → Type 0 = λ l r. Becomes g.R.Look.kept g.R.Look.standing g.R.Look.words (l ∷ r ∷ pages_below c.args.level read items) (pairs_below c.args.level read items) (suc c.args.level) us c.slots_beside-slots.new.look new in
+    both.written us new
+    (subst (λ (l : ℕ). Written l (right_of c.args.side c.args.here c.args.other)) c.pages_in_order.ensures.left
+    (subst (λ (r : ℕ). Written c.pages_in_order.result.0 r) c.pages_in_order.ensures.right c.in_ok-branches.ensures.ok))
