@@ -52,6 +52,14 @@ pub record IsPair (kind : Kind) (value : Value) (node : ℕ) : Type 0 where
   pub kind_is : kind_of value ≡ kind
   pub node_fits : node < 2 ^ 64
 
+-- no key is left out whose value the comparison is true of
+abbrev pub KeepsTrue : Kind → Cmp → Literal → Range → Range → Type 0
+KeepsTrue kind op literal old new = (v : Value) (n : ℕ) → IsPair kind v n → holds op v literal ≡ true → IsIn old (key v n) → IsIn new (key v n)
+
+-- the comparison is true of the values of all keys of the range
+abbrev pub AllTrue : Kind → Cmp → Literal → Range → Type 0
+AllTrue kind op literal range = (v : Value) (n : ℕ) → IsPair kind v n → IsIn range (key v n) → holds op v literal ≡ true
+
 -- The value stands for the literal at the values of an index of this kind: a comparison with the literal is true of one of them where the operator is true of the two values.
 pub record StandsFor (literal : Literal) (kind : Kind) (bound : Value) : Type 0 where
   pub is_value : IsValue bound

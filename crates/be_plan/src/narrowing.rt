@@ -25,7 +25,7 @@ ghost use Rattle.be_query.specs.View.{formula, literal};
 ghost use Rattle.be_volume.specs.Maps.{name_cmp};
 ghost use Rattle.be_volume.specs.Query.{holds, holds_of_number, is_true_of, literal_number, sat};
 ghost use Rattle.be_volume.specs.Volume.{State};
-ghost use Rattle.be_plan.specs.Narrow.{IsIn, IsBetween, IsPair, StandsFor, HasEnds, Allows, LeavesRest, high_of, limit, rest_true};
+ghost use Rattle.be_plan.specs.Narrow.{AllTrue, KeepsTrue, IsIn, IsBetween, IsPair, StandsFor, HasEnds, Allows, LeavesRest, high_of, limit, rest_true};
 
 use crate::ranges::Range;
 use be_pattern::Pattern;
@@ -70,10 +70,8 @@ fn narrow_by(
     requires stands { StandsFor (literal comparison.now.literal) kind bound }
     requires ends { HasEnds bound front.now first.now after.now }
     ensures within { (k : List ℕ) → IsIn range.new k → IsIn range.old k }
-    ensures keeps { (v : AnyValue) (n : ℕ) → IsPair kind v n → holds comparison.now.op v (literal comparison.now.literal) ≡ true →
-        IsIn range.old (key_bytes v n) → IsIn range.new (key_bytes v n) }
-    ensures decides { result ≡ true → (v : AnyValue) (n : ℕ) → IsPair kind v n → IsIn range.new (key_bytes v n) →
-        holds comparison.now.op v (literal comparison.now.literal) ≡ true }
+    ensures keeps { KeepsTrue kind comparison.now.op (literal comparison.now.literal) range.old range.new }
+    ensures decides { result ≡ true → AllTrue kind comparison.now.op (literal comparison.now.literal) range.new }
 {
     match comparison.op {
         Cmp::Eq => range.raise_to(front, first) && range.lower_to(front, without_last(after)),
@@ -91,10 +89,8 @@ fn narrow_by_integer(range: &mut Range, comparison: &Comparison, kind: Kind, byt
     requires stands { StandsFor (literal comparison.now.literal) kind bound }
     requires bytes { bytes.now ≡ value_key bound }
     ensures within { (k : List ℕ) → IsIn range.new k → IsIn range.old k }
-    ensures keeps { (v : AnyValue) (n : ℕ) → IsPair kind v n → holds comparison.now.op v (literal comparison.now.literal) ≡ true →
-        IsIn range.old (key_bytes v n) → IsIn range.new (key_bytes v n) }
-    ensures decides { result ≡ true → (v : AnyValue) (n : ℕ) → IsPair kind v n → IsIn range.new (key_bytes v n) →
-        holds comparison.now.op v (literal comparison.now.literal) ≡ true }
+    ensures keeps { KeepsTrue kind comparison.now.op (literal comparison.now.literal) range.old range.new }
+    ensures decides { result ≡ true → AllTrue kind comparison.now.op (literal comparison.now.literal) range.new }
 {
     narrow_by(range, comparison, kind, bytes, &NUMBER_FIRST, &NUMBER_AFTER)
 }
@@ -108,8 +104,7 @@ fn narrow_by_number(
 ) -> Option<bool>
     requires { literal_number (literal comparison.now.literal) ≡ Some number }
     ensures within { (k : List ℕ) → IsIn range.new k → IsIn range.old k }
-    ensures keeps { (v : AnyValue) (n : ℕ) → IsPair kind v n → holds comparison.now.op v (literal comparison.now.literal) ≡ true →
-        IsIn range.old (key_bytes v n) → IsIn range.new (key_bytes v n) }
+    ensures keeps { KeepsTrue kind comparison.now.op (literal comparison.now.literal) range.old range.new }
     ensures decides { IfSome result (λ all. all ≡ true → (v : AnyValue) (n : ℕ) → IsPair kind v n → IsIn range.new (key_bytes v n) →
         holds comparison.now.op v (literal comparison.now.literal) ≡ true) }
 {
@@ -177,10 +172,8 @@ fn is_false_of_all(comparison: &Comparison, kind: Kind, number: Option<i128>) ->
 /// kind decides nothing.
 fn narrow_integers(range: &mut Range, comparison: &Comparison, kind: Kind) -> bool
     ensures within { (k : List ℕ) → IsIn range.new k → IsIn range.old k }
-    ensures keeps { (v : AnyValue) (n : ℕ) → IsPair kind v n → holds comparison.now.op v (literal comparison.now.literal) ≡ true →
-        IsIn range.old (key_bytes v n) → IsIn range.new (key_bytes v n) }
-    ensures decides { result ≡ true → (v : AnyValue) (n : ℕ) → IsPair kind v n → IsIn range.new (key_bytes v n) →
-        holds comparison.now.op v (literal comparison.now.literal) ≡ true }
+    ensures keeps { KeepsTrue kind comparison.now.op (literal comparison.now.literal) range.old range.new }
+    ensures decides { result ≡ true → AllTrue kind comparison.now.op (literal comparison.now.literal) range.new }
 {
     let number = literal_number(&comparison.literal);
     if let Some(number) = number {
@@ -252,10 +245,8 @@ fn narrow_by_long(range: &mut Range, op: Cmp, words: &[u8])
 fn narrow_by_text(range: &mut Range, comparison: &Comparison, words: &str) -> bool
     requires { literal comparison.now.literal ≡ Exact words.now }
     ensures within { (k : List ℕ) → IsIn range.new k → IsIn range.old k }
-    ensures keeps { (v : AnyValue) (n : ℕ) → IsPair Kind.Cstr v n → holds comparison.now.op v (literal comparison.now.literal) ≡ true →
-        IsIn range.old (key_bytes v n) → IsIn range.new (key_bytes v n) }
-    ensures decides { result ≡ true → (v : AnyValue) (n : ℕ) → IsPair Kind.Cstr v n → IsIn range.new (key_bytes v n) →
-        holds comparison.now.op v (literal comparison.now.literal) ≡ true }
+    ensures keeps { KeepsTrue Kind.Cstr comparison.now.op (literal comparison.now.literal) range.old range.new }
+    ensures decides { result ≡ true → AllTrue Kind.Cstr comparison.now.op (literal comparison.now.literal) range.new }
 {
     let bytes = words.as_bytes();
     if bytes.len() > 255 {
@@ -278,10 +269,8 @@ fn narrow_by_text(range: &mut Range, comparison: &Comparison, words: &str) -> bo
 /// Leaves out keys of texts at which the comparison is false. Whether it is true of all that are left.
 fn narrow_texts(range: &mut Range, comparison: &Comparison) -> bool
     ensures within { (k : List ℕ) → IsIn range.new k → IsIn range.old k }
-    ensures keeps { (v : AnyValue) (n : ℕ) → IsPair Kind.Cstr v n → holds comparison.now.op v (literal comparison.now.literal) ≡ true →
-        IsIn range.old (key_bytes v n) → IsIn range.new (key_bytes v n) }
-    ensures decides { result ≡ true → (v : AnyValue) (n : ℕ) → IsPair Kind.Cstr v n → IsIn range.new (key_bytes v n) →
-        holds comparison.now.op v (literal comparison.now.literal) ≡ true }
+    ensures keeps { KeepsTrue Kind.Cstr comparison.now.op (literal comparison.now.literal) range.old range.new }
+    ensures decides { result ≡ true → AllTrue Kind.Cstr comparison.now.op (literal comparison.now.literal) range.new }
 {
     match (comparison.op, &comparison.literal) {
         (Cmp::Eq, Literal::Pattern(pattern)) => narrow_by_pattern(range, pattern),
@@ -293,10 +282,8 @@ fn narrow_texts(range: &mut Range, comparison: &Comparison) -> bool
 /// Leaves out keys of values at which the comparison is false. Whether it is true of all that are left.
 fn narrow(range: &mut Range, comparison: &Comparison, kind: Kind) -> bool
     ensures within { (k : List ℕ) → IsIn range.new k → IsIn range.old k }
-    ensures keeps { (v : AnyValue) (n : ℕ) → IsPair kind v n → holds comparison.now.op v (literal comparison.now.literal) ≡ true →
-        IsIn range.old (key_bytes v n) → IsIn range.new (key_bytes v n) }
-    ensures decides { result ≡ true → (v : AnyValue) (n : ℕ) → IsPair kind v n → IsIn range.new (key_bytes v n) →
-        holds comparison.now.op v (literal comparison.now.literal) ≡ true }
+    ensures keeps { KeepsTrue kind comparison.now.op (literal comparison.now.literal) range.old range.new }
+    ensures decides { result ≡ true → AllTrue kind comparison.now.op (literal comparison.now.literal) range.new }
 {
     match kind {
         Kind::Cstr => narrow_texts(range, comparison),
