@@ -19,7 +19,7 @@ use crate::on_page::{FoundIndex, known_index};
 use crate::reading::{get, holds_in};
 use arrayvec::ArrayVec;
 use be_pages::Look;
-use be_plan::Source;
+use be_plan::{KeyRange, Source};
 use be_query::Comparison;
 use be_tree::{Cursor, has_key, is_key_at, key_at, numbers_within};
 use be_value::{Kind, Name, Refusal, Value};
@@ -119,17 +119,11 @@ impl<L: Look> Source for PagedSource<L> {
         Some(key_at(&mut self.look, page, at))
     }
 
-    fn nodes_within(
-        &mut self,
-        name: &Name,
-        low: &[u8],
-        high: Option<&[u8]>,
-        found: &mut Vec<u64>,
-    ) -> Result<(), Refusal> {
-        let Some(index) = known_index(&mut self.look, self.page, name, &mut self.known) else {
+    fn nodes_within(&mut self, keys: KeyRange<'_>, found: &mut Vec<u64>) -> Result<(), Refusal> {
+        let Some(index) = known_index(&mut self.look, self.page, keys.name, &mut self.known) else {
             return Ok(());
         };
-        numbers_within(&mut self.look, index.root, low, high, found)?;
+        numbers_within(&mut self.look, index.root, keys.low, keys.high, found)?;
         Ok(())
     }
 

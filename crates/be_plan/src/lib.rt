@@ -30,4 +30,4 @@ pub use explaining::explain;
 pub use plain::{VolumeSource, volume_source};
 pub use plans::{Cover, Picks};
 pub use running::run;
-pub use source::Source;
+pub use source::{KeyRange, Source};

@@ -8,7 +8,7 @@ ghost use Rattle.be_volume.specs.Sound.{IsSound};
 ghost use Rattle.be_plan.specs.Narrow.{is_above};
 ghost use Rattle.be_plan.specs.Walk.{HasNodes, HasOnly, Keeps};
 
-use crate::Source;
+use crate::{KeyRange, Source};
 use arrayvec::ArrayVec;
 use be_value::{Kind, Name, Refusal, Value, node_of};
 use be_volume::Volume;
@@ -59,14 +59,8 @@ impl Source for VolumeSource<'_> {
         self.volume.next_key(name, from, after)
     }
 
-    fn nodes_within(
-        &mut self,
-        name: &Name,
-        low: &[u8],
-        high: Option<&[u8]>,
-        found: &mut Vec<u64>,
-    ) -> Result<(), Refusal> {
-        nodes_in(self.volume, name, low, high, found)
+    fn nodes_within(&mut self, keys: KeyRange<'_>, found: &mut Vec<u64>) -> Result<(), Refusal> {
+        nodes_in(self.volume, keys.name, keys.low, keys.high, found)
     }
 
     fn has_key(&mut self, name: &Name, key: &[u8]) -> bool {

@@ -19,6 +19,14 @@ use be_query::Comparison;
 use be_value::{Kind, Name, Refusal, Value};
 use be_volume::holds;
 
+/// The keys of the index of a name from `low` to `high`, both included, or to the last key.
+#[derive(Clone, Copy)]
+pub struct KeyRange<'a> {
+    pub name: &'a Name,
+    pub low: &'a [u8],
+    pub high: Option<&'a [u8]>,
+}
+
 /// A reader of one volume. Its calls may change the reader itself, but neither the volume nor the facts that it keeps. Each call asks that
 /// the source answers for some volume, and its clauses hold of every volume for which it does. No call takes memory, but for what is added to a
 /// list.
@@ -47,22 +55,15 @@ pub trait Source {
         ensures stays { kept self.new ≡ kept self.old }
         ensures answers { (volume : State) → answers_for self.old volume → answers_for self.new volume };
 
-    /// Adds the node of each key of the index of that name from `low` to `high`, both included, or to the last key; best in the order of the
-    /// keys. Without an index there is none.
-    fn nodes_within(
-        &mut self,
-        name: &Name,
-        low: &[u8],
-        high: Option<&[u8]>,
-        found: &mut Vec<u64>,
-    ) -> Result<(), Refusal>
+    /// Adds the node of each of these keys; best in the order of the keys. Without an index there is none.
+    fn nodes_within(&mut self, keys: KeyRange<'_>, found: &mut Vec<u64>) -> Result<(), Refusal>
         requires { (volume : State) × answers_for self.old volume }
         ensures memory { IfErr result (λ e. e ≡ OutOfMemory) }
         ensures keeps { Keeps found.old.items found.new.items }
         ensures only { (volume : State) → answers_for self.old volume →
-            HasOnly volume name.now low.now (option_copied high.entry) found.old.items found.new.items }
+            HasOnly volume keys.entry.name.now keys.entry.low.now (option_copied keys.entry.high) found.old.items found.new.items }
         ensures has { OnOk result ((volume : State) → answers_for self.old volume →
-            HasNodes volume name.now low.now (option_copied high.entry) found.new.items) }
+            HasNodes volume keys.entry.name.now keys.entry.low.now (option_copied keys.entry.high) found.new.items) }
         ensures stays { kept self.new ≡ kept self.old }
         ensures answers { (volume : State) → answers_for self.old volume → answers_for self.new volume };
 

@@ -18,10 +18,10 @@ ghost use Rattle.be_volume.specs.Volume.{State};
 ghost use Rattle.be_plan.specs.Narrow.{LeavesRest, high_of};
 ghost use Rattle.be_plan.specs.Walk.{IsNodeWithin, Keeps, HasWithin};
 
-use crate::Source;
 use crate::evaluating::{asks_name, is_true, satisfies};
 use crate::ranges::Range;
 use crate::sorting::in_order;
+use crate::{KeyRange, Source};
 use be_query::Tree;
 use be_value::{Kind, Name, Refusal, read_key};
 use std::alloc::Global;
@@ -135,7 +135,12 @@ fn ask_each<S: Source>(
         (high_of range.now) found.new.items) }
 {
     let mut unordered = Vec::with_capacity(alloc, ROOM)?;
-    source.nodes_within(name, range.low(), range.high(), &mut unordered)?;
+    let keys = KeyRange {
+        name,
+        low: range.low(),
+        high: range.high(),
+    };
+    source.nodes_within(keys, &mut unordered)?;
     let nodes = in_order(alloc, unordered);
     for i in 0..nodes.len() {
         add_if_true(source, tree, nodes[i], found)?;
@@ -168,7 +173,12 @@ pub(crate) fn walk<S: Source>(
         (high_of range.now) found.new.items) }
 {
     let Some(rest) = rest else {
-        return source.nodes_within(name, range.low(), range.high(), found);
+        let keys = KeyRange {
+            name,
+            low: range.low(),
+            high: range.high(),
+        };
+        return source.nodes_within(keys, found);
     };
     if asks_name(rest, name) {
         visit_all(source, tree, name, kind, range, found)

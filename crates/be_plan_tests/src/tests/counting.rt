@@ -4,7 +4,7 @@ ghost use Rattle.be_volume.specs.Volume.{State};
 ghost use Rattle.be_plan.specs.Sources.{IsVolume};
 
 use arrayvec::{ArrayString, ArrayVec};
-use be_plan::{Cover, Source, VolumeSource, choose_from, covers, run, volume_source};
+use be_plan::{Cover, KeyRange, Source, VolumeSource, choose_from, covers, run, volume_source};
 use be_query::Query;
 use be_value::{Kind, Name, Refusal, Value};
 use be_volume::Volume;
@@ -103,17 +103,11 @@ impl Source for Counting<'_> {
         self.source.next_key(name, from, after)
     }
 
-    fn nodes_within(
-        &mut self,
-        name: &Name,
-        low: &[u8],
-        high: Option<&[u8]>,
-        found: &mut Vec<u64>,
-    ) -> Result<(), Refusal> {
+    fn nodes_within(&mut self, keys: KeyRange<'_>, found: &mut Vec<u64>) -> Result<(), Refusal> {
         self.counts.ranges = self.counts.ranges.wrapping_add(1);
-        let keys = keys_within(self.volume, name, low, high);
-        write_steps(&mut self.counts, name, keys);
-        self.source.nodes_within(name, low, high, found)
+        let count = keys_within(self.volume, keys.name, keys.low, keys.high);
+        write_steps(&mut self.counts, keys.name, count);
+        self.source.nodes_within(keys, found)
     }
 
     fn has_key(&mut self, name: &Name, key: &[u8]) -> bool {

@@ -27,7 +27,7 @@ returns-in_default-clause-has g c = λ volume of k is.
     let w = g.L.Look.words c.known_index.new.look in
     let since = c.in_default.ensures.unchanged in
     let version = version_since (g.L.Look.standing self.look) (g.L.Look.standing c.known_index.new.look) (g.L.Look.words self.look) w self.page volume since.standing since.words of.version in
-    absurd (no_key w (contents_of (w self.page)) volume c.args.name.now c.in_default.ensures.found.absent.0 version.spells c.in_default.ensures.found.absent.1 k is)
+    absurd (no_key w (contents_of (w self.page)) volume c.args.keys.name.now c.in_default.ensures.found.absent.0 version.spells c.in_default.ensures.found.absent.1 k is)
 
 pub returns-in_default-clause-answers : goal.returns-in_default-clause-answers
 returns-in_default-clause-answers g c = λ volume of.
@@ -52,7 +52,7 @@ numbers_within-requires-clause-long g c =
     let since = c.in-Some.ensures.unchanged in
     let version = version_since (g.L.Look.standing self.look) s (g.L.Look.words self.look) w self.page c.requires.0 since.standing since.words c.requires.1.version in
     subst (λ (r : ℕ). AreLong (pairs w r)) (sym (c.in-Some.ensures.found.root nowhere))
-    (keys_long w (contents_of (w self.page)) c.requires.0 c.args.name.now c.in-Some.index.place nowhere version.spells c.in-Some.ensures.found.named)
+    (keys_long w (contents_of (w self.page)) c.requires.0 c.args.keys.name.now c.in-Some.index.place nowhere version.spells c.in-Some.ensures.found.named)
 
 pub returns-in_err-numbers_within-clause-keeps : goal.returns-in_err-numbers_within-clause-keeps
 returns-in_err-numbers_within-clause-keeps g c = first_keeps _ _ _ c.numbers_within.ensures.first
@@ -64,11 +64,11 @@ pub returns-in_err-numbers_within-clause-only : goal.returns-in_err-numbers_with
 returns-in_err-numbers_within-clause-only g c = λ volume of.
     let self = c.args.self.now in
     let w = g.L.Look.words c.known_index.new.look in
-    let low = c.args.low.now in
-    let high = option_copied c.args.high in
+    let low = c.args.keys.low.now in
+    let high = option_copied c.args.keys.high in
     let since = c.in-Some.ensures.unchanged in
     let version = version_since (g.L.Look.standing self.look) (g.L.Look.standing c.known_index.new.look) (g.L.Look.words self.look) w self.page volume since.standing since.words of.version in
-    first_only w (contents_of (w self.page)) volume c.args.name.now c.in-Some.index.place nowhere version.spells c.in-Some.ensures.found.named version.sound low high
+    first_only w (contents_of (w self.page)) volume c.args.keys.name.now c.in-Some.index.place nowhere version.spells c.in-Some.ensures.found.named version.sound low high
     c.args.found.now.items c.numbers_within.new.found.items
     (subst (λ (r : ℕ). HasFirst c.args.found.now.items (numbers_to (pairs_from (pairs w r) low false) high) c.numbers_within.new.found.items) (c.in-Some.ensures.found.root nowhere) c.numbers_within.ensures.first)
 
@@ -76,11 +76,11 @@ pub returns-clause-only : goal.returns-clause-only
 returns-clause-only g c = λ volume of.
     let self = c.args.self.now in
     let w = g.L.Look.words c.known_index.new.look in
-    let low = c.args.low.now in
-    let high = option_copied c.args.high in
+    let low = c.args.keys.low.now in
+    let high = option_copied c.args.keys.high in
     let since = c.in-Some.ensures.unchanged in
     let version = version_since (g.L.Look.standing self.look) (g.L.Look.standing c.known_index.new.look) (g.L.Look.words self.look) w self.page volume since.standing since.words of.version in
-    first_only w (contents_of (w self.page)) volume c.args.name.now c.in-Some.index.place nowhere version.spells c.in-Some.ensures.found.named version.sound low high
+    first_only w (contents_of (w self.page)) volume c.args.keys.name.now c.in-Some.index.place nowhere version.spells c.in-Some.ensures.found.named version.sound low high
     c.args.found.now.items c.numbers_within.new.found.items
     (subst (λ (r : ℕ). HasFirst c.args.found.now.items (numbers_to (pairs_from (pairs w r) low false) high) c.numbers_within.new.found.items) (c.in-Some.ensures.found.root nowhere) c.numbers_within.ensures.first)
 
@@ -90,9 +90,9 @@ returns-clause-has g c = λ volume of k is within.
     let s = g.L.Look.standing c.known_index.new.look in
     let w = g.L.Look.words c.known_index.new.look in
     let contents = contents_of (w self.page) in
-    let name = c.args.name.now in
-    let low = c.args.low.now in
-    let high = option_copied c.args.high in
+    let name = c.args.keys.name.now in
+    let low = c.args.keys.low.now in
+    let high = option_copied c.args.keys.high in
     let before = c.args.found.now.items in
     let since = c.in-Some.ensures.unchanged in
     let version = version_since (g.L.Look.standing self.look) s (g.L.Look.words self.look) w self.page volume since.standing since.words of.version in
