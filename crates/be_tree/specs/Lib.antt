@@ -4,6 +4,7 @@ pub mod Page
 pub mod Tree
 pub mod Slot
 pub mod Sides
+pub mod Writing
 pub mod Stop
 pub mod Range
 pub mod Cursor

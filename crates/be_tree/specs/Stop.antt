@@ -1,5 +1,8 @@
 -- Why a removal below a page gives no items.
+use Rattle.std.specs.Prelude.{◌≡◌, ◌≢◌, ℕ, Option, None}
 use Rattle.be_value.specs.declared.refusals.Refusal.{Refusal}
+use Rattle.be_pages.specs.declared.room.Standing.{Standing}
+use Rattle.be_pages.specs.Pages.{IsUnchanged}
 use Rattle.be_tree.specs.declared.stop.Stop.{Stop}
 use Rattle.be_tree.specs.declared.stop.Stop.TheVariants.{Absent, Refused}
 
@@ -11,3 +14,8 @@ IfAbsent (Refused refusal) absent other = other
 abbrev pub IfRefused : Stop → (Refusal → Type 0) → Type 0
 IfRefused Absent P = Unit {0}
 IfRefused (Refused refusal) P = P refusal
+
+-- where the key isn't there, nothing was found of it, and the room is as it was; else something was found
+abbrev pub TellsAbsent : {S K A : Type 0} → (S → K) → (S → ℕ → Standing) → (S → ℕ → ℕ → ℕ) → Option A → S → S → Stop → Type 0
+TellsAbsent kept_of standing_of words_of found old new stop =
+    IfAbsent stop ((found ≡ None) × IsUnchanged kept_of standing_of words_of old new) (found ≢ None)

@@ -13,12 +13,13 @@ ghost use Rattle.be_tree.specs.Page.{IsItem, item_at, items_of};
 ghost use Rattle.be_tree.specs.Slot.{IsReady, pairs_of};
 ghost use Rattle.be_tree.specs.Tree.{AreNeighbours, IsBelow, IsTreeAt, Becomes, BecomesTree, IsTree, pairs, pages};
 ghost use Rattle.be_tree.specs.Tree.{pairs_at, pairs_below, pages_below};
+ghost use Rattle.be_tree.specs.Writing.{Changes};
 
 use crate::item::Item;
 use crate::lookup::rank;
 use crate::page::{HEADER_WORDS, ITEM_WORDS, child_at, cmp_at, fill_slots};
 use crate::siblings::{append, sharing_children, slots_with};
-use crate::slot::Slot;
+use crate::slot::{Node, Slot};
 use crate::writing::{pack, pack_two, write_first_root, write_root};
 use arrayvec::ArrayVec;
 use be_pages::{Look, Room};
@@ -109,7 +110,12 @@ fn put_below<R: Room>(
     let child = child_at(room, page, place);
     let mut slots = ArrayVec::new();
     put_at(room, level - 1, child, pair, &mut slots)?;
-    let branches = pack(room, level - 1, child, &slots, pair)?;
+    let node = Node {
+        level: level - 1,
+        slots: &slots,
+        pair,
+    };
+    let branches = pack(room, child, node)?;
     Ok(branches)
 }
 
@@ -128,9 +134,7 @@ fn put_at<R: Room>(
     requires key_fits { length pair.now.key ≤ 264 }
     requires empty { slots.old.items ≡ [] }
     requires open { IsTrue (R.is_open (R.kept room.old)) }
-    ensures ok { OnOk result (Becomes R.kept R.standing R.words (pages_below level (R.words room.old) (items_of (R.words room.old page)))
-        (put pair.now (pairs_at level (R.words room.old) page)) level
-        (pairs_of (R.words room.new) pair.now slots.new.items) room.old room.new) }
+    ensures ok { OnOk result (Changes R.kept R.standing R.words level page (put pair.now) pair.now slots.new.items room.old room.new) }
     ensures ready { OnOk result (All (IsReady (R.standing room.new) (R.words room.new)) slots.new.items) }
     ensures some { OnOk result ((length (items_of (R.words room.old page)) ≤ length slots.new.items) × (length slots.new.items ≤ 13)) }
     ensures err { OnErr result (KeepsStart R.kept R.standing R.words room.old room.new) }
@@ -178,7 +182,12 @@ fn put_shared<R: Room>(
     let mut slots = ArrayVec::new();
     fill_slots(room, left, &mut slots);
     append(&mut slots, &more);
-    let branches = pack_two(room, level, left, right, &slots, pair)?;
+    let node = Node {
+        level,
+        slots: &slots,
+        pair,
+    };
+    let branches = pack_two(room, left, right, node)?;
     Ok(branches)
 }
 
@@ -203,6 +212,11 @@ pub fn insert<R: Room>(room: &mut R, root: u64, key: &[u8], payload: &[u8]) -> R
     let level = room.word(page, 0);
     let mut slots = ArrayVec::new();
     put_at(room, level, page, &pair, &mut slots)?;
-    let new = write_root(room, level, page, &slots, &pair)?;
+    let node = Node {
+        slots: &slots,
+        pair: &pair,
+        level,
+    };
+    let new = write_root(room, page, node)?;
     Ok(new)
 }

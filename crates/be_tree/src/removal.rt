@@ -9,7 +9,7 @@
 //! Nothing is written on the way down. A leaf without the key stops the removal, and nothing has changed.
 ghost use Rattle.std.specs.Prelude.{◌≡◌, ◌≢◌, ℕ, true, false, suc, ◌+◌, ◌-◌, ◌^◌, ◌<◌, ◌≤◌, [], ◌∷◌, ◌++◌, length, take, drop, All, IfOk, OnOk};
 ghost use Rattle.std.specs.Prelude.{OnErr, IfErr, IsTrue, None, Ok};
-ghost use Rattle.be_pages.specs.Pages.{IsUnchanged, is_kept, is_readable, times, Swaps, KeepsStart};
+ghost use Rattle.be_pages.specs.Pages.{IsUnchanged, is_readable, Swaps, KeepsStart};
 ghost use Rattle.be_pages.specs.Refusal.{IsFullOf};
 ghost use Rattle.be_tree.specs.Key.{key_cmp, payload_at, without};
 ghost use Rattle.std.specs.Ordering.{is_eq};
@@ -17,10 +17,11 @@ ghost use Rattle.be_tree.specs.Page.{IsItem, IsPage, item_at, items_of, item_pla
 ghost use Rattle.be_tree.specs.Pair.{Pair};
 ghost use Rattle.be_tree.specs.Sides.{in_order, left_of, right_of};
 ghost use Rattle.be_tree.specs.Slot.{IsReady, pair_of, pairs_of};
-ghost use Rattle.be_tree.specs.Stop.{IfAbsent, IfRefused};
+ghost use Rattle.be_tree.specs.Stop.{IfRefused, TellsAbsent};
 ghost use Rattle.be_tree.specs.declared.stop.Stop.TheVariants.{Absent};
-ghost use Rattle.be_tree.specs.Tree.{AreNeighbours, Becomes, BecomesTree, IsBelow, IsTree, IsTreeAt, child, least_of_root, pages, pages_below, pairs};
-ghost use Rattle.be_tree.specs.Tree.{pairs_at, pairs_below};
+ghost use Rattle.be_tree.specs.Tree.{AreNeighbours, Becomes, BecomesTree, IsTree, IsTreeAt, child, least_of_root, pages, pages_below, pairs};
+ghost use Rattle.be_tree.specs.Tree.{pairs_at};
+ghost use Rattle.be_tree.specs.Writing.{CanBeWritten, Changes, IsApart, ReplacesTree};
 
 use crate::item::Item;
 use crate::lookup::rank;
@@ -29,7 +30,7 @@ use crate::siblings::{
     Side, count_of, pages_in_order, slots_beside, slots_with, slots_with_one, spare_child,
     two_children,
 };
-use crate::slot::Slot;
+use crate::slot::{Node, Slot};
 use crate::stop::Stop;
 use crate::writing::{pack_two, write_branch, write_root};
 use arrayvec::ArrayVec;
@@ -60,33 +61,28 @@ pub fn remove<R: Room>(room: &mut R, root: u64, key: &[u8]) -> Result<u64, Refus
         Err(Stop::Absent) => return Ok(root),
         Err(Stop::Refused(refusal)) => return Err(refusal),
     }
-    let new = write_rest(room, level, page, &slots, &pair)?;
+    let node = Node {
+        level,
+        slots: &slots,
+        pair: &pair,
+    };
+    let new = write_rest(room, page, node)?;
     Ok(new)
 }
 
 /// Writes what is left of a root as a tree, and gives its root: none where nothing is left, and the page of the one
 /// branch that is left of an inner root. The old root's page is given up where it isn't written over.
-fn write_rest<R: Room>(
-    room: &mut R,
-    level: u64,
-    old: u64,
-    slots: &[Slot],
-    pair: &Item,
-) -> Result<u64, Refusal>
-    requires below { IsBelow level (R.standing room.old) (R.words room.old) (pairs_of (R.words room.old) pair.now slots.now) }
-    requires ready { All (IsReady (R.standing room.old) (R.words room.old)) slots.now }
-    requires few { length slots.now ≤ 18 }
-    requires kept { IsTrue (is_kept (R.standing room.old old)) }
-    requires apart { times old (pages_below level (R.words room.old) (pairs_of (R.words room.old) pair.now slots.now)) ≡ 0 }
-    requires low { level < 2 ^ 32 }
-    requires key_fits { length pair.now.key ≤ 264 }
+fn write_rest<R: Room>(room: &mut R, old: u64, node: Node<'_>) -> Result<u64, Refusal>
+    requires low { node.level < 2 ^ 32 }
+    requires node { CanBeWritten node.level (R.standing room.old) (R.words room.old) node.pair.now node.slots.now }
+    requires few { length node.slots.now ≤ 18 }
+    requires old { IsApart node.level (R.standing room.old) (R.words room.old) node.pair.now node.slots.now old }
     requires open { IsTrue (R.is_open (R.kept room.old)) }
-    ensures ok { IfOk result (λ root. BecomesTree R.kept R.standing R.words
-        (old ∷ pages_below level (R.words room.old) (pairs_of (R.words room.old) pair.now slots.now))
-        (pairs_below level (R.words room.old) (pairs_of (R.words room.old) pair.now slots.now)) root room.old room.new) }
+    ensures ok { IfOk result (λ root. ReplacesTree R.kept R.standing R.words node.entry.level node.entry.pair.now node.entry.slots.now old root room.old room.new) }
     ensures err { OnErr result (KeepsStart R.kept R.standing R.words room.old room.new) }
     ensures full { IfErr result (IsFullOf (R.full room.new)) }
 {
+    let Node { level, slots, pair } = node;
     if slots.len() == 0 {
         room.give_up(old);
         return Ok(0);
@@ -96,7 +92,7 @@ fn write_rest<R: Room>(
         room.give_up(old);
         return Ok(child + 1);
     }
-    let root = write_root(room, level, old, slots, pair)?;
+    let root = write_root(room, old, node)?;
     Ok(root)
 }
 
@@ -158,17 +154,13 @@ fn remove_at<R: Room>(
     requires key_fits { length pair.now.key ≤ 264 }
     requires empty { slots.old.items ≡ [] }
     requires open { IsTrue (R.is_open (R.kept room.old)) }
-    ensures ok { OnOk result (Becomes R.kept R.standing R.words (pages_below level (R.words room.old) (items_of (R.words room.old page)))
-        (without key.now (pairs_at level (R.words room.old) page)) level
-        (pairs_of (R.words room.new) pair.now slots.new.items) room.old room.new) }
+    ensures ok { OnOk result (Changes R.kept R.standing R.words level page (without key.now) pair.now slots.new.items room.old room.new) }
     ensures ready { OnOk result (All (IsReady (R.standing room.new) (R.words room.new)) slots.new.items) }
     ensures some { OnOk result ((length (items_of (R.words room.old page)) ≤ length slots.new.items + 1) × (length slots.new.items ≤ 12)) }
     ensures err { OnErr result (KeepsStart R.kept R.standing R.words room.old room.new) }
     ensures full { IfErr result (λ stop. IfRefused stop (IsFullOf (R.full room.new))) }
     ensures found { OnOk result (payload_at (pairs_at level (R.words room.old) page) key.now ≢ None) }
-    ensures stopped { IfErr result (λ stop. IfAbsent stop
-        ((payload_at (pairs_at level (R.words room.old) page) key.now ≡ None) × IsUnchanged R.kept R.standing R.words room.old room.new)
-        (payload_at (pairs_at level (R.words room.old) page) key.now ≢ None)) }
+    ensures stopped { IfErr result (TellsAbsent R.kept R.standing R.words (payload_at (pairs_at level (R.words room.old) page) key.now) room.old room.new) }
 {
     let at = rank(room, page, key).saturating_sub(1);
     if level == 0 {
@@ -213,13 +205,16 @@ fn remove_alone<R: Room>(
     ensures err { OnErr result (KeepsStart R.kept R.standing R.words room.old room.new) }
     ensures full { IfErr result (λ stop. IfRefused stop (IsFullOf (R.full room.new))) }
     ensures found { IfOk result (λ slots. payload_at (pairs_at level (R.words room.old) below) key.now ≢ None) }
-    ensures stopped { IfErr result (λ stop. IfAbsent stop
-        ((payload_at (pairs_at level (R.words room.old) below) key.now ≡ None) × IsUnchanged R.kept R.standing R.words room.old room.new)
-        (payload_at (pairs_at level (R.words room.old) below) key.now ≢ None)) }
+    ensures stopped { IfErr result (TellsAbsent R.kept R.standing R.words (payload_at (pairs_at level (R.words room.old) below) key.now) room.old room.new) }
 {
     let mut slots = ArrayVec::new();
     remove_at(room, level, below, key, pair, &mut slots)?;
-    let page = write_branch(room, level, below, &slots, pair)?;
+    let node = Node {
+        level,
+        slots: &slots,
+        pair,
+    };
+    let page = write_branch(room, below, node)?;
     Ok(Slot::Branch(page as u32))
 }
 
@@ -243,19 +238,22 @@ fn remove_beside<R: Room>(
         (items_of (R.words room.old (left_of side here other)) ++ items_of (R.words room.old (right_of side here other))))
         (in_order side (without key.now (pairs_at level (R.words room.old) here)) (pairs_at level (R.words room.old) other)) (suc level)
         (pairs_of (R.words room.new) pair.now slots.items) room.old room.new) }
-    ensures ready { IfOk result (λ slots. All (IsReady (R.standing room.new) (R.words room.new)) slots.items) }
     ensures some { IfOk result (λ slots. (0 < length slots.items) × (length slots.items ≤ 2)) }
     ensures err { OnErr result (KeepsStart R.kept R.standing R.words room.old room.new) }
     ensures full { IfErr result (λ stop. IfRefused stop (IsFullOf (R.full room.new))) }
+    ensures ready { IfOk result (λ slots. All (IsReady (R.standing room.new) (R.words room.new)) slots.items) }
     ensures found { IfOk result (λ slots. payload_at (pairs_at level (R.words room.old) here) key.now ≢ None) }
-    ensures stopped { IfErr result (λ stop. IfAbsent stop
-        ((payload_at (pairs_at level (R.words room.old) here) key.now ≡ None) × IsUnchanged R.kept R.standing R.words room.old room.new)
-        (payload_at (pairs_at level (R.words room.old) here) key.now ≢ None)) }
+    ensures stopped { IfErr result (TellsAbsent R.kept R.standing R.words (payload_at (pairs_at level (R.words room.old) here) key.now) room.old room.new) }
 {
     let mut less = ArrayVec::new();
     remove_at(room, level, here, key, pair, &mut less)?;
     let slots = slots_beside(room, side, less, other);
+    let node = Node {
+        level,
+        slots: &slots,
+        pair,
+    };
     let (left, right) = pages_in_order(side, here, other);
-    let branches = pack_two(room, level, left, right, &slots, pair)?;
+    let branches = pack_two(room, left, right, node)?;
     Ok(branches)
 }

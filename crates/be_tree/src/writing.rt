@@ -10,44 +10,40 @@
 //! # Two pages
 //! A node of more than twelve items is written in two pages, of which the first is the old one where it can be. Of two
 //! neighbours the first one is written before the second, since it only takes items from there, and gives its last ones.
-ghost use Rattle.std.specs.Prelude.{◌≡◌, ◌≢◌, ℕ, suc, ◌+◌, ◌-◌, ◌^◌, ◌<◌, ◌≤◌, [], ◌∷◌, ◌++◌, true, false, length, take, drop, All, IfOk, OnErr, IfErr, IfSome, IsTrue};
+ghost use Rattle.std.specs.Prelude.{◌≡◌, ◌≢◌, ℕ, ◌+◌, ◌-◌, ◌^◌, ◌<◌, ◌≤◌, [], ◌∷◌, ◌++◌, true, false, length, take, drop, All, IfOk, OnErr, IfErr, IfSome, IsTrue};
 ghost use Rattle.be_pages.specs.declared.room.Standing.TheVariants.{Filled};
-ghost use Rattle.be_pages.specs.Pages.{is_kept, is_readable, is_taken, times, StandsAt, Swaps, KeepsStart};
+ghost use Rattle.be_pages.specs.Pages.{is_kept, is_readable, is_taken, StandsAt, Swaps, KeepsStart};
 ghost use Rattle.be_pages.specs.Refusal.{IsFullOf};
 ghost use Rattle.be_tree.specs.Page.{item_place};
 ghost use Rattle.be_tree.specs.Slot.{IsBranchSlot, IsReady, Moves, StandsFrom, branch_to, pairs_of};
-ghost use Rattle.be_tree.specs.Tree.{IsBelow, IsWritten, Becomes, BecomesTree, least_of_root, pairs_below, pages_below};
+ghost use Rattle.be_tree.specs.Tree.{IsBelow, IsWritten, BecomesTree, least_of_root};
+ghost use Rattle.be_tree.specs.Writing.{AreApart, CanBeWritten, IsApart, Replaces, ReplacesTree};
 
 use crate::item::Item;
 use crate::page::{
     HEADER_WORDS, ITEM_WORDS, LEAST_ITEMS, MOST_ITEMS, move_down, move_up, stands_from,
     store_from_last, store_node,
 };
-use crate::slot::{Slot, Way};
+use crate::slot::{Node, Slot, Way};
 use arrayvec::ArrayVec;
 use be_pages::Room;
 use be_value::Refusal;
 
 /// Writes a node to a page of its own, and gives the page.
-fn write_node<R: Room>(
-    room: &mut R,
-    level: u64,
-    slots: &[Slot],
-    pair: &Item,
-) -> Result<u64, Refusal>
-    requires some { 0 < length slots.now }
-    requires few { length slots.now ≤ 12 }
-    requires ready { All (IsReady (R.standing room.old) (R.words room.old)) slots.now }
-    requires key_fits { length pair.now.key ≤ 264 }
+fn write_node<R: Room>(room: &mut R, node: Node<'_>) -> Result<u64, Refusal>
+    requires some { 0 < length node.slots.now }
+    requires few { length node.slots.now ≤ 12 }
+    requires ready { All (IsReady (R.standing room.old) (R.words room.old)) node.slots.now }
+    requires key_fits { length node.pair.now.key ≤ 264 }
     requires open { IsTrue (R.is_open (R.kept room.old)) }
-    ensures ok { IfOk result (λ page. IsWritten level (R.words room.new) (pairs_of (R.words room.old) pair.now slots.now) (branch_to (R.words room.new) page)) }
+    ensures ok { IfOk result (λ page. IsWritten node.entry.level (R.words room.new) (pairs_of (R.words room.old) node.entry.pair.now node.entry.slots.now) (branch_to (R.words room.new) page)) }
     ensures swaps { IfOk result (λ page. Swaps R.kept R.standing R.words [] (page ∷ []) room.old room.new) }
     ensures small { IfOk result (λ page. page < 2 ^ 32) }
     ensures err { OnErr result (KeepsStart R.kept R.standing R.words room.old room.new) }
     ensures full { IfErr result (IsFullOf (R.full room.new)) }
 {
     let page = room.take()?;
-    store_node(room, page, level, slots, pair);
+    store_node(room, page, node.level, node.slots, node.pair);
     Ok(page)
 }
 
@@ -72,82 +68,64 @@ fn way_over<R: Room>(room: &R, page: u64, slots: &[Slot]) -> Option<Way>
 }
 
 /// Writes a node over its page, which this write has taken. What stands behind its items there stays.
-fn write_over<R: Room>(room: &mut R, level: u64, page: u64, way: Way, slots: &[Slot], pair: &Item)
-    requires some { 0 < length slots.now }
-    requires few { length slots.now ≤ 12 }
-    requires ready { All (IsReady (R.standing room.old) (R.words room.old)) slots.now }
+fn write_over<R: Room>(room: &mut R, page: u64, way: Way, node: Node<'_>)
+    requires some { 0 < length node.slots.now }
+    requires few { length node.slots.now ≤ 12 }
+    requires ready { All (IsReady (R.standing room.old) (R.words room.old)) node.slots.now }
     requires kept { IsTrue (is_kept (R.standing room.old page)) }
     requires taken { IsTrue (is_taken (R.standing room.old page)) }
-    requires moves { Moves way page slots.now }
-    requires key_fits { length pair.now.key ≤ 264 }
+    requires moves { Moves way page node.slots.now }
+    requires key_fits { length node.pair.now.key ≤ 264 }
     requires open { IsTrue (R.is_open (R.kept room.old)) }
-    ensures written { IsWritten level (R.words room.new) (pairs_of (R.words room.old) pair.now slots.now) (branch_to (R.words room.new) page) }
+    ensures written { IsWritten node.entry.level (R.words room.new) (pairs_of (R.words room.old) node.entry.pair.now node.entry.slots.now) (branch_to (R.words room.new) page) }
     ensures swaps { Swaps R.kept R.standing R.words (page ∷ []) (page ∷ []) room.old room.new }
-    ensures behind { (i : ℕ) → item_place (length slots.now) ≤ i → R.words room.new page i ≡ R.words room.old page i }
+    ensures behind { (i : ℕ) → item_place (length node.entry.slots.now) ≤ i → R.words room.new page i ≡ R.words room.old page i }
     ensures standing { StandsAt (R.standing room.old) (R.standing room.new) page Filled }
     ensures others { (q : ℕ) → q ≢ page → R.words room.new q ≡ R.words room.old q }
     ensures small { page < 2 ^ 32 }
 {
     match way {
-        Way::Down => store_node(room, page, level, slots, pair),
-        Way::Up => store_from_last(room, page, level, slots, pair),
+        Way::Down => store_node(room, page, node.level, node.slots, node.pair),
+        Way::Up => store_from_last(room, page, node.level, node.slots, node.pair),
     }
 }
 
 /// Writes a node over its old page where that can be, else to a page of its own, and gives the old one up. Gives the page.
-fn rewrite<R: Room>(
-    room: &mut R,
-    level: u64,
-    old: u64,
-    slots: &[Slot],
-    pair: &Item,
-) -> Result<u64, Refusal>
-    requires some { 0 < length slots.now }
-    requires few { length slots.now ≤ 12 }
-    requires ready { All (IsReady (R.standing room.old) (R.words room.old)) slots.now }
+fn rewrite<R: Room>(room: &mut R, old: u64, node: Node<'_>) -> Result<u64, Refusal>
+    requires some { 0 < length node.slots.now }
+    requires few { length node.slots.now ≤ 12 }
+    requires ready { All (IsReady (R.standing room.old) (R.words room.old)) node.slots.now }
     requires kept { IsTrue (is_kept (R.standing room.old old)) }
-    requires key_fits { length pair.now.key ≤ 264 }
+    requires key_fits { length node.pair.now.key ≤ 264 }
     requires open { IsTrue (R.is_open (R.kept room.old)) }
-    ensures ok { IfOk result (λ page. IsWritten level (R.words room.new) (pairs_of (R.words room.old) pair.now slots.now) (branch_to (R.words room.new) page)) }
+    ensures ok { IfOk result (λ page. IsWritten node.entry.level (R.words room.new) (pairs_of (R.words room.old) node.entry.pair.now node.entry.slots.now) (branch_to (R.words room.new) page)) }
     ensures swaps { IfOk result (λ page. Swaps R.kept R.standing R.words (old ∷ []) (page ∷ []) room.old room.new) }
     ensures small { IfOk result (λ page. page < 2 ^ 32) }
     ensures err { OnErr result (KeepsStart R.kept R.standing R.words room.old room.new) }
     ensures full { IfErr result (IsFullOf (R.full room.new)) }
 {
-    if let Some(way) = way_over(room, old, slots) {
-        write_over(room, level, old, way, slots, pair);
+    if let Some(way) = way_over(room, old, node.slots) {
+        write_over(room, old, way, node);
         return Ok(old);
     }
-    let page = write_node(room, level, slots, pair)?;
+    let page = write_node(room, node)?;
     room.give_up(old);
     Ok(page)
 }
 
 /// Writes a node with what stands below it, as `rewrite` does, and gives its page.
-pub(crate) fn write_branch<R: Room>(
-    room: &mut R,
-    level: u64,
-    old: u64,
-    slots: &[Slot],
-    pair: &Item,
-) -> Result<u64, Refusal>
-    requires below { IsBelow level (R.standing room.old) (R.words room.old) (pairs_of (R.words room.old) pair.now slots.now) }
-    requires ready { All (IsReady (R.standing room.old) (R.words room.old)) slots.now }
-    requires enough { 6 ≤ length slots.now }
-    requires few { length slots.now ≤ 12 }
-    requires kept { IsTrue (is_kept (R.standing room.old old)) }
-    requires apart { times old (pages_below level (R.words room.old) (pairs_of (R.words room.old) pair.now slots.now)) ≡ 0 }
-    requires key_fits { length pair.now.key ≤ 264 }
+pub(crate) fn write_branch<R: Room>(room: &mut R, old: u64, node: Node<'_>) -> Result<u64, Refusal>
+    requires node { CanBeWritten node.level (R.standing room.old) (R.words room.old) node.pair.now node.slots.now }
+    requires size { (6 ≤ length node.slots.now) × (length node.slots.now ≤ 12) }
+    requires old { IsApart node.level (R.standing room.old) (R.words room.old) node.pair.now node.slots.now old }
     requires open { IsTrue (R.is_open (R.kept room.old)) }
-    ensures ok { IfOk result (λ page. Becomes R.kept R.standing R.words
-        (old ∷ pages_below level (R.words room.old) (pairs_of (R.words room.old) pair.now slots.now))
-        (pairs_below level (R.words room.old) (pairs_of (R.words room.old) pair.now slots.now)) (suc level)
+    ensures ok { IfOk result (λ page. Replaces R.kept R.standing R.words node.entry.level node.entry.pair.now node.entry.slots.now (old ∷ [])
         (branch_to (R.words room.new) page ∷ []) room.old room.new) }
     ensures small { IfOk result (λ page. page < 2 ^ 32) }
     ensures err { OnErr result (KeepsStart R.kept R.standing R.words room.old room.new) }
     ensures full { IfErr result (IsFullOf (R.full room.new)) }
 {
-    let page = rewrite(room, level, old, slots, pair)?;
+    let page = rewrite(room, old, node)?;
     Ok(page)
 }
 
@@ -155,31 +133,27 @@ pub(crate) fn write_branch<R: Room>(
 /// written before the first one is written as `rewrite` does.
 fn write_parts<R: Room>(
     room: &mut R,
-    level: u64,
     old: u64,
-    slots: &[Slot],
+    node: Node<'_>,
     cut: usize,
-    pair: &Item,
 ) -> Result<(u64, u64), Refusal>
-    requires below { IsBelow level (R.standing room.old) (R.words room.old) (pairs_of (R.words room.old) pair.now slots.now) }
-    requires ready { All (IsReady (R.standing room.old) (R.words room.old)) slots.now }
+    requires node { CanBeWritten node.level (R.standing room.old) (R.words room.old) node.pair.now node.slots.now }
     requires first { (6 ≤ cut) × (cut ≤ 12) }
-    requires second { (cut + 6 ≤ length slots.now) × (length slots.now ≤ cut + 12) }
-    requires kept { IsTrue (is_kept (R.standing room.old old)) }
-    requires apart { times old (pages_below level (R.words room.old) (pairs_of (R.words room.old) pair.now slots.now)) ≡ 0 }
-    requires key_fits { length pair.now.key ≤ 264 }
+    requires second { (cut + 6 ≤ length node.slots.now) × (length node.slots.now ≤ cut + 12) }
+    requires old { IsApart node.level (R.standing room.old) (R.words room.old) node.pair.now node.slots.now old }
     requires open { IsTrue (R.is_open (R.kept room.old)) }
-    ensures ok { IfOk result (λ both. Becomes R.kept R.standing R.words
-        (old ∷ pages_below level (R.words room.old) (pairs_of (R.words room.old) pair.now slots.now))
-        (pairs_below level (R.words room.old) (pairs_of (R.words room.old) pair.now slots.now)) (suc level)
+    ensures ok { IfOk result (λ both. Replaces R.kept R.standing R.words node.entry.level node.entry.pair.now node.entry.slots.now (old ∷ [])
         (branch_to (R.words room.new) both.0 ∷ branch_to (R.words room.new) both.1 ∷ []) room.old room.new) }
     ensures small { IfOk result (λ both. (both.0 < 2 ^ 32) × (both.1 < 2 ^ 32)) }
     ensures err { OnErr result (KeepsStart R.kept R.standing R.words room.old room.new) }
     ensures full { IfErr result (IsFullOf (R.full room.new)) }
 {
+    let Node { level, slots, pair } = node;
     let (front, back) = slots.split_at(cut);
-    let right = write_node(room, level, back, pair)?;
-    let left = rewrite(room, level, old, front, pair)?;
+    let slots = back;
+    let right = write_node(room, Node { level, slots, pair })?;
+    let slots = front;
+    let left = rewrite(room, old, Node { level, slots, pair })?;
     Ok((left, right))
 }
 
@@ -200,35 +174,27 @@ fn first_of_two(len: usize) -> usize
 /// to them. The old page is given up where it isn't among them.
 pub(crate) fn pack<R: Room>(
     room: &mut R,
-    level: u64,
     old: u64,
-    slots: &[Slot],
-    pair: &Item,
+    node: Node<'_>,
 ) -> Result<ArrayVec<Slot, 2>, Refusal>
-    requires below { IsBelow level (R.standing room.old) (R.words room.old) (pairs_of (R.words room.old) pair.now slots.now) }
-    requires ready { All (IsReady (R.standing room.old) (R.words room.old)) slots.now }
-    requires enough { 6 ≤ length slots.now }
-    requires few { length slots.now ≤ 24 }
-    requires kept { IsTrue (is_kept (R.standing room.old old)) }
-    requires apart { times old (pages_below level (R.words room.old) (pairs_of (R.words room.old) pair.now slots.now)) ≡ 0 }
-    requires key_fits { length pair.now.key ≤ 264 }
+    requires node { CanBeWritten node.level (R.standing room.old) (R.words room.old) node.pair.now node.slots.now }
+    requires size { (6 ≤ length node.slots.now) × (length node.slots.now ≤ 24) }
+    requires old { IsApart node.level (R.standing room.old) (R.words room.old) node.pair.now node.slots.now old }
     requires open { IsTrue (R.is_open (R.kept room.old)) }
-    ensures ok { IfOk result (λ branches. Becomes R.kept R.standing R.words
-        (old ∷ pages_below level (R.words room.old) (pairs_of (R.words room.old) pair.now slots.now))
-        (pairs_below level (R.words room.old) (pairs_of (R.words room.old) pair.now slots.now)) (suc level)
-        (pairs_of (R.words room.new) pair.now branches.items) room.old room.new) }
+    ensures ok { IfOk result (λ branches. Replaces R.kept R.standing R.words node.entry.level node.entry.pair.now node.entry.slots.now (old ∷ [])
+        (pairs_of (R.words room.new) node.entry.pair.now branches.items) room.old room.new) }
     ensures branches { IfOk result (λ branches. All IsBranchSlot branches.items) }
     ensures some { IfOk result (λ branches. (0 < length branches.items) × (length branches.items ≤ 2)) }
     ensures err { OnErr result (KeepsStart R.kept R.standing R.words room.old room.new) }
     ensures full { IfErr result (IsFullOf (R.full room.new)) }
 {
     let mut branches = ArrayVec::new();
-    if slots.len() <= MOST_ITEMS {
-        let page = write_branch(room, level, old, slots, pair)?;
+    if node.slots.len() <= MOST_ITEMS {
+        let page = write_branch(room, old, node)?;
         branches.push(Slot::Branch(page as u32));
         return Ok(branches);
     }
-    let (left, right) = write_parts(room, level, old, slots, first_of_two(slots.len()), pair)?;
+    let (left, right) = write_parts(room, old, node, first_of_two(node.slots.len()))?;
     branches.push(Slot::Branch(left as u32));
     branches.push(Slot::Branch(right as u32));
     Ok(branches)
@@ -238,32 +204,21 @@ pub(crate) fn pack<R: Room>(
 /// second one is given up.
 fn write_joined<R: Room>(
     room: &mut R,
-    level: u64,
     left: u64,
     right: u64,
-    slots: &[Slot],
-    pair: &Item,
+    node: Node<'_>,
 ) -> Result<u64, Refusal>
-    requires below { IsBelow level (R.standing room.old) (R.words room.old) (pairs_of (R.words room.old) pair.now slots.now) }
-    requires ready { All (IsReady (R.standing room.old) (R.words room.old)) slots.now }
-    requires enough { 6 ≤ length slots.now }
-    requires few { length slots.now ≤ 12 }
-    requires left_kept { IsTrue (is_kept (R.standing room.old left)) }
-    requires right_kept { IsTrue (is_kept (R.standing room.old right)) }
-    requires left_apart { times left (pages_below level (R.words room.old) (pairs_of (R.words room.old) pair.now slots.now)) ≡ 0 }
-    requires right_apart { times right (pages_below level (R.words room.old) (pairs_of (R.words room.old) pair.now slots.now)) ≡ 0 }
-    requires different { left ≢ right }
-    requires key_fits { length pair.now.key ≤ 264 }
+    requires node { CanBeWritten node.level (R.standing room.old) (R.words room.old) node.pair.now node.slots.now }
+    requires size { (6 ≤ length node.slots.now) × (length node.slots.now ≤ 12) }
+    requires two { AreApart node.level (R.standing room.old) (R.words room.old) node.pair.now node.slots.now left right }
     requires open { IsTrue (R.is_open (R.kept room.old)) }
-    ensures ok { IfOk result (λ page. Becomes R.kept R.standing R.words
-        (left ∷ right ∷ pages_below level (R.words room.old) (pairs_of (R.words room.old) pair.now slots.now))
-        (pairs_below level (R.words room.old) (pairs_of (R.words room.old) pair.now slots.now)) (suc level)
+    ensures ok { IfOk result (λ page. Replaces R.kept R.standing R.words node.entry.level node.entry.pair.now node.entry.slots.now (left ∷ right ∷ [])
         (branch_to (R.words room.new) page ∷ []) room.old room.new) }
     ensures small { IfOk result (λ page. page < 2 ^ 32) }
     ensures err { OnErr result (KeepsStart R.kept R.standing R.words room.old room.new) }
     ensures full { IfErr result (IsFullOf (R.full room.new)) }
 {
-    let page = write_branch(room, level, left, slots, pair)?;
+    let page = write_branch(room, left, node)?;
     room.give_up(right);
     Ok(page)
 }
@@ -287,8 +242,8 @@ fn write_two_over<R: Room>(
     level: u64,
     left: u64,
     right: u64,
-    way: Way,
     front: &[Slot],
+    way: Way,
     back: &[Slot],
     pair: &Item,
 ) -> Result<u64, Refusal>
@@ -300,24 +255,20 @@ fn write_two_over<R: Room>(
     requires taken { IsTrue (is_taken (R.standing room.old left)) }
     requires moves { Moves way left front.now }
     requires leaves { All (StandsFrom left (item_place (length front.now))) back.now }
-    requires left_kept { IsTrue (is_kept (R.standing room.old left)) }
-    requires right_kept { IsTrue (is_kept (R.standing room.old right)) }
-    requires left_apart { times left (pages_below level (R.words room.old) (pairs_of (R.words room.old) pair.now (front.now ++ back.now))) ≡ 0 }
-    requires right_apart { times right (pages_below level (R.words room.old) (pairs_of (R.words room.old) pair.now (front.now ++ back.now))) ≡ 0 }
-    requires different { left ≢ right }
+    requires two { AreApart level (R.standing room.old) (R.words room.old) pair.now (front.now ++ back.now) left right }
     requires key_fits { length pair.now.key ≤ 264 }
     requires open { IsTrue (R.is_open (R.kept room.old)) }
-    ensures ok { IfOk result (λ page. Becomes R.kept R.standing R.words
-        (left ∷ right ∷ pages_below level (R.words room.old) (pairs_of (R.words room.old) pair.now (front.now ++ back.now)))
-        (pairs_below level (R.words room.old) (pairs_of (R.words room.old) pair.now (front.now ++ back.now))) (suc level)
+    ensures ok { IfOk result (λ page. Replaces R.kept R.standing R.words level pair.now (front.now ++ back.now) (left ∷ right ∷ [])
         (branch_to (R.words room.new) left ∷ branch_to (R.words room.new) page ∷ []) room.old room.new) }
     ensures first_small { left < 2 ^ 32 }
     ensures small { IfOk result (λ page. page < 2 ^ 32) }
     ensures err { OnErr result (KeepsStart R.kept R.standing R.words room.old room.new) }
     ensures full { IfErr result (IsFullOf (R.full room.new)) }
 {
-    write_over(room, level, left, way, front, pair);
-    let page = rewrite(room, level, right, back, pair)?;
+    let slots = front;
+    write_over(room, left, way, Node { level, slots, pair });
+    let slots = back;
+    let page = rewrite(room, right, Node { level, slots, pair })?;
     Ok(page)
 }
 
@@ -337,23 +288,19 @@ fn write_two_anew<R: Room>(
     requires below { IsBelow level (R.standing room.old) (R.words room.old) (pairs_of (R.words room.old) pair.now (front.now ++ back.now)) }
     requires front_ready { All (IsReady (R.standing room.old) (R.words room.old)) front.now }
     requires back_ready { All (IsReady (R.standing room.old) (R.words room.old)) back.now }
-    requires left_kept { IsTrue (is_kept (R.standing room.old left)) }
-    requires right_kept { IsTrue (is_kept (R.standing room.old right)) }
-    requires left_apart { times left (pages_below level (R.words room.old) (pairs_of (R.words room.old) pair.now (front.now ++ back.now))) ≡ 0 }
-    requires right_apart { times right (pages_below level (R.words room.old) (pairs_of (R.words room.old) pair.now (front.now ++ back.now))) ≡ 0 }
-    requires different { left ≢ right }
+    requires two { AreApart level (R.standing room.old) (R.words room.old) pair.now (front.now ++ back.now) left right }
     requires key_fits { length pair.now.key ≤ 264 }
     requires open { IsTrue (R.is_open (R.kept room.old)) }
-    ensures ok { IfOk result (λ both. Becomes R.kept R.standing R.words
-        (left ∷ right ∷ pages_below level (R.words room.old) (pairs_of (R.words room.old) pair.now (front.now ++ back.now)))
-        (pairs_below level (R.words room.old) (pairs_of (R.words room.old) pair.now (front.now ++ back.now))) (suc level)
+    ensures ok { IfOk result (λ both. Replaces R.kept R.standing R.words level pair.now (front.now ++ back.now) (left ∷ right ∷ [])
         (branch_to (R.words room.new) both.0 ∷ branch_to (R.words room.new) both.1 ∷ []) room.old room.new) }
     ensures small { IfOk result (λ both. (both.0 < 2 ^ 32) × (both.1 < 2 ^ 32)) }
     ensures err { OnErr result (KeepsStart R.kept R.standing R.words room.old room.new) }
     ensures full { IfErr result (IsFullOf (R.full room.new)) }
 {
-    let first = write_node(room, level, front, pair)?;
-    let second = rewrite(room, level, right, back, pair)?;
+    let slots = front;
+    let first = write_node(room, Node { level, slots, pair })?;
+    let slots = back;
+    let second = rewrite(room, right, Node { level, slots, pair })?;
     room.give_up(left);
     Ok((first, second))
 }
@@ -362,40 +309,30 @@ fn write_two_anew<R: Room>(
 /// them. Each neighbour is written over where it can be, else given up.
 fn write_two<R: Room>(
     room: &mut R,
-    level: u64,
     left: u64,
     right: u64,
-    slots: &[Slot],
     cut: usize,
-    pair: &Item,
+    node: Node<'_>,
 ) -> Result<(u64, u64), Refusal>
-    requires below { IsBelow level (R.standing room.old) (R.words room.old) (pairs_of (R.words room.old) pair.now slots.now) }
-    requires ready { All (IsReady (R.standing room.old) (R.words room.old)) slots.now }
+    requires node { CanBeWritten node.level (R.standing room.old) (R.words room.old) node.pair.now node.slots.now }
     requires first { (6 ≤ cut) × (cut ≤ 12) }
-    requires second { (cut + 6 ≤ length slots.now) × (length slots.now ≤ cut + 12) }
-    requires left_kept { IsTrue (is_kept (R.standing room.old left)) }
-    requires right_kept { IsTrue (is_kept (R.standing room.old right)) }
-    requires left_apart { times left (pages_below level (R.words room.old) (pairs_of (R.words room.old) pair.now slots.now)) ≡ 0 }
-    requires right_apart { times right (pages_below level (R.words room.old) (pairs_of (R.words room.old) pair.now slots.now)) ≡ 0 }
-    requires different { left ≢ right }
-    requires key_fits { length pair.now.key ≤ 264 }
+    requires second { (cut + 6 ≤ length node.slots.now) × (length node.slots.now ≤ cut + 12) }
+    requires two { AreApart node.level (R.standing room.old) (R.words room.old) node.pair.now node.slots.now left right }
     requires open { IsTrue (R.is_open (R.kept room.old)) }
-    ensures ok { IfOk result (λ both. Becomes R.kept R.standing R.words
-        (left ∷ right ∷ pages_below level (R.words room.old) (pairs_of (R.words room.old) pair.now slots.now))
-        (pairs_below level (R.words room.old) (pairs_of (R.words room.old) pair.now slots.now)) (suc level)
+    ensures ok { IfOk result (λ both. Replaces R.kept R.standing R.words node.entry.level node.entry.pair.now node.entry.slots.now (left ∷ right ∷ [])
         (branch_to (R.words room.new) both.0 ∷ branch_to (R.words room.new) both.1 ∷ []) room.old room.new) }
     ensures small { IfOk result (λ both. (both.0 < 2 ^ 32) × (both.1 < 2 ^ 32)) }
     ensures err { OnErr result (KeepsStart R.kept R.standing R.words room.old room.new) }
     ensures full { IfErr result (IsFullOf (R.full room.new)) }
 {
-    let (front, back) = slots.split_at(cut);
+    let (front, back) = node.slots.split_at(cut);
     if let Some(way) = way_over(room, left, front) {
         if all_stand_from(left, HEADER_WORDS + ITEM_WORDS * cut, back) {
-            let page = write_two_over(room, level, left, right, way, front, back, pair)?;
+            let page = write_two_over(room, node.level, left, right, front, way, back, node.pair)?;
             return Ok((left, page));
         }
     }
-    let both = write_two_anew(room, level, left, right, front, back, pair)?;
+    let both = write_two_anew(room, node.level, left, right, front, back, node.pair)?;
     Ok(both)
 }
 
@@ -403,41 +340,30 @@ fn write_two<R: Room>(
 /// over where it can be, else given up.
 pub(crate) fn pack_two<R: Room>(
     room: &mut R,
-    level: u64,
     left: u64,
     right: u64,
-    slots: &[Slot],
-    pair: &Item,
+    node: Node<'_>,
 ) -> Result<ArrayVec<Slot, 2>, Refusal>
-    requires below { IsBelow level (R.standing room.old) (R.words room.old) (pairs_of (R.words room.old) pair.now slots.now) }
-    requires ready { All (IsReady (R.standing room.old) (R.words room.old)) slots.now }
-    requires enough { 6 ≤ length slots.now }
-    requires few { length slots.now ≤ 24 }
-    requires left_kept { IsTrue (is_kept (R.standing room.old left)) }
-    requires right_kept { IsTrue (is_kept (R.standing room.old right)) }
-    requires left_apart { times left (pages_below level (R.words room.old) (pairs_of (R.words room.old) pair.now slots.now)) ≡ 0 }
-    requires right_apart { times right (pages_below level (R.words room.old) (pairs_of (R.words room.old) pair.now slots.now)) ≡ 0 }
-    requires different { left ≢ right }
-    requires key_fits { length pair.now.key ≤ 264 }
+    requires node { CanBeWritten node.level (R.standing room.old) (R.words room.old) node.pair.now node.slots.now }
+    requires size { (6 ≤ length node.slots.now) × (length node.slots.now ≤ 24) }
+    requires two { AreApart node.level (R.standing room.old) (R.words room.old) node.pair.now node.slots.now left right }
     requires open { IsTrue (R.is_open (R.kept room.old)) }
-    ensures ok { IfOk result (λ branches. Becomes R.kept R.standing R.words
-        (left ∷ right ∷ pages_below level (R.words room.old) (pairs_of (R.words room.old) pair.now slots.now))
-        (pairs_below level (R.words room.old) (pairs_of (R.words room.old) pair.now slots.now)) (suc level)
-        (pairs_of (R.words room.new) pair.now branches.items) room.old room.new) }
+    ensures ok { IfOk result (λ branches. Replaces R.kept R.standing R.words node.entry.level node.entry.pair.now node.entry.slots.now (left ∷ right ∷ [])
+        (pairs_of (R.words room.new) node.entry.pair.now branches.items) room.old room.new) }
     ensures ready { IfOk result (λ branches. All (IsReady (R.standing room.new) (R.words room.new)) branches.items) }
     ensures some { IfOk result (λ branches. (0 < length branches.items) × (length branches.items ≤ 2)) }
-    ensures two { IfOk result (λ branches. 12 < length slots.now → length branches.items ≡ 2) }
+    ensures two { IfOk result (λ branches. 12 < length node.entry.slots.now → length branches.items ≡ 2) }
     ensures err { OnErr result (KeepsStart R.kept R.standing R.words room.old room.new) }
     ensures full { IfErr result (IsFullOf (R.full room.new)) }
 {
     let mut branches = ArrayVec::new();
-    if slots.len() <= MOST_ITEMS {
-        let page = write_joined(room, level, left, right, slots, pair)?;
+    if node.slots.len() <= MOST_ITEMS {
+        let page = write_joined(room, left, right, node)?;
         branches.push(Slot::Branch(page as u32));
         return Ok(branches);
     }
-    let cut = first_of_two(slots.len());
-    let (first, second) = write_two(room, level, left, right, slots, cut, pair)?;
+    let cut = first_of_two(node.slots.len());
+    let (first, second) = write_two(room, left, right, cut, node)?;
     branches.push(Slot::Branch(first as u32));
     branches.push(Slot::Branch(second as u32));
     Ok(branches)
@@ -459,39 +385,38 @@ pub(crate) fn write_first_root<R: Room>(
     ensures err { OnErr result (KeepsStart R.kept R.standing R.words room.old room.new) }
     ensures full { IfErr result (IsFullOf (R.full room.new)) }
 {
-    let top = write_node(room, 0, slots, pair)?;
+    let node = Node {
+        level: 0,
+        slots,
+        pair,
+    };
+    let top = write_node(room, node)?;
     Ok(top + 1)
 }
 
 /// Writes items as a tree of their own, over the old root's page where that can be, else it is given up. Gives the root.
-pub(crate) fn write_root<R: Room>(
-    room: &mut R,
-    level: u64,
-    old: u64,
-    slots: &[Slot],
-    pair: &Item,
-) -> Result<u64, Refusal>
-    requires below { IsBelow level (R.standing room.old) (R.words room.old) (pairs_of (R.words room.old) pair.now slots.now) }
-    requires ready { All (IsReady (R.standing room.old) (R.words room.old)) slots.now }
-    requires enough { least_of_root level ≤ length slots.now }
-    requires few { length slots.now ≤ 18 }
-    requires kept { IsTrue (is_kept (R.standing room.old old)) }
-    requires apart { times old (pages_below level (R.words room.old) (pairs_of (R.words room.old) pair.now slots.now)) ≡ 0 }
-    requires low { level < 2 ^ 32 }
-    requires key_fits { length pair.now.key ≤ 264 }
+pub(crate) fn write_root<R: Room>(room: &mut R, old: u64, node: Node<'_>) -> Result<u64, Refusal>
+    requires node { CanBeWritten node.level (R.standing room.old) (R.words room.old) node.pair.now node.slots.now }
+    requires enough { least_of_root node.level ≤ length node.slots.now }
+    requires few { length node.slots.now ≤ 18 }
+    requires old { IsApart node.level (R.standing room.old) (R.words room.old) node.pair.now node.slots.now old }
+    requires low { node.level < 2 ^ 32 }
     requires open { IsTrue (R.is_open (R.kept room.old)) }
-    ensures ok { IfOk result (λ root. BecomesTree R.kept R.standing R.words
-        (old ∷ pages_below level (R.words room.old) (pairs_of (R.words room.old) pair.now slots.now))
-        (pairs_below level (R.words room.old) (pairs_of (R.words room.old) pair.now slots.now)) root room.old room.new) }
+    ensures ok { IfOk result (λ root. ReplacesTree R.kept R.standing R.words node.entry.level node.entry.pair.now node.entry.slots.now old root room.old room.new) }
     ensures err { OnErr result (KeepsStart R.kept R.standing R.words room.old room.new) }
     ensures full { IfErr result (IsFullOf (R.full room.new)) }
 {
-    if slots.len() <= MOST_ITEMS {
-        let top = rewrite(room, level, old, slots, pair)?;
+    if node.slots.len() <= MOST_ITEMS {
+        let top = rewrite(room, old, node)?;
         return Ok(top + 1);
     }
-    let (left, right) = write_parts(room, level, old, slots, first_of_two(slots.len()), pair)?;
+    let (left, right) = write_parts(room, old, node, first_of_two(node.slots.len()))?;
     let branches = [Slot::Branch(left as u32), Slot::Branch(right as u32)];
-    let top = write_node(room, level + 1, &branches, pair)?;
+    let above = Node {
+        level: node.level + 1,
+        slots: &branches,
+        pair: node.pair,
+    };
+    let top = write_node(room, above)?;
     Ok(top + 1)
 }

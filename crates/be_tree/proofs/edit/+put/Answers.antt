@@ -185,32 +185,22 @@ put_shared-append-requires g t c =
     let len = ap length c.fill_slots.ensures.slots ∙ length-map-range_with_len (λ (j : ℕ). At (item_place j) c.args.left) 0 (g.R.Look.words c.put_at.new.room c.args.left 1) in
     omega (arith, len, count, c.requires.roomy, c.in_ok-put_at.ensures.some, ap length c.deref.ensures.0)
 
-pub put_shared-pack_two-requires-clause-below : goal.put_shared-pack_two-requires-clause-below
-put_shared-pack_two-requires-clause-below g t c = (share_both g t (goal.at.put_shared-pack_two-requires-clause-below g t c).After-deref-2).below
+pub put_shared-pack_two-requires-clause-node : goal.put_shared-pack_two-requires-clause-node
+put_shared-pack_two-requires-clause-node g t c =
+    let at = (goal.at.put_shared-pack_two-requires-clause-node g t c).After-deref-2 in
+    ((share_both g t at).below, (share_ready g t at, c.requires.key_fits))
 
-pub put_shared-pack_two-requires-clause-left_kept : goal.put_shared-pack_two-requires-clause-left_kept
-put_shared-pack_two-requires-clause-left_kept g t c = (share_both g t (goal.at.put_shared-pack_two-requires-clause-left_kept g t c).After-deref-2).left_is_kept
+pub put_shared-pack_two-requires-clause-size : goal.put_shared-pack_two-requires-clause-size
+put_shared-pack_two-requires-clause-size g t c =
+    let total = share_total g t (goal.at.put_shared-pack_two-requires-clause-size g t c).After-deref-2 in
+    (omega (arith, total, c.in_ok-put_at.ensures.some, items_count (g.R.Look.words c.args.room.now c.args.left), c.requires.neighbours.left_tree.node.enough), omega (arith, total, c.in_ok-put_at.ensures.some, c.requires.roomy))
 
-pub put_shared-pack_two-requires-clause-right_kept : goal.put_shared-pack_two-requires-clause-right_kept
-put_shared-pack_two-requires-clause-right_kept g t c = (share_both g t (goal.at.put_shared-pack_two-requires-clause-right_kept g t c).After-deref-2).right_is_kept
-
-pub put_shared-pack_two-requires-clause-left_apart : goal.put_shared-pack_two-requires-clause-left_apart
-put_shared-pack_two-requires-clause-left_apart g t c = (share_both g t (goal.at.put_shared-pack_two-requires-clause-left_apart g t c).After-deref-2).left_beside
-
-pub put_shared-pack_two-requires-clause-right_apart : goal.put_shared-pack_two-requires-clause-right_apart
-put_shared-pack_two-requires-clause-right_apart g t c = (share_both g t (goal.at.put_shared-pack_two-requires-clause-right_apart g t c).After-deref-2).right_beside
-
-pub put_shared-pack_two-requires-clause-ready : goal.put_shared-pack_two-requires-clause-ready
-put_shared-pack_two-requires-clause-ready g t c = share_ready g t (goal.at.put_shared-pack_two-requires-clause-ready g t c).After-deref-2
-
-pub put_shared-pack_two-requires-clause-enough : goal.put_shared-pack_two-requires-clause-enough
-put_shared-pack_two-requires-clause-enough g t c = omega (arith, share_total g t (goal.at.put_shared-pack_two-requires-clause-enough g t c).After-deref-2, c.in_ok-put_at.ensures.some, items_count (g.R.Look.words c.args.room.now c.args.left), c.requires.neighbours.left_tree.node.enough)
-
-pub put_shared-pack_two-requires-clause-few : goal.put_shared-pack_two-requires-clause-few
-put_shared-pack_two-requires-clause-few g t c = omega (arith, share_total g t (goal.at.put_shared-pack_two-requires-clause-few g t c).After-deref-2, c.in_ok-put_at.ensures.some, c.requires.roomy)
-
-pub put_shared-pack_two-requires-clause-different : goal.put_shared-pack_two-requires-clause-different
-put_shared-pack_two-requires-clause-different g t c = apart g.R.Look.kept g.R.Look.standing g.R.Look.words c.args.level c.args.left c.args.right c.args.room.now c.requires.neighbours
+pub put_shared-pack_two-requires-clause-two : goal.put_shared-pack_two-requires-clause-two
+put_shared-pack_two-requires-clause-two g t c =
+    let both = share_both g t (goal.at.put_shared-pack_two-requires-clause-two g t c).After-deref-2 in (
+      (both.left_is_kept, both.left_beside),
+      ((both.right_is_kept, both.right_beside), apart g.R.Look.kept g.R.Look.standing g.R.Look.words c.args.level c.args.left c.args.right c.args.room.now c.requires.neighbours),
+    )
 
 pub put_shared-returns-in_err-branches-clause-err : goal.put_shared-returns-in_err-branches-clause-err
 put_shared-returns-in_err-branches-clause-err g t c =
@@ -260,10 +250,11 @@ put_below-put_at-requires g t c κs within =
       ),
     )
 
-pub put_below-pack-requires-clause-enough : goal.put_below-pack-requires-clause-enough
-put_below-pack-requires-clause-enough g t c =
+pub put_below-pack-requires-clause-size : goal.put_below-pack-requires-clause-size
+put_below-pack-requires-clause-size g t c =
     let e : c.args.level ≡ suc (c.args.level - 1) = omega (arith, c.if-level-eq0.false) in
-    omega (arith, (child_tree g t (goal.at.put_below-pack-requires-clause-enough g t c).After-child_at-child e).node.enough, c.in_ok-put_at.ensures.some, ap length c.deref.ensures.0)
+    let len = ap length c.deref.ensures.0 in
+    (omega (arith, (child_tree g t (goal.at.put_below-pack-requires-clause-size g t c).After-child_at-child e).node.enough, c.in_ok-put_at.ensures.some, len), omega (arith, c.in_ok-put_at.ensures.some, len))
 
 pub put_below-returns-in_err-branches-clause-err : goal.put_below-returns-in_err-branches-clause-err
 put_below-returns-in_err-branches-clause-err g t c =
@@ -272,26 +263,19 @@ put_below-returns-in_err-branches-clause-err g t c =
     on_err _ (start_trans g.R.Look.kept g.R.Look.standing g.R.Look.words c.args.room.now read c.pack.new.room (unchanged_start g.R.Look.kept g.R.Look.standing g.R.Look.words c.args.room.now read c.child_at-child.ensures.unchanged)
     (start_trans g.R.Look.kept g.R.Look.standing g.R.Look.words read c.put_at.new.room c.pack.new.room first c.in_err-branches.ensures.err))
 
-pub put_below-pack-requires-clause-kept : goal.put_below-pack-requires-clause-kept
-put_below-pack-requires-clause-kept g t c =
+pub put_below-pack-requires-clause-old : goal.put_below-pack-requires-clause-old
+put_below-pack-requires-clause-old g t c =
     let e : c.args.level ≡ suc (c.args.level - 1) = omega (arith, c.if-level-eq0.false) in
-    let tree = child_tree g t (goal.at.put_below-pack-requires-clause-kept g t c).After-child_at-child e in
+    let tree = child_tree g t (goal.at.put_below-pack-requires-clause-old g t c).After-child_at-child e in
     let below = c.args.level - 1 in
     let read = c.child_at-child.new.look in
     let mid = c.put_at.new.room in
-    kept_after g.R.Look.kept g.R.Look.standing g.R.Look.words (pages_below below (g.R.Look.words read) (items_of (g.R.Look.words read c.child_at-child.result))) (pages_below below (g.R.Look.words mid) (pairs_of (g.R.Look.words mid) c.args.pair.now c.put_at.new.slots.items))
-    c.child_at-child.result read mid c.in_ok-put_at.ensures.ok.swaps tree.page_once tree.page_in_use
-
-pub put_below-pack-requires-clause-apart : goal.put_below-pack-requires-clause-apart
-put_below-pack-requires-clause-apart g t c =
-    let e : c.args.level ≡ suc (c.args.level - 1) = omega (arith, c.if-level-eq0.false) in
-    let tree = child_tree g t (goal.at.put_below-pack-requires-clause-apart g t c).After-child_at-child e in
-    let below = c.args.level - 1 in
-    let read = c.child_at-child.new.look in
-    let mid = c.put_at.new.room in
-    subst (λ (xs : List Slot). times c.child_at-child.result (pages_below below (g.R.Look.words mid) (pairs_of (g.R.Look.words mid) c.args.pair.now xs)) ≡ 0) (sym c.deref.ensures.0)
-    (given_up_page g.R.Look.kept g.R.Look.standing g.R.Look.words (pages_below below (g.R.Look.words read) (items_of (g.R.Look.words read c.child_at-child.result))) (pages_below below (g.R.Look.words mid) (pairs_of (g.R.Look.words mid) c.args.pair.now c.put_at.new.slots.items))
-    c.child_at-child.result read mid c.in_ok-put_at.ensures.ok.swaps tree.page_once tree.page_in_use)
+    let before = pages_below below (g.R.Look.words read) (items_of (g.R.Look.words read c.child_at-child.result)) in
+    let after = pages_below below (g.R.Look.words mid) (pairs_of (g.R.Look.words mid) c.args.pair.now c.put_at.new.slots.items) in (
+      kept_after g.R.Look.kept g.R.Look.standing g.R.Look.words before after c.child_at-child.result read mid c.in_ok-put_at.ensures.ok.swaps tree.page_once tree.page_in_use,
+      subst (λ (xs : List Slot). times c.child_at-child.result (pages_below below (g.R.Look.words mid) (pairs_of (g.R.Look.words mid) c.args.pair.now xs)) ≡ 0) (sym c.deref.ensures.0)
+          (given_up_page g.R.Look.kept g.R.Look.standing g.R.Look.words before after c.child_at-child.result read mid c.in_ok-put_at.ensures.ok.swaps tree.page_once tree.page_in_use),
+    )
 
 pub put_below-returns-clause-ok : goal.put_below-returns-clause-ok
 put_below-returns-clause-ok g t c =

@@ -31,24 +31,18 @@ write_root-requires-clause-low g c =
     (λ q some. g.met.R.Look.pages_small c.word-level.new.self q (kept_not_free (g.R.Look.standing c.word-level.new.self q)
     (tree_in_use c.word-level.result 1 (g.R.Look.standing c.word-level.new.self) (g.R.Look.words c.word-level.new.self) (c.args.root - 1) tree q some)))
 
-pub write_root-requires-clause-kept : goal.write_root-requires-clause-kept
-write_root-requires-clause-kept g c =
-    let tree = root_page g (goal.at.write_root-requires-clause-kept g c).After-word-level in
+pub write_root-requires-clause-old : goal.write_root-requires-clause-old
+write_root-requires-clause-old g c =
+    let tree = root_page g (goal.at.write_root-requires-clause-old g c).After-word-level in
     let level = c.word-level.result in
     let read = c.word-level.new.self in
-    let mid = c.put_at.new.room in
-    kept_after g.R.Look.kept g.R.Look.standing g.R.Look.words (pages_below level (g.R.Look.words read) (items_of (g.R.Look.words read (c.args.root - 1)))) (pages_below level (g.R.Look.words mid) (pairs_of (g.R.Look.words mid) c.new-pair.result c.put_at.new.slots.items))
-    (c.args.root - 1) read mid c.in_ok-put_at.ensures.ok.swaps tree.page_once tree.page_in_use
-
-pub write_root-requires-clause-apart : goal.write_root-requires-clause-apart
-write_root-requires-clause-apart g c =
-    let tree = root_page g (goal.at.write_root-requires-clause-apart g c).After-word-level in
-    let level = c.word-level.result in
-    let read = c.word-level.new.self in
-    let mid = c.put_at.new.room in
-    subst (λ (xs : List Slot). times (c.args.root - 1) (pages_below level (g.R.Look.words mid) (pairs_of (g.R.Look.words mid) c.new-pair.result xs)) ≡ 0) (sym c.deref.ensures.0)
-    (given_up_page g.R.Look.kept g.R.Look.standing g.R.Look.words (pages_below level (g.R.Look.words read) (items_of (g.R.Look.words read (c.args.root - 1)))) (pages_below level (g.R.Look.words mid) (pairs_of (g.R.Look.words mid) c.new-pair.result c.put_at.new.slots.items))
-    (c.args.root - 1) read mid c.in_ok-put_at.ensures.ok.swaps tree.page_once tree.page_in_use)
+    let mid = c.put_at.new.room in (
+      kept_after g.R.Look.kept g.R.Look.standing g.R.Look.words (pages_below level (g.R.Look.words read) (items_of (g.R.Look.words read (c.args.root - 1)))) (pages_below level (g.R.Look.words mid) (pairs_of (g.R.Look.words mid) c.new-pair.result c.put_at.new.slots.items))
+          (c.args.root - 1) read mid c.in_ok-put_at.ensures.ok.swaps tree.page_once tree.page_in_use,
+      subst (λ (xs : List Slot). times (c.args.root - 1) (pages_below level (g.R.Look.words mid) (pairs_of (g.R.Look.words mid) c.new-pair.result xs)) ≡ 0) (sym c.deref.ensures.0)
+          (given_up_page g.R.Look.kept g.R.Look.standing g.R.Look.words (pages_below level (g.R.Look.words read) (items_of (g.R.Look.words read (c.args.root - 1)))) (pages_below level (g.R.Look.words mid) (pairs_of (g.R.Look.words mid) c.new-pair.result c.put_at.new.slots.items))
+          (c.args.root - 1) read mid c.in_ok-put_at.ensures.ok.swaps tree.page_once tree.page_in_use),
+    )
 
 pub returns-in_err-new-clause-err : goal.returns-in_err-new-clause-err
 returns-in_err-new-clause-err g c =

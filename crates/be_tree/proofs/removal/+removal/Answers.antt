@@ -1,4 +1,4 @@
-use Rattle.std.proofs.Common.{◌≡◌, ℕ, suc, [], ◌∷◌, ◌++◌, ◌-◌, ◌+◌, ◌<◌, ◌≤◌, All, List, map, IsTrue, take, drop, ap, sym, subst, refl, ◌∙◌, length, arith}
+use Rattle.std.proofs.Common.{◌≡◌, ℕ, suc, [], ◌∷◌, ◌++◌, ◌-◌, ◌+◌, ◌<◌, ◌≤◌, List, map, IsTrue, take, drop, ap, sym, subst, refl, ◌∙◌, length, arith}
 use Rattle.std.specs.List.{range_with_len}
 use Rattle.be_tree.specs.declared.slot.Slot.{Slot}
 use Rattle.be_tree.specs.declared.slot.Slot.TheVariants.{At, Branch}
@@ -8,7 +8,7 @@ use Rattle.std.specs.Prelude.{true, false}
 use Rattle.std.specs.Ordering.{is_eq}
 use Rattle.be_tree.proofs.Removing.Stops.{absent_is, down_read, found_is, passed_absent, passed_stop}
 use Rattle.be_tree.specs.Page.{items_of, item_at, item_place}
-use Rattle.be_tree.specs.Slot.{branch_to, IsBranchSlot, IsReady, pair_of, pairs_of}
+use Rattle.be_tree.specs.Slot.{branch_to, IsBranchSlot, pair_of, pairs_of}
 use Rattle.be_tree.specs.Tree.{Becomes, child, least_of_root, pairs_at, pairs_below, pages_below}
 use Rattle.be_tree.proofs.Nodes.Alone.{AroundOne, around_one}
 use Rattle.be_tree.proofs.Nodes.Children.{AroundTwo, around_two, first_changed, second_changed}
@@ -255,9 +255,10 @@ remove_at-returns-in-Some-clause-some g t c =
     let items = items_count (g.R.Look.words c.args.room.now c.args.page) in
     (omega (arith, c.slots_with_one.ensures.len, count, items), omega (arith, c.slots_with_one.ensures.len, count, c.requires.tree.node.is_page.few))
 
-pub remove_alone-write_branch-requires-clause-enough : goal.remove_alone-write_branch-requires-clause-enough
-remove_alone-write_branch-requires-clause-enough g t c =
-    omega (arith, c.in_ok-remove_at.ensures.some, items_count (g.R.Look.words c.args.room.now c.args.below), c.requires.spare, ap length c.deref.ensures.0)
+pub remove_alone-write_branch-requires-clause-size : goal.remove_alone-write_branch-requires-clause-size
+remove_alone-write_branch-requires-clause-size g t c =
+    let len = ap length c.deref.ensures.0 in
+    (omega (arith, c.in_ok-remove_at.ensures.some, items_count (g.R.Look.words c.args.room.now c.args.below), c.requires.spare, len), omega (arith, c.in_ok-remove_at.ensures.some, len))
 
 pub remove_alone-returns-in_err-page-clause-err : goal.remove_alone-returns-in_err-page-clause-err
 remove_alone-returns-in_err-page-clause-err g t c =
@@ -267,22 +268,17 @@ remove_alone-returns-in_err-page-clause-err g t c =
     let first = swaps_start g.R.Look.kept g.R.Look.standing g.R.Look.words (pages_below level (g.R.Look.words old) (items_of (g.R.Look.words old c.args.below))) (pages_below level (g.R.Look.words mid) (pairs_of (g.R.Look.words mid) c.args.pair.now c.remove_at.new.slots.items)) old mid c.in_ok-remove_at.ensures.ok.swaps in
     on_err _ (start_trans g.R.Look.kept g.R.Look.standing g.R.Look.words old mid c.write_branch.new.room first c.in_err-page.ensures.err)
 
-pub remove_alone-write_branch-requires-clause-kept : goal.remove_alone-write_branch-requires-clause-kept
-remove_alone-write_branch-requires-clause-kept g t c =
+pub remove_alone-write_branch-requires-clause-old : goal.remove_alone-write_branch-requires-clause-old
+remove_alone-write_branch-requires-clause-old g t c =
     let level = c.args.level in
     let old = c.args.room.now in
     let mid = c.remove_at.new.room in
-    kept_after g.R.Look.kept g.R.Look.standing g.R.Look.words (pages_below level (g.R.Look.words old) (items_of (g.R.Look.words old c.args.below))) (pages_below level (g.R.Look.words mid) (pairs_of (g.R.Look.words mid) c.args.pair.now c.remove_at.new.slots.items))
-    c.args.below old mid c.in_ok-remove_at.ensures.ok.swaps c.requires.tree.page_once c.requires.tree.page_in_use
-
-pub remove_alone-write_branch-requires-clause-apart : goal.remove_alone-write_branch-requires-clause-apart
-remove_alone-write_branch-requires-clause-apart g t c =
-    let level = c.args.level in
-    let old = c.args.room.now in
-    let mid = c.remove_at.new.room in
-    subst (λ (xs : List Slot). times c.args.below (pages_below level (g.R.Look.words mid) (pairs_of (g.R.Look.words mid) c.args.pair.now xs)) ≡ 0) (sym c.deref.ensures.0)
-    (given_up_page g.R.Look.kept g.R.Look.standing g.R.Look.words (pages_below level (g.R.Look.words old) (items_of (g.R.Look.words old c.args.below))) (pages_below level (g.R.Look.words mid) (pairs_of (g.R.Look.words mid) c.args.pair.now c.remove_at.new.slots.items))
-    c.args.below old mid c.in_ok-remove_at.ensures.ok.swaps c.requires.tree.page_once c.requires.tree.page_in_use)
+    let before = pages_below level (g.R.Look.words old) (items_of (g.R.Look.words old c.args.below)) in
+    let after = pages_below level (g.R.Look.words mid) (pairs_of (g.R.Look.words mid) c.args.pair.now c.remove_at.new.slots.items) in (
+      kept_after g.R.Look.kept g.R.Look.standing g.R.Look.words before after c.args.below old mid c.in_ok-remove_at.ensures.ok.swaps c.requires.tree.page_once c.requires.tree.page_in_use,
+      subst (λ (xs : List Slot). times c.args.below (pages_below level (g.R.Look.words mid) (pairs_of (g.R.Look.words mid) c.args.pair.now xs)) ≡ 0) (sym c.deref.ensures.0)
+          (given_up_page g.R.Look.kept g.R.Look.standing g.R.Look.words before after c.args.below old mid c.in_ok-remove_at.ensures.ok.swaps c.requires.tree.page_once c.requires.tree.page_in_use),
+    )
 
 pub remove_alone-returns-clause-ok : goal.remove_alone-returns-clause-ok
 remove_alone-returns-clause-ok g t c =
@@ -457,57 +453,41 @@ remove_beside-slots_beside-slots-requires-clause-page g t c =
 pub remove_beside-slots_beside-slots-requires-clause-few : goal.remove_beside-slots_beside-slots-requires-clause-few
 remove_beside-slots_beside-slots-requires-clause-few g t c = c.in_ok-remove_at.ensures.some.1
 
--- the two pages by the names that they have in the code
-left_is : (P : ℕ → Type 0) (l m : ℕ) → l ≡ m → P m → P l
-left_is P l m e h = subst P (sym e) h
+pub remove_beside-pack_two-requires-clause-node : goal.remove_beside-pack_two-requires-clause-node
+remove_beside-pack_two-requires-clause-node g t c =
+    let at = (goal.at.remove_beside-pack_two-requires-clause-node g t c).After-deref in (
+      (both_joined g t at).below,
+      (
+        both_in_hand g.R.Look.kept g.R.Look.standing g.R.Look.words c.args.level c.args.room.now (less_of g t at) c.args.pair.now c.remove_at.new.slots.items c.remove_at.new.room c.deref.result.now c.slots_beside-slots.new.look
+            c.slots_beside-slots.ensures.unchanged c.args.side c.args.here c.args.other c.requires.neighbours c.in_ok-remove_at.ensures.ok (both_slots g t at) c.in_ok-remove_at.ensures.ready,
+        c.requires.key_fits,
+      ),
+    )
 
-pub remove_beside-pack_two-requires-clause-below : goal.remove_beside-pack_two-requires-clause-below
-remove_beside-pack_two-requires-clause-below g t c = (both_joined g t (goal.at.remove_beside-pack_two-requires-clause-below g t c).After-deref).below
-
-pub remove_beside-pack_two-requires-clause-ready : goal.remove_beside-pack_two-requires-clause-ready
-remove_beside-pack_two-requires-clause-ready g t c =
-    both_in_hand g.R.Look.kept g.R.Look.standing g.R.Look.words c.args.level c.args.room.now (without c.args.key.now (pairs_at c.args.level (g.R.Look.words c.args.room.now) c.args.here)) c.args.pair.now c.remove_at.new.slots.items c.remove_at.new.room c.deref.result.now c.slots_beside-slots.new.look
-    c.slots_beside-slots.ensures.unchanged c.args.side c.args.here c.args.other c.requires.neighbours c.in_ok-remove_at.ensures.ok (both_slots g t (goal.at.remove_beside-pack_two-requires-clause-ready g t c).After-deref) c.in_ok-remove_at.ensures.ready
-
-pub remove_beside-pack_two-requires-clause-enough : goal.remove_beside-pack_two-requires-clause-enough
-remove_beside-pack_two-requires-clause-enough g t c =
+pub remove_beside-pack_two-requires-clause-size : goal.remove_beside-pack_two-requires-clause-size
+remove_beside-pack_two-requires-clause-size g t c =
     let words = g.R.Look.words c.args.room.now in
     let trees = both_trees g.R.Look.kept g.R.Look.standing g.R.Look.words c.args.level c.args.room.now c.args.side c.args.here c.args.other c.requires.neighbours in
-    let len = both_total g t (goal.at.remove_beside-pack_two-requires-clause-enough g t c).After-deref in
-    omega (arith, len, c.in_ok-remove_at.ensures.some, items_count (words c.args.here), items_count (words c.args.other), trees.0.node.enough, trees.1.node.enough)
+    let len = both_total g t (goal.at.remove_beside-pack_two-requires-clause-size g t c).After-deref in (
+      omega (arith, len, c.in_ok-remove_at.ensures.some, items_count (words c.args.here), items_count (words c.args.other), trees.0.node.enough, trees.1.node.enough),
+      omega (arith, len, c.in_ok-remove_at.ensures.some, trees.1.node.is_page.few),
+    )
 
-pub remove_beside-pack_two-requires-clause-few : goal.remove_beside-pack_two-requires-clause-few
-remove_beside-pack_two-requires-clause-few g t c =
-    let trees = both_trees g.R.Look.kept g.R.Look.standing g.R.Look.words c.args.level c.args.room.now c.args.side c.args.here c.args.other c.requires.neighbours in
-    let len = both_total g t (goal.at.remove_beside-pack_two-requires-clause-few g t c).After-deref in
-    omega (arith, len, c.in_ok-remove_at.ensures.some, trees.1.node.is_page.few)
-
-pub remove_beside-pack_two-requires-clause-left_kept : goal.remove_beside-pack_two-requires-clause-left_kept
-remove_beside-pack_two-requires-clause-left_kept g t c =
-    left_is (λ (p : ℕ). IsTrue (is_kept (g.R.Look.standing c.slots_beside-slots.new.look p))) c.pages_in_order.result.0 (left_of c.args.side c.args.here c.args.other) c.pages_in_order.ensures.left
-    (both_joined g t (goal.at.remove_beside-pack_two-requires-clause-left_kept g t c).After-deref).left_is_kept
-
-pub remove_beside-pack_two-requires-clause-right_kept : goal.remove_beside-pack_two-requires-clause-right_kept
-remove_beside-pack_two-requires-clause-right_kept g t c =
-    left_is (λ (p : ℕ). IsTrue (is_kept (g.R.Look.standing c.slots_beside-slots.new.look p))) c.pages_in_order.result.1 (right_of c.args.side c.args.here c.args.other) c.pages_in_order.ensures.right
-    (both_joined g t (goal.at.remove_beside-pack_two-requires-clause-right_kept g t c).After-deref).right_is_kept
-
-pub remove_beside-pack_two-requires-clause-left_apart : goal.remove_beside-pack_two-requires-clause-left_apart
-remove_beside-pack_two-requires-clause-left_apart g t c =
-    let read = g.R.Look.words c.slots_beside-slots.new.look in
-    left_is (λ (p : ℕ). times p (pages_below c.args.level read (pairs_of read c.args.pair.now c.deref.result.now)) ≡ 0) c.pages_in_order.result.0 (left_of c.args.side c.args.here c.args.other) c.pages_in_order.ensures.left
-    (both_joined g t (goal.at.remove_beside-pack_two-requires-clause-left_apart g t c).After-deref).left_beside
-
-pub remove_beside-pack_two-requires-clause-right_apart : goal.remove_beside-pack_two-requires-clause-right_apart
-remove_beside-pack_two-requires-clause-right_apart g t c =
-    let read = g.R.Look.words c.slots_beside-slots.new.look in
-    left_is (λ (p : ℕ). times p (pages_below c.args.level read (pairs_of read c.args.pair.now c.deref.result.now)) ≡ 0) c.pages_in_order.result.1 (right_of c.args.side c.args.here c.args.other) c.pages_in_order.ensures.right
-    (both_joined g t (goal.at.remove_beside-pack_two-requires-clause-right_apart g t c).After-deref).right_beside
-
-pub remove_beside-pack_two-requires-clause-different : goal.remove_beside-pack_two-requires-clause-different
-remove_beside-pack_two-requires-clause-different g t c = λ e.
-    apart g.R.Look.kept g.R.Look.standing g.R.Look.words c.args.level (left_of c.args.side c.args.here c.args.other) (right_of c.args.side c.args.here c.args.other) c.args.room.now c.requires.neighbours
-    (sym c.pages_in_order.ensures.left ∙ e ∙ c.pages_in_order.ensures.right)
+pub remove_beside-pack_two-requires-clause-two : goal.remove_beside-pack_two-requires-clause-two
+remove_beside-pack_two-requires-clause-two g t c =
+    let both = both_joined g t (goal.at.remove_beside-pack_two-requires-clause-two g t c).After-deref in
+    let read = c.slots_beside-slots.new.look in
+    let items = pairs_of (g.R.Look.words read) c.args.pair.now c.deref.result.now in
+    let Apart : ℕ → Type 0 = λ p. IsTrue (is_kept (g.R.Look.standing read p)) × (times p (pages_below c.args.level (g.R.Look.words read) items) ≡ 0) in
+    let left : Apart (left_of c.args.side c.args.here c.args.other) = (both.left_is_kept, both.left_beside) in
+    let right : Apart (right_of c.args.side c.args.here c.args.other) = (both.right_is_kept, both.right_beside) in (
+      subst Apart (sym c.pages_in_order.ensures.left) left,
+      (
+        subst Apart (sym c.pages_in_order.ensures.right) right,
+        λ e. apart g.R.Look.kept g.R.Look.standing g.R.Look.words c.args.level (left_of c.args.side c.args.here c.args.other) (right_of c.args.side c.args.here c.args.other) c.args.room.now c.requires.neighbours
+            (sym c.pages_in_order.ensures.left ∙ e ∙ c.pages_in_order.ensures.right),
+      ),
+    )
 
 pub remove_beside-returns-in_err-branches-clause-err : goal.remove_beside-returns-in_err-branches-clause-err
 remove_beside-returns-in_err-branches-clause-err g t c =

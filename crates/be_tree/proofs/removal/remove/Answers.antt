@@ -134,24 +134,18 @@ returns-in_err-new-clause-err g c =
     (swaps_start g.R.Look.kept g.R.Look.standing g.R.Look.words (pages_below c.word-level.result (g.R.Look.words read) (items_of (g.R.Look.words read (c.args.root - 1)))) (pages_below c.word-level.result (g.R.Look.words c.remove_at.new.room) (pairs_of (g.R.Look.words c.remove_at.new.room) c.new-pair.result c.remove_at.new.slots.items)) read c.remove_at.new.room c.in-Ok.ensures.ok.swaps)
     c.in_err-new.ensures.err))
 
-pub write_rest-requires-clause-kept : goal.write_rest-requires-clause-kept
-write_rest-requires-clause-kept g c =
-    let tree = root_page g (goal.at.write_rest-requires-clause-kept g c).After-word-level in
+pub write_rest-requires-clause-old : goal.write_rest-requires-clause-old
+write_rest-requires-clause-old g c =
+    let tree = root_page g (goal.at.write_rest-requires-clause-old g c).After-word-level in
     let level = c.word-level.result in
     let read = c.word-level.new.self in
-    let mid = c.remove_at.new.room in
-    kept_after g.R.Look.kept g.R.Look.standing g.R.Look.words (pages_below level (g.R.Look.words read) (items_of (g.R.Look.words read (c.args.root - 1)))) (pages_below level (g.R.Look.words mid) (pairs_of (g.R.Look.words mid) c.new-pair.result c.remove_at.new.slots.items))
-    (c.args.root - 1) read mid c.in-Ok.ensures.ok.swaps tree.page_once tree.page_in_use
-
-pub write_rest-requires-clause-apart : goal.write_rest-requires-clause-apart
-write_rest-requires-clause-apart g c =
-    let tree = root_page g (goal.at.write_rest-requires-clause-apart g c).After-word-level in
-    let level = c.word-level.result in
-    let read = c.word-level.new.self in
-    let mid = c.remove_at.new.room in
-    subst (λ (xs : List Slot). times (c.args.root - 1) (pages_below level (g.R.Look.words mid) (pairs_of (g.R.Look.words mid) c.new-pair.result xs)) ≡ 0) (sym c.deref.ensures.0)
-    (given_up_page g.R.Look.kept g.R.Look.standing g.R.Look.words (pages_below level (g.R.Look.words read) (items_of (g.R.Look.words read (c.args.root - 1)))) (pages_below level (g.R.Look.words mid) (pairs_of (g.R.Look.words mid) c.new-pair.result c.remove_at.new.slots.items))
-    (c.args.root - 1) read mid c.in-Ok.ensures.ok.swaps tree.page_once tree.page_in_use)
+    let mid = c.remove_at.new.room in (
+      kept_after g.R.Look.kept g.R.Look.standing g.R.Look.words (pages_below level (g.R.Look.words read) (items_of (g.R.Look.words read (c.args.root - 1)))) (pages_below level (g.R.Look.words mid) (pairs_of (g.R.Look.words mid) c.new-pair.result c.remove_at.new.slots.items))
+          (c.args.root - 1) read mid c.in-Ok.ensures.ok.swaps tree.page_once tree.page_in_use,
+      subst (λ (xs : List Slot). times (c.args.root - 1) (pages_below level (g.R.Look.words mid) (pairs_of (g.R.Look.words mid) c.new-pair.result xs)) ≡ 0) (sym c.deref.ensures.0)
+          (given_up_page g.R.Look.kept g.R.Look.standing g.R.Look.words (pages_below level (g.R.Look.words read) (items_of (g.R.Look.words read (c.args.root - 1)))) (pages_below level (g.R.Look.words mid) (pairs_of (g.R.Look.words mid) c.new-pair.result c.remove_at.new.slots.items))
+          (c.args.root - 1) read mid c.in-Ok.ensures.ok.swaps tree.page_once tree.page_in_use),
+    )
 
 pub returns-clause-ok : goal.returns-clause-ok
 returns-clause-ok g c =

@@ -8,8 +8,8 @@ use Rattle.be_tree.proofs.writing.pack.Goals as goal
 pub returns-clause-ok : goal.returns-clause-ok
 returns-clause-ok g c =
     let words = g.R.Look.words c.args.room.now in
-    let items = pairs_of words c.args.pair.now c.args.slots.now in
+    let items = pairs_of words c.args.node.pair.now c.args.node.slots.now in
     let both : c.push-3.new.self.items ≡ Branch c.in_ok-left.left ∷ Branch c.in_ok-left.right ∷ [] =
     c.push-3.ensures.items ∙ ap (λ (xs : List Slot). xs ++ Branch c.in_ok-left.right ∷ []) (c.push-2.ensures.items ∙ ap (λ (xs : List Slot). xs ++ Branch c.in_ok-left.left ∷ []) c.new-branches.ensures) in
-    subst (λ (xs : List Slot). Becomes g.R.Look.kept g.R.Look.standing g.R.Look.words (c.args.old ∷ pages_below c.args.level words items) (pairs_below c.args.level words items) (suc c.args.level) (pairs_of (g.R.Look.words c.write_parts.new.room) c.args.pair.now xs) c.args.room.now c.write_parts.new.room)
+    subst (λ (xs : List Slot). Becomes g.R.Look.kept g.R.Look.standing g.R.Look.words (c.args.old ∷ pages_below c.args.node.level words items) (pairs_below c.args.node.level words items) (suc c.args.node.level) (pairs_of (g.R.Look.words c.write_parts.new.room) c.args.node.pair.now xs) c.args.room.now c.write_parts.new.room)
     (sym both) c.in_ok-left.ensures.ok

@@ -11,10 +11,10 @@ use Rattle.be_tree.proofs.writing.pack_two.Goals as goal
 pub returns-clause-ok : goal.returns-clause-ok
 returns-clause-ok g c =
     let words = g.R.Look.words c.args.room.now in
-    let items = pairs_of words c.args.pair.now c.args.slots.now in
+    let items = pairs_of words c.args.node.pair.now c.args.node.slots.now in
     let both : c.push-3.new.self.items ≡ Branch c.in_ok-first.first ∷ Branch c.in_ok-first.second ∷ [] =
     c.push-3.ensures.items ∙ ap (λ (xs : List Slot). xs ++ Branch c.in_ok-first.second ∷ []) (c.push-2.ensures.items ∙ ap (λ (xs : List Slot). xs ++ Branch c.in_ok-first.first ∷ []) c.new-branches.ensures) in
-    subst (λ (xs : List Slot). Becomes g.R.Look.kept g.R.Look.standing g.R.Look.words (c.args.left ∷ c.args.right ∷ pages_below c.args.level words items) (pairs_below c.args.level words items) (suc c.args.level) (pairs_of (g.R.Look.words c.write_two.new.room) c.args.pair.now xs) c.args.room.now c.write_two.new.room)
+    subst (λ (xs : List Slot). Becomes g.R.Look.kept g.R.Look.standing g.R.Look.words (c.args.left ∷ c.args.right ∷ pages_below c.args.node.level words items) (pairs_below c.args.node.level words items) (suc c.args.node.level) (pairs_of (g.R.Look.words c.write_two.new.room) c.args.node.pair.now xs) c.args.room.now c.write_two.new.room)
     (sym both) c.in_ok-first.ensures.ok
 
 pub returns-then-slots-le-MOST_ITEMS-clause-ready : goal.returns-then-slots-le-MOST_ITEMS-clause-ready
@@ -23,7 +23,7 @@ returns-then-slots-le-MOST_ITEMS-clause-ready g c =
     let w = g.R.Look.words c.write_joined.new.room in
     let page = c.in_ok-page.page in
     let one : c.push.new.self.items ≡ Branch page ∷ [] = c.push.ensures.items ∙ ap (λ (xs : List Slot). xs ++ Branch page ∷ []) c.new-branches.ensures in
-    subst (All (IsReady s w)) (sym one) (branches_ready c.args.level s w c.args.pair.now (Branch page ∷ []) (all_one IsBranchSlot (Branch page) c.in_ok-page.ensures.small) c.in_ok-page.ensures.ok.below)
+    subst (All (IsReady s w)) (sym one) (branches_ready c.args.node.level s w c.args.node.pair.now (Branch page ∷ []) (all_one IsBranchSlot (Branch page) c.in_ok-page.ensures.small) c.in_ok-page.ensures.ok.below)
 
 pub returns-clause-ready : goal.returns-clause-ready
 returns-clause-ready g c =
@@ -34,5 +34,5 @@ returns-clause-ready g c =
     let both : c.push-3.new.self.items ≡ Branch first ∷ Branch second ∷ [] =
     c.push-3.ensures.items ∙ ap (λ (xs : List Slot). xs ++ Branch second ∷ []) (c.push-2.ensures.items ∙ ap (λ (xs : List Slot). xs ++ Branch first ∷ []) c.new-branches.ensures) in
     subst (All (IsReady s w)) (sym both)
-    (branches_ready c.args.level s w c.args.pair.now (Branch first ∷ Branch second ∷ [])
+    (branches_ready c.args.node.level s w c.args.node.pair.now (Branch first ∷ Branch second ∷ [])
     (All-cons IsBranchSlot (Branch first) (Branch second ∷ []) c.in_ok-first.ensures.small.0 (all_one IsBranchSlot (Branch second) c.in_ok-first.ensures.small.1)) c.in_ok-first.ensures.ok.below)

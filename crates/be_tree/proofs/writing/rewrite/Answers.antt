@@ -15,7 +15,7 @@ give_up-requires-clause-held g c = held_after g.R.Look.kept g.R.Look.standing g.
 
 pub returns-clause-ok : goal.returns-clause-ok
 returns-clause-ok g c =
-    subst (λ (w : ℕ → ℕ → ℕ). IsWritten c.args.level w (pairs_of (g.R.Look.words c.args.room.now) c.args.pair.now c.args.slots.now) (branch_to w c.in_ok-page.page)) (sym c.give_up.ensures.words) c.in_ok-page.ensures.ok
+    subst (λ (w : ℕ → ℕ → ℕ). IsWritten c.args.node.level w (pairs_of (g.R.Look.words c.args.room.now) c.args.node.pair.now c.args.node.slots.now) (branch_to w c.in_ok-page.page)) (sym c.give_up.ensures.words) c.in_ok-page.ensures.ok
 
 pub returns-clause-swaps : goal.returns-clause-swaps
 returns-clause-swaps g c =

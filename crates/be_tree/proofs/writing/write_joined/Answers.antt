@@ -17,23 +17,23 @@ swapped q l r ps = omega (arith, times_append q (r ∷ []) (l ∷ ps), times_app
 
 pub give_up-requires-clause-held : goal.give_up-requires-clause-held
 give_up-requires-clause-held g c =
-    let before = pages_below c.args.level (g.R.Look.words c.args.room.now) (pairs_of (g.R.Look.words c.args.room.now) c.args.pair.now c.args.slots.now) in
-    held_after g.R.Look.kept g.R.Look.standing g.R.Look.words (c.args.left ∷ before) (pages_below (suc c.args.level) (g.R.Look.words c.write_branch.new.room) (branch_to (g.R.Look.words c.write_branch.new.room) c.in_ok-page.page ∷ [])) c.args.right
-    c.args.room.now c.write_branch.new.room c.in_ok-page.ensures.ok.swaps (other c.args.left c.args.right before c.requires.different c.requires.right_apart) c.requires.right_kept
+    let before = pages_below c.args.node.level (g.R.Look.words c.args.room.now) (pairs_of (g.R.Look.words c.args.room.now) c.args.node.pair.now c.args.node.slots.now) in
+    held_after g.R.Look.kept g.R.Look.standing g.R.Look.words (c.args.left ∷ before) (pages_below (suc c.args.node.level) (g.R.Look.words c.write_branch.new.room) (branch_to (g.R.Look.words c.write_branch.new.room) c.in_ok-page.page ∷ [])) c.args.right
+    c.args.room.now c.write_branch.new.room c.in_ok-page.ensures.ok.swaps (other c.args.left c.args.right before c.requires.two.1.1 c.requires.two.1.0.1) c.requires.two.1.0.0
 
 pub returns-clause-ok : goal.returns-clause-ok
 returns-clause-ok g c =
     let l = c.args.left in
     let r = c.args.right in
     let words = g.R.Look.words c.args.room.now in
-    let items = pairs_of words c.args.pair.now c.args.slots.now in
-    let before = pages_below c.args.level words items in
-    let all = pairs_below c.args.level words items in
+    let items = pairs_of words c.args.node.pair.now c.args.node.slots.now in
+    let before = pages_below c.args.node.level words items in
+    let all = pairs_below c.args.node.level words items in
     let s = g.R.Look.standing c.write_branch.new.room in
     let t = g.R.Look.standing c.give_up.new.self in
-    let given = becomes_given_up g.R.Look.kept g.R.Look.standing g.R.Look.words (l ∷ before) all (suc c.args.level) (branch_to (g.R.Look.words c.write_branch.new.room) c.in_ok-page.page ∷ []) r c.args.room.now c.write_branch.new.room c.give_up.new.self
-    c.in_ok-page.ensures.ok (other l r before c.requires.different c.requires.right_apart) c.requires.right_kept c.give_up.ensures.kept c.give_up.ensures.words
+    let given = becomes_given_up g.R.Look.kept g.R.Look.standing g.R.Look.words (l ∷ before) all (suc c.args.node.level) (branch_to (g.R.Look.words c.write_branch.new.room) c.in_ok-page.page ∷ []) r c.args.room.now c.write_branch.new.room c.give_up.new.self
+    c.in_ok-page.ensures.ok (other l r before c.requires.two.1.1 c.requires.two.1.0.1) c.requires.two.1.0.0 c.give_up.ensures.kept c.give_up.ensures.words
     (stands_at s t r (after_give_up (s r)) c.give_up.ensures.standing) (stands_else s t r (after_give_up (s r)) c.give_up.ensures.standing) in
-    subst (λ (w : ℕ → ℕ → ℕ). Becomes g.R.Look.kept g.R.Look.standing g.R.Look.words (l ∷ r ∷ before) all (suc c.args.level) (branch_to w c.in_ok-page.page ∷ []) c.args.room.now c.give_up.new.self) (sym c.give_up.ensures.words)
-    (becomes_times g.R.Look.kept g.R.Look.standing g.R.Look.words (r ∷ l ∷ before) (l ∷ r ∷ before) all (suc c.args.level) (branch_to (g.R.Look.words c.write_branch.new.room) c.in_ok-page.page ∷ []) c.args.room.now c.give_up.new.self
+    subst (λ (w : ℕ → ℕ → ℕ). Becomes g.R.Look.kept g.R.Look.standing g.R.Look.words (l ∷ r ∷ before) all (suc c.args.node.level) (branch_to w c.in_ok-page.page ∷ []) c.args.room.now c.give_up.new.self) (sym c.give_up.ensures.words)
+    (becomes_times g.R.Look.kept g.R.Look.standing g.R.Look.words (r ∷ l ∷ before) (l ∷ r ∷ before) all (suc c.args.node.level) (branch_to (g.R.Look.words c.write_branch.new.room) c.in_ok-page.page ∷ []) c.args.room.now c.give_up.new.self
     (λ q. swapped q l r before) given)

@@ -16,7 +16,7 @@ store_node-requires-clause-ready g c = λ i d lt.
     let t = g.R.Look.standing c.take.new.self in
     let v = g.R.Look.words c.args.room.now in
     let w = g.R.Look.words c.take.new.self in
-    let slot = get_or c.args.slots.now i d in
+    let slot = get_or c.args.node.slots.now i d in
     let same = c.in_ok-page.ensures.words in
     untouched_ready page s t v w (stands_else s t page Taken c.in_ok-page.ensures.ok) (λ q ne. ap (λ (u : ℕ → ℕ → ℕ). u q) same)
     (subst (λ u. IsTrue (is_readable u)) (sym (stands_at s t page Taken c.in_ok-page.ensures.ok)) refl) slot
@@ -25,13 +25,13 @@ store_node-requires-clause-ready g c = λ i d lt.
 
 pub store_node-requires-clause-down : goal.store_node-requires-clause-down
 store_node-requires-clause-down g c = λ j d lt.
-    stands_free c.in_ok-page.page (item_place j) (g.R.Look.standing c.args.room.now) (g.R.Look.words c.args.room.now) (get_or c.args.slots.now j d) c.in_ok-page.ensures.page.1 (c.requires.ready j d lt)
+    stands_free c.in_ok-page.page (item_place j) (g.R.Look.standing c.args.room.now) (g.R.Look.words c.args.room.now) (get_or c.args.node.slots.now j d) c.in_ok-page.ensures.page.1 (c.requires.ready j d lt)
 
 pub returns-clause-ok : goal.returns-clause-ok
 returns-clause-ok g c =
-    written_at c.args.level (g.R.Look.words c.store_node.new.room) (pairs_of (g.R.Look.words c.args.room.now) c.args.pair.now c.args.slots.now) c.in_ok-page.page c.in_ok-page.ensures.page.0
-    c.store_node.ensures.page c.store_node.ensures.level (c.store_node.ensures.items ∙ ap (λ (w : ℕ → ℕ → ℕ). pairs_of w c.args.pair.now c.args.slots.now) c.in_ok-page.ensures.words)
-    (omega (arith, length-map c.args.slots.now (pair_of (g.R.Look.words c.args.room.now) c.args.pair.now), c.requires.some))
+    written_at c.args.node.level (g.R.Look.words c.store_node.new.room) (pairs_of (g.R.Look.words c.args.room.now) c.args.node.pair.now c.args.node.slots.now) c.in_ok-page.page c.in_ok-page.ensures.page.0
+    c.store_node.ensures.page c.store_node.ensures.level (c.store_node.ensures.items ∙ ap (λ (w : ℕ → ℕ → ℕ). pairs_of w c.args.node.pair.now c.args.node.slots.now) c.in_ok-page.ensures.words)
+    (omega (arith, length-map c.args.node.slots.now (pair_of (g.R.Look.words c.args.room.now) c.args.node.pair.now), c.requires.some))
 
 pub returns-clause-swaps : goal.returns-clause-swaps
 returns-clause-swaps g c =

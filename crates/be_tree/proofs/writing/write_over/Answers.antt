@@ -10,24 +10,24 @@ use Rattle.be_tree.proofs.Shape.Levels.{kept_not_free}
 use Rattle.be_tree.proofs.writing.write_over.Goals as goal
 
 pub store_node-requires-clause-down : goal.store_node-requires-clause-down
-store_node-requires-clause-down g c = subst (λ (way : Way). Moves way c.args.page c.args.slots.now) c.in-Down.is c.requires.moves
+store_node-requires-clause-down g c = subst (λ (way : Way). Moves way c.args.page c.args.node.slots.now) c.in-Down.is c.requires.moves
 
 pub store_from_last-requires-clause-up : goal.store_from_last-requires-clause-up
-store_from_last-requires-clause-up g c = subst (λ (way : Way). Moves way c.args.page c.args.slots.now) c.in-Up.is c.requires.moves
+store_from_last-requires-clause-up g c = subst (λ (way : Way). Moves way c.args.page c.args.node.slots.now) c.in-Up.is c.requires.moves
 
 pub returns-in-Down-clause-written : goal.returns-in-Down-clause-written
 returns-in-Down-clause-written g c =
-    written_at c.args.level (g.R.Look.words c.store_node.new.room) (pairs_of (g.R.Look.words c.args.room.now) c.args.pair.now c.args.slots.now) c.args.page
+    written_at c.args.node.level (g.R.Look.words c.store_node.new.room) (pairs_of (g.R.Look.words c.args.room.now) c.args.node.pair.now c.args.node.slots.now) c.args.page
     (g.met.R.Look.pages_small c.args.room.now c.args.page (kept_not_free (g.R.Look.standing c.args.room.now c.args.page) c.requires.kept))
     c.store_node.ensures.page c.store_node.ensures.level c.store_node.ensures.items
-    (omega (arith, length-map c.args.slots.now (pair_of (g.R.Look.words c.args.room.now) c.args.pair.now), c.requires.some))
+    (omega (arith, length-map c.args.node.slots.now (pair_of (g.R.Look.words c.args.room.now) c.args.node.pair.now), c.requires.some))
 
 pub returns-in-Up-clause-written : goal.returns-in-Up-clause-written
 returns-in-Up-clause-written g c =
-    written_at c.args.level (g.R.Look.words c.store_from_last.new.room) (pairs_of (g.R.Look.words c.args.room.now) c.args.pair.now c.args.slots.now) c.args.page
+    written_at c.args.node.level (g.R.Look.words c.store_from_last.new.room) (pairs_of (g.R.Look.words c.args.room.now) c.args.node.pair.now c.args.node.slots.now) c.args.page
     (g.met.R.Look.pages_small c.args.room.now c.args.page (kept_not_free (g.R.Look.standing c.args.room.now c.args.page) c.requires.kept))
     c.store_from_last.ensures.page c.store_from_last.ensures.level c.store_from_last.ensures.items
-    (omega (arith, length-map c.args.slots.now (pair_of (g.R.Look.words c.args.room.now) c.args.pair.now), c.requires.some))
+    (omega (arith, length-map c.args.node.slots.now (pair_of (g.R.Look.words c.args.room.now) c.args.node.pair.now), c.requires.some))
 
 pub returns-in-Down-clause-swaps : goal.returns-in-Down-clause-swaps
 returns-in-Down-clause-swaps g c =

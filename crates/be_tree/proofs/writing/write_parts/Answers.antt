@@ -12,7 +12,7 @@ use Rattle.be_tree.proofs.writing.write_parts.Goals.{After-split_at}
 
 -- the items of both halves can be read
 ready : (g : Over) (c : After-split_at g) → All (IsReady (g.R.Look.standing c.args.room.now) (g.R.Look.words c.args.room.now)) (c.split_at.result.0.now ++ c.split_at.result.1.now)
-ready g c = subst (All (IsReady (g.R.Look.standing c.args.room.now) (g.R.Look.words c.args.room.now))) c.split_at.ensures.by_index.0 c.requires.ready
+ready g c = subst (All (IsReady (g.R.Look.standing c.args.room.now) (g.R.Look.words c.args.room.now))) c.split_at.ensures.by_index.0 c.requires.node.1.0
 
 front_ready : (g : Over) (c : After-split_at g) → All (IsReady (g.R.Look.standing c.args.room.now) (g.R.Look.words c.args.room.now)) c.split_at.result.0.now
 front_ready g c = all_left (IsReady (g.R.Look.standing c.args.room.now) (g.R.Look.words c.args.room.now)) c.split_at.result.0.now c.split_at.result.1.now (ready g c)
@@ -30,8 +30,8 @@ rewrite-requires-clause-ready g c =
 pub rewrite-requires-clause-kept : goal.rewrite-requires-clause-kept
 rewrite-requires-clause-kept g c =
     subst (λ s. IsTrue (is_kept s))
-    (sym (swaps_stands g.R.Look.kept g.R.Look.standing g.R.Look.words [] (c.in_ok-right.right ∷ []) c.args.room.now c.write_node.new.room c.in_ok-right.ensures.swaps c.args.old (omega arith) (readable_kept (g.R.Look.standing c.args.room.now c.args.old) c.requires.kept)))
-    c.requires.kept
+    (sym (swaps_stands g.R.Look.kept g.R.Look.standing g.R.Look.words [] (c.in_ok-right.right ∷ []) c.args.room.now c.write_node.new.room c.in_ok-right.ensures.swaps c.args.old (omega arith) (readable_kept (g.R.Look.standing c.args.room.now c.args.old) c.requires.old.0)))
+    c.requires.old.0
 
 pub rewrite-requires-clause-open : goal.rewrite-requires-clause-open
 rewrite-requires-clause-open g c = subst (λ k. IsTrue (g.R.Look.is_open k)) (sym c.in_ok-right.ensures.swaps.kept) c.requires.open
@@ -44,8 +44,8 @@ returns-in_err-left-clause-err g c =
 
 pub returns-clause-ok : goal.returns-clause-ok
 returns-clause-ok g c =
-    parts_written g.R.Look.kept g.R.Look.standing g.R.Look.words c.args.level c.args.pair.now c.split_at.result.0.now c.split_at.result.1.now c.args.slots.now c.args.old c.in_ok-left.left c.in_ok-right.right
-    c.args.room.now c.write_node.new.room c.rewrite.new.room c.split_at.ensures.by_index.0 c.requires.below
+    parts_written g.R.Look.kept g.R.Look.standing g.R.Look.words c.args.node.level c.args.node.pair.now c.split_at.result.0.now c.split_at.result.1.now c.args.node.slots.now c.args.old c.in_ok-left.left c.in_ok-right.right
+    c.args.room.now c.write_node.new.room c.rewrite.new.room c.split_at.ensures.by_index.0 c.requires.node.0
     (omega (arith, c.split_at.ensures.front_len, c.requires.first)) (omega (arith, c.split_at.ensures.back_len, c.requires.second))
-    (front_ready g (goal.at.returns-clause-ok g c).After-split_at) c.requires.kept c.requires.apart
+    (front_ready g (goal.at.returns-clause-ok g c).After-split_at) c.requires.old.0 c.requires.old.1
     c.in_ok-right.ensures.ok c.in_ok-right.ensures.small c.in_ok-right.ensures.swaps c.in_ok-left.ensures.ok c.in_ok-left.ensures.small c.in_ok-left.ensures.swaps

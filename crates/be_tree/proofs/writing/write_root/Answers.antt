@@ -15,18 +15,18 @@ pub returns-then-slots-le-MOST_ITEMS-clause-ok : goal.returns-then-slots-le-MOST
 returns-then-slots-le-MOST_ITEMS-clause-ok g c =
     let words = g.R.Look.words c.args.room.now in
     let new = g.R.Look.words c.rewrite.new.room in
-    let items = pairs_of words c.args.pair.now c.args.slots.now in
+    let items = pairs_of words c.args.node.pair.now c.args.node.slots.now in
     let is = child_branch new c.in_ok-top.top c.in_ok-top.ensures.small in
-    subst (λ (r : ℕ). BecomesTree g.R.Look.kept g.R.Look.standing g.R.Look.words (c.args.old ∷ pages_below c.args.level words items) (pairs_below c.args.level words items) r c.args.room.now c.rewrite.new.room)
+    subst (λ (r : ℕ). BecomesTree g.R.Look.kept g.R.Look.standing g.R.Look.words (c.args.old ∷ pages_below c.args.node.level words items) (pairs_below c.args.node.level words items) r c.args.room.now c.rewrite.new.room)
     (omega (arith, is))
-    (root_written g.R.Look.kept g.R.Look.standing g.R.Look.words c.args.level items (branch_to new c.in_ok-top.top) (c.args.old ∷ []) c.args.room.now c.rewrite.new.room c.requires.below
-    (omega (arith, c.requires.enough, length-map c.args.slots.now (pair_of words c.args.pair.now))) c.in_ok-top.ensures.ok
+    (root_written g.R.Look.kept g.R.Look.standing g.R.Look.words c.args.node.level items (branch_to new c.in_ok-top.top) (c.args.old ∷ []) c.args.room.now c.rewrite.new.room c.requires.node.0
+    (omega (arith, c.requires.enough, length-map c.args.node.slots.now (pair_of words c.args.node.pair.now))) c.in_ok-top.ensures.ok
     (subst (λ (p : ℕ). Swaps g.R.Look.kept g.R.Look.standing g.R.Look.words (c.args.old ∷ []) (p ∷ []) c.args.room.now c.rewrite.new.room) (sym is) c.in_ok-top.ensures.swaps)
-    (one_beside c.args.old (pages_below c.args.level words items) c.requires.apart c.requires.below.once))
+    (one_beside c.args.old (pages_below c.args.node.level words items) c.requires.old.1 c.requires.node.0.once))
 
 pub write_node-requires-clause-ready : goal.write_node-requires-clause-ready
 write_node-requires-clause-ready g c =
-    branches_ready c.args.level (g.R.Look.standing c.write_parts.new.room) (g.R.Look.words c.write_parts.new.room) c.args.pair.now (Branch c.in_ok-left.left ∷ Branch c.in_ok-left.right ∷ [])
+    branches_ready c.args.node.level (g.R.Look.standing c.write_parts.new.room) (g.R.Look.words c.write_parts.new.room) c.args.node.pair.now (Branch c.in_ok-left.left ∷ Branch c.in_ok-left.right ∷ [])
     (All-cons IsBranchSlot (Branch c.in_ok-left.left) (Branch c.in_ok-left.right ∷ []) c.in_ok-left.ensures.small.0 (All-cons IsBranchSlot (Branch c.in_ok-left.right) [] c.in_ok-left.ensures.small.1 (All-nil IsBranchSlot)))
     c.in_ok-left.ensures.ok.below
 
@@ -35,24 +35,24 @@ returns-in_err-top-2-clause-err g c =
     let words = g.R.Look.words c.args.room.now in
     let mid = g.R.Look.words c.write_parts.new.room in
     on_err _ (start_trans g.R.Look.kept g.R.Look.standing g.R.Look.words c.args.room.now c.write_parts.new.room c.write_node.new.room
-    (swaps_start g.R.Look.kept g.R.Look.standing g.R.Look.words (c.args.old ∷ pages_below c.args.level words (pairs_of words c.args.pair.now c.args.slots.now)) (pages_below (suc c.args.level) mid (branch_to mid c.in_ok-left.left ∷ branch_to mid c.in_ok-left.right ∷ [])) c.args.room.now c.write_parts.new.room c.in_ok-left.ensures.ok.swaps)
+    (swaps_start g.R.Look.kept g.R.Look.standing g.R.Look.words (c.args.old ∷ pages_below c.args.node.level words (pairs_of words c.args.node.pair.now c.args.node.slots.now)) (pages_below (suc c.args.node.level) mid (branch_to mid c.in_ok-left.left ∷ branch_to mid c.in_ok-left.right ∷ [])) c.args.room.now c.write_parts.new.room c.in_ok-left.ensures.ok.swaps)
     c.in_err-top-2.ensures.err)
 
 pub returns-clause-ok : goal.returns-clause-ok
 returns-clause-ok g c =
-    let e : c.args.level + 1 ≡ suc c.args.level = omega arith in
+    let e : c.args.node.level + 1 ≡ suc c.args.node.level = omega arith in
     let words = g.R.Look.words c.args.room.now in
     let mid = g.R.Look.words c.write_parts.new.room in
     let new = g.R.Look.words c.write_node.new.room in
-    let items = pairs_of words c.args.pair.now c.args.slots.now in
+    let items = pairs_of words c.args.node.pair.now c.args.node.slots.now in
     let both = branch_to mid c.in_ok-left.left ∷ branch_to mid c.in_ok-left.right ∷ [] in
     let top = c.in_ok-top-2.top in
     let is = child_branch new top c.in_ok-top-2.ensures.small in
-    subst (λ (r : ℕ). BecomesTree g.R.Look.kept g.R.Look.standing g.R.Look.words (c.args.old ∷ pages_below c.args.level words items) (pairs_below c.args.level words items) r c.args.room.now c.write_node.new.room)
+    subst (λ (r : ℕ). BecomesTree g.R.Look.kept g.R.Look.standing g.R.Look.words (c.args.old ∷ pages_below c.args.node.level words items) (pairs_below c.args.node.level words items) r c.args.room.now c.write_node.new.room)
     (omega (arith, is))
-    (becomes_tree g.R.Look.kept g.R.Look.standing g.R.Look.words (c.args.old ∷ pages_below c.args.level words items) (pairs_below c.args.level words items)
-    (suc c.args.level) both (suc (child (branch_to new top))) c.args.room.now c.write_parts.new.room c.write_node.new.room c.in_ok-left.ensures.ok
-    (root_written g.R.Look.kept g.R.Look.standing g.R.Look.words (suc c.args.level) both (branch_to new top) [] c.write_parts.new.room c.write_node.new.room c.in_ok-left.ensures.ok.below (omega arith)
+    (becomes_tree g.R.Look.kept g.R.Look.standing g.R.Look.words (c.args.old ∷ pages_below c.args.node.level words items) (pairs_below c.args.node.level words items)
+    (suc c.args.node.level) both (suc (child (branch_to new top))) c.args.room.now c.write_parts.new.room c.write_node.new.room c.in_ok-left.ensures.ok
+    (root_written g.R.Look.kept g.R.Look.standing g.R.Look.words (suc c.args.node.level) both (branch_to new top) [] c.write_parts.new.room c.write_node.new.room c.in_ok-left.ensures.ok.below (omega arith)
     (subst (λ (n : ℕ). IsWritten n new both (branch_to new top)) e c.in_ok-top-2.ensures.ok)
     (subst (λ (p : ℕ). Swaps g.R.Look.kept g.R.Look.standing g.R.Look.words [] (p ∷ []) c.write_parts.new.room c.write_node.new.room) (sym is) c.in_ok-top-2.ensures.swaps)
     (λ q. omega (arith, c.in_ok-left.ensures.ok.below.once q))))

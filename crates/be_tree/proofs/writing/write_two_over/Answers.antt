@@ -30,8 +30,8 @@ rewrite-requires-clause-ready g c =
 pub rewrite-requires-clause-kept : goal.rewrite-requires-clause-kept
 rewrite-requires-clause-kept g c =
     subst (λ s. IsTrue (is_kept s))
-    (sym (stands_else (g.R.Look.standing c.args.room.now) (g.R.Look.standing c.write_over.new.room) c.args.left Filled c.write_over.ensures.standing c.args.right (λ e. c.requires.different (sym e))))
-    c.requires.right_kept
+    (sym (stands_else (g.R.Look.standing c.args.room.now) (g.R.Look.standing c.write_over.new.room) c.args.left Filled c.write_over.ensures.standing c.args.right (λ e. c.requires.two.1.1 (sym e))))
+    c.requires.two.1.0.0
 
 pub rewrite-requires-clause-open : goal.rewrite-requires-clause-open
 rewrite-requires-clause-open g c = subst (λ k. IsTrue (g.R.Look.is_open k)) (sym c.write_over.ensures.swaps.kept) c.requires.open
@@ -50,5 +50,5 @@ returns-clause-ok g c =
     let same = untouched_pairs c.args.left s t (g.R.Look.words c.args.room.now) (g.R.Look.words c.write_over.new.room) (stands_else s t c.args.left Filled c.write_over.ensures.standing) c.write_over.ensures.others (filled g at)
     c.args.pair.now c.args.back.now (left_alone g at) c.requires.back_ready in
     over_written g.R.Look.kept g.R.Look.standing g.R.Look.words c.args.level c.args.pair.now c.args.front.now c.args.back.now c.args.left c.args.right c.in_ok-page.page c.args.room.now c.write_over.new.room c.rewrite.new.room
-    c.requires.below c.requires.first.0 c.requires.second.0 c.requires.left_kept c.requires.right_kept c.requires.different c.requires.left_apart c.requires.right_apart
+    c.requires.below c.requires.first.0 c.requires.second.0 c.requires.two.0.0 c.requires.two.1.0.0 c.requires.two.1.1 c.requires.two.0.1 c.requires.two.1.0.1
     c.write_over.ensures.written c.write_over.ensures.small c.write_over.ensures.swaps same c.in_ok-page.ensures.ok c.in_ok-page.ensures.small c.in_ok-page.ensures.swaps
