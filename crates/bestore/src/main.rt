@@ -227,13 +227,9 @@ fn print_text<R: Runtime>(rt: &R, text: &str, status: ExitCode) -> io::Result<Ex
     }
 }
 
-/// Checks the journal that a file tells, and prints that it is right, or the first line that isn't.
-fn check_file<R: Runtime + AllocGlobal>(rt: &R, file: &str) -> io::Result<ExitCode> {
-    let text = match read_whole(rt, file) {
-        Ok(text) => text,
-        Err(error) => return fail_whole(rt, file, &error),
-    };
-    match check(rt.alloc(), &text) {
+/// Checks the journal that a text tells, and prints that it is right, or the first line that isn't.
+fn check_text<R: Runtime + AllocGlobal>(rt: &R, file: &str, text: &[u8]) -> io::Result<ExitCode> {
+    match check(rt.alloc(), text) {
         Ok(Finding::Right) => print_text(rt, "replay ok\n", ExitCode::SUCCESS),
         Ok(Finding::Wrong(line)) => print_text(rt, line.as_str(), ExitCode::FAILURE),
         Ok(Finding::NoJournal) => fail_without_journal(rt, file),
@@ -241,13 +237,9 @@ fn check_file<R: Runtime + AllocGlobal>(rt: &R, file: &str) -> io::Result<ExitCo
     }
 }
 
-/// Prints the script that makes the writes of the journal again that a file tells.
-fn dump_file<R: Runtime + AllocGlobal>(rt: &R, file: &str) -> io::Result<ExitCode> {
-    let text = match read_whole(rt, file) {
-        Ok(text) => text,
-        Err(error) => return fail_whole(rt, file, &error),
-    };
-    let entries = match journal_told(rt.alloc(), &text) {
+/// Prints the script that makes the writes of the journal again that a text tells.
+fn dump_text<R: Runtime + AllocGlobal>(rt: &R, file: &str, text: &[u8]) -> io::Result<ExitCode> {
+    let entries = match journal_told(rt.alloc(), text) {
         Ok(Some(entries)) => entries,
         Ok(None) => return fail_without_journal(rt, file),
         Err(_) => return fail(rt, reason(RunFault::Memory)),
@@ -258,16 +250,41 @@ fn dump_file<R: Runtime + AllocGlobal>(rt: &R, file: &str) -> io::Result<ExitCod
     }
 }
 
-/// Prints the script that makes the last state of the journal again that a file tells.
-fn dump_state_of_file<R: Runtime + AllocGlobal>(rt: &R, file: &str) -> io::Result<ExitCode> {
+/// Prints the script that makes the last state of the journal again that a text tells.
+fn dump_state_of_text<R: Runtime + AllocGlobal>(
+    rt: &R,
+    file: &str,
+    text: &[u8],
+) -> io::Result<ExitCode> {
+    match dump_state(rt.alloc(), text) {
+        Ok(Some(script)) => print_text(rt, script.as_str(), ExitCode::SUCCESS),
+        Ok(None) => fail_without_journal(rt, file),
+        Err(_) => fail(rt, reason(RunFault::Memory)),
+    }
+}
+
+/// What is to be told of a journal.
+#[derive(Clone, Copy)]
+enum Telling {
+    Check,
+    Dump,
+    DumpState,
+}
+
+/// Tells it of the journal in a file.
+fn tell_of_file<R: Runtime + AllocGlobal>(
+    rt: &R,
+    file: &str,
+    telling: Telling,
+) -> io::Result<ExitCode> {
     let text = match read_whole(rt, file) {
         Ok(text) => text,
         Err(error) => return fail_whole(rt, file, &error),
     };
-    match dump_state(rt.alloc(), &text) {
-        Ok(Some(script)) => print_text(rt, script.as_str(), ExitCode::SUCCESS),
-        Ok(None) => fail_without_journal(rt, file),
-        Err(_) => fail(rt, reason(RunFault::Memory)),
+    match telling {
+        Telling::Check => check_text(rt, file, &text),
+        Telling::Dump => dump_text(rt, file, &text),
+        Telling::DumpState => dump_state_of_text(rt, file, &text),
     }
 }
 
@@ -281,9 +298,9 @@ fn run_task<R: Runtime + AllocGlobal + Threads + Wait + Sync>(
         Task::RunAndTell(file, limits) => run_file(rt, file.as_str(), *limits, true),
         Task::Race(files, limits) => race_files(rt, files.as_slice(), *limits),
         Task::Shell(file, limits) => open_shell(rt, file, *limits, is_terminal),
-        Task::Check(file) => check_file(rt, file.as_str()),
-        Task::Dump(file) => dump_file(rt, file.as_str()),
-        Task::DumpState(file) => dump_state_of_file(rt, file.as_str()),
+        Task::Check(file) => tell_of_file(rt, file.as_str(), Telling::Check),
+        Task::Dump(file) => tell_of_file(rt, file.as_str(), Telling::Dump),
+        Task::DumpState(file) => tell_of_file(rt, file.as_str(), Telling::DumpState),
     }
 }
 
