@@ -2,7 +2,8 @@
 ghost use Rattle.std.specs.Prelude.{◌≡◌, ◌+◌, ◌<◌, ◌≤◌, IfOk, IfErr, IfSome, IfNone, length};
 ghost use Rattle.be_session.specs.Operations.{AreMeant, IsMisspelt, IsMisspeltAt, IsMeantBy, IsWriteCount, part};
 
-use crate::{Fault, ListFault, operation};
+use crate::meanings::operation;
+use crate::{Fault, ListFault};
 use be_store::Op;
 use std::alloc::Global;
 

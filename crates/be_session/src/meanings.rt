@@ -12,7 +12,7 @@ use crate::Fault;
 use be_store::{Kind, Name, Op, Value};
 
 /// The kind of this type code.
-pub fn kind_of_code(code: u32) -> Option<Kind>
+pub(crate) fn kind_of_code(code: u32) -> Option<Kind>
     ensures found { IfSome result (λ kind. code_of kind ≡ code) }
     ensures none { IfNone result ((kind : AnyKind) → code_of kind ≢ code) }
 {
@@ -82,7 +82,7 @@ fn uint32(number: u64) -> Result<Value, Fault>
 
 /// The value that a type code, a number and bytes mean. A number that the kind has no use for is not looked at, nor are
 /// such bytes.
-pub fn value(code: u32, number: u64, bytes: &[u8]) -> Result<Value, Fault>
+pub(crate) fn value(code: u32, number: u64, bytes: &[u8]) -> Result<Value, Fault>
     ensures ok { IfOk result (λ value. IsValueMeant code number bytes.now value) }
     ensures err { IfErr result (λ e. IsNoValue code number bytes.now e) }
 {
@@ -116,7 +116,7 @@ pub fn spelled(value: &Value) -> (u32, u64, &[u8])
 
 /// The operation that a number means: 0 makes a node, 1 removes it, 2 sets an attribute and 3 removes it, 4 makes an index
 /// and 5 removes it. A part that the operation has no use for is not looked at.
-pub fn operation(
+pub(crate) fn operation(
     number: u32,
     node: u64,
     name_bytes: &[u8],

@@ -127,7 +127,7 @@ fn spell(bytes: &mut Vec<u8>, op: &Op) -> Result<Operation, Fault>
 }
 
 /// Operations, spelled in the list's order. OutOfMemory.
-pub fn operations_spelled(alloc: Global, list: &[Op]) -> Result<Spelling, Fault>
+pub(crate) fn operations_spelled(alloc: Global, list: &[Op]) -> Result<Spelling, Fault>
     ensures ok { IfOk result (λ s. AreSpelled s.operations.items s.bytes.items list.now) }
     ensures err { IfErr result (λ e. e ≡ Refused OutOfMemory) }
 {

@@ -4,7 +4,8 @@
 //! loses an operation.
 ghost use Rattle.std.specs.Prelude.{◌≤◌, length};
 
-use crate::{Fault, Spelling, operations_spelled};
+use crate::spellings::operations_spelled;
+use crate::{Fault, Spelling};
 use be_store::{Op, Place};
 use std::alloc::Global;
 
