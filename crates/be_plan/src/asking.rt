@@ -17,7 +17,7 @@ ghost use Rattle.be_plan.specs.Walk.{AreAllOn, Keeps};
 
 use crate::Source;
 use crate::choosing::choose_by_source;
-use crate::narrowing::narrow_beside;
+use crate::narrowing::narrow_alone;
 use crate::ranges::Range;
 use crate::running::walk_picks;
 use crate::sorting::in_order;
@@ -79,7 +79,7 @@ fn collect_named<S: Source>(
         return Err(Refusal::NotCovered);
     };
     range.open();
-    let rest = narrow_beside(range, tree, name, kind);
+    let rest = narrow_alone(range, tree, kind);
     walk(alloc, source, tree, name, kind, range, rest, found)
 }
 

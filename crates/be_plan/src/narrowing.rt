@@ -25,6 +25,7 @@ ghost use Rattle.be_query.specs.View.{formula, literal};
 ghost use Rattle.be_volume.specs.Maps.{name_cmp};
 ghost use Rattle.be_volume.specs.Query.{holds, holds_of_number, is_true_of, literal_number, sat};
 ghost use Rattle.be_volume.specs.Volume.{State};
+ghost use Rattle.be_plan.specs.Walk.{AreAllOn};
 ghost use Rattle.be_plan.specs.Narrow.{AllTrue, KeepsTrue, IsIn, IsBetween, IsPair, StandsFor, HasEnds, Allows, LeavesRest, high_of, limit, rest_true};
 
 use crate::ranges::Range;
@@ -344,6 +345,28 @@ pub(crate) fn narrow_beside<'a>(
         Tree::And(a, b) => {
             let left = narrow_beside(range, a, name, kind);
             let right = narrow_beside(range, b, name, kind);
+            rest_of_both(tree, left, right)
+        }
+        Tree::Or(_, _) => Some(tree),
+    }
+}
+
+/// The same where each comparison is on the index's own name, whatever that is: so no name is compared.
+pub(crate) fn narrow_alone<'a>(range: &mut Range, tree: &'a Tree, kind: Kind) -> Option<&'a Tree>
+    ensures within { (k : List ℕ) → IsIn range.new k → IsIn range.old k }
+    ensures keeps { (name : List ℕ) → AreAllOn (formula tree.now) name → (pick at : ℕ) (v : AnyValue) (n : ℕ) → IsPair kind v n →
+        Allows pick at (formula tree.now) name v → IsIn range.old (key_bytes v n) → IsIn range.new (key_bytes v n) }
+    ensures leaves { (name : List ℕ) → AreAllOn (formula tree.now) name →
+        LeavesRest (formula tree.now) name kind range.new.low.items (high_of range.new) (option_map formula (option_copied result)) }
+{
+    match tree {
+        Tree::Leaf(comparison) => {
+            let decided = narrow(range, comparison, kind);
+            if decided { None } else { Some(tree) }
+        }
+        Tree::And(a, b) => {
+            let left = narrow_alone(range, a, kind);
+            let right = narrow_alone(range, b, kind);
             rest_of_both(tree, left, right)
         }
         Tree::Or(_, _) => Some(tree),

@@ -148,8 +148,41 @@ fn ask_each<S: Source>(
     Ok(())
 }
 
+/// Adds the nodes of the keys in the range of which the tree is true, where this part is left to ask of them. Where no comparison on the index's
+/// name is left, a key tells no more than its node. It stands by itself, so that a walk whose range decides the tree needs no room for keys.
+#[inline(never)]
+fn walk_rest<S: Source>(
+    alloc: Global,
+    source: &mut S,
+    tree: &Tree,
+    name: &Name,
+    kind: Kind,
+    range: &Range,
+    rest: &Tree,
+    found: &mut Vec<u64>,
+) -> Result<(), Refusal>
+    ghost volume: { State }
+    requires answers { S.answers_for source.old volume }
+    requires kind { index_kind volume name.now ≡ Some kind }
+    requires leaves { LeavesRest (formula tree.now) name.now kind range.now.low.items (high_of range.now) (Some (formula rest.now)) }
+    ensures stays { S.kept source.new ≡ S.kept source.old }
+    ensures answers { S.answers_for source.new volume }
+    ensures memory { IfErr result (λ e. e ≡ OutOfMemory) }
+    ensures keeps { Keeps found.old.items found.new.items }
+    ensures only { (n : ℕ) → Contains found.new.items n → Contains found.old.items n ⊎ (sat volume (formula tree.now) n ≡ true) }
+    ensures has { OnOk result (HasWithin volume (formula tree.now) name.now range.now.low.items
+        (high_of range.now) found.new.items) }
+{
+    if asks_name(rest, name) {
+        visit_all(source, tree, name, kind, range, found)
+    } else {
+        ask_each(alloc, source, rest, name, range, found)
+    }
+}
+
 /// Adds the nodes of the keys in the range of which the tree is true, where this is left to ask of them: nothing, where the range decides the
-/// tree. Where no comparison on the index's name is left, a key tells no more than its node.
+/// tree.
+#[inline]
 pub(crate) fn walk<S: Source>(
     alloc: Global,
     source: &mut S,
@@ -172,17 +205,15 @@ pub(crate) fn walk<S: Source>(
     ensures has { OnOk result (HasWithin volume (formula tree.now) name.now range.now.low.items
         (high_of range.now) found.new.items) }
 {
-    let Some(rest) = rest else {
-        let keys = KeyRange {
-            name,
-            low: range.low(),
-            high: range.high(),
-        };
-        return source.nodes_within(keys, found);
-    };
-    if asks_name(rest, name) {
-        visit_all(source, tree, name, kind, range, found)
-    } else {
-        ask_each(alloc, source, rest, name, range, found)
+    match rest {
+        None => {
+            let keys = KeyRange {
+                name,
+                low: range.low(),
+                high: range.high(),
+            };
+            source.nodes_within(keys, found)
+        }
+        Some(rest) => walk_rest(alloc, source, tree, name, kind, range, rest, found),
     }
 }

@@ -16,16 +16,16 @@ returns-in_default-clause-refused g c =
 pub walk-requires : goal.walk-requires
 walk-requires g c κs within = (
   within,
-  (c.kind_of.ensures.answers g.volume c.requires.1.0, (sym (c.in-Some.ensures.answer g.volume c.requires.1.0), c.narrow_beside-rest.ensures.leaves)),
+  (c.kind_of.ensures.answers g.volume c.requires.1.0, (sym (c.in-Some.ensures.answer g.volume c.requires.1.0), c.narrow_alone-rest.ensures.leaves c.args.name.now c.requires.1.1)),
 )
 
 pub returns-clause-has : goal.returns-clause-has
 returns-clause-has g c =
-    let low = c.narrow_beside-rest.new.range.low.items in
-    let high = high_of c.narrow_beside-rest.new.range in
+    let low = c.narrow_alone-rest.new.range.low.items in
+    let high = high_of c.narrow_alone-rest.new.range in
     on_ok c.walk.result (λ within. named_found g.volume (formula c.args.tree.now) c.args.name.now c.in-Some.kind low high c.walk.new.found.items
     (g.met.S.Source.sound c.args.source.now g.volume c.requires.1.0) c.requires.1.1 (sym (c.in-Some.ensures.answer g.volume c.requires.1.0))
-    (λ v n p allows. c.narrow_beside-rest.ensures.keeps 0 0 v n p allows (c.open.ensures (key v n))) within)
+    (λ v n p allows. c.narrow_alone-rest.ensures.keeps c.args.name.now c.requires.1.1 0 0 v n p allows (c.open.ensures (key v n))) within)
     c.walk.ensures.has
 
 pub returns-clause-covered : goal.returns-clause-covered

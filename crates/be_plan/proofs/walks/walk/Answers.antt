@@ -14,8 +14,13 @@ use Rattle.be_plan.proofs.walks.walk.Goals as goal
 pub nodes_within-requires : goal.nodes_within-requires
 nodes_within-requires g c = (g.volume, c.requires.1.0)
 
-pub returns-in_default-clause-only : goal.returns-in_default-clause-only
-returns-in_default-clause-only g c = λ n h.
+pub walk_rest-requires : goal.walk_rest-requires
+walk_rest-requires g c κs within =
+    let R : Option Formula → Type 0 = λ r. LeavesRest (formula c.args.tree.now) c.args.name.now c.args.kind c.args.range.now.low.items (high_of c.args.range.now) r in
+    (within, (c.requires.1.0, (c.requires.1.1.0, subst R (ap (λ r. option_map formula (option_copied r)) c.in-Some.is) c.requires.1.1.1)))
+
+pub returns-in-None-clause-only : goal.returns-in-None-clause-only
+returns-in-None-clause-only g c = λ n h.
     let f = formula c.args.tree.now in
     let name = c.args.name.now in
     let low = c.args.range.now.low.items in
@@ -26,47 +31,18 @@ returns-in_default-clause-only g c = λ n h.
     let only : HasOnly g.volume name low high c.args.found.now.items c.nodes_within.new.found.items =
     subst H c.high.ensures (subst L c.low.ensures (c.nodes_within.ensures.only g.volume c.requires.1.0)) in
     let R : Option Formula → Type 0 = λ r. LeavesRest f name c.args.kind low high r in
-    let leaves : LeavesRest f name c.args.kind low high None = subst R (ap (λ r. option_map formula (option_copied r)) c.in_default.is) c.requires.1.1.1 in
+    let leaves : LeavesRest f name c.args.kind low high None = subst R (ap (λ r. option_map formula (option_copied r)) c.in-None.is) c.requires.1.1.1 in
     let P : ℕ → Type 0 = λ m. sat g.volume f m ≡ true in
     elim (only n h) [
       | inl there ↦ inl there
       | inr w ↦ inr (subst P w.node_is (left_key g.volume sound name w.key w.is_key c.args.kind c.requires.1.1.0 f low high None leaves w.within))
     ]
 
-pub returns-in_default-clause-has : goal.returns-in_default-clause-has
-returns-in_default-clause-has g c =
+pub returns-in-None-clause-has : goal.returns-in-None-clause-has
+returns-in-None-clause-has g c =
     let name = c.args.name.now in
     let low = c.args.range.now.low.items in
     let found = c.nodes_within.new.found.items in
     let L : List ℕ → Type 0 = λ l. HasNodes g.volume name l (option_copied c.high.result) found in
     let H : Option (List ℕ) → Type 0 = λ b. HasNodes g.volume name low b found in
     on_ok c.nodes_within.result (λ has k h w _. subst H c.high.ensures (subst L c.low.ensures (has g.volume c.requires.1.0)) k h w) c.nodes_within.ensures.has
-
-pub returns-else-asks_name-clause-only : goal.returns-else-asks_name-clause-only
-returns-else-asks_name-clause-only g c = λ n h.
-    let f = formula c.args.tree.now in
-    let name = c.args.name.now in
-    let low = c.args.range.now.low.items in
-    let high = high_of c.args.range.now in
-    let rest = formula c.in-Some.rest.now in
-    let sound = g.met.S.Source.sound c.args.source.now g.volume c.requires.1.0 in
-    let R : Option Formula → Type 0 = λ r. LeavesRest f name c.args.kind low high r in
-    let leaves : LeavesRest f name c.args.kind low high (Some rest) = subst R (ap (λ r. option_map formula (option_copied r)) c.in-Some.is) c.requires.1.1.1 in
-    let P : ℕ → Type 0 = λ m. sat g.volume f m ≡ sat g.volume rest m in
-    elim (c.ask_each.ensures.only n h) [
-      | inl there ↦ inl there
-      | inr w ↦ inr (subst P w.0.node_is (left_key g.volume sound name w.0.key w.0.is_key c.args.kind c.requires.1.1.0 f low high (Some rest) leaves w.0.within) ∙ w.1)
-    ]
-
-pub returns-else-asks_name-clause-has : goal.returns-else-asks_name-clause-has
-returns-else-asks_name-clause-has g c =
-    let f = formula c.args.tree.now in
-    let name = c.args.name.now in
-    let low = c.args.range.now.low.items in
-    let high = high_of c.args.range.now in
-    let rest = formula c.in-Some.rest.now in
-    let sound = g.met.S.Source.sound c.args.source.now g.volume c.requires.1.0 in
-    let R : Option Formula → Type 0 = λ r. LeavesRest f name c.args.kind low high r in
-    let leaves : LeavesRest f name c.args.kind low high (Some rest) = subst R (ap (λ r. option_map formula (option_copied r)) c.in-Some.is) c.requires.1.1.1 in
-    on_ok c.ask_each.result (λ has k h w holds. has k h w (sym (left_key g.volume sound name k h c.args.kind c.requires.1.1.0 f low high (Some rest) leaves w) ∙ holds))
-    c.ask_each.ensures.has

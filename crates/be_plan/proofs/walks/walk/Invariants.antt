@@ -1,7 +1,4 @@
 use Rattle.be_plan.proofs.walks.walk.Given as goal
 
-abbrev pub ghost-visit_all : goal.ghost-visit_all
-ghost-visit_all g a = g.volume
-
-abbrev pub ghost-ask_each : goal.ghost-ask_each
-ghost-ask_each g a = g.volume
+abbrev pub ghost-walk_rest : goal.ghost-walk_rest
+ghost-walk_rest g a = g.volume
