@@ -3,3 +3,4 @@ pub mod Walks
 pub mod SourceKeys
 pub mod RangeNodes
 pub mod Counting
+pub mod SeenValues

@@ -1,13 +1,18 @@
 -- What a source over a version has in hand.
-use Rattle.std.specs.Prelude.{◌≡◌, ℕ, ◌+◌, ◌<◌, ◌≤◌, IsTrue, IfSome, IfNone, List, true, length, slice_index_or}
+use Rattle.std.specs.Prelude.{◌≡◌, ℕ, ◌+◌, ◌<◌, ◌≤◌, ◌&&◌, Bool, IsTrue, IfSome, IfNone, List, true, is_some, length, slice_index_or}
 use Rattle.std.specs.declared.option.Option.{Option}
 use Rattle.be_pages.specs.declared.room.Standing.{Standing}
 use Rattle.be_pages.specs.Pages.{is_readable}
 use Rattle.be_tree.specs.Page.{IsItem, item_at}
 use Rattle.be_tree.specs.Cursor.{IsCursor, remaining}
+use Rattle.be_tree.specs.Key.{payload_at}
+use Rattle.be_tree.specs.Pair.{Pair}
 use Rattle.be_tree.specs.Range.{pairs_from}
 use Rattle.be_tree.specs.Tree.{pairs}
 use Rattle.be_tree.specs.declared.cursor.Cursor.{Cursor}
+use Rattle.be_value.specs.Key.{key}
+use Rattle.be_value.specs.Value.{kind_of, is_indexable}
+use Rattle.be_value.specs.declared.values.Value.{Value}
 use Rattle.be_volume.specs.Volume.{State}
 use Rattle.be_paged.specs.Entry.{Entry}
 use Rattle.be_paged.specs.Page.{contents_of, IsGapAt, IsNamedAt}
@@ -41,6 +46,10 @@ pub record IsIndexOf (entries : List Entry) (index : FoundIndex) : Type 0 where
 
 abbrev pub IsKnown : List Entry → Option FoundIndex → Type 0
 IsKnown entries known = IfSome known (λ last. IsIndexOf entries last)
+
+-- whether the pairs of an index have the key of the value and the node
+abbrev pub has_pair : List Pair → ℕ → Value → Bool
+has_pair items node v = is_indexable (kind_of v) && is_some (payload_at items (key v node))
 
 -- the page spells the volume, what is remembered is of that page, and the cursor stands where it says
 pub record SourceOf (standing : ℕ → Standing) (words : ℕ → ℕ → ℕ) (page : ℕ) (known : Option FoundIndex)

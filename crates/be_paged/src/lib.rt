@@ -24,6 +24,7 @@ mod entries;
 mod entry;
 mod facts;
 mod first;
+mod indexed;
 pub mod laws;
 mod marks;
 mod on_page;

@@ -141,6 +141,6 @@ impl<L: Look> Source for PagedSource<L> {
     }
 
     fn holds(&mut self, node: u64, comparison: &Comparison) -> bool {
-        holds_in(&mut self.look, self.page, node, comparison)
+        holds_in(&mut self.look, self.page, node, comparison, &mut self.known)
     }
 }

@@ -1,17 +1,19 @@
 //! Reading a volume from its version page.
-ghost use Rattle.std.specs.Prelude.{◌≡◌, IsOk, IfErr, IfSome, Ok, false, is_some};
+ghost use Rattle.std.specs.Prelude.{◌≡◌, IsOk, IfErr, IfSome, Ok, is_some};
 ghost use Rattle.std.specs.FinMap as map;
-ghost use Rattle.std.specs.Option.{option_map_or};
 ghost use Rattle.be_pages.specs.Pages.{IsUnchanged};
+ghost use Rattle.be_query.specs.Grammar.{Leaf};
 ghost use Rattle.be_query.specs.View.{literal};
 ghost use Rattle.be_tree.specs.Tree.{IsTree, pairs};
 ghost use Rattle.be_volume.specs.Maps.{Nodes as AllNodes, attributes_of};
 ghost use Rattle.be_value.specs.Refusal.{Answers};
 ghost use Rattle.be_value.specs.declared.refusals.Refusal.TheVariants.{OutOfMemory};
-ghost use Rattle.be_volume.specs.Query.{holds};
+ghost use Rattle.be_volume.specs.Query.{sat};
 ghost use Rattle.be_volume.specs.Reading.{attribute, attributes_at, index_kinds};
 ghost use Rattle.be_volume.specs.Volume.{State};
 ghost use Rattle.be_paged.specs.Catalog.{IsCatalog, catalog_key as key_in_catalog, value_at};
+ghost use Rattle.be_paged.specs.Page.{contents_of};
+ghost use Rattle.be_paged.specs.Source.{IsKnown};
 ghost use Rattle.be_paged.specs.Nodes.{nodes_from};
 ghost use Rattle.be_paged.specs.Place.{IsFoundAt, IsKnownOf};
 ghost use Rattle.be_paged.specs.Reading.{AreValid};
@@ -21,7 +23,9 @@ use crate::attributes::list_attributes;
 use crate::catalog::{catalog_key, value_at};
 use crate::comparing::holds_at;
 use crate::entries::kinds;
+use crate::indexed::is_indexed_at;
 use crate::marks::list_nodes;
+use crate::on_page::{FoundIndex, known_index};
 use crate::version::{Version, fill_version};
 use arrayvec::ArrayVec;
 use be_pages::Look;
@@ -83,16 +87,20 @@ pub(crate) fn value_in<L: Look>(
     value_at(look, page, at)
 }
 
-/// Whether a comparison is true of a node's value at its name; of none it is false. No value is made.
+/// Whether a comparison is true of what it sees of a node: of the node's value at its name, where no index has that name or its index has the value.
+/// The value is compared where it stands, and the index that was found last is looked at first.
 pub(crate) fn holds_in<L: Look>(
     look: &mut L,
     version_page: u64,
     node: u64,
     comparison: &Comparison,
+    known: &mut Option<FoundIndex>,
 ) -> bool
     requires version { (volume : State) × IsVersion (L.standing look.old) (L.words look.old) version_page volume }
+    requires known { IsKnown (contents_of (L.words look.old version_page)).entries known.old }
     ensures answer { (volume : State) → IsVersion (L.standing look.old) (L.words look.old) version_page volume →
-        result ≡ option_map_or (λ value. holds comparison.now.op value (literal comparison.now.literal)) (attribute volume node comparison.now.name) false }
+        result ≡ sat volume (Leaf comparison.now.name comparison.now.op (literal comparison.now.literal)) node }
+    ensures known { IsKnown (contents_of (L.words look.new version_page)).entries known.new }
     ensures unchanged { IsUnchanged L.kept L.standing L.words look.old look.new }
 {
     let catalog = look.word(version_page, 3);
@@ -100,7 +108,13 @@ pub(crate) fn holds_in<L: Look>(
     let Some((page, at)) = find_place(look, catalog, &key) else {
         return false;
     };
-    holds_at(look, page, at, comparison)
+    if !holds_at(look, page, at, comparison) {
+        return false;
+    }
+    match known_index(look, version_page, &comparison.name, known) {
+        Some(index) => is_indexed_at(look, index.root, page, at, node),
+        None => true,
+    }
 }
 
 /// The value of an attribute, if the node is there and has it. It costs one descent of the catalog's tree, and takes no memory.

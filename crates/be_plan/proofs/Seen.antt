@@ -1,6 +1,6 @@
 -- What a comparison sees of a node, by the keys of an index.
-use Rattle.std.proofs.Common.{◌≡◌, ◌<◌, ◌^◌, ℕ, IsTrue, List, refl, sym, ap, ◌∙◌, subst, Some, None}
-use Rattle.std.specs.Option.{option_map, IfSome, IfNone}
+use Rattle.std.proofs.Common.{◌≡◌, ◌<◌, ◌^◌, ℕ, Bool, true, false, IsTrue, List, refl, sym, ap, ◌∙◌, subst, Some, None}
+use Rattle.std.specs.Option.{option_map, option_map_or, IfSome, IfNone}
 use Rattle.std.proofs.lemmas.Option.{same_Some}
 use Rattle.std.specs.FinMap as map
 use Rattle.std.specs.declared.option.Option.{Option}
@@ -63,6 +63,21 @@ kind_indexable s sound name kind is = by (map.get s.indices name) refl is
     by : (found : Option Index) → map.get s.indices name ≡ found → option_map (λ (i : Index). i.kind) found ≡ Some kind → IsTrue (is_indexable kind)
     by None there e = cc
     by (Some index) there e = let P : Kind → Type 0 = λ k. IsTrue (is_indexable k) in subst P (same_Some index.kind kind e) (sound.kinds name index there)
+
+-- what is true of the node's attribute is true of what is seen exactly where the index has its key
+module _ (s : State) (sound : IsSound s) (name : List ℕ) (node : ℕ) (fits : node < 2 ^ 64) (told : Value → Bool) (value : Value) (kind : Kind) (is : index_kind s name ≡ Some kind)
+    (there : attribute s node name ≡ Some value) where
+  pub seen_by_key : told value ≡ true → (has : Bool) → (has ≡ true → IsKey s name (key value node)) → (IsKey s name (key value node) → has ≡ true) → has ≡ option_map_or told (sees s node name) false
+  seen_by_key t true found finds = sym t ∙ ap (λ o. option_map_or told o false) (seen_key s sound name node fits value there (found refl))
+  seen_by_key t false found finds = ap (λ o. option_map_or told o false) (seen_none s sound name node fits value kind is there (λ e k. let yes = finds k in cc))
+
+  -- and of nothing where no index may have such a value
+  pub not_indexable : is_indexable (kind_of value) ≡ false → false ≡ option_map_or told (sees s node name) false
+  not_indexable not = ap (λ o. option_map_or told o false) (seen_none s sound name node fits value kind is there
+      (λ e k.
+      let Q : Kind → Type 0 = λ x. IsTrue (is_indexable x) in
+      let yes : IsTrue (is_indexable (kind_of value)) = subst Q (sym e) (kind_indexable s sound name kind is) in
+      cc))
 
 -- the bytes are the key of no pair with a value of this kind
 abbrev pub NoPair : Kind → List ℕ → Type 0

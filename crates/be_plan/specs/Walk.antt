@@ -1,17 +1,14 @@
 -- What a walk over an index collects.
 use Rattle.std.specs.Prelude.{◌≡◌, ◌⊎◌, ◌||◌, ℕ, Bool, true, false, List, Some, nat_eq, slice_get}
-use Rattle.std.specs.Option.{option_map_or}
 use Rattle.std.specs.Cmp.Lexicographic.{pointwise}
 use Rattle.std.specs.List.{Contains}
 use Rattle.std.specs.Ordering.{is_lt}
 use Rattle.std.specs.declared.option.Option.{Option}
 use Rattle.be_value.specs.declared.values.Value.{Value}
-use Rattle.be_query.specs.Grammar.{Formula, Leaf, And, Or, Literal}
-use Rattle.be_query.specs.declared.tree.Cmp.{Cmp}
+use Rattle.be_query.specs.Grammar.{Formula, Leaf, And, Or}
 use Rattle.be_plan.specs.Cover.{Comparison, leaves}
 use Rattle.be_volume.specs.Maps.{name_cmp}
-use Rattle.be_volume.specs.Query.{holds, sat, sees}
-use Rattle.be_volume.specs.Reading.{attribute}
+use Rattle.be_volume.specs.Query.{sat, sees}
 use Rattle.be_volume.specs.Volume.{State}
 use Rattle.be_volume.specs.Keys.{IsKey, IsNextKey}
 use Rattle.be_volume.specs.PairKeys.{is_at_or_after}
@@ -22,10 +19,6 @@ abbrev pub asks_name : Formula → List ℕ → Bool
 asks_name (Leaf own op literal) name = pointwise nat_eq own name
 asks_name (And a b) name = asks_name a name || asks_name b name
 asks_name (Or a b) name = asks_name a name || asks_name b name
-
--- the comparison is true of the node's attribute of this name, whether or not an index has it; without the attribute it is not
-abbrev pub is_true_at : State → ℕ → List ℕ → Cmp → Literal → Bool
-is_true_at s node name op literal = option_map_or (λ value. holds op value literal) (attribute s node name) false
 
 -- each comparison of the formula is on this name, and none stands under "or"
 abbrev pub AreAllOn : Formula → List ℕ → Type 0

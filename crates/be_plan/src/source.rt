@@ -7,16 +7,18 @@
 ghost use Rattle.std.specs.Prelude.{◌≡◌, true, OnOk, IfErr};
 ghost use Rattle.std.specs.Option.{option_copied, option_map};
 ghost use Rattle.be_value.specs.declared.refusals.Refusal.TheVariants.{OutOfMemory};
+ghost use Rattle.be_query.specs.Grammar.{Leaf};
 ghost use Rattle.be_query.specs.View.{literal};
+ghost use Rattle.be_volume.specs.Query.{sat};
 ghost use Rattle.be_volume.specs.Reading.{attribute, index_kind};
 ghost use Rattle.be_volume.specs.Volume.{State};
 ghost use Rattle.be_volume.specs.Keys.{IsKey, IsNextKey};
 ghost use Rattle.be_volume.specs.Sound.{IsSound};
-ghost use Rattle.be_plan.specs.Walk.{HasNodes, HasOnly, Keeps, is_true_at};
+ghost use Rattle.be_plan.specs.Walk.{HasNodes, HasOnly, Keeps};
 
 use arrayvec::ArrayVec;
 use be_query::Comparison;
-use be_value::{Kind, Name, Refusal, Value};
+use be_value::{Kind, Name, Refusal, Value, key_of};
 use be_volume::holds;
 
 /// The keys of the index of a name from `low` to `high`, both included, or to the last key.
@@ -82,19 +84,27 @@ pub trait Source {
         ensures stays { kept self.new ≡ kept self.old }
         ensures answers { (volume : State) → answers_for self.old volume → answers_for self.new volume };
 
-    /// Whether the node has an attribute of the comparison's name and the comparison is true of it, whether or not an index has it. A source
-    /// that can compare a value where it stands has a body of its own, which moves none.
+    /// Whether the comparison is true of what it sees of the node. A pair of an index is always its node's attribute, so the index of the
+    /// comparison's name holds the attribute or nothing, and whether it has the attribute's key tells which; without an index the attribute is
+    /// seen. A source that can compare a value where it stands has a body of its own, which moves none.
     fn holds(&mut self, node: u64, comparison: &Comparison) -> bool
         requires { (volume : State) × answers_for self.old volume }
         ensures answer { (volume : State) → answers_for self.old volume →
-            result ≡ is_true_at volume node comparison.now.name comparison.now.op (literal comparison.now.literal) }
+            result ≡ sat volume (Leaf comparison.now.name comparison.now.op (literal comparison.now.literal)) node }
         ensures stays { kept self.new ≡ kept self.old }
         ensures answers { (volume : State) → answers_for self.old volume → answers_for self.new volume }
     {
-        match self.value(node, &comparison.name) {
-            Some(value) => holds(comparison, &value),
-            None => false,
+        let name = &comparison.name;
+        let Some(value) = self.value(node, name) else {
+            return false;
+        };
+        if !holds(comparison, &value) {
+            return false;
         }
+        let Some(_) = self.kind_of(name) else {
+            return true;
+        };
+        value.kind().indexable() && self.has_key(name, key_of(&value, node).as_slice())
     }
 
     // A law: each pair of an index of the volume is its node's attribute and has the index's kind.

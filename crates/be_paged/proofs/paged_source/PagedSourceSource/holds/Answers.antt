@@ -1,11 +1,8 @@
-use Rattle.std.proofs.Common.{ℕ, sym, subst}
-use Rattle.be_paged.specs.Page.{contents_of}
-use Rattle.be_paged.specs.Source.{IsKnown}
 use Rattle.be_paged.proofs.Stored.PageIndices.{source_since}
 use Rattle.be_paged.proofs.paged_source.PagedSourceSource.holds.Goals as goal
 
 pub holds_in-requires : goal.holds_in-requires
-holds_in-requires g c = record { version = (c.requires.0, c.requires.1.version) }
+holds_in-requires g c = record { version = (c.requires.0, c.requires.1.version); known = c.requires.1.known_is }
 
 pub returns-clause-answer : goal.returns-clause-answer
 returns-clause-answer g c = λ volume of. c.holds_in.ensures.answer volume of.version
@@ -14,5 +11,5 @@ pub returns-clause-answers : goal.returns-clause-answers
 returns-clause-answers g c = λ volume of.
     let self = c.args.self.now in
     let since = c.holds_in.ensures.unchanged in
-    source_since (g.L.Look.standing self.look) (g.L.Look.standing c.holds_in.new.look) (g.L.Look.words self.look) (g.L.Look.words c.holds_in.new.look) self.page self.known self.known self.cursor self.place self.last.0 self.last.1 volume since.standing since.words
-    (subst (λ (u : ℕ → ℕ → ℕ). IsKnown (contents_of (u self.page)).entries self.known) (sym since.words) of.known_is) of
+    source_since (g.L.Look.standing self.look) (g.L.Look.standing c.holds_in.new.look) (g.L.Look.words self.look) (g.L.Look.words c.holds_in.new.look) self.page self.known c.holds_in.new.known self.cursor self.place self.last.0 self.last.1 volume since.standing since.words
+    c.holds_in.ensures.known of

@@ -1,0 +1,79 @@
+//! Values of the catalog in the trees of indices.
+//!
+//! Whether an index has a node's attribute is told by whether its tree has the key of it. The key of a 64-bit number with a sign, as sizes and times
+//! are, is made from the words in which the number stands; another value is taken in hand for it.
+ghost use Rattle.std.specs.Prelude.{◌≡◌, ◌+◌, ◌≤◌, ◌++◌, IsTrue, is_some, length};
+ghost use Rattle.std.specs.Int.{to_be_bytes, w64};
+ghost use Rattle.be_pages.specs.Pages.{IsUnchanged, is_readable};
+ghost use Rattle.be_tree.specs.Key.{payload_at};
+ghost use Rattle.be_tree.specs.Page.{IsItem, item_at};
+ghost use Rattle.be_tree.specs.Tree.{IsTree, pairs};
+ghost use Rattle.be_value.specs.Key.{IsValue};
+ghost use Rattle.be_value.specs.declared.values.Value.{Value as AnyValue};
+ghost use Rattle.be_paged.specs.Catalog.{payload_of as payload};
+ghost use Rattle.be_paged.specs.Source.{has_pair};
+
+use crate::catalog::{kind_at, number64_at, value_at};
+use arrayvec::ArrayVec;
+use be_pages::Look;
+use be_tree::has_key;
+use be_value::{Kind, counted64, key_of};
+
+/// Whether the index of a tree has a number, by its bytes in a key, with a node.
+fn has_number<L: Look>(look: &mut L, index: u64, number: &[u8], node: u64) -> bool
+    requires tree { IsTree (L.standing look.old) (L.words look.old) index }
+    requires short { length number.now ≤ 8 }
+    ensures has { result ≡ is_some (payload_at (pairs (L.words look.old) index) (number.now ++ to_be_bytes w64 node)) }
+    ensures unchanged { IsUnchanged L.kept L.standing L.words look.old look.new }
+{
+    let mut key: ArrayVec<u8, 16> = ArrayVec::new();
+    key.try_extend_from_slice(number).unwrap();
+    key.try_extend_from_slice(&node.to_be_bytes()).unwrap();
+    has_key(look, index, &key)
+}
+
+/// Whether the index of a tree has the value that the item at a place tells, with its node, by the value in hand. It stands by itself, since it needs
+/// room for the value and for its key.
+#[inline(never)]
+fn any_is_indexed_at<L: Look>(look: &mut L, index: u64, page: u64, at: usize, node: u64) -> bool
+    requires tree { IsTree (L.standing look.old) (L.words look.old) index }
+    requires readable { IsTrue (is_readable (L.standing look.old page)) }
+    requires in_page { at + 42 ≤ 512 }
+    requires item { IsItem (L.words look.old page) at }
+    ensures has { (v : AnyValue) → IsValue v → (item_at (L.words look.old page) at).payload ≡ payload v →
+        result ≡ has_pair (pairs (L.words look.old) index) node v }
+    ensures unchanged { IsUnchanged L.kept L.standing L.words look.old look.new }
+{
+    let Some(value) = value_at(look, page, at) else {
+        return false;
+    };
+    value.kind().indexable() && has_key(look, index, key_of(&value, node).as_slice())
+}
+
+/// Whether the index of a tree has the value that the item at a place tells, with its node.
+pub(crate) fn is_indexed_at<L: Look>(
+    look: &mut L,
+    index: u64,
+    page: u64,
+    at: usize,
+    node: u64,
+) -> bool
+    requires tree { IsTree (L.standing look.old) (L.words look.old) index }
+    requires readable { IsTrue (is_readable (L.standing look.old page)) }
+    requires in_page { at + 42 ≤ 512 }
+    requires item { IsItem (L.words look.old page) at }
+    ensures has { (v : AnyValue) → IsValue v → (item_at (L.words look.old page) at).payload ≡ payload v →
+        result ≡ has_pair (pairs (L.words look.old) index) node v }
+    ensures unchanged { IsUnchanged L.kept L.standing L.words look.old look.new }
+{
+    let Some(kind) = kind_at(look, page, at) else {
+        return false;
+    };
+    match kind {
+        Kind::Llng => match number64_at(look, page, at) {
+            Some(n) => has_number(look, index, &counted64(n.cast_signed()).to_be_bytes(), node),
+            None => false,
+        },
+        _ => any_is_indexed_at(look, index, page, at, node),
+    }
+}
