@@ -29,6 +29,7 @@ pub(crate) struct FoundIndex {
 }
 
 /// The index of a name on a version page, if there is one. The index that was found last is looked at first.
+#[inline(always)]
 pub(crate) fn known_index<L: Look>(
     look: &mut L,
     page: u64,
@@ -51,6 +52,7 @@ pub(crate) fn known_index<L: Look>(
 }
 
 /// Finds the index of a name, and keeps it for the next time.
+#[inline(never)]
 fn find_to_know<L: Look>(
     look: &mut L,
     page: u64,
