@@ -15,7 +15,9 @@ ghost use Rattle.be_tree.specs.Key.{IsBranchFor, IsGap, IsRank, key_cmp, payload
 ghost use Rattle.be_tree.specs.Words.{IsFirst};
 ghost use Rattle.be_tree.specs.Tree.{IsTree, pairs};
 
-use crate::page::{HEADER_WORDS, ITEM_WORDS, LENGTH_BITS, child_at, cmp_at, first_word};
+use crate::page::{
+    HEADER_WORDS, ITEM_WORDS, LENGTH_BITS, child_at, cmp_at, cmp_second, first_word,
+};
 use crate::payload::fill_payload;
 use arrayvec::ArrayVec;
 use be_pages::Look;
@@ -124,6 +126,7 @@ pub(crate) fn rank<L: Look>(look: &mut L, page: u64, key: &[u8]) -> usize
 
 /// The number of the branch below which a key stands: the last one whose key is not greater, or the first one. So the first
 /// one's key isn't asked.
+#[inline(always)]
 pub(crate) fn branch_for<L: Look>(look: &mut L, page: u64, key: &[u8], first: u64) -> usize
     requires readable { IsTrue (is_readable (L.standing look.old page)) }
     requires page { IsPage (L.words look.old page) }
@@ -142,6 +145,7 @@ pub(crate) fn branch_for<L: Look>(look: &mut L, page: u64, key: &[u8], first: u6
 }
 
 /// Where a key stands among a page's items: the number of the item that has it, or how many have lesser keys.
+#[inline(always)]
 pub(crate) fn search<L: Look>(
     look: &mut L,
     page: u64,
@@ -181,8 +185,9 @@ pub(crate) fn is_above<L: Look>(look: &mut L, page: u64, at: usize, key: &[u8], 
     order_at(look, page, at, key, first).is_gt()
 }
 
-/// How the key of the item at a place compares with a key whose first word is at hand: mostly this decides.
-#[inline]
+/// How the key of the item at a place compares with a key whose first word is at hand: mostly this decides. Of a key of no more than two words, as
+/// those of numbers and of most names, the second does.
+#[inline(always)]
 fn order_at<L: Look>(look: &mut L, page: u64, at: usize, key: &[u8], first: u64) -> Ordering
     requires readable { IsTrue (is_readable (L.standing look.old page)) }
     requires in_page { at + 42 ≤ 512 }
@@ -194,6 +199,9 @@ fn order_at<L: Look>(look: &mut L, page: u64, at: usize, key: &[u8], first: u64)
     let mine = look.word(page, at + 1);
     if mine < first {
         return Ordering::Less;
+    }
+    if mine == first && key.len() >= 8 && key.len() <= 16 {
+        return cmp_second(look, page, at, key, first);
     }
     if mine > first && look.word(page, at) >> LENGTH_BITS >= 8 {
         return Ordering::Greater;

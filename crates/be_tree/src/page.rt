@@ -105,6 +105,41 @@ pub(crate) fn cmp_at<L: Look>(look: &mut L, page: u64, at: usize, key: &[u8]) ->
     len.cmp(&key.len())
 }
 
+/// How the key of the item at a place compares with a key of no more than two words that begins with the same word: by what the
+/// second words have of both.
+#[inline(never)]
+pub(crate) fn cmp_second<L: Look>(
+    look: &mut L,
+    page: u64,
+    at: usize,
+    key: &[u8],
+    first: u64,
+) -> Ordering
+    requires readable { IsTrue (is_readable (L.standing look.old page)) }
+    requires in_page { at + 42 ≤ 512 }
+    requires item { IsItem (L.words look.old page) at }
+    requires two_words { (8 ≤ length key.now) × (length key.now ≤ 16) }
+    requires first { IsFirst key.now first }
+    requires same { first ≡ L.words look.old page (at + 1) }
+    ensures order { result ≡ key_cmp (item_at (L.words look.old page) at).key key.now }
+    ensures unchanged { IsUnchanged L.kept L.standing L.words look.old look.new }
+{
+    let len = (look.word(page, at) >> 32) as usize;
+    let common = least_of(len, key.len());
+    if common <= 8 {
+        return len.cmp(&key.len());
+    }
+    let mine = look.word(page, at + 2);
+    let other = word_from(key, 8);
+    let shift = 64 - 8 * (common - 8);
+    let mine_first = mine >> shift;
+    let other_first = other >> shift;
+    if mine_first != other_first {
+        return mine_first.cmp(&other_first);
+    }
+    len.cmp(&key.len())
+}
+
 /// The lesser of two numbers.
 fn least_of(a: usize, b: usize) -> usize
     ensures at_most { (result ≤ a) × (result ≤ b) }
@@ -188,6 +223,7 @@ fn last_word(bytes: &[u8], from: usize) -> u64
 }
 
 /// The eight bytes from a place on, the first of them highest, as a word, with zeros past the end.
+#[inline(always)]
 pub fn word_from(bytes: &[u8], from: usize) -> u64
     requires { from ≤ 328 }
     ensures { to_be_bytes w64 result ≡ map (λ k. slice_index bytes.now k) (range_with_len from 8) }

@@ -234,12 +234,12 @@ fn expect_rows(alloc: Global, rows: &str) -> Result<(), Fail> {
 /// reads more.
 #[test]
 fn read_costs(rt: HostRuntime) -> Result<(), Fail> {
-    let rows = r#"get 150 size => 1 found, 48 words read
+    let rows = r#"get 150 size => 1 found, 44 words read
 query name=="10150-document.txt" => 1 found, 43 words read
-query size==1500 => 1 found, 56 words read
-query size>=1000 && size<2000 => 100 found, 430 words read
+query size==1500 => 1 found, 55 words read
+query size>=1000 && size<2000 => 100 found, 428 words read
 query name=="101*" => 100 found, 427 words read
-query name=="101*" && size>=1500 => 50 found, 6927 words read"#;
+query name=="101*" && size>=1500 => 50 found, 6734 words read"#;
     expect_rows(rt.alloc(), rows)
 }
 

@@ -18,5 +18,9 @@ returns-then-word-ge8-clause-order g c =
     let mine = c.word-mine.result in
     let header : c.word.result ≡ words at = c.word.ensures.value ∙ ap (λ (w : ℕ → ℕ → ℕ). w c.args.page at) c.word-mine.ensures.words in
     let long : 8 ≤ key_len words at = omega (arith, c.if-word-ge8.true, ap (λ (h : ℕ). h / 2 ^ 32) header) in
-    sym (key_differs words at c.args.key.now mine c.args.first long c.word-mine.ensures.value (omega arith) (omega arith) c.requires.first (λ e. absurd (omega (arith, e, c.if-mine-first-2.true)))
-    ∙ more_cmp mine c.args.first c.if-mine-first-2.true)
+    sym (key_differs words at c.args.key.now mine c.args.first long c.word-mine.ensures.value (omega arith) (omega arith) c.requires.first (λ e. absurd (omega (arith, e, c.if-mine-first-3.true)))
+    ∙ more_cmp mine c.args.first c.if-mine-first-3.true)
+
+pub cmp_second-requires-clause-same : goal.cmp_second-requires-clause-same
+cmp_second-requires-clause-same g c =
+    sym c.if-mine-first-2.true ∙ c.word-mine.ensures.value ∙ ap (λ (w : ℕ → ℕ → ℕ). w c.args.page (c.args.at + 1)) (sym c.word-mine.ensures.words)
