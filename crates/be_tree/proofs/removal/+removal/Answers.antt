@@ -420,7 +420,7 @@ remove_at-returns-in_err-two-2-clause-stopped g t c =
     passed_stop c.from_residual-in_err-two-2.result c.in_err-two-2.field-0.0 _ _ _ _ c.from_residual-in_err-two-2.ensures.1 down (unchanged_trans g.R.Look.kept g.R.Look.standing g.R.Look.words old read c.remove_beside-2.new.room since) c.in_err-two-2.ensures.stopped
 
 -- one of two neighbours has lost the key, and the items of both are in hand
-less_of : (g : Over) (t : ℕ) (c : remove_beside-After-deref g t) → List Pair
+abbrev less_of : (g : Over) (t : ℕ) (c : remove_beside-After-deref g t) → List Pair
 less_of g t c = without c.args.key.now (pairs_at c.args.level (g.R.Look.words c.args.room.now) c.args.here)
 
 both_slots : (g : Over) (t : ℕ) (c : remove_beside-After-deref g t)
@@ -481,11 +481,11 @@ remove_beside-pack_two-requires-clause-two g t c =
     let Apart : ℕ → Type 0 = λ p. IsTrue (is_kept (g.R.Look.standing read p)) × (times p (pages_below c.args.level (g.R.Look.words read) items) ≡ 0) in
     let left : Apart (left_of c.args.side c.args.here c.args.other) = (both.left_is_kept, both.left_beside) in
     let right : Apart (right_of c.args.side c.args.here c.args.other) = (both.right_is_kept, both.right_beside) in (
-      subst Apart (sym c.pages_in_order.ensures.left) left,
+      subst Apart (sym c.pages_in_order-left.ensures.left) left,
       (
-        subst Apart (sym c.pages_in_order.ensures.right) right,
+        subst Apart (sym c.pages_in_order-left.ensures.right) right,
         λ e. apart g.R.Look.kept g.R.Look.standing g.R.Look.words c.args.level (left_of c.args.side c.args.here c.args.other) (right_of c.args.side c.args.here c.args.other) c.args.room.now c.requires.neighbours
-            (sym c.pages_in_order.ensures.left ∙ e ∙ c.pages_in_order.ensures.right),
+            (sym c.pages_in_order-left.ensures.left ∙ e ∙ c.pages_in_order-left.ensures.right),
       ),
     )
 
@@ -503,5 +503,5 @@ remove_beside-returns-clause-ok g t c =
     let us = pairs_of (g.R.Look.words new) c.args.pair.now c.in_ok-branches.branches.items in
     let Written : ℕ → ℕ → Type 0 = λ l r. Becomes g.R.Look.kept g.R.Look.standing g.R.Look.words (l ∷ r ∷ pages_below c.args.level read items) (pairs_below c.args.level read items) (suc c.args.level) us c.slots_beside-slots.new.look new in
     both.written us new
-    (subst (λ (l : ℕ). Written l (right_of c.args.side c.args.here c.args.other)) c.pages_in_order.ensures.left
-    (subst (λ (r : ℕ). Written c.pages_in_order.result.0 r) c.pages_in_order.ensures.right c.in_ok-branches.ensures.ok))
+    (subst (λ (l : ℕ). Written l (right_of c.args.side c.args.here c.args.other)) c.pages_in_order-left.ensures.left
+    (subst (λ (r : ℕ). Written c.pages_in_order-left.result.0 r) c.pages_in_order-left.ensures.right c.in_ok-branches.ensures.ok))

@@ -17,8 +17,8 @@ returns-clause-ok g c =
     subst (λ (xs : List Slot). Becomes g.R.Look.kept g.R.Look.standing g.R.Look.words (c.args.left ∷ c.args.right ∷ pages_below c.args.node.level words items) (pairs_below c.args.node.level words items) (suc c.args.node.level) (pairs_of (g.R.Look.words c.write_two.new.room) c.args.node.pair.now xs) c.args.room.now c.write_two.new.room)
     (sym both) c.in_ok-first.ensures.ok
 
-pub returns-then-slots-le-MOST_ITEMS-clause-ready : goal.returns-then-slots-le-MOST_ITEMS-clause-ready
-returns-then-slots-le-MOST_ITEMS-clause-ready g c =
+pub returns-then-node-le-MOST_ITEMS-clause-ready : goal.returns-then-node-le-MOST_ITEMS-clause-ready
+returns-then-node-le-MOST_ITEMS-clause-ready g c =
     let s = g.R.Look.standing c.write_joined.new.room in
     let w = g.R.Look.words c.write_joined.new.room in
     let page = c.in_ok-page.page in

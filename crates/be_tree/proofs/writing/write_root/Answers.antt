@@ -11,8 +11,8 @@ use Rattle.be_tree.proofs.Shape.Roots.{root_written, becomes_tree}
 use Rattle.be_tree.proofs.Nodes.Slots.{child_branch, branches_ready}
 use Rattle.be_tree.proofs.writing.write_root.Goals as goal
 
-pub returns-then-slots-le-MOST_ITEMS-clause-ok : goal.returns-then-slots-le-MOST_ITEMS-clause-ok
-returns-then-slots-le-MOST_ITEMS-clause-ok g c =
+pub returns-then-node-le-MOST_ITEMS-clause-ok : goal.returns-then-node-le-MOST_ITEMS-clause-ok
+returns-then-node-le-MOST_ITEMS-clause-ok g c =
     let words = g.R.Look.words c.args.room.now in
     let new = g.R.Look.words c.rewrite.new.room in
     let items = pairs_of words c.args.node.pair.now c.args.node.slots.now in
