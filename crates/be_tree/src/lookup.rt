@@ -185,8 +185,8 @@ pub(crate) fn is_above<L: Look>(look: &mut L, page: u64, at: usize, key: &[u8], 
     order_at(look, page, at, key, first).is_gt()
 }
 
-/// How the key of the item at a place compares with a key whose first word is at hand: mostly this decides. Of a key of no more than two words, as
-/// those of numbers and of most names, the second does.
+/// How the key of the item at a place compares with a key whose first word is at hand: mostly this decides. Of a key of no
+/// more than two words, as those of numbers and of most names, the second does.
 #[inline(always)]
 fn order_at<L: Look>(look: &mut L, page: u64, at: usize, key: &[u8], first: u64) -> Ordering
     requires readable { IsTrue (is_readable (L.standing look.old page)) }

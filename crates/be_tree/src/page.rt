@@ -124,7 +124,7 @@ pub(crate) fn cmp_second<L: Look>(
     ensures order { result ≡ key_cmp (item_at (L.words look.old page) at).key key.now }
     ensures unchanged { IsUnchanged L.kept L.standing L.words look.old look.new }
 {
-    let len = (look.word(page, at) >> 32) as usize;
+    let len = (look.word(page, at) >> LENGTH_BITS) as usize;
     let common = least_of(len, key.len());
     if common <= 8 {
         return len.cmp(&key.len());

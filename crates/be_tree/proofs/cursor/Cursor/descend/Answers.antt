@@ -6,7 +6,7 @@ use Rattle.be_tree.specs.Cursor.{IsPath, pairs_along, pairs_past}
 use Rattle.be_tree.specs.Key.{IsBranchFor}
 use Rattle.be_tree.specs.Page.{items_of, item_at, IsItem}
 use Rattle.be_tree.specs.Range.{pairs_from}
-use Rattle.be_tree.specs.Tree.{IsTreeAt, child, pairs, pairs_at, least_of_root}
+use Rattle.be_tree.specs.Tree.{IsTreeAt, child, pairs_at, least_of_root}
 use Rattle.be_tree.proofs.Reading.Cursors.{along_push, path_push, from_branch, leads_down, LeadsDown, root_pairs}
 use Rattle.be_tree.proofs.Frame.{unchanged_trans}
 use Rattle.be_tree.proofs.Shape.Heights.{height}
