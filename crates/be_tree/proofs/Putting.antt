@@ -1,3 +1,4 @@
 -- A pair is put into a tree.
 pub mod Puts
 pub mod PutAt
+pub mod Stays

@@ -6,9 +6,12 @@
 //! takes as many items as leave six for the second. So keys that rise leave full pages behind them. An insertion writes
 //! two pages a level at most, and three at the root; `writing` says which pages those are.
 ghost use Rattle.std.specs.Prelude.{◌≡◌, ℕ, suc, ◌+◌, ◌-◌, ◌^◌, ◌<◌, ◌≤◌, List, [], ◌∷◌, ◌++◌, length, take, drop, All, IfOk, OnOk, OnErr, IfErr, IsTrue};
-ghost use Rattle.be_pages.specs.Pages.{IsUnchanged, is_readable, KeepsStart};
+ghost use Rattle.std.specs.Prelude.{◌≢◌, ◌⊎◌, true};
+ghost use Rattle.std.specs.declared.cmp.Ordering.TheVariants.{Greater};
+ghost use Rattle.be_pages.specs.Pages.{IsUnchanged, is_readable, times, KeepsStart};
+ghost use Rattle.be_tree.specs.declared.slot.Slot.TheVariants.{At, Branch};
 ghost use Rattle.be_pages.specs.Refusal.{IsFullOf};
-ghost use Rattle.be_tree.specs.Key.{IsRising, put};
+ghost use Rattle.be_tree.specs.Key.{IsRising, key_cmp, put};
 ghost use Rattle.be_tree.specs.Page.{IsItem, item_at, items_of};
 ghost use Rattle.be_tree.specs.Slot.{IsReady, pairs_of};
 ghost use Rattle.be_tree.specs.Tree.{AreNeighbours, IsBelow, IsTreeAt, Becomes, BecomesTree, IsTree, pairs, pages};
@@ -80,19 +83,63 @@ pub(crate) fn replace_at(slots: &mut ArrayVec<Slot, 24>, at: usize, mut more: Ar
     }
 }
 
-/// Puts a pair below the item at a place, and gives the items that stand in its place.
+/// What stands in the place of an inner node's item, once its child was written as these branches: the item itself, where it
+/// isn't the first one and the child was written over where it is. A key that goes below such an item is no less than the
+/// item's, so its least key is the same.
+#[tactic(auto, using(crate::proofs::Putting::Stays::one_slot))]
+fn settled(
+    page: u64,
+    place: usize,
+    at: usize,
+    child: u64,
+    branches: ArrayVec<Slot, 2>,
+) -> ArrayVec<Slot, 2>
+    requires in_page { place + 42 ≤ 512 }
+    requires small { page < 2 ^ 32 }
+    ensures { (result.items ≡ branches.items) ⊎ ((0 < at) × (branches.items ≡ Branch child ∷ []) × (result.items ≡ At place page ∷ [])) }
+{
+    if at == 0 {
+        return branches;
+    }
+    let len = branches.len();
+    if len != 1 {
+        return branches;
+    }
+    let first = branches[0];
+    if !is_branch_to(child, first) {
+        return branches;
+    }
+    let mut same = ArrayVec::new();
+    same.push(Slot::At(place as u16, page as u32));
+    same
+}
+
+/// Whether a slot is the branch to this page.
+fn is_branch_to(page: u64, slot: Slot) -> bool
+    ensures { result ≡ true → slot ≡ Branch page }
+{
+    match slot {
+        Slot::Branch(child) => child as u64 == page,
+        Slot::At(_, _) | Slot::New => false,
+    }
+}
+
+/// Puts a pair below the item at a place, which is the one of this number, and gives the items that stand in its place.
 #[cycle(put)]
 fn put_below<R: Room>(
     room: &mut R,
     level: u64,
     page: u64,
     place: usize,
+    at: usize,
     pair: &Item,
 ) -> Result<ArrayVec<Slot, 2>, Refusal>
     requires readable { IsTrue (is_readable (R.standing room.old page)) }
     requires in_page { place + 42 ≤ 512 }
     requires item { IsItem (R.words room.old page) place }
     requires below { IsBelow level (R.standing room.old) (R.words room.old) (item_at (R.words room.old page) place ∷ []) }
+    requires apart { times page (pages_below level (R.words room.old) (item_at (R.words room.old page) place ∷ [])) ≡ 0 }
+    requires behind { 0 < at → key_cmp (item_at (R.words room.old page) place).key pair.now.key ≢ Greater }
     requires key_fits { length pair.now.key ≤ 264 }
     requires open { IsTrue (R.is_open (R.kept room.old)) }
     ensures ok { IfOk result (λ slots. Becomes R.kept R.standing R.words
@@ -116,7 +163,7 @@ fn put_below<R: Room>(
         pair,
     };
     let branches = pack(room, child, node)?;
-    Ok(branches)
+    Ok(settled(page, place, at, child, branches))
 }
 
 /// Puts a pair below a page, and the page's items with the pair put, still to be written, into an empty list. The page is
@@ -147,7 +194,7 @@ fn put_at<R: Room>(
         return Ok(());
     }
     fill_slots(room, page, slots);
-    let beside = put_below(room, level, page, HEADER_WORDS + ITEM_WORDS * at, pair)?;
+    let beside = put_below(room, level, page, HEADER_WORDS + ITEM_WORDS * at, at, pair)?;
     replace_at(slots, at, beside);
     Ok(())
 }

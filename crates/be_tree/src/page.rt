@@ -8,7 +8,8 @@ ghost use Rattle.be_tree.specs.Page.{IsItem, IsPadded, IsPage, item_at, bytes_at
 ghost use Rattle.be_tree.specs.Page.{item_place};
 ghost use Rattle.std.specs.Prelude.{◌^◌, ◌⊎◌, true};
 ghost use Rattle.be_tree.specs.declared.slot.Slot.TheVariants.{At};
-ghost use Rattle.be_tree.specs.Slot.{IsReady, MayMove, MoveDown, MoveUp, StandsFrom, StandsTo, branch_to, pair_of, pairs_of};
+ghost use Rattle.be_tree.specs.Pair.{Pair};
+ghost use Rattle.be_tree.specs.Slot.{IsReady, MayMove, MoveDown, MoveUp, StandsFrom, StandsTo, StandsWhole, branch_to, pair_of, pairs_of};
 ghost use Rattle.be_tree.specs.Key.{key_cmp};
 ghost use Rattle.be_tree.specs.Words.{IsFirst};
 ghost use Rattle.be_tree.specs.Tree.{child};
@@ -452,6 +453,51 @@ fn stands_to(page: u64, place: usize, slot: Slot) -> bool
         Slot::Branch(child) => child as u64 != page,
         Slot::New => true,
     }
+}
+
+/// Whether a slot's item is the one at this place of this page.
+fn stands_at(page: u64, place: usize, slot: Slot) -> bool
+    ensures { result ≡ true → slot ≡ At place page }
+{
+    match slot {
+        Slot::At(at, from) => from as u64 == page && at as usize == place,
+        Slot::Branch(_) | Slot::New => false,
+    }
+}
+
+/// Whether a node's items are the first ones of this page, each at its place.
+fn all_stand_at(page: u64, slots: &[Slot]) -> bool
+    requires { length slots.now ≤ 12 }
+    ensures { result ≡ true → StandsWhole page slots.now }
+{
+    for j in 0..slots.len() {
+        if !stands_at(page, HEADER_WORDS + ITEM_WORDS * j, slots[j]) {
+            return false;
+        }
+    }
+    true
+}
+
+/// Whether a node is what stands on this page already.
+pub(crate) fn is_whole<L: Look>(look: &mut L, level: u64, page: u64, slots: &[Slot]) -> bool
+    requires readable { IsTrue (is_readable (L.standing look.old page)) }
+    requires few { length slots.now ≤ 12 }
+    requires ready { All (IsReady (L.standing look.old) (L.words look.old)) slots.now }
+    ensures page { result ≡ true → IsPage (L.words look.old page) }
+    ensures level { result ≡ true → level_of (L.words look.old page) ≡ level }
+    ensures items { result ≡ true → (given : Pair) → items_of (L.words look.old page) ≡ pairs_of (L.words look.old) given slots.now }
+    ensures unchanged { IsUnchanged L.kept L.standing L.words look.old look.new }
+{
+    let count = look.word(page, 1) as usize;
+    let len = slots.len();
+    if count != len {
+        return false;
+    }
+    let found = look.word(page, 0);
+    if found != level {
+        return false;
+    }
+    all_stand_at(page, slots)
 }
 
 /// Whether those of a node's items that stand on a page move down there, or stay.

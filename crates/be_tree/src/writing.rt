@@ -6,22 +6,23 @@
 //! where it is: of its items those that stay where they stand are left alone, and the others are moved within the page.
 //! They are moved in the order of their numbers where all move down, as when one was taken out, and from the last one on
 //! where all move up, as when one was put in. Where some move down and others up, the node is written to another page.
+//! Above a page that was written over, and whose least key is the same, each page stays as it is.
 //!
 //! # Two pages
 //! A node of more than twelve items is written in two pages, of which the first is the old one where it can be. Of two
 //! neighbours the first one is written before the second, since it only takes items from there, and gives its last ones.
 ghost use Rattle.std.specs.Prelude.{◌≡◌, ◌≢◌, ℕ, ◌+◌, ◌-◌, ◌^◌, ◌<◌, ◌≤◌, [], ◌∷◌, ◌++◌, true, false, length, take, drop, All, IfOk, OnErr, IfErr, IfSome, IsTrue};
 ghost use Rattle.be_pages.specs.declared.room.Standing.TheVariants.{Filled};
-ghost use Rattle.be_pages.specs.Pages.{is_kept, is_readable, is_taken, StandsAt, Swaps, KeepsStart};
+ghost use Rattle.be_pages.specs.Pages.{is_kept, is_readable, is_taken, IsUnchanged, StandsAt, Swaps, KeepsStart};
 ghost use Rattle.be_pages.specs.Refusal.{IsFullOf};
-ghost use Rattle.be_tree.specs.Page.{item_place};
+ghost use Rattle.be_tree.specs.Page.{IsPage, item_place, items_of, level_of};
 ghost use Rattle.be_tree.specs.Slot.{IsBranchSlot, IsReady, Moves, StandsFrom, branch_to, pairs_of};
 ghost use Rattle.be_tree.specs.Tree.{IsBelow, IsWritten, BecomesTree, least_of_root};
 ghost use Rattle.be_tree.specs.Writing.{AreApart, CanBeWritten, IsApart, Replaces, ReplacesTree};
 
 use crate::item::Item;
 use crate::page::{
-    HEADER_WORDS, ITEM_WORDS, LEAST_ITEMS, MOST_ITEMS, move_down, move_up, stands_from,
+    HEADER_WORDS, ITEM_WORDS, LEAST_ITEMS, MOST_ITEMS, is_whole, move_down, move_up, stands_from,
     store_from_last, store_node,
 };
 use crate::slot::{Node, Slot, Way};
@@ -90,8 +91,9 @@ fn write_over<R: Room>(room: &mut R, page: u64, way: Way, node: Node<'_>)
     }
 }
 
-/// Writes a node over its old page where that can be, else to a page of its own, and gives the old one up. Gives the page.
-fn rewrite<R: Room>(room: &mut R, old: u64, node: Node<'_>) -> Result<u64, Refusal>
+/// Writes a node that is changed over its old page where that can be, else to a page of its own, and gives the old one up.
+/// Gives the page.
+fn write_changed<R: Room>(room: &mut R, old: u64, node: Node<'_>) -> Result<u64, Refusal>
     requires some { 0 < length node.slots.now }
     requires few { length node.slots.now ≤ 12 }
     requires ready { All (IsReady (R.standing room.old) (R.words room.old)) node.slots.now }
@@ -110,6 +112,46 @@ fn rewrite<R: Room>(room: &mut R, old: u64, node: Node<'_>) -> Result<u64, Refus
     }
     let page = write_node(room, node)?;
     room.give_up(old);
+    Ok(page)
+}
+
+/// Whether a node is what stands on its page already. It is asked only of a page that this write has taken, since on another
+/// one something is changed.
+fn stands_whole<R: Room>(room: &mut R, page: u64, node: Node<'_>) -> bool
+    requires readable { IsTrue (is_readable (R.standing room.old page)) }
+    requires few { length node.slots.now ≤ 12 }
+    requires ready { All (IsReady (R.standing room.old) (R.words room.old)) node.slots.now }
+    ensures page { result ≡ true → IsPage (R.words room.old page) }
+    ensures level { result ≡ true → level_of (R.words room.old page) ≡ node.entry.level }
+    ensures items { result ≡ true → items_of (R.words room.old page) ≡ pairs_of (R.words room.old) node.entry.pair.now node.entry.slots.now }
+    ensures unchanged { IsUnchanged R.kept R.standing R.words room.old room.new }
+{
+    let in_hand = room.is_taken(page);
+    if !in_hand {
+        return false;
+    }
+    is_whole(room, node.level, page, node.slots)
+}
+
+/// Writes a node as `write_changed` does, or leaves its page as it is, where nothing of it is changed. So it is above a page
+/// that was written over where it stood.
+fn rewrite<R: Room>(room: &mut R, old: u64, node: Node<'_>) -> Result<u64, Refusal>
+    requires some { 0 < length node.slots.now }
+    requires few { length node.slots.now ≤ 12 }
+    requires ready { All (IsReady (R.standing room.old) (R.words room.old)) node.slots.now }
+    requires kept { IsTrue (is_kept (R.standing room.old old)) }
+    requires key_fits { length node.pair.now.key ≤ 264 }
+    requires open { IsTrue (R.is_open (R.kept room.old)) }
+    ensures ok { IfOk result (λ page. IsWritten node.entry.level (R.words room.new) (pairs_of (R.words room.old) node.entry.pair.now node.entry.slots.now) (branch_to (R.words room.new) page)) }
+    ensures swaps { IfOk result (λ page. Swaps R.kept R.standing R.words (old ∷ []) (page ∷ []) room.old room.new) }
+    ensures small { IfOk result (λ page. page < 2 ^ 32) }
+    ensures err { OnErr result (KeepsStart R.kept R.standing R.words room.old room.new) }
+    ensures full { IfErr result (IsFullOf (R.full room.new)) }
+{
+    if stands_whole(room, old, node) {
+        return Ok(old);
+    }
+    let page = write_changed(room, old, node)?;
     Ok(page)
 }
 

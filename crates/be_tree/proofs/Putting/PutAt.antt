@@ -10,7 +10,8 @@ use Rattle.be_pages.specs.Pages.{is_readable, times, IsUnchanged}
 use Rattle.be_tree.specs.declared.slot.Slot.{Slot}
 use Rattle.be_tree.specs.declared.slot.Slot.TheVariants.{At}
 use Rattle.be_tree.specs.Pair.{Pair}
-use Rattle.be_tree.specs.Key.{IsRank, IsRising, put}
+use Rattle.std.specs.declared.cmp.Ordering.TheVariants.{Greater}
+use Rattle.be_tree.specs.Key.{key_cmp, IsRank, IsRising, put}
 use Rattle.be_tree.specs.Page.{item_at, items_of, IsItem, IsPage, item_place}
 use Rattle.be_tree.specs.Slot.{pair_of, pairs_of, IsReady}
 use Rattle.be_tree.specs.Tree.{child, pairs_at, pairs_below, pages_below, IsBelow, IsTreeAt, Becomes}
@@ -79,6 +80,15 @@ module _ {S K : Type 0} (kept_of : S → K) (standing_of : S → ℕ → Standin
   pub slot_below : IsBelow level (standing_of read) (words_of read) (item_at (words_of read page) (2 + 42 * at) ∷ [])
   unfolding items item
   slot_below = item_below kept_of standing_of words_of level page pair item items (remove items at) r at old read tree same refl rank place is_item refl
+
+  -- the page is none of those below the item there, and where that isn't the first one, the key is no less than its key
+  pub slot_apart : times page (pages_below level (words_of read) (item_at (words_of read page) (2 + 42 * at) ∷ [])) ≡ 0
+  unfolding items item
+  slot_apart = item_apart kept_of standing_of words_of level page pair item items (remove items at) r at old read tree same refl rank place is_item refl
+
+  pub slot_behind : 0 < at → key_cmp (item_at (words_of read page) (2 + 42 * at)).key pair.key ≡ Greater → ⊥
+  unfolding items item
+  slot_behind behind = subst (λ (x : Pair). key_cmp x.key pair.key ≡ Greater → ⊥) (sym is_item) (rank.not_above at item (omega (arith, place, behind)))
 
   -- where the pair goes
   pub key_in : (below : ℕ) → level ≡ suc below → put pair (pairs_at level (words_of read) page)
@@ -189,6 +199,12 @@ module _ {S K : Type 0} (kept_of : S → K) (standing_of : S → ℕ → Standin
       fits = slot_item kept_of standing_of words_of level page pair r at old read tree same still_ranked place;
       below = slot_below kept_of standing_of words_of level page pair r at old read tree same still_ranked place;
     }
+
+    pub put_apart : times page (pages_below level (words_of read) (item_at (words_of read page) (2 + 42 * at) ∷ [])) ≡ 0
+    put_apart = slot_apart kept_of standing_of words_of level page pair r at old read tree same still_ranked place
+
+    pub put_behind : 0 < at → key_cmp (item_at (words_of read page) (2 + 42 * at)).key pair.key ≡ Greater → ⊥
+    put_behind = slot_behind kept_of standing_of words_of level page pair r at old read tree same still_ranked place
 
     pub put_slots : (slots more out : List Slot) (n : ℕ) (mid : S) → n ≡ words_of read page 1 → slots ≡ map (λ j. At (item_place j) page) (range_with_len 0 n)
         → out ≡ take at slots ++ (more ++ drop (suc at) slots)

@@ -12,7 +12,7 @@ use Rattle.be_tree.proofs.Order.{IsRising_right}
 use Rattle.be_tree.proofs.Frame.{times_append, one_page, swaps_trans, swaps_frame, swaps_after}
 use Rattle.be_tree.proofs.Shape.Below.{pairs_append, times_both, times_pages, below_left, below_right, below_append, beside_pairs, beside_pages, beside_below, beside_apart}
 
-starts_append : (k : List ℕ) (xs ys : List Pair) → StartsAt k xs → StartsAt k (xs ++ ys)
+pub starts_append : (k : List ℕ) (xs ys : List Pair) → StartsAt k xs → StartsAt k (xs ++ ys)
 starts_append k [] ys h = absurd h
 starts_append k (x ∷ xs) ys h = h
 

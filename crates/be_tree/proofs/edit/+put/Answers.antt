@@ -1,25 +1,28 @@
 use Rattle.std.specs.Prelude.{IsTrue}
-use Rattle.std.proofs.Common.{◌≡◌, ℕ, suc, [], ◌∷◌, ◌++◌, ◌-◌, ◌+◌, ◌<◌, All, List, ap, sym, subst, ◌∙◌, length, arith}
+use Rattle.std.proofs.Common.{◌≡◌, ℕ, suc, [], ◌∷◌, ◌++◌, ◌-◌, ◌+◌, ◌<◌, ◌≤◌, All, List, ap, sym, subst, ◌∙◌, length, inl, inr, arith}
 use Rattle.std.proofs.lemmas.List.FromFn.{length-map-range_with_len}
-use Rattle.be_pages.specs.Pages.{IsUnchanged, times}
+use Rattle.be_pages.specs.Pages.{is_readable, IsUnchanged, times}
+use mathlib.Core.Bool.{false≢true}
 use Rattle.be_tree.specs.declared.slot.Slot.{Slot}
 use Rattle.be_tree.specs.declared.slot.Slot.TheVariants.{At}
 use Rattle.be_tree.specs.Pair.{Pair}
 use Rattle.be_tree.specs.Key.{IsRising, put}
-use Rattle.be_tree.specs.Page.{items_of, item_at, item_place}
+use Rattle.be_tree.specs.Page.{IsItem, items_of, item_at, item_place}
 use Rattle.be_tree.specs.Slot.{IsReady, pairs_of}
 use Rattle.be_tree.specs.Tree.{AreNeighbours, child, pairs_at, pairs_below, pages_below, Becomes, IsBelow, IsTreeAt}
 use Rattle.be_tree.proofs.Putting.Puts.{becomes_beside, tree_weaker, becomes_below, becomes_since, becomes_until, child_read, given_up_page, kept_after, rising_put}
-use Rattle.be_tree.proofs.Putting.PutAt.{PutPlace, PutSlots, Shares, place_inside, put_place, put_slots, shares}
+use Rattle.be_tree.proofs.Putting.PutAt.{PutPlace, PutSlots, Shares, place_inside, put_apart, put_behind, put_place, put_slots, shares}
+use Rattle.be_tree.proofs.Putting.Stays.{item_stays}
 use Rattle.be_tree.proofs.Nodes.Children.{AroundTwo, around_two}
 use Rattle.be_tree.proofs.Nodes.Joins.{Joined, right_changed, right_in_hand, right_length}
 use Rattle.be_tree.proofs.Nodes.Neighbours.{apart, left_count, left_page, left_readable}
-use Rattle.be_tree.proofs.Frame.{swaps_start, start_trans, unchanged_trans, unchanged_start}
-use Rattle.be_tree.proofs.Shape.Parts.{on_err}
+use Rattle.be_tree.proofs.Frame.{swaps_same, swaps_stands, swaps_start, start_trans, unchanged_trans, unchanged_start}
+use Rattle.be_tree.proofs.Shape.Parts.{all_one, on_err}
+use Rattle.be_tree.proofs.Shape.Levels.{kept_not_free}
 use Rattle.be_tree.proofs.Nodes.Slots.{items_count, branches_ready}
 use Rattle.be_tree.proofs.edit.+put.Goals as goal
 use Rattle.be_tree.proofs.edit.+put.Given.{Over}
-use Rattle.be_tree.proofs.edit.+put.Goals.{put_at-After-sharing_children-arg-1, put_at-After-put_shared-arg-1, put_at-After-slots_with-arg-in-Some-1, put_at-After-put_below-arg-1, put_at-After-replace_at, put_shared-After-deref-2, put_below-After-child_at-child}
+use Rattle.be_tree.proofs.edit.+put.Goals.{put_at-After-sharing_children-arg-1, put_at-After-put_shared-arg-1, put_at-After-slots_with-arg-in-Some-1, put_at-After-put_below-arg-1, put_at-After-replace_at, put_shared-After-deref-2, put_below-After-child_at-child, put_below-After-settled}
 
 -- the key's place, before the children there are looked at
 inside : (g : Over) (t : ℕ) (c : put_at-After-sharing_children-arg-1 g t) → c.saturating_sub-at.result < g.R.Look.words c.args.room.now c.args.page 1
@@ -132,7 +135,9 @@ put_at-put_below-requires g t c κs within =
     unchanged_trans g.R.Look.kept g.R.Look.standing g.R.Look.words c.args.room.now c.sharing_children.new.look c.fill_slots.new.look
     (unchanged_trans g.R.Look.kept g.R.Look.standing g.R.Look.words c.args.room.now c.rank.new.look c.sharing_children.new.look c.rank.ensures.unchanged c.sharing_children.ensures.unchanged) c.fill_slots.ensures.unchanged in
     let here = put_place g.R.Look.kept g.R.Look.standing g.R.Look.words c.args.level c.args.page c.args.pair.now _ c.rank.result c.saturating_sub-at.result c.args.room.now c.requires.tree c.key.ensures c.rank.ensures.rank c.saturating_sub-at.ensures c.fill_slots.new.look same in
-    (omega arith, (within, (here.readable, (here.in_page, (here.fits, (here.below, (c.requires.key_fits, subst (λ k. IsTrue (g.R.Look.is_open k)) (sym same.kept) c.requires.open)))))))
+    let apart = put_apart g.R.Look.kept g.R.Look.standing g.R.Look.words c.args.level c.args.page c.args.pair.now _ c.rank.result c.saturating_sub-at.result c.args.room.now c.requires.tree c.key.ensures c.rank.ensures.rank c.saturating_sub-at.ensures c.fill_slots.new.look same in
+    let behind = put_behind g.R.Look.kept g.R.Look.standing g.R.Look.words c.args.level c.args.page c.args.pair.now _ c.rank.result c.saturating_sub-at.result c.args.room.now c.requires.tree c.key.ensures c.rank.ensures.rank c.saturating_sub-at.ensures c.fill_slots.new.look same in
+    (omega arith, (within, (here.readable, (here.in_page, (here.fits, (here.below, (apart, (behind, (c.requires.key_fits, subst (λ k. IsTrue (g.R.Look.is_open k)) (sym same.kept) c.requires.open)))))))))
 
 pub put_at-replace_at-requires-clause-room : goal.put_at-replace_at-requires-clause-room
 put_at-replace_at-requires-clause-room g t c =
@@ -277,21 +282,74 @@ put_below-pack-requires-clause-old g t c =
           (given_up_page g.R.Look.kept g.R.Look.standing g.R.Look.words before after c.child_at-child.result read mid c.in_ok-put_at.ensures.ok.swaps tree.page_once tree.page_in_use),
     )
 
-pub put_below-returns-clause-ok : goal.put_below-returns-clause-ok
-put_below-returns-clause-ok g t c =
-    let e : c.args.level ≡ suc (c.args.level - 1) = omega (arith, c.if-level-eq0.false) in
-    let tree = child_tree g t (goal.at.put_below-returns-clause-ok g t c).After-child_at-child e in
+-- what the branches are, once the child was written
+branches : (g : Over) (t : ℕ) (c : put_below-After-settled g t) → c.args.level ≡ suc (c.args.level - 1) → IsTreeAt (c.args.level - 1) 6 (g.R.Look.standing c.child_at-child.new.look) (g.R.Look.words c.child_at-child.new.look) c.child_at-child.result
+    → Becomes g.R.Look.kept g.R.Look.standing g.R.Look.words (pages_below c.args.level (g.R.Look.words c.args.room.now) (item_at (g.R.Look.words c.args.room.now c.args.page) c.args.place ∷ [])) (put c.args.pair.now (pairs_below c.args.level (g.R.Look.words c.args.room.now) (item_at (g.R.Look.words c.args.room.now c.args.page) c.args.place ∷ []))) c.args.level (pairs_of (g.R.Look.words c.pack.new.room) c.args.pair.now c.in_ok-branches.branches.items) c.args.room.now c.pack.new.room
+branches g t c e tree =
     let read = c.child_at-child.new.look in
     let mid = g.R.Look.words c.put_at.new.room in
     let pair = c.args.pair.now in
     let level = c.args.level in
     let item = item_at (g.R.Look.words c.args.room.now c.args.page) c.args.place in
-    let branches = pairs_of (g.R.Look.words c.pack.new.room) pair c.in_ok-branches.branches.items in
-    let over = becomes_below g.R.Look.kept g.R.Look.standing g.R.Look.words level (level - 1) c.child_at-child.result item pair (pairs_of mid pair c.put_at.new.slots.items) (pairs_of mid pair c.deref.result.now) branches read c.put_at.new.room c.pack.new.room
+    let after = pairs_of (g.R.Look.words c.pack.new.room) pair c.in_ok-branches.branches.items in
+    let over = becomes_below g.R.Look.kept g.R.Look.standing g.R.Look.words level (level - 1) c.child_at-child.result item pair (pairs_of mid pair c.put_at.new.slots.items) (pairs_of mid pair c.deref.result.now) after read c.put_at.new.room c.pack.new.room
     e c.child_at-child.ensures.child (ap (pairs_of mid pair) c.deref.ensures.0) tree c.in_ok-put_at.ensures.ok c.in_ok-branches.ensures.ok in
-    subst (λ (w : ℕ → ℕ → ℕ). Becomes g.R.Look.kept g.R.Look.standing g.R.Look.words (pages_below level w (item ∷ [])) (put pair (pairs_below level w (item ∷ []))) level branches c.args.room.now c.pack.new.room) c.child_at-child.ensures.unchanged.words
-    (becomes_since g.R.Look.kept g.R.Look.standing g.R.Look.words (pages_below level (g.R.Look.words read) (item ∷ [])) (put pair (pairs_below level (g.R.Look.words read) (item ∷ []))) level branches c.args.room.now read c.pack.new.room c.child_at-child.ensures.unchanged over)
+    subst (λ (w : ℕ → ℕ → ℕ). Becomes g.R.Look.kept g.R.Look.standing g.R.Look.words (pages_below level w (item ∷ [])) (put pair (pairs_below level w (item ∷ []))) level after c.args.room.now c.pack.new.room) c.child_at-child.ensures.unchanged.words
+    (becomes_since g.R.Look.kept g.R.Look.standing g.R.Look.words (pages_below level (g.R.Look.words read) (item ∷ [])) (put pair (pairs_below level (g.R.Look.words read) (item ∷ []))) level after c.args.room.now read c.pack.new.room c.child_at-child.ensures.unchanged over)
+
+-- the page of the item was left as it was
+item_words : (g : Over) (t : ℕ) (c : put_below-After-settled g t) → c.args.level ≡ suc (c.args.level - 1) → IsTreeAt (c.args.level - 1) 6 (g.R.Look.standing c.child_at-child.new.look) (g.R.Look.words c.child_at-child.new.look) c.child_at-child.result → g.R.Look.words c.pack.new.room c.args.page ≡ g.R.Look.words c.args.room.now c.args.page
+item_words g t c e tree =
+    let item = item_at (g.R.Look.words c.args.room.now c.args.page) c.args.place in
+    swaps_same g.R.Look.kept g.R.Look.standing g.R.Look.words (pages_below c.args.level (g.R.Look.words c.args.room.now) (item ∷ [])) (pages_below c.args.level (g.R.Look.words c.pack.new.room) (pairs_of (g.R.Look.words c.pack.new.room) c.args.pair.now c.in_ok-branches.branches.items)) c.args.room.now c.pack.new.room (branches g t c e tree).swaps c.args.page c.requires.apart c.requires.readable
+
+pub put_below-settled-requires-clause-small : goal.put_below-settled-requires-clause-small
+put_below-settled-requires-clause-small g t c = g.met.R.Look.pages_small c.args.room.now c.args.page (λ free. false≢true (ap is_readable (sym free) ∙ c.requires.readable))
+
+pub put_below-returns-clause-ok : goal.put_below-returns-clause-ok
+put_below-returns-clause-ok g t c =
+    let e : c.args.level ≡ suc (c.args.level - 1) = omega (arith, c.if-level-eq0.false) in
+    let at = (goal.at.put_below-returns-clause-ok g t c).After-settled in
+    let tree = child_tree g t (goal.at.put_below-returns-clause-ok g t c).After-child_at-child e in
+    let words = g.R.Look.words c.args.room.now in
+    let now = g.R.Look.words c.pack.new.room in
+    let pair = c.args.pair.now in
+    let level = c.args.level in
+    let item = item_at (words c.args.page) c.args.place in
+    let child = c.child_at-child.result in
+    let small = g.met.R.Look.pages_small c.child_at-child.new.look child (kept_not_free (g.R.Look.standing c.child_at-child.new.look child) tree.page_in_use) in
+    let becomes = λ (xs : List Pair). Becomes g.R.Look.kept g.R.Look.standing g.R.Look.words (pages_below level words (item ∷ [])) (put pair (pairs_below level words (item ∷ []))) level xs c.args.room.now c.pack.new.room in
+    elim c.settled.ensures [
+      | inl same ↦ subst (λ (xs : List Slot). becomes (pairs_of now pair xs)) (sym same) (branches g t at e tree)
+      | inr stays ↦
+          subst (λ (xs : List Slot). becomes (pairs_of now pair xs)) (sym stays.2)
+          (subst (λ (u : ℕ → ℕ). becomes (item_at u c.args.place ∷ [])) (sym (item_words g t at e tree))
+          (item_stays g.R.Look.kept g.R.Look.standing g.R.Look.words level (level - 1) child item pair c.args.room.now c.pack.new.room e small c.child_at-child.ensures.child c.requires.below (c.requires.behind stays.0)
+          (subst (λ (xs : List Slot). becomes (pairs_of now pair xs)) stays.1 (branches g t at e tree))))
+    ]
 
 pub put_below-returns-clause-ready : goal.put_below-returns-clause-ready
 put_below-returns-clause-ready g t c =
-    branches_ready (c.args.level - 1) (g.R.Look.standing c.pack.new.room) (g.R.Look.words c.pack.new.room) c.args.pair.now c.in_ok-branches.branches.items c.in_ok-branches.ensures.branches c.in_ok-branches.ensures.ok.below
+    let e : c.args.level ≡ suc (c.args.level - 1) = omega (arith, c.if-level-eq0.false) in
+    let at = (goal.at.put_below-returns-clause-ready g t c).After-settled in
+    let tree = child_tree g t (goal.at.put_below-returns-clause-ready g t c).After-child_at-child e in
+    let standing = g.R.Look.standing c.pack.new.room in
+    let now = g.R.Look.words c.pack.new.room in
+    let ready = branches_ready (c.args.level - 1) standing now c.args.pair.now c.in_ok-branches.branches.items c.in_ok-branches.ensures.branches c.in_ok-branches.ensures.ok.below in
+    let item = item_at (g.R.Look.words c.args.room.now c.args.page) c.args.place in
+    let stands = swaps_stands g.R.Look.kept g.R.Look.standing g.R.Look.words (pages_below c.args.level (g.R.Look.words c.args.room.now) (item ∷ [])) (pages_below c.args.level now (pairs_of now c.args.pair.now c.in_ok-branches.branches.items)) c.args.room.now c.pack.new.room (branches g t at e tree).swaps c.args.page c.requires.apart c.requires.readable in
+    elim c.settled.ensures [
+      | inl same ↦ subst (All (IsReady standing now)) (sym same) ready
+      | inr stays ↦
+          subst (All (IsReady standing now)) (sym stays.2)
+          (all_one (IsReady standing now) (At c.args.place c.args.page) (
+            subst (λ s. IsTrue (is_readable s)) (sym stands) c.requires.readable,
+            (c.requires.in_page, subst (λ (u : ℕ → ℕ). IsItem u c.args.place) (sym (item_words g t at e tree)) c.requires.item),
+          ))
+    ]
+
+pub put_below-returns-clause-some : goal.put_below-returns-clause-some
+put_below-returns-clause-some g t c = elim c.settled.ensures [
+  | inl same ↦ subst (λ (xs : List Slot). (0 < length xs) × (length xs ≤ 2)) (sym same) c.in_ok-branches.ensures.some
+  | inr stays ↦ subst (λ (xs : List Slot). (0 < length xs) × (length xs ≤ 2)) (sym stays.2) (omega arith, omega arith)
+]

@@ -1,0 +1,27 @@
+use Rattle.std.proofs.Common.{ℕ, [], ◌∷◌, sym, subst, arith}
+use Rattle.be_pages.specs.Pages.{after_give_up}
+use Rattle.be_tree.specs.Slot.{branch_to, pairs_of}
+use Rattle.be_tree.specs.Tree.{IsWritten}
+use Rattle.be_tree.proofs.Frame.{readable_kept}
+use Rattle.be_tree.proofs.Nodes.Moves.{stands_at, stands_else}
+use Rattle.be_tree.proofs.Putting.Puts.{held_after, swaps_given_up}
+use Rattle.be_tree.proofs.writing.write_changed.Goals as goal
+
+pub way_over-requires-clause-readable : goal.way_over-requires-clause-readable
+way_over-requires-clause-readable g c = readable_kept (g.R.Look.standing c.args.room.now c.args.old) c.requires.kept
+
+pub give_up-requires-clause-held : goal.give_up-requires-clause-held
+give_up-requires-clause-held g c = held_after g.R.Look.kept g.R.Look.standing g.R.Look.words [] (c.in_ok-page.page ∷ []) c.args.old c.args.room.now c.write_node.new.room c.in_ok-page.ensures.swaps (omega arith) c.requires.kept
+
+pub returns-clause-ok : goal.returns-clause-ok
+returns-clause-ok g c =
+    subst (λ (w : ℕ → ℕ → ℕ). IsWritten c.args.node.level w (pairs_of (g.R.Look.words c.args.room.now) c.args.node.pair.now c.args.node.slots.now) (branch_to w c.in_ok-page.page)) (sym c.give_up.ensures.words) c.in_ok-page.ensures.ok
+
+pub returns-clause-swaps : goal.returns-clause-swaps
+returns-clause-swaps g c =
+    let old = c.args.old in
+    let s = g.R.Look.standing c.write_node.new.room in
+    let t = g.R.Look.standing c.give_up.new.self in
+    swaps_given_up g.R.Look.kept g.R.Look.standing g.R.Look.words [] (c.in_ok-page.page ∷ []) old c.args.room.now c.write_node.new.room c.give_up.new.self c.in_ok-page.ensures.swaps (omega arith) c.requires.kept
+    c.give_up.ensures.kept c.give_up.ensures.words
+    (stands_at s t old (after_give_up (s old)) c.give_up.ensures.standing) (stands_else s t old (after_give_up (s old)) c.give_up.ensures.standing)
