@@ -253,13 +253,13 @@ query name=="101*" && size>=1500 => 50 found, 6734 words read"#;
 fn write_costs(rt: HostRuntime) -> Result<(), Fail> {
     let rows =
         "new;set 302 name CSTR 10150-copy.txt;set 302 size LONG 1505;set 302 kind CSTR image/png \
-=> 227 words stored, 10 pages taken, 674 words read
-set 150 size LONG 1505 => 250 words stored, 9 pages taken, 447 words read
-set 150 kind CSTR image/png => 58 words stored, 4 pages taken, 215 words read
-set 150 kind CSTR text/plain => 55 words stored, 4 pages taken, 215 words read
-sizes 64 => 5712 words stored, 115 pages taken, 21210 words read
-names 8 => 131 words stored, 5 pages taken, 805 words read
-names 64 => 512 words stored, 11 pages taken, 6505 words read
-drop 150 => 225 words stored, 10 pages taken, 767 words read";
+=> 227 words stored, 10 pages taken, 666 words read
+set 150 size LONG 1505 => 250 words stored, 9 pages taken, 438 words read
+set 150 kind CSTR image/png => 58 words stored, 4 pages taken, 210 words read
+set 150 kind CSTR text/plain => 55 words stored, 4 pages taken, 210 words read
+sizes 64 => 5712 words stored, 115 pages taken, 20663 words read
+names 8 => 131 words stored, 5 pages taken, 770 words read
+names 64 => 512 words stored, 11 pages taken, 5780 words read
+drop 150 => 225 words stored, 10 pages taken, 765 words read";
     expect_rows(rt.alloc(), rows)
 }
