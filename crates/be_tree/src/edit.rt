@@ -115,7 +115,7 @@ fn settled(
 }
 
 /// Whether a slot is the branch to this page.
-fn is_branch_to(page: u64, slot: Slot) -> bool
+pub(crate) fn is_branch_to(page: u64, slot: Slot) -> bool
     ensures { result ≡ true → slot ≡ Branch page }
 {
     match slot {

@@ -8,7 +8,7 @@
 //! # Absent keys
 //! Nothing is written on the way down. A leaf without the key stops the removal, and nothing has changed.
 ghost use Rattle.std.specs.Prelude.{◌≡◌, ◌≢◌, ℕ, true, false, suc, ◌+◌, ◌-◌, ◌^◌, ◌<◌, ◌≤◌, [], ◌∷◌, ◌++◌, length, take, drop, All, IfOk, OnOk};
-ghost use Rattle.std.specs.Prelude.{OnErr, IfErr, IsTrue, None, Ok};
+ghost use Rattle.std.specs.Prelude.{◌⊎◌, OnErr, IfErr, IsTrue, None, Ok};
 ghost use Rattle.be_pages.specs.Pages.{IsUnchanged, is_readable, Swaps, KeepsStart};
 ghost use Rattle.be_pages.specs.Refusal.{IsFullOf};
 ghost use Rattle.be_tree.specs.Key.{key_cmp, payload_at, without};
@@ -18,13 +18,15 @@ ghost use Rattle.be_tree.specs.Pair.{Pair};
 ghost use Rattle.be_tree.specs.Sides.{in_order, left_of, right_of};
 ghost use Rattle.be_tree.specs.Slot.{IsReady, pair_of, pairs_of};
 ghost use Rattle.be_tree.specs.Stop.{IfRefused, TellsAbsent};
+ghost use Rattle.be_tree.specs.declared.slot.Slot.TheVariants.{At, Branch};
 ghost use Rattle.be_tree.specs.declared.stop.Stop.TheVariants.{Absent};
 ghost use Rattle.be_tree.specs.Tree.{AreNeighbours, Becomes, BecomesTree, IsTree, IsTreeAt, child, least_of_root, pages, pages_below, pairs};
 ghost use Rattle.be_tree.specs.Tree.{pairs_at};
 ghost use Rattle.be_tree.specs.Writing.{CanBeWritten, Changes, IsApart, ReplacesTree};
 
+use crate::edit::is_branch_to;
 use crate::item::Item;
-use crate::lookup::rank;
+use crate::lookup::{is_key_at, rank};
 use crate::page::{HEADER_WORDS, ITEM_WORDS, child_at, cmp_at, fill_slots};
 use crate::siblings::{
     Side, count_of, pages_in_order, slots_beside, slots_with, slots_with_one, spare_child,
@@ -168,7 +170,9 @@ fn remove_at<R: Room>(
         return Ok(());
     }
     if let Some(below) = spare_child(room, level, page, at) {
-        let slot = remove_alone(room, level - 1, below, key, pair)?;
+        let branch = remove_alone(room, level - 1, below, key, pair)?;
+        let place = HEADER_WORDS + ITEM_WORDS * at;
+        let slot = kept_item(room, page, place, key, below, branch);
         slots_with_one(room, page, at, slot, slots);
         return Ok(());
     }
@@ -182,6 +186,34 @@ fn remove_at<R: Room>(
     let two = remove_beside(room, level - 1, Side::Right, here, before, key, pair)?;
     slots_with(room, page, at - 1, two, slots);
     Ok(())
+}
+
+/// What stands in the place of an inner node's item, once this key was taken out below it and its child was written as this
+/// branch: the item itself, where the child was written over where it is and the key isn't the item's, so that its least key
+/// is the same.
+fn kept_item<L: Look>(
+    look: &mut L,
+    page: u64,
+    place: usize,
+    key: &[u8],
+    child: u64,
+    branch: Slot,
+) -> Slot
+    requires readable { IsTrue (is_readable (L.standing look.old page)) }
+    requires in_page { place + 42 ≤ 512 }
+    requires item { IsItem (L.words look.old page) place }
+    requires small { page < 2 ^ 32 }
+    ensures slot { (result ≡ branch)
+        ⊎ ((branch ≡ Branch child) × (is_eq (key_cmp (item_at (L.words look.old page) place).key key.now) ≡ false) × (result ≡ At place page)) }
+    ensures unchanged { IsUnchanged L.kept L.standing L.words look.old look.new }
+{
+    if !is_branch_to(child, branch) {
+        return branch;
+    }
+    if is_key_at(look, page, place, key) {
+        return branch;
+    }
+    Slot::At(place as u16, page as u32)
 }
 
 /// Takes a key out below a page of more than six items, writes what is left of it alone, and gives the branch to it.

@@ -78,7 +78,7 @@ module _ {S K : Type 0} (kept_of : S → K) (standing_of : S → ℕ → Standin
   apart : times page (pages_below level (words_of old) (item_at (words_of old page) (item_place i) ∷ [])) ≡ 0
   apart = one_none level below least page (standing_of old) (words_of old) e tree i lt
 
-  one_same : words_of mid page ≡ words_of old page
+  pub one_same : words_of mid page ≡ words_of old page
   one_same =
       swaps_same kept_of standing_of words_of (pages_below level (words_of old) (item_at (words_of old page) (item_place i) ∷ [])) (pages_below level (words_of mid) us) old mid one_became.swaps page apart (readable_kept _ tree.page_in_use)
 

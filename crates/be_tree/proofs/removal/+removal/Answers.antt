@@ -1,4 +1,4 @@
-use Rattle.std.proofs.Common.{◌≡◌, ℕ, suc, [], ◌∷◌, ◌++◌, ◌-◌, ◌+◌, ◌<◌, ◌≤◌, List, map, IsTrue, take, drop, ap, sym, subst, refl, ◌∙◌, length, arith}
+use Rattle.std.proofs.Common.{◌≡◌, ℕ, suc, [], ◌∷◌, ◌++◌, ◌-◌, ◌+◌, ◌^◌, ◌<◌, ◌≤◌, List, map, IsTrue, take, drop, ap, sym, subst, refl, ◌∙◌, length, arith}
 use Rattle.std.specs.List.{range_with_len}
 use Rattle.be_tree.specs.declared.slot.Slot.{Slot}
 use Rattle.be_tree.specs.declared.slot.Slot.TheVariants.{At, Branch}
@@ -7,8 +7,8 @@ use Rattle.be_tree.specs.Key.{key_cmp, payload_at, without}
 use Rattle.std.specs.Prelude.{true, false}
 use Rattle.std.specs.Ordering.{is_eq}
 use Rattle.be_tree.proofs.Removing.Stops.{absent_is, down_read, found_is, passed_absent, passed_stop}
-use Rattle.be_tree.specs.Page.{items_of, item_at, item_place}
-use Rattle.be_tree.specs.Slot.{branch_to, IsBranchSlot, pair_of, pairs_of}
+use Rattle.be_tree.specs.Page.{items_of, item_at, item_place, IsPage}
+use Rattle.be_tree.specs.Slot.{branch_to, IsBranchSlot, IsReady, pair_of, pairs_of}
 use Rattle.be_tree.specs.Tree.{Becomes, child, least_of_root, pairs_at, pairs_below, pages_below}
 use Rattle.be_tree.proofs.Nodes.Alone.{AroundOne, around_one}
 use Rattle.be_tree.proofs.Nodes.Children.{AroundTwo, around_two, first_changed, second_changed}
@@ -18,13 +18,16 @@ use Rattle.be_tree.proofs.Nodes.Neighbours.{apart, slots_until}
 use Rattle.be_tree.proofs.Nodes.Sides.{both_changed, both_in_hand, both_length, both_trees, other_page, other_readable, rising_less}
 use Rattle.be_tree.specs.Sides.{in_order, left_of, right_of}
 use Rattle.be_tree.proofs.Shape.Parts.{all_one, on_err}
-use Rattle.be_pages.specs.Pages.{is_kept, times}
+use Rattle.be_pages.specs.Pages.{is_kept, is_readable, times, IsUnchanged}
 use Rattle.be_tree.proofs.Putting.Puts.{becomes_over, given_up_page, kept_after}
 use Rattle.be_tree.proofs.Removing.Removes.{at_in, key_out, leaf_removed, least_two, payload_leaf, rising_without}
 use Rattle.be_tree.proofs.Nodes.Slots.{branches_ready, items_count}
+use Rattle.be_tree.proofs.Removing.Keeps.{kept_becomes, kept_ready}
+use Rattle.be_tree.proofs.Shape.Levels.{kept_not_free}
+use Rattle.be_pages.specs.declared.room.Standing.{Standing}
 use Rattle.be_tree.proofs.removal.+removal.Goals as goal
 use Rattle.be_tree.proofs.removal.+removal.Given.{Over}
-use Rattle.be_tree.proofs.removal.+removal.Goals.{remove_at-After-slots_with-arg-1, remove_at-After-slots_with-arg-2-1, remove_at-After-slots_with_one-arg-1, remove_beside-After-deref}
+use Rattle.be_tree.proofs.removal.+removal.Goals.{remove_at-In_ok-branch, remove_at-After-slots_with-arg-1, remove_at-After-slots_with-arg-2-1, remove_at-After-slots_with_one-arg-1, remove_beside-After-deref}
 
 pub remove_at-slots_without-requires-clause-in_page : goal.remove_at-slots_without-requires-clause-in_page
 remove_at-slots_without-requires-clause-in_page g t c =
@@ -56,26 +59,39 @@ remove_at-returns-then-level-eq0-clause-some g t c =
     (omega (arith, c.in_ok-slots_without.ensures.some, count, items_count (words page)), c.in_ok-slots_without.ensures.some.1)
 
 -- the place of the child, and the node around it, once the child has lost the key
-alone_place : (g : Over) (t : ℕ) (c : remove_at-After-slots_with_one-arg-1 g t) → c.saturating_sub-at.result < g.R.Look.words c.args.room.now c.args.page 1
+alone_place : (g : Over) (t : ℕ) (c : remove_at-In_ok-branch g t) → c.saturating_sub-at.result < g.R.Look.words c.args.room.now c.args.page 1
 alone_place g t c = at_in g.R.Look.kept g.R.Look.standing g.R.Look.words c.args.level c.args.page c.args.key.now c.rank.result c.saturating_sub-at.result c.args.room.now c.requires.tree c.rank.ensures.rank c.saturating_sub-at.ensures
 
-alone_level : (g : Over) (t : ℕ) (c : remove_at-After-slots_with_one-arg-1 g t) → c.args.level ≡ suc (c.args.level - 1)
+alone_level : (g : Over) (t : ℕ) (c : remove_at-In_ok-branch g t) → c.args.level ≡ suc (c.args.level - 1)
 alone_level g t c = omega (arith, c.if-level-eq0.false)
 
-alone_around : (g : Over) (t : ℕ) (c : remove_at-After-slots_with_one-arg-1 g t)
-    → AroundOne g.R.Look.kept g.R.Look.standing g.R.Look.words c.args.level (c.args.level - 1) c.args.page c.saturating_sub-at.result (without c.args.key.now) (pair_of (g.R.Look.words c.remove_alone.new.room) c.args.pair.now c.in_ok-slot.slot ∷ []) c.args.room.now c.remove_alone.new.room
-alone_around g t c =
-    let page = c.args.page in
-    let at = c.saturating_sub-at.result in
-    let old = c.args.room.now in
-    let read = c.spare_child.new.look in
-    let same = unchanged_trans g.R.Look.kept g.R.Look.standing g.R.Look.words old c.rank.new.look read c.rank.ensures.unchanged c.spare_child.ensures.unchanged in
-    let is = c.in-Some.ensures.child ∙ ap (λ (w : ℕ → ℕ → ℕ). child (item_at (w page) (item_place at))) c.rank.ensures.unchanged.words in
-    let mid = c.remove_alone.new.room in
-    let us = pair_of (g.R.Look.words mid) c.args.pair.now c.in_ok-slot.slot ∷ [] in
-    around_one g.R.Look.kept g.R.Look.standing g.R.Look.words c.args.level (c.args.level - 1) (least_of_root c.args.level) page at c.in-Some.below old read (alone_level g t c) c.requires.tree (alone_place g t c) same is (without c.args.key.now) us mid c.in_ok-slot.ensures.ok
+alone_is : (g : Over) (t : ℕ) (c : remove_at-In_ok-branch g t) → c.in-Some.below ≡ child (item_at (g.R.Look.words c.args.room.now c.args.page) (item_place c.saturating_sub-at.result))
+alone_is g t c = c.in-Some.ensures.child ∙ ap (λ (w : ℕ → ℕ → ℕ). child (item_at (w c.args.page) (item_place c.saturating_sub-at.result))) c.rank.ensures.unchanged.words
 
-alone_without : (g : Over) (t : ℕ) (c : remove_at-After-slots_with_one-arg-1 g t)
+alone_read : (g : Over) (t : ℕ) (c : remove_at-In_ok-branch g t) → IsUnchanged g.R.Look.kept g.R.Look.standing g.R.Look.words c.args.room.now c.spare_child.new.look
+alone_read g t c = unchanged_trans g.R.Look.kept g.R.Look.standing g.R.Look.words c.args.room.now c.rank.new.look c.spare_child.new.look c.rank.ensures.unchanged c.spare_child.ensures.unchanged
+
+alone_around : (g : Over) (t : ℕ) (c : remove_at-In_ok-branch g t)
+    → AroundOne g.R.Look.kept g.R.Look.standing g.R.Look.words c.args.level (c.args.level - 1) c.args.page c.saturating_sub-at.result (without c.args.key.now) (pair_of (g.R.Look.words c.remove_alone.new.room) c.args.pair.now c.in_ok-branch.branch ∷ []) c.args.room.now c.remove_alone.new.room
+alone_around g t c =
+    around_one g.R.Look.kept g.R.Look.standing g.R.Look.words c.args.level (c.args.level - 1) (least_of_root c.args.level) c.args.page c.saturating_sub-at.result c.in-Some.below c.args.room.now c.spare_child.new.look (alone_level g t c) c.requires.tree (alone_place g t c) (alone_read g t c) (alone_is g t c) (without c.args.key.now)
+    (pair_of (g.R.Look.words c.remove_alone.new.room) c.args.pair.now c.in_ok-branch.branch ∷ []) c.remove_alone.new.room c.in_ok-branch.ensures.ok
+
+alone_small : (g : Over) (t : ℕ) (c : remove_at-In_ok-branch g t) → c.in-Some.below < 2 ^ 32
+alone_small g t c = g.met.R.Look.pages_small c.rank.new.look c.in-Some.below (kept_not_free (g.R.Look.standing c.rank.new.look c.in-Some.below) c.in-Some.ensures.tree.page_in_use)
+
+-- the same with the item itself, where it stays
+kept_around : (g : Over) (t : ℕ) (c : remove_at-After-slots_with_one-arg-1 g t)
+    → c.args.level ≡ suc (c.args.level - 1) → c.saturating_sub-at.result < g.R.Look.words c.args.room.now c.args.page 1 → c.in-Some.below ≡ child (item_at (g.R.Look.words c.args.room.now c.args.page) (item_place c.saturating_sub-at.result))
+    → IsUnchanged g.R.Look.kept g.R.Look.standing g.R.Look.words c.args.room.now c.spare_child.new.look → c.in-Some.below < 2 ^ 32
+    → AroundOne g.R.Look.kept g.R.Look.standing g.R.Look.words c.args.level (c.args.level - 1) c.args.page c.saturating_sub-at.result (without c.args.key.now) (pair_of (g.R.Look.words c.remove_alone.new.room) c.args.pair.now c.kept_item-slot.result ∷ []) c.args.room.now c.remove_alone.new.room
+kept_around g t c e lt is same small =
+    around_one g.R.Look.kept g.R.Look.standing g.R.Look.words c.args.level (c.args.level - 1) (least_of_root c.args.level) c.args.page c.saturating_sub-at.result c.in-Some.below c.args.room.now c.spare_child.new.look e c.requires.tree lt same is (without c.args.key.now)
+    (pair_of (g.R.Look.words c.remove_alone.new.room) c.args.pair.now c.kept_item-slot.result ∷ []) c.remove_alone.new.room
+    (kept_becomes g.R.Look.kept g.R.Look.standing g.R.Look.words c.args.level (c.args.level - 1) (least_of_root c.args.level) c.args.page c.saturating_sub-at.result c.in-Some.below c.args.room.now c.spare_child.new.look e c.requires.tree lt same is c.args.key.now c.args.pair.now c.in_ok-branch.branch c.kept_item-slot.result c.remove_alone.new.room
+    c.in_ok-branch.ensures.ok c.kept_item-slot.ensures.slot small)
+
+alone_without : (g : Over) (t : ℕ) (c : remove_at-In_ok-branch g t)
     → without c.args.key.now (pairs_at c.args.level (g.R.Look.words c.args.room.now) c.args.page) ≡ pairs_below (suc (c.args.level - 1)) (g.R.Look.words c.args.room.now) (take c.saturating_sub-at.result (items_of (g.R.Look.words c.args.room.now c.args.page)))
     ++ (without c.args.key.now (pairs_at (c.args.level - 1) (g.R.Look.words c.args.room.now) (child (item_at (g.R.Look.words c.args.room.now c.args.page) (item_place c.saturating_sub-at.result)))) ++ pairs_below (suc (c.args.level - 1)) (g.R.Look.words c.args.room.now) (drop (suc c.saturating_sub-at.result) (items_of (g.R.Look.words c.args.room.now c.args.page))))
 alone_without g t c = key_out g.R.Look.kept g.R.Look.standing g.R.Look.words c.args.level c.args.page c.args.key.now c.rank.result c.saturating_sub-at.result c.args.room.now c.requires.tree c.rank.ensures.rank c.saturating_sub-at.ensures (c.args.level - 1) (alone_level g t c)
@@ -232,28 +248,72 @@ remove_at-spare_child-requires-clause-in_page g t c =
     let inside = at_in g.R.Look.kept g.R.Look.standing g.R.Look.words c.args.level page c.args.key.now c.rank.result c.saturating_sub-at.result c.args.room.now c.requires.tree c.rank.ensures.rank c.saturating_sub-at.ensures in
     omega (arith, inside, ap (λ (w : ℕ → ℕ → ℕ). w page 1) c.rank.ensures.unchanged.words)
 
+pub remove_at-overflow_mul-place : goal.remove_at-overflow_mul-place
+remove_at-overflow_mul-place g t c = omega (arith, alone_place g t (goal.at.remove_at-overflow_mul-place g t c).In_ok-branch, c.requires.tree.node.is_page.few)
+
+pub remove_at-overflow_add-place : goal.remove_at-overflow_add-place
+remove_at-overflow_add-place g t c = omega (arith, alone_place g t (goal.at.remove_at-overflow_add-place g t c).In_ok-branch, c.requires.tree.node.is_page.few)
+
+pub remove_at-kept_item-slot-requires-clause-readable : goal.remove_at-kept_item-slot-requires-clause-readable
+remove_at-kept_item-slot-requires-clause-readable g t c = (alone_around g t (goal.at.remove_at-kept_item-slot-requires-clause-readable g t c).In_ok-branch).readable
+
+pub remove_at-kept_item-slot-requires-clause-in_page : goal.remove_at-kept_item-slot-requires-clause-in_page
+remove_at-kept_item-slot-requires-clause-in_page g t c = omega (arith, alone_place g t (goal.at.remove_at-kept_item-slot-requires-clause-in_page g t c).In_ok-branch, c.requires.tree.node.is_page.few)
+
+pub remove_at-kept_item-slot-requires-clause-item : goal.remove_at-kept_item-slot-requires-clause-item
+remove_at-kept_item-slot-requires-clause-item g t c =
+    let at = (goal.at.remove_at-kept_item-slot-requires-clause-item g t c).In_ok-branch in
+    (alone_around g t at).is_page.each c.saturating_sub-at.result (omega (arith, alone_place g t at, (alone_around g t at).count))
+
+pub remove_at-kept_item-slot-requires-clause-small : goal.remove_at-kept_item-slot-requires-clause-small
+remove_at-kept_item-slot-requires-clause-small g t c = g.met.R.Look.pages_small c.args.room.now c.args.page (kept_not_free (g.R.Look.standing c.args.room.now c.args.page) c.requires.tree.page_in_use)
+
 pub remove_at-slots_with_one-requires-clause-readable : goal.remove_at-slots_with_one-requires-clause-readable
-remove_at-slots_with_one-requires-clause-readable g t c = (alone_around g t (goal.at.remove_at-slots_with_one-requires-clause-readable g t c).After-slots_with_one-arg-1).readable
+remove_at-slots_with_one-requires-clause-readable g t c =
+    subst (λ (s : ℕ → Standing). IsTrue (is_readable (s c.args.page))) (sym c.kept_item-slot.ensures.unchanged.standing) (alone_around g t (goal.at.remove_at-slots_with_one-requires-clause-readable g t c).In_ok-branch).readable
 
 pub remove_at-slots_with_one-requires-clause-page : goal.remove_at-slots_with_one-requires-clause-page
-remove_at-slots_with_one-requires-clause-page g t c = (alone_around g t (goal.at.remove_at-slots_with_one-requires-clause-page g t c).After-slots_with_one-arg-1).is_page
+remove_at-slots_with_one-requires-clause-page g t c =
+    subst (λ (w : ℕ → ℕ → ℕ). IsPage (w c.args.page)) (sym c.kept_item-slot.ensures.unchanged.words) (alone_around g t (goal.at.remove_at-slots_with_one-requires-clause-page g t c).In_ok-branch).is_page
 
 pub remove_at-slots_with_one-requires-clause-in_page : goal.remove_at-slots_with_one-requires-clause-in_page
 remove_at-slots_with_one-requires-clause-in_page g t c =
-    let at = (goal.at.remove_at-slots_with_one-requires-clause-in_page g t c).After-slots_with_one-arg-1 in
-    omega (arith, alone_place g t at, (alone_around g t at).count)
+    let at = (goal.at.remove_at-slots_with_one-requires-clause-in_page g t c).In_ok-branch in
+    omega (arith, alone_place g t at, (alone_around g t at).count, ap (λ (w : ℕ → ℕ → ℕ). w c.args.page 1) c.kept_item-slot.ensures.unchanged.words)
+
+pub remove_at-slots_with_one-requires-clause-ready : goal.remove_at-slots_with_one-requires-clause-ready
+remove_at-slots_with_one-requires-clause-ready g t c =
+    let at = (goal.at.remove_at-slots_with_one-requires-clause-ready g t c).In_ok-branch in
+    let mid = c.remove_alone.new.room in
+    let slot = c.kept_item-slot.result in
+    let here = kept_ready g.R.Look.kept g.R.Look.standing g.R.Look.words c.args.level (c.args.level - 1) (least_of_root c.args.level) c.args.page c.saturating_sub-at.result c.in-Some.below c.args.room.now c.spare_child.new.look (alone_level g t at) c.requires.tree (alone_place g t at) (alone_read g t at) (alone_is g t at)
+    c.args.key.now c.args.pair.now c.in_ok-branch.branch slot mid c.in_ok-branch.ensures.ok c.kept_item-slot.ensures.slot c.in_ok-branch.ensures.ready in
+    subst (λ (s : ℕ → Standing). IsReady s (g.R.Look.words c.kept_item-slot.new.look) slot) (sym c.kept_item-slot.ensures.unchanged.standing)
+    (subst (λ (w : ℕ → ℕ → ℕ). IsReady (g.R.Look.standing mid) w slot) (sym c.kept_item-slot.ensures.unchanged.words) here)
 
 pub remove_at-returns-in-Some-clause-ok : goal.remove_at-returns-in-Some-clause-ok
 remove_at-returns-in-Some-clause-ok g t c =
     let k = c.args.key.now in
-    let here = (goal.at.remove_at-returns-in-Some-clause-ok g t c).After-slots_with_one-arg-1 in
-    (alone_around g t here).changed (without k) (rising_without k) (alone_without g t here) c.args.pair.now c.slots_with_one.new.slots.items c.slots_with_one.new.look (c.slots_with_one.ensures.items c.args.pair.now) c.slots_with_one.ensures.unchanged
+    let pair = c.args.pair.now in
+    let page = c.args.page in
+    let at = c.saturating_sub-at.result in
+    let here = (goal.at.remove_at-returns-in-Some-clause-ok g t c).In_ok-branch in
+    let after = (goal.at.remove_at-returns-in-Some-clause-ok g t c).After-slots_with_one-arg-1 in
+    let slots = c.slots_with_one.new.slots.items in
+    let mid = c.remove_alone.new.room in
+    let late = c.kept_item-slot.new.look in
+    let last = c.slots_with_one.new.look in
+    let is = subst (λ (w : ℕ → ℕ → ℕ). pairs_of w pair slots ≡ take at (items_of (w page)) ++ (pair_of w pair c.kept_item-slot.result ∷ drop (suc at) (items_of (w page)))) c.kept_item-slot.ensures.unchanged.words (c.slots_with_one.ensures.items pair) in
+    (kept_around g t after (alone_level g t here) (alone_place g t here) (alone_is g t here) (alone_read g t here) (alone_small g t here)).changed (without k) (rising_without k) (alone_without g t here) pair slots last is
+    (unchanged_trans g.R.Look.kept g.R.Look.standing g.R.Look.words mid late last c.kept_item-slot.ensures.unchanged c.slots_with_one.ensures.unchanged)
 
 pub remove_at-returns-in-Some-clause-some : goal.remove_at-returns-in-Some-clause-some
 remove_at-returns-in-Some-clause-some g t c =
-    let count = (alone_around g t (goal.at.remove_at-returns-in-Some-clause-some g t c).After-slots_with_one-arg-1).count in
+    let at = (goal.at.remove_at-returns-in-Some-clause-some g t c).In_ok-branch in
+    let count = (alone_around g t at).count in
+    let same = ap (λ (w : ℕ → ℕ → ℕ). w c.args.page 1) c.kept_item-slot.ensures.unchanged.words in
     let items = items_count (g.R.Look.words c.args.room.now c.args.page) in
-    (omega (arith, c.slots_with_one.ensures.len, count, items), omega (arith, c.slots_with_one.ensures.len, count, c.requires.tree.node.is_page.few))
+    (omega (arith, c.slots_with_one.ensures.len, same, count, items), omega (arith, c.slots_with_one.ensures.len, same, count, c.requires.tree.node.is_page.few))
 
 pub remove_alone-write_branch-requires-clause-size : goal.remove_alone-write_branch-requires-clause-size
 remove_alone-write_branch-requires-clause-size g t c =
@@ -337,10 +397,10 @@ remove_at-returns-in-Some-clause-found g t c =
     let e : level ≡ suc (level - 1) = omega (arith, c.if-level-eq0.false) in
     let read = c.spare_child.new.look in
     let here = down_read g.R.Look.kept g.R.Look.standing g.R.Look.words level c.args.page k c.rank.result at old c.requires.tree c.rank.ensures.rank c.saturating_sub-at.ensures (level - 1) e c.in-Some.below at c.rank.new.look read refl c.rank.ensures.unchanged c.spare_child.ensures.unchanged c.in-Some.ensures.child in
-    λ none. c.in_ok-slot.ensures.found (sym here ∙ none)
+    λ none. c.in_ok-branch.ensures.found (sym here ∙ none)
 
-pub remove_at-returns-in_err-slot-clause-stopped : goal.remove_at-returns-in_err-slot-clause-stopped
-remove_at-returns-in_err-slot-clause-stopped g t c =
+pub remove_at-returns-in_err-branch-clause-stopped : goal.remove_at-returns-in_err-branch-clause-stopped
+remove_at-returns-in_err-branch-clause-stopped g t c =
     let old = c.args.room.now in
     let level = c.args.level in
     let k = c.args.key.now in
@@ -349,7 +409,7 @@ remove_at-returns-in_err-slot-clause-stopped g t c =
     let read = c.spare_child.new.look in
     let here = down_read g.R.Look.kept g.R.Look.standing g.R.Look.words level c.args.page k c.rank.result at old c.requires.tree c.rank.ensures.rank c.saturating_sub-at.ensures (level - 1) e c.in-Some.below at c.rank.new.look read refl c.rank.ensures.unchanged c.spare_child.ensures.unchanged c.in-Some.ensures.child in
     let same = unchanged_trans g.R.Look.kept g.R.Look.standing g.R.Look.words old c.rank.new.look read c.rank.ensures.unchanged c.spare_child.ensures.unchanged in
-    passed_stop c.from_residual-in_err-slot.result c.in_err-slot.field-0.0 _ _ _ _ c.from_residual-in_err-slot.ensures.1 here (unchanged_trans g.R.Look.kept g.R.Look.standing g.R.Look.words old read c.remove_alone.new.room same) c.in_err-slot.ensures.stopped
+    passed_stop c.from_residual-in_err-branch.result c.in_err-branch.field-0.0 _ _ _ _ c.from_residual-in_err-branch.ensures.1 here (unchanged_trans g.R.Look.kept g.R.Look.standing g.R.Look.words old read c.remove_alone.new.room same) c.in_err-branch.ensures.stopped
 
 pub remove_at-returns-then-at-count_of-clause-found : goal.remove_at-returns-then-at-count_of-clause-found
 remove_at-returns-then-at-count_of-clause-found g t c =
