@@ -132,7 +132,12 @@ fn are_scanned(volume: &Volume, query: &Query, nodes: &[u64]) -> Result<bool, Re
 }
 
 /// How many ranges were asked for whole by the cover, which has to give the nodes of a scan.
-fn ranges(alloc: Global, volume: &Volume, query: &Query, cover: &Cover) -> Result<String, Refusal> {
+fn count_ranges(
+    alloc: Global,
+    volume: &Volume,
+    query: &Query,
+    cover: &Cover,
+) -> Result<String, Refusal> {
     if let Some((nodes, counts)) = nodes_by(alloc, volume, query, cover)? {
         if are_scanned(volume, query, &nodes)? {
             return number(alloc, counts.ranges);
@@ -195,7 +200,7 @@ fn answer(alloc: Global, volume: &Volume, command: &str, query: &Query) -> Resul
     match command {
         "explain" => explained(alloc, volume, query),
         "keys" | "looks" | "kinds" => counted(alloc, volume, command, query),
-        "ranges" => ranges(alloc, volume, query, &chosen(alloc, volume, query)?),
+        "ranges" => count_ranges(alloc, volume, query, &chosen(alloc, volume, query)?),
         "query" => found(alloc, volume, query, &chosen(alloc, volume, query)?),
         _ => found(alloc, volume, query, &picked(alloc, command)?),
     }

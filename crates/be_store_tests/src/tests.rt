@@ -107,7 +107,7 @@ fn pinned_for_a_read(rt: HostRuntime) -> Result<(), Fail> {
 /// The operations that make a version again: a number that was dropped, an attribute outside of its index and one in it. A pin
 /// has the same ones, whatever is written meanwhile.
 #[test]
-fn states(rt: HostRuntime) -> Result<(), Fail> {
+fn states_in_order(rt: HostRuntime) -> Result<(), Fail> {
     let lines = "0 new;set 1 k LONG 5;new;drop 2 => commit 1 / node 1 / ok / node 2 / ok
 state => new / set 1 \"k\" LONG 5 / new / drop 2
 0 mkindex k LONG;mkindex j LONG;set 1 j LONG 6 / 0 pin => commit 2 / ok / ok / ok / pin 2

@@ -31,4 +31,4 @@ returns-else-indexable-clause-has g c = λ v is e.
     let same : c.in-Some.value ≡ v = same_Some c.in-Some.value v (c.in-Some.ensures.value v is e) in
     let not : is_indexable (kind_of v) ≡ false =
     sym (ap (λ (w : Value). is_indexable (kind_of w)) same) ∙ sym (ap is_indexable c.kind.ensures) ∙ sym c.indexable.ensures ∙ c.if-indexable.false in
-    sym (ap (λ (b : Bool). b && is_some (payload_at (pairs before c.args.index) (key v c.args.node))) not)
+    c.if-indexable.false ∙ sym (ap (λ (b : Bool). b && is_some (payload_at (pairs before c.args.index) (key v c.args.node))) not)
