@@ -42,7 +42,12 @@ fn expect_look<L: Look + Drop>(
 /// Fails unless both forms give these nodes, the one over pages by a look that counts its calls. Gives both as they were.
 fn expect_counting(alloc: Global, both: Both, text: &str, expected: &str) -> Result<Both, Fail> {
     let Both { plain, room, page } = both;
-    let counting = Counted::new(room);
+    let counting = Counted {
+        pages: room,
+        reads: 0,
+        stores: 0,
+        takes: 0,
+    };
     let counting = expect_look(alloc, &plain, counting, page, text, expected)?;
     Ok(Both {
         plain,

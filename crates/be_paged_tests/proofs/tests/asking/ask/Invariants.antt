@@ -6,5 +6,5 @@ ghost-cover_of g a = g.volume
 abbrev pub ghost-covers : goal.ghost-covers
 ghost-covers g a = g.volume
 
-abbrev pub ghost-run : goal.ghost-walked
+abbrev pub ghost-run : goal.ghost-run
 ghost-run g a = g.volume
