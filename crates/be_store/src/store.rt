@@ -6,7 +6,7 @@ ghost use Rattle.be_store.specs.Passes.{IsPassOf, IsPinnedTo, HasRead, volume_pi
 use crate::answers::Answer;
 use crate::asking::{ask, choose_at};
 use crate::states::read_on;
-use crate::tries::{stand_back, was_busy};
+use crate::tries::{longer, stand_back, was_busy};
 use crate::writing::write;
 use crate::{Limits, Pass};
 use arrayvec::ArrayVec;
@@ -132,8 +132,8 @@ impl Store {
     }
 
     /// Writes as `apply` does, and tries again while another pass holds the lock, so many times at most in all. Before
-    /// each further try other threads may run, the longer the more tries were in vain. Busy then names the pass that the
-    /// last try found.
+    /// each further try other threads may run, twice as often as before the last one, up to 1,024 times. Busy then names
+    /// the pass that the last try found.
     pub fn apply_or_retry(
         &self,
         pass: &mut Pass,
@@ -147,12 +147,14 @@ impl Store {
         ensures accepted { IfOk result (λ r. Accepts pass.old.knows pass.new.knows ops.now r.0 r.1.items) }
         ensures refused { IfErr result (λ e. Learns pass.old.knows pass.new.knows × IsLastReason tries pass.old.knows pass.new.knows ops.now e) }
     {
-        for made in 1..tries {
+        let mut turns = 1;
+        for _made in 1..tries {
             let answer = self.apply(pass, ops);
             if !was_busy(&answer) {
                 return answer;
             }
-            stand_back(made);
+            stand_back(turns);
+            turns = longer(turns);
         }
         self.apply(pass, ops)
     }

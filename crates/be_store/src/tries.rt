@@ -1,5 +1,5 @@
 //! Whether a write may be tried again, and how long it stands back before that.
-ghost use Rattle.std.specs.Prelude.{◌≡◌, min};
+ghost use Rattle.std.specs.Prelude.{◌≡◌, ◌<◌, ◌≤◌, ◌*◌};
 ghost use Rattle.be_store.specs.History.{is_busy, was_busy};
 
 use arrayvec::ArrayVec;
@@ -7,21 +7,22 @@ use be_value::Refusal;
 use be_volume::Done;
 use std::thread;
 
-/// Before a further try other threads may run as often as tries were in vain, but no more often than this. Where two
-/// passes hand the lock to and fro at each write, each has to fetch from the other's processor what that one has just
-/// written; so one that comes in vain lets the other write on for a while.
-const LONGEST: u64 = 64;
+/// Other threads may run so often, and no more, before a further try. Where two passes hand the lock to and fro at each
+/// write, each has to fetch from the other's processor what that one has just written; so one that comes in vain lets the
+/// other write on for a while, twice as long each time.
+const MOST_TURNS: u64 = 1024;
 
-/// How often other threads may run before a further try, after so many in vain.
-fn turns_after(tries: u64) -> u64
-    ensures { result ≡ min tries 64 }
+/// How often other threads may run before a further try, where it was so often before the last one.
+pub(crate) fn longer(turns: u64) -> u64
+    ensures doubled { turns < 1024 → result ≡ 2 * turns }
+    ensures enough { 1024 ≤ turns → result ≡ turns }
 {
-    tries.min(LONGEST)
+    if turns < MOST_TURNS { 2 * turns } else { turns }
 }
 
-/// Lets other threads run before a further try, after so many in vain.
-pub(crate) fn stand_back(tries: u64) {
-    for _ in 0..turns_after(tries) {
+/// Lets other threads run so many times.
+pub(crate) fn stand_back(turns: u64) {
+    for _ in 0..turns {
         thread::yield_now();
     }
 }
