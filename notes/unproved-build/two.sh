@@ -1,0 +1,3 @@
+cd /tmp/bench-reads
+./build.sh /tmp/bench-reads/repository new > new.log 2>&1
+./build.sh /tmp/bench-reads/repo_base base > base.log 2>&1

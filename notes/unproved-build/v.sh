@@ -1,0 +1,3 @@
+cd /tmp/bench-plan
+./build.sh x v3b skip > v3b.build.log 2>&1 ; ./count.sh v3b > v3b.count
+ROOT=/work/main ./build.sh x base2 skip > base2.build.log 2>&1 ; ./count.sh base2 > base2.count
