@@ -345,6 +345,3 @@ fn main(rt: HostRuntime) -> io::Result<ExitCode> {
         Err(_) => fail(&rt, "out of memory"),
     }
 }
-
-#[cfg(test)]
-mod tests;

@@ -34,8 +34,6 @@ mod reading;
 mod refusing;
 mod states;
 mod telling;
-#[cfg(test)]
-mod tests;
 
 use asking::{find_prepared, put_text, query_for, refresh_prepared, tell, tell_text};
 use be_session::{
