@@ -73,6 +73,46 @@ class Values(unittest.TestCase):
                     store.set(1, "k", value, kind)
 
 
+class OutOfRange(unittest.TestCase):
+    """A number that 64 bits don't hold is no node's. Cut down to them, some of these would be node 1."""
+
+    numbers = (-1, 1 - 2**64, 2**64, 2**64 + 1)
+
+    def test_writes(self):
+        with bestore.open(64, 1, 100) as store:
+            store.apply(bestore.Batch().new_node().set(1, "k", 5))
+            for node in self.numbers:
+                for write in (store.remove_node, lambda it: store.set(it, "k", 6), lambda it: store.unset(it, "k")):
+                    with self.assertRaises(bestore.NoNode):
+                        write(node)
+            for kind in (-1, 2**32 + bestore.STRING):
+                with self.assertRaises(bestore.NoKind):
+                    store.make_index("k", kind)
+            with store.pin() as version:
+                self.assertEqual((version.number, version.attributes(1)), (1, {"k": 5}))
+
+    def test_reads(self):
+        with bestore.open(64, 1, 100) as store:
+            store.apply(bestore.Batch().new_node().set(1, "k", 5))
+            with store.pin() as version:
+                for node in self.numbers:
+                    for read in (version.attributes, lambda it: version[it]["k"], lambda it: len(version[it])):
+                        with self.assertRaises(KeyError):
+                            read(node)
+                    self.assertEqual((version.get(node, "k"), node in version), (None, False))
+                self.assertEqual([version.nodes(first) for first in self.numbers], [[1], [1], [], []])
+                self.assertEqual((version.nodes(0, 2**70), version.nodes(most=0)), ([1], []))
+                with self.assertRaises(ValueError):
+                    version.nodes(0, -1)
+
+    def test_limits(self):
+        for limits in [(2**64 + 64, 1, 1), (64, -1, 1), (64, 1, 2**64), (64, 0, 1), (7, 1, 1)]:
+            with self.assertRaises(bestore.BadLimits):
+                bestore.open(*limits)
+        with bestore.open(64, 1, 100) as store:
+            self.assertEqual(store.apply(bestore.Batch().new_node(), tries=2**32), (1, [1]))
+
+
 class Versions(unittest.TestCase):
     def test_pin_stays(self):
         with bestore.open(64, 2, 100) as store, store.another() as other:
@@ -218,6 +258,7 @@ class Whole(unittest.TestCase):
                 self.assertEqual(list(version), nodes)
                 self.assertEqual(version.nodes(1020, 5), [1020, 1021, 1022, 1023, 1025])
                 self.assertEqual((version.nodes(3200), version.nodes(3201), version.nodes(2**64 - 1)), ([3200], [], []))
+                self.assertEqual((version.nodes(1, 4000), version.nodes(5, 2048)), (nodes, nodes[4:2052]))
                 self.assertEqual((version.nodes(0, 0), sum(1 for _ in zip(version, range(3)))), ([], 3))
             with self.assertRaises(bestore.NotPinned):
                 version.nodes()

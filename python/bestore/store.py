@@ -3,13 +3,14 @@
 from __future__ import annotations
 
 import ctypes
+import operator
 from types import TracebackType
 from typing import Any, Callable, Dict, Iterator, List, Mapping, NamedTuple, Optional, Tuple, Type
 
 from ._library import Attribute, Counts, Operation, Updates, Usage, calls, check
 from .queries import Item, Owner, Prepared, spelled_items
-from .refusals import Busy, NoAttribute, NoNode, NotPinned
-from .values import Kind, Value, spelled, value_of
+from .refusals import BadLimits, Busy, NoAttribute, NoNode, NotPinned
+from .values import Kind, Value, kind_code, node_number, spelled, value_of
 
 _NEW, _REMOVE, _SET, _UNSET, _MAKE_INDEX, _REMOVE_INDEX = range(6)
 
@@ -32,7 +33,7 @@ class Batch:
     def _add(self, kind: int, node: int = 0, name: str = "", code: int = 0, number: int = 0, value: bytes = b"") -> Batch:
         called = name.encode()
         at = len(self._bytes)
-        self._operations.append(Operation(kind, code, node, number, at, len(called), at + len(called), len(value)))
+        self._operations.append(Operation(kind, code, node_number(node), number, at, len(called), at + len(called), len(value)))
         self._bytes += called + value
         return self
 
@@ -55,7 +56,7 @@ class Batch:
 
     def make_index(self, name: str, kind: int) -> Batch:
         """Makes an index of this name, for values of this kind."""
-        return self._add(_MAKE_INDEX, 0, name, kind)
+        return self._add(_MAKE_INDEX, 0, name, kind_code(kind))
 
     def remove_index(self, name: str) -> Batch:
         """Removes the index of this name."""
@@ -114,8 +115,8 @@ class Pass(Owner):
         operations = (Operation * max(count, 1))(*batch._operations)
         made, number = _words(count), ctypes.c_uint64()
         answer = calls.bes_apply_or_retry(
-            ctypes.byref(self._handle), operations, count, batch._bytes, len(batch._bytes), max(tries, 1) - 1, made, count,
-            ctypes.byref(number))
+            ctypes.byref(self._handle), operations, count, batch._bytes, len(batch._bytes), min(max(tries, 1), 2**32) - 1, made,
+            count, ctypes.byref(number))
         check(answer, number.value, listed="operation")
         return number.value, made[:count]
 
@@ -275,7 +276,7 @@ class Version:
     def attributes(self, node: int) -> Dict[str, Value]:
         """A node's attributes: a dict of names and values, by ascending names."""
         return {name: value_of(told.code, told.number, value)
-                for told, name, value in self._list(calls.bes_attributes, node)}
+                for told, name, value in self._list(calls.bes_attributes, node_number(node))}
 
     def indices(self) -> Dict[str, Kind]:
         """The indices: a dict of names and kinds, by ascending names."""
@@ -302,7 +303,7 @@ class Version:
         """A node's attribute, or None: a str, bytes or an int."""
         try:
             return self[node][name]
-        except NoAttribute:
+        except (NoAttribute, NoNode):
             return None
 
     def __getitem__(self, node: int) -> Attributes:
@@ -310,17 +311,28 @@ class Version:
         return Attributes(self, node)
 
     def __contains__(self, node: int) -> bool:
-        try:
-            self.attributes(node)
-        except NoNode:
-            return False
-        return True
+        return self.nodes(node, 1) == [node]
+
+    def _nodes_from(self, first: int, room: int) -> List[int]:
+        """So many nodes from a number on, by one call."""
+        nodes, count = _words(room), ctypes.c_uint64()
+        check(calls.bes_nodes(self._pass(), first, nodes, room, ctypes.byref(count)), count.value)
+        return nodes[:count.value]
 
     def nodes(self, first: int = 0, most: int = 1024) -> List[int]:
         """The nodes from a number on, ascending, whatever attributes they have, and so many of them at most."""
-        nodes, count = _words(most), ctypes.c_uint64()
-        check(calls.bes_nodes(self._pass(), first, nodes, most, ctypes.byref(count)), count.value)
-        return nodes[:count.value]
+        if most < 0:
+            raise ValueError(f"{most} nodes are asked for")
+        first = max(operator.index(first), 0)
+        found: List[int] = []
+        while first < 2**64:
+            room = min(most - len(found), 1024)
+            some = self._nodes_from(first, room)
+            found += some
+            if len(some) < room or len(found) == most:
+                break
+            first = some[-1] + 1
+        return found
 
     def __iter__(self) -> Iterator[int]:
         """All nodes, ascending."""
@@ -341,7 +353,7 @@ class Attributes(Mapping[str, Value]):
 
     def __getitem__(self, name: str) -> Value:
         called, told, room = name.encode(), Attribute(), ctypes.create_string_buffer(255)
-        check(calls.bes_get(self._version._pass(), self.node, called, len(called), ctypes.byref(told), room, 255))
+        check(calls.bes_get(self._version._pass(), node_number(self.node), called, len(called), ctypes.byref(told), room, 255))
         return value_of(told.code, told.number, room.raw[:told.length])
 
     def __iter__(self) -> Iterator[str]:
@@ -356,6 +368,8 @@ class Attributes(Mapping[str, Value]):
 
 def open(pages: int = 4096, passes: int = 8, commits: int = 2**32 - 1) -> Pass:
     """A new store, as its first pass: so many pages of 4 KiB, passes, and writes at most."""
+    if not all(0 <= operator.index(limit) < 2**64 for limit in (pages, passes, commits)):
+        raise BadLimits()
     user = Pass()
     check(calls.bes_open(pages, passes, commits, ctypes.byref(user._handle)))
     return user

@@ -6,7 +6,7 @@ import enum
 import operator
 from typing import Optional, Tuple, Union
 
-from .refusals import NoKind, NoValue
+from .refusals import NoKind, NoNode, NoValue
 
 Value = Union[str, bytes, int]
 """A text, raw bytes, or a number."""
@@ -30,6 +30,22 @@ _RANGES = {
     Kind.UINT32: range(2**32),
     Kind.UINT64: range(2**64),
 }
+
+
+def node_number(node: int) -> int:
+    """A node's number, which 64 bits hold. ctypes would cut another one down to them, and so to the number of some other node."""
+    number = operator.index(node)
+    if number not in _RANGES[Kind.UINT64]:
+        raise NoNode()
+    return number
+
+
+def kind_code(kind: int) -> int:
+    """A kind's code, which 32 bits hold."""
+    code = operator.index(kind)
+    if code not in _RANGES[Kind.UINT32]:
+        raise NoKind()
+    return code
 
 
 def spelled(value: Value, kind: Optional[int] = None) -> Tuple[Kind, int, bytes]:
