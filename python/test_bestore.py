@@ -420,6 +420,31 @@ class Threads(unittest.TestCase):
             with store.pin() as version:
                 self.assertEqual(version.number, 200)
 
+    def test_one_pass(self):
+        """Calls on one pass, and on one prepared query, wait for one another. A version that was given up isn't read by a later pin."""
+        with bestore.open(4096, 1) as store, bestore.prepare("k >= 0") as query:
+            store.apply(bestore.Batch().make_index("k", bestore.INT64).new_node().set(1, "k", 0))
+            faults = []
+
+            def use(number):
+                for _ in range(100):
+                    store.set(1, "k", number)
+                    try:
+                        with store.pin() as version:
+                            if version.query_prepared(query) != [1] or version.refresh(query)[1]:
+                                faults.append("an answer is wrong")
+                        version.get(1, "k")
+                    except (bestore.Pinned, bestore.NotPinned):
+                        continue
+                    faults.append("a version is read that was given up")
+            running = [threading.Thread(target=use, args=(it,)) for it in range(4)]
+            for thread in running:
+                thread.start()
+            for thread in running:
+                thread.join()
+            with store.pin() as version:
+                self.assertEqual((faults, version.number), ([], 401))
+
     def test_one_try(self):
         with bestore.open(64, 1, 10) as store:
             self.assertEqual(store.apply(bestore.Batch().new_node(), tries=1), (1, [1]))

@@ -6,8 +6,8 @@
         with store.pin() as version:
             print(list(version.query("MAIL:from==ann")))
 
-A `Pass` is one user's place in a store. Each thread has one of its own: the thread that opened the store makes it by
-`another`, before that thread starts, since a pass takes one call at a time. What a call refuses is raised as a `Refusal`, of
+A `Pass` is one user's place in a store. Each thread has one of its own, since the calls on one pass wait for one another: the
+thread that opened the store makes it by `another`, before that thread starts. What a call refuses is raised as a `Refusal`, of
 which each answer has a class of its own, as `Busy` or `QuerySyntax`.
 
 The package has its shared object inside. In the repository it is the one in c/, and BESTORE_LIBRARY names another.

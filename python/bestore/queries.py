@@ -4,8 +4,9 @@ from __future__ import annotations
 
 import ctypes
 import enum
+import threading
 from types import TracebackType
-from typing import Optional, Sequence, Tuple, Type, TypeVar, Union
+from typing import Any, Callable, Optional, Sequence, Tuple, Type, TypeVar, Union
 
 from ._library import Handle, Item as _Item, calls, check
 from .values import Kind, spelled
@@ -14,10 +15,17 @@ _Self = TypeVar("_Self", bound="Owner")
 
 
 class Owner:
-    """What owns a handle, and gives it up by `close`: at the end of a `with`, or when it goes itself."""
+    """What owns a handle, and gives it up by `close`: at the end of a `with`, or when it goes itself. The library takes one call on
+    a handle at a time, so the calls of several threads wait for one another."""
 
     def __init__(self) -> None:
         self._handle = Handle()
+        self._pointer = ctypes.byref(self._handle)
+        self._lock = threading.RLock()
+
+    def _call(self, call: Callable[..., int], *arguments: Any) -> int:
+        with self._lock:
+            return call(self._pointer, *arguments)
 
     def close(self) -> None:
         raise NotImplementedError
@@ -74,17 +82,17 @@ def spelled_items(items: Sequence[Item]) -> Spelled:
 
 class Prepared(Owner):
     """A query that is parsed once and kept, by `prepare` or `prepare_items`. `Version.query_prepared` asks it, and
-    `Version.refresh` tells what changed since it was refreshed last. It takes one call at a time."""
+    `Version.refresh` tells what changed since it was refreshed last."""
 
     def close(self) -> None:
         """Gives the query up, if it is still there."""
-        calls.bes_release(ctypes.byref(self._handle))
+        self._call(calls.bes_release)
 
 
 def prepare(text: str) -> Prepared:
     """The query of this text, parsed once."""
     prepared, taken, place = Prepared(), text.encode(), ctypes.c_uint64()
-    answer = calls.bes_prepare(taken, len(taken), ctypes.byref(prepared._handle), ctypes.byref(place))
+    answer = calls.bes_prepare(taken, len(taken), prepared._pointer, ctypes.byref(place))
     check(answer, place.value, text)
     return prepared
 
@@ -92,6 +100,6 @@ def prepare(text: str) -> Prepared:
 def prepare_items(*items: Item) -> Prepared:
     """The query that items in reverse Polish order build, as `Version.query_items` takes them."""
     prepared, place = Prepared(), ctypes.c_uint64()
-    answer = calls.bes_prepare_items(*spelled_items(items), ctypes.byref(prepared._handle), ctypes.byref(place))
+    answer = calls.bes_prepare_items(*spelled_items(items), prepared._pointer, ctypes.byref(place))
     check(answer, place.value, listed="item")
     return prepared

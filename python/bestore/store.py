@@ -94,18 +94,18 @@ class Pass(Owner):
         """A pass of the same store for another thread. Those that nobody has used wait with the pass that `open` answered; one
         that was closed is given by each pass of the store."""
         other = Pass()
-        check(calls.bes_another(ctypes.byref(self._handle), ctypes.byref(other._handle)))
+        check(self._call(calls.bes_another, other._pointer))
         return other
 
     def close(self) -> None:
         """Closes the pass, if it is open, and gives it back: `another` may give it out again. The store goes with its last pass."""
-        calls.bes_close(ctypes.byref(self._handle))
+        self._call(calls.bes_close)
 
     def meet(self) -> int:
         """Meets a pass that was closed: both have then seen what either had. Answers how much of the journal that is. `NoPass`
         where none is there, or another thread is at it."""
         seen = ctypes.c_uint64()
-        check(calls.bes_meet(ctypes.byref(self._handle), ctypes.byref(seen)))
+        check(self._call(calls.bes_meet, ctypes.byref(seen)))
         return seen.value
 
     def apply(self, batch: Batch, tries: int = 1_000_000) -> Tuple[int, List[int]]:
@@ -114,9 +114,9 @@ class Pass(Owner):
         count = len(batch)
         operations = (Operation * max(count, 1))(*batch._operations)
         made, number = _words(count), ctypes.c_uint64()
-        answer = calls.bes_apply_or_retry(
-            ctypes.byref(self._handle), operations, count, batch._bytes, len(batch._bytes), min(max(tries, 1), 2**32) - 1, made,
-            count, ctypes.byref(number))
+        answer = self._call(
+            calls.bes_apply_or_retry, operations, count, batch._bytes, len(batch._bytes), min(max(tries, 1), 2**32) - 1, made, count,
+            ctypes.byref(number))
         check(answer, number.value, listed="operation")
         return number.value, made[:count]
 
@@ -150,7 +150,7 @@ class Pass(Owner):
         count, room = ctypes.c_uint64(), 65536
         while True:
             said = ctypes.create_string_buffer(room)
-            answer = calls.bes_journal(ctypes.byref(self._handle), said, room, ctypes.byref(count))
+            answer = self._call(calls.bes_journal, said, room, ctypes.byref(count))
             if answer == Busy.number and tries > 1:
                 tries -= 1
                 continue
@@ -163,7 +163,7 @@ class Pass(Owner):
         """How full the store is, and whose pin is the oldest, with so many tries at most while another pass is writing."""
         usage, number = Usage(), ctypes.c_uint64()
         for left in reversed(range(max(tries, 1))):
-            answer = calls.bes_status(ctypes.byref(self._handle), ctypes.byref(usage), ctypes.byref(number))
+            answer = self._call(calls.bes_status, ctypes.byref(usage), ctypes.byref(number))
             if answer != Busy.number or left == 0:
                 break
         check(answer, number.value)
@@ -180,7 +180,7 @@ class _Place(Owner):
 
     def close(self) -> None:
         """Gives the place up, if it was begun."""
-        calls.bes_leave(ctypes.byref(self._handle))
+        self._call(calls.bes_leave)
 
 
 class Version:
@@ -189,8 +189,8 @@ class Version:
 
     def __init__(self, user: Pass) -> None:
         number = ctypes.c_uint64()
-        check(calls.bes_pin(ctypes.byref(user._handle), ctypes.byref(number)))
-        self._user: Optional[Pass] = user
+        check(user._call(calls.bes_pin, ctypes.byref(number)))
+        self._user, self._is_pinned = user, True
         self.number: int = number.value
         """How many writes the version contains."""
 
@@ -203,21 +203,24 @@ class Version:
 
     def unpin(self) -> None:
         """Gives the pin up, if it is still there."""
-        if self._user is not None:
-            calls.bes_unpin(ctypes.byref(self._user._handle))
-            self._user = None
+        with self._user._lock:
+            if self._is_pinned:
+                self._is_pinned = False
+                self._user._call(calls.bes_unpin)
 
-    def _pass(self) -> Any:
-        """The pinned pass, as calls take it."""
-        if self._user is None:
-            raise NotPinned()
-        return ctypes.byref(self._user._handle)
+    def _call(self, call: Callable[..., int], *arguments: Any) -> int:
+        """Makes a call on the pass while it has this pin, and not a later one."""
+        user = self._user
+        with user._lock:
+            if not self._is_pinned:
+                raise NotPinned()
+            return call(user._pointer, *arguments)
 
     def _find(self, call: Callable[..., int], *query: Any, text: Optional[str] = None, listed: Optional[str] = None) -> List[int]:
         room = 256
         while True:
             nodes, count = _words(room), ctypes.c_uint64()
-            answer = call(self._pass(), *query, nodes, room, ctypes.byref(count))
+            answer = self._call(call, *query, nodes, room, ctypes.byref(count))
             check(answer, count.value, text, listed)
             if count.value <= room:
                 return nodes[:count.value]
@@ -237,16 +240,18 @@ class Version:
 
     def query_prepared(self, prepared: Prepared) -> List[int]:
         """The nodes that meet a prepared query, ascending. What its last refresh told stays."""
-        return self._find(calls.bes_query_prepared, ctypes.byref(prepared._handle))
+        with prepared._lock:
+            return self._find(calls.bes_query_prepared, prepared._pointer)
 
     def refresh(self, prepared: Prepared) -> Tuple[List[int], List[int]]:
         """Which nodes came and which went since the prepared query was refreshed last: two lists, ascending. At first all of
         its nodes come. Refresh a query in versions of one store, or of another that its state was carried on to: nodes are compared by
         their numbers."""
-        updates, query = Updates(), ctypes.byref(prepared._handle)
-        check(calls.bes_refresh(self._pass(), query, ctypes.byref(updates)))
-        created, removed = _words(updates.created), _words(updates.removed)
-        check(calls.bes_changes(query, created, updates.created, removed, updates.removed))
+        updates = Updates()
+        with prepared._lock:
+            check(self._call(calls.bes_refresh, prepared._pointer, ctypes.byref(updates)))
+            created, removed = _words(updates.created), _words(updates.removed)
+            check(prepared._call(calls.bes_changes, created, updates.created, removed, updates.removed))
         return created[:updates.created], removed[:updates.removed]
 
     def explain(self, text: str) -> str:
@@ -254,7 +259,7 @@ class Version:
         taken, count, room = text.encode(), ctypes.c_uint64(), 256
         while True:
             said = ctypes.create_string_buffer(room)
-            answer = calls.bes_explain(self._pass(), taken, len(taken), said, room, ctypes.byref(count))
+            answer = self._call(calls.bes_explain, taken, len(taken), said, room, ctypes.byref(count))
             check(answer, count.value, text)
             if count.value <= room:
                 return said.raw[:count.value].decode()
@@ -265,7 +270,7 @@ class Version:
         counts, operations_room, bytes_room = Counts(), 64, 4096
         while True:
             operations, texts = (Operation * operations_room)(), ctypes.create_string_buffer(bytes_room)
-            check(call(self._pass(), *node, ctypes.byref(counts), operations, operations_room, texts, bytes_room))
+            check(self._call(call, *node, ctypes.byref(counts), operations, operations_room, texts, bytes_room))
             if counts.operations <= operations_room and counts.bytes <= bytes_room:
                 break
             operations_room, bytes_room = max(counts.operations, 1), max(counts.bytes, 1)
@@ -292,7 +297,7 @@ class Version:
         with _Place() as place:
             while True:
                 operations, texts = (Operation * 64)(), ctypes.create_string_buffer(most)
-                check(calls.bes_state(self._pass(), ctypes.byref(place._handle), ctypes.byref(counts), operations, 64, texts, most))
+                check(self._call(calls.bes_state, place._pointer, ctypes.byref(counts), operations, 64, texts, most))
                 if counts.operations == 0:
                     return
                 batch = Batch()
@@ -316,7 +321,7 @@ class Version:
     def _nodes_from(self, first: int, room: int) -> List[int]:
         """So many nodes from a number on, by one call."""
         nodes, count = _words(room), ctypes.c_uint64()
-        check(calls.bes_nodes(self._pass(), first, nodes, room, ctypes.byref(count)), count.value)
+        check(self._call(calls.bes_nodes, first, nodes, room, ctypes.byref(count)), count.value)
         return nodes[:count.value]
 
     def nodes(self, first: int = 0, most: int = 1024) -> List[int]:
@@ -353,7 +358,8 @@ class Attributes(Mapping[str, Value]):
 
     def __getitem__(self, name: str) -> Value:
         called, told, room = name.encode(), Attribute(), ctypes.create_string_buffer(255)
-        check(calls.bes_get(self._version._pass(), node_number(self.node), called, len(called), ctypes.byref(told), room, 255))
+        check(self._version._call(
+            calls.bes_get, node_number(self.node), called, len(called), ctypes.byref(told), room, 255))
         return value_of(told.code, told.number, room.raw[:told.length])
 
     def __iter__(self) -> Iterator[str]:
@@ -371,5 +377,5 @@ def open(pages: int = 4096, passes: int = 8, commits: int = 2**32 - 1) -> Pass:
     if not all(0 <= operator.index(limit) < 2**64 for limit in (pages, passes, commits)):
         raise BadLimits()
     user = Pass()
-    check(calls.bes_open(pages, passes, commits, ctypes.byref(user._handle)))
+    check(calls.bes_open(pages, passes, commits, user._pointer))
     return user
