@@ -1,5 +1,6 @@
 """Tests of the module: python3 -m unittest, in this folder, once the library is built in ../c."""
 
+import gc
 import os
 import subprocess
 import sys
@@ -137,6 +138,19 @@ class Versions(unittest.TestCase):
                     first.attributes(1)
                 first.unpin()
                 self.assertEqual(second.attributes(1), {})
+
+    def test_gone(self):
+        """A version that nothing names any more leaves no pin behind, and one that was refused takes none away."""
+        with bestore.open(64, 1, 100) as store:
+            self.assertEqual(store.pin().nodes(), [])
+            gc.collect()
+            with store.pin() as version:
+                with self.assertRaises(bestore.Pinned):
+                    store.pin()
+                self.assertEqual(version.nodes(), [])
+            left = store.pin()
+            store.close()
+            del left
 
     def test_more_than_the_first_room(self):
         with bestore.open(1024, 1, 1000) as store:

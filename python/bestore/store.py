@@ -184,13 +184,15 @@ class _Place(Owner):
 
 
 class Version:
-    """The version that was current when the pass was pinned. It is read until the pin is given up. `version[node]` has a node's
-    attributes, `node in version` tells whether the node is there, and `for node in version` goes over all nodes."""
+    """The version that was current when the pass was pinned. It is read until the pin is given up: at the end of a `with`, by
+    `unpin`, or when it goes itself. `version[node]` has a node's attributes, `node in version` tells whether the node is there, and
+    `for node in version` goes over all nodes."""
 
     def __init__(self, user: Pass) -> None:
         number = ctypes.c_uint64()
+        self._user, self._is_pinned = user, False
         check(user._call(calls.bes_pin, ctypes.byref(number)))
-        self._user, self._is_pinned = user, True
+        self._is_pinned = True
         self.number: int = number.value
         """How many writes the version contains."""
 
@@ -199,6 +201,9 @@ class Version:
 
     def __exit__(self, kind: Optional[Type[BaseException]], value: Optional[BaseException],
                  trace: Optional[TracebackType]) -> None:
+        self.unpin()
+
+    def __del__(self) -> None:
         self.unpin()
 
     def unpin(self) -> None:
