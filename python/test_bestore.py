@@ -459,6 +459,24 @@ class Threads(unittest.TestCase):
             with store.pin() as version:
                 self.assertEqual((faults, version.number), ([], 401))
 
+    def test_gone_beside_a_call(self):
+        """A version that goes while another thread is at its pass doesn't wait for that thread, which gives the pin up."""
+        with bestore.open(64, 1, 10) as store:
+            version = store.pin()
+            begun, gone, waits = threading.Event(), threading.Event(), []
+
+            def call(handle):
+                begun.set()
+                waits.append(not gone.wait(10))
+                return 0
+            running = threading.Thread(target=store._call, args=(call,))
+            running.start()
+            begun.wait()
+            del version
+            gone.set()
+            running.join()
+            self.assertEqual((waits, store.status().oldest), ([False], None))
+
     def test_one_try(self):
         with bestore.open(64, 1, 10) as store:
             self.assertEqual(store.apply(bestore.Batch().new_node(), tries=1), (1, [1]))

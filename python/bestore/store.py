@@ -90,6 +90,31 @@ class Status(NamedTuple):
 class Pass(Owner):
     """One user's place in a store. `open` makes the first, and `another` the others."""
 
+    def __init__(self) -> None:
+        super().__init__()
+        self._is_left = False
+
+    def _call(self, call: Callable[..., int], *arguments: Any) -> int:
+        try:
+            return super()._call(call, *arguments)
+        finally:
+            self._unpin_left()
+
+    def _leave(self) -> None:
+        """Takes over the pin of a version that goes. Python may collect that one anywhere, also while this thread is at another
+        pass, so a thread that is at this one isn't waited for: it gives the pin up behind its call."""
+        self._is_left = True
+        self._unpin_left()
+
+    def _unpin_left(self) -> None:
+        while self._is_left and self._lock.acquire(blocking=False):
+            try:
+                if self._is_left:
+                    self._is_left = False
+                    calls.bes_unpin(self._pointer)
+            finally:
+                self._lock.release()
+
     def another(self) -> Pass:
         """A pass of the same store for another thread. Those that nobody has used wait with the pass that `open` answered; one
         that was closed is given by each pass of the store."""
@@ -189,8 +214,8 @@ class Version:
     `for node in version` goes over all nodes."""
 
     def __init__(self, user: Pass) -> None:
-        number = ctypes.c_uint64()
         self._user, self._is_pinned = user, False
+        number = ctypes.c_uint64()
         check(user._call(calls.bes_pin, ctypes.byref(number)))
         self._is_pinned = True
         self.number: int = number.value
@@ -204,22 +229,25 @@ class Version:
         self.unpin()
 
     def __del__(self) -> None:
-        self.unpin()
+        if self._is_pinned:
+            self._user._leave()
 
     def unpin(self) -> None:
         """Gives the pin up, if it is still there."""
-        with self._user._lock:
-            if self._is_pinned:
-                self._is_pinned = False
-                self._user._call(calls.bes_unpin)
+        self._user._call(self._give_up)
+
+    def _give_up(self, handle: Any) -> int:
+        was_pinned, self._is_pinned = self._is_pinned, False
+        return int(calls.bes_unpin(handle)) if was_pinned else 0
 
     def _call(self, call: Callable[..., int], *arguments: Any) -> int:
         """Makes a call on the pass while it has this pin, and not a later one."""
-        user = self._user
-        with user._lock:
-            if not self._is_pinned:
-                raise NotPinned()
-            return call(user._pointer, *arguments)
+        return self._user._call(self._asked, call, *arguments)
+
+    def _asked(self, handle: Any, call: Callable[..., int], *arguments: Any) -> int:
+        if not self._is_pinned:
+            raise NotPinned()
+        return call(handle, *arguments)
 
     def _find(self, call: Callable[..., int], *query: Any, text: Optional[str] = None, listed: Optional[str] = None) -> List[int]:
         room = 256
