@@ -11,7 +11,7 @@ NAME = r"(?:bes|BES)_\w+"
 
 HEAD = """\
 .\\" Made from include/bestore.h by c/manual.py.
-.Dd November 26, 2026
+.Dd November 27, 2026
 .Dt BESTORE 3
 .Os
 .Sh NAME
@@ -121,7 +121,9 @@ def inlines():
     comment = re.search(COMMENT + r"typedef struct bes_batch", HEADER, re.MULTILINE)[1]
     listed = re.findall(r"^static inline ([^{]*\))\n\{", HEADER, re.MULTILINE)
     lines = "".join(re.sub(r"\n +", "\n    ", it) + ";\n" for it in listed)
-    return ".Sh BATCHES AND SINGLE OPERATIONS\n" + described(comment) + literal(lines)
+    commented = re.findall(COMMENT + r"static inline [^(]*?(\w+)\(", HEADER, re.MULTILINE)
+    told = "".join(f".It Fn {name}\n{described(words)}" for words, name in commented)
+    return f".Sh BATCHES AND SINGLE OPERATIONS\n{described(comment)}{literal(lines)}.Bl -tag -width indent\n{told}.El\n"
 
 
 def answers():

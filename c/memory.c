@@ -1,11 +1,13 @@
-/* What calls answer where malloc refuses, and where they come in the middle of another call. Linked by -Wl,--wrap=malloc,--wrap=realloc,
- * so that each request of the library comes by here. */
+/* What calls answer where malloc refuses, and where they come in the middle of another call. Linked by -Wl,--wrap=malloc,
+ * --wrap=realloc,--wrap=sched_yield, so that each request of the library comes by here, and each turn that a write leaves to
+ * others. */
 #include "tests.h"
 
 void *__real_malloc(size_t size);
 void *__real_realloc(void *old, size_t size);
 void *__wrap_malloc(size_t size);
 void *__wrap_realloc(void *old, size_t size);
+int __wrap_sched_yield(void);
 
 static unsigned requests, refused; /* how many there were, and which of them is refused, counted from 1 */
 static void (*between)(void);      /* what is done at each request */
@@ -29,6 +31,14 @@ void *__wrap_malloc(size_t size)
 void *__wrap_realloc(void *old, size_t size)
 {
     return is_refused() ? NULL : __real_realloc(old, size);
+}
+
+static unsigned turns; /* how many were left to other threads */
+
+int __wrap_sched_yield(void)
+{
+    turns++;
+    return 0;
 }
 
 static bes_pass mine, theirs, opened;
@@ -182,6 +192,16 @@ static void refuse_between_lists(void)
 
 static unsigned accepted, busy;
 
+/* A write is tried again so many times, and leaves so many turns to others in all: one before the second try, twice as many before
+ * each further one, and 1,024 at most. */
+static void tries_again(uint32_t retries, unsigned left)
+{
+    uint64_t number = 7, nodes[4];
+    turns = 0;
+    CHECK(bes_apply_or_retry(&theirs, list, 2, parts, 11, retries, nodes, 0, &number) == BES_BUSY && number == 1);
+    CHECK(turns == left);
+}
+
 /* What another pass is answered: its writes BES_BUSY where the first is writing, with the number of that, 1, and its reads as
  * ever. */
 static void go_between(void)
@@ -191,8 +211,9 @@ static void go_between(void)
     uint32_t answer = bes_apply(&theirs, list, 2, parts, 11, nodes, 0, &number);
     if (answer == BES_BUSY) {
         CHECK(number == 1);
-        number = 7;
-        CHECK(bes_apply_or_retry(&theirs, list, 2, parts, 11, 3, nodes, 0, &number) == BES_BUSY && number == 1);
+        tries_again(0, 0);
+        tries_again(3, 1 + 2 + 4);
+        tries_again(12, 1023 + 2 * 1024);
         CHECK(bes_journal(&theirs, text, 4, &count) == BES_BUSY && count == 1);
     }
     accepted += answer == BES_OK;

@@ -667,7 +667,7 @@ static uint64_t write_pair(bes_pass *pass, uint64_t node, bool is_new, bool ann)
     CHECK(bes_batch_set_text(&batch, node + 1, "MAIL:from", ann ? "bob" : "ann") == BES_OK);
     do
         answer = bes_batch_apply(pass, &batch, BES_TRIES, made, 4, &number);
-    while (answer == BES_FULL || answer == BES_BUSY);
+    while (answer == BES_FULL && sched_yield() == 0);
     CHECK(answer == BES_OK && (!is_new || (made[0] == node && made[1] == node + 1)));
     return number;
 }
@@ -816,11 +816,7 @@ static void *taker(void *arg)
         if (answer == BES_NO_PASS)
             continue;
         CHECK(answer == BES_OK);
-        /* Where threads run in long turns, as under valgrind, all tries of a call may fall into one turn of another. */
-        do
-            answer = bes_set_int64(&taken, 1, "n", i);
-        while (answer == BES_BUSY);
-        CHECK(answer == BES_OK && bes_close(&taken) == BES_OK);
+        CHECK(bes_set_int64(&taken, 1, "n", i) == BES_OK && bes_close(&taken) == BES_OK);
         answer = bes_meet(&it->pass, &seen);
         CHECK(answer == BES_OK || answer == BES_NO_PASS);
         it->rounds++;
@@ -865,7 +861,7 @@ static void *grower(void *arg)
         CHECK(bes_batch_set_int64(&batch, it->first, "n", i) == BES_OK && bes_batch_new_node(&batch) == BES_OK);
         do
             answer = bes_batch_apply(&it->pass, &batch, BES_TRIES, made, 2, &number);
-        while (answer == BES_FULL || answer == BES_BUSY);
+        while (answer == BES_FULL && sched_yield() == 0);
         CHECK(answer == BES_OK && made[1] > 2);
     }
     return NULL;

@@ -12,7 +12,7 @@ trap 'rm -rf "$work"' EXIT
 run() {
     local what=$1 said
     shift
-    timeout 300 "$@" >"$work/said" || { cat "$work/said" >&2; echo "$what: failed" >&2; exit 1; }
+    timeout -k 10 300 "$@" >"$work/said" || { cat "$work/said" >&2; echo "$what: failed, or not at its end after 300 seconds" >&2; exit 1; }
     said=$(cat "$work/said")
     echo "$what: ${said:-ok}"
 }
@@ -83,7 +83,7 @@ if [ -n "$has_cpp" ]; then
 fi
 
 # Requests for memory are refused where the linker lets them come by the test.
-wrap=(-Wl,--wrap=malloc,--wrap=realloc)
+wrap=(-Wl,--wrap=malloc,--wrap=realloc,--wrap=sched_yield)
 if cc "${wrap[@]}" "$work/empty.c" -o "$work/empty" 2>/dev/null; then
     build -g -O1 "${wrap[@]}" memory.c -o "$work/memory"
     run "C, memory" "$work/memory"

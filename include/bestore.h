@@ -9,13 +9,13 @@
  * far the operations that make a version again were told: it starts with BES_PLACE_INIT, and is closed with bes_leave.
  *
  * THREADS. Each thread has a pass of its own, and the calls on different passes may run at the same time; none waits for
- * another. A pass takes one call at a time, and so does a prepared query or a place. Each may be handed to another thread where that
- * thread's calls come after yours (a join, a lock, a started thread). Call nothing here from a signal handler, nor in a forked
- * child of a process with threads. No call is a cancellation point, so a thread that is cancelled in the deferred way, as threads
- * are by default, ends between two calls: close its pass in a cleanup handler. A thread that ends inside a call, by asynchronous
- * cancellation or a longjmp out of a signal handler, leaves a handle that may not be used again. Its pass and the memory of the
- * call are lost, and its pin stays. Where it was writing or telling the journal, each later write and bes_journal of the store is
- * answered BES_BUSY for good; other passes go on reading.
+ * another, but for those that try again at BES_BUSY. A pass takes one call at a time, and so does a prepared query or a place.
+ * Each may be handed to another thread where that thread's calls come after yours (a join, a lock, a started thread). Call
+ * nothing here from a signal handler, nor in a forked child of a process with threads. No call is a cancellation point, so a
+ * thread that is cancelled in the deferred way, as threads are by default, ends between two calls: close its pass in a cleanup
+ * handler. A thread that ends inside a call, by asynchronous cancellation or a longjmp out of a signal handler, leaves a handle
+ * that may not be used again. Its pass and the memory of the call are lost, and its pin stays. Where it was writing or telling
+ * the journal, each later write and bes_journal of the store is answered BES_BUSY for good; other passes go on reading.
  *
  * ANSWERS. Each call answers BES_OK, or the number of what kept it from its work. What a call puts out is written only where it
  * answers BES_OK, but for its number (number, count, seen or place): with another answer that is what goes with the answer, or 0.
@@ -31,6 +31,7 @@
 #ifndef BESTORE_H
 #define BESTORE_H
 
+#include <sched.h>
 #include <stdbool.h>
 #include <stddef.h>
 #include <stdint.h>
@@ -252,12 +253,6 @@ uint32_t bes_unpin(bes_pass *pass);
  * still reach. */
 uint32_t bes_apply(bes_pass *pass, const bes_operation *operations, size_t operations_count, const uint8_t *bytes,
                    size_t bytes_count, uint64_t *made, size_t made_room, uint64_t *number);
-
-/* Writes as bes_apply does, and tries again while another pass is writing, so many times at most after the first. It doesn't
- * wait between two tries. With 0 retries it is bes_apply. Takes what bes_apply does, and one step on a shared word for each try
- * that finds another pass writing. BES_BUSY: so did each try find it, and nothing has happened. */
-uint32_t bes_apply_or_retry(bes_pass *pass, const bes_operation *operations, size_t operations_count, const uint8_t *bytes,
-                            size_t bytes_count, uint32_t retries, uint64_t *made, size_t made_room, uint64_t *number);
 
 /* Asks a query in the pinned version. Puts out in count how many nodes meet it, and the first of them, ascending, as far as
  * nodes has room: where count is more than the room, the same query with more room answers the same. Takes the time to parse
@@ -502,7 +497,33 @@ static inline uint32_t bes_batch_remove_index(bes_batch *batch, const char *name
     return bes_batch_add(batch, BES_REMOVE_INDEX, 0, name, 0, 0, NULL, 0);
 }
 
-/* Applies the batch, at most so many times while another pass is writing (at least once). */
+/* Lets other threads run so many times, and answers how many times they may run before the try after this one: twice as many, up to
+ * 1,024. Where two passes hand the store to and fro at each write, each has to wait for what the other has just written; so one
+ * that comes in vain lets the other write on for a while. */
+static inline unsigned bes_stand_back(unsigned turns)
+{
+    for (unsigned i = 0; i < turns; i++)
+        sched_yield();
+    return turns < 1024 ? 2 * turns : turns;
+}
+
+/* Writes as bes_apply does, and tries again while another pass is writing, so many times at most after the first. Before each
+ * further try it stands back: other threads may run, once before the first of these, and then twice as often each time, up to 1,024
+ * times. With 0 retries it is bes_apply. BES_BUSY: each try found another pass writing, and nothing has happened. */
+static inline uint32_t bes_apply_or_retry(bes_pass *pass, const bes_operation *operations, size_t operations_count,
+                                          const uint8_t *bytes, size_t bytes_count, uint32_t retries, uint64_t *made,
+                                          size_t made_room, uint64_t *number)
+{
+    unsigned turns = 1;
+    uint32_t answer = bes_apply(pass, operations, operations_count, bytes, bytes_count, made, made_room, number);
+    while (answer == BES_BUSY && retries-- > 0) {
+        turns = bes_stand_back(turns);
+        answer = bes_apply(pass, operations, operations_count, bytes, bytes_count, made, made_room, number);
+    }
+    return answer;
+}
+
+/* Applies the batch as bes_apply_or_retry does, with so many tries in all, and one at least. */
 static inline uint32_t bes_batch_apply(bes_pass *pass, const bes_batch *batch, unsigned tries, uint64_t *made,
                                        size_t made_room, uint64_t *number)
 {
@@ -521,10 +542,10 @@ static inline uint32_t bes_batch_state(bes_pass *pass, bes_place *place, bes_bat
     return answer;
 }
 
-/* Single operations, each a write of its own, as bes_batch_apply with so many tries as BES_TRIES. They don't tell what goes with an
- * answer. */
+/* Single operations, each a write of its own, as bes_batch_apply with so many tries as BES_TRIES, which take some seconds at least.
+ * They don't tell what goes with an answer. */
 #ifndef BES_TRIES
-#define BES_TRIES 1000000u
+#define BES_TRIES 10000u
 #endif
 
 static inline uint32_t bes_apply_one(bes_pass *pass, uint32_t kind, uint64_t node, const char *name, uint32_t code,

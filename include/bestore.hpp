@@ -220,12 +220,16 @@ template <class List, class Call> List whole(std::size_t room, Place place, Call
     }
 }
 
-// The answer of a call that is made again while another pass is writing: so many times at most, and once at least.
+// The answer of a call that is made again while another pass is writing: so many times at most, and once at least. It stands back
+// before each further try.
 template <class Call> std::uint32_t tried(std::uint32_t tries, Call call)
 {
-    std::uint32_t answer = BES_BUSY;
-    for (std::uint32_t left = std::max<std::uint32_t>(tries, 1); answer == BES_BUSY && left > 0; left--)
+    unsigned turns = 1;
+    std::uint32_t answer = call();
+    for (std::uint32_t made = 1; answer == BES_BUSY && made < tries; made++) {
+        turns = bes_stand_back(turns);
         answer = call();
+    }
     return answer;
 }
 
@@ -464,9 +468,10 @@ public:
     Written apply(const Batch &batch, std::uint32_t tries = BES_TRIES)
     {
         Written written{0, std::vector<Node>(batch.size() + 1)};
-        const auto answer = bes_apply_or_retry(handle(), detail::begin_of(batch.operations_), batch.size(),
-                                               detail::bytes_of(batch.bytes_), batch.bytes_.size(), tries > 0 ? tries - 1 : 0,
-                                               written.made.data(), batch.size(), &written.number);
+        const auto answer = detail::tried(tries, [&] {
+            return bes_apply(handle(), detail::begin_of(batch.operations_), batch.size(), detail::bytes_of(batch.bytes_),
+                             batch.bytes_.size(), written.made.data(), batch.size(), &written.number);
+        });
         detail::check(answer, written.number, detail::Place::operation);
         written.made.resize(batch.size());
         return written;

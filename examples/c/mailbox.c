@@ -91,8 +91,8 @@ static void write_mail(bes_pass *pass, bes_batch *batch, uint64_t *number)
     uint32_t answer;
     if (batch->count > 0) {
         do
-            answer = bes_batch_apply(pass, batch, 1000, made, 64, number);
-        while (answer == BES_BUSY || answer == BES_FULL); /* full while a pin holds the pages */
+            answer = bes_batch_apply(pass, batch, BES_TRIES, made, 64, number);
+        while (answer == BES_FULL && sched_yield() == 0); /* full while a pin holds the pages */
         stop_at("write", answer);
     }
     bes_batch_clear(batch);

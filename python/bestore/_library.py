@@ -87,7 +87,7 @@ def _arguments() -> dict[str, List[Any]]:
         "bes_meet": [handle, words],
         "bes_pin": [handle, words],
         "bes_unpin": [handle],
-        "bes_apply_or_retry": [*write, ctypes.c_uint32, *put_out],
+        "bes_apply": [*write, *put_out],
         "bes_query": [handle, text, size, *put_out],
         "bes_query_items": [handle, *items, *put_out],
         "bes_prepare": [text, size, handle, words],

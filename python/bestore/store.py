@@ -4,6 +4,7 @@ from __future__ import annotations
 
 import ctypes
 import operator
+import time
 from types import TracebackType
 from typing import Any, Callable, Dict, Iterator, List, Mapping, NamedTuple, Optional, Tuple, Type
 
@@ -13,6 +14,8 @@ from .refusals import BadLimits, Busy, NoAttribute, NoNode, NotPinned
 from .values import Kind, Value, kind_code, node_number, spelled, value_of
 
 _NEW, _REMOVE, _SET, _UNSET, _MAKE_INDEX, _REMOVE_INDEX = range(6)
+TRIES = 10_000
+"""How often a call is tried at most while another pass is writing, where nothing else is said: for some seconds at least."""
 
 
 def _words(count: int) -> "ctypes.Array[ctypes.c_uint64]":
@@ -115,6 +118,16 @@ class Pass(Owner):
             finally:
                 self._lock.release()
 
+    def _tried(self, tries: int, call: Callable[..., int], *arguments: Any) -> int:
+        """Makes a call, so many times at most while another pass is writing, and once at least. Before each further try other
+        threads may run, twice as often each time, up to 1,024 times."""
+        turns, answer = 1, self._call(call, *arguments)
+        while answer == Busy.number and tries > 1:
+            for _ in range(turns):
+                time.sleep(0)
+            turns, tries, answer = min(2 * turns, 1024), tries - 1, self._call(call, *arguments)
+        return answer
+
     def another(self) -> Pass:
         """A pass of the same store for another thread. Those that nobody has used wait with the pass that `open` answered; one
         that was closed is given by each pass of the store."""
@@ -133,15 +146,14 @@ class Pass(Owner):
         check(self._call(calls.bes_meet, ctypes.byref(seen)))
         return seen.value
 
-    def apply(self, batch: Batch, tries: int = 1_000_000) -> Tuple[int, List[int]]:
+    def apply(self, batch: Batch, tries: int = TRIES) -> Tuple[int, List[int]]:
         """Applies a batch, all or none, with so many tries at most while another pass is writing (one at least). Answers the
         write's number, and for each operation the new node's number or 0."""
         count = len(batch)
         operations = (Operation * max(count, 1))(*batch._operations)
         made, number = _words(count), ctypes.c_uint64()
-        answer = self._call(
-            calls.bes_apply_or_retry, operations, count, batch._bytes, len(batch._bytes), min(max(tries, 1), 2**32) - 1, made, count,
-            ctypes.byref(number))
+        answer = self._tried(
+            tries, calls.bes_apply, operations, count, batch._bytes, len(batch._bytes), made, count, ctypes.byref(number))
         check(answer, number.value, listed="operation")
         return number.value, made[:count]
 
@@ -169,29 +181,21 @@ class Pass(Owner):
         """Removes the index of this name."""
         self.apply(Batch().remove_index(name))
 
-    def journal(self, tries: int = 1_000_000) -> str:
+    def journal(self, tries: int = TRIES) -> str:
         """The journal up to now, with so many tries at most while another pass is writing: a line for each write, with the pass
         that wrote it, its operations and their answers."""
         count, room = ctypes.c_uint64(), 65536
         while True:
             said = ctypes.create_string_buffer(room)
-            answer = self._call(calls.bes_journal, said, room, ctypes.byref(count))
-            if answer == Busy.number and tries > 1:
-                tries -= 1
-                continue
-            check(answer, count.value)
+            check(self._tried(tries, calls.bes_journal, said, room, ctypes.byref(count)), count.value)
             if count.value <= room:
                 return said.raw[:count.value].decode()
             room = 2 * count.value
 
-    def status(self, tries: int = 1_000_000) -> Status:
+    def status(self, tries: int = TRIES) -> Status:
         """How full the store is, and whose pin is the oldest, with so many tries at most while another pass is writing."""
         usage, number = Usage(), ctypes.c_uint64()
-        for left in reversed(range(max(tries, 1))):
-            answer = self._call(calls.bes_status, ctypes.byref(usage), ctypes.byref(number))
-            if answer != Busy.number or left == 0:
-                break
-        check(answer, number.value)
+        check(self._tried(tries, calls.bes_status, ctypes.byref(usage), ctypes.byref(number)), number.value)
         oldest = Held(usage.oldest, usage.holder) if usage.is_held else None
         return Status(usage.pages, usage.free, usage.retired, usage.entries, usage.commits, oldest)
 

@@ -4,7 +4,7 @@ use Rattle.std.specs.declared.option.Option.{Option}
 use Rattle.std.specs.declared.result.Result.{Result}
 use Rattle.be_query.specs.Faults.{fault}
 use Rattle.be_query.specs.View.{IsMemory}
-use Rattle.be_store.specs.History.{IsLastReason, IsReason, Learns}
+use Rattle.be_store.specs.History.{IsReason, Learns}
 use Rattle.be_store.specs.Passes.{IsBetweenCalls, IsPassOf}
 use Rattle.be_table.specs.History.{StartsWith}
 use Rattle.be_table.specs.Place.{Opened, SeatFacts}
@@ -68,19 +68,11 @@ HasMet store a c n =
     (b : Knowledge) × IsUnpinnedAt store b × StartsWith (longer a.seen b.seen) a.seen × StartsWith (longer a.seen b.seen) b.seen
     × (c ≡ met a (longer a.seen b.seen)) × (n ≡ length (longer a.seen b.seen))
 
--- why a write did nothing, and what it left: a count that isn't 1 to 64, or the store's own refusal, for a reason of this kind
-abbrev pub IsUnwrittenFor : (Knowledge → Knowledge → List Op → Refusal → Type 0) → Knowledge → Knowledge → List Op → Fault → Type 0
-IsUnwrittenFor is_reason a c ops e =
-    ((e ≡ BadCount) × (c ≡ a) × ((length ops ≡ 0) ⊎ (64 < length ops)))
-    ⊎ ((why : Refusal) × (e ≡ Refused why) × Learns a c × is_reason a c ops why)
-
--- the same of a write that is tried once
+-- why a write did nothing, and what it left: a count that isn't 1 to 64, or the store's own refusal
 abbrev pub IsUnwritten : Knowledge → Knowledge → List Op → Fault → Type 0
-IsUnwritten = IsUnwrittenFor IsReason
-
--- the same of a write that is tried so many times at most
-abbrev pub IsUnwrittenAtLast : ℕ → Knowledge → Knowledge → List Op → Fault → Type 0
-IsUnwrittenAtLast tries = IsUnwrittenFor (IsLastReason tries)
+IsUnwritten a c ops e =
+    ((e ≡ BadCount) × (c ≡ a) × ((length ops ≡ 0) ⊎ (64 < length ops)))
+    ⊎ ((why : Refusal) × (e ≡ Refused why) × Learns a c × IsReason a c ops why)
 
 -- why a read that means this has no answer: the store has this very refusal for it, or a growth was refused
 abbrev pub IsUnanswered : {Y : Type 0} → Result Y Refusal → Fault → Type 0

@@ -11,7 +11,6 @@ mod lists;
 mod meanings;
 mod passes;
 mod preparing;
-mod retrying;
 mod session;
 mod shared;
 mod spellings;

@@ -17,13 +17,12 @@ ghost use Rattle.be_store.specs.Live.{Refreshes};
 ghost use Rattle.be_store.specs.Passes.{HasRead, IsPassOf, IsPinnedTo, volume_pinned};
 ghost use Rattle.be_store.specs.Statuses.{TellsStatus};
 ghost use Rattle.be_session.specs.Explained.{explanation_in};
-ghost use Rattle.be_session.specs.Sitting.{AtPin, HasMet, IsHandedOut, IsPinned, IsUnwritten, IsUnwrittenAtLast, IsNoQuery, IsOpened, IsUnpinnedAt, IsUnrefreshed, ReadAnswers};
+ghost use Rattle.be_session.specs.Sitting.{AtPin, HasMet, IsHandedOut, IsPinned, IsUnwritten, IsNoQuery, IsOpened, IsUnpinnedAt, IsUnrefreshed, ReadAnswers};
 ghost use Rattle.be_session.specs.States.{untold, waiting};
 ghost use Rattle.be_session.specs.declared.faults.Fault.TheVariants.{AlreadyPinned, NoPass, NotPinned, Refused};
 
 use crate::explaining::cover_text;
 use crate::passes::{put_last, take_last};
-use crate::retrying::apply_or_retry;
 use crate::shared::Shared;
 use crate::{Fault, StatePlace};
 use be_store::laws::seen_is_legal;
@@ -261,32 +260,6 @@ impl Session {
             return Err(Fault::BadCount);
         }
         Ok(self.shared.store().apply_into(&mut self.pass, ops, dones)?)
-    }
-
-    /// Writes as `apply` does, and tries again while another pass is writing, so many times at most after the first. It doesn't
-    /// wait between two tries.
-    pub fn apply_or_retry(
-        &mut self,
-        ops: &[Op],
-        retries: u32,
-        dones: &mut ArrayVec<Done, 64>,
-    ) -> Result<u64, Fault>
-        ensures store { (self.new.store ≡ self.old.store) × (self.new.spare ≡ self.old.spare) }
-        ensures ok { IfOk result (λ n. Accepts self.old.knows self.new.knows ops.now n dones.new.items) }
-        ensures count { OnOk result ((1 ≤ length ops.now) × (length ops.now ≤ 64)) }
-        ensures err { IfErr result (λ e. IsUnwrittenAtLast (retries + 1) self.old.knows self.new.knows ops.now e) }
-        ensures empty { OnErr result (dones.new.items ≡ []) }
-    {
-        if ops.is_empty() || 64 < ops.len() {
-            dones.clear();
-            return Err(Fault::BadCount);
-        }
-        let pass = &mut self.pass;
-        let number = match apply_or_retry(self.shared.store(), pass, ops, retries, dones) {
-            Ok(number) => number,
-            Err(refusal) => return Err(Fault::Refused(refusal)),
-        };
-        Ok(number)
     }
 
     /// The text of the journal up to now, which is legal: as the store's own `journal_text`. It needs no pin.

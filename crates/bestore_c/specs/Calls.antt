@@ -9,7 +9,7 @@ use Rattle.be_session.specs.Meaning.{HasNoMore, IsNoName, IsValueMeant}
 use Rattle.be_session.specs.Operations.{AreMeant, AreSpelled, IsMisspelt, IsWriteCount}
 use Rattle.be_session.specs.Explained.{explanation_in}
 use Rattle.be_session.specs.Prepared.{IsUnasked, PreparedQuery}
-use Rattle.be_session.specs.Sitting.{IsHandedOut, IsNoQuery, IsOpened, IsUnrefreshed, Sitting}
+use Rattle.be_session.specs.Sitting.{IsHandedOut, IsNoQuery, IsOpened, IsUnrefreshed, IsUnwritten, Sitting}
 use Rattle.be_session.specs.declared.faults.Fault.{Fault}
 use Rattle.be_session.specs.declared.faults.Fault.TheVariants.{NotPinned, Refused}
 use Rattle.be_session.specs.declared.items.PredicateItem.{PredicateItem}
@@ -87,14 +87,14 @@ MovesHandle (Some s) (Some o) from to code = (code ≡ 65) × (from ≡ Some s) 
 MovesHandle (Some s) None from to code = (code ≡ 0) × (from ≡ None) × (to ≡ Some s)
 
 -- A write: what is spelled is misspelt, and then nothing has happened; or it means operations, which the session accepted, and
--- the numbers of the new nodes and the length of the journal are put out, or which it did not write, for a reason of this kind.
+-- the numbers of the new nodes and the length of the journal are put out, or which it did not write.
 -- The number that is put out is the length, or the place of what is misspelt, or what the refusal carries.
-abbrev pub WritesSpelled : (Knowledge → Knowledge → List Op → Fault → Type 0) → Sitting → Sitting → List Operation → List ℕ → List ℕ → List ℕ → ℕ → ℕ → Type 0
-WritesSpelled is_unwritten s t spelled bytes places filled number code =
+abbrev pub WritesSpelled : Sitting → Sitting → List Operation → List ℕ → List ℕ → List ℕ → ℕ → ℕ → Type 0
+WritesSpelled s t spelled bytes places filled number code =
     ((e : Fault) × (code ≡ fault_code e) × IsMisspelt spelled bytes e number × (t ≡ s))
     ⊎ (IsWriteCount (length spelled) × (ops : List Op) × AreMeant spelled bytes ops ×
     (((code ≡ 0) × (dones : List Done) × Accepts s.knows t.knows ops number dones × (filled ≡ over (map node_of dones) places))
-    ⊎ ((e : Fault) × Refuses e number code × is_unwritten s.knows t.knows ops e)))
+    ⊎ ((e : Fault) × Refuses e number code × IsUnwritten s.knows t.knows ops e)))
 
 -- What a version answers, a list of nodes or of a text's bytes: how many they are, and as many of them as there are places; or
 -- why there is no answer, with what that carries.

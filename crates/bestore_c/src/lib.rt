@@ -9,7 +9,7 @@ ghost use Rattle.be_paged.specs.Nodes.{nodes_from};
 ghost use Rattle.be_query.specs.Grammar.{IsTextOf};
 ghost use Rattle.be_session.specs.Items.{IsBuilt, IsUnbuilt};
 ghost use Rattle.be_session.specs.Operations.{makes, sets};
-ghost use Rattle.be_session.specs.Sitting.{HasMet, IsPinned, IsUnwritten, IsUnwrittenAtLast};
+ghost use Rattle.be_session.specs.Sitting.{HasMet, IsPinned};
 ghost use Rattle.be_session.specs.declared.faults.Fault.TheVariants.{AlreadyPinned, NoPass};
 ghost use Rattle.be_store.specs.History.{Pins};
 ghost use Rattle.be_store.specs.Passes.{HasRead, volume_pinned};
@@ -228,7 +228,7 @@ pub extern "C" fn bes_apply(
     entries: &mut u64,
 ) -> u32
     ensures pass { Calls pass.old.owned.value pass.new.owned.value (IsClosed entries.new result)
-        (λ s t. WritesSpelled IsUnwritten s t spelled.now bytes.now made.old made.new entries.new result) }
+        (λ s t. WritesSpelled s t spelled.now bytes.now made.old made.new entries.new result) }
     ensures kept { (result ≡ 0) ⊎ (made.new ≡ made.old) }
 {
     if !pass.live {
@@ -244,44 +244,6 @@ pub extern "C" fn bes_apply(
     match answer {
         Ok(length) => {
             *entries = length;
-            put_nodes(made, dones.as_slice());
-            DONE
-        }
-        Err(fault) => refuse(fault, entries),
-    }
-}
-
-/// Writes as `bes_apply` does, and tries again while another pass is writing, so many times at most after the first.
-#[unsafe(no_mangle)]
-pub extern "C" fn bes_apply_or_retry(
-    alloc: Global,
-    pass: &mut Handle,
-    spelled: &[Operation],
-    bytes: &[u8],
-    retries: u32,
-    made: &mut [u64],
-    entries: &mut u64,
-) -> u32
-    ensures pass { Calls pass.old.owned.value pass.new.owned.value (IsClosed entries.new result)
-        (λ s t. WritesSpelled (IsUnwrittenAtLast (retries + 1)) s t spelled.now bytes.now made.old made.new entries.new result) }
-    ensures kept { (result ≡ 0) ⊎ (made.new ≡ made.old) }
-{
-    if !pass.live {
-        *entries = 0;
-        return CLOSED;
-    }
-    let ops = match operations(alloc, spelled, bytes) {
-        Ok(ops) => ops,
-        Err(misspelt) => return refuse_list(misspelt, entries),
-    };
-    let mut dones = ArrayVec::new();
-    let answer = pass
-        .owned
-        .lent()
-        .apply_or_retry(ops.as_slice(), retries, &mut dones);
-    match answer {
-        Ok(written) => {
-            *entries = written;
             put_nodes(made, dones.as_slice());
             DONE
         }

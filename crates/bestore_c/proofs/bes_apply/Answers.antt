@@ -1,6 +1,5 @@
 use Rattle.std.proofs.Common.{◌≡◌, Some, inl, inr, refl, subst, sym, true, ◌∙◌}
 use Rattle.be_session.specs.Operations.{AreMeant, IsMisspelt}
-use Rattle.be_session.specs.Sitting.{IsUnwritten}
 use Rattle.bestore_c.specs.Calls.{IsClosed, WritesSpelled}
 use Rattle.std.specs.Prelude.{is_some}
 use Rattle.bestore_c.proofs.Called.{called, stays}
@@ -11,7 +10,7 @@ returns-in-Err-clause-pass c =
     let open_is : c.args.pass.now.live ≡ is_some c.args.pass.now.owned.value = c.args.pass.now.full in
     let full : is_some c.args.pass.now.owned.value ≡ true = sym open_is ∙ c.if-not-pass.false in
     let number = c.refuse_list.new.number in
-    stays c.args.pass.now.owned.value (IsClosed number c.refuse_list.result) (λ s t. WritesSpelled IsUnwritten s t c.args.spelled.now c.args.bytes.now
+    stays c.args.pass.now.owned.value (IsClosed number c.refuse_list.result) (λ s t. WritesSpelled s t c.args.spelled.now c.args.bytes.now
     c.args.made.now c.args.made.now number c.refuse_list.result)
     full (λ s. inl (
       c.in-Err.misspelt.fault,
