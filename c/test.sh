@@ -26,7 +26,8 @@ run_if_there() {
     fi
 }
 
-leaks() { run_if_there "$1" valgrind -q --leak-check=full --error-exitcode=9 "${@:2}"; }
+# There one thread runs at a time, and each gets its turn.
+leaks() { run_if_there "$1" valgrind -q --fair-sched=try --leak-check=full --error-exitcode=9 "${@:2}"; }
 
 echo 'int main(void) { return 0; }' >"$work/empty.c"
 

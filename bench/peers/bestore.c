@@ -9,6 +9,7 @@
 
 #define PASSES 64
 #define COMMITS 10000000
+#define TRIES 64
 
 struct pass {
     _Alignas(64) bes_pass held;
@@ -63,7 +64,7 @@ static bes_operation operation_of(uint32_t kind, uint64_t node, size_t name_leng
 
 static enum outcome apply(struct pass *pass, const bes_operation *it, const uint8_t *bytes, uint64_t *made) {
     uint64_t number;
-    return outcome_of(bes_apply(&pass->held, it, 1, bytes, it->value_at + it->value_length, made, 1, &number));
+    return outcome_of(bes_apply_or_retry(&pass->held, it, 1, bytes, it->value_at + it->value_length, TRIES - 1, made, 1, &number));
 }
 
 enum outcome begin(struct pass *pass) {
