@@ -38,6 +38,6 @@ mod writes;
 pub use first::first_page;
 pub use paged_source::{PagedSource, source};
 pub use paged_whole::{PagedWhole, whole};
-pub use reading::{attrs, get, indices, nodes};
+pub use reading::{attrs, get, indices, next, nodes};
 pub use spelling::one_spelling;
 pub use writes::{apply, apply_into};

@@ -14,7 +14,7 @@ ghost use Rattle.be_volume.specs.Volume.{State};
 ghost use Rattle.be_paged.specs.Version.{IsVersion};
 
 use crate::on_page::find_index;
-use crate::reading::{attrs, get, indices};
+use crate::reading::{attrs, get, indices, next};
 use be_pages::Look;
 use be_state::Whole;
 use be_tree::has_key;
@@ -64,7 +64,7 @@ impl<L: Look> Whole for PagedWhole<L> {
     ghost answers_for = { λ w volume. IsVersion (L.standing w.look) (L.words w.look) w.page volume };
 
     fn next(&mut self) -> u64 {
-        next_number(&mut self.look, self.page)
+        next(&mut self.look, self.page)
     }
 
     fn attrs(&mut self, node: u64) -> Result<Option<Vec<(Name, Value)>>, AllocError> {
@@ -78,15 +78,6 @@ impl<L: Look> Whole for PagedWhole<L> {
     fn is_held(&mut self, node: u64, name: &Name) -> bool {
         index_has(&mut self.look, self.page, node, name)
     }
-}
-
-/// The number that the next node gets.
-fn next_number<L: Look>(look: &mut L, version_page: u64) -> u64
-    requires version { (volume : State) × IsVersion (L.standing look.old) (L.words look.old) version_page volume }
-    ensures next { (volume : State) → IsVersion (L.standing look.old) (L.words look.old) version_page volume → result ≡ volume.next }
-    ensures unchanged { IsUnchanged L.kept L.standing L.words look.old look.new }
-{
-    look.word(version_page, 2)
 }
 
 /// The attributes of a node, by ascending bytes of their names, and none where the node isn't there.

@@ -117,6 +117,15 @@ pub(crate) fn holds_in<L: Look>(
     }
 }
 
+/// The number that the next node gets. It costs one load.
+pub fn next<L: Look>(look: &mut L, version_page: u64) -> u64
+    requires version { (volume : State) × IsVersion (L.standing look.old) (L.words look.old) version_page volume }
+    ensures next { (volume : State) → IsVersion (L.standing look.old) (L.words look.old) version_page volume → result ≡ volume.next }
+    ensures unchanged { IsUnchanged L.kept L.standing L.words look.old look.new }
+{
+    look.word(version_page, 2)
+}
+
 /// The value of an attribute, if the node is there and has it. It costs one descent of the catalog's tree, and takes no memory.
 #[inline(always)]
 pub fn get<L: Look>(look: &mut L, version_page: u64, node: u64, name: &Name) -> Option<Value>

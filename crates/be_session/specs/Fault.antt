@@ -1,9 +1,11 @@
 -- The numbers of faults.
 use Rattle.std.specs.Prelude.{ℕ, unwrap_or}
 use Rattle.be_value.specs.Refusal.{carried, refusal_number}
+use Rattle.be_store.specs.declared.conditional.ApplyIfError.{ApplyIfError}
+use Rattle.be_store.specs.declared.conditional.ApplyIfError.TheVariants as errors
 use Rattle.be_session.specs.declared.faults.Fault.{Fault}
 use Rattle.be_session.specs.declared.faults.Fault.TheVariants.{NotPinned, AlreadyPinned, NoPass, BadCount}
-use Rattle.be_session.specs.declared.faults.Fault.TheVariants.{NotUtf8, NoOperation, NoKind, NoValue, BadPart, NoItem, Refused}
+use Rattle.be_session.specs.declared.faults.Fault.TheVariants.{NotUtf8, NoOperation, NoKind, NoValue, BadPart, NoItem, Conflict, Refused}
 
 -- the number by which other languages know a fault: a refusal's own, and 66 on for those of a session
 abbrev pub fault_code : Fault → ℕ
@@ -17,9 +19,10 @@ fault_code NoKind = 72
 fault_code NoValue = 73
 fault_code BadPart = 74
 fault_code NoItem = 75
+fault_code (Conflict length) = 76
 fault_code (Refused e) = refusal_number e
 
--- the number that goes with a fault: what a refusal carries, and 0 where there is none
+-- the number that goes with a fault: what a refusal carries, the length of a conflict, and 0 where there is none
 abbrev pub fault_carried : Fault → ℕ
 fault_carried NotPinned = 0
 fault_carried AlreadyPinned = 0
@@ -31,4 +34,10 @@ fault_carried NoKind = 0
 fault_carried NoValue = 0
 fault_carried BadPart = 0
 fault_carried NoItem = 0
+fault_carried (Conflict length) = length
 fault_carried (Refused e) = unwrap_or (carried e) 0
+
+-- the fault of a conditional write that the store did not make
+abbrev pub fault_of : ApplyIfError → Fault
+fault_of (errors.Conflict length) = Conflict length
+fault_of (errors.Refused e) = Refused e

@@ -1,10 +1,12 @@
 -- What a list of operations means, as other languages spell them.
-use Rattle.std.specs.Prelude.{◌≡◌, ◌⊎◌, ◌+◌, ◌<◌, ◌≤◌, ◌++◌, ℕ, List, [], ◌∷◌, length, take, drop}
+use Rattle.std.specs.Prelude.{◌≡◌, ◌⊎◌, ◌+◌, ◌<◌, ◌≤◌, ◌++◌, ℕ, List, [], ◌∷◌, Some, length, slice_get, take, drop}
 use Rattle.be_value.specs.declared.refusals.Refusal.TheVariants.{OutOfMemory}
 use Rattle.be_value.specs.declared.values.Kind.{Kind}
 use Rattle.be_value.specs.declared.values.Value.{Value}
 use Rattle.be_volume.specs.declared.ops.Op.{Op}
-use Rattle.be_volume.specs.declared.ops.Op.TheVariants.{Set, MkIndex}
+use Rattle.be_volume.specs.declared.ops.Done.{Done}
+use Rattle.be_volume.specs.declared.ops.Done.TheVariants.{Node}
+use Rattle.be_volume.specs.declared.ops.Op.TheVariants.{New, Set, MkIndex}
 use Rattle.be_session.specs.Meaning.{IsMeant, IsNoOperation}
 use Rattle.be_session.specs.declared.faults.Fault.{Fault}
 use Rattle.be_session.specs.declared.faults.Fault.TheVariants.{BadCount, BadPart, Refused}
@@ -48,6 +50,15 @@ all_parts (o ∷ os) bytes = both_parts o bytes ++ all_parts os bytes
 -- These are a spelling of the operations: they mean them, and the bytes are their parts, one behind the other, and nothing else.
 abbrev pub AreSpelled : List Operation → List ℕ → List Op → Type 0
 AreSpelled os bytes ops = AreMeantWithin os bytes ops × (all_parts os bytes ≡ bytes)
+
+-- what is told of an operation of an entry beside what it means: of one that made a node, that node
+abbrev pub TellsNode : Operation → Op → Done → Type 0
+TellsNode o New (Node n) = o.node ≡ n
+TellsNode o op done = Unit {0}
+
+-- the same of each of them
+abbrev pub TellNodes : List Operation → List Op → List Done → Type 0
+TellNodes os ops dones = (i : ℕ) (o : Operation) (op : Op) (done : Done) → slice_get os i ≡ Some o → slice_get ops i ≡ Some op → slice_get dones i ≡ Some done → TellsNode o op done
 
 -- the operation that sets this attribute of the node
 abbrev pub sets : ℕ → (List ℕ × Value) → Op

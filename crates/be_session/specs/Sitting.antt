@@ -4,6 +4,7 @@ use Rattle.std.specs.declared.option.Option.{Option}
 use Rattle.std.specs.declared.result.Result.{Result}
 use Rattle.be_query.specs.Faults.{fault}
 use Rattle.be_query.specs.View.{IsMemory}
+use Rattle.be_store.specs.Conditional.{IsUnapplied}
 use Rattle.be_store.specs.History.{IsReason, Learns}
 use Rattle.be_store.specs.Passes.{IsBetweenCalls, IsPassOf}
 use Rattle.be_table.specs.History.{StartsWith}
@@ -16,6 +17,8 @@ use Rattle.be_table.specs.declared.limits.Limits.{Limits}
 use Rattle.be_table.specs.declared.pass.Knowledge.{Knowledge}
 use Rattle.be_value.specs.declared.refusals.Refusal.{Refusal}
 use Rattle.be_volume.specs.declared.ops.Op.{Op}
+use Rattle.be_store.specs.declared.conditional.ApplyIfError.{ApplyIfError}
+use Rattle.be_session.specs.Fault.{fault_of}
 use Rattle.be_session.specs.declared.faults.Fault.{Fault}
 use Rattle.be_session.specs.declared.faults.Fault.TheVariants.{NotPinned, BadCount, NotUtf8, Refused}
 
@@ -73,6 +76,12 @@ abbrev pub IsUnwritten : Knowledge → Knowledge → List Op → Fault → Type 
 IsUnwritten a c ops e =
     ((e ≡ BadCount) × (c ≡ a) × ((length ops ≡ 0) ⊎ (64 < length ops)))
     ⊎ ((why : Refusal) × (e ≡ Refused why) × Learns a c × IsReason a c ops why)
+
+-- why a conditional write did nothing, and what it left: a count that isn't 1 to 64, or the store's own error
+abbrev pub IsUnwrittenIf : Knowledge → Knowledge → ℕ → List Op → Fault → Type 0
+IsUnwrittenIf a c number ops e =
+    ((e ≡ BadCount) × (c ≡ a) × ((length ops ≡ 0) ⊎ (64 < length ops)))
+    ⊎ ((why : ApplyIfError) × (e ≡ fault_of why) × IsUnapplied a c number ops why)
 
 -- why a read that means this has no answer: the store has this very refusal for it, or a growth was refused
 abbrev pub IsUnanswered : {Y : Type 0} → Result Y Refusal → Fault → Type 0

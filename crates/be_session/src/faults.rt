@@ -1,10 +1,10 @@
 //! Why a call of a session did nothing.
 ghost use Rattle.std.specs.Prelude.{◌≡◌};
 ghost use Rattle.be_value.specs.declared.refusals.Refusal.TheVariants.{OutOfMemory};
-ghost use Rattle.be_session.specs.Fault.{fault_carried, fault_code};
+ghost use Rattle.be_session.specs.Fault.{fault_carried, fault_code, fault_of};
 ghost use Rattle.be_session.specs.declared.faults.Fault.TheVariants.{Refused};
 
-use be_store::Refusal;
+use be_store::{ApplyIfError, Refusal};
 use std::alloc::{AllocError, AllocFailed};
 
 /// Why a call of a session did nothing. A refused write may have shown the pass more of the journal.
@@ -28,17 +28,20 @@ pub enum Fault {
     BadPart,
     /// The number of an item of a predicate that is none.
     NoItem,
+    /// Another write came first: the journal has this many entries, and not as many as the caller named.
+    Conflict(u64),
     Refused(Refusal),
 }
 
 impl Fault {
-    /// The number that goes with the fault: what its refusal carries, as the pass that is writing or the byte of a text, and 0
-    /// where it carries nothing.
+    /// The number that goes with the fault: what its refusal carries, as the pass that is writing or the byte of a text; of a
+    /// conflict the journal's length; and otherwise 0.
     pub fn carried(&self) -> u64
         ensures { result ≡ fault_carried self.now }
     {
         match self {
             Fault::Refused(refusal) => refusal.carried().unwrap_or(0),
+            Fault::Conflict(length) => *length,
             _ => 0,
         }
     }
@@ -59,6 +62,7 @@ impl Fault {
             Fault::NoValue => 73,
             Fault::BadPart => 74,
             Fault::NoItem => 75,
+            Fault::Conflict(_) => 76,
         }
     }
 }
@@ -76,6 +80,17 @@ impl From<Refusal> for Fault {
 
     fn from(refusal: Refusal) -> Fault {
         Fault::Refused(refusal)
+    }
+}
+
+impl From<ApplyIfError> for Fault {
+    ghost from_gives = { λ error fault. fault ≡ fault_of error };
+
+    fn from(error: ApplyIfError) -> Fault {
+        match error {
+            ApplyIfError::Conflict(length) => Fault::Conflict(length),
+            ApplyIfError::Refused(refusal) => Fault::Refused(refusal),
+        }
     }
 }
 

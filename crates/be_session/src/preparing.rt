@@ -1,6 +1,8 @@
 //! Queries that are parsed once and kept, to be asked again.
-ghost use Rattle.std.specs.Prelude.{◌≡◌, ℕ, IfOk, IfErr};
+ghost use Rattle.std.specs.Prelude.{◌≡◌, ℕ, IfOk, IfErr, string_bytes};
+ghost use Rattle.be_value.specs.declared.refusals.Refusal.TheVariants.{OutOfMemory};
 ghost use Rattle.be_query.specs.Grammar.{Formula, IsTextOf};
+ghost use Rattle.be_query.specs.Printing.{or_text};
 ghost use Rattle.be_volume.specs.Query.{scan};
 ghost use Rattle.be_table.specs.Seats.{pinned_number};
 ghost use Rattle.be_store.specs.Live.{Refreshes};
@@ -8,9 +10,11 @@ ghost use Rattle.be_store.specs.Passes.{HasRead, IsPinnedTo, volume_pinned};
 ghost use Rattle.be_session.specs.Items.{IsBuilt, IsUnbuilt};
 ghost use Rattle.be_session.specs.Prepared.{IsUnasked};
 ghost use Rattle.be_session.specs.Sitting.{AtPin, IsNoQuery, IsUnrefreshed, ReadAnswers};
+ghost use Rattle.be_session.specs.declared.faults.Fault.TheVariants.{Refused};
 
 use crate::session::{Session, query_of};
 use crate::{Fault, ListFault, PredicateItem, query_of_items};
+use be_query::print;
 use be_store::{Live, Query, Updates};
 use std::alloc::{AllocError, Global};
 use std::marker::Model;
@@ -63,6 +67,14 @@ impl Prepared {
             }
             Err(fault) => Err(fault),
         }
+    }
+
+    /// The canonical text of the query. OutOfMemory.
+    pub fn text(&self, alloc: Global) -> Result<String, Fault>
+        ensures ok { IfOk result (λ text. string_bytes text ≡ or_text self.now.live.query) }
+        ensures err { IfErr result (λ e. e ≡ Refused OutOfMemory) }
+    {
+        Ok(print(alloc, self.live.query())?)
     }
 
     /// The nodes that came at the last refresh, ascending.

@@ -12,12 +12,13 @@ ghost use Rattle.be_table.specs.Seats.{pinned_number};
 ghost use Rattle.be_table.specs.Steps.{unpins};
 ghost use Rattle.be_table.specs.Trace.{with_history};
 ghost use Rattle.be_table.specs.Works.{AreNew, FoundHeld, IsOpenRefused};
-ghost use Rattle.be_store.specs.History.{Accepts, IsUntold, Learns, Pins, text_seen};
+ghost use Rattle.be_store.specs.Conditional.{AcceptsAt};
+ghost use Rattle.be_store.specs.History.{Accepts, IsUntold, Learns, Pins, entries_from, text_seen};
 ghost use Rattle.be_store.specs.Live.{Refreshes};
 ghost use Rattle.be_store.specs.Passes.{HasRead, IsPassOf, IsPinnedTo, volume_pinned};
 ghost use Rattle.be_store.specs.Statuses.{TellsStatus};
 ghost use Rattle.be_session.specs.Explained.{explanation_in};
-ghost use Rattle.be_session.specs.Sitting.{AtPin, HasMet, IsHandedOut, IsPinned, IsUnwritten, IsNoQuery, IsOpened, IsUnpinnedAt, IsUnrefreshed, ReadAnswers};
+ghost use Rattle.be_session.specs.Sitting.{AtPin, HasMet, IsHandedOut, IsPinned, IsUnwritten, IsUnwrittenIf, IsNoQuery, IsOpened, IsUnpinnedAt, IsUnrefreshed, ReadAnswers};
 ghost use Rattle.be_session.specs.States.{untold, waiting};
 ghost use Rattle.be_session.specs.declared.faults.Fault.TheVariants.{AlreadyPinned, NoPass, NotPinned, Refused};
 
@@ -27,7 +28,7 @@ use crate::shared::Shared;
 use crate::{Fault, StatePlace};
 use be_store::laws::seen_is_legal;
 use be_store::{
-    ArrayVec, Done, Kind, Limits, Live, Name, Op, Pass, Query, Refusal, Status, Store, Updates,
+    ArrayVec, Done, Entry, Kind, Limits, Live, Name, Op, Pass, Query, Refusal, Status, Store, Updates,
     Value, parse,
 };
 use std::alloc::{AllocFailed, Global};
@@ -260,6 +261,70 @@ impl Session {
             return Err(Fault::BadCount);
         }
         Ok(self.shared.store().apply_into(&mut self.pass, ops, dones)?)
+    }
+
+    /// Writes as `apply` does if the journal has `number` entries, and otherwise nothing: as the store's own `apply_if_into`. BadCount
+    /// comes before everything else, and Conflict has the length that was found.
+    pub fn apply_if(
+        &mut self,
+        number: u64,
+        ops: &[Op],
+        dones: &mut ArrayVec<Done, 64>,
+    ) -> Result<u64, Fault>
+        ensures store { (self.new.store ≡ self.old.store) × (self.new.spare ≡ self.old.spare) }
+        ensures ok { IfOk result (λ n. AcceptsAt self.old.knows self.new.knows number ops.now n dones.new.items) }
+        ensures count { OnOk result ((1 ≤ length ops.now) × (length ops.now ≤ 64)) }
+        ensures err { IfErr result (IsUnwrittenIf self.old.knows self.new.knows number ops.now) }
+        ensures empty { OnErr result (dones.new.items ≡ []) }
+    {
+        if ops.is_empty() || ops.len() > 64 {
+            dones.clear();
+            return Err(Fault::BadCount);
+        }
+        let store = self.shared.store();
+        Ok(store.apply_if_into(&mut self.pass, number, ops, dones)?)
+    }
+
+    /// The number of the pass, which its entries in the journal have.
+    pub fn number(&self) -> u64
+        ensures { result ≡ self.now.knows.number }
+    {
+        self.pass.number()
+    }
+
+    /// How many entries of the journal the pass has seen.
+    pub fn seen(&self) -> u64
+        ensures { result ≡ length self.now.knows.seen }
+    {
+        self.pass.seen()
+    }
+
+    /// The journal's entries from an index on, from 0, up to so many of them: as the store's own `journal_from`. It needs no pin.
+    pub fn journal_from(
+        &mut self,
+        alloc: Global,
+        from: u64,
+        most: usize,
+    ) -> Result<Vec<Entry>, Fault>
+        ensures store { (self.new.store ≡ self.old.store) × (self.new.spare ≡ self.old.spare) }
+        ensures learns { Learns self.old.knows self.new.knows }
+        ensures list { IfOk result (λ list. list.items ≡ entries_from (entries self.new.knows.seen) from most) }
+        ensures err { IfErr result (λ e. (why : AnyRefusal) × (e ≡ Refused why) × IsUntold self.old.knows self.new.knows why) }
+    {
+        let store = self.shared.store();
+        Ok(store.journal_from(alloc, &mut self.pass, from, most)?)
+    }
+
+    /// The number that the next new node gets, in the pinned version.
+    pub fn next(&mut self) -> Result<u64, Fault>
+        ensures store { (self.new.store ≡ self.old.store) × (self.new.spare ≡ self.old.spare) }
+        ensures read { HasRead self.old.knows self.new.knows }
+        ensures next { AtPin (pinned_number self.old.knows.phase) result (result ≡ Ok (volume_pinned self.old.knows).next) }
+    {
+        let Some(_) = self.pass.pinned() else {
+            return Err(Fault::NotPinned);
+        };
+        Ok(self.shared.store().next(&mut self.pass))
     }
 
     /// The text of the journal up to now, which is legal: as the store's own `journal_text`. It needs no pin.

@@ -1,12 +1,12 @@
 //! Attributes, indices and operations as other languages are told of them: as operations, with the bytes that their parts are in.
-ghost use Rattle.std.specs.Prelude.{◌≡◌, ◌++◌, IfOk, IfErr, length, map};
+ghost use Rattle.std.specs.Prelude.{◌≡◌, ◌++◌, IfOk, IfErr, IfSome, length, map};
 ghost use Rattle.be_value.specs.declared.refusals.Refusal.TheVariants.{OutOfMemory};
-ghost use Rattle.be_session.specs.Operations.{AreSpelled, IsMeantBy, ArePartsWithin, both_parts, makes, sets};
+ghost use Rattle.be_session.specs.Operations.{AreSpelled, IsMeantBy, ArePartsWithin, TellNodes, TellsNode, both_parts, makes, sets};
 ghost use Rattle.be_session.specs.declared.faults.Fault.TheVariants.{Refused};
 
 use crate::meanings::operation_spelled;
 use crate::{Fault, Operation, spelled};
-use be_store::{Kind, Name, Op, Refusal, Value};
+use be_store::{Done, Kind, Name, Op, Refusal, Value};
 use std::alloc::Global;
 
 /// Operations as they are spelled, with the bytes that their parts are in.
@@ -135,6 +135,36 @@ pub(crate) fn operations_spelled(alloc: Global, list: &[Op]) -> Result<Spelling,
     let mut bytes = Vec::new(alloc);
     for op in list {
         let operation = spell(&mut bytes, op)?;
+        operations.push(operation)?;
+    }
+    Ok(Spelling { operations, bytes })
+}
+
+/// An operation of an entry, as `spell` spells it; one that made a node has that node.
+fn spell_done(bytes: &mut Vec<u8>, op: &Op, done: Option<&Done>) -> Result<Operation, Fault>
+    ensures more { IfOk result (λ o. bytes.new.items ≡ bytes.old.items ++ both_parts o bytes.new.items) }
+    ensures meant { IfOk result (λ o. ArePartsWithin o (length bytes.new.items) × IsMeantBy o bytes.new.items op.now) }
+    ensures made { IfOk result (λ o. IfSome done (λ d. TellsNode o op.now d.now)) }
+    ensures err { IfErr result (λ e. e ≡ Refused OutOfMemory) }
+{
+    let mut operation = spell(bytes, op)?;
+    if let (Op::New, Some(Done::Node(node))) = (op, done) {
+        operation.node = *node;
+    }
+    Ok(operation)
+}
+
+/// The operations of an entry, spelled in their order, each that made a node with that node. OutOfMemory.
+pub fn entry_spelled(alloc: Global, ops: &[Op], dones: &[Done]) -> Result<Spelling, Fault>
+    ensures ok { IfOk result (λ s. AreSpelled s.operations.items s.bytes.items ops.now) }
+    ensures made { IfOk result (λ s. TellNodes s.operations.items ops.now dones.now) }
+    ensures err { IfErr result (λ e. e ≡ Refused OutOfMemory) }
+{
+    let mut operations = Vec::new(alloc);
+    let mut bytes = Vec::new(alloc);
+    for op in ops {
+        let done = dones.get(operations.len());
+        let operation = spell_done(&mut bytes, op, done)?;
         operations.push(operation)?;
     }
     Ok(Spelling { operations, bytes })

@@ -23,6 +23,8 @@
 
 mod answers;
 mod asking;
+mod conditional;
+mod entries;
 pub mod laws;
 mod live;
 mod pinned;
@@ -40,6 +42,7 @@ pub use be_state::Place;
 pub use be_table::{Announcement, Limits, Seat as Pass, Status};
 pub use be_value::{Bytes, Kind, Name, Refusal, Text, Value};
 pub use be_volume::{Done, Op};
+pub use conditional::ApplyIfError;
 pub use live::Live;
 pub use pinned::Pinned;
 pub use store::Store;

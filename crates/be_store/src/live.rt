@@ -56,7 +56,7 @@ impl Live {
     /// Takes the query's answer now, wherever it was asked, and tells which nodes came and which went since the last one.
     /// OutOfMemory leaves the live query as it was.
     ///
-    /// It takes a search in one answer for each node of the other.
+    /// It goes over both answers twice.
     pub fn update(&mut self, answer: Vec<u64>) -> Result<Updates, Refusal>
         requires { IsStrictlyIncreasing answer.items }
         ensures ok { IfOk result (λ u. (self.new ≡ record { query = self.old.query; last = answer.items })
@@ -85,24 +85,45 @@ impl Live {
     }
 }
 
-fn is_among(numbers: &[u64], number: u64) -> bool
-    requires { IsStrictlyIncreasing numbers.now }
-    ensures { result ≡ is_among numbers.now number }
+/// The first index from `from` on at which a rising list has this number or a greater one, or the list's length.
+fn first_not_below(numbers: &[u64], from: usize, number: u64) -> usize
+    requires from { from ≤ length numbers.now }
+    ensures range { (from ≤ result) × (result ≤ length numbers.now) }
+    ensures below { (i : ℕ) → from ≤ i → i < result → get_or numbers.now i 0 < number }
+    ensures not_below { result < length numbers.now → number ≤ get_or numbers.now result 0 }
 {
-    numbers.binary_search(&number).is_ok()
+    for i in from..numbers.len() {
+        if numbers[i] >= number {
+            return i;
+        }
+    }
+    numbers.len()
 }
 
-/// The numbers that the others lack, in their order.
+/// The numbers that the others lack, in their order. Both lists rise, so it goes over each once.
 fn without(alloc: Global, numbers: &[u64], others: &[u64]) -> Result<Vec<u64>, Refusal>
-    requires { IsStrictlyIncreasing others.now }
+    requires rising { IsStrictlyIncreasing numbers.now × IsStrictlyIncreasing others.now }
     ensures ok { IfOk result (λ left. left.items ≡ without numbers.now others.now) }
     ensures err { IfErr result (λ e. e ≡ OutOfMemory) }
 {
     let mut left = Vec::new(alloc);
+    let mut at = 0;
     for number in numbers {
-        if !is_among(others, *number) {
+        at = first_not_below(others, at, *number);
+        if !is_at(others, at, *number) {
             left.push(*number)?;
         }
     }
     Ok(left)
+}
+
+/// Whether a list has this number at an index; false at its end.
+fn is_at(numbers: &[u64], at: usize, number: u64) -> bool
+    ensures found { result ≡ true → (at < length numbers.now) × (get_or numbers.now at 0 ≡ number) }
+    ensures missing { result ≡ false → at < length numbers.now → get_or numbers.now at 0 ≢ number }
+{
+    match numbers.get(at) {
+        Some(found) => *found == number,
+        None => false,
+    }
 }

@@ -103,6 +103,17 @@ impl Pinned<'_> {
         self.store.get(self.pass, node, name)
     }
 
+    /// As `Store::next`.
+    pub fn next(&mut self) -> u64
+        requires pinned { (n : ℕ) × IsPinnedTo self.old.pass.now.knows n }
+        ensures same_reference { self.new.pass.ghost_name ≡ self.old.pass.ghost_name }
+        ensures store { (self.new.store.now ≡ self.old.store.now) × (self.new.number ≡ self.old.number) }
+        ensures read { HasRead self.old.pass.now.knows self.new.pass.now.knows }
+        ensures next { result ≡ (volume_pinned self.old.pass.now.knows).next }
+    {
+        self.store.next(self.pass)
+    }
+
     /// As `Store::attrs`.
     pub fn attrs(&mut self, alloc: Global, node: u64) -> Result<Vec<(Name, Value)>, Refusal>
         requires pinned { (n : ℕ) × IsPinnedTo self.old.pass.now.knows n }

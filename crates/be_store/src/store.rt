@@ -1,21 +1,22 @@
 //! The store, and the calls of its passes.
 ghost use Rattle.std.specs.Prelude.{◌≡◌, ◌⊎◌, ◌≤◌, ◌<◌, ◌++◌, ℕ, true, false, [], ◌∷◌, None, Some, Ok, MatchResult, IsOk, IfOk, IfErr, IfNone, IfSome, OnErr, length, map, string_bytes};
-ghost use Rattle.be_store.specs.History.{Accepts, Learns, IsReason, IsLastReason, IsUntold, Pins, text_seen};
+ghost use Rattle.be_store.specs.History.{Accepts, Learns, IsReason, IsLastReason, IsUntold, Pins, entries_from, text_seen};
 ghost use Rattle.be_store.specs.Passes.{IsPassOf, IsPinnedTo, HasRead, volume_pinned};
 
 use crate::answers::Answer;
 use crate::asking::{ask, choose_at};
+use crate::entries::entries_from;
 use crate::states::read_on;
 use crate::tries::{longer, stand_back, was_busy};
 use crate::writing::write;
 use crate::{Limits, Pass};
 use arrayvec::ArrayVec;
-use be_journal::Journal;
-use be_paged::{attrs, first_page, get, indices, nodes};
+use be_journal::{Entry, Journal};
+use be_paged::{attrs, first_page, get, indices, next, nodes};
 use be_plan::Cover;
 use be_query::Query;
 use be_state::Place;
-use be_table::{PinnedLook, Status, VersionTable};
+use be_table::{PinnedLook, Status, VersionTable, Writing};
 use be_value::{Kind, Name, Refusal, Value};
 use be_volume::{Done, Op};
 use std::alloc::Global;
@@ -50,12 +51,12 @@ impl Store {
     ghost use Rattle.be_paged.specs.Version.{IsVersion};
     ghost use Rattle.be_table.specs.History.{StartsWith, AreOfPasses};
     ghost use Rattle.be_table.specs.Reading.{pinned_standing, word_of_page};
-    ghost use Rattle.be_table.specs.Rule.{IsWithin};
+    ghost use Rattle.be_table.specs.Rule.{IsWithin, entries};
     ghost use Rattle.be_table.specs.Seats.{pinned_number};
     ghost use Rattle.be_table.specs.Steps.{Has, KeepsSeen, longer, met, unpins};
     ghost use Rattle.be_table.specs.Trace.{with_history};
     ghost use Rattle.be_table.specs.Versions.{CanSpellEach};
-    ghost use Rattle.be_table.specs.Works.{AllAt, AreNew, FoundHeld, IsOpenRefused, Moves, knows_of};
+    ghost use Rattle.be_table.specs.Works.{AllAt, AreNew, FoundHeld, IsOpenRefused, Moves, TakesLock, knows_of};
     ghost use Rattle.be_table.specs.declared.pass.Move.TheVariants as moves;
     ghost use Rattle.be_store.specs.Calls.{HasWrites, ReadsFronts};
     ghost use Rattle.be_store.specs.Statuses.{TellsStatus};
@@ -71,6 +72,21 @@ impl Store {
     {
         let (table, passes) = VersionTable::open(alloc, limits, &first_page())?;
         Ok((Store { table }, passes))
+    }
+
+    /// An open write of the pass, which is blank until the write's seat is back. Busy where another pass holds the lock.
+    pub(crate) fn lock(&self, pass: &mut Pass) -> Result<Writing<'_>, Refusal>
+        requires pass { IsPassOf self.now pass.old }
+        ensures held { IfOk result (λ w. (w.table ≡ self.now) × (w.reserved ≡ 0) × TakesLock pass.old.knows w.knows) }
+        ensures busy { IfErr result (λ e. IsPassOf self.now pass.new × FoundHeld e pass.old.knows pass.new.knows) }
+    {
+        match self.table.lock(pass.move_out()) {
+            Ok(writing) => Ok(writing),
+            Err((seat, refusal)) => {
+                *pass = seat;
+                Err(refusal)
+            }
+        }
     }
 
     /// Writes 1 to 64 operations, all or none. Answers the journal's length with this write, and puts an answer for each
@@ -192,6 +208,21 @@ impl Store {
     {
         let page = pass.version_page();
         (self.table.pinned_look(pass.move_out()), page)
+    }
+
+    /// The number that the next `Op::New` gives, in the pinned version. It costs one load, and takes no memory.
+    ///
+    /// A write by `apply_if` at the pin's number may so name the nodes that it makes.
+    pub fn next(&self, pass: &mut Pass) -> u64
+        requires pass { IsPassOf self.now pass.old }
+        requires pinned { (n : ℕ) × IsPinnedTo pass.old.knows n }
+        ensures pass { IsPassOf self.now pass.new × HasRead pass.old.knows pass.new.knows }
+        ensures next { result ≡ (volume_pinned pass.old.knows).next }
+    {
+        let (mut look, page) = self.reader(pass);
+        let number = next(&mut look, page);
+        *pass = look.into_seat();
+        number
     }
 
     /// The nodes of which the query is true in the pinned version, ascending, and the pin. NotCovered where the query
@@ -350,6 +381,40 @@ impl Store {
         pass.is_pass();
         match answer {
             Ok(text) => Ok(text),
+            Err(_) => Err(Refusal::OutOfMemory),
+        }
+    }
+
+    /// The journal's entries from an index on, from 0, up to so many of them, while passes are in use: each with its pass, its
+    /// operations and their answers. The entry of index n is that of the write with the number n + 1. A pin stays.
+    ///
+    /// Busy where the call's one try finds another pass holding the lock, and OutOfMemory. The lock is held while the entries
+    /// are read, so other passes' writes are answered Busy meanwhile.
+    pub fn journal_from(
+        &self,
+        alloc: Global,
+        pass: &mut Pass,
+        from: u64,
+        most: usize,
+    ) -> Result<Vec<Entry>, Refusal>
+        requires pass { IsPassOf self.now pass.old }
+        ensures pass { IsPassOf self.now pass.new }
+        ensures learns { Learns pass.old.knows pass.new.knows }
+        ensures list { IfOk result (λ list. list.items ≡ entries_from (entries pass.new.knows.seen) from most) }
+        ensures err { IfErr result (λ e. IsUntold pass.old.knows pass.new.knows e) }
+    {
+        let held = match self.table.lock(pass.move_out()) {
+            Ok(writing) => writing,
+            Err((seat, refusal)) => {
+                *pass = seat;
+                return Err(refusal);
+            }
+        };
+        let answer = entries_from(alloc, &held, from, most);
+        *pass = held.unlock();
+        pass.is_pass();
+        match answer {
+            Ok(list) => Ok(list),
             Err(_) => Err(Refusal::OutOfMemory),
         }
     }

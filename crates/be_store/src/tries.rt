@@ -27,7 +27,7 @@ pub(crate) fn stand_back(turns: u64) {
     }
 }
 
-fn is_busy(refusal: &Refusal) -> bool
+pub(crate) fn is_busy(refusal: &Refusal) -> bool
     ensures { result ≡ is_busy refusal.now }
 {
     matches!(refusal, Refusal::Busy(_))

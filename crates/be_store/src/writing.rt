@@ -7,8 +7,10 @@ ghost use Rattle.be_table.specs.Place.{Work};
 ghost use Rattle.be_table.specs.Reading.{open_of, standing_among, standing_in_work, word_of_page, words_of};
 ghost use Rattle.be_table.specs.Works.{IsSpent, TakesLock};
 ghost use Rattle.be_table.specs.declared.pass.Knowledge.{Knowledge};
+ghost use Rattle.be_store.specs.Conditional.{WritesIf};
 ghost use Rattle.be_store.specs.Writing.{Begins, HasRoomAtFull, ScansEarly, Writes};
 
+use crate::ApplyIfError;
 use arrayvec::ArrayVec;
 use be_paged::apply_into;
 use be_table::Writing;
@@ -93,4 +95,27 @@ pub(crate) fn write(
 {
     scan_early(writing);
     write_current(writing, ops, dones)
+}
+
+/// Writes as `write` does if the journal has this many entries, and otherwise nothing.
+pub(crate) fn write_if(
+    writing: &mut Writing<'_>,
+    number: u64,
+    ops: &[Op],
+    dones: &mut ArrayVec<Done, 64>,
+) -> Result<u64, ApplyIfError>
+    requires begun { (a : Knowledge) × TakesLock a writing.old.knows }
+    requires count { (1 ≤ length ops.now) × (length ops.now ≤ 64) }
+    requires empty { dones.old.items ≡ [] }
+    ensures table { writing.new.table ≡ writing.old.table }
+    ensures answer { WritesIf writing.old.knows writing.new.knows number ops.now dones.new.items result }
+{
+    let (length, _) = writing.current();
+    if length != number {
+        return Err(ApplyIfError::Conflict(length));
+    }
+    match write(writing, ops, dones) {
+        Ok(length) => Ok(length),
+        Err(refusal) => Err(ApplyIfError::Refused(refusal)),
+    }
 }

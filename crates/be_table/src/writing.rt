@@ -3,7 +3,7 @@
 //! A write takes pages, fills them, gives pages up, and publishes. Until it publishes, nothing of it can be seen by
 //! others, and `unlock` undoes it. It is never let go of but by `unlock`, since it has no `Drop`: so the ledger always
 //! comes back.
-ghost use Rattle.std.specs.Prelude.{map, slice_index, IsTrue, List, IfOk, IfErr, IfSome, IfNone, ◌≢◌, Ok, string_bytes, ◌≡◌, ◌≤◌, All, suc, ◌+◌, ◌*◌, ◌^◌, ◌<◌, true, false, [], ◌∷◌, length, count_by, None, MatchResult, ℕ};
+ghost use Rattle.std.specs.Prelude.{map, get_or, slice_index, IsTrue, List, IfOk, IfErr, IfSome, IfNone, ◌≢◌, Ok, string_bytes, ◌≡◌, ◌≤◌, All, suc, ◌+◌, ◌*◌, ◌^◌, ◌<◌, true, false, [], ◌∷◌, length, count_by, None, MatchResult, ℕ};
 ghost use Rattle.be_pages.specs.Place.{is_in_hand, is_held_page, is_retired, place_of, given_place};
 ghost use Rattle.be_pages.specs.declared.room.Standing.TheVariants.{Taken, Filled as Full};
 ghost use Rattle.be_volume.specs.Sound.{IsOperation};
@@ -23,7 +23,7 @@ use crate::rule::{Fill, FoundFill, GiveUp, NextVersion, OwnWord, Publish, Scan, 
 use crate::seat::{Base, Seat};
 use crate::status::{Announcement, Found, Status, older};
 use crate::table::{ANNOUNCE, CURRENT, LOCK, PAGES, VersionTable};
-use be_journal::replay_push;
+use be_journal::{Entry, replay_push};
 use be_pages::{PAGE_WORDS, Place};
 use be_value::Refusal;
 use be_volume::{Done, Op};
@@ -58,6 +58,7 @@ impl<'a> Model for Writing<'a> {
 
 impl<'a> Writing<'a> {
     ghost use Rattle.be_value.specs.Refusal.{Answers};
+    ghost use Rattle.be_value.specs.declared.refusals.Refusal.TheVariants.{OutOfMemory};
     ghost use Rattle.be_core.specs.Machine.{bit};
     ghost use Rattle.be_pages.specs.Pages.{is_kept, times};
     ghost use Rattle.be_pages.specs.Refusal.{IsFullOf};
@@ -109,6 +110,15 @@ impl<'a> Writing<'a> {
         ensures { Answers string_bytes result (Ok (lines_from 1 (entries self.now.knows.seen))) }
     {
         self.ledger.journal.text()
+    }
+
+    /// The journal's entry with this index, from 0, an entry of its own. OutOfMemory. No step.
+    pub fn entry(&self, i: u64) -> Result<Entry, Refusal>
+        requires { i < length self.now.knows.seen }
+        ensures ok { IfOk result (λ entry. entry ≡ get_or (entries self.now.knows.seen) i entry) }
+        ensures err { IfErr result (λ e. e ≡ OutOfMemory) }
+    {
+        self.ledger.journal.get(i)
     }
 
     /// Word i of a page, as the current version has it or as this write filled it. One load.

@@ -41,7 +41,7 @@ use be_session::{
 };
 use be_store::{ArrayVec, Limits};
 use handle::{Attribute, Counts, Handle, PlaceHandle, PreparedHandle, UpdateCounts, Usage};
-use listing::{tell_attributes, tell_indices};
+use listing::{tell_attributes, tell_entry, tell_indices};
 use owned::Owned;
 use owned_place::OwnedPlace;
 use owned_query::OwnedQuery;
@@ -64,12 +64,12 @@ pub(crate) const CLOSED: u32 = 64;
 /// The handle that is to be opened is open.
 const OPEN: u32 = 65;
 
-/// The version of the library: of 0.1.0 it is 1,000, a million for each first number and a thousand for each second.
+/// The version of the library: of 0.2.0 it is 2,000, a million for each first number and a thousand for each second.
 #[unsafe(no_mangle)]
 pub extern "C" fn bes_version() -> u32
-    ensures { result ≡ 1000 }
+    ensures { result ≡ 2000 }
 {
-    1000
+    2000
 }
 
 /// Opens a store, and the handle as its first pass.
@@ -132,7 +132,7 @@ pub extern "C" fn bes_another(alloc: Global, pass: &mut Handle, other: &mut Hand
 /// Moves what the handle holds into a handle that is closed, and closes it.
 #[unsafe(no_mangle)]
 pub extern "C" fn bes_move(alloc: Global, pass: &mut Handle, other: &mut Handle) -> u32
-    ensures { MovesHandle pass.old.owned.value other.old.owned.value pass.new.owned.value other.new.owned.value result }
+    ensures { Moves pass.old.owned.value other.old.owned.value pass.new.owned.value other.new.owned.value result }
 {
     if !pass.live {
         return CLOSED;
@@ -248,6 +248,105 @@ pub extern "C" fn bes_apply(
             DONE
         }
         Err(fault) => refuse(fault, entries),
+    }
+}
+
+/// Writes as `bes_apply` does if the journal has `expected` entries, and otherwise nothing: then its length goes with the answer.
+#[unsafe(no_mangle)]
+pub extern "C" fn bes_apply_if(
+    alloc: Global,
+    pass: &mut Handle,
+    expected: u64,
+    spelled: &[Operation],
+    bytes: &[u8],
+    made: &mut [u64],
+    entries: &mut u64,
+) -> u32
+    ensures pass { Calls pass.old.owned.value pass.new.owned.value (IsClosed entries.new result)
+        (λ s t. WritesSpelledIf s t expected spelled.now bytes.now made.old made.new entries.new result) }
+    ensures kept { (result ≡ 0) ⊎ (made.new ≡ made.old) }
+{
+    if !pass.live {
+        *entries = 0;
+        return CLOSED;
+    }
+    let ops = match operations(alloc, spelled, bytes) {
+        Ok(ops) => ops,
+        Err(misspelt) => return refuse_list(misspelt, entries),
+    };
+    let mut dones = ArrayVec::new();
+    let session = pass.owned.lent();
+    match session.apply_if(expected, ops.as_slice(), &mut dones) {
+        Ok(length) => {
+            *entries = length;
+            put_nodes(made, dones.as_slice());
+            DONE
+        }
+        Err(fault) => refuse(fault, entries),
+    }
+}
+
+/// Tells the number of the handle's pass.
+#[unsafe(no_mangle)]
+pub extern "C" fn bes_number(pass: &mut Handle, number: &mut u64) -> u32
+    ensures pass { Calls pass.old.owned.value pass.new.owned.value (IsClosed number.new result)
+        (λ s t. (t ≡ s) × (result ≡ 0) × (number.new ≡ s.knows.number)) }
+{
+    *number = 0;
+    if !pass.live {
+        return CLOSED;
+    }
+    *number = pass.owned.lent().number();
+    DONE
+}
+
+/// Tells the number that the next new node gets, in the pinned version.
+#[unsafe(no_mangle)]
+pub extern "C" fn bes_next(pass: &mut Handle, node: &mut u64) -> u32
+    ensures pass { Calls pass.old.owned.value pass.new.owned.value (IsClosed node.new result)
+        (λ s t. HasRead s.knows t.knows × TellsNext (pinned_number s.knows.phase) (volume_pinned s.knows).next node.new result) }
+{
+    if !pass.live {
+        *node = 0;
+        return CLOSED;
+    }
+    match pass.owned.lent().next() {
+        Ok(next) => {
+            *node = next;
+            DONE
+        }
+        Err(fault) => refuse(fault, node),
+    }
+}
+
+/// Tells one entry of the journal, that of an index from 0: by which pass it is, and its operations, each that made a node with
+/// that node, as much as there is room for. At the journal's end there are none. Puts out the journal's length.
+#[unsafe(no_mangle)]
+pub extern "C" fn bes_journal_from(
+    alloc: Global,
+    pass: &mut Handle,
+    from: u64,
+    by: &mut u64,
+    counts: &mut Counts,
+    listed: &mut [Operation],
+    bytes: &mut [u8],
+    number: &mut u64,
+) -> u32
+    ensures pass { Calls pass.old.owned.value pass.new.owned.value (IsClosed number.new result)
+        (λ s t. TellsEntry s t from by.new counts.new listed.old listed.new bytes.old bytes.new number.new result) }
+    ensures kept { (result ≡ 0) ⊎ ((by.new ≡ by.old) × (counts.new ≡ counts.old) × (listed.new ≡ listed.old) × (bytes.new ≡ bytes.old)) }
+{
+    if !pass.live {
+        *number = 0;
+        return CLOSED;
+    }
+    let session = pass.owned.lent();
+    match session.journal_from(alloc, from, 1) {
+        Ok(list) => {
+            *number = session.seen();
+            tell_entry(alloc, list.first(), by, counts, listed, bytes, number)
+        }
+        Err(fault) => refuse(fault, number),
     }
 }
 
@@ -528,6 +627,77 @@ pub extern "C" fn bes_prepare_items(
         }
         Err(misspelt) => refuse_list(misspelt, place),
     }
+}
+
+/// Tells the canonical text of a prepared query. Puts out how many bytes it has, and as many of them as there is room for.
+#[unsafe(no_mangle)]
+pub extern "C" fn bes_prepared_text(
+    alloc: Global,
+    prepared: &mut PreparedHandle,
+    bytes: &mut [u8],
+    count: &mut u64,
+) -> u32
+    ensures prepared { prepared.new.owned.value ≡ prepared.old.owned.value }
+    ensures text { PrintsPrepared prepared.old.owned.value bytes.old bytes.new count.new result }
+    ensures kept { (result ≡ 0) ⊎ (bytes.new ≡ bytes.old) }
+{
+    *count = 0;
+    if !prepared.live {
+        return CLOSED;
+    }
+    match prepared.owned.lent().text(alloc) {
+        Ok(text) => {
+            put_text(text.as_str(), bytes, count);
+            DONE
+        }
+        Err(fault) => refuse(fault, count),
+    }
+}
+
+/// Moves what the handle of a prepared query holds into one that is closed, and closes it.
+#[unsafe(no_mangle)]
+pub extern "C" fn bes_move_prepared(
+    alloc: Global,
+    prepared: &mut PreparedHandle,
+    other: &mut PreparedHandle,
+) -> u32
+    ensures { Moves prepared.old.owned.value other.old.owned.value prepared.new.owned.value other.new.owned.value result }
+{
+    if !prepared.live {
+        return CLOSED;
+    }
+    if other.live {
+        return OPEN;
+    }
+    let closed = PreparedHandle {
+        live: false,
+        owned: OwnedQuery::none(alloc),
+    };
+    *other = mem::replace(prepared, closed);
+    DONE
+}
+
+/// Moves what the handle of a place holds into one that is closed, and closes it.
+#[unsafe(no_mangle)]
+pub extern "C" fn bes_move_place(
+    alloc: Global,
+    place: &mut PlaceHandle,
+    other: &mut PlaceHandle,
+) -> u32
+    ensures { Moves place.old.owned.value other.old.owned.value place.new.owned.value other.new.owned.value result }
+{
+    if !place.live {
+        return CLOSED;
+    }
+    if other.live {
+        return OPEN;
+    }
+    let closed = PlaceHandle {
+        live: false,
+        owned: OwnedPlace::none(alloc),
+    };
+    *other = mem::replace(place, closed);
+    DONE
 }
 
 /// Closes the handle of a prepared query.

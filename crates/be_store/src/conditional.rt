@@ -1,0 +1,120 @@
+//! Writes on what was read: they take place only if no other write came between.
+//!
+//! A program pins a version, reads it, and writes by `apply_if` with the pin's number. If another write came first, the call
+//! writes nothing and says so, and the program pins and reads again. So no update is lost; and a batch may name the nodes that
+//! it makes itself, since `Store::next` gives their numbers.
+ghost use Rattle.std.specs.Prelude.{◌≡◌, ◌≤◌, [], IfOk, IfErr, OnErr, length};
+ghost use Rattle.be_store.specs.Conditional.{AcceptsAt, IsLastUnapplied, IsUnapplied, was_held};
+ghost use Rattle.be_store.specs.Passes.{IsPassOf};
+
+use crate::tries::{is_busy, longer, stand_back};
+use crate::writing::write_if;
+use crate::{Pass, Store};
+use arrayvec::ArrayVec;
+use be_value::Refusal;
+use be_volume::{Done, Op};
+use thiserror::Error;
+
+/// Why a conditional write was not made.
+#[derive(Debug, Drop, Error)]
+pub enum ApplyIfError {
+    /// Another write came first: the journal has this many entries, and not as many as the caller named.
+    #[error("another write came first: the journal has {0} entries")]
+    Conflict(u64),
+    /// The write was refused, as `Store::apply` refuses it.
+    #[error("{0}")]
+    Refused(Refusal),
+}
+
+impl Store {
+    /// Writes as `apply_into` does if the journal has `number` entries, and otherwise nothing. A pass that is pinned to
+    /// `number` so writes on exactly what it read. A pin stays.
+    ///
+    /// Busy comes first; then Conflict with the length that was found, in which case nothing is written; then the refusals of
+    /// `apply_into`. The list of answers is empty after an error. A Conflict costs the lock alone: three steps.
+    pub fn apply_if_into(
+        &self,
+        pass: &mut Pass,
+        number: u64,
+        ops: &[Op],
+        dones: &mut ArrayVec<Done, 64>,
+    ) -> Result<u64, ApplyIfError>
+        requires pass { IsPassOf self.now pass.old }
+        requires count { (1 ≤ length ops.now) × (length ops.now ≤ 64) }
+        ensures pass { IsPassOf self.now pass.new }
+        ensures accepted { IfOk result (λ n. AcceptsAt pass.old.knows pass.new.knows number ops.now n dones.new.items) }
+        ensures refused { IfErr result (IsUnapplied pass.old.knows pass.new.knows number ops.now) }
+        ensures empty { OnErr result (dones.new.items ≡ []) }
+    {
+        dones.clear();
+        let mut writing = match self.lock(pass) {
+            Ok(writing) => writing,
+            Err(refusal) => return Err(ApplyIfError::Refused(refusal)),
+        };
+        let answer = write_if(&mut writing, number, ops, dones);
+        *pass = writing.unlock();
+        pass.is_pass();
+        if answer.is_err() {
+            dones.clear();
+        }
+        answer
+    }
+
+    /// The same, with the answers in a list of their own.
+    pub fn apply_if(
+        &self,
+        pass: &mut Pass,
+        number: u64,
+        ops: &[Op],
+    ) -> Result<(u64, ArrayVec<Done, 64>), ApplyIfError>
+        requires pass { IsPassOf self.now pass.old }
+        requires count { (1 ≤ length ops.now) × (length ops.now ≤ 64) }
+        ensures pass { IsPassOf self.now pass.new }
+        ensures accepted { IfOk result (λ r. AcceptsAt pass.old.knows pass.new.knows number ops.now r.0 r.1.items) }
+        ensures refused { IfErr result (IsUnapplied pass.old.knows pass.new.knows number ops.now) }
+    {
+        let mut dones = ArrayVec::new();
+        match self.apply_if_into(pass, number, ops, &mut dones) {
+            Ok(length) => Ok((length, dones)),
+            Err(error) => Err(error),
+        }
+    }
+
+    /// Writes as `apply_if` does, and tries again while another pass holds the lock, up to so many times in all; between two
+    /// tries it stands back as `apply_or_retry` does. A Conflict is returned at once, since the same call can't succeed then.
+    pub fn apply_if_or_retry(
+        &self,
+        pass: &mut Pass,
+        number: u64,
+        ops: &[Op],
+        tries: u64,
+    ) -> Result<(u64, ArrayVec<Done, 64>), ApplyIfError>
+        requires pass { IsPassOf self.now pass.old }
+        requires count { (1 ≤ length ops.now) × (length ops.now ≤ 64) }
+        requires tries { 1 ≤ tries }
+        ensures pass { IsPassOf self.now pass.new }
+        ensures accepted { IfOk result (λ r. AcceptsAt pass.old.knows pass.new.knows number ops.now r.0 r.1.items) }
+        ensures refused { IfErr result (IsLastUnapplied tries pass.old.knows pass.new.knows number ops.now) }
+    {
+        let mut turns = 1;
+        for _made in 1..tries {
+            let answer = self.apply_if(pass, number, ops);
+            if !was_held(&answer) {
+                return answer;
+            }
+            stand_back(turns);
+            turns = longer(turns);
+        }
+        self.apply_if(pass, number, ops)
+    }
+}
+
+/// Whether the write found that another pass holds the lock.
+fn was_held(answer: &Result<(u64, ArrayVec<Done, 64>), ApplyIfError>) -> bool
+    ensures { result ≡ was_held answer.now }
+{
+    match answer {
+        Err(ApplyIfError::Refused(refusal)) => is_busy(refusal),
+        _ => false,
+    }
+}
