@@ -1,7 +1,8 @@
 -- What a call makes of the pass that calls: what it has seen of the journal, its own writes, and its pin.
-use Rattle.std.specs.Prelude.{◌≡◌, ◌≢◌, ◌⊎◌, ℕ, ◌+◌, ◌<◌, Bool, true, false, List, [], ◌∷◌, ◌++◌, length, IsOk}
+use Rattle.std.specs.Prelude.{◌≡◌, ◌≢◌, ◌⊎◌, ℕ, ◌+◌, ◌<◌, Bool, true, false, List, [], ◌∷◌, ◌++◌, drop, length, take, IsOk}
 use Rattle.std.specs.declared.result.Result.{Result}
 use Rattle.std.specs.declared.result.Result.TheVariants.{Ok, Err}
+use Rattle.be_journal.specs.declared.entries.Entry.{Entry}
 use Rattle.be_journal.specs.Journal.{Agrees, by_pass, replay}
 use Rattle.be_journal.specs.Text.{lines_from}
 use Rattle.be_pages.specs.Refusal.{IsFullOf}
@@ -81,6 +82,10 @@ pub record Pins (a c : Knowledge) (n : ℕ) : Type 0 where
 -- the journal's text, as far as the pass has seen it
 abbrev pub text_seen : Knowledge → List ℕ
 text_seen a = lines_from 1 (entries a.seen)
+
+-- the entries from an index on, up to so many of them
+abbrev pub entries_from : List Entry → ℕ → ℕ → List Entry
+entries_from log from most = take most (drop from log)
 
 -- Why the journal isn't told: the one try found that another pass holds the lock, and nothing more was seen; or a growth was refused.
 abbrev pub IsUntold : (a c : Knowledge) → Refusal → Type 0

@@ -1,6 +1,7 @@
 pub mod Passes
 pub mod History
 pub mod Writing
+pub mod Conditional
 pub mod Live
 pub mod Alone
 pub mod Calls

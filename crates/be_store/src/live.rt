@@ -1,9 +1,9 @@
 //! Live queries: what changed in an answer since it was asked last.
 ghost use Rattle.std.specs.List.Sorted.{IsStrictlyIncreasing};
-ghost use Rattle.std.specs.Prelude.{◌≡◌, ◌⊎◌, ℕ, [], IfOk, IfErr, Err};
+ghost use Rattle.std.specs.Prelude.{◌≡◌, ◌≢◌, ◌⊎◌, ◌<◌, ◌≤◌, ℕ, [], IfOk, IfErr, Err, false, get_or, length, true};
 ghost use Rattle.be_value.specs.declared.refusals.Refusal.TheVariants.{OutOfMemory};
 ghost use Rattle.be_volume.specs.Query.{scan};
-ghost use Rattle.be_store.specs.Live.{Refreshes, is_among, without};
+ghost use Rattle.be_store.specs.Live.{Refreshes, without};
 ghost use Rattle.be_store.specs.Passes.{IsPassOf, IsPinnedTo, HasRead, volume_pinned};
 
 use crate::answers::Updates;
