@@ -1,6 +1,6 @@
 -- What a pass has seen stays a beginning of the journal through all its calls.
-use Rattle.std.proofs.Common.{◌≡◌, ◌≤◌, ◌-◌, ℕ, inl, inr, List, [], ◌∷◌, ◌++◌, length, take, Option, Some, refl, sym, ap, ◌∙◌, subst, arith, length-append}
-use Rattle.std.specs.Prelude.{All, map, slice_get}
+use Rattle.std.proofs.Common.{◌≡◌, ◌≤◌, ◌-◌, inl, inr, List, [], ◌∷◌, ◌++◌, length, take, Some, sym, ap, ◌∙◌, subst, arith, length-append}
+use Rattle.std.specs.Prelude.{All, slice_get}
 use Rattle.std.proofs.Math.Seq.{get_or-append_seam}
 use Rattle.std.proofs.lemmas.List.{append_assoc, append-nil, length-map, take-append-le}
 use Rattle.std.proofs.lemmas.List.Elements.{All-cons, All-nil}
@@ -14,13 +14,10 @@ use Rattle.be_table.specs.declared.pass.Commit.{Commit}
 use Rattle.be_table.specs.declared.pass.Knowledge.{Knowledge}
 use Rattle.be_table.specs.History.{StartsWith}
 use Rattle.be_table.specs.Rule.{entries}
-use Rattle.be_table.specs.Steps.{IsPass, KeepsSeen, entry_by}
+use Rattle.be_table.specs.Steps.{KeepsSeen, entry_by}
 use Rattle.be_volume.specs.Volume.{empty}
-use Rattle.be_volume.specs.declared.ops.Done.{Done}
-use Rattle.be_volume.specs.declared.ops.Op.{Op}
 use Rattle.be_store.specs.Calls.{Call, Calls, HasWrites, ReadsFronts}
-use Rattle.be_store.specs.History.{Accepts}
-use Rattle.be_store.specs.Passes.{IsPinnedTo, volume_pinned}
+use Rattle.be_store.specs.Passes.{volume_pinned}
 use Rattle.be_store.proofs.Applied.{entries_append}
 use Rattle.be_store.proofs.Passes.{pinned_phase}
 

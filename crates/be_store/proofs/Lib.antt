@@ -5,6 +5,8 @@ pub mod Applied
 pub mod Answering
 pub mod Alone
 pub mod Retries
+pub mod Conditions
+pub mod Fronts
 pub mod Calls
 pub mod Statuses
 pub mod Remade

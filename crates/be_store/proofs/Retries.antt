@@ -9,7 +9,7 @@ use Rattle.be_value.specs.declared.refusals.Refusal.{Refusal}
 use Rattle.be_value.specs.declared.refusals.Refusal.TheVariants.{Busy}
 use Rattle.be_volume.specs.declared.ops.Done.{Done}
 use Rattle.be_volume.specs.declared.ops.Op.{Op}
-use Rattle.be_store.specs.History.{Accepts, Learns, IsReason, IsLastReason, is_busy, was_busy, tried}
+use Rattle.be_store.specs.History.{Accepts, IsHeldThrough, Learns, IsReason, IsLastReason, is_busy, was_busy, tried}
 use Rattle.be_store.specs.Passes.{volume_seen}
 use Rattle.be_store.proofs.Refusals.{steps_refuse}
 
@@ -46,7 +46,7 @@ module _ (a : Knowledge) (holders : List ℕ) (m c : Knowledge) (is : m ≡ trie
       let steps : a.steps + length holders + 1 ≡ a.steps + length (b ∷ holders) = omega arith in
       next ∙ (ap (λ (k : Knowledge). finds_held k b) is ∙ ap (λ (n : ℕ). record a { holders = (b ∷ holders) ++ a.holders; steps = n }) steps)
 
-  accepts_at_last : (ops : List Op) (n : ℕ) (dones : List Done) → Accepts m c ops n dones → Accepts a c ops n dones
+  pub accepts_at_last : (ops : List Op) (n : ℕ) (dones : List Done) → Accepts m c ops n dones → Accepts a c ops n dones
   accepts_at_last ops n dones h = by (subst (λ (k : Knowledge). Accepts k c ops n dones) is h)
     where
       by : Accepts (tried a holders) c ops n dones → Accepts a c ops n dones
@@ -63,17 +63,20 @@ module _ (a : Knowledge) (holders : List ℕ) (m c : Knowledge) (is : m ≡ trie
         pin = h.pin;
       }
 
-  learns_at_last : Learns m c → Learns a c
+  pub learns_at_last : Learns m c → Learns a c
   learns_at_last h = by (subst (λ (k : Knowledge). Learns k c) is h)
     where
       by : Learns (tried a holders) c → Learns a c
       by h = record { more = h.more; mine = h.mine; pass = h.pass; pin = h.pin }
 
+  -- the last try found a holder too
+  pub held_at_last : (e : Refusal) → FoundHeld e m c → IsHeldThrough (length holders + 1) a c e
+  held_at_last e late =
+      (late.0, holders, late.1, subst (λ (k : Knowledge). late.0 < k.limits.passes) is late.2, subst (λ (k : Knowledge). late.0 ≢ k.number) is late.3, refl, tried_again late.0 late.4)
+
   -- the reason of the last try
   reason_at_last : (ops : List Op) (e : Refusal) → IsReason m c ops e → IsLastReason (length holders + 1) a c ops e
-  reason_at_last ops e (inl h) =
-      let late = h.0 in
-      inl (late.0, holders, late.1, subst (λ (k : Knowledge). late.0 < k.limits.passes) is late.2, subst (λ (k : Knowledge). late.0 ≢ k.number) is late.3, refl, tried_again late.0 late.4)
+  reason_at_last ops e (inl h) = inl (held_at_last e h.0)
   reason_at_last ops e (inr h) = inr h
 
   -- the reason of a try that was not the last
@@ -81,13 +84,17 @@ module _ (a : Knowledge) (holders : List ℕ) (m c : Knowledge) (is : m ≡ trie
   reason_else tries ops e free (inl h) = absurd (false≢true (sym free ∙ ap is_busy h.0.1))
   reason_else tries ops e free (inr h) = inr h
 
+  -- a try that is refused by Busy found a holder
+  pub held_by : (ops : List Op) (e : Refusal) → is_busy e ≡ true → IsReason m c ops e → (b : ℕ) × (c ≡ tried a (b ∷ holders))
+  held_by ops e held h =
+      let busy = busy_with e held in
+      let late = busy_by_lock m c ops busy.0 (subst (λ (x : Refusal). IsReason m c ops x) busy.1 h) in
+      (late.0, tried_again late.0 late.4)
+
   -- the try found a holder
   pub held_again : {X : Type 0} (ops : List Op) (r : Result X Refusal) → was_busy r ≡ true → IfErr r (λ e. Learns m c × IsReason m c ops e) → (b : ℕ) × (c ≡ tried a (b ∷ holders))
   held_again ops (Ok x) held h = absurd (false≢true held)
-  held_again ops (Err e) held h =
-      let busy = busy_with e held in
-      let late = busy_by_lock m c ops busy.0 (subst (λ (x : Refusal). IsReason m c ops x) busy.1 h.1) in
-      (late.0, tried_again late.0 late.4)
+  held_again ops (Err e) held h = held_by ops e held h.1
 
   pub accepted_at_last : {X : Type 0} (dones_of : X → List Done) (ops : List Op) (r : Result (ℕ × X) Refusal) → IfOk r (λ x. Accepts m c ops x.0 (dones_of x.1)) →
       IfOk r (λ x. Accepts a c ops x.0 (dones_of x.1))

@@ -1,5 +1,5 @@
 -- Conditional writes: made only if the journal has as many entries as the caller names.
-use Rattle.std.specs.Prelude.{◌≡◌, ◌≢◌, ◌⊎◌, ℕ, ◌+◌, ◌<◌, Bool, false, List, [], ◌∷◌, length, MatchResult}
+use Rattle.std.specs.Prelude.{◌≡◌, ◌≢◌, ◌⊎◌, ℕ, ◌+◌, Bool, false, List, [], ◌∷◌, length, MatchResult}
 use Rattle.std.specs.declared.result.Result.{Result}
 use Rattle.std.specs.declared.result.Result.TheVariants.{Ok, Err}
 use Rattle.be_journal.specs.Journal.{Agrees}
@@ -9,11 +9,9 @@ use Rattle.be_table.specs.Works.{FoundHeld}
 use Rattle.be_table.specs.declared.pass.Knowledge.{Knowledge}
 use Rattle.be_table.specs.declared.pass.Move.{Move}
 use Rattle.be_table.specs.declared.pass.Move.TheVariants.{Lock, Unlock}
-use Rattle.be_value.specs.declared.refusals.Refusal.{Refusal}
-use Rattle.be_value.specs.declared.refusals.Refusal.TheVariants.{Busy}
 use Rattle.be_volume.specs.declared.ops.Done.{Done}
 use Rattle.be_volume.specs.declared.ops.Op.{Op}
-use Rattle.be_store.specs.History.{Accepts, IsRefusedAt, Learns, is_busy, tried}
+use Rattle.be_store.specs.History.{Accepts, IsHeldThrough, IsRefusedAt, Learns, is_busy}
 use Rattle.be_store.specs.Passes.{IsPinnedTo, volume_pinned}
 use Rattle.be_store.specs.Writing.{IsHeldBack, Publishes}
 use Rattle.be_store.specs.declared.conditional.ApplyIfError.{ApplyIfError}
@@ -48,9 +46,7 @@ was_held (Err (Refused e)) = is_busy e
 -- Why a conditional write was not made that is tried up to so many times: each try found that another pass holds the lock, and Busy names the last one; or else.
 abbrev pub IsLastUnapplied : ℕ → (a c : Knowledge) → ℕ → List Op → ApplyIfError → Type 0
 IsLastUnapplied tries a c number ops (Conflict found) = IsConflict a c number found
-IsLastUnapplied tries a c number ops (Refused e) = Learns a c ×
-    (((b : ℕ) × (before : List ℕ) × (e ≡ Busy b) × (b < a.limits.passes) × (b ≢ a.number) × (length before + 1 ≡ tries) × (c ≡ tried a (b ∷ before)))
-    ⊎ (IsRefusedAt c ops e × (length c.seen ≡ number)))
+IsLastUnapplied tries a c number ops (Refused e) = Learns a c × (IsHeldThrough tries a c e ⊎ (IsRefusedAt c ops e × (length c.seen ≡ number)))
 
 -- why a conditional write that has the lock isn't made: the length is another one, and nothing has changed; or it is held back
 abbrev pub IsHeldBackIf : (w v : Knowledge) → ℕ → List Op → ApplyIfError → Type 0

@@ -65,11 +65,13 @@ was_busy (Err e) = is_busy e
 abbrev pub tried : Knowledge → List ℕ → Knowledge
 tried a holders = record a { holders = holders ++ a.holders; steps = a.steps + length holders }
 
--- Why a write is refused that is tried so many times at most: each try found that another pass holds the lock, and the refusal names the last one; or else.
+-- Each of so many tries found that another pass holds the lock, nothing more was seen, and the refusal names the last one.
+abbrev pub IsHeldThrough : ℕ → (a c : Knowledge) → Refusal → Type 0
+IsHeldThrough tries a c e = (b : ℕ) × (before : List ℕ) × (e ≡ Busy b) × (b < a.limits.passes) × (b ≢ a.number) × (length before + 1 ≡ tries) × (c ≡ tried a (b ∷ before))
+
+-- Why a write is refused that is tried up to so many times: each try found that another pass holds the lock; or else.
 abbrev pub IsLastReason : ℕ → (a c : Knowledge) (ops : List Op) → Refusal → Type 0
-IsLastReason tries a c ops e =
-    ((b : ℕ) × (before : List ℕ) × (e ≡ Busy b) × (b < a.limits.passes) × (b ≢ a.number) × (length before + 1 ≡ tries) × (c ≡ tried a (b ∷ before)))
-    ⊎ IsRefusedAt c ops e
+IsLastReason tries a c ops e = IsHeldThrough tries a c e ⊎ IsRefusedAt c ops e
 
 -- The pass is pinned to all that it has then seen, by three steps, which are the moves Look, Announce and LookAgain of the reclamation machine.
 pub record Pins (a c : Knowledge) (n : ℕ) : Type 0 where

@@ -54,10 +54,13 @@ impl Store {
         let answer = write_if(&mut writing, number, ops, dones);
         *pass = writing.unlock();
         pass.is_pass();
-        if answer.is_err() {
-            dones.clear();
+        match answer {
+            Ok(length) => Ok(length),
+            Err(error) => {
+                dones.clear();
+                Err(error)
+            }
         }
-        answer
     }
 
     /// The same, with the answers in a list of their own.
