@@ -56,10 +56,12 @@ module _ (numbers others : List ℕ) (up : IsStrictlyIncreasing numbers) (up_oth
   lacks_this other = lacks others (get_or numbers k 0) at below (λ i le short.
       let here = from_there (omega (arith, le, short)) in
       let differs = other (omega (arith, le, short)) in
-      elim (cases_lt at i) [ inl past ↦ (let more = AllPairs-from_increasing others up_others at i 0 past short in omega (arith, here, differs, more))
-      | inr reached ↦ (let same : at ≡ i = omega (arith, le, reached) in
-        let above : get_or numbers k 0 < get_or others at 0 = omega (arith, here, differs) in
-        subst (λ n. get_or numbers k 0 < get_or others n 0) same above) ])
+      elim (cases_lt at i) [
+        | inl past ↦ (let more = AllPairs-from_increasing others up_others at i 0 past short in omega (arith, here, differs, more))
+        | inr reached ↦ (let same : at ≡ i = omega (arith, le, reached) in
+            let above : get_or numbers k 0 < get_or others at 0 = omega (arith, here, differs) in
+            subst (λ n. get_or numbers k 0 < get_or others n 0) same above)
+      ])
 
 -- one number more: it stays where the others lack it
 alone : (others : List ℕ) (n : ℕ) (b : Bool) → is_among others n ≡ b → without (n ∷ []) others ≡ cond (not b) (n ∷ []) []

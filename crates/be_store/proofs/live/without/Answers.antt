@@ -17,14 +17,14 @@ loop-number-preserved c =
     let more : take (k + 1) numbers ≡ take k numbers ++ n ∷ [] = take_more numbers k 0 c.loop-number-test.true in
     record {
       left = elim c.if-not-is_at.branch [
-        then-not-is_at+in_ok-push w ↦
-          (let lacking : is_among others n ≡ false = lacks_this numbers others c.requires.rising.0 c.requires.rising.1 k c.loop-number.at at c.loop-number-test.true was.below found.below found.not_below
+        | then-not-is_at+in_ok-push w ↦
+            (let lacking : is_among others n ≡ false = lacks_this numbers others c.requires.rising.0 c.requires.rising.1 k c.loop-number.at at c.loop-number-test.true was.below found.below found.not_below
             (c.is_at.ensures.missing w.if-not-is_at.true) in
-          ap (λ (v : _). v.items) w.left-is ∙ (w.in_ok-push.ensures.items ∙ (ap (λ l. l ++ n ∷ []) was.left ∙ sym (ap (λ l. without l others) more ∙ without_more (take k numbers) others n false lacking))))
-      | else-not-is_at w ↦
-          (let there = c.is_at.ensures.found w.if-not-is_at.false in
-          let among : is_among others n ≡ true = held_at others n at there.0 there.1 in
-          ap (λ (v : _). v.items) w.left-is ∙ (was.left ∙ sym (ap (λ l. without l others) more ∙ (without_more (take k numbers) others n true among ∙ append-nil (without (take k numbers) others)))))
+            ap (λ (v : _). v.items) w.left-is ∙ (w.in_ok-push.ensures.items ∙ (ap (λ l. l ++ n ∷ []) was.left ∙ sym (ap (λ l. without l others) more ∙ without_more (take k numbers) others n false lacking))))
+        | else-not-is_at w ↦
+            (let there = c.is_at.ensures.found w.if-not-is_at.false in
+            let among : is_among others n ≡ true = held_at others n at there.0 there.1 in
+            ap (λ (v : _). v.items) w.left-is ∙ (was.left ∙ sym (ap (λ l. without l others) more ∙ (without_more (take k numbers) others n true among ∙ append-nil (without (take k numbers) others)))))
       ];
       inside = found.range.1;
       below = below_next numbers others c.requires.rising.0 c.requires.rising.1 k c.loop-number.at at c.loop-number-test.true was.below found.below found.not_below;
