@@ -2,6 +2,7 @@ pub mod Spare
 pub mod Meant
 pub mod Built
 pub mod Spelt
+pub mod Told
 pub mod Covers
 pub mod Same
 pub mod Crosses

@@ -28,8 +28,8 @@ use crate::shared::Shared;
 use crate::{Fault, StatePlace};
 use be_store::laws::seen_is_legal;
 use be_store::{
-    ArrayVec, Done, Entry, Kind, Limits, Live, Name, Op, Pass, Query, Refusal, Status, Store, Updates,
-    Value, parse,
+    ArrayVec, Done, Entry, Kind, Limits, Live, Name, Op, Pass, Query, Refusal, Status, Store,
+    Updates, Value, parse,
 };
 use std::alloc::{AllocFailed, Global};
 use std::marker::Model;

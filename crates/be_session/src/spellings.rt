@@ -144,7 +144,7 @@ pub(crate) fn operations_spelled(alloc: Global, list: &[Op]) -> Result<Spelling,
 fn spell_done(bytes: &mut Vec<u8>, op: &Op, done: Option<&Done>) -> Result<Operation, Fault>
     ensures more { IfOk result (λ o. bytes.new.items ≡ bytes.old.items ++ both_parts o bytes.new.items) }
     ensures meant { IfOk result (λ o. ArePartsWithin o (length bytes.new.items) × IsMeantBy o bytes.new.items op.now) }
-    ensures made { IfOk result (λ o. IfSome done (λ d. TellsNode o op.now d.now)) }
+    ensures made { IfOk result (λ o. IfSome done.entry (λ d. TellsNode o op.now d.now)) }
     ensures err { IfErr result (λ e. e ≡ Refused OutOfMemory) }
 {
     let mut operation = spell(bytes, op)?;

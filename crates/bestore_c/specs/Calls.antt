@@ -1,19 +1,22 @@
 -- What calls make of handles.
-use Rattle.std.specs.Prelude.{◌≡◌, ◌⊎◌, ℕ, ◌+◌, List, length, map, Option, None, Some, Ok, Err}
+use Rattle.std.specs.Prelude.{◌≡◌, ◌⊎◌, ℕ, ◌+◌, List, length, map, slice_get, Option, None, Some, Ok, Err}
 use Rattle.std.specs.declared.result.Result.{Result}
+use Rattle.be_journal.specs.declared.entries.Entry.{Entry}
 use Rattle.be_journal.specs.Journal.{IsLegal}
 use Rattle.be_query.specs.Grammar.{Formula, IsTextOf}
+use Rattle.be_query.specs.Printing.{or_text}
 use Rattle.be_session.specs.Fault.{fault_carried, fault_code}
 use Rattle.be_session.specs.Items.{IsBuilt, IsUnbuilt}
 use Rattle.be_session.specs.Meaning.{HasNoMore, IsNoName, IsValueMeant}
-use Rattle.be_session.specs.Operations.{AreMeant, AreSpelled, IsMisspelt, IsWriteCount}
+use Rattle.be_session.specs.Operations.{AreMeant, AreSpelled, IsMisspelt, IsWriteCount, TellNodes}
 use Rattle.be_session.specs.Explained.{explanation_in}
 use Rattle.be_session.specs.Prepared.{IsUnasked, PreparedQuery}
-use Rattle.be_session.specs.Sitting.{IsHandedOut, IsNoQuery, IsOpened, IsUnrefreshed, IsUnwritten, Sitting}
+use Rattle.be_session.specs.Sitting.{IsHandedOut, IsNoQuery, IsOpened, IsUnrefreshed, IsUnwritten, IsUnwrittenIf, Sitting}
 use Rattle.be_session.specs.declared.faults.Fault.{Fault}
 use Rattle.be_session.specs.declared.faults.Fault.TheVariants.{NotPinned, Refused}
 use Rattle.be_session.specs.declared.items.PredicateItem.{PredicateItem}
 use Rattle.be_session.specs.declared.lists.Operation.{Operation}
+use Rattle.be_store.specs.Conditional.{AcceptsAt}
 use Rattle.be_store.specs.History.{Accepts, IsUntold, Learns, text_seen}
 use Rattle.be_store.specs.Live.{Refreshes}
 use Rattle.be_store.specs.Passes.{HasRead, IsPinnedTo, volume_pinned}
@@ -81,7 +84,7 @@ GivesAnother (Some s) (Some t) o p code = (t.store ≡ s.store) × OpensSecond s
 
 -- A handle is moved: what it holds goes to one that is closed, and it is closed then; 65 where the other is open, and 64 where
 -- it holds nothing.
-abbrev pub MovesHandle : Option Sitting → Option Sitting → Option Sitting → Option Sitting → ℕ → Type 0
+abbrev pub MovesHandle : {A : Type 0} → Option A → Option A → Option A → Option A → ℕ → Type 0
 MovesHandle None o from to code = (code ≡ 64) × (from ≡ None) × (to ≡ o)
 MovesHandle (Some s) (Some o) from to code = (code ≡ 65) × (from ≡ Some s) × (to ≡ Some o)
 MovesHandle (Some s) None from to code = (code ≡ 0) × (from ≡ None) × (to ≡ Some s)
@@ -95,6 +98,20 @@ WritesSpelled s t spelled bytes places filled number code =
     ⊎ (IsWriteCount (length spelled) × (ops : List Op) × AreMeant spelled bytes ops ×
     (((code ≡ 0) × (dones : List Done) × Accepts s.knows t.knows ops number dones × (filled ≡ over (map node_of dones) places))
     ⊎ ((e : Fault) × Refuses e number code × IsUnwritten s.knows t.knows ops e)))
+
+-- A conditional write, as such a write: what is spelled is misspelt, and then nothing has happened; or it means operations, which the session accepted on a
+-- journal of as many entries as expected, or which it did not write. The number that is put out is then the length that it found, or what the refusal carries.
+abbrev pub WritesSpelledIf : Sitting → Sitting → ℕ → List Operation → List ℕ → List ℕ → List ℕ → ℕ → ℕ → Type 0
+WritesSpelledIf s t expected spelled bytes places filled number code =
+    ((e : Fault) × (code ≡ fault_code e) × IsMisspelt spelled bytes e number × (t ≡ s))
+    ⊎ (IsWriteCount (length spelled) × (ops : List Op) × AreMeant spelled bytes ops ×
+    (((code ≡ 0) × (dones : List Done) × AcceptsAt s.knows t.knows expected ops number dones × (filled ≡ over (map node_of dones) places))
+    ⊎ ((e : Fault) × Refuses e number code × IsUnwrittenIf s.knows t.knows expected ops e)))
+
+-- a number of the pinned version, if there is a pin
+abbrev pub TellsNumber : Option ℕ → ℕ → ℕ → ℕ → Type 0
+TellsNumber None meant number code = Refuses NotPinned number code
+TellsNumber (Some n) meant number code = (code ≡ 0) × (number ≡ meant)
 
 -- What a version answers, a list of nodes or of a text's bytes: how many they are, and as many of them as there are places; or
 -- why there is no answer, with what that carries.
@@ -200,6 +217,27 @@ abbrev pub ShowsChanges : Option PreparedQuery → List ℕ → List ℕ → Lis
 ShowsChanges None created_places created removed_places removed code = code ≡ 64
 ShowsChanges (Some p) created_places created removed_places removed code =
     (code ≡ 0) × (created ≡ over p.came created_places) × (removed ≡ over p.went removed_places)
+
+-- the canonical text of a prepared query is put out: how many bytes it has, and as many of them as there are places; or its handle is closed, or memory was refused
+abbrev pub PrintsPrepared : Option PreparedQuery → List ℕ → List ℕ → ℕ → ℕ → Type 0
+PrintsPrepared None places filled count code = IsClosed count code
+PrintsPrepared (Some p) places filled count code =
+    Refuses (Refused OutOfMemory) count code ⊎ ((code ≡ 0) × (count ≡ length (or_text p.live.query)) × (filled ≡ over (or_text p.live.query) places))
+
+-- An entry of the journal, if there is one: by which pass it is, and a spelling of its operations, in which each that made a node has that node; of both lists
+-- how many there are, and as many of them as there are places. Where there is none, nothing is put out, and how many there are is 0.
+abbrev pub IsEntryPutOut : Option Entry → ℕ → Counts → List Operation → List Operation → List ℕ → List ℕ → Type 0
+IsEntryPutOut None by counts places filled byte_places bytes = (by ≡ 0) × (counts.operations ≡ 0) × (counts.bytes ≡ 0) × (filled ≡ places) × (bytes ≡ byte_places)
+IsEntryPutOut (Some entry) by counts places filled byte_places bytes =
+    (by ≡ entry.by) × (os : List Operation) × (bs : List ℕ) × AreSpelled os bs entry.ops × TellNodes os entry.ops entry.dones
+    × (counts.operations ≡ length os) × (filled ≡ over os places) × (counts.bytes ≡ length bs) × (bytes ≡ over bs byte_places)
+
+-- An entry of the journal, of this index, as far as the pass has then seen the journal, is put out, and the journal's length; or why it isn't told, with what that carries.
+abbrev pub TellsEntry : Sitting → Sitting → ℕ → ℕ → Counts → List Operation → List Operation → List ℕ → List ℕ → ℕ → ℕ → Type 0
+TellsEntry s t from by counts places filled byte_places bytes number code =
+    Learns s.knows t.knows
+    × (((code ≡ 0) × (number ≡ length t.knows.seen) × IsEntryPutOut (slice_get (entries t.knows.seen) from) by counts places filled byte_places bytes)
+    ⊎ ((why : Refusal) × Refuses (Refused why) number code × IsUntold s.knows t.knows why))
 
 -- The journal, as far as the pass has then seen it, is legal, and its text is told: how many bytes it has, and as many of them
 -- as there are places; or why it isn't told, with what that carries.

@@ -18,11 +18,13 @@ ghost use Rattle.be_table.specs.Steps.{unpins};
 ghost use Rattle.be_table.specs.Trace.{with_history};
 ghost use Rattle.be_volume.specs.Reading.{attributes_at, index_kinds};
 ghost use Rattle.bestore_c.specs.Calls.{AnswersWhetherOpen, Calls, Explains, Finds, FindsBuilt, FindsPrepared, GivesAnother, IsClosed};
-ghost use Rattle.bestore_c.specs.Calls.{IsTextFault, Listed, MovesHandle, Opens, Prepares, PutsOutAtPin, Reads, RefreshesPrepared, Refuses, ShowsChanges, TellsJournal, WritesSpelled};
+ghost use Rattle.bestore_c.specs.Calls.{IsTextFault, Listed, MovesHandle, Opens, Prepares, PrintsPrepared, PutsOutAtPin, Reads, RefreshesPrepared, Refuses};
+ghost use Rattle.bestore_c.specs.Calls.{ShowsChanges, TellsEntry, TellsJournal, TellsNumber, WritesSpelled, WritesSpelledIf};
 ghost use Rattle.bestore_c.specs.States.{TellsState, untold_at};
 ghost use Rattle.bestore_c.specs.Usage.{TellsUsage};
 
 mod asking;
+mod entries;
 mod handle;
 mod listing;
 mod loose;
@@ -40,8 +42,9 @@ use be_session::{
     Operation, PredicateItem, Session, name, operations, prepare, prepare_items, query_of_items,
 };
 use be_store::{ArrayVec, Limits};
+use entries::tell_entry;
 use handle::{Attribute, Counts, Handle, PlaceHandle, PreparedHandle, UpdateCounts, Usage};
-use listing::{tell_attributes, tell_entry, tell_indices};
+use listing::{tell_attributes, tell_indices};
 use owned::Owned;
 use owned_place::OwnedPlace;
 use owned_query::OwnedQuery;
@@ -132,7 +135,7 @@ pub extern "C" fn bes_another(alloc: Global, pass: &mut Handle, other: &mut Hand
 /// Moves what the handle holds into a handle that is closed, and closes it.
 #[unsafe(no_mangle)]
 pub extern "C" fn bes_move(alloc: Global, pass: &mut Handle, other: &mut Handle) -> u32
-    ensures { Moves pass.old.owned.value other.old.owned.value pass.new.owned.value other.new.owned.value result }
+    ensures { MovesHandle pass.old.owned.value other.old.owned.value pass.new.owned.value other.new.owned.value result }
 {
     if !pass.live {
         return CLOSED;
@@ -304,7 +307,7 @@ pub extern "C" fn bes_number(pass: &mut Handle, number: &mut u64) -> u32
 #[unsafe(no_mangle)]
 pub extern "C" fn bes_next(pass: &mut Handle, node: &mut u64) -> u32
     ensures pass { Calls pass.old.owned.value pass.new.owned.value (IsClosed node.new result)
-        (λ s t. HasRead s.knows t.knows × TellsNext (pinned_number s.knows.phase) (volume_pinned s.knows).next node.new result) }
+        (λ s t. HasRead s.knows t.knows × TellsNumber (pinned_number s.knows.phase) (volume_pinned s.knows).next node.new result) }
 {
     if !pass.live {
         *node = 0;
@@ -341,10 +344,10 @@ pub extern "C" fn bes_journal_from(
         return CLOSED;
     }
     let session = pass.owned.lent();
-    match session.journal_from(alloc, from, 1) {
-        Ok(list) => {
-            *number = session.seen();
-            tell_entry(alloc, list.first(), by, counts, listed, bytes, number)
+    match tell_entry(alloc, session, from, by, counts, listed, bytes) {
+        Ok(length) => {
+            *number = length;
+            DONE
         }
         Err(fault) => refuse(fault, number),
     }
@@ -661,7 +664,7 @@ pub extern "C" fn bes_move_prepared(
     prepared: &mut PreparedHandle,
     other: &mut PreparedHandle,
 ) -> u32
-    ensures { Moves prepared.old.owned.value other.old.owned.value prepared.new.owned.value other.new.owned.value result }
+    ensures { MovesHandle prepared.old.owned.value other.old.owned.value prepared.new.owned.value other.new.owned.value result }
 {
     if !prepared.live {
         return CLOSED;
@@ -684,7 +687,7 @@ pub extern "C" fn bes_move_place(
     place: &mut PlaceHandle,
     other: &mut PlaceHandle,
 ) -> u32
-    ensures { Moves place.old.owned.value other.old.owned.value place.new.owned.value other.new.owned.value result }
+    ensures { MovesHandle place.old.owned.value other.old.owned.value place.new.owned.value other.new.owned.value result }
 {
     if !place.live {
         return CLOSED;

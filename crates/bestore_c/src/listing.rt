@@ -15,11 +15,8 @@ ghost use Rattle.bestore_c.specs.Places.{over};
 
 use crate::handle::Counts;
 use crate::places::put;
-use crate::refusing::refuse;
-use be_session::{
-    Fault, Operation, Spelling, attributes_spelled, entry_spelled, indices_spelled,
-};
-use be_store::{Entry, Kind, Name, Value};
+use be_session::{Fault, Operation, Spelling, attributes_spelled, indices_spelled};
+use be_store::{Kind, Name, Value};
 use std::alloc::Global;
 
 /// Puts out how many operations a spelling has and how many bytes, and of both as many as there is room for.
@@ -103,33 +100,5 @@ pub(crate) fn tell_indices(
             put_spelled(spelled, counts, operations, bytes)
         }
         Err(fault) => fault.code(),
-    }
-}
-
-/// Puts out an entry of the journal, as far as there is room: by which pass it is, and its operations, each that made a node with
-/// that node. Where there is no entry these are none. OutOfMemory: nothing is put out but 0 as the number.
-pub(crate) fn tell_entry(
-    alloc: Global,
-    entry: Option<&Entry>,
-    by: &mut u64,
-    counts: &mut Counts,
-    operations: &mut [Operation],
-    bytes: &mut [u8],
-    number: &mut u64,
-) -> u32
-    ensures told { IsEntryPutOut (option_map (λ e. e.now) entry) by.new counts.new operations.old operations.new bytes.old bytes.new number.old number.new result }
-    ensures kept { (result ≡ 0) ⊎ ((by.new ≡ by.old) × (counts.new ≡ counts.old) × (operations.new ≡ operations.old) × (bytes.new ≡ bytes.old)) }
-{
-    let (pass, ops, dones) = match entry {
-        Some(entry) => (entry.by, entry.ops.as_slice(), entry.dones.as_slice()),
-        None => (0, &[][..], &[][..]),
-    };
-    match entry_spelled(alloc, ops, dones) {
-        Ok(spelling) => {
-            *by = pass;
-            put_spelling(&spelling, counts, operations, bytes);
-            0
-        }
-        Err(fault) => refuse(fault, number),
     }
 }

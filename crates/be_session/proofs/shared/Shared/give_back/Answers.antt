@@ -1,4 +1,4 @@
-use Rattle.std.proofs.Common.{◌≡◌, ◌<◌, ◌∙◌, arith, length, subst, sym}
+use Rattle.std.proofs.Common.{◌<◌, ◌∙◌, arith, length, subst, sym}
 use Rattle.be_session.specs.Sitting.{MayWaitAt}
 use Rattle.be_session.proofs.Spare.{may_wait}
 use Rattle.be_session.proofs.shared.Shared.give_back.Goals as goal

@@ -1,0 +1,64 @@
+//! One entry of the journal, put out.
+ghost use Rattle.std.specs.Prelude.{◌≡◌, ℕ, IfErr, IfOk, OnErr, OnOk, Some, length, slice_get};
+ghost use Rattle.be_store.specs.History.{IsUntold, Learns};
+ghost use Rattle.be_session.specs.declared.faults.Fault.TheVariants.{Refused};
+ghost use Rattle.be_table.specs.Rule.{entries};
+ghost use Rattle.be_value.specs.declared.refusals.Refusal.{Refusal as AnyRefusal};
+ghost use Rattle.be_value.specs.declared.refusals.Refusal.TheVariants.{OutOfMemory};
+ghost use Rattle.bestore_c.specs.Calls.{IsEntryPutOut};
+
+use crate::handle::Counts;
+use crate::listing::put_spelling;
+use be_session::{Fault, Operation, Session, entry_spelled};
+use be_store::Entry;
+use std::alloc::Global;
+
+/// Puts out an entry, as far as there is room: by which pass it is, and its operations, each that made a node with that node.
+fn put_entry(
+    alloc: Global,
+    entry: &Entry,
+    by: &mut u64,
+    counts: &mut Counts,
+    operations: &mut [Operation],
+    bytes: &mut [u8],
+) -> Result<(), Fault>
+    ensures told { OnOk result (IsEntryPutOut (Some entry.now) by.new counts.new operations.old operations.new bytes.old bytes.new) }
+    ensures err { IfErr result (λ e. e ≡ Refused OutOfMemory) }
+    ensures kept { OnErr result ((by.new ≡ by.old) × (counts.new ≡ counts.old) × (operations.new ≡ operations.old) × (bytes.new ≡ bytes.old)) }
+{
+    let spelling = entry_spelled(alloc, entry.ops.as_slice(), entry.dones.as_slice())?;
+    *by = entry.by;
+    put_spelling(&spelling, counts, operations, bytes);
+    Ok(())
+}
+
+/// Puts out the journal's entry of an index, if there is one, as far as there is room. Answers the journal's length.
+pub(crate) fn tell_entry(
+    alloc: Global,
+    session: &mut Session,
+    from: u64,
+    by: &mut u64,
+    counts: &mut Counts,
+    operations: &mut [Operation],
+    bytes: &mut [u8],
+) -> Result<u64, Fault>
+    ensures store { (session.new.store ≡ session.old.store) × (session.new.spare ≡ session.old.spare) }
+    ensures learns { Learns session.old.knows session.new.knows }
+    ensures length { IfOk result (λ n. n ≡ length session.new.knows.seen) }
+    ensures told { OnOk result (IsEntryPutOut (slice_get (entries session.new.knows.seen) from) by.new counts.new operations.old operations.new bytes.old bytes.new) }
+    ensures err { IfErr result (λ e. (why : AnyRefusal) × (e ≡ Refused why) × IsUntold session.old.knows session.new.knows why) }
+    ensures kept { OnErr result ((by.new ≡ by.old) × (counts.new ≡ counts.old) × (operations.new ≡ operations.old) × (bytes.new ≡ bytes.old)) }
+{
+    let list = session.journal_from(alloc, from, 1)?;
+    match list.first() {
+        Some(entry) => put_entry(alloc, entry, by, counts, operations, bytes)?,
+        None => {
+            *by = 0;
+            *counts = Counts {
+                operations: 0,
+                bytes: 0,
+            };
+        }
+    }
+    Ok(session.seen())
+}
