@@ -1,5 +1,5 @@
 //! A pass with its share of the store, and its calls.
-ghost use Rattle.std.specs.Prelude.{◌≡◌, ◌⊎◌, ◌≤◌, ◌+◌, ℕ, [], None, Ok, IfOk, IfErr, OnErr, OnOk, is_some, length, string_bytes, vec_len};
+ghost use Rattle.std.specs.Prelude.{◌≡◌, ◌⊎◌, ◌≤◌, ◌<◌, ◌+◌, ℕ, [], None, Ok, IfOk, IfErr, OnErr, OnOk, false, is_some, length, string_bytes, true, vec_len};
 ghost use Rattle.be_value.specs.declared.refusals.Refusal.{Refusal as AnyRefusal};
 ghost use Rattle.be_value.specs.declared.refusals.Refusal.TheVariants.{OutOfMemory};
 ghost use Rattle.be_query.specs.Grammar.{IsTextOf};
@@ -134,6 +134,14 @@ fn of_returned(alloc: Global, shared: Arc<Shared, Global>) -> Result<Box<Session
     }
 }
 
+/// Whether a write may have so many operations: 1 to 64.
+fn is_batch(ops: &[Op]) -> bool
+    ensures is { result ≡ true → (1 ≤ length ops.now) × (length ops.now ≤ 64) }
+    ensures not { result ≡ false → (length ops.now ≡ 0) ⊎ (64 < length ops.now) }
+{
+    !ops.is_empty() && ops.len() <= 64
+}
+
 impl Session {
     /// A new store, and the session of the last of its passes, which has seen nothing. The others wait.
     ///
@@ -256,7 +264,7 @@ impl Session {
         ensures err { IfErr result (λ e. IsUnwritten self.old.knows self.new.knows ops.now e) }
         ensures empty { OnErr result (dones.new.items ≡ []) }
     {
-        if ops.is_empty() || ops.len() > 64 {
+        if !is_batch(ops) {
             dones.clear();
             return Err(Fault::BadCount);
         }
@@ -277,7 +285,7 @@ impl Session {
         ensures err { IfErr result (IsUnwrittenIf self.old.knows self.new.knows number ops.now) }
         ensures empty { OnErr result (dones.new.items ≡ []) }
     {
-        if ops.is_empty() || ops.len() > 64 {
+        if !is_batch(ops) {
             dones.clear();
             return Err(Fault::BadCount);
         }

@@ -1,5 +1,6 @@
 //! One entry of the journal, put out.
-ghost use Rattle.std.specs.Prelude.{◌≡◌, ℕ, IfErr, IfOk, OnErr, OnOk, Some, length, slice_get};
+ghost use Rattle.std.specs.Option.{option_copied};
+ghost use Rattle.std.specs.Prelude.{◌≡◌, IfErr, IfOk, OnErr, OnOk, length, slice_get};
 ghost use Rattle.be_store.specs.History.{IsUntold, Learns};
 ghost use Rattle.be_session.specs.declared.faults.Fault.TheVariants.{Refused};
 ghost use Rattle.be_table.specs.Rule.{entries};
@@ -13,19 +14,28 @@ use be_session::{Fault, Operation, Session, entry_spelled};
 use be_store::Entry;
 use std::alloc::Global;
 
-/// Puts out an entry, as far as there is room: by which pass it is, and its operations, each that made a node with that node.
+/// Puts out an entry, as far as there is room: by which pass it is, and its operations, each that made a node with that node; or
+/// that there is none.
 fn put_entry(
     alloc: Global,
-    entry: &Entry,
+    entry: Option<&Entry>,
     by: &mut u64,
     counts: &mut Counts,
     operations: &mut [Operation],
     bytes: &mut [u8],
 ) -> Result<(), Fault>
-    ensures told { OnOk result (IsEntryPutOut (Some entry.now) by.new counts.new operations.old operations.new bytes.old bytes.new) }
+    ensures told { OnOk result (IsEntryPutOut (option_copied entry.entry) by.new counts.new operations.old operations.new bytes.old bytes.new) }
     ensures err { IfErr result (λ e. e ≡ Refused OutOfMemory) }
     ensures kept { OnErr result ((by.new ≡ by.old) × (counts.new ≡ counts.old) × (operations.new ≡ operations.old) × (bytes.new ≡ bytes.old)) }
 {
+    let Some(entry) = entry else {
+        *by = 0;
+        *counts = Counts {
+            operations: 0,
+            bytes: 0,
+        };
+        return Ok(());
+    };
     let spelling = entry_spelled(alloc, entry.ops.as_slice(), entry.dones.as_slice())?;
     *by = entry.by;
     put_spelling(&spelling, counts, operations, bytes);
@@ -50,15 +60,6 @@ pub(crate) fn tell_entry(
     ensures kept { OnErr result ((by.new ≡ by.old) × (counts.new ≡ counts.old) × (operations.new ≡ operations.old) × (bytes.new ≡ bytes.old)) }
 {
     let list = session.journal_from(alloc, from, 1)?;
-    match list.first() {
-        Some(entry) => put_entry(alloc, entry, by, counts, operations, bytes)?,
-        None => {
-            *by = 0;
-            *counts = Counts {
-                operations: 0,
-                bytes: 0,
-            };
-        }
-    }
+    put_entry(alloc, list.first(), by, counts, operations, bytes)?;
     Ok(session.seen())
 }

@@ -280,8 +280,8 @@ pub extern "C" fn bes_apply_if(
     let mut dones = ArrayVec::new();
     let session = pass.owned.lent();
     match session.apply_if(expected, ops.as_slice(), &mut dones) {
-        Ok(length) => {
-            *entries = length;
+        Ok(number) => {
+            *entries = number;
             put_nodes(made, dones.as_slice());
             DONE
         }
@@ -649,8 +649,8 @@ pub extern "C" fn bes_prepared_text(
         return CLOSED;
     }
     match prepared.owned.lent().text(alloc) {
-        Ok(text) => {
-            put_text(text.as_str(), bytes, count);
+        Ok(printed) => {
+            put_text(printed.as_str(), bytes, count);
             DONE
         }
         Err(fault) => refuse(fault, count),
