@@ -6,6 +6,8 @@
 ghost use Rattle.std.specs.Prelude.{◌≡◌, ◌≤◌, [], IfOk, IfErr, OnErr, length};
 ghost use Rattle.be_store.specs.Conditional.{AcceptsAt, IsLastUnapplied, IsUnapplied, was_held};
 ghost use Rattle.be_store.specs.Passes.{IsPassOf};
+ghost use Rattle.be_store.specs.declared.conditional.ApplyIfError.TheVariants.{Refused};
+ghost use Rattle.be_value.specs.declared.refusals.Refusal.TheVariants.{OutOfMemory};
 
 use crate::tries::{is_busy, longer, stand_back};
 use crate::writing::write_if;
@@ -13,6 +15,7 @@ use crate::{Pass, Store};
 use arrayvec::ArrayVec;
 use be_value::Refusal;
 use be_volume::{Done, Op};
+use std::alloc::AllocFailed;
 use thiserror::Error;
 
 /// Why a conditional write was not made.
@@ -24,6 +27,22 @@ pub enum ApplyIfError {
     /// The write was refused, as `Store::apply` refuses it.
     #[error("{0}")]
     Refused(Refusal),
+}
+
+impl From<Refusal> for ApplyIfError {
+    ghost from_gives = { λ refusal error. error ≡ Refused refusal };
+
+    fn from(refusal: Refusal) -> ApplyIfError {
+        ApplyIfError::Refused(refusal)
+    }
+}
+
+impl<T: Drop> From<AllocFailed<T>> for ApplyIfError {
+    ghost from_gives = { λ _ error. error ≡ Refused OutOfMemory };
+
+    fn from(_failed: AllocFailed<T>) -> ApplyIfError {
+        ApplyIfError::Refused(Refusal::OutOfMemory)
+    }
 }
 
 impl Store {
@@ -47,10 +66,7 @@ impl Store {
         ensures empty { OnErr result (dones.new.items ≡ []) }
     {
         dones.clear();
-        let mut writing = match self.lock(pass) {
-            Ok(writing) => writing,
-            Err(refusal) => return Err(ApplyIfError::Refused(refusal)),
-        };
+        let mut writing = self.lock(pass)?;
         let answer = write_if(&mut writing, number, ops, dones);
         *pass = writing.unlock();
         pass.is_pass();

@@ -113,13 +113,7 @@ impl Store {
         ensures empty { OnErr result (dones.new.items ≡ []) }
     {
         dones.clear();
-        let mut writing = match self.table.lock(pass.move_out()) {
-            Ok(writing) => writing,
-            Err((seat, refusal)) => {
-                *pass = seat;
-                return Err(refusal);
-            }
-        };
+        let mut writing = self.lock(pass)?;
         let answer = write(&mut writing, ops, dones);
         *pass = writing.unlock();
         pass.is_pass();
@@ -369,13 +363,7 @@ impl Store {
         ensures text { IfOk result (λ text. string_bytes text ≡ text_seen pass.new.knows) }
         ensures err { IfErr result (λ e. IsUntold pass.old.knows pass.new.knows e) }
     {
-        let held = match self.table.lock(pass.move_out()) {
-            Ok(writing) => writing,
-            Err((seat, refusal)) => {
-                *pass = seat;
-                return Err(refusal);
-            }
-        };
+        let held = self.lock(pass)?;
         let answer = held.journal_text();
         *pass = held.unlock();
         pass.is_pass();
@@ -403,13 +391,7 @@ impl Store {
         ensures list { IfOk result (λ list. list.items ≡ entries_from (entries pass.new.knows.seen) from most) }
         ensures err { IfErr result (λ e. IsUntold pass.old.knows pass.new.knows e) }
     {
-        let held = match self.table.lock(pass.move_out()) {
-            Ok(writing) => writing,
-            Err((seat, refusal)) => {
-                *pass = seat;
-                return Err(refusal);
-            }
-        };
+        let held = self.lock(pass)?;
         let answer = entries_from(alloc, &held, from, most);
         *pass = held.unlock();
         pass.is_pass();
@@ -431,13 +413,7 @@ impl Store {
         ensures told { IfOk result (λ status. TellsStatus pass.old.knows pass.new.knows status) }
         ensures busy { IfErr result (λ e. FoundHeld e pass.old.knows pass.new.knows) }
     {
-        let mut held = match self.table.lock(pass.move_out()) {
-            Ok(writing) => writing,
-            Err((seat, refusal)) => {
-                *pass = seat;
-                return Err(refusal);
-            }
-        };
+        let mut held = self.lock(pass)?;
         let status = held.status();
         *pass = held.unlock();
         pass.is_pass();

@@ -114,8 +114,5 @@ pub(crate) fn write_if(
     if length != number {
         return Err(ApplyIfError::Conflict(length));
     }
-    match write(writing, ops, dones) {
-        Ok(length) => Ok(length),
-        Err(refusal) => Err(ApplyIfError::Refused(refusal)),
-    }
+    Ok(write(writing, ops, dones)?)
 }

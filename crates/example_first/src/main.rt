@@ -1,13 +1,13 @@
 //! A first program of the store: files a letter, asks who wrote, and prints the journal.
 #![tactic(auto)]
 
-use be_store::{Journal, Kind, Limits, Name, Op, Refusal, Store, Value, parse};
+use be_store::{ApplyIfError, Journal, Kind, Limits, Name, Op, Store, Value, parse};
 use std::alloc::AllocGlobal;
 use std::io;
 use std::process::ExitCode;
 
 /// The nodes of the letters whose sender begins with an A, and the journal of the store.
-fn first_letters<R: AllocGlobal>(rt: &R) -> Result<(Vec<u64>, Journal), Refusal> {
+fn first_letters<R: AllocGlobal>(rt: &R) -> Result<(Vec<u64>, Journal), ApplyIfError> {
     let limits = Limits {
         pages: 64,
         passes: 1,
@@ -18,9 +18,13 @@ fn first_letters<R: AllocGlobal>(rt: &R) -> Result<(Vec<u64>, Journal), Refusal>
         unreachable!()
     };
     let from = Name::new("MAIL:from")?;
-    let index = Op::MkIndex(from.copy(), Kind::Cstr);
-    let sender = Op::Set(1, from, Value::text("Ada")?);
-    store.apply(&mut pass, &[index, Op::New, sender])?;
+    store.apply(&mut pass, &[Op::MkIndex(from.copy(), Kind::Cstr)])?;
+
+    let mut snapshot = store.pinned(&mut pass);
+    let (number, letter) = (snapshot.number(), snapshot.next());
+    drop(snapshot);
+    let sender = Op::Set(letter, from, Value::text("Ada")?);
+    store.apply_if(&mut pass, number, &[Op::New, sender])?;
 
     let query = parse(rt.alloc(), "MAIL:from==A*")?;
     let answer = store.pinned(&mut pass).query(rt.alloc(), &query)?;
@@ -40,8 +44,8 @@ fn main(rt: HostRuntime) -> io::Result<ExitCode> {
             }
             Ok(ExitCode::SUCCESS)
         }
-        Err(refusal) => {
-            eprintln!(rt; "{refusal}")?;
+        Err(error) => {
+            eprintln!(rt; "{error}")?;
             Ok(ExitCode::FAILURE)
         }
     }
