@@ -5,12 +5,15 @@
 
 mod calls;
 mod carrying;
+mod conditional;
 mod races;
 mod room;
 mod sizes;
 mod states;
+mod writers;
 
 use crate::tests::room::{Room, for_one, for_two};
+use crate::tests::writers::change_by_four;
 use be_store::{Kind, Limits, Name, Op, Refusal, Store, Value};
 use be_testing::{OUTSIDE_LIMITS, check_lines, has_hundred_by_each, numbered};
 use std::alloc::{AllocError, Global};
@@ -388,6 +391,45 @@ fn two_writers(rt: HostRuntime) -> Result<(), Fail> {
     let (journal, is_accepted) = room.race(&rt, rt.alloc())?;
     assert!(rt; is_accepted);
     assert!(rt; has_hundred_by_each(&journal)?);
+    Ok(())
+}
+
+/// Of two passes that have read the same, the second to write is told that another write came first, and nothing of it is done.
+/// Without the condition the node that it names is the other pass's, and the write is accepted.
+#[test]
+fn writes_on_what_was_read(rt: HostRuntime) -> Result<(), Fail> {
+    let lines =
+        "0 next / 0 if 0 new;set 1 k LONG 5 / 0 if 0 new => next 1 / commit 1 / node 1 / ok / conflict 1
+0 pin / 0 next / 1 pin / 1 next => pin 1 / next 2 / pin 1 / next 2
+0 if 1 new;set 2 k LONG 6 / 1 if 1 new;set 2 k LONG 7 => commit 2 / node 2 / ok / conflict 2
+1 next / 1 unpin / 1 pin / 1 next => next 2 / ok / pin 2 / next 3
+1 new;set 2 k LONG 7 / 0 unpin / 0 get 2 k / 0 get 3 k => commit 3 / node 3 / ok / ok / LONG 7 / none
+0 if 2 new / 0 if 4 new / 0 if 3 drop 9 / 0 if 3 drop 3 => conflict 3 / conflict 3 / refused 2 NoNode / commit 4 / ok";
+    check_lines(rt.alloc(), &mut for_two(rt.alloc(), 64, 4)?, lines)?;
+    let spent =
+        "0 new / 0 if 0 new / 0 if 1 drop 9 / 0 if 1 new => commit 1 / node 1 / conflict 1 / refused 2 NoNode / refused 9 CommitsSpent";
+    check_lines(rt.alloc(), &mut for_one(rt.alloc(), 64, 1)?, spent)
+}
+
+/// The journal's entries, from any index on and up to any number of them.
+#[test]
+fn entries_of_the_journal(rt: HostRuntime) -> Result<(), Fail> {
+    let lines =
+        "0 entries 0 9 / 0 new;new / 1 set 1 k LONG 5 / 0 drop 2 => commit 1 / node 1 / node 2 / commit 2 / ok / commit 3 / ok
+0 entries 0 9 => 1 by 0 new; new -> node 1; node 2 / 2 by 1 set 1 \"k\" LONG 5 -> ok / 3 by 0 drop 2 -> ok
+1 entries 1 1 / 1 entries 2 1 => 2 by 1 set 1 \"k\" LONG 5 -> ok / 3 by 0 drop 2 -> ok
+1 entries 0 0 / 1 entries 3 9 / 1 entries 18446744073709551615 18446744073709551615 / 1 next => next 3";
+    check_lines(rt.alloc(), &mut for_two(rt.alloc(), 64, 9)?, lines)
+}
+
+/// Four threads write on what they read, and none mixes its nodes with another's or loses an increment.
+#[test]
+fn four_writers(rt: HostRuntime) -> Result<(), Fail> {
+    let answer = match change_by_four(&rt) {
+        Err(Refusal::OutOfMemory) => change_by_four(&rt),
+        answer => answer,
+    };
+    assert_eq!(rt; answer, Ok((4, 200)));
     Ok(())
 }
 

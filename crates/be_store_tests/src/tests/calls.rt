@@ -23,7 +23,7 @@ type Listed<T> = Result<Vec<(Name, T)>, Refusal>;
 /// What is answered as a text, or why it was refused.
 pub(crate) type Text = Result<String, Refusal>;
 
-fn written_text(alloc: Global, written: Written) -> Text {
+pub(crate) fn written_text(alloc: Global, written: Written) -> Text {
     let (number, dones) = written?;
     Ok(reply_lines(alloc, &Reply::Committed(number, dones))?)
 }

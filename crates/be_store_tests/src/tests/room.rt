@@ -3,6 +3,7 @@
 
 use crate::tests::calls::{Text, answer, write};
 use crate::tests::carrying::carry_meanwhile;
+use crate::tests::conditional::answer_beside;
 use crate::tests::races::{closed, journal_of, make_both};
 use crate::tests::states::state_text;
 use be_store::{Journal, Limits, Live, Op, Pass, Refusal, Store, parse};
@@ -141,7 +142,10 @@ impl Room {
 
     /// What pass 0 is answered.
     fn answer_first(&mut self, alloc: Global, words: &str) -> Text {
-        answer(&self.store, alloc, &mut self.first, &mut self.live, words)
+        match answer_beside(&self.store, alloc, &mut self.first, words) {
+            Some(text) => text,
+            None => answer(&self.store, alloc, &mut self.first, &mut self.live, words),
+        }
     }
 
     /// What pass 1 is answered.
@@ -149,7 +153,10 @@ impl Room {
         if !self.has_second {
             return Err(Refusal::BadLimits);
         }
-        answer(&self.store, alloc, &mut self.second, &mut self.live, words)
+        match answer_beside(&self.store, alloc, &mut self.second, words) {
+            Some(text) => text,
+            None => answer(&self.store, alloc, &mut self.second, &mut self.live, words),
+        }
     }
 
     /// How much of the journal each of the two passes has seen.

@@ -1,0 +1,159 @@
+//! Four threads that write on what they read.
+ghost use Rattle.std.specs.Prelude.{◌≡◌, None};
+ghost use Rattle.be_store.specs.Passes.{IsPassOf};
+ghost use Rattle.be_store.specs.Seats.{pinned_number};
+
+use be_store::{ApplyIfError, Kind, Limits, Name, Op, Pass, Refusal, Store, Value, parse};
+use std::alloc::{AllocGlobal, Global};
+use std::thread;
+use std::thread::Threads;
+
+const TRIES: u64 = 10_000_000;
+
+/// What a pass read before its next write: its pin, the number of the next node, and the count at node 1.
+#[derive(Clone, Copy)]
+struct Seen {
+    number: u64,
+    next: u64,
+    count: i64,
+}
+
+fn look(store: &Store, pass: &mut Pass, count: &Name) -> Seen
+    requires pass { IsPassOf store.now pass.old }
+    requires unpinned { pinned_number pass.old.knows.phase ≡ None }
+    ensures { IsPassOf store.now pass.new }
+{
+    let mut snapshot = store.pinned(pass);
+    let found = match snapshot.get(1, count) {
+        Some(Value::Llng(found)) => found,
+        _ => 0,
+    };
+    Seen {
+        number: snapshot.number(),
+        next: snapshot.next(),
+        count: found,
+    }
+}
+
+/// Makes a node that says which pass made it, and adds one to the count, on what was read. Whether no other write came first.
+fn change(store: &Store, pass: &mut Pass, seen: &Seen) -> Result<bool, Refusal>
+    requires { IsPassOf store.now pass.old }
+    ensures { IsPassOf store.now pass.new }
+{
+    let maker = Value::uint64(pass.number());
+    let ops = [
+        Op::New,
+        Op::Set(seen.next, Name::new("by")?, maker),
+        Op::Set(
+            1,
+            Name::new("count")?,
+            Value::int64(seen.count.saturating_add(1)),
+        ),
+    ];
+    match store.apply_if_or_retry(pass, seen.number, &ops, TRIES) {
+        Ok(_) => Ok(true),
+        Err(ApplyIfError::Conflict(_) | ApplyIfError::Refused(Refusal::OutOfMemory)) => Ok(false),
+        Err(ApplyIfError::Refused(refusal)) => Err(refusal),
+    }
+}
+
+/// Reads and writes until no other write came between.
+fn change_at_last(store: &Store, pass: &mut Pass) -> Result<(), Refusal>
+    requires { IsPassOf store.now pass.old }
+    ensures { IsPassOf store.now pass.new }
+{
+    let count = Name::new("count")?;
+    for _ in 0..TRIES {
+        if let Some(_) = pass.pinned() {
+            return Err(Refusal::BadLimits);
+        }
+        let seen = look(store, pass, &count);
+        if change(store, pass, &seen)? {
+            return Ok(());
+        }
+    }
+    Err(Refusal::BadLimits)
+}
+
+/// Fifty changes.
+fn change_fifty(store: &Store, mut pass: Pass) -> Result<(), Refusal>
+    requires { IsPassOf store.now pass }
+{
+    for _ in 0..50 {
+        change_at_last(store, &mut pass)?;
+    }
+    Ok(())
+}
+
+fn change_by_two<R: Threads + Sync>(
+    rt: &R,
+    store: &Store,
+    first: Pass,
+    second: Pass,
+) -> Result<(), Refusal>
+    requires { IsPassOf store.now first × IsPassOf store.now second }
+{
+    let (one, other) = thread::join(
+        rt,
+        || change_fifty(store, first),
+        || change_fifty(store, second),
+    );
+    one?;
+    other
+}
+
+/// How many nodes a pass has made, and the count, at the end.
+fn totals(store: &Store, alloc: Global, pass: &mut Pass) -> Result<(u64, i64), Refusal>
+    requires pass { IsPassOf store.now pass.old }
+    requires unpinned { pinned_number pass.old.knows.phase ≡ None }
+{
+    let mut snapshot = store.pinned(pass);
+    let mut made = 0;
+    for text in ["by==0", "by==1", "by==2", "by==3"] {
+        let found = snapshot.query(alloc, &parse(alloc, text)?)?;
+        if found.nodes.len() == 50 {
+            made += 1;
+        }
+    }
+    match snapshot.get(1, &Name::new("count")?) {
+        Some(Value::Llng(count)) => Ok((made, count)),
+        _ => Ok((made, 0)),
+    }
+}
+
+/// Four threads make fifty nodes each and count them. How many of the four have made just fifty, and the count.
+pub(crate) fn change_by_four<R: AllocGlobal + Threads + Sync>(
+    rt: &R,
+) -> Result<(u64, i64), Refusal> {
+    let limits = Limits {
+        pages: 256,
+        passes: 5,
+        commits: 1000,
+    };
+    let (store, mut passes) = Store::open(rt.alloc(), limits)?;
+    let (Some(mut reader), Some(fourth), Some(third), Some(second), Some(first)) = (
+        passes.pop(),
+        passes.pop(),
+        passes.pop(),
+        passes.pop(),
+        passes.pop(),
+    ) else {
+        unreachable!()
+    };
+    store.apply(
+        &mut reader,
+        &[Op::New, Op::MkIndex(Name::new("by")?, Kind::Ullg)],
+    )?;
+    let (one, other) = thread::join(
+        rt,
+        ||
+            requires { IsPassOf store first × IsPassOf store second }
+        { change_by_two(rt, &store, first, second) },
+        ||
+            requires { IsPassOf store third × IsPassOf store fourth }
+        { change_by_two(rt, &store, third, fourth) },
+    );
+    one?;
+    other?;
+    totals(&store, rt.alloc(), &mut reader)
+}
