@@ -13,7 +13,7 @@ use clap::{Arg, ArgAction, ArgMatches, Command, Error, value_parser};
 use std::alloc::{AllocError, Global};
 
 /// The program's version. The library for C says its own in include/bestore.h, and c/test.sh compares the two.
-const VERSION: &str = "0.1.0";
+const VERSION: &str = "0.2.0";
 
 /// The argument of all commands but `race`, as help shows it.
 const FILE: &str = "FILE";
