@@ -1,4 +1,4 @@
--- What a pass is told of how full the store is.
+-- What a pass learns of how full the store is.
 use Rattle.std.specs.Prelude.{List, [], ◌∷◌}
 use Rattle.be_table.specs.declared.pass.Knowledge.{Knowledge}
 use Rattle.be_table.specs.declared.pass.Move.{Move}

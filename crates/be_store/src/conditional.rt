@@ -46,11 +46,11 @@ impl<T: Drop> From<AllocFailed<T>> for ApplyIfError {
 }
 
 impl Store {
-    /// Writes as `apply_into` does if the journal has `number` entries, and otherwise nothing. A pass that is pinned to
-    /// `number` so writes on exactly what it read. A pin stays.
+    /// Writes as `apply_into` does if the journal has `number` entries, and otherwise nothing. So a pass that is pinned to
+    /// `number` writes on exactly what it read. A pin stays.
     ///
-    /// Busy comes first; then Conflict with the length that was found, in which case nothing is written; then the refusals of
-    /// `apply_into`. The list of answers is empty after an error. A Conflict costs the lock alone: three steps.
+    /// Errors, in this order: Busy; Conflict with the length that was found; the others of `apply_into`. After an error
+    /// nothing is written and the list is empty. A Conflict costs the lock alone: three steps.
     pub fn apply_if_into(
         &self,
         pass: &mut Pass,
@@ -79,7 +79,7 @@ impl Store {
         }
     }
 
-    /// The same, with the answers in a list of their own.
+    /// Writes as `apply_if_into` does, and returns the outcomes in a list of their own.
     pub fn apply_if(
         &self,
         pass: &mut Pass,
@@ -99,8 +99,9 @@ impl Store {
         }
     }
 
-    /// Writes as `apply_if` does, and tries again while another pass holds the lock, up to so many times in all; between two
-    /// tries it stands back as `apply_or_retry` does. A Conflict is returned at once, since the same call can't succeed then.
+    /// Writes as `apply_if` does, and tries again while another pass holds the lock, up to `tries` times in all; between two
+    /// tries other threads may run, as in `apply_or_retry`. A Conflict is returned at once, because the same call can't
+    /// succeed any more.
     pub fn apply_if_or_retry(
         &self,
         pass: &mut Pass,

@@ -13,7 +13,7 @@ use be_value::Refusal;
 use std::alloc::Global;
 use std::marker::Model;
 
-/// A query that is asked again and again, with its answer at the last refresh.
+/// A live query: it is asked again and again, and keeps its answer at the last refresh.
 #[derive(Drop)]
 pub struct Live {
     alloc: Global,
@@ -35,7 +35,7 @@ impl Model for Live {
 }
 
 impl Live {
-    /// A query that was never refreshed: its last answer is empty.
+    /// A query that was never refreshed: its last answer is empty. No memory.
     pub fn new(alloc: Global, query: Query) -> Live
         ensures { result ≡ record { query = query; last = [] } }
     {
@@ -53,10 +53,10 @@ impl Live {
         &self.query
     }
 
-    /// Takes the query's answer now, wherever it was asked, and tells which nodes came and which went since the last one.
-    /// OutOfMemory leaves the live query as it was.
+    /// Takes the query's nodes as of now, wherever they were found, and returns which nodes came and which went since the
+    /// last time.
     ///
-    /// It goes over both answers twice.
+    /// OutOfMemory leaves the live query as it was. It goes over both lists twice, and takes memory for what it returns.
     pub fn update(&mut self, answer: Vec<u64>) -> Result<Updates, Refusal>
         requires { IsStrictlyIncreasing answer.items }
         ensures ok { IfOk result (λ u. (self.new ≡ record { query = self.old.query; last = answer.items })
@@ -69,10 +69,9 @@ impl Live {
         Ok(Updates { created, removed })
     }
 
-    /// Asks the query in the pinned version, and tells which nodes came and which went since the last refresh. NotCovered
-    /// and OutOfMemory leave it as it was.
+    /// Asks the query in the pinned version, and returns which nodes came and which went since the last refresh.
     ///
-    /// Beside the query itself it costs what `update` does.
+    /// NotCovered and OutOfMemory leave it as it was. It costs what `Store::query` and `update` cost.
     pub fn refresh(&mut self, store: &Store, pass: &mut Pass) -> Result<Updates, Refusal>
         requires pass { IsPassOf store.now pass.old }
         requires pinned { (n : ℕ) × IsPinnedTo pass.old.knows n }

@@ -29,7 +29,7 @@ use be_value::{Kind, Name, Refusal, Value};
 use be_volume::Op;
 use std::alloc::Global;
 
-/// A pass that is pinned for as long as this lives. Whichever way it goes, the pass is unpinned then.
+/// A pass that is pinned as long as this lives. Whichever way it goes, the pass is unpinned then.
 pub struct Pinned<'a> {
     store: &'a Store,
     pass: &'a mut Pass,
@@ -39,7 +39,8 @@ pub struct Pinned<'a> {
 }
 
 impl Store {
-    /// Pins the version that is current, as `pin` does, until what it gives goes. Three steps, and one at the end.
+    /// Pins the current version, as `pin` does, until the guard that it returns goes. Three steps, and one at the end; no
+    /// memory.
     pub fn pinned<'a>(&'a self, pass: &'a mut Pass) -> Pinned<'a>
         requires pass { IsPassOf self.now pass.old }
         requires unpinned { pinned_number pass.old.knows.phase ≡ None }
@@ -57,7 +58,7 @@ impl Store {
 }
 
 impl Pinned<'_> {
-    /// How many entries of the journal the version has that is read.
+    /// The number of the version that is read: how many entries of the journal it has.
     pub fn number(&self) -> u64
         ensures { result ≡ self.now.number }
     {

@@ -22,7 +22,7 @@ use be_volume::{Done, Op};
 use std::alloc::Global;
 use std::marker::Model;
 
-/// A shared store. A pass is used with the store that made it.
+/// A shared store. Use a pass only with the store that made it.
 #[derive(Drop)]
 pub struct Store {
     table: VersionTable,
@@ -61,10 +61,10 @@ impl Store {
     ghost use Rattle.be_store.specs.Calls.{HasWrites, ReadsFronts};
     ghost use Rattle.be_store.specs.Statuses.{TellsStatus};
 
-    /// A store with an empty journal, and its passes in the order of their numbers, which have seen nothing.
+    /// Opens an empty store. Returns it with its passes, in the order of their numbers from 0; they have seen nothing.
     ///
-    /// BadLimits exactly where a limit is out of its range, and OutOfMemory where a growth was refused. The memory of
-    /// all pages, 4 KiB each, is taken here.
+    /// BadLimits exactly if a limit is out of its range; OutOfMemory. It takes the memory of all pages, 4 KiB each, and for a
+    /// moment their words once more.
     pub fn open(alloc: Global, limits: Limits) -> Result<(Store, Vec<Pass>), Refusal>
         ensures { MatchResult result
             (λ r. (r.0.limits ≡ limits) × (length r.1.items ≡ limits.passes) × AreNew r.0 0 r.1.items × IsWithin limits)
@@ -89,16 +89,20 @@ impl Store {
         }
     }
 
-    /// Writes 1 to 64 operations, all or none. Answers the journal's length with this write, and puts an answer for each
-    /// operation in the place of what a list had. A pin stays.
+    /// Writes a transaction of 1 to 64 operations, all or none. Returns its commit number, which is the journal's length with
+    /// it, and fills `dones` with the outcome of each operation, in place of what the list had. A pin stays.
     ///
-    /// Busy where the call's one try finds another pass holding the lock: it may be made again. Else a refusal from NoNode
-    /// to NotIndexable as the volume gives it; else CommitsSpent where the journal is at its limit, OutOfMemory where its
-    /// entry found no memory, and Full where no page is free. What a refused write did is undone, and the list is empty. It
-    /// costs new pages on the way to each change, and where none is free, or many wait for it, a look at each announcement
-    /// and at the pages that this frees.
+    /// Errors, in this order: Busy if the one try finds that another pass holds the lock (the call may be made again); NoNode
+    /// to NotIndexable as the volume after the journal gives it; CommitsSpent if the journal is at its limit; OutOfMemory if
+    /// there is no room for the entry (the call may be made again); Full if no page is free. After an error nothing is
+    /// written and the list is empty.
     ///
-    /// The list is filled where it stands, since one that is given by value costs its whole capacity at each move.
+    /// It costs one compare-exchange to begin, new pages on the way to each change, one store to publish and one to unlock.
+    /// Each word that it reads is a load, and each that it changes a store. If no page is free, or 32 were retired since the
+    /// last scan, it reads each reader slot, and works on each page that this frees. It takes memory for its entry alone.
+    /// Busy costs the compare-exchange.
+    ///
+    /// The list is filled in place, because one that is returned by value costs its whole capacity at each move.
     pub fn apply_into(
         &self,
         pass: &mut Pass,
@@ -126,7 +130,7 @@ impl Store {
         }
     }
 
-    /// The same, with the answers in a list of their own.
+    /// Writes as `apply_into` does, and returns the outcomes in a list of their own.
     pub fn apply(&self, pass: &mut Pass, ops: &[Op]) -> Result<(u64, ArrayVec<Done, 64>), Refusal>
         requires pass { IsPassOf self.now pass.old }
         requires count { (1 ≤ length ops.now) × (length ops.now ≤ 64) }
@@ -141,9 +145,11 @@ impl Store {
         }
     }
 
-    /// Writes as `apply` does, and tries again while another pass holds the lock, so many times at most in all. Before
-    /// each further try other threads may run, twice as often as before the last one, up to 1,024 times. Busy then names
+    /// Writes as `apply` does, and tries again while another pass holds the lock, up to `tries` times in all. Busy then names
     /// the pass that the last try found.
+    ///
+    /// Before each further try other threads may run: once, then twice as often each time, up to 1,024 times. A try that
+    /// finds the lock taken costs one compare-exchange.
     pub fn apply_or_retry(
         &self,
         pass: &mut Pass,
@@ -169,8 +175,8 @@ impl Store {
         self.apply(pass, ops)
     }
 
-    /// Pins the version that is current: what the pass then reads is the volume after the journal up to there, until it
-    /// unpins, whatever is written meanwhile. Answers the number of entries. Three steps.
+    /// Pins the current version and returns its number. The pass then reads the volume after that many entries of the journal
+    /// until it unpins, whatever is written meanwhile. Three steps, and no memory.
     pub fn pin(&self, pass: &mut Pass) -> u64
         requires pass { IsPassOf self.now pass.old }
         requires unpinned { pinned_number pass.old.knows.phase ≡ None }
@@ -182,7 +188,7 @@ impl Store {
         self.table.look_again(pass).0
     }
 
-    /// Gives the pin up. One step.
+    /// Releases the pin. One step, and no memory.
     pub fn unpin(&self, pass: &mut Pass)
         requires pass { IsPassOf self.now pass.old }
         requires pinned { (n : ℕ) × IsPinnedTo pass.old.knows n }
@@ -204,9 +210,8 @@ impl Store {
         (self.table.pinned_look(pass.move_out()), page)
     }
 
-    /// The number that the next `Op::New` gives, in the pinned version. It costs one load, and takes no memory.
-    ///
-    /// A write by `apply_if` at the pin's number may so name the nodes that it makes.
+    /// The number that the next `Op::New` makes, in the pinned version. So a batch that is written by `apply_if` at the pin's
+    /// number may name the nodes that it makes. One load, and no memory.
     pub fn next(&self, pass: &mut Pass) -> u64
         requires pass { IsPassOf self.now pass.old }
         requires pinned { (n : ℕ) × IsPinnedTo pass.old.knows n }
@@ -219,8 +224,12 @@ impl Store {
         number
     }
 
-    /// The nodes of which the query is true in the pinned version, ascending, and the pin. NotCovered where the query
-    /// rests on no index of that version, and OutOfMemory. It costs a walk over each range that its plan picks.
+    /// The nodes of which the query is true in the pinned version, ascending, and the pin's number.
+    ///
+    /// NotCovered if the query rests on no index of that version; OutOfMemory. It costs a descent of a tree for each chosen
+    /// index, and a walk over the range of keys that the query leaves of it. If the range doesn't decide the query, it looks
+    /// up the other names at each key. It takes memory for the plan, the nodes, and the marks by which many nodes are put in
+    /// order.
     pub fn query(&self, alloc: Global, pass: &mut Pass, query: &Query) -> Result<Answer, Refusal>
         requires pass { IsPassOf self.now pass.old }
         requires pinned { (n : ℕ) × IsPinnedTo pass.old.knows n }
@@ -238,9 +247,11 @@ impl Store {
         Ok(Answer { pin, nodes: nodes? })
     }
 
-    /// What the query would be answered from in the pinned version: the comparisons that the version's indices choose, and
-    /// their score. `be_plan::explain` gives them as a text. NotCovered where the query rests on no index of that version,
-    /// and OutOfMemory. It asks for the index of each comparison's name, and reads no key and no node.
+    /// What the query would be answered from in the pinned version: the comparisons whose indices are chosen, and their
+    /// score. `be_plan::explain` returns them as a text.
+    ///
+    /// NotCovered if the query rests on no index of that version; OutOfMemory. It asks for the index of each comparison's
+    /// name, and reads no key and no node. It takes memory for the plan.
     pub fn explain(&self, alloc: Global, pass: &mut Pass, query: &Query) -> Result<Cover, Refusal>
         requires pass { IsPassOf self.now pass.old }
         requires pinned { (n : ℕ) × IsPinnedTo pass.old.knows n }
@@ -270,8 +281,10 @@ impl Store {
         value
     }
 
-    /// A node's attributes in the pinned version, by ascending bytes of their names. NoNode where the node isn't there,
-    /// and OutOfMemory only where it is.
+    /// A node's attributes in the pinned version, by ascending bytes of their names.
+    ///
+    /// NoNode if the node isn't there; OutOfMemory only if it is. It costs one descent, and a step for each attribute. It
+    /// takes memory for the list.
     pub fn attrs(
         &self,
         alloc: Global,
@@ -290,8 +303,9 @@ impl Store {
         list
     }
 
-    /// The names and kinds of the indices of the pinned version, by ascending bytes of the names. OutOfMemory where a
-    /// growth was refused.
+    /// The names and kinds of the indices of the pinned version, by ascending bytes of the names.
+    ///
+    /// OutOfMemory. It reads the version page alone, and takes memory for the list.
     pub fn indices(&self, alloc: Global, pass: &mut Pass) -> Result<Vec<(Name, Kind)>, Refusal>
         requires pass { IsPassOf self.now pass.old }
         requires pinned { (n : ℕ) × IsPinnedTo pass.old.knows n }
@@ -304,8 +318,10 @@ impl Store {
         list
     }
 
-    /// The nodes of the pinned version from a number on, ascending, and so many of them at most. OutOfMemory where a growth
-    /// was refused. It costs one descent, and a step for each node that it gives and for each of their attributes.
+    /// Up to `most` nodes of the pinned version from the number `from` on, ascending.
+    ///
+    /// OutOfMemory. It costs one descent, and a step for each node that it returns and for each of their attributes. It takes
+    /// memory for the list.
     pub fn nodes(
         &self,
         alloc: Global,
@@ -324,13 +340,14 @@ impl Store {
         list
     }
 
-    /// The next list of the operations that make the pinned version again on an empty store, 1 to 64, and none after the
-    /// last. A new `Place` stands before the first. From there on the lists of one pin, put end to end, are be_state's
-    /// `state_ops` of that version, and each but the last has 64. At another pin the place has no meaning: begin with a
-    /// new one there.
+    /// The next batch of the operations that make the pinned version again on an empty store, 1 to 64 of them, and None after
+    /// the last. A new `Place` is before the first. From there on the batches of one pin, put end to end, are be_state's
+    /// `state_ops` of that version, and each but the last has 64. At another pin a place has no meaning: begin with a new one
+    /// there.
     ///
-    /// OutOfMemory where a growth was refused: nothing is lost then, and the call may be made again. All calls together
-    /// read the attributes of each number that was given twice, and for each attribute they search its index twice.
+    /// OutOfMemory: nothing is lost then, and the call may be made again. All calls together read the attributes of each
+    /// number that was given twice, and for each attribute they search its index twice. A call takes memory for its batch and
+    /// for one node's operations.
     pub fn state(
         &self,
         alloc: Global,
@@ -352,10 +369,10 @@ impl Store {
         Ok(list?)
     }
 
-    /// The journal's text up to now, as `Journal::text` has it, while passes are in use. A pin stays.
+    /// The journal's text up to now, as `Journal::text` returns it, while passes are in use. A pin stays.
     ///
-    /// Busy where the call's one try finds another pass holding the lock, and OutOfMemory. The lock is held while the text is
-    /// made, so other passes' writes are answered Busy meanwhile.
+    /// Busy if the one try finds that another pass holds the lock; OutOfMemory. It holds the lock while it makes the text, so
+    /// other passes' writes are Busy meanwhile.
     pub fn journal_text(&self, pass: &mut Pass) -> Result<String, Refusal>
         requires pass { IsPassOf self.now pass.old }
         ensures pass { IsPassOf self.now pass.new }
@@ -373,11 +390,11 @@ impl Store {
         }
     }
 
-    /// The journal's entries from an index on, from 0, up to so many of them, while passes are in use: each with its pass, its
-    /// operations and their answers. The entry of index n is that of the write with the number n + 1. A pin stays.
+    /// Up to `most` entries of the journal from the index `from` on, which counts from 0, while passes are in use. Each has
+    /// its pass, its operations and their outcomes. The entry with the index n has the commit number n + 1. A pin stays.
     ///
-    /// Busy where the call's one try finds another pass holding the lock, and OutOfMemory. The lock is held while the entries
-    /// are read, so other passes' writes are answered Busy meanwhile.
+    /// Busy if the one try finds that another pass holds the lock; OutOfMemory. It holds the lock while it reads the entries,
+    /// so other passes' writes are Busy meanwhile.
     pub fn journal_from(
         &self,
         alloc: Global,
@@ -401,11 +418,11 @@ impl Store {
         }
     }
 
-    /// How full the store is, and whose pin is the oldest, while passes are in use. A pin stays.
+    /// How full the store is, and which pass is the oldest active reader, while passes are in use. A pin stays.
     ///
-    /// Busy, and nothing else, where the call's one try finds another pass holding the lock. While it holds the lock it looks
-    /// at each announcement, and frees the retired pages that none of them holds: so those that it counts as retired are
-    /// held. It takes no memory.
+    /// Busy if the one try finds that another pass holds the lock, and no other error. It holds the lock while it reads each
+    /// reader slot, and frees the retired pages that none of them keeps: so those that it counts as retired are kept. No
+    /// memory.
     pub fn status(&self, pass: &mut Pass) -> Result<Status, Refusal>
         requires pass { IsPassOf self.now pass.old }
         ensures pass { IsPassOf self.now pass.new }
@@ -420,8 +437,8 @@ impl Store {
         Ok(status)
     }
 
-    /// Two passes tell each other what they have seen: both have then seen what either had, of two beginnings of one
-    /// journal the longer. Answers its length. Three steps.
+    /// Both passes have then seen what either had: of two prefixes of one journal the longer. Returns its length. Three
+    /// steps, and no memory.
     pub fn meet(&self, left: &mut Pass, right: &mut Pass) -> u64
         requires passes { IsPassOf self.now left.old × IsPassOf self.now right.old }
         ensures passes { IsPassOf self.now left.new × IsPassOf self.now right.new }
@@ -437,11 +454,13 @@ impl Store {
         length
     }
 
-    /// The journal, once all passes are back. They may be pinned. A store whose pass was dropped can't be closed.
+    /// Closes the store and returns its journal. It takes all passes; they may be pinned. A store whose pass was dropped
+    /// can't be closed.
     ///
-    /// `writes` and `reads` are the promise of the whole, whatever calls were made on whatever threads: a write that was
-    /// accepted with the number n is the journal's n-th entry, with its pass, its operations and its answers; and what a
-    /// pass read at a pin n was the volume after the journal's first n entries.
+    /// `writes` and `reads` are the promise of the whole, whatever calls were made on whatever threads. A write that was
+    /// accepted with the number n is the journal's n-th entry, with its pass, its operations and its outcomes. What a pass
+    /// read at a pin n was the volume after the journal's first n entries. It costs a load and a join for each pass, and no
+    /// memory.
     pub fn close(self, passes: Vec<Pass>) -> Journal
         requires passes { AllAt self.id passes.items }
         requires all { (k : ℕ) → k < self.limits.passes → Has (map knows_of passes.items) k }
