@@ -6,7 +6,7 @@ new
 set 1 MAIL:from CSTR "Ada <ada@example.org>"
 set 1 MAIL:status CSTR New
 
-# The window asks once. From then on it is told what came and what went.
+# The window asks once. From then on each refresh returns what came and what went.
 live MAIL:status==New
 refresh
 
