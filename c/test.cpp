@@ -174,7 +174,7 @@ static void queries()
     refused(BES_SYNTAX, at_byte(0), [&] { pin.query(std::string_view()); });
     refused(BES_SYNTAX, at_byte(9), [&] { pin.query("name==h\xc3\xa9)"); });
     refused(BES_BAD_PATTERN, at_byte(7), [&] { pin.explain("name==\"[a\""); });
-    refused(BES_NOT_COVERED, [&] { pin.query("size==1"); });
+    refused(BES_NOT_COVERED, at_byte(8), [&] { pin.query("n==1 || size==1"); });
     Prepared prepared("n>=299");
     CHECK(pin.query(prepared) == Nodes{299, 300});
     Prepared other = std::move(prepared);
