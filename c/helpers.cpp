@@ -238,6 +238,7 @@ static void texts()
           "[\xd0\x96\xd0\xb6][\xd0\xb6\xd0\x96][\xcf\x80\xce\xa0][\xc5\xbe\xc5\xbd]");
     CHECK(any_case("\xc3\x97\xc3\xb7\xc3\x9f\xff\xc3") == "\xc3\x97\xc3\xb7\xc3\x9f\xff\xc3");
     CHECK(caret("gr\xc3\xb6\xc3\x9f""e==[", 9) == "gr\xc3\xb6\xc3\x9f""e==[\n       ^" && caret("a\nb<", 4) == "b<\n  ^" && caret("", 3) == "\n^");
+    CHECK(to_utf8("a\xff") == "a?" && to_utf8("\xc3\xa9\xc3\xa9", 3) == "\xc3\xa9" && to_utf8("").empty());
     CHECK(std::string(Refusal(BES_BUSY).name()) == "BES_BUSY");
 }
 

@@ -310,6 +310,32 @@ static void any_case(void)
     CHECK(bes_close(&pass) == BES_OK);
 }
 
+/* Any bytes become a text that the library takes, and one that it takes stays as it is. */
+static void valid_texts(void)
+{
+    static char bytes[400 + 1], valid[256], again[256];
+    bes_pass pass = BES_PASS_INIT;
+    open_store(&pass);
+    CHECK(bes_unpin(&pass) == BES_OK);
+    CHECK(bes_to_utf8("a\xff\xc3\xa9\xc3", 5, valid, 256) == 5 && strcmp(valid, "a?\xc3\xa9?") == 0);
+    CHECK(bes_to_utf8("ab\xc3\xa9", 4, valid, 4) == 2 && strcmp(valid, "ab") == 0 && bes_to_utf8("\xed\xa0\x80", 3, valid, 9) == 3);
+    CHECK(strcmp(valid, "???") == 0 && bes_to_utf8("", 0, valid, 1) == 0 && bes_to_utf8("a\0b", 3, valid, 9) == 3);
+    for (int round = 0; round < 2000; round++) {
+        size_t length = below(round % 2 == 0 ? 8 : 400), count;
+        uint32_t error;
+        for (size_t i = 0; i < length; i++)
+            bytes[i] = (char)(below(3) == 0 ? below(128) : 128 + below(128));
+        count = bes_to_utf8(bytes, length, valid, sizeof valid);
+        error = bes_set_text(&pass, 1, "t", valid);
+        CHECK(count == strlen(valid) && error == BES_OK && bes_to_utf8(valid, count, again, sizeof again) == count);
+        CHECK(strcmp(valid, again) == 0);
+        bytes[length] = 0;
+        if (strlen(bytes) == length && bes_set_text(&pass, 1, "t", bytes) == BES_OK)
+            CHECK(strcmp(valid, bytes) == 0);
+    }
+    CHECK(bes_close(&pass) == BES_OK);
+}
+
 static void caret_is(const char *text, uint64_t byte, const char *expected)
 {
     char printed[256] = "";
@@ -339,6 +365,7 @@ int main(void)
     pairs();
     escapes();
     any_case();
+    valid_texts();
     carets();
     return 0;
 }

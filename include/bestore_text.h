@@ -1,4 +1,4 @@
-/* Helpers over the texts of queries: comparisons, indices that they need, escapes, and a caret under an error. Include bestore.h,
+/* Helpers over texts: the comparisons of a query, indices that they need, escapes, UTF-8, and a caret under an error. Include bestore.h,
  * which includes this file.
  *
  * A text that bes_next_comparison and the helpers over it read must be a query that the library parses: one that bes_query has
@@ -257,6 +257,43 @@ static inline size_t bes_any_case(const char *text, char *out, size_t room)
     }
     if (room > 0)
         out[at < room ? at : room - 1] = 0;
+    return at;
+}
+
+/* How many bytes the character of UTF-8 at the front of a text has, or 0 if no character begins there. A zero byte is none. */
+static inline size_t bes_character(const char *text, size_t length)
+{
+    unsigned char first = length > 0 ? (unsigned char)text[0] : 0, second = length > 1 ? (unsigned char)text[1] : 0;
+    unsigned char least = first == 0xe0 ? 0xa0 : first == 0xf0 ? 0x90 : 0x80, most = first == 0xed ? 0x9f : first == 0xf4 ? 0x8f : 0xbf;
+    size_t count = first >= 0xf0 ? 4 : first >= 0xe0 ? 3 : 2;
+    if (first < 0x80)
+        return first != 0;
+    if (first < 0xc2 || first > 0xf4 || count > length || second < least || second > most)
+        return 0;
+    for (size_t i = 2; i < count; i++)
+        if (((unsigned char)text[i] & 0xc0) != 0x80)
+            return 0;
+    return count;
+}
+
+/* Makes a text of any bytes, as a file's name or a mail's header, that the library takes: each byte that is no character of UTF-8
+ * becomes a ?, and a text that is too long is cut after a whole character.
+ * [out] out      the text and a zero byte, `room` bytes at most: 256 for a value, 64 for a name
+ * Returns how many bytes it has, without the zero byte. */
+static inline size_t bes_to_utf8(const char *text, size_t length, char *out, size_t room)
+{
+    size_t at = 0, count;
+    for (size_t i = 0; i < length; i += count > 0 ? count : 1) {
+        count = bes_character(text + i, length - i);
+        if (at + (count > 0 ? count : 1) >= room)
+            break;
+        if (count == 0)
+            out[at++] = '?';
+        for (size_t j = 0; j < count; j++)
+            out[at++] = text[i + j];
+    }
+    if (room > 0)
+        out[at] = 0;
     return at;
 }
 

@@ -1,4 +1,4 @@
-// Texts of queries for C++17: comparisons, escapes, and a caret under an error. Include bestore.hpp, which includes this file.
+// Texts for C++17: the comparisons of a query, escapes, UTF-8, and a caret under an error. Include bestore.hpp, which includes this file.
 #ifndef BESTORE_TEXT_HPP
 #define BESTORE_TEXT_HPP
 
@@ -115,6 +115,14 @@ inline std::string any_case(std::string_view text)
         }
     }
     return pattern;
+}
+
+// A text of any bytes, as a file's name, made one that the library takes, as bes_to_utf8 does: `most` bytes at most.
+inline std::string to_utf8(std::string_view text, std::size_t most = 255)
+{
+    std::string valid(most + 1, '\0');
+    valid.resize(bes_to_utf8(text.data(), text.size(), valid.data(), valid.size()));
+    return valid;
 }
 
 // A query's text, and on the next line a caret under the character at a byte offset. Of a text with several lines it is the one with
