@@ -636,25 +636,25 @@ static void all_passes(void)
     bes_pass first = BES_PASS_INIT, last = BES_PASS_INIT;
     uint64_t number = 0;
     CHECK(bes_open(64, 64, 10, &first) == BES_OK);
-    CHECK(take_all(&first, taken) == 63);
+    CHECK(take_passes(&first, taken) == 63);
     for (int i = 0; i < 63; i += 2)
         CHECK(bes_pin(&taken[i], &number) == BES_OK);
-    close_all(taken, 63);
+    close_passes(taken, 63);
     for (int i = 0; i < 200; i++)
         CHECK(bes_meet(&first, &number) == BES_OK);
-    CHECK(take_all(&first, taken) == 63);
+    CHECK(take_passes(&first, taken) == 63);
     CHECK(bes_meet(&first, &number) == BES_NO_PASS);
     CHECK(bes_move(&taken[40], &last) == BES_OK);
-    close_all(taken, 40);
-    close_all(taken + 41, 22);
+    close_passes(taken, 40);
+    close_passes(taken + 41, 22);
     CHECK(bes_close(&first) == BES_OK);
-    CHECK(take_all(&last, taken) == 63);
-    close_all(taken, 63);
+    CHECK(take_passes(&last, taken) == 63);
+    close_passes(taken, 63);
     CHECK(bes_close(&last) == BES_OK);
     /* Those that nobody has used are given back with the handle that they wait with. */
     CHECK(bes_open(64, 64, 10, &first) == BES_OK && bes_another(&first, &last) == BES_OK && bes_close(&first) == BES_OK);
-    CHECK(take_all(&last, taken) == 63);
-    close_all(taken, 63);
+    CHECK(take_passes(&last, taken) == 63);
+    close_passes(taken, 63);
     CHECK(bes_close(&last) == BES_OK);
 }
 

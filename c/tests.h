@@ -35,7 +35,7 @@ static inline bool is_as_it_was(bes_pass *pass, const view *before)
 }
 
 /* Takes all passes that this one is given. Returns how many they were. */
-static inline int take_all(bes_pass *pass, bes_pass *taken)
+static inline int take_passes(bes_pass *pass, bes_pass *taken)
 {
     for (int i = 0;; i++) {
         uint32_t answer = bes_another(pass, &taken[i]);
@@ -46,7 +46,7 @@ static inline int take_all(bes_pass *pass, bes_pass *taken)
 }
 
 /* Gives them all back. */
-static inline void close_all(bes_pass *taken, int count)
+static inline void close_passes(bes_pass *taken, int count)
 {
     for (int i = 0; i < count; i++)
         CHECK(bes_close(&taken[i]) == BES_OK);

@@ -161,16 +161,16 @@ static void takers(int count)
     CHECK(bes_open(64, 4 + (uint64_t)count, 100000, &users[0].pass) == BES_OK && bes_new_node(&users[0].pass, &node) == BES_OK);
     for (int i = 1; i < 4; i++)
         CHECK(bes_another(&users[0].pass, &users[i].pass) == BES_OK);
-    CHECK(take_all(&users[0].pass, taken) == count);
-    close_all(taken, count);
+    CHECK(take_passes(&users[0].pass, taken) == count);
+    close_passes(taken, count);
     for (int i = 0; i < 4; i++)
         CHECK(pthread_create(&running[i], NULL, taker, &users[i]) == 0);
     for (int i = 0; i < 4; i++)
         CHECK(pthread_join(running[i], NULL) == 0);
     CHECK(bes_pin(&users[0].pass, &number) == BES_OK);
     CHECK(number == 1 + users[0].rounds + users[1].rounds + users[2].rounds + users[3].rounds);
-    CHECK(take_all(&users[3].pass, taken) == count);
-    close_all(taken, count);
+    CHECK(take_passes(&users[3].pass, taken) == count);
+    close_passes(taken, count);
     for (int i = 0; i < 4; i++)
         CHECK(bes_close(&users[i].pass) == BES_OK);
 }

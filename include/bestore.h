@@ -225,7 +225,8 @@ uint32_t bes_another(bes_pass *pass, bes_pass *other);
  * [in,out] pass  the handle that is closed
  * [out] other    a closed handle, which is opened
  * BES_CLOSED (of pass), BES_OPEN (of other).
- * Cost: constant. Threads: a pass waits so in memory of yours, with its pin, until another thread takes it. */
+ * Cost: constant.
+ * Threads: a pass that one thread has done with waits in memory of yours, pinned, until another thread takes it. */
 uint32_t bes_move(bes_pass *pass, bes_pass *other);
 
 /* Closes the handle and unpins it. The pass goes back to the store, with all passes that wait with the handle, and bes_another

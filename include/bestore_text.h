@@ -211,7 +211,7 @@ static inline uint32_t bes_pairs(bes_pass *pass, const char *name, uint64_t *cou
 /* Writes a character at an offset, if it has room there before a zero byte. */
 static inline size_t bes_put_char(char *out, size_t room, size_t at, char c)
 {
-    if (at + 1 < room)
+    if (room > 0 && at < room - 1)
         out[at] = c;
     return at + 1;
 }
