@@ -158,6 +158,8 @@ echo "examples in C: ok"
 if [ -n "$has_cpp" ]; then
     build_cpp -O2 ../examples/c/first.cpp -o "$work/first-cpp"
     "$work/first-cpp" | cmp - <(echo "node 1, from ann")
+    build_cpp -O2 ../examples/c/counter.cpp -o "$work/counter-cpp"
+    "$work/counter-cpp" | cmp - <(echo "ann 1000, bob 1000, counted 2000")
     build_cpp -O2 ../examples/c/catalogue.cpp -o "$work/catalogue"
     mkdir "$work/files"
     printf 12345 >"$work/files/five.txt"
