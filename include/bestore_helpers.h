@@ -1,10 +1,11 @@
-/* Helpers over the calls of bestore.h, whole in this file. Include bestore.h, which includes it.
+/* Helpers over the calls of bestore.h. Include bestore.h, which includes this file.
  *
- * They add no symbol to the library. A helper that has no errors of its own returns those of the call that it makes. */
+ * They are inline functions, and no symbols of the library. A helper that names no errors has those of the call that it makes. Names
+ * that end with _ are for these headers alone. */
+#include "bestore.h" /* which includes this file once more, and then nothing here is left */
+
 #ifndef BESTORE_HELPERS_H
 #define BESTORE_HELPERS_H
-
-#include "bestore.h"
 
 #include <sched.h>
 #include <string.h>
@@ -300,7 +301,7 @@ static inline uint32_t bes_batch_apply_if(bes_pass *pass, uint64_t expected, con
 typedef uint32_t bes_changer(bes_pass *pass, bes_batch *batch, uint64_t next, void *with);
 
 /* One attempt of bes_change. */
-static inline uint32_t bes_change_once(bes_pass *pass, bes_changer *changer, void *with, uint64_t *number)
+static inline uint32_t bes_change_once_(bes_pass *pass, bes_changer *changer, void *with, uint64_t *number)
 {
     bes_batch batch;
     uint64_t snapshot = 0, next = 0, none = 0;
@@ -330,7 +331,7 @@ static inline uint32_t bes_change(bes_pass *pass, uint32_t attempts, bes_changer
 {
     bes_retry retry = {attempts > 0 ? attempts - 1 : 0, 1, 0};
     for (;;) {
-        uint32_t error = bes_change_once(pass, changer, with, number);
+        uint32_t error = bes_change_once_(pass, changer, with, number);
         if (error == BES_CONFLICT && retry.left > 0) {
             retry.left--;
             retry.turns = bes_stand_back(retry.turns);
@@ -371,13 +372,13 @@ static inline uint32_t bes_batch_entry(bes_pass *pass, uint64_t from, bes_batch 
 }
 
 /* Where bytes are written, and how many there are so far. Those beyond the room are only counted. */
-typedef struct bes_sink {
+typedef struct bes_sink_ {
     uint8_t *bytes;
     size_t room;
     uint64_t count;
-} bes_sink;
+} bes_sink_;
 
-static inline void bes_put_bytes(bes_sink *sink, const uint8_t *bytes, size_t length)
+static inline void bes_put_bytes_(bes_sink_ *sink, const uint8_t *bytes, size_t length)
 {
     for (size_t i = 0; i < length; i++, sink->count++)
         if (sink->count < sink->room)
@@ -385,55 +386,56 @@ static inline void bes_put_bytes(bes_sink *sink, const uint8_t *bytes, size_t le
 }
 
 /* The low `length` bytes of a number, the lowest first. */
-static inline void bes_put_number(bes_sink *sink, uint64_t number, size_t length)
+static inline void bes_put_number_(bes_sink_ *sink, uint64_t number, size_t length)
 {
     for (size_t i = 0; i < length; i++, number >>= 8) {
         uint8_t byte = (uint8_t)(number & 0xff);
-        bes_put_bytes(sink, &byte, 1);
+        bes_put_bytes_(sink, &byte, 1);
     }
 }
 
+/* Whether values of this type code are integers. */
 static inline bool bes_is_number_code(uint32_t code)
 {
     return code == BES_INT32_TYPE || code == BES_INT64_TYPE || code == BES_UINT32_TYPE || code == BES_UINT64_TYPE;
 }
 
-static inline bool bes_is_code(uint32_t code)
+static inline bool bes_is_code_(uint32_t code)
 {
     return bes_is_number_code(code) || code == BES_STRING_TYPE || code == BES_MIME_STRING_TYPE || code == BES_RAW_TYPE;
 }
 
 /* Why the format of bes_batch_to_bytes doesn't hold an operation, or BES_OK. */
-static inline uint32_t bes_unwritable(const bes_operation *it, size_t parts_count)
+static inline uint32_t bes_unwritable_(const bes_operation *it, size_t parts_count)
 {
     if (it->name_at > parts_count || it->name_length > parts_count - it->name_at || it->value_at > parts_count ||
         it->value_length > parts_count - it->value_at)
         return BES_BAD_PART;
     if (it->kind > BES_REMOVE_INDEX)
         return BES_NO_OPERATION;
-    if ((it->kind == BES_SET || it->kind == BES_MAKE_INDEX) && !bes_is_code(it->code))
+    if ((it->kind == BES_SET || it->kind == BES_MAKE_INDEX) && !bes_is_code_(it->code))
         return BES_NO_KIND;
     if (it->kind >= BES_SET && it->name_length > 63)
         return BES_NAME_LENGTH;
     return it->kind == BES_SET && !bes_is_number_code(it->code) && it->value_length > 255 ? BES_DATA_LENGTH : BES_OK;
 }
 
-static inline void bes_put_operation(bes_sink *sink, const bes_operation *it, const uint8_t *parts)
+static inline void bes_put_operation_(bes_sink_ *sink, const bes_operation *it, const uint8_t *parts)
 {
-    bes_put_number(sink, it->kind, 1);
+    bes_put_number_(sink, it->kind, 1);
     if (it->kind <= BES_UNSET)
-        bes_put_number(sink, it->node, 8);
+        bes_put_number_(sink, it->node, 8);
     if (it->kind >= BES_SET) {
-        bes_put_number(sink, it->name_length, 1);
-        bes_put_bytes(sink, parts + it->name_at, it->name_length);
+        bes_put_number_(sink, it->name_length, 1);
+        bes_put_bytes_(sink, parts + it->name_at, it->name_length);
     }
     if (it->kind == BES_SET || it->kind == BES_MAKE_INDEX)
-        bes_put_number(sink, it->code, 4);
+        bes_put_number_(sink, it->code, 4);
     if (it->kind == BES_SET && bes_is_number_code(it->code)) {
-        bes_put_number(sink, it->number, 8);
+        bes_put_number_(sink, it->number, 8);
     } else if (it->kind == BES_SET) {
-        bes_put_number(sink, it->value_length, 1);
-        bes_put_bytes(sink, parts + it->value_at, it->value_length);
+        bes_put_number_(sink, it->value_length, 1);
+        bes_put_bytes_(sink, parts + it->value_at, it->value_length);
     }
 }
 
@@ -441,21 +443,21 @@ static inline void bes_put_operation(bes_sink *sink, const bes_operation *it, co
 static inline uint32_t bes_operations_to_bytes(const bes_operation *operations, size_t operations_count, const uint8_t *parts,
                                                size_t parts_count, uint8_t *bytes, size_t bytes_room, uint64_t *count)
 {
-    bes_sink sink = {bytes, bytes_room, 0};
+    bes_sink_ sink = {bytes, bytes_room, 0};
     *count = 0;
     if (operations_count < 1 || operations_count > 64)
         return BES_BAD_COUNT;
     for (size_t i = 0; i < operations_count; i++) {
-        uint32_t error = bes_unwritable(&operations[i], parts_count);
+        uint32_t error = bes_unwritable_(&operations[i], parts_count);
         if (error != BES_OK) {
             *count = i;
             return error;
         }
     }
-    bes_put_bytes(&sink, (const uint8_t *)"BEB\1", 4);
-    bes_put_number(&sink, operations_count, 1);
+    bes_put_bytes_(&sink, (const uint8_t *)"BEB\1", 4);
+    bes_put_number_(&sink, operations_count, 1);
     for (size_t i = 0; i < operations_count; i++)
-        bes_put_operation(&sink, &operations[i], parts);
+        bes_put_operation_(&sink, &operations[i], parts);
     *count = sink.count;
     return BES_OK;
 }
@@ -473,14 +475,14 @@ static inline uint32_t bes_batch_to_bytes(const bes_batch *batch, uint8_t *bytes
 }
 
 /* Bytes that are read, and how many were. */
-typedef struct bes_source {
+typedef struct bes_source_ {
     const uint8_t *bytes;
     size_t length;
     size_t at;
-} bes_source;
+} bes_source_;
 
 /* Reads a number of `length` bytes, the lowest first, if it isn't cut off. */
-static inline bool bes_take_number(bes_source *source, size_t length, uint64_t *number)
+static inline bool bes_take_number_(bes_source_ *source, size_t length, uint64_t *number)
 {
     if (source->length - source->at < length)
         return false;
@@ -492,11 +494,11 @@ static inline bool bes_take_number(bes_source *source, size_t length, uint64_t *
 }
 
 /* Reads a length of one byte, and returns where as many bytes begin, or NULL if they are cut off. */
-static inline const uint8_t *bes_take_part(bes_source *source, uint64_t *length)
+static inline const uint8_t *bes_take_part_(bes_source_ *source, uint64_t *length)
 {
     const uint8_t *part;
     size_t begin = source->at;
-    if (!bes_take_number(source, 1, length) || source->length - source->at < *length) {
+    if (!bes_take_number_(source, 1, length) || source->length - source->at < *length) {
         source->at = begin;
         return NULL;
     }
@@ -506,36 +508,36 @@ static inline const uint8_t *bes_take_part(bes_source *source, uint64_t *length)
 }
 
 /* Reads an operation into the batch. After an error the source is at the part that has it. */
-static inline uint32_t bes_take_operation(bes_source *source, bes_batch *batch)
+static inline uint32_t bes_take_operation_(bes_source_ *source, bes_batch *batch)
 {
     uint64_t kind = 0, node = 0, code = 0, number = 0, name_length = 0, value_length = 0;
     const uint8_t *name = (const uint8_t *)"", *value = name;
     size_t begin = source->at;
-    if (!bes_take_number(source, 1, &kind))
+    if (!bes_take_number_(source, 1, &kind))
         return BES_BAD_PART;
     if (kind > BES_REMOVE_INDEX) {
         source->at = begin;
         return BES_NO_OPERATION;
     }
-    if (kind <= BES_UNSET && !bes_take_number(source, 8, &node))
+    if (kind <= BES_UNSET && !bes_take_number_(source, 8, &node))
         return BES_BAD_PART;
     begin = source->at;
-    if (kind >= BES_SET && (name = bes_take_part(source, &name_length)) == NULL)
+    if (kind >= BES_SET && (name = bes_take_part_(source, &name_length)) == NULL)
         return BES_BAD_PART;
     if (name_length > 63) {
         source->at = begin;
         return BES_NAME_LENGTH;
     }
     begin = source->at;
-    if ((kind == BES_SET || kind == BES_MAKE_INDEX) && !bes_take_number(source, 4, &code))
+    if ((kind == BES_SET || kind == BES_MAKE_INDEX) && !bes_take_number_(source, 4, &code))
         return BES_BAD_PART;
-    if ((kind == BES_SET || kind == BES_MAKE_INDEX) && !bes_is_code((uint32_t)code)) {
+    if ((kind == BES_SET || kind == BES_MAKE_INDEX) && !bes_is_code_((uint32_t)code)) {
         source->at = begin;
         return BES_NO_KIND;
     }
-    if (kind == BES_SET && bes_is_number_code((uint32_t)code) && !bes_take_number(source, 8, &number))
+    if (kind == BES_SET && bes_is_number_code((uint32_t)code) && !bes_take_number_(source, 8, &number))
         return BES_BAD_PART;
-    if (kind == BES_SET && !bes_is_number_code((uint32_t)code) && (value = bes_take_part(source, &value_length)) == NULL)
+    if (kind == BES_SET && !bes_is_number_code((uint32_t)code) && (value = bes_take_part_(source, &value_length)) == NULL)
         return BES_BAD_PART;
     return bes_batch_add_bytes(batch, (uint32_t)kind, node, name, (size_t)name_length, (uint32_t)code, number, value,
                                (size_t)value_length);
@@ -548,7 +550,7 @@ static inline uint32_t bes_take_operation(bes_source *source, bes_batch *batch)
  * is wrong with an operation shows when it is applied. */
 static inline uint32_t bes_batch_from_bytes(bes_batch *batch, const uint8_t *bytes, size_t length, uint64_t *place)
 {
-    bes_source source = {bytes, length, 0};
+    bes_source_ source = {bytes, length, 0};
     uint64_t count = 0;
     uint32_t error = BES_OK;
     bes_batch_clear(batch);
@@ -558,12 +560,12 @@ static inline uint32_t bes_batch_from_bytes(bes_batch *batch, const uint8_t *byt
         else
             source.at++;
     }
-    if (error == BES_OK && !bes_take_number(&source, 1, &count))
+    if (error == BES_OK && !bes_take_number_(&source, 1, &count))
         error = BES_BAD_PART;
     else if (error == BES_OK && (count < 1 || count > 64))
         error = BES_BAD_COUNT, source.at--;
     while (error == BES_OK && batch->count < count)
-        error = bes_take_operation(&source, batch);
+        error = bes_take_operation_(&source, batch);
     if (error == BES_OK && source.at < length)
         error = BES_BAD_PART;
     *place = error == BES_OK ? 0 : source.at;

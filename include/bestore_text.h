@@ -1,12 +1,12 @@
-/* Helpers over texts: the comparisons of a query, indices that they need, escapes, UTF-8, and a caret under an error. Include bestore.h,
+/* Helpers over texts: comparisons of a query, indices that they need, escapes, UTF-8, and a caret under an error. Include bestore.h,
  * which includes this file.
  *
  * A text that bes_next_comparison and the helpers over it read must be a query that the library parses: one that bes_query has
  * taken or refused by BES_NOT_COVERED, or the text of bes_prepared_text. */
+#include "bestore.h" /* which includes this file once more, and then nothing here is left */
+
 #ifndef BESTORE_TEXT_H
 #define BESTORE_TEXT_H
-
-#include "bestore_helpers.h"
 
 #include <stdio.h>
 
@@ -26,26 +26,26 @@ typedef struct bes_comparison {
 } bes_comparison;
 
 /* Whether c is one of the characters, of which zero is none. */
-static inline bool bes_is_among(char c, const char *characters)
+static inline bool bes_is_among_(char c, const char *characters)
 {
     return c != 0 && strchr(characters, c) != NULL;
 }
 
-static inline size_t bes_skip(const char *text, size_t length, size_t at, const char *characters)
+static inline size_t bes_skip_(const char *text, size_t length, size_t at, const char *characters)
 {
-    while (at < length && bes_is_among(text[at], characters))
+    while (at < length && bes_is_among_(text[at], characters))
         at++;
     return at;
 }
 
 /* Reads the word or quoted text at an offset, and returns the offset after it. */
-static inline size_t bes_take_text(const char *text, size_t length, size_t at, size_t *begin, size_t *count)
+static inline size_t bes_take_text_(const char *text, size_t length, size_t at, size_t *begin, size_t *count)
 {
-    const char quote[2] = {at < length && bes_is_among(text[at], "\"'") ? text[at] : '\0', '\0'};
+    const char quote[2] = {at < length && bes_is_among_(text[at], "\"'") ? text[at] : '\0', '\0'};
     const char *ends = quote[0] != 0 ? quote : " \t\n\r\"'=!<>&|()";
     at += quote[0] != 0;
     *begin = at;
-    while (at < length && text[at] != 0 && !bes_is_among(text[at], ends))
+    while (at < length && text[at] != 0 && !bes_is_among_(text[at], ends))
         at += text[at] == '\\' ? 2 : 1;
     at = at < length ? at : length;
     *count = at - *begin;
@@ -53,10 +53,10 @@ static inline size_t bes_take_text(const char *text, size_t length, size_t at, s
 }
 
 /* Reads the operator at an offset, and returns the offset after it, or the same one if there is none. */
-static inline size_t bes_take_operator(const char *text, size_t length, size_t at, uint32_t *kind)
+static inline size_t bes_take_operator_(const char *text, size_t length, size_t at, uint32_t *kind)
 {
     bool equals = at + 1 < length && text[at + 1] == '=';
-    if (at == length || !bes_is_among(text[at], "=!<>") || (text[at] == '!' && !equals))
+    if (at == length || !bes_is_among_(text[at], "=!<>") || (text[at] == '!' && !equals))
         return at;
     if (text[at] == '=')
         *kind = BES_ITEM_EQ;
@@ -75,15 +75,15 @@ static inline size_t bes_take_operator(const char *text, size_t length, size_t a
 static inline bool bes_next_comparison(const char *text, size_t length, size_t *at, bes_comparison *found)
 {
     static const char blanks[] = " \t\n\r";
-    size_t begin = bes_skip(text, length, *at, " \t\n\r()!&|"), after, value;
+    size_t begin = bes_skip_(text, length, *at, " \t\n\r()!&|"), after, value;
     found->at = begin;
-    after = bes_take_text(text, length, begin, &found->name_at, &found->name_length);
-    after = bes_skip(text, length, after, blanks);
-    value = bes_take_operator(text, length, after, &found->kind);
+    after = bes_take_text_(text, length, begin, &found->name_at, &found->name_length);
+    after = bes_skip_(text, length, after, blanks);
+    value = bes_take_operator_(text, length, after, &found->kind);
     if (begin == length || value == after)
         return false;
-    value = bes_skip(text, length, value, blanks);
-    *at = bes_take_text(text, length, value, &found->value_at, &found->value_length);
+    value = bes_skip_(text, length, value, blanks);
+    *at = bes_take_text_(text, length, value, &found->value_at, &found->value_length);
     found->length = *at - begin;
     return true;
 }
@@ -209,7 +209,7 @@ static inline uint32_t bes_pairs(bes_pass *pass, const char *name, uint64_t *cou
 }
 
 /* Writes a character at an offset, if it has room there before a zero byte. */
-static inline size_t bes_put_char(char *out, size_t room, size_t at, char c)
+static inline size_t bes_put_char_(char *out, size_t room, size_t at, char c)
 {
     if (room > 0 && at < room - 1)
         out[at] = c;
@@ -217,11 +217,11 @@ static inline size_t bes_put_char(char *out, size_t room, size_t at, char c)
 }
 
 /* Writes a character, with a backslash if a query would take it for anything but itself. */
-static inline size_t bes_put_escaped(char *out, size_t room, size_t at, char c)
+static inline size_t bes_put_escaped_(char *out, size_t room, size_t at, char c)
 {
-    if (bes_is_among(c, "*?[\\\"' \t\n\r=!<>&|()"))
-        at = bes_put_char(out, room, at, '\\');
-    return bes_put_char(out, room, at, c);
+    if (bes_is_among_(c, "*?[\\\"' \t\n\r=!<>&|()"))
+        at = bes_put_char_(out, room, at, '\\');
+    return bes_put_char_(out, room, at, c);
 }
 
 /* Writes a text so that it stands for itself in a query: as a name, a value or a part of a pattern, in quotes or not. So
@@ -232,7 +232,7 @@ static inline size_t bes_escape(const char *text, char *out, size_t room)
 {
     size_t at = 0;
     for (; *text != 0; text++)
-        at = bes_put_escaped(out, room, at, *text);
+        at = bes_put_escaped_(out, room, at, *text);
     if (room > 0)
         out[at < room ? at : room - 1] = 0;
     return at;
@@ -247,13 +247,13 @@ static inline size_t bes_any_case(const char *text, char *out, size_t room)
     for (; *text != 0; text++) {
         char lower = *text >= 'A' && *text <= 'Z' ? (char)(*text - 'A' + 'a') : *text;
         if (lower < 'a' || lower > 'z') {
-            at = bes_put_escaped(out, room, at, *text);
+            at = bes_put_escaped_(out, room, at, *text);
             continue;
         }
-        at = bes_put_char(out, room, at, '[');
-        at = bes_put_char(out, room, at, lower);
-        at = bes_put_char(out, room, at, (char)(lower - 'a' + 'A'));
-        at = bes_put_char(out, room, at, ']');
+        at = bes_put_char_(out, room, at, '[');
+        at = bes_put_char_(out, room, at, lower);
+        at = bes_put_char_(out, room, at, (char)(lower - 'a' + 'A'));
+        at = bes_put_char_(out, room, at, ']');
     }
     if (room > 0)
         out[at < room ? at : room - 1] = 0;
@@ -261,7 +261,7 @@ static inline size_t bes_any_case(const char *text, char *out, size_t room)
 }
 
 /* How many bytes the character of UTF-8 at the front of a text has, or 0 if no character begins there. A zero byte is none. */
-static inline size_t bes_character(const char *text, size_t length)
+static inline size_t bes_character_(const char *text, size_t length)
 {
     unsigned char first = length > 0 ? (unsigned char)text[0] : 0, second = length > 1 ? (unsigned char)text[1] : 0;
     unsigned char least = first == 0xe0 ? 0xa0 : first == 0xf0 ? 0x90 : 0x80, most = first == 0xed ? 0x9f : first == 0xf4 ? 0x8f : 0xbf;
@@ -284,7 +284,7 @@ static inline size_t bes_to_utf8(const char *text, size_t length, char *out, siz
 {
     size_t at = 0, count;
     for (size_t i = 0; i < length; i += count > 0 ? count : 1) {
-        count = bes_character(text + i, length - i);
+        count = bes_character_(text + i, length - i);
         if (at + (count > 0 ? count : 1) >= room)
             break;
         if (count == 0)
@@ -298,7 +298,7 @@ static inline size_t bes_to_utf8(const char *text, size_t length, char *out, siz
 }
 
 /* How many columns the characters of UTF-8 take before a byte offset, one for each. */
-static inline size_t bes_columns(const char *text, size_t bytes)
+static inline size_t bes_columns_(const char *text, size_t bytes)
 {
     size_t columns = 0;
     for (size_t i = 0; i < bytes; i++)
@@ -317,7 +317,7 @@ static inline int bes_print_caret(FILE *file, const char *text, uint64_t byte)
         end++;
     for (size_t i = begin; i < end; i++)
         fputc((unsigned char)text[i] < ' ' || text[i] == 0x7f ? ' ' : text[i], file);
-    fprintf(file, "\n%*s^\n", (int)bes_columns(text + begin, at - begin), "");
+    fprintf(file, "\n%*s^\n", (int)bes_columns_(text + begin, at - begin), "");
     return ferror(file);
 }
 

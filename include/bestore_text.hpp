@@ -91,7 +91,7 @@ inline std::string escape(std::string_view text)
     std::string escaped(2 * text.size() + 1, '\0');
     std::size_t length = 0;
     for (const char c : text)
-        length = bes_put_escaped(escaped.data(), escaped.size(), length, c);
+        length = bes_put_escaped_(escaped.data(), escaped.size(), length, c);
     escaped.resize(length);
     return escaped;
 }
@@ -133,7 +133,7 @@ inline std::string caret(std::string_view text, std::uint64_t offset)
     const auto before = at == 0 ? std::string_view::npos : text.rfind('\n', at - 1);
     const auto begin = before == std::string_view::npos ? 0 : before + 1;
     std::string line(text.substr(begin, text.find('\n', at) - begin));
-    const std::string blanks(bes_columns(line.data(), at - begin), ' ');
+    const std::string blanks(bes_columns_(line.data(), at - begin), ' ');
     std::replace_if(line.begin(), line.end(), [](unsigned char c) { return c < ' ' || c == 0x7f; }, ' ');
     return line + '\n' + blanks + '^';
 }
