@@ -194,7 +194,7 @@ static void most(void)
     static bes_batch batch;
     bes_pass pass = BES_PASS_INIT;
     uint64_t node = 7, number = 7, made[64] = {7};
-    char name[16], long_text[257] = "";
+    char name[16];
     CHECK(bes_open(256, 1, 100, &pass) == BES_OK && bes_new_node(&pass, &node) == BES_OK);
     bes_batch_clear(&batch);
     for (int i = 0; i < 64; i++) {
@@ -222,10 +222,17 @@ static void most(void)
     CHECK(bes_batch_remove_node(&batch, 1) == BES_OK);
     CHECK(bes_batch_apply(&pass, &batch, 1, made, 64, &number) == BES_OK && made[0] == 0 && made[2] == 0);
     CHECK(bes_close(&pass) == BES_OK);
-    /* What a batch has no room for. */
+}
+
+/* What a batch has no room for. */
+static void full_batch(void)
+{
+    static bes_batch batch;
+    char long_text[257] = "";
+    bes_batch_clear(&batch);
     memset(long_text, 'x', 256);
-    CHECK(bes_batch_set_text(&batch, 1, long_text, "") == BES_NAME_LENGTH && batch.count == 3);
-    CHECK(bes_batch_set_text(&batch, 1, "k", long_text) == BES_DATA_LENGTH && batch.count == 3);
+    CHECK(bes_batch_set_text(&batch, 1, long_text, "") == BES_NAME_LENGTH && batch.count == 0);
+    CHECK(bes_batch_set_text(&batch, 1, "k", long_text) == BES_DATA_LENGTH && batch.count == 0);
     while (batch.count < 64)
         CHECK(bes_batch_set_raw(&batch, 1, long_text + 256 - 63, long_text, 255) == BES_OK);
     CHECK(bes_batch_new_node(&batch) == BES_BAD_COUNT && batch.count == 64);
@@ -291,7 +298,16 @@ static void values(void)
     CHECK(bes_read(&pass, 1, "", &told, bytes, 255) == BES_NAME_LENGTH);
     CHECK(bes_read(&pass, 1, "\xff", &told, bytes, 255) == BES_NOT_UTF8);
     CHECK(bes_unpin(&pass) == BES_OK && bes_unpin(&pass) == BES_NOT_PINNED);
-    CHECK(bes_set_mime(&pass, 1, "m", "a/b") == BES_OK && bes_set_raw(&pass, 1, "r", "\0", 1) == BES_OK);
+    CHECK(bes_close(&pass) == BES_OK);
+}
+
+/* Writes of one operation. */
+static void single_writes(void)
+{
+    bes_pass pass = BES_PASS_INIT;
+    uint64_t node = 0;
+    CHECK(bes_open(64, 1, 100, &pass) == BES_OK && bes_new_node(&pass, &node) == BES_OK && node == 1);
+    CHECK(bes_set_mime(&pass, 1, "m", "a/b") == BES_OK && bes_set_raw(&pass, 1, "raw", "\0", 1) == BES_OK);
     CHECK(bes_set_int64(&pass, 1, "l", -1) == BES_OK && bes_set_uint32(&pass, 1, "u", 1) == BES_OK);
     CHECK(bes_set_uint64(&pass, 1, "v", UINT64_MAX) == BES_OK);
     CHECK(bes_unset(&pass, 1, "raw") == BES_OK && bes_unset(&pass, 1, "raw") == BES_NO_ATTRIBUTE);
@@ -397,17 +413,22 @@ static void no_items(bes_pass *pass, const bes_item *items, size_t items_count, 
     CHECK(bes_release(&prepared) == BES_CLOSED);
 }
 
+/* A pinned store with a node of size 0. */
+static void open_size(bes_pass *pass)
+{
+    uint64_t number = 0;
+    CHECK(bes_open(64, 1, 100, pass) == BES_OK && bes_make_index(pass, "size", BES_INT32_TYPE) == BES_OK);
+    CHECK(bes_new_node(pass, &number) == BES_OK && bes_set_int32(pass, number, "size", 0) == BES_OK);
+    CHECK(bes_pin(pass, &number) == BES_OK);
+}
+
 static void no_queries(void)
 {
-    static const bes_item size = {BES_ITEM_ATTRIBUTE, 0, 4, 0}, one = {BES_ITEM_UINT64, 0, 0, 1}, less = {BES_ITEM_LT, 0, 0, 0};
-    static bes_item items[4 * 257];
-    static char text[4098], bytes[64] = "size[a\xff";
+    static char text[4098];
     bes_pass pass = BES_PASS_INIT;
-    uint64_t number = 7, count = 7, nodes[2];
+    uint64_t count = 7, nodes[2];
     size_t length = 0;
-    CHECK(bes_open(64, 1, 100, &pass) == BES_OK && bes_make_index(&pass, "size", BES_INT32_TYPE) == BES_OK);
-    CHECK(bes_new_node(&pass, &number) == BES_OK && bes_set_int32(&pass, number, "size", 0) == BES_OK);
-    CHECK(bes_pin(&pass, &number) == BES_OK);
+    open_size(&pass);
     no_query(&pass, "size<", 5, BES_SYNTAX, 5);
     no_query(&pass, "", 0, BES_SYNTAX, 0);
     no_query(&pass, "h\xc3\xa9==\"\xc3\xa9\"||!", 12, BES_SYNTAX, 12);
@@ -427,8 +448,18 @@ static void no_queries(void)
         memcpy(text + length, "size<1||", 8);
     CHECK(bes_query(&pass, (const uint8_t *)text, 256 * 8 - 2, nodes, 2, &count) == BES_OK && count == 1);
     no_query(&pass, text, 257 * 8 - 2, BES_TOO_MANY, 0);
+    CHECK(bes_close(&pass) == BES_OK);
+}
 
-    /* Items: a value that is no pattern, 65 that stand on one another, 257 comparisons, and parts of bytes that are none. */
+/* Items: a value that is no pattern, 65 that stand on one another, 257 comparisons, and parts of bytes that are none. */
+static void no_query_of_items(void)
+{
+    static const bes_item size = {BES_ITEM_ATTRIBUTE, 0, 4, 0}, one = {BES_ITEM_UINT64, 0, 0, 1}, less = {BES_ITEM_LT, 0, 0, 0};
+    static bes_item items[4 * 257];
+    static const char bytes[64] = "size[a\xff";
+    bes_pass pass = BES_PASS_INIT;
+    uint64_t count = 7, nodes[2];
+    open_size(&pass);
     items[0] = size, items[1] = (bes_item){BES_ITEM_TEXT, 4, 2, 0}, items[2] = (bes_item){BES_ITEM_EQ, 0, 0, 0};
     no_items(&pass, items, 3, bytes, BES_BAD_PATTERN, 2);
     items[1].at = 6, items[1].length = 1;
@@ -457,6 +488,19 @@ static void no_queries(void)
     CHECK(bes_close(&pass) == BES_OK);
 }
 
+/* Prepares size < -1, by items. */
+static void prepare_less(bes_prepared *prepared)
+{
+    const bes_item less[3] = {{BES_ITEM_ATTRIBUTE, 0, 4, 0}, {BES_ITEM_INT64, 0, 0, (uint64_t)-1}, {BES_ITEM_LT, 0, 0, 0}};
+    uint64_t place = 7;
+    CHECK(bes_prepare_items(less, 2, (const uint8_t *)"size", 4, prepared, &place) == BES_BAD_RPN && place == 2);
+    CHECK(bes_prepare_items(less, 3, (const uint8_t *)"size", 3, prepared, &place) == BES_BAD_PART && place == 0);
+    place = 7;
+    CHECK(bes_prepare_items(less, 3, (const uint8_t *)"size", 4, prepared, &place) == BES_OK && place == 0);
+    place = 7;
+    CHECK(bes_prepare_items(less, 3, (const uint8_t *)"size", 4, prepared, &place) == BES_OPEN && place == 0);
+}
+
 /* Queries that are parsed once, by text and by items, and what comes and goes. */
 static void prepared_queries(void)
 {
@@ -464,15 +508,9 @@ static void prepared_queries(void)
     bes_prepared small = BES_PREPARED_INIT, other = BES_PREPARED_INIT;
     bes_updates updates = {7, 7};
     uint64_t node = 0, number = 0, count = 7, place = 7, nodes[4] = {7, 7, 7, 7}, came[2] = {7, 7}, went[2] = {7, 7};
-    bes_item less[3] = {{BES_ITEM_ATTRIBUTE, 0, 4, 0}, {BES_ITEM_INT64, 0, 0, (uint64_t)-1}, {BES_ITEM_LT, 0, 0, 0}};
     CHECK(bes_open(64, 1, 100, &pass) == BES_OK);
     CHECK(bes_prepare_text("size<0", &small, &place) == BES_OK);
-    CHECK(bes_prepare_items(less, 2, (const uint8_t *)"size", 4, &other, &place) == BES_BAD_RPN && place == 2);
-    CHECK(bes_prepare_items(less, 3, (const uint8_t *)"size", 3, &other, &place) == BES_BAD_PART && place == 0);
-    place = 7;
-    CHECK(bes_prepare_items(less, 3, (const uint8_t *)"size", 4, &other, &place) == BES_OK && place == 0);
-    place = 7;
-    CHECK(bes_prepare_items(less, 3, (const uint8_t *)"size", 4, &other, &place) == BES_OPEN && place == 0);
+    prepare_less(&other);
     CHECK(bes_query_prepared(&pass, &small, nodes, 4, &count) == BES_NOT_PINNED && count == 0);
     CHECK(bes_refresh(&pass, &small, &updates) == BES_NOT_PINNED && updates.created == 7);
     CHECK(bes_pin(&pass, &number) == BES_OK);
@@ -667,11 +705,14 @@ int main(void)
     meeting();
     wrong_writes();
     most();
+    full_batch();
     no_page_is_free();
     values();
+    single_writes();
     lists();
     queries();
     no_queries();
+    no_query_of_items();
     prepared_queries();
     nodes_by_number();
     states();
