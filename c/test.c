@@ -653,6 +653,60 @@ static void journal(void)
     CHECK(bes_close(&pass) == BES_OK);
 }
 
+/* If two errors hold, the one is returned that bestore.h lists first. */
+static void order_of_reads(void)
+{
+    static const uint8_t long_text[4097] = {0xff};
+    const bes_item none = {16, 0, 0, 0};
+    bes_pass pass = BES_PASS_INIT, other = BES_PASS_INIT, third = BES_PASS_INIT;
+    bes_prepared prepared = BES_PREPARED_INIT;
+    bes_counts counts;
+    bes_attribute read;
+    bes_operation listed[1];
+    uint64_t number = 0, nodes[1];
+    uint8_t bytes[1];
+    CHECK(bes_another(&pass, &pass) == BES_CLOSED && bes_find(&pass, "size<", nodes, 1, &number) == BES_CLOSED);
+    CHECK(bes_open(64, 2, 2, &pass) == BES_OK && bes_open(0, 0, 0, &pass) == BES_OPEN);
+    CHECK(bes_another(&pass, &other) == BES_OK && bes_another(&pass, &other) == BES_OPEN && bes_another(&pass, &third) == BES_NO_PASS);
+    CHECK(bes_query(&pass, long_text, 4097, nodes, 1, &number) == BES_NOT_UTF8);
+    CHECK(bes_find(&pass, "size<", nodes, 1, &number) == BES_SYNTAX && bes_find(&pass, "size<1", nodes, 1, &number) == BES_NOT_PINNED);
+    CHECK(bes_query_items(&pass, &none, 1, bytes, 0, nodes, 1, &number) == BES_NO_ITEM);
+    CHECK(bes_read(&pass, 1, "", &read, bytes, 1) == BES_NAME_LENGTH && bes_read(&pass, 1, "k", &read, bytes, 1) == BES_NOT_PINNED);
+    CHECK(bes_get(&pass, 1, long_text, 64, &read, bytes, 1) == BES_NOT_UTF8);
+    CHECK(bes_get(&pass, 1, long_text + 1, 64, &read, bytes, 1) == BES_NAME_LENGTH);
+    CHECK(bes_attributes(&pass, 1, &counts, listed, 1, bytes, 1) == BES_NOT_PINNED);
+    CHECK(bes_query_prepared(&pass, &prepared, nodes, 1, &number) == BES_CLOSED);
+    CHECK(bes_prepare_text("size<1", &prepared, &number) == BES_OK && bes_prepare_text("size<", &prepared, &number) == BES_OPEN);
+    CHECK(bes_query_prepared(&pass, &prepared, nodes, 1, &number) == BES_NOT_PINNED);
+    CHECK(bes_release(&prepared) == BES_OK && bes_close(&pass) == BES_OK && bes_close(&other) == BES_OK);
+}
+
+static uint32_t applied(bes_pass *pass, bes_operation operation, size_t bytes_count)
+{
+    static const uint8_t bytes[300] = "k\0\xff";
+    uint64_t made = 0, number = 0;
+    return bes_apply(pass, &operation, 1, bytes, bytes_count, &made, 1, &number);
+}
+
+static void order_of_writes(void)
+{
+    bes_pass pass = BES_PASS_INIT;
+    uint64_t number = 0, node = 0;
+    CHECK(bes_open(8, 1, 2, &pass) == BES_OK);
+    CHECK(applied(&pass, (bes_operation){9, 1, 9, 0, 2, 1, 9, 1}, 3) == BES_BAD_PART);
+    CHECK(applied(&pass, (bes_operation){9, 1, 9, 0, 2, 1, 0, 256}, 300) == BES_NO_OPERATION);
+    CHECK(applied(&pass, (bes_operation){BES_SET, 1, 9, 0, 2, 64, 0, 256}, 300) == BES_NOT_UTF8);
+    CHECK(applied(&pass, (bes_operation){BES_SET, 1, 9, 0, 3, 64, 0, 256}, 300) == BES_NAME_LENGTH);
+    CHECK(applied(&pass, (bes_operation){BES_SET, 1, 9, 0, 0, 2, 0, 256}, 300) == BES_HAS_NUL);
+    CHECK(applied(&pass, (bes_operation){BES_SET, 1, 9, 0, 0, 1, 0, 256}, 300) == BES_NO_KIND);
+    CHECK(applied(&pass, (bes_operation){BES_SET, BES_STRING_TYPE, 9, 0, 0, 1, 0, 256}, 300) == BES_NOT_UTF8);
+    CHECK(applied(&pass, (bes_operation){BES_SET, BES_STRING_TYPE, 9, 0, 0, 1, 3, 256}, 300) == BES_DATA_LENGTH);
+    CHECK(applied(&pass, (bes_operation){BES_SET, BES_STRING_TYPE, 9, 0, 0, 1, 0, 2}, 300) == BES_HAS_NUL);
+    CHECK(bes_new_node(&pass, &node) == BES_OK && bes_new_node(&pass, &node) == BES_OK && bes_pin(&pass, &number) == BES_OK);
+    CHECK(bes_remove_node(&pass, 9) == BES_NO_NODE && bes_remove_node(&pass, 1) == BES_COMMITS_SPENT);
+    CHECK(bes_close(&pass) == BES_OK);
+}
+
 static void spent(void)
 {
     bes_pass pass = BES_PASS_INIT;
@@ -719,6 +773,8 @@ int main(void)
     usage();
     journal();
     spent();
+    order_of_reads();
+    order_of_writes();
     all_passes();
     return 0;
 }

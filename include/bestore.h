@@ -264,8 +264,8 @@ uint32_t bes_unpin(bes_pass *pass);
  * [out] made     for each operation the node that it made, or 0; as many as made_room
  * [out] number   the commit number
  * BES_CLOSED, BES_BAD_COUNT, BES_NO_MEMORY.
- * BES_BAD_PART, BES_NO_OPERATION, BES_NOT_UTF8, BES_NAME_LENGTH, BES_DATA_LENGTH, BES_HAS_NUL, BES_NO_KIND, BES_NO_VALUE: an
- * operation is invalid, and number is the index of the first one.
+ * BES_BAD_PART, BES_NO_OPERATION; of the name BES_NOT_UTF8, BES_NAME_LENGTH, BES_HAS_NUL; BES_NO_KIND; of the value BES_NOT_UTF8,
+ * BES_DATA_LENGTH, BES_HAS_NUL, or BES_NO_VALUE: an operation is invalid, and number is the index of the first one.
  * BES_BUSY: another pass is writing, and number is that pass. Call again; bes_apply_or_retry does.
  * BES_NO_NODE, BES_NO_ATTRIBUTE, BES_TOO_MANY_ATTRS, BES_INDEX_EXISTS, BES_NO_INDEX, BES_TOO_MANY_INDICES, BES_NOT_INDEXABLE: the
  * first operation that the store refuses refuses the batch.
