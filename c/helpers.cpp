@@ -327,6 +327,7 @@ static void forked()
     Prepared prepared("n==1");
     auto pin = other.pin();
     auto state = pin.state();
+    auto entries = store.journal_from();
     std::fflush(nullptr);
     const pid_t child = fork();
     CHECK(child >= 0);
@@ -337,6 +338,7 @@ static void forked()
         refused(BES_CLOSED, [&] { (void)prepared.text(); });
         refused(BES_CLOSED, [&] { store.change([](Change &) {}); });
         refused(BES_CLOSED, [&] { state.begin(); });
+        refused(BES_CLOSED, [&] { entries.begin(); });
         pin.unpin();
         store.close();
         Store own({64, 1, 100});

@@ -82,8 +82,8 @@ def marked(text):
 
 
 def paragraphs(text):
-    """Parts of a comment. A blank line begins one, and so do a parameter, an error, and what the comment names before a colon."""
-    return re.split(rf"\n\n|\n(?={NAME}(?:,|:|\.| \()|\[(?:in|out|in,out)\] |(?:Cost|Threads): |Returns )", text, flags=re.MULTILINE)
+    """Parts of a comment. A blank line begins one, and so do a line's first error, a parameter, and a word with a colon."""
+    return re.split(r"\n\n|\n(?=BES_\w+(?:,|:|\.| \()|\[(?:in|out|in,out)\] |(?:Cost|Threads): |Returns )", text, flags=re.MULTILINE)
 
 
 def described(comment):

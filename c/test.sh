@@ -142,7 +142,7 @@ build -O2 ../examples/c/counter.c -o "$work/counter"
 } >"$work/broken.mbox"
 "$work/mailbox" "$work/broken.mbox" 'MAIL:from=="*"' 'MAIL:subject=="?" || MAIL:subject=="??"' 'MAIL:subject=="no end"' \
     'MAIL:subject=="0*0" && MAIL:from=="B?b"' 'MAIL:subject==again1 && MAIL:from==first' 'MAIL:from==" zero"' >"$work/said"
-grep -v '^  ' "$work/said" | cut -d: -f3 | tr -d '\n' | cmp - <(printf ' 3 3 1 1 1 1 1')
+sed -n '/^  /!s/.*: //p' "$work/said" | tr '\n' ' ' | cmp - <(printf '3 3 1 1 1 1 1 ')
 # A store that is full ends the reading, and what was read is found.
 awk 'BEGIN { for (i = 0; i < 6000; i++) printf "From x\nFrom: ann%d\nTo: bob%d\nSubject: Letter %d\nDate: Mon, 3 Mar 2025 09:12:00 +0000\n\nText\n", i, i, i }' \
     >"$work/many.mbox"
@@ -178,6 +178,10 @@ fi
 make -s BUILT=1 DESTDIR="$work/root" PREFIX=/usr install
 cc -std=c11 -I"$work/root/usr/include" ../examples/c/first.c -L"$work/root/usr/lib" -lbestore -o "$work/installed"
 LD_LIBRARY_PATH="$work/root/usr/lib" "$work/installed" | cmp - <(echo "node 1")
+if [ -n "$has_cpp" ]; then
+    c++ -std=c++17 -I"$work/root/usr/include" ../examples/c/first.cpp -L"$work/root/usr/lib" -lbestore -lpthread -o "$work/installed-cpp"
+    LD_LIBRARY_PATH="$work/root/usr/lib" "$work/installed-cpp" | cmp - <(echo "node 1, from ann")
+fi
 for file in include/bestore.hpp lib/pkgconfig/bestore.pc share/man/man1/bestore.1 share/man/man3/bestore.3; do
     [ -s "$work/root/usr/$file" ] || { echo "make install: there is no $file" >&2; exit 1; }
 done

@@ -21,8 +21,9 @@
  *
  * ERRORS. Each call returns BES_OK or the number of an error. A call's comment lists its errors in the order in which the call
  * looks for them; if two hold, the first is returned. After an error the store, the handles and your memory are as they were,
- * except for the parameter number, count, seen or place. The error sets it to the value that the comment names, or to 0. Pointers
- * must be valid and may not overlap. A length of 0 needs a pointer that isn't null as well, for instance to any variable.
+ * except for the parameter number, count, seen or place. The error sets it to the value that the comment names, or to 0. What the
+ * pass has seen of the journal may have grown. Pointers must be valid and may not overlap. A length of 0 needs a pointer that isn't
+ * null as well, for instance to any variable.
  *
  * SNAPSHOTS. The journal is the commit log: all accepted transactions, numbered from 1. A read needs a pin. It reads the snapshot
  * that was current when the pass was pinned, whatever is written meanwhile. The snapshot's number is the commit number of the last
@@ -264,8 +265,8 @@ uint32_t bes_unpin(bes_pass *pass);
  * [out] made     for each operation the node that it made, or 0; as many as made_room
  * [out] number   the commit number
  * BES_CLOSED, BES_BAD_COUNT, BES_NO_MEMORY.
- * BES_BAD_PART, BES_NO_OPERATION; of the name BES_NOT_UTF8, BES_NAME_LENGTH, BES_HAS_NUL; BES_NO_KIND; of the value BES_NOT_UTF8,
- * BES_DATA_LENGTH, BES_HAS_NUL, or BES_NO_VALUE: an operation is invalid, and number is the index of the first one.
+ * BES_BAD_PART, BES_NO_OPERATION; then of the name BES_NOT_UTF8, BES_NAME_LENGTH, BES_HAS_NUL; then BES_NO_KIND; then of the
+ * value BES_NOT_UTF8, BES_DATA_LENGTH, BES_HAS_NUL or BES_NO_VALUE: an operation is invalid, and number is the index of the first.
  * BES_BUSY: another pass is writing, and number is that pass. Call again; bes_apply_or_retry does.
  * BES_NO_NODE, BES_NO_ATTRIBUTE, BES_TOO_MANY_ATTRS, BES_INDEX_EXISTS, BES_NO_INDEX, BES_TOO_MANY_INDICES, BES_NOT_INDEXABLE: the
  * first operation that the store refuses refuses the batch.

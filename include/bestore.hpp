@@ -133,6 +133,8 @@ public:
     Iterator begin()
     {
         std::uint64_t length = 0;
+        if (!detail::is_ours(made_in_))
+            throw Refusal(BES_CLOSED);
         const auto error = item_.batch.read([&](bes_counts *counts, auto... room) {
             return detail::tried(pass_, BES_TRIES, length, [&] {
                 return bes_journal_from(pass_, item_.number, &item_.pass, counts, room..., &length);
@@ -153,6 +155,7 @@ private:
     Entries(bes_pass *pass, std::uint64_t from) : pass_(pass), item_{from, 0, {}} {}
 
     bes_pass *pass_;
+    unsigned made_in_ = detail::generation();
     Entry item_;
 };
 

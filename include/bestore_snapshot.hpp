@@ -31,6 +31,9 @@ inline unsigned generation()
     return forks;
 }
 
+// Whether what was made at this generation is of this process.
+inline bool is_ours(unsigned made_in) noexcept { return made_in == forks.load(std::memory_order_relaxed); }
+
 // A handle of the library, which stays in its place when the object that has it is moved, and is closed with that object.
 template <class T, std::uint32_t (*close)(T *)> class Handle {
 public:
@@ -40,7 +43,7 @@ public:
 
     T *get() const
     {
-        if (!handle_ || handle_.get_deleter().made_in != forks)
+        if (!handle_ || !is_ours(handle_.get_deleter().made_in))
             throw Refusal(BES_CLOSED);
         return handle_.get();
     }
@@ -51,7 +54,7 @@ private:
 
         void operator()(T *handle) const noexcept
         {
-            if (made_in != forks)
+            if (!is_ours(made_in))
                 return;
             close(handle);
             delete handle;
@@ -66,7 +69,7 @@ struct Unpins {
 
     void operator()(bes_pass *pass) const noexcept
     {
-        if (made_in == forks)
+        if (is_ours(made_in))
             bes_unpin(pass);
     }
 };
@@ -349,7 +352,7 @@ protected:
     {
         if (!pass_)
             throw Refusal(BES_NOT_PINNED);
-        if (pass_.get_deleter().made_in != detail::forks)
+        if (!detail::is_ours(pass_.get_deleter().made_in))
             throw Refusal(BES_CLOSED);
         return pass_.get();
     }
