@@ -93,11 +93,15 @@ static void add_comparison(const char *attribute, uint64_t value)
     snprintf(expected + length, sizeof expected - length, "%s\"%s\"==\"%d\"", at > 0 ? " || " : "", attribute, (int)value);
 }
 
-/* What the query in `text` would be answered from: what is expected, and then this score. */
+/* What the query in `text` is answered from: what is expected, which is its canonical text, and then this score. */
 static void explained(bes_pass *pass, uint64_t score)
 {
+    bes_prepared prepared = BES_PREPARED_INIT;
     uint64_t count = 0, number = 0;
     size_t length = strlen(expected);
+    memset(told, 7, length + 1);
+    OK(bes_prepare_text(text, &prepared, &place) || bes_prepared_text(&prepared, told, sizeof told, &count) || bes_release(&prepared));
+    CHECK(count == length && memcmp(told, expected, length) == 0 && told[length] == 7);
     length += (size_t)snprintf(expected + length, sizeof expected - length, " score %d", (int)score);
     OK(bes_pin(pass, &number));
     memset(told, 7, length + 1);
@@ -163,7 +167,7 @@ static void many_operations(void)
     AT_EACH_SIZE(1, 64) {
         bes_pass pass = BES_PASS_INIT;
         bes_counts counts = {7, 7};
-        uint64_t number = 0, made[64];
+        uint64_t number = 0, by = 7, made[64];
         OK(bes_open(256, 1, 1000, &pass));
         bes_batch_clear(&batch);
         for (uint64_t i = 0; i < size; i++)
@@ -178,6 +182,9 @@ static void many_operations(void)
         are_listed(&counts, BES_SET, 'a', size);
         for (uint64_t i = 0; i < size; i++)
             CHECK(listed[i].number == i);
+        OK(bes_journal_from(&pass, 1, &by, &counts, listed, 64, told, sizeof told, &number));
+        CHECK(by == 0 && number == 2);
+        are_listed(&counts, BES_SET, 'a', size);
         OK(bes_close(&pass));
     }
 }
@@ -356,7 +363,7 @@ static void many_passes(void)
 static void many_entries(void)
 {
     bes_pass pass = BES_PASS_INIT;
-    uint64_t node = 0, written = 0, count = 0;
+    uint64_t node = 0, written = 0, count = 0, by = 7;
     size_t length = 0;
     OK(bes_open(64, 1, MOST_ENTRIES, &pass));
     AT_EACH_SIZE(1, MOST_ENTRIES) {
@@ -374,6 +381,8 @@ static void many_entries(void)
         memset(told, 7, sizeof told);
         OK(bes_journal(&pass, told, sizeof told, &count));
         CHECK(count == length && memcmp(told, expected, length) == 0 && told[length] == 7);
+        OK(bes_batch_entry(&pass, size - 1, &batch, &by, &count));
+        CHECK(count == size && by == 0 && batch.count == 1 && batch.operations[0].node == 1 && batch.operations[0].number == size - 1);
     }
     CHECK(bes_new_node(&pass, &node) == BES_COMMITS_SPENT);
     OK(bes_close(&pass));

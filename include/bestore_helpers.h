@@ -560,10 +560,12 @@ static inline uint32_t bes_batch_from_bytes(bes_batch *batch, const uint8_t *byt
         else
             source.at++;
     }
-    if (error == BES_OK && !bes_take_number_(&source, 1, &count))
+    if (error == BES_OK && !bes_take_number_(&source, 1, &count)) {
         error = BES_BAD_PART;
-    else if (error == BES_OK && (count < 1 || count > 64))
-        error = BES_BAD_COUNT, source.at--;
+    } else if (error == BES_OK && (count < 1 || count > 64)) {
+        error = BES_BAD_COUNT;
+        source.at--;
+    }
     while (error == BES_OK && batch->count < count)
         error = bes_take_operation_(&source, batch);
     if (error == BES_OK && source.at < length)
