@@ -1,4 +1,4 @@
-/* What calls answer where malloc refuses, and where they come in the middle of another call. Linked by -Wl,--wrap=malloc,
+/* What calls return if malloc returns NULL, and if they come in the middle of another call. Linked by -Wl,--wrap=malloc,
  * --wrap=realloc,--wrap=sched_yield, so that each request of the library comes by here, and each turn that a write leaves to
  * others. */
 #include "tests.h"
@@ -46,7 +46,7 @@ static bes_prepared by_text, by_items, kept, moved;
 static bes_place place, elsewhere;
 static uint64_t journal_length;
 
-/* What calls put out. */
+/* What calls write. */
 typedef struct outs {
     uint64_t number, count, nodes[4], more[4];
     bes_updates updates;
@@ -113,7 +113,7 @@ static uint32_t call_move_place(void)
 }
 static uint32_t call_move(void) { return bes_move(&mine, &opened) == BES_OK ? bes_move(&opened, &mine) : BES_OPEN; }
 
-/* Whether nothing was put out, but 0 where a call has a number. */
+/* Whether nothing was written, except 0 to the number of a call. */
 static bool is_untouched(void)
 {
     outs seen = out;
@@ -124,7 +124,7 @@ static bool is_untouched(void)
     return memcmp(&seen, &untouched, sizeof seen) == 0;
 }
 
-/* Refuses each of the requests that a call makes, in turn: it does nothing then. At last it is made with memory for all. Answers
+/* Refuses each of the requests that a call makes, in turn: the call does nothing then. At last it is made with memory for all. Returns
  * how many requests it made. */
 static unsigned refuse_each(uint32_t (*call)(void))
 {
@@ -170,8 +170,8 @@ static void refuse_all(void)
 
 enum { MADE = 100, MOST = 4 * MADE };
 
-/* Reads a whole state, with this request refused of each first try to read a list. Answers how many operations there were, and how
- * many tries were in vain. */
+/* Reads a whole state, with this request refused of each first try to read a list. Returns how many operations there were, and
+ * how many tries were in vain. */
 static size_t read_state(bes_pass *pass, unsigned request, bes_operation *told, unsigned *vain)
 {
     static bes_batch batch;
@@ -196,7 +196,7 @@ static size_t read_state(bes_pass *pass, unsigned request, bes_operation *told, 
     return count;
 }
 
-/* No operation is lost, or told twice, where memory is refused between two lists. */
+/* No operation is lost or comes twice if memory is refused between two lists. */
 static void refuse_between_lists(void)
 {
     static bes_operation plain[MOST], told[MOST];
@@ -217,8 +217,8 @@ static void refuse_between_lists(void)
 
 static unsigned accepted, busy;
 
-/* A write is tried again so many times, and leaves so many turns to others in all: one before the second try, twice as many before
- * each further one, and 1,024 at most. */
+/* A write is tried again `retries` times, and leaves `left` turns to others in all: one before the second try, twice as many before
+ * each further one, up to 1,024. */
 static void tries_again(uint32_t retries, unsigned left)
 {
     uint64_t number = 7, nodes[4];
@@ -227,7 +227,7 @@ static void tries_again(uint32_t retries, unsigned left)
     CHECK(turns == left);
 }
 
-/* What another pass is answered: its writes BES_BUSY where the first is writing, with the number of that, 1, and its reads as
+/* What calls of another pass return: its writes BES_BUSY while the first is writing, with the number of that, 1, and its reads as
  * ever. */
 static void go_between(void)
 {
@@ -272,7 +272,7 @@ int main(void)
     refuse_between_lists();
     meet_busy();
     CHECK(bes_release(&kept) == BES_OK && bes_release(&by_text) == BES_OK && bes_release(&by_items) == BES_OK);
-    /* A pass that was given back isn't lost where there is no memory for its handle. */
+    /* A pass that was given back isn't lost if there is no memory for its handle. */
     CHECK(bes_close(&theirs) == BES_OK && refuse_each(call_another) > 0);
     CHECK(bes_close(&mine) == BES_OK && bes_close(&theirs) == BES_OK);
     puts("ok");

@@ -1,5 +1,5 @@
-/* Each list, text and number that a call takes or gives, at twenty sizes or more between its bounds: malloc refuses nothing here, so
- * that no call has a reason to answer BES_NO_MEMORY. */
+/* Each list, text and number that a call takes or writes, at twenty sizes or more between its bounds. malloc refuses nothing here, so
+ * no call has a reason to return BES_NO_MEMORY. */
 #include "tests.h"
 
 #define OK(call) CHECK((call) == BES_OK)
@@ -12,8 +12,8 @@ static uint8_t told[1 << 20];
 static bes_batch batch;
 static bes_operation listed[64];
 
-/* Lays down the sizes between two bounds, ascending, and tells how many they are: each where they are few, else ten by equal steps, and
- * halves of the greatest and of these. */
+/* Writes the sizes between two bounds, ascending, and returns how many they are: each if they are few; otherwise ten by equal steps,
+ * and halves of the greatest. */
 static size_t spread(uint64_t least, uint64_t most)
 {
     size_t count = 0, i = 0;
@@ -55,7 +55,7 @@ static bool are_from_one(const uint64_t *list, uint64_t count)
     return true;
 }
 
-/* A query that so many nodes meet: by its text, by its items, prepared and refreshed. */
+/* A query that `count` nodes meet: by its text, by its items, prepared and refreshed. */
 static void found(bes_pass *pass, const char *query, const bes_item *items, size_t items_count, uint64_t count)
 {
     bes_prepared prepared = BES_PREPARED_INIT, other = BES_PREPARED_INIT;
@@ -85,7 +85,7 @@ static void found(bes_pass *pass, const char *query, const bes_item *items, size
     OK(bes_unpin(pass));
 }
 
-/* Puts one more comparison behind those of a query in `text`, which asks for any of them, and behind those of `expected`. */
+/* Appends one more comparison to the query in `text`, which asks for any of them, and to `expected`. */
 static void add_comparison(const char *attribute, uint64_t value)
 {
     size_t at = strlen(text), length = strlen(expected);
@@ -112,7 +112,7 @@ static void explained(bes_pass *pass, uint64_t score)
 
 static const bes_item K = {BES_ITEM_ATTRIBUTE, 0, 1, 0}, EQ = {BES_ITEM_EQ, 0, 0, 0}, OR = {BES_ITEM_OR, 0, 0, 0};
 
-/* Nodes of an answer, and what a live query finds and loses. */
+/* Nodes of a result, and what a live query finds and loses. */
 static void many_nodes(void)
 {
     const bes_item items[] = {K, {BES_ITEM_INT64, 0, 0, 7}, EQ};
@@ -151,7 +151,7 @@ static const char *name_of(char letter, uint64_t number)
     return name;
 }
 
-/* What a call put into `listed` and `told` is of so many names of this letter. */
+/* What a call wrote to `listed` and `told` has `size` names of this letter. */
 static void are_listed(const bes_counts *counts, uint32_t kind, char letter, uint64_t size)
 {
     CHECK(counts->operations == size && counts->bytes == 3 * size);
@@ -359,7 +359,7 @@ static void many_passes(void)
     }
 }
 
-/* The journal of so many writes, as they come. */
+/* The journal of many writes, as they come. */
 static void many_entries(void)
 {
     bes_pass pass = BES_PASS_INIT;

@@ -4,7 +4,7 @@
 
 static view before;
 
-/* A call that is answered so, and leaves the store and the pin as they were. */
+/* A call that returns this error, and leaves the store and the pin as they were. */
 #define LEAVES(pass, call, answer) do { \
         look(pass, &before); \
         CHECK((call) == (answer) && is_as_it_was(pass, &before)); \
@@ -105,7 +105,7 @@ static void giving_back(void)
     CHECK(bes_close(&third) == BES_OK && bes_close(&mine) == BES_OK && bes_close(&theirs) == BES_OK);
 }
 
-/* A pass that was given back tells one what another has seen. */
+/* A pass that was given back shows one what another has seen. */
 static void meeting(void)
 {
     bes_pass mine = BES_PASS_INIT, theirs = BES_PASS_INIT, third = BES_PASS_INIT;
@@ -120,8 +120,8 @@ static void meeting(void)
     CHECK(bes_close(&mine) == BES_OK && bes_close(&theirs) == BES_OK);
 }
 
-/* So many operations, the first `right` of which can be read, and the others are this one: what is answered. Where that is a fault of
- * the list, the first of the others goes with it. */
+/* Writes `count` operations, the first `right` of which are valid, and the others are this one. Returns the error. If the list is
+ * invalid, the index of the first of the others goes with that. */
 static uint32_t wrong_behind(bes_pass *pass, size_t right, bes_operation op, size_t count, size_t size)
 {
     static const uint8_t bytes[300] = "k\0\xff";
@@ -238,7 +238,7 @@ static void full_batch(void)
     CHECK(bes_batch_new_node(&batch) == BES_BAD_COUNT && batch.count == 64);
 }
 
-/* A pin keeps the pages of its version, until no page is free for a write. */
+/* A pin keeps the pages of its snapshot, until no page is free for a write. */
 static void no_page_is_free(void)
 {
     static bes_batch batch;
@@ -253,7 +253,7 @@ static void no_page_is_free(void)
     CHECK(answer == BES_FULL);
     LEAVES(&pass, bes_new_node(&pass, &count), BES_FULL);
     CHECK(count == 7);
-    /* The version that is pinned goes with the answer. */
+    /* The number of the pinned snapshot goes with the error. */
     bes_batch_clear(&batch);
     CHECK(bes_batch_new_node(&batch) == BES_OK);
     LEAVES(&pass, bes_batch_apply(&pass, &batch, 1, &count, 1, &number), BES_FULL);
@@ -388,7 +388,7 @@ static void queries(void)
     CHECK(bes_close(&pass) == BES_OK);
 }
 
-/* A text that is no query: each call that reads it answers so, and puts out nothing but the byte that is at fault. */
+/* A text that is no query: each call that reads it returns the error, and writes nothing but the byte offset. */
 static void no_query(bes_pass *pass, const char *text, size_t length, uint32_t answer, uint64_t byte)
 {
     const uint8_t *query = (const uint8_t *)text;
@@ -573,7 +573,7 @@ static void nodes_by_number(void)
 
 enum { MOST_BYTES = 64 * (63 + 255) };
 
-/* The operations that make a version again. What has no room for all is told again. */
+/* The operations that make a snapshot again. A list that had no room is returned again. */
 static void states(void)
 {
     static const uint8_t expected[] = "nameannsizesize";

@@ -1,4 +1,4 @@
-// The objects of bestore.hpp: what they answer, that they close themselves, and what they throw.
+// The objects of bestore.hpp: what they return, that they close themselves, and what they throw.
 #include "bestore.hpp"
 #include "tests.hpp"
 #include <limits>
@@ -177,7 +177,7 @@ static void live_queries()
     refused(BES_NOT_PINNED, [&] { moved.refresh(pin); });
 }
 
-// A pin goes with its scope, and reads on where its pass is moved.
+// A pin ends with its scope, and reads on if its pass is moved.
 static void pins()
 {
     Store store({64, 2, 100});
@@ -260,7 +260,7 @@ static void states()
     refused(BES_NOT_PINNED, [&] { (void)pin.state(); });
 }
 
-// A store that is full tells the version that is pinned.
+// The number of the pinned snapshot goes with BES_FULL.
 static void full()
 {
     Store store({8, 1, 1000});

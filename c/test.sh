@@ -17,7 +17,7 @@ run() {
     echo "$what: ${said:-ok}"
 }
 
-# The same where the command is there.
+# The same if the command is there.
 run_if_there() {
     if command -v "$2" >/dev/null; then
         run "$@"
@@ -106,7 +106,7 @@ if [ -n "$has_cpp" ]; then
     done
 fi
 
-# Requests for memory are refused where the linker lets them come by the test.
+# Requests for memory are refused if the linker lets them come by the test.
 wrap=(-Wl,--wrap=malloc,--wrap=realloc,--wrap=sched_yield)
 if cc "${wrap[@]}" "$work/empty.c" -o "$work/empty" 2>/dev/null; then
     build -g -O1 "${wrap[@]}" memory.c -o "$work/memory"
@@ -213,9 +213,9 @@ else
     echo "wheel: skipped, python3 makes no environments"
 fi
 
-# The query window, on a display in memory, and what it stands on.
+# The query window, on a display in memory, and what it uses.
 unset DISPLAY
-window="what the query window stands on"
+window="what the query window uses"
 if ! command -v Xvfb >/dev/null; then
     echo "the query window: skipped, there is no Xvfb"
 elif ! python3 -c 'import tkinter' 2>/dev/null; then
@@ -228,7 +228,7 @@ else
     for _ in {1..100}; do [ -s "$work/display" ] || sleep 0.1; done
     if [ -s "$work/display" ]; then
         export DISPLAY=":$(<"$work/display")"
-        window="the query window, and what it stands on"
+        window="the query window, and what it uses"
     else
         echo "the query window: skipped, Xvfb gives no display"
     fi

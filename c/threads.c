@@ -5,10 +5,10 @@
 #include <time.h>
 
 /* Four threads, one pass each: two write, and two ask. Each writer has nodes of its own in pairs, one of which is from ann and
- * the other from bob, and exchanges the two of a pair in one write: so each version has as many nodes from ann as from bob. */
+ * the other from bob, and exchanges the two of a pair in one write: so each snapshot has as many nodes from ann as from bob. */
 enum { PAIRS = 100, NODES = 4 * PAIRS };
 
-static double seconds = 3; /* fewer where the program is told to be short */
+static double seconds = 3; /* fewer if the argument is short */
 
 static struct timespec end;
 
@@ -22,7 +22,7 @@ static bool is_over(void)
 typedef struct user {
     bes_pass pass;
     uint64_t first;  /* of a writer's nodes */
-    uint64_t rounds; /* writes that were accepted, or versions that were asked */
+    uint64_t rounds; /* writes that were accepted, or snapshots that were asked */
 } user;
 
 /* Writes a pair, the first node of which is then from ann, or else from bob. A pin of another thread may hold all free pages
@@ -127,11 +127,11 @@ static void threads(void)
     CHECK(lines == number);
     free(text);
     CHECK(bes_close(&users[3].pass) == BES_OK);
-    printf("%llu writes and %llu versions in %g seconds\n", (unsigned long long)(users[0].rounds + users[1].rounds),
+    printf("%llu writes and %llu snapshots in %g seconds\n", (unsigned long long)(users[0].rounds + users[1].rounds),
            (unsigned long long)(users[2].rounds + users[3].rounds), seconds);
 }
 
-/* Takes a pass that no thread has, writes through it and gives it back, and so on. Answers how many writes that were. */
+/* Takes a pass that no thread has, writes through it and gives it back, and so on. Counts the writes. */
 static void *taker(void *arg)
 {
     user *it = arg;
@@ -150,7 +150,7 @@ static void *taker(void *arg)
     return NULL;
 }
 
-/* Four threads take so many passes in turn, each once another has given it back. All are there at the end. */
+/* Four threads take `count` passes in turn, each after another has given it back. All are there at the end. */
 static void takers(int count)
 {
     static user users[4];
@@ -193,7 +193,7 @@ static void *grower(void *arg)
     return NULL;
 }
 
-/* Opens a store, and makes it what the pinned version is. */
+/* Opens a store, and makes it what the pinned snapshot is. */
 static void carry_on(bes_pass *pass, bes_pass *next)
 {
     bes_batch batch;
@@ -209,7 +209,7 @@ static void carry_on(bes_pass *pass, bes_pass *next)
     CHECK(bes_leave(&place) == BES_OK);
 }
 
-/* Whether both pinned versions are made again by the same operations. */
+/* Whether both pinned snapshots are made again by the same operations. */
 static bool are_alike(bes_pass *mine, bes_pass *theirs)
 {
     bes_batch one, other;
