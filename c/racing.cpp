@@ -1,4 +1,4 @@
-// As racing.c: four threads make nodes and count them, by a guessed number and by Pass::change.
+// As racing.c: four threads make nodes and count them, by a guessed number and by Pass::change. And an index is filled beside a writer.
 #include "bestore.hpp"
 #include "tests.hpp"
 #include <atomic>
@@ -66,10 +66,33 @@ template <class Write> Damage race(Write write, std::uint64_t rounds)
     return {mixed, 4 * rounds - static_cast<std::uint64_t>(pin.get(1, total).value())};
 }
 
+// An index is made and filled while another thread sets the attributes: none of its values is lost, and the index holds them all.
+static void reindex_beside_writer()
+{
+    constexpr Node nodes = 200;
+    const Attribute<std::int64_t> value{"n"};
+    Store store({2048, 2, 1000000});
+    for (Node node = 1; node <= nodes; node += 50)
+        store.new_nodes(50);
+    for (Node node = 1; node <= nodes; node++)
+        store.set(node, value, 0);
+    std::thread writer([&, pass = store.another()]() mutable {
+        for (std::int64_t round = 1; round <= 5; round++)
+            for (Node node = 1; node <= nodes; node++)
+                pass.set(node, value, round);
+    });
+    store.make_index(value);
+    store.reindex(value.name(), UINT32_MAX);
+    writer.join();
+    auto pin = store.pin();
+    CHECK(pin.pairs("n") == nodes && pin.count("n==5") == nodes);
+}
+
 int main(int argc, char **argv)
 {
     const std::uint64_t rounds = argc > 1 && std::strcmp(argv[1], "short") == 0 ? 100 : 500;
     const auto guessed = race(guess, rounds), changed = race(change, rounds);
+    reindex_beside_writer();
     CHECK(changed.mixed == 0 && changed.lost == 0);
     if (guessed.mixed + guessed.lost == 0)
         std::printf("the race didn't happen this time; ");
