@@ -230,8 +230,8 @@ uint32_t bes_another(bes_pass *pass, bes_pass *other);
  * Threads: a pass that one thread has done with waits in memory of yours, pinned, until another thread takes it. */
 uint32_t bes_move(bes_pass *pass, bes_pass *other);
 
-/* Closes the handle and unpins it. The pass goes back to the store, with all passes that wait with the handle, and bes_another
- * hands them out again, through any handle of the store. The last open handle frees the store.
+/* Closes the handle and unpins it. The pass goes back to the store, with all passes that wait with the handle. bes_another hands them
+ * out again, through any handle of the store. The last open handle frees the store.
  * BES_CLOSED.
  * Cost: a step for each pass that waits; for the last handle the time to free all pages and the journal. */
 uint32_t bes_close(bes_pass *pass);
@@ -275,7 +275,7 @@ uint32_t bes_unpin(bes_pass *pass);
  * succeeds once it is unpinned; bes_apply_or_retry waits for that. Otherwise the store has no room for the batch: write a smaller
  * one, remove nodes a few at a time, or carry the state on to a larger store.
  * Cost: memory for the operations and for their entry in the journal, and new pages on the way to each change of a tree. If no page
- * is free, or 32 pages were retired since the last scan, also a look at each pass, and work for each page that becomes free. At
+ * is free, or 32 pages were retired since the last scan, it scans: a look at each pass, and work for each page that becomes free. At
  * BES_BUSY it is one step, and the memory for the operations. */
 uint32_t bes_apply(bes_pass *pass, const bes_operation *operations, size_t operations_count, const uint8_t *bytes,
                    size_t bytes_count, uint64_t *made, size_t made_room, uint64_t *number);
@@ -429,8 +429,8 @@ uint32_t bes_leave(bes_place *place);
  * BES_CLOSED (of place), BES_OPEN (of other). */
 uint32_t bes_move_place(bes_place *place, bes_place *other);
 
-/* Writes the journal as text, pinned or not: a line for each transaction, numbered from 1, with the pass that wrote it, its operations
- * and their outcomes, as in 2 by 0 set 1 "size" LONG 5 -> ok. The journal only grows, so the text of a later call begins with this.
+/* Writes the journal as text, pinned or not. Each transaction has a line, as 2 by 0 set 1 "size" LONG 5 -> ok: its commit number, the
+ * pass that wrote it, its operations and their outcomes. The journal only grows, so the text of a later call begins with this.
  * [out] bytes    the first bytes of the text; as many as bytes_room. No zero byte follows them.
  * [out] count    how many bytes it has
  * BES_CLOSED. BES_BUSY: another pass is writing, and count is that pass. BES_NO_MEMORY.

@@ -205,8 +205,8 @@ public:
     }
 
     // Reads and writes as one. Pins the current snapshot, runs f on a Change, and writes its operations as one transaction if no other
-    // came between. If one came, or if the store is busy, or full for as long as bes_again waits, it unpins and runs f again, on a new
-    // snapshot. So f may run several times, up to `attempts`, and must leave nothing behind but its Change and what it returns.
+    // came between. If one came, it unpins and runs f again, on a new snapshot; and so if the store is busy, or full while bes_again
+    // waits. So f may run several times, up to `attempts`, and must leave nothing behind but its Change and what it returns.
     //
     //     const auto [number, letter] = store.change([](bestore::Change &change) {
     //         const auto letter = change.create();
@@ -261,8 +261,8 @@ public:
         return apply(batch).made;
     }
 
-    // Sets again the attributes of this name that have the kind of its index, and that the index doesn't hold, since they were set
-    // before it was made. Each up to 64 are a change of their own. Returns how many these were.
+    // Sets again the attributes of this name that its index doesn't hold since they were set before it was made. Those of another kind
+    // stay outside. Each up to 64 are a change of their own. Returns how many these were.
     std::uint64_t reindex(std::string_view name, std::uint32_t attempts = BES_TRIES);
 
     // The journal up to now: a line for each transaction.

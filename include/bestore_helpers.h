@@ -220,8 +220,8 @@ typedef struct bes_retry {
     time_t full_since; /* when BES_FULL came first, or 0 */
 } bes_retry;
 
-/* Whether a write that returned BES_FULL with this number may succeed later, since an older snapshot is pinned by another pass, or
- * was until now. It may not if the caller's own pin is the oldest. */
+/* Whether a write that returned BES_FULL with this number may succeed later: another pass has an older snapshot pinned, or had it until
+ * now. It may not if the caller's own pin is the oldest. */
 static inline bool bes_waits_for_other(bes_pass *pass, uint64_t oldest)
 {
     bes_usage usage;
