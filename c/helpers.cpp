@@ -1,5 +1,6 @@
 // Changes, typed attributes, the journal's entries, batches as bytes, and texts of queries, by the objects of bestore.hpp; and objects in
 // a forked child.
+#define BES_FULL_SECONDS 60 // so that a thread comes to unpin also on a loaded machine
 #include "bestore.hpp"
 #include "tests.hpp"
 #include <chrono>
