@@ -1,5 +1,5 @@
 #!/usr/bin/env python3
-"""Prints the manual page bestore(3), which has the words of include/bestore.h: python3 manual.py >../docs/bestore.3"""
+"""Prints the manual page bestore(3), which has the words of include/bestore*.h: python3 manual.py >../docs/bestore.3"""
 
 import os
 import re
@@ -10,7 +10,7 @@ COMMENT = r"^/\* ((?:[^*]|\*(?!/))*)\*/\n"
 NAME = r"(?:bes|BES)_\w+"
 
 HEAD = """\
-.\\" Made from include/bestore.h by c/manual.py.
+.\\" Made from include/bestore.h, bestore_helpers.h and bestore_text.h by c/manual.py.
 .Dd November 27, 2026
 .Dt BESTORE 3
 .Os
@@ -32,14 +32,17 @@ and
 close themselves; they can be moved and not copied.
 A call throws a
 .Vt bestore::Refusal
-where the call of C answers anything but
-.Dv BES_OK .
+if the call of C returns an error.
 .Vt Batch
 and
 .Vt Predicate
 are filled by calls in a chain; those of a predicate have the names that
 .Vt BQuery
 gave them.
+.Fn Pass::change
+reads and writes as one, as
+.Fn bes_change
+does.
 """
 
 
@@ -49,6 +52,8 @@ def read(*path):
 
 
 HEADER = read("include", "bestore.h")
+HELPERS = [("HELPERS", read("include", "bestore_helpers.h")), ("TEXTS", read("include", "bestore_text.h"))]
+ALL = HEADER + "".join(text for _, text in HELPERS)
 
 
 def plain(line):
@@ -61,11 +66,11 @@ def macro(name):
     """The macro that marks a name."""
     if name.isupper():
         return "Dv"
-    return "Fn" if f" {name}(" in HEADER or f"*{name}(" in HEADER else "Vt"
+    return "Fn" if f" {name}(" in ALL or f"*{name}(" in ALL else "Vt"
 
 
 def marked(text):
-    """A text with each sentence on a line, and each name of the header on a line of its own."""
+    """A text with each sentence on a line, and each name of the headers on a line of its own."""
     lines = []
     for part in re.split(rf"((?:^|(?<= ))\(?{NAME}[.,:;)]*(?= |$))", text):
         name = re.fullmatch(rf"(\(?)({NAME})([.,:;)]*)", part)
@@ -76,11 +81,25 @@ def marked(text):
     return "\n".join(lines) + "\n"
 
 
+def paragraphs(text):
+    """Parts of a comment. A blank line begins one, and so do a line's first error, a parameter, and a word with a colon."""
+    return re.split(r"\n\n|\n(?=BES_\w+(?:,|:|\.| \()|\[(?:in|out|in,out)\] |(?:Cost|Threads): |Returns )", text, flags=re.MULTILINE)
+
+
 def described(comment):
-    """A comment's paragraphs. What a call answers beside BES_OK begins one, as it begins a line of the comment."""
+    """A comment's paragraphs, its parameters as a list."""
     text = re.sub(r"^ \*(?: |$)", "", comment.strip(), flags=re.MULTILINE)
-    parts = re.split(rf"\n\n|\n(?={NAME}(?:,|:|\.$| \())", text, flags=re.MULTILINE)
-    return ".Pp\n".join(marked(" ".join(part.split())) for part in parts)
+    page, in_list = "", False
+    for part in paragraphs(text):
+        words = " ".join(part.split())
+        parameter = re.fullmatch(r"\[([a-z,]+)\] ((?:\w+, )*\w+) (.*)", words)
+        if bool(parameter) != in_list:
+            page += ".Bl -tag -width indent -compact\n" if parameter else ".El\n"
+            in_list = bool(parameter)
+        elif page and not parameter:
+            page += ".Pp\n"
+        page += f".It {parameter[1]} Fa {parameter[2].replace(', ', ' , ')}\n{marked(parameter[3])}" if parameter else marked(words)
+    return page + (".El\n" if in_list else "")
 
 
 def prototype(kind, name, arguments):
@@ -116,29 +135,30 @@ def types():
     return ".Sh TYPES\n" + "".join(described(comment) + literal(code) for comment, code in zip(parts[::2], parts[1::2]))
 
 
-def inlines():
-    """The functions that the header has whole."""
-    comment = re.search(COMMENT + r"typedef struct bes_batch", HEADER, re.MULTILINE)[1]
-    listed = re.findall(r"^static inline ([^{]*\))\n\{", HEADER, re.MULTILINE)
-    lines = "".join(re.sub(r"\n +", "\n    ", it) + ";\n" for it in listed)
-    commented = re.findall(COMMENT + r"static inline [^(]*?(\w+)\(", HEADER, re.MULTILINE)
-    told = "".join(f".It Fn {name}\n{described(words)}" for words, name in commented)
-    return f".Sh BATCHES AND SINGLE OPERATIONS\n{described(comment)}{literal(lines)}.Bl -tag -width indent\n{told}.El\n"
+def helpers(title, header):
+    """The functions that a header has whole: what it says of itself, their prototypes, and each that has a comment. Names that end
+    with _ are left out."""
+    listed = re.findall(r"^static inline ([^{]*\))\n\{", header, re.MULTILINE)
+    lines = "".join(re.sub(r"\n +", "\n    ", it) + ";\n" for it in listed if "_(" not in it)
+    commented = re.findall(COMMENT + r"(?:static inline [^(]*?|typedef (?:struct|uint32_t) )\**(\w+)(?:\(| \{)", header, re.MULTILINE)
+    told = "".join(f".It {macro(name)} {name}\n{described(words)}" for words, name in commented if not name.endswith("_"))
+    said = described(re.match(COMMENT, header)[1])
+    return f".Sh {title}\n{said}{literal(lines)}.Bl -tag -width indent\n{told}.El\n"
 
 
-def answers():
-    numbered = between("/* What calls answer", "/* The kinds of values")
+def errors():
+    numbered = between("/* What calls return", "/* The kinds of values")
     listed = re.findall(r"^    (BES_\w+) = \d+,? +/\* (.*?) \*/$", numbered, re.MULTILINE)
     told = "".join(f".It Dv {name}\n{plain(meaning)}\n" for name, meaning in listed)
-    return f".Sh RETURN VALUES\n.Dv BES_OK ,\nor\n.Bl -tag -width indent -compact\n{told}.El\n"
+    return f".Sh RETURN VALUES\n.Dv BES_OK ,\nor an error:\n.Bl -tag -width indent -compact\n{told}.El\n"
 
 
 def manual():
     prototypes = re.findall(r"^(uint32_t )(\w+)\(([^;]*)\);", HEADER, re.MULTILINE)
-    example = ".Sh EXAMPLES\n" + literal(read("examples", "c", "first.c"))
+    examples = ".Sh EXAMPLES\n" + literal(read("examples", "c", "first.c")) + literal(read("examples", "c", "counter.c"))
     page = "".join([
-        HEAD, *(prototype(*it) for it in prototypes), description(), calls(), types(), inlines(), CPP, answers(), example,
-        ".Sh SEE ALSO\n.Xr bestore 1\n",
+        HEAD, *(prototype(*it) for it in prototypes), description(), calls(), types(),
+        *(helpers(title, header) for title, header in HELPERS), CPP, errors(), examples, ".Sh SEE ALSO\n.Xr bestore 1\n",
     ])
     return page.replace(".Pp\n.Sh", ".Sh")
 

@@ -1,4 +1,4 @@
-/* What calls answer where malloc refuses, and where they come in the middle of another call. Linked by -Wl,--wrap=malloc,
+/* What calls return if malloc returns NULL, and if they come in the middle of another call. Linked by -Wl,--wrap=malloc,
  * --wrap=realloc,--wrap=sched_yield, so that each request of the library comes by here, and each turn that a write leaves to
  * others. */
 #include "tests.h"
@@ -42,10 +42,11 @@ int __wrap_sched_yield(void)
 }
 
 static bes_pass mine, theirs, opened;
-static bes_prepared by_text, by_items, kept;
-static bes_place place;
+static bes_prepared by_text, by_items, kept, moved;
+static bes_place place, elsewhere;
+static uint64_t journal_length;
 
-/* What calls put out. */
+/* What calls write. */
 typedef struct outs {
     uint64_t number, count, nodes[4], more[4];
     bes_updates updates;
@@ -54,6 +55,7 @@ typedef struct outs {
     bes_attribute told;
     bes_operation listed[4];
     uint8_t bytes[64];
+    uint64_t by;
 } outs;
 
 static outs out, untouched;
@@ -71,6 +73,10 @@ static uint32_t call_prepare(void) { return bes_prepare(query, sizeof query - 1,
 static uint32_t call_prepare_items(void) { return bes_prepare_items(less, 3, parts, 11, &by_items, &out.count); }
 static uint32_t call_apply(void) { return bes_apply(&mine, list, 2, parts, 11, out.nodes, 4, &out.number); }
 static uint32_t call_retry(void) { return bes_apply_or_retry(&mine, list, 2, parts, 11, 3, out.nodes, 4, &out.number); }
+static uint32_t call_apply_if(void)
+{
+    return bes_apply_if(&mine, journal_length, list, 2, parts, 11, out.nodes, 4, &out.number);
+}
 static uint32_t call_query(void) { return bes_query(&mine, query, sizeof query - 1, out.nodes, 4, &out.count); }
 static uint32_t call_items(void) { return bes_query_items(&mine, less, 3, parts, 11, out.nodes, 4, &out.count); }
 static uint32_t call_prepared(void) { return bes_query_prepared(&mine, &kept, out.nodes, 4, &out.count); }
@@ -90,9 +96,24 @@ static uint32_t call_changes(void) { return bes_changes(&kept, out.nodes, 4, out
 static uint32_t call_get(void) { return bes_read(&mine, 1, "size", &out.told, out.bytes, 64); }
 static uint32_t call_unpin(void) { return bes_unpin(&mine); }
 static uint32_t call_pin(void) { return bes_pin(&mine, &out.number); }
+static uint32_t call_prepared_text(void) { return bes_prepared_text(&kept, out.bytes, 64, &out.count); }
+static uint32_t call_journal_from(void)
+{
+    return bes_journal_from(&mine, 0, &out.by, &out.counts, out.listed, 4, out.bytes, 64, &out.number);
+}
+static uint32_t call_next(void) { return bes_next(&mine, &out.by); }
+static uint32_t call_number(void) { return bes_number(&mine, &out.by); }
+static uint32_t call_move_prepared(void)
+{
+    return bes_move_prepared(&kept, &moved) == BES_OK ? bes_move_prepared(&moved, &kept) : BES_OPEN;
+}
+static uint32_t call_move_place(void)
+{
+    return bes_move_place(&place, &elsewhere) == BES_OK ? bes_move_place(&elsewhere, &place) : BES_OPEN;
+}
 static uint32_t call_move(void) { return bes_move(&mine, &opened) == BES_OK ? bes_move(&opened, &mine) : BES_OPEN; }
 
-/* Whether nothing was put out, but 0 where a call has a number. */
+/* Whether nothing was written, except 0 to the number of a call. */
 static bool is_untouched(void)
 {
     outs seen = out;
@@ -103,7 +124,7 @@ static bool is_untouched(void)
     return memcmp(&seen, &untouched, sizeof seen) == 0;
 }
 
-/* Refuses each of the requests that a call makes, in turn: it does nothing then. At last it is made with memory for all. Answers
+/* Refuses each of the requests that a call makes, in turn: the call does nothing then. At last it is made with memory for all. Returns
  * how many requests it made. */
 static unsigned refuse_each(uint32_t (*call)(void))
 {
@@ -127,9 +148,10 @@ static void refuse_all(void)
 {
     uint32_t (*const with_requests[])(void) = {
         call_another, call_prepare, call_prepare_items, call_query, call_items, call_prepared, call_explain, call_attributes,
-        call_indices, call_nodes, call_state, call_journal, call_apply, call_retry
+        call_indices, call_nodes, call_state, call_journal, call_journal_from, call_prepared_text, call_apply, call_retry
     };
-    uint32_t (*const without[])(void) = {call_changes, call_get, call_status, call_unpin, call_pin, call_move};
+    uint32_t (*const without[])(void) = {call_changes, call_get, call_status, call_next, call_number, call_move_prepared,
+                                         call_move_place, call_unpin, call_pin, call_move};
     CHECK(bes_open(64, 2, 100, &mine) == BES_OK);
     CHECK(bes_make_index(&mine, "size", BES_INT32_TYPE) == BES_OK && bes_make_index(&mine, "name", BES_STRING_TYPE) == BES_OK);
     CHECK(bes_new_node(&mine, &out.number) == BES_OK && bes_set_int32(&mine, 1, "size", 1) == BES_OK);
@@ -139,14 +161,17 @@ static void refuse_all(void)
     for (size_t i = 0; i < sizeof with_requests / sizeof *with_requests; i++)
         CHECK(refuse_each(with_requests[i]) > 0);
     CHECK(out.number == 6 && out.nodes[0] == 3);
+    journal_length = 6;
+    CHECK(refuse_each(call_apply_if) > 0 && out.number == 7 && out.nodes[0] == 4);
+    CHECK(call_apply_if() == BES_CONFLICT && out.number == 7);
     for (size_t i = 0; i < sizeof without / sizeof *without; i++)
         CHECK(refuse_each(without[i]) == 0);
 }
 
 enum { MADE = 100, MOST = 4 * MADE };
 
-/* Reads a whole state, with this request refused of each first try to read a list. Answers how many operations there were, and how
- * many tries were in vain. */
+/* Reads a whole state, with this request refused of each first try to read a list. Returns how many operations there were, and
+ * how many tries were in vain. */
 static size_t read_state(bes_pass *pass, unsigned request, bes_operation *told, unsigned *vain)
 {
     static bes_batch batch;
@@ -171,7 +196,7 @@ static size_t read_state(bes_pass *pass, unsigned request, bes_operation *told, 
     return count;
 }
 
-/* No operation is lost, or told twice, where memory is refused between two lists. */
+/* No operation is lost or comes twice if memory is refused between two lists. */
 static void refuse_between_lists(void)
 {
     static bes_operation plain[MOST], told[MOST];
@@ -192,8 +217,8 @@ static void refuse_between_lists(void)
 
 static unsigned accepted, busy;
 
-/* A write is tried again so many times, and leaves so many turns to others in all: one before the second try, twice as many before
- * each further one, and 1,024 at most. */
+/* A write is tried again `retries` times, and leaves `left` turns to others in all: one before the second try, twice as many before
+ * each further one, up to 1,024. */
 static void tries_again(uint32_t retries, unsigned left)
 {
     uint64_t number = 7, nodes[4];
@@ -202,12 +227,14 @@ static void tries_again(uint32_t retries, unsigned left)
     CHECK(turns == left);
 }
 
-/* What another pass is answered: its writes BES_BUSY where the first is writing, with the number of that, 1, and its reads as
+/* What calls of another pass return: its writes BES_BUSY while the first is writing, with the number of that, 1, and its reads as
  * ever. */
 static void go_between(void)
 {
     uint64_t number = 7, count = 7, nodes[4];
     uint8_t text[4];
+    bes_counts counts = {0, 0};
+    bes_operation list_room[1];
     uint32_t answer = bes_apply(&theirs, list, 2, parts, 11, nodes, 0, &number);
     if (answer == BES_BUSY) {
         CHECK(number == 1);
@@ -215,6 +242,8 @@ static void go_between(void)
         tries_again(3, 1 + 2 + 4);
         tries_again(12, 1023 + 2 * 1024);
         CHECK(bes_journal(&theirs, text, 4, &count) == BES_BUSY && count == 1);
+        CHECK(bes_apply_if(&theirs, 0, list, 2, parts, 11, nodes, 0, &number) == BES_BUSY && number == 1);
+        CHECK(bes_journal_from(&theirs, 0, &count, &counts, list_room, 1, text, 4, &number) == BES_BUSY && number == 1);
     }
     accepted += answer == BES_OK;
     busy += answer == BES_BUSY;
@@ -231,8 +260,8 @@ static void meet_busy(void)
     busy = 0;
     CHECK(call_apply() == BES_OK);
     between = NULL;
-    CHECK(accepted + busy > 0 && out.number == 7 + accepted);
-    CHECK(bes_unpin(&mine) == BES_OK && bes_pin(&mine, &out.number) == BES_OK && out.number == 7 + accepted);
+    CHECK(accepted + busy > 0 && out.number == 8 + accepted);
+    CHECK(bes_unpin(&mine) == BES_OK && bes_pin(&mine, &out.number) == BES_OK && out.number == 8 + accepted);
 }
 
 int main(void)
@@ -243,7 +272,7 @@ int main(void)
     refuse_between_lists();
     meet_busy();
     CHECK(bes_release(&kept) == BES_OK && bes_release(&by_text) == BES_OK && bes_release(&by_items) == BES_OK);
-    /* A pass that was given back isn't lost where there is no memory for its handle. */
+    /* A pass that was given back isn't lost if there is no memory for its handle. */
     CHECK(bes_close(&theirs) == BES_OK && refuse_each(call_another) > 0);
     CHECK(bes_close(&mine) == BES_OK && bes_close(&theirs) == BES_OK);
     puts("ok");

@@ -1,5 +1,5 @@
-/* Each list, text and number that a call takes or gives, at twenty sizes or more between its bounds: malloc refuses nothing here, so
- * that no call has a reason to answer BES_NO_MEMORY. */
+/* Each list, text and number that a call takes or writes, at twenty sizes or more between its bounds. malloc refuses nothing here, so
+ * no call has a reason to return BES_NO_MEMORY. */
 #include "tests.h"
 
 #define OK(call) CHECK((call) == BES_OK)
@@ -12,8 +12,8 @@ static uint8_t told[1 << 20];
 static bes_batch batch;
 static bes_operation listed[64];
 
-/* Lays down the sizes between two bounds, ascending, and tells how many they are: each where they are few, else ten by equal steps, and
- * halves of the greatest and of these. */
+/* Writes the sizes between two bounds, ascending, and returns how many they are: each if they are few; otherwise ten by equal steps,
+ * and halves of the greatest. */
 static size_t spread(uint64_t least, uint64_t most)
 {
     size_t count = 0, i = 0;
@@ -55,7 +55,7 @@ static bool are_from_one(const uint64_t *list, uint64_t count)
     return true;
 }
 
-/* A query that so many nodes meet: by its text, by its items, prepared and refreshed. */
+/* A query that `count` nodes meet: by its text, by its items, prepared and refreshed. */
 static void found(bes_pass *pass, const char *query, const bes_item *items, size_t items_count, uint64_t count)
 {
     bes_prepared prepared = BES_PREPARED_INIT, other = BES_PREPARED_INIT;
@@ -85,7 +85,7 @@ static void found(bes_pass *pass, const char *query, const bes_item *items, size
     OK(bes_unpin(pass));
 }
 
-/* Puts one more comparison behind those of a query in `text`, which asks for any of them, and behind those of `expected`. */
+/* Appends one more comparison to the query in `text`, which asks for any of them, and to `expected`. */
 static void add_comparison(const char *attribute, uint64_t value)
 {
     size_t at = strlen(text), length = strlen(expected);
@@ -93,11 +93,15 @@ static void add_comparison(const char *attribute, uint64_t value)
     snprintf(expected + length, sizeof expected - length, "%s\"%s\"==\"%d\"", at > 0 ? " || " : "", attribute, (int)value);
 }
 
-/* What the query in `text` would be answered from: what is expected, and then this score. */
+/* What the query in `text` is answered from: what is expected, which is its canonical text, and then this score. */
 static void explained(bes_pass *pass, uint64_t score)
 {
+    bes_prepared prepared = BES_PREPARED_INIT;
     uint64_t count = 0, number = 0;
     size_t length = strlen(expected);
+    memset(told, 7, length + 1);
+    OK(bes_prepare_text(text, &prepared, &place) || bes_prepared_text(&prepared, told, sizeof told, &count) || bes_release(&prepared));
+    CHECK(count == length && memcmp(told, expected, length) == 0 && told[length] == 7);
     length += (size_t)snprintf(expected + length, sizeof expected - length, " score %d", (int)score);
     OK(bes_pin(pass, &number));
     memset(told, 7, length + 1);
@@ -108,7 +112,7 @@ static void explained(bes_pass *pass, uint64_t score)
 
 static const bes_item K = {BES_ITEM_ATTRIBUTE, 0, 1, 0}, EQ = {BES_ITEM_EQ, 0, 0, 0}, OR = {BES_ITEM_OR, 0, 0, 0};
 
-/* Nodes of an answer, and what a live query finds and loses. */
+/* Nodes of a result, and what a live query finds and loses. */
 static void many_nodes(void)
 {
     const bes_item items[] = {K, {BES_ITEM_INT64, 0, 0, 7}, EQ};
@@ -147,7 +151,7 @@ static const char *name_of(char letter, uint64_t number)
     return name;
 }
 
-/* What a call put into `listed` and `told` is of so many names of this letter. */
+/* What a call wrote to `listed` and `told` has `size` names of this letter. */
 static void are_listed(const bes_counts *counts, uint32_t kind, char letter, uint64_t size)
 {
     CHECK(counts->operations == size && counts->bytes == 3 * size);
@@ -163,7 +167,7 @@ static void many_operations(void)
     AT_EACH_SIZE(1, 64) {
         bes_pass pass = BES_PASS_INIT;
         bes_counts counts = {7, 7};
-        uint64_t number = 0, made[64];
+        uint64_t number = 0, by = 7, made[64];
         OK(bes_open(256, 1, 1000, &pass));
         bes_batch_clear(&batch);
         for (uint64_t i = 0; i < size; i++)
@@ -178,6 +182,9 @@ static void many_operations(void)
         are_listed(&counts, BES_SET, 'a', size);
         for (uint64_t i = 0; i < size; i++)
             CHECK(listed[i].number == i);
+        OK(bes_journal_from(&pass, 1, &by, &counts, listed, 64, told, sizeof told, &number));
+        CHECK(by == 0 && number == 2);
+        are_listed(&counts, BES_SET, 'a', size);
         OK(bes_close(&pass));
     }
 }
@@ -352,11 +359,11 @@ static void many_passes(void)
     }
 }
 
-/* The journal of so many writes, as they come. */
+/* The journal of many writes, as they come. */
 static void many_entries(void)
 {
     bes_pass pass = BES_PASS_INIT;
-    uint64_t node = 0, written = 0, count = 0;
+    uint64_t node = 0, written = 0, count = 0, by = 7;
     size_t length = 0;
     OK(bes_open(64, 1, MOST_ENTRIES, &pass));
     AT_EACH_SIZE(1, MOST_ENTRIES) {
@@ -374,6 +381,8 @@ static void many_entries(void)
         memset(told, 7, sizeof told);
         OK(bes_journal(&pass, told, sizeof told, &count));
         CHECK(count == length && memcmp(told, expected, length) == 0 && told[length] == 7);
+        OK(bes_batch_entry(&pass, size - 1, &batch, &by, &count));
+        CHECK(count == size && by == 0 && batch.count == 1 && batch.operations[0].node == 1 && batch.operations[0].number == size - 1);
     }
     CHECK(bes_new_node(&pass, &node) == BES_COMMITS_SPENT);
     OK(bes_close(&pass));

@@ -1,13 +1,10 @@
-/* Every export and every kind of wrong use, from one thread and then from four. Each answer that bestore.h lists comes here or
- * in memory.c: BES_NO_MEMORY there, and BES_BUSY where it has to come. */
-#define _POSIX_C_SOURCE 199309L
+/* Every export and every kind of wrong use, from one thread; threads.c has those from four. Each error that bestore.h lists comes here
+ * or in memory.c: BES_NO_MEMORY there, and BES_BUSY where it has to come. */
 #include "tests.h"
-#include <pthread.h>
-#include <time.h>
 
 static view before;
 
-/* A call that is answered so, and leaves the store and the pin as they were. */
+/* A call that returns this error, and leaves the store and the pin as they were. */
 #define LEAVES(pass, call, answer) do { \
         look(pass, &before); \
         CHECK((call) == (answer) && is_as_it_was(pass, &before)); \
@@ -108,7 +105,7 @@ static void giving_back(void)
     CHECK(bes_close(&third) == BES_OK && bes_close(&mine) == BES_OK && bes_close(&theirs) == BES_OK);
 }
 
-/* A pass that was given back tells one what another has seen. */
+/* A pass that was given back shows one what another has seen. */
 static void meeting(void)
 {
     bes_pass mine = BES_PASS_INIT, theirs = BES_PASS_INIT, third = BES_PASS_INIT;
@@ -123,8 +120,8 @@ static void meeting(void)
     CHECK(bes_close(&mine) == BES_OK && bes_close(&theirs) == BES_OK);
 }
 
-/* So many operations, the first `right` of which can be read, and the others are this one: what is answered. Where that is a fault of
- * the list, the first of the others goes with it. */
+/* Writes `count` operations, the first `right` of which are valid, and the others are this one. Returns the error. If the list is
+ * invalid, the index of the first of the others goes with that. */
 static uint32_t wrong_behind(bes_pass *pass, size_t right, bes_operation op, size_t count, size_t size)
 {
     static const uint8_t bytes[300] = "k\0\xff";
@@ -197,7 +194,7 @@ static void most(void)
     static bes_batch batch;
     bes_pass pass = BES_PASS_INIT;
     uint64_t node = 7, number = 7, made[64] = {7};
-    char name[16], long_text[257] = "";
+    char name[16];
     CHECK(bes_open(256, 1, 100, &pass) == BES_OK && bes_new_node(&pass, &node) == BES_OK);
     bes_batch_clear(&batch);
     for (int i = 0; i < 64; i++) {
@@ -225,16 +222,23 @@ static void most(void)
     CHECK(bes_batch_remove_node(&batch, 1) == BES_OK);
     CHECK(bes_batch_apply(&pass, &batch, 1, made, 64, &number) == BES_OK && made[0] == 0 && made[2] == 0);
     CHECK(bes_close(&pass) == BES_OK);
-    /* What a batch has no room for. */
+}
+
+/* What a batch has no room for. */
+static void full_batch(void)
+{
+    static bes_batch batch;
+    char long_text[257] = "";
+    bes_batch_clear(&batch);
     memset(long_text, 'x', 256);
-    CHECK(bes_batch_set_text(&batch, 1, long_text, "") == BES_NAME_LENGTH && batch.count == 3);
-    CHECK(bes_batch_set_text(&batch, 1, "k", long_text) == BES_DATA_LENGTH && batch.count == 3);
+    CHECK(bes_batch_set_text(&batch, 1, long_text, "") == BES_NAME_LENGTH && batch.count == 0);
+    CHECK(bes_batch_set_text(&batch, 1, "k", long_text) == BES_DATA_LENGTH && batch.count == 0);
     while (batch.count < 64)
         CHECK(bes_batch_set_raw(&batch, 1, long_text + 256 - 63, long_text, 255) == BES_OK);
     CHECK(bes_batch_new_node(&batch) == BES_BAD_COUNT && batch.count == 64);
 }
 
-/* A pin keeps the pages of its version, until no page is free for a write. */
+/* A pin keeps the pages of its snapshot, until no page is free for a write. */
 static void no_page_is_free(void)
 {
     static bes_batch batch;
@@ -249,7 +253,7 @@ static void no_page_is_free(void)
     CHECK(answer == BES_FULL);
     LEAVES(&pass, bes_new_node(&pass, &count), BES_FULL);
     CHECK(count == 7);
-    /* The version that is pinned goes with the answer. */
+    /* The number of the pinned snapshot goes with the error. */
     bes_batch_clear(&batch);
     CHECK(bes_batch_new_node(&batch) == BES_OK);
     LEAVES(&pass, bes_batch_apply(&pass, &batch, 1, &count, 1, &number), BES_FULL);
@@ -294,7 +298,16 @@ static void values(void)
     CHECK(bes_read(&pass, 1, "", &told, bytes, 255) == BES_NAME_LENGTH);
     CHECK(bes_read(&pass, 1, "\xff", &told, bytes, 255) == BES_NOT_UTF8);
     CHECK(bes_unpin(&pass) == BES_OK && bes_unpin(&pass) == BES_NOT_PINNED);
-    CHECK(bes_set_mime(&pass, 1, "m", "a/b") == BES_OK && bes_set_raw(&pass, 1, "r", "\0", 1) == BES_OK);
+    CHECK(bes_close(&pass) == BES_OK);
+}
+
+/* Writes of one operation. */
+static void single_writes(void)
+{
+    bes_pass pass = BES_PASS_INIT;
+    uint64_t node = 0;
+    CHECK(bes_open(64, 1, 100, &pass) == BES_OK && bes_new_node(&pass, &node) == BES_OK && node == 1);
+    CHECK(bes_set_mime(&pass, 1, "m", "a/b") == BES_OK && bes_set_raw(&pass, 1, "raw", "\0", 1) == BES_OK);
     CHECK(bes_set_int64(&pass, 1, "l", -1) == BES_OK && bes_set_uint32(&pass, 1, "u", 1) == BES_OK);
     CHECK(bes_set_uint64(&pass, 1, "v", UINT64_MAX) == BES_OK);
     CHECK(bes_unset(&pass, 1, "raw") == BES_OK && bes_unset(&pass, 1, "raw") == BES_NO_ATTRIBUTE);
@@ -375,7 +388,7 @@ static void queries(void)
     CHECK(bes_close(&pass) == BES_OK);
 }
 
-/* A text that is no query: each call that reads it answers so, and puts out nothing but the byte that is at fault. */
+/* A text that is no query: each call that reads it returns the error, and writes nothing but the byte offset. */
 static void no_query(bes_pass *pass, const char *text, size_t length, uint32_t answer, uint64_t byte)
 {
     const uint8_t *query = (const uint8_t *)text;
@@ -400,17 +413,22 @@ static void no_items(bes_pass *pass, const bes_item *items, size_t items_count, 
     CHECK(bes_release(&prepared) == BES_CLOSED);
 }
 
+/* A pinned store with a node of size 0. */
+static void open_size(bes_pass *pass)
+{
+    uint64_t number = 0;
+    CHECK(bes_open(64, 1, 100, pass) == BES_OK && bes_make_index(pass, "size", BES_INT32_TYPE) == BES_OK);
+    CHECK(bes_new_node(pass, &number) == BES_OK && bes_set_int32(pass, number, "size", 0) == BES_OK);
+    CHECK(bes_pin(pass, &number) == BES_OK);
+}
+
 static void no_queries(void)
 {
-    static const bes_item size = {BES_ITEM_ATTRIBUTE, 0, 4, 0}, one = {BES_ITEM_UINT64, 0, 0, 1}, less = {BES_ITEM_LT, 0, 0, 0};
-    static bes_item items[4 * 257];
-    static char text[4098], bytes[64] = "size[a\xff";
+    static char text[4098];
     bes_pass pass = BES_PASS_INIT;
-    uint64_t number = 7, count = 7, nodes[2];
+    uint64_t count = 7, nodes[2];
     size_t length = 0;
-    CHECK(bes_open(64, 1, 100, &pass) == BES_OK && bes_make_index(&pass, "size", BES_INT32_TYPE) == BES_OK);
-    CHECK(bes_new_node(&pass, &number) == BES_OK && bes_set_int32(&pass, number, "size", 0) == BES_OK);
-    CHECK(bes_pin(&pass, &number) == BES_OK);
+    open_size(&pass);
     no_query(&pass, "size<", 5, BES_SYNTAX, 5);
     no_query(&pass, "", 0, BES_SYNTAX, 0);
     no_query(&pass, "h\xc3\xa9==\"\xc3\xa9\"||!", 12, BES_SYNTAX, 12);
@@ -430,8 +448,18 @@ static void no_queries(void)
         memcpy(text + length, "size<1||", 8);
     CHECK(bes_query(&pass, (const uint8_t *)text, 256 * 8 - 2, nodes, 2, &count) == BES_OK && count == 1);
     no_query(&pass, text, 257 * 8 - 2, BES_TOO_MANY, 0);
+    CHECK(bes_close(&pass) == BES_OK);
+}
 
-    /* Items: a value that is no pattern, 65 that stand on one another, 257 comparisons, and parts of bytes that are none. */
+/* Items: a value that is no pattern, 65 that stand on one another, 257 comparisons, and parts of bytes that are none. */
+static void no_query_of_items(void)
+{
+    static const bes_item size = {BES_ITEM_ATTRIBUTE, 0, 4, 0}, one = {BES_ITEM_UINT64, 0, 0, 1}, less = {BES_ITEM_LT, 0, 0, 0};
+    static bes_item items[4 * 257];
+    static const char bytes[64] = "size[a\xff";
+    bes_pass pass = BES_PASS_INIT;
+    uint64_t count = 7, nodes[2];
+    open_size(&pass);
     items[0] = size, items[1] = (bes_item){BES_ITEM_TEXT, 4, 2, 0}, items[2] = (bes_item){BES_ITEM_EQ, 0, 0, 0};
     no_items(&pass, items, 3, bytes, BES_BAD_PATTERN, 2);
     items[1].at = 6, items[1].length = 1;
@@ -460,6 +488,19 @@ static void no_queries(void)
     CHECK(bes_close(&pass) == BES_OK);
 }
 
+/* Prepares size < -1, by items. */
+static void prepare_less(bes_prepared *prepared)
+{
+    const bes_item less[3] = {{BES_ITEM_ATTRIBUTE, 0, 4, 0}, {BES_ITEM_INT64, 0, 0, (uint64_t)-1}, {BES_ITEM_LT, 0, 0, 0}};
+    uint64_t place = 7;
+    CHECK(bes_prepare_items(less, 2, (const uint8_t *)"size", 4, prepared, &place) == BES_BAD_RPN && place == 2);
+    CHECK(bes_prepare_items(less, 3, (const uint8_t *)"size", 3, prepared, &place) == BES_BAD_PART && place == 0);
+    place = 7;
+    CHECK(bes_prepare_items(less, 3, (const uint8_t *)"size", 4, prepared, &place) == BES_OK && place == 0);
+    place = 7;
+    CHECK(bes_prepare_items(less, 3, (const uint8_t *)"size", 4, prepared, &place) == BES_OPEN && place == 0);
+}
+
 /* Queries that are parsed once, by text and by items, and what comes and goes. */
 static void prepared_queries(void)
 {
@@ -467,15 +508,9 @@ static void prepared_queries(void)
     bes_prepared small = BES_PREPARED_INIT, other = BES_PREPARED_INIT;
     bes_updates updates = {7, 7};
     uint64_t node = 0, number = 0, count = 7, place = 7, nodes[4] = {7, 7, 7, 7}, came[2] = {7, 7}, went[2] = {7, 7};
-    bes_item less[3] = {{BES_ITEM_ATTRIBUTE, 0, 4, 0}, {BES_ITEM_INT64, 0, 0, (uint64_t)-1}, {BES_ITEM_LT, 0, 0, 0}};
     CHECK(bes_open(64, 1, 100, &pass) == BES_OK);
     CHECK(bes_prepare_text("size<0", &small, &place) == BES_OK);
-    CHECK(bes_prepare_items(less, 2, (const uint8_t *)"size", 4, &other, &place) == BES_BAD_RPN && place == 2);
-    CHECK(bes_prepare_items(less, 3, (const uint8_t *)"size", 3, &other, &place) == BES_BAD_PART && place == 0);
-    place = 7;
-    CHECK(bes_prepare_items(less, 3, (const uint8_t *)"size", 4, &other, &place) == BES_OK && place == 0);
-    place = 7;
-    CHECK(bes_prepare_items(less, 3, (const uint8_t *)"size", 4, &other, &place) == BES_OPEN && place == 0);
+    prepare_less(&other);
     CHECK(bes_query_prepared(&pass, &small, nodes, 4, &count) == BES_NOT_PINNED && count == 0);
     CHECK(bes_refresh(&pass, &small, &updates) == BES_NOT_PINNED && updates.created == 7);
     CHECK(bes_pin(&pass, &number) == BES_OK);
@@ -538,7 +573,7 @@ static void nodes_by_number(void)
 
 enum { MOST_BYTES = 64 * (63 + 255) };
 
-/* The operations that make a version again. What has no room for all is told again. */
+/* The operations that make a snapshot again. A list that had no room is returned again. */
 static void states(void)
 {
     static const uint8_t expected[] = "nameannsizesize";
@@ -618,6 +653,60 @@ static void journal(void)
     CHECK(bes_close(&pass) == BES_OK);
 }
 
+/* If two errors hold, the one is returned that bestore.h lists first. */
+static void order_of_reads(void)
+{
+    static const uint8_t long_text[4097] = {0xff};
+    const bes_item none = {16, 0, 0, 0};
+    bes_pass pass = BES_PASS_INIT, other = BES_PASS_INIT, third = BES_PASS_INIT;
+    bes_prepared prepared = BES_PREPARED_INIT;
+    bes_counts counts;
+    bes_attribute read;
+    bes_operation listed[1];
+    uint64_t number = 0, nodes[1];
+    uint8_t bytes[1];
+    CHECK(bes_another(&pass, &pass) == BES_CLOSED && bes_find(&pass, "size<", nodes, 1, &number) == BES_CLOSED);
+    CHECK(bes_open(64, 2, 2, &pass) == BES_OK && bes_open(0, 0, 0, &pass) == BES_OPEN);
+    CHECK(bes_another(&pass, &other) == BES_OK && bes_another(&pass, &other) == BES_OPEN && bes_another(&pass, &third) == BES_NO_PASS);
+    CHECK(bes_query(&pass, long_text, 4097, nodes, 1, &number) == BES_NOT_UTF8);
+    CHECK(bes_find(&pass, "size<", nodes, 1, &number) == BES_SYNTAX && bes_find(&pass, "size<1", nodes, 1, &number) == BES_NOT_PINNED);
+    CHECK(bes_query_items(&pass, &none, 1, bytes, 0, nodes, 1, &number) == BES_NO_ITEM);
+    CHECK(bes_read(&pass, 1, "", &read, bytes, 1) == BES_NAME_LENGTH && bes_read(&pass, 1, "k", &read, bytes, 1) == BES_NOT_PINNED);
+    CHECK(bes_get(&pass, 1, long_text, 64, &read, bytes, 1) == BES_NOT_UTF8);
+    CHECK(bes_get(&pass, 1, long_text + 1, 64, &read, bytes, 1) == BES_NAME_LENGTH);
+    CHECK(bes_attributes(&pass, 1, &counts, listed, 1, bytes, 1) == BES_NOT_PINNED);
+    CHECK(bes_query_prepared(&pass, &prepared, nodes, 1, &number) == BES_CLOSED);
+    CHECK(bes_prepare_text("size<1", &prepared, &number) == BES_OK && bes_prepare_text("size<", &prepared, &number) == BES_OPEN);
+    CHECK(bes_query_prepared(&pass, &prepared, nodes, 1, &number) == BES_NOT_PINNED);
+    CHECK(bes_release(&prepared) == BES_OK && bes_close(&pass) == BES_OK && bes_close(&other) == BES_OK);
+}
+
+static uint32_t applied(bes_pass *pass, bes_operation operation, size_t bytes_count)
+{
+    static const uint8_t bytes[300] = "k\0\xff";
+    uint64_t made = 0, number = 0;
+    return bes_apply(pass, &operation, 1, bytes, bytes_count, &made, 1, &number);
+}
+
+static void order_of_writes(void)
+{
+    bes_pass pass = BES_PASS_INIT;
+    uint64_t number = 0, node = 0;
+    CHECK(bes_open(8, 1, 2, &pass) == BES_OK);
+    CHECK(applied(&pass, (bes_operation){9, 1, 9, 0, 2, 1, 9, 1}, 3) == BES_BAD_PART);
+    CHECK(applied(&pass, (bes_operation){9, 1, 9, 0, 2, 1, 0, 256}, 300) == BES_NO_OPERATION);
+    CHECK(applied(&pass, (bes_operation){BES_SET, 1, 9, 0, 2, 64, 0, 256}, 300) == BES_NOT_UTF8);
+    CHECK(applied(&pass, (bes_operation){BES_SET, 1, 9, 0, 3, 64, 0, 256}, 300) == BES_NAME_LENGTH);
+    CHECK(applied(&pass, (bes_operation){BES_SET, 1, 9, 0, 0, 2, 0, 256}, 300) == BES_HAS_NUL);
+    CHECK(applied(&pass, (bes_operation){BES_SET, 1, 9, 0, 0, 1, 0, 256}, 300) == BES_NO_KIND);
+    CHECK(applied(&pass, (bes_operation){BES_SET, BES_STRING_TYPE, 9, 0, 0, 1, 0, 256}, 300) == BES_NOT_UTF8);
+    CHECK(applied(&pass, (bes_operation){BES_SET, BES_STRING_TYPE, 9, 0, 0, 1, 3, 256}, 300) == BES_DATA_LENGTH);
+    CHECK(applied(&pass, (bes_operation){BES_SET, BES_STRING_TYPE, 9, 0, 0, 1, 0, 2}, 300) == BES_HAS_NUL);
+    CHECK(bes_new_node(&pass, &node) == BES_OK && bes_new_node(&pass, &node) == BES_OK && bes_pin(&pass, &number) == BES_OK);
+    CHECK(bes_remove_node(&pass, 9) == BES_NO_NODE && bes_remove_node(&pass, 1) == BES_COMMITS_SPENT);
+    CHECK(bes_close(&pass) == BES_OK);
+}
+
 static void spent(void)
 {
     bes_pass pass = BES_PASS_INIT;
@@ -628,152 +717,8 @@ static void spent(void)
     CHECK(bes_close(&pass) == BES_OK);
     CHECK(strcmp(bes_strerror(BES_COMMITS_SPENT), "the journal is at its limit") == 0);
     CHECK(strcmp(bes_strerror(BES_BAD_PART), "a part isn't within the bytes") == 0);
-    CHECK(strcmp(bes_strerror(63), "unknown answer") == 0);
-    CHECK(bes_version() == BES_VERSION_NUMBER && strcmp(BES_VERSION, "0.1.0") == 0);
-}
-
-/* Four threads, one pass each: two write, and two ask. Each writer has nodes of its own in pairs, one of which is from ann and
- * the other from bob, and exchanges the two of a pair in one write: so each version has as many nodes from ann as from bob. */
-enum { PAIRS = 100, NODES = 4 * PAIRS };
-
-static double seconds = 3; /* fewer where the program is told to be short */
-
-static struct timespec end;
-
-static bool is_over(void)
-{
-    struct timespec now;
-    CHECK(clock_gettime(CLOCK_MONOTONIC, &now) == 0);
-    return now.tv_sec > end.tv_sec || (now.tv_sec == end.tv_sec && now.tv_nsec >= end.tv_nsec);
-}
-
-typedef struct user {
-    bes_pass pass;
-    uint64_t first;  /* of a writer's nodes */
-    uint64_t rounds; /* writes that were accepted, or versions that were asked */
-} user;
-
-/* Writes a pair, the first node of which is then from ann, or else from bob. A pin of another thread may hold all free pages
- * for a while. */
-static uint64_t write_pair(bes_pass *pass, uint64_t node, bool is_new, bool ann)
-{
-    bes_batch batch;
-    uint64_t made[4] = {0, 0, 0, 0}, number = 0;
-    uint32_t answer;
-    bes_batch_clear(&batch);
-    if (is_new)
-        CHECK(bes_batch_new_node(&batch) == BES_OK && bes_batch_new_node(&batch) == BES_OK);
-    CHECK(bes_batch_set_text(&batch, node, "MAIL:from", ann ? "ann" : "bob") == BES_OK);
-    CHECK(bes_batch_set_text(&batch, node + 1, "MAIL:from", ann ? "bob" : "ann") == BES_OK);
-    do
-        answer = bes_batch_apply(pass, &batch, BES_TRIES, made, 4, &number);
-    while (answer == BES_FULL && sched_yield() == 0);
-    CHECK(answer == BES_OK && (!is_new || (made[0] == node && made[1] == node + 1)));
-    return number;
-}
-
-static void *writer(void *arg)
-{
-    static const struct timespec rest = {0, 1000000};
-    user *it = arg;
-    bool ann[PAIRS];
-    uint64_t written, number = 0;
-    bes_attribute told;
-    uint8_t from[3];
-    memset(ann, true, sizeof ann);
-    do {
-        uint64_t pair = it->rounds++ * 37 % PAIRS, node = it->first + 2 * pair;
-        ann[pair] = !ann[pair];
-        written = write_pair(&it->pass, node, false, ann[pair]);
-        if (it->rounds % 16 != 0)
-            continue;
-        /* A pin has all that its pass wrote. Then a rest: the journal keeps every write. */
-        CHECK(bes_pin(&it->pass, &number) == BES_OK && number >= written);
-        CHECK(bes_read(&it->pass, node + 1, "MAIL:from", &told, from, 3) == BES_OK && told.length == 3);
-        CHECK(memcmp(from, ann[pair] ? "bob" : "ann", 3) == 0);
-        CHECK(bes_unpin(&it->pass) == BES_OK);
-        nanosleep(&rest, NULL);
-    } while (!is_over());
-    return NULL;
-}
-
-static void *reader(void *arg)
-{
-    user *it = arg;
-    bes_prepared prepared = BES_PREPARED_INIT;
-    bes_updates updates = {0, 0};
-    uint64_t seen = 0, number = 0, count = 0, again = 0, place = 0, nodes[NODES], same[NODES];
-    CHECK(bes_prepare_text("MAIL:from==\"ann\"", &prepared, &place) == BES_OK);
-    do {
-        CHECK(bes_pin(&it->pass, &number) == BES_OK && number >= seen);
-        seen = number;
-        CHECK(bes_find(&it->pass, "MAIL:from==\"ann\"", nodes, NODES, &count) == BES_OK && count == NODES / 2);
-        for (uint64_t i = 0; i < count; i++)
-            CHECK((nodes[i] - 1) / 2 == i);
-        CHECK(bes_refresh(&it->pass, &prepared, &updates) == BES_OK);
-        CHECK(updates.created == updates.removed + (it->rounds == 0 ? count : 0));
-        CHECK(bes_query_prepared(&it->pass, &prepared, same, NODES, &again) == BES_OK && again == count);
-        CHECK(memcmp(nodes, same, count * sizeof *nodes) == 0);
-        CHECK(bes_unpin(&it->pass) == BES_OK);
-        it->rounds++;
-    } while (!is_over());
-    CHECK(bes_release(&prepared) == BES_OK);
-    return NULL;
-}
-
-static void threads(void)
-{
-    static user users[4];
-    pthread_t running[4];
-    uint64_t number = 0, count = 0, length = 0, lines = 0;
-    uint8_t *text;
-    CHECK(bes_open(4096, 4, 10000000, &users[0].pass) == BES_OK);
-    for (int i = 1; i < 4; i++)
-        CHECK(bes_another(&users[0].pass, &users[i].pass) == BES_OK);
-    CHECK(bes_make_index(&users[0].pass, "MAIL:from", BES_STRING_TYPE) == BES_OK);
-    for (uint64_t node = 1; node <= NODES; node += 2)
-        CHECK(write_pair(&users[0].pass, node, true, true) == 1 + (node + 1) / 2);
-    users[0].first = 1;
-    users[1].first = 1 + NODES / 2;
-    CHECK(clock_gettime(CLOCK_MONOTONIC, &end) == 0);
-    end.tv_sec += (time_t)seconds;
-    end.tv_nsec += (long)((seconds - (double)(time_t)seconds) * 1e9);
-    if (end.tv_nsec >= 1000000000)
-        end.tv_sec++, end.tv_nsec -= 1000000000;
-    for (int i = 0; i < 4; i++)
-        CHECK(pthread_create(&running[i], NULL, i < 2 ? writer : reader, &users[i]) == 0);
-    for (int i = 0; i < 4; i++)
-        CHECK(pthread_join(running[i], NULL) == 0);
-    CHECK(bes_close(&users[0].pass) == BES_OK && bes_close(&users[1].pass) == BES_OK && bes_close(&users[2].pass) == BES_OK);
-    CHECK(bes_pin(&users[3].pass, &number) == BES_OK);
-    CHECK(number == 1 + NODES / 2 + users[0].rounds + users[1].rounds);
-    /* The journal has a line for each write. */
-    CHECK(bes_journal(&users[3].pass, (uint8_t *)"", 0, &length) == BES_OK && (text = malloc(length)) != NULL);
-    CHECK(bes_journal(&users[3].pass, text, length, &count) == BES_OK && count == length);
-    for (uint64_t i = 0; i < length; i++)
-        lines += text[i] == '\n';
-    CHECK(lines == number);
-    free(text);
-    CHECK(bes_close(&users[3].pass) == BES_OK);
-    printf("%llu writes and %llu versions in %g seconds\n", (unsigned long long)(users[0].rounds + users[1].rounds),
-           (unsigned long long)(users[2].rounds + users[3].rounds), seconds);
-}
-
-/* Takes all passes that this one is given, or gives them all back. Answers how many they were. */
-static int take_all(bes_pass *pass, bes_pass *taken)
-{
-    for (int i = 0;; i++) {
-        uint32_t answer = bes_another(pass, &taken[i]);
-        if (answer == BES_NO_PASS)
-            return i;
-        CHECK(answer == BES_OK && i < 64);
-    }
-}
-
-static void close_all(bes_pass *taken, int count)
-{
-    for (int i = 0; i < count; i++)
-        CHECK(bes_close(&taken[i]) == BES_OK);
+    CHECK(strcmp(bes_strerror(63), "unknown error") == 0);
+    CHECK(bes_version() == BES_VERSION_NUMBER && strcmp(BES_VERSION, "0.2.0") == 0);
 }
 
 /* No pass is lost that is closed, or met: 64 are taken, closed and taken again, by the first handle and by another one. */
@@ -783,217 +728,30 @@ static void all_passes(void)
     bes_pass first = BES_PASS_INIT, last = BES_PASS_INIT;
     uint64_t number = 0;
     CHECK(bes_open(64, 64, 10, &first) == BES_OK);
-    CHECK(take_all(&first, taken) == 63);
+    CHECK(take_passes(&first, taken) == 63);
     for (int i = 0; i < 63; i += 2)
         CHECK(bes_pin(&taken[i], &number) == BES_OK);
-    close_all(taken, 63);
+    close_passes(taken, 63);
     for (int i = 0; i < 200; i++)
         CHECK(bes_meet(&first, &number) == BES_OK);
-    CHECK(take_all(&first, taken) == 63);
+    CHECK(take_passes(&first, taken) == 63);
     CHECK(bes_meet(&first, &number) == BES_NO_PASS);
     CHECK(bes_move(&taken[40], &last) == BES_OK);
-    close_all(taken, 40);
-    close_all(taken + 41, 22);
+    close_passes(taken, 40);
+    close_passes(taken + 41, 22);
     CHECK(bes_close(&first) == BES_OK);
-    CHECK(take_all(&last, taken) == 63);
-    close_all(taken, 63);
+    CHECK(take_passes(&last, taken) == 63);
+    close_passes(taken, 63);
     CHECK(bes_close(&last) == BES_OK);
     /* Those that nobody has used are given back with the handle that they wait with. */
     CHECK(bes_open(64, 64, 10, &first) == BES_OK && bes_another(&first, &last) == BES_OK && bes_close(&first) == BES_OK);
-    CHECK(take_all(&last, taken) == 63);
-    close_all(taken, 63);
+    CHECK(take_passes(&last, taken) == 63);
+    close_passes(taken, 63);
     CHECK(bes_close(&last) == BES_OK);
 }
 
-/* Takes a pass that no thread has, writes through it and gives it back, and so on. Answers how many writes that were. */
-static void *taker(void *arg)
+int main(void)
 {
-    user *it = arg;
-    bes_pass taken = BES_PASS_INIT;
-    uint64_t seen = 0;
-    for (int64_t i = 0; i < 5000; i++) {
-        uint32_t answer = bes_another(&it->pass, &taken);
-        if (answer == BES_NO_PASS)
-            continue;
-        CHECK(answer == BES_OK);
-        CHECK(bes_set_int64(&taken, 1, "n", i) == BES_OK && bes_close(&taken) == BES_OK);
-        answer = bes_meet(&it->pass, &seen);
-        CHECK(answer == BES_OK || answer == BES_NO_PASS);
-        it->rounds++;
-    }
-    return NULL;
-}
-
-/* Four threads take so many passes in turn, each once another has given it back. All are there at the end. */
-static void takers(int count)
-{
-    static user users[4];
-    static bes_pass taken[65];
-    pthread_t running[4];
-    uint64_t number = 0, node = 0;
-    memset(users, 0, sizeof users);
-    CHECK(bes_open(64, 4 + (uint64_t)count, 100000, &users[0].pass) == BES_OK && bes_new_node(&users[0].pass, &node) == BES_OK);
-    for (int i = 1; i < 4; i++)
-        CHECK(bes_another(&users[0].pass, &users[i].pass) == BES_OK);
-    CHECK(take_all(&users[0].pass, taken) == count);
-    close_all(taken, count);
-    for (int i = 0; i < 4; i++)
-        CHECK(pthread_create(&running[i], NULL, taker, &users[i]) == 0);
-    for (int i = 0; i < 4; i++)
-        CHECK(pthread_join(running[i], NULL) == 0);
-    CHECK(bes_pin(&users[0].pass, &number) == BES_OK);
-    CHECK(number == 1 + users[0].rounds + users[1].rounds + users[2].rounds + users[3].rounds);
-    CHECK(take_all(&users[3].pass, taken) == count);
-    close_all(taken, count);
-    for (int i = 0; i < 4; i++)
-        CHECK(bes_close(&users[i].pass) == BES_OK);
-}
-
-/* Sets its node's number, and makes a node, in one write and so on. A pin of another thread may hold all free pages for a while. */
-static void *grower(void *arg)
-{
-    user *it = arg;
-    bes_batch batch;
-    uint64_t made[2] = {0, 0}, number = 0;
-    for (int64_t i = 0; i < 400; i++) {
-        uint32_t answer;
-        bes_batch_clear(&batch);
-        CHECK(bes_batch_set_int64(&batch, it->first, "n", i) == BES_OK && bes_batch_new_node(&batch) == BES_OK);
-        do
-            answer = bes_batch_apply(&it->pass, &batch, BES_TRIES, made, 2, &number);
-        while (answer == BES_FULL && sched_yield() == 0);
-        CHECK(answer == BES_OK && made[1] > 2);
-    }
-    return NULL;
-}
-
-/* Opens a store, and makes it what the pinned version is. */
-static void carry_on(bes_pass *pass, bes_pass *next)
-{
-    bes_batch batch;
-    bes_place place = BES_PLACE_INIT;
-    uint64_t made[64], number = 0;
-    CHECK(bes_open(4096, 1, 100000, next) == BES_OK);
-    for (;;) {
-        CHECK(bes_batch_state(pass, &place, &batch) == BES_OK);
-        if (batch.count == 0)
-            break;
-        CHECK(bes_batch_apply(next, &batch, 1, made, 64, &number) == BES_OK);
-    }
-    CHECK(bes_leave(&place) == BES_OK);
-}
-
-/* Whether both pinned versions are made again by the same operations. */
-static bool are_alike(bes_pass *mine, bes_pass *theirs)
-{
-    bes_batch one, other;
-    bes_place here = BES_PLACE_INIT, there = BES_PLACE_INIT;
-    bool alike;
-    do {
-        CHECK(bes_batch_state(mine, &here, &one) == BES_OK && bes_batch_state(theirs, &there, &other) == BES_OK);
-        alike = one.count == other.count && one.used == other.used && memcmp(one.bytes, other.bytes, one.used) == 0 &&
-                memcmp(one.operations, other.operations, one.count * sizeof *one.operations) == 0;
-    } while (alike && one.count > 0);
-    CHECK(bes_leave(&here) == BES_OK && bes_leave(&there) == BES_OK);
-    return alike;
-}
-
-/* Carries the state on to a new store and closes that, the old one being read at its pin as before. */
-static void carry_and_compare(bes_pass *pass)
-{
-    bes_pass next = BES_PASS_INIT;
-    uint64_t number = 0, count = 0, nodes[4] = {0, 0, 0, 0};
-    CHECK(bes_pin(pass, &number) == BES_OK);
-    carry_on(pass, &next);
-    CHECK(bes_pin(&next, &number) == BES_OK && are_alike(pass, &next));
-    CHECK(bes_find(pass, "n>=0", nodes, 2, &count) == BES_OK && count == 2 && nodes[0] == 1 && nodes[1] == 2);
-    CHECK(bes_find(&next, "n>=0", nodes + 2, 2, &count) == BES_OK && count == 2 && nodes[2] == 1 && nodes[3] == 2);
-    CHECK(bes_unpin(pass) == BES_OK && bes_close(&next) == BES_OK);
-}
-
-/* Two threads write while a third carries the state on. At last a live query goes on in the new store. */
-static void carrying(void)
-{
-    static user users[3];
-    bes_pass next = BES_PASS_INIT;
-    bes_prepared live = BES_PREPARED_INIT;
-    bes_updates updates = {7, 7};
-    pthread_t running[2];
-    uint64_t number = 0, count = 0, node = 0, place = 0, nodes[1] = {7};
-    CHECK(bes_open(4096, 3, 100000, &users[0].pass) == BES_OK && bes_make_index(&users[0].pass, "n", BES_INT64_TYPE) == BES_OK);
-    for (int i = 1; i < 3; i++) {
-        CHECK(bes_another(&users[0].pass, &users[i].pass) == BES_OK && bes_new_node(&users[0].pass, &users[i].first) == BES_OK);
-        CHECK(bes_set_int64(&users[0].pass, users[i].first, "n", 0) == BES_OK);
-    }
-    for (int i = 0; i < 2; i++)
-        CHECK(pthread_create(&running[i], NULL, grower, &users[i + 1]) == 0);
-    for (int i = 0; i < 4; i++)
-        carry_and_compare(&users[0].pass);
-    for (int i = 0; i < 2; i++)
-        CHECK(pthread_join(running[i], NULL) == 0);
-    carry_and_compare(&users[0].pass);
-    CHECK(bes_pin(&users[0].pass, &number) == BES_OK && bes_prepare_text("n>=0", &live, &place) == BES_OK);
-    CHECK(bes_refresh(&users[0].pass, &live, &updates) == BES_OK && updates.created == 2);
-    carry_on(&users[0].pass, &next);
-    CHECK(bes_remove_node(&next, 1) == BES_OK && bes_new_node(&next, &node) == BES_OK && node == 2 + 2 * 400 + 1);
-    CHECK(bes_pin(&next, &number) == BES_OK && bes_refresh(&next, &live, &updates) == BES_OK);
-    CHECK(updates.created == 0 && updates.removed == 1 && bes_changes(&live, &count, 0, nodes, 1) == BES_OK && nodes[0] == 1);
-    CHECK(bes_query_prepared(&users[0].pass, &live, nodes, 1, &count) == BES_OK && count == 2);
-    CHECK(bes_release(&live) == BES_OK && bes_close(&next) == BES_OK);
-    for (int i = 0; i < 3; i++)
-        CHECK(bes_close(&users[i].pass) == BES_OK);
-}
-
-/* A prepared query that goes from thread to thread, each with a pass of its own. */
-typedef struct handed {
-    bes_pass pass;
-    bes_prepared prepared;
-} handed;
-
-static void *refresher(void *arg)
-{
-    handed *it = arg;
-    bes_updates updates = {0, 0};
-    uint64_t number = 0, count = 0, nodes[4] = {0, 0, 0, 0};
-    CHECK(bes_pin(&it->pass, &number) == BES_OK && bes_refresh(&it->pass, &it->prepared, &updates) == BES_OK);
-    CHECK(updates.created == 3 && updates.removed == 0);
-    CHECK(bes_query_prepared(&it->pass, &it->prepared, nodes, 4, &count) == BES_OK && count == 3 && nodes[2] == 3);
-    CHECK(bes_unpin(&it->pass) == BES_OK);
-    return NULL;
-}
-
-static void *releaser(void *arg)
-{
-    handed *it = arg;
-    uint64_t came[4] = {0, 0, 0, 0}, went[1] = {7};
-    CHECK(bes_changes(&it->prepared, came, 4, went, 1) == BES_OK && came[2] == 3 && came[3] == 0 && went[0] == 7);
-    CHECK(bes_release(&it->prepared) == BES_OK && bes_close(&it->pass) == BES_OK);
-    return NULL;
-}
-
-/* Made here, refreshed in a second thread, and released in a third. */
-static void handed_on(void)
-{
-    static handed it;
-    bes_pass mine = BES_PASS_INIT;
-    void *(*const calls[])(void *) = {refresher, releaser};
-    uint64_t node = 0, place = 0;
-    CHECK(bes_open(64, 2, 100, &mine) == BES_OK && bes_another(&mine, &it.pass) == BES_OK);
-    CHECK(bes_make_index(&mine, "size", BES_INT64_TYPE) == BES_OK);
-    for (int64_t i = 1; i <= 3; i++)
-        CHECK(bes_new_node(&mine, &node) == BES_OK && bes_set_int64(&mine, node, "size", i) == BES_OK);
-    CHECK(bes_prepare_text("size>0", &it.prepared, &place) == BES_OK);
-    for (int i = 0; i < 2; i++) {
-        pthread_t running;
-        CHECK(pthread_create(&running, NULL, calls[i], &it) == 0 && pthread_join(running, NULL) == 0);
-    }
-    CHECK(bes_release(&it.prepared) == BES_CLOSED && bes_close(&it.pass) == BES_CLOSED && bes_close(&mine) == BES_OK);
-}
-
-int main(int argc, char **argv)
-{
-    if (argc > 1 && strcmp(argv[1], "short") == 0)
-        seconds = 0.5;
     closed_handle();
     closed_prepared();
     opening();
@@ -1001,22 +759,22 @@ int main(int argc, char **argv)
     meeting();
     wrong_writes();
     most();
+    full_batch();
     no_page_is_free();
     values();
+    single_writes();
     lists();
     queries();
     no_queries();
+    no_query_of_items();
     prepared_queries();
     nodes_by_number();
     states();
     usage();
     journal();
     spent();
+    order_of_reads();
+    order_of_writes();
     all_passes();
-    threads();
-    takers(1);
-    takers(60);
-    carrying();
-    handed_on();
     return 0;
 }

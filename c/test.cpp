@@ -1,67 +1,11 @@
-// The objects of bestore.hpp: what they answer, that they close themselves, and what they throw.
+// The objects of bestore.hpp: what they return, that they close themselves, and what they throw.
 #include "bestore.hpp"
-#include <cstdio>
-#include <cstdlib>
+#include "tests.hpp"
 #include <limits>
 #include <thread>
 
-#define CHECK(...) \
-    do { \
-        if (!(__VA_ARGS__)) { \
-            std::fprintf(stderr, "%s:%d: %s\n", __FILE__, __LINE__, #__VA_ARGS__); \
-            std::exit(1); \
-        } \
-    } while (0)
-
 using namespace bestore;
 using Nodes = std::vector<Node>;
-
-using Carried = std::optional<std::uint64_t>;
-
-// What goes with a refusal.
-struct With {
-    Carried offset = {}, item = {}, operation = {}, least = {}, pass_number = {};
-};
-
-// That the call is refused with this number, and what goes with that.
-template <class Call> void refused(std::uint32_t number, const With &with, Call call)
-{
-    try {
-        call();
-    } catch (const Refusal &refusal) {
-        CHECK(refusal.number() == number && std::string(refusal.what()) == bes_strerror(number));
-        CHECK(refusal.offset() == with.offset && refusal.item() == with.item && refusal.operation() == with.operation);
-        CHECK(refusal.least() == with.least && refusal.pass_number() == with.pass_number);
-        return;
-    }
-    CHECK(!"refused");
-}
-
-template <class Call> void refused(std::uint32_t number, Call call)
-{
-    refused(number, With(), call);
-}
-
-static With at_byte(std::uint64_t offset)
-{
-    With with;
-    with.offset = offset;
-    return with;
-}
-
-static With at_item(std::uint64_t item)
-{
-    With with;
-    with.item = item;
-    return with;
-}
-
-static With at_operation(std::uint64_t operation)
-{
-    With with;
-    with.operation = operation;
-    return with;
-}
 
 template <class T> constexpr bool moves_only = std::is_nothrow_move_constructible_v<T> && std::is_nothrow_move_assignable_v<T> &&
                                                !std::is_copy_constructible_v<T> && !std::is_copy_assignable_v<T>;
@@ -174,7 +118,7 @@ static void queries()
     refused(BES_SYNTAX, at_byte(0), [&] { pin.query(std::string_view()); });
     refused(BES_SYNTAX, at_byte(9), [&] { pin.query("name==h\xc3\xa9)"); });
     refused(BES_BAD_PATTERN, at_byte(7), [&] { pin.explain("name==\"[a\""); });
-    refused(BES_NOT_COVERED, [&] { pin.query("size==1"); });
+    refused(BES_NOT_COVERED, at_byte(8), [&] { pin.query("n==1 || size==1"); });
     Prepared prepared("n>=299");
     CHECK(pin.query(prepared) == Nodes{299, 300});
     Prepared other = std::move(prepared);
@@ -233,7 +177,7 @@ static void live_queries()
     refused(BES_NOT_PINNED, [&] { moved.refresh(pin); });
 }
 
-// A pin goes with its scope, and reads on where its pass is moved.
+// A pin ends with its scope, and reads on if its pass is moved.
 static void pins()
 {
     Store store({64, 2, 100});
@@ -316,7 +260,7 @@ static void states()
     refused(BES_NOT_PINNED, [&] { (void)pin.state(); });
 }
 
-// A store that is full tells the version that is pinned.
+// The number of the pinned snapshot goes with BES_FULL.
 static void full()
 {
     Store store({8, 1, 1000});

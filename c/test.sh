@@ -17,7 +17,7 @@ run() {
     echo "$what: ${said:-ok}"
 }
 
-# The same where the command is there.
+# The same if the command is there.
 run_if_there() {
     if command -v "$2" >/dev/null; then
         run "$@"
@@ -54,36 +54,59 @@ fi
 build() { cc -std=c11 "${warn[@]}" -I../include "$@" libbestore.a -lpthread; }
 build_cpp() { c++ -std=c++17 "${warn[@]}" -I../include "$@" libbestore.a -lpthread; }
 
-build -O2 test.c -o "$work/test"
-run C "$work/test"
+# The tests, and those of them in which threads run.
+tests=(test threads helpers texts racing)
+tests_cpp=(test helpers racing)
+with_threads=(threads helpers racing)
+
+for test in "${tests[@]}"; do
+    build -O2 $test.c -o "$work/$test"
+    run "C, $test" "$work/$test"
+done
 build -O2 sizes.c -o "$work/sizes"
 run "C, sizes" "$work/sizes"
 cc -std=c11 "${warn[@]}" -I../include test.c -L. -lbestore -lpthread -o "$work/shared"
 run "C, shared object" env LD_LIBRARY_PATH=. "$work/shared"
 
 if sanitizes C cc address,undefined; then
-    build -g -O1 -fsanitize=address,undefined test.c -o "$work/sanitized"
-    run "C, address,undefined" "$work/sanitized" short
+    for test in "${tests[@]}"; do
+        build -g -O1 -fsanitize=address,undefined $test.c -o "$work/sanitized"
+        run "C, $test, address,undefined" "$work/sanitized" short
+    done
 fi
 # The library's own steps, those of its lock among them, carry no marks for this sanitizer. So it is told to pass over what the
 # shared object does, and looks at the test's own memory alone.
 if sanitizes C cc thread; then
-    cc -std=c11 "${warn[@]}" -g -O1 -fsanitize=thread -I../include test.c -L. -lbestore -lpthread -o "$work/threads"
-    run "C, thread" env LD_LIBRARY_PATH=. TSAN_OPTIONS=ignore_noninstrumented_modules=1 "$work/threads" short
+    for test in "${with_threads[@]}"; do
+        cc -std=c11 "${warn[@]}" -g -O1 -fsanitize=thread -I../include $test.c -L. -lbestore -lpthread -o "$work/marked"
+        run "C, $test, thread" env LD_LIBRARY_PATH=. TSAN_OPTIONS=ignore_noninstrumented_modules=1 "$work/marked" short
+    done
 fi
-leaks "C, valgrind" "$work/test" short
+for test in "${tests[@]}"; do
+    leaks "C, $test, valgrind" "$work/$test" short
+done
 
 if [ -n "$has_cpp" ]; then
-    build_cpp -O2 test.cpp -o "$work/test-cpp"
-    run C++ "$work/test-cpp"
+    for test in "${tests_cpp[@]}"; do
+        build_cpp -O2 $test.cpp -o "$work/$test-cpp"
+        run "C++, $test" "$work/$test-cpp"
+    done
     if sanitizes C++ c++ address,undefined; then
-        build_cpp -g -O1 -fsanitize=address,undefined test.cpp -o "$work/sanitized-cpp"
-        run "C++, address,undefined" "$work/sanitized-cpp"
+        for test in "${tests_cpp[@]}"; do
+            build_cpp -g -O1 -fsanitize=address,undefined $test.cpp -o "$work/sanitized-cpp"
+            run "C++, $test, address,undefined" "$work/sanitized-cpp" short
+        done
     fi
-    leaks "C++, valgrind" "$work/test-cpp"
+    if sanitizes C++ c++ thread; then
+        c++ -std=c++17 "${warn[@]}" -g -O1 -fsanitize=thread -I../include racing.cpp -L. -lbestore -lpthread -o "$work/marked-cpp"
+        run "C++, racing, thread" env LD_LIBRARY_PATH=. TSAN_OPTIONS=ignore_noninstrumented_modules=1 "$work/marked-cpp" short
+    fi
+    for test in "${tests_cpp[@]}"; do
+        leaks "C++, $test, valgrind" "$work/$test-cpp" short
+    done
 fi
 
-# Requests for memory are refused where the linker lets them come by the test.
+# Requests for memory are refused if the linker lets them come by the test.
 wrap=(-Wl,--wrap=malloc,--wrap=realloc,--wrap=sched_yield)
 if cc "${wrap[@]}" "$work/empty.c" -o "$work/empty" 2>/dev/null; then
     build -g -O1 "${wrap[@]}" memory.c -o "$work/memory"
@@ -107,17 +130,47 @@ build -O2 ../examples/c/mailbox.c -o "$work/mailbox"
 "$work/mailbox" ../examples/c/letters.mbox 'MAIL:from=="*ann*"' 'MAIL:subject=="*Seeds*" || MAIL:to=="*bob*"' \
     'MAIL:when>=1741046400' |
     cmp - ../examples/c/mailbox.stdout
+build -O2 ../examples/c/counter.c -o "$work/counter"
+"$work/counter" | cmp - <(printf '%s\n' "MAIL:from==ann 1000" "MAIL:from==bob 1000" "letters==2000 1")
+
+# Headers that aren't UTF-8, are cut inside a character, are too long, come again, have a zero byte, or end with the file.
+{
+    printf 'From a\nFrom: B\366b\nSubject: %0254d\303\251\nDate: nonsense\n\nFrom: body\n' 0
+    printf 'From b\nFrom: \0zero\nSubject: \377\376\nTo: %09000d\n\n' 0
+    printf 'From c\r\n'; printf 'Subject: again%d\r\n' {1..99}; printf 'From: first\r\nFrom: second\r\n\r\nFrom: body\r\n'
+    printf 'From d\nSubject: no end'
+} >"$work/broken.mbox"
+"$work/mailbox" "$work/broken.mbox" 'MAIL:from=="*"' 'MAIL:subject=="?" || MAIL:subject=="??"' 'MAIL:subject=="no end"' \
+    'MAIL:subject=="0*0" && MAIL:from=="B?b"' 'MAIL:subject==again1 && MAIL:from==first' 'MAIL:from==" zero"' >"$work/said"
+sed -n '/^  /!s/.*: //p' "$work/said" | tr '\n' ' ' | cmp - <(printf '3 3 1 1 1 1 1 ')
+# A store that is full ends the reading, and what was read is found.
+awk 'BEGIN { for (i = 0; i < 6000; i++) printf "From x\nFrom: ann%d\nTo: bob%d\nSubject: Letter %d\nDate: Mon, 3 Mar 2025 09:12:00 +0000\n\nText\n", i, i, i }' \
+    >"$work/many.mbox"
+if timeout -k 10 300 "$work/mailbox" "$work/many.mbox" 'MAIL:from=="ann*"' >"$work/said" 2>"$work/warned"; then
+    echo "mailbox: more mails were read than a store takes" >&2
+    exit 1
+fi
+mails=$(sed -n 's/^the store takes no more after \(.*\) mails: no page is free$/\1/p' "$work/warned")
+[ "${mails:-0}" -gt 100 ] && grep -q "^MAIL:from==\"ann\*\": $mails$" "$work/said" ||
+    { cat "$work/said" "$work/warned" >&2; echo "mailbox: no end at a full store" >&2; exit 1; }
 echo "examples in C: ok"
 
 if [ -n "$has_cpp" ]; then
     build_cpp -O2 ../examples/c/first.cpp -o "$work/first-cpp"
     "$work/first-cpp" | cmp - <(echo "node 1, from ann")
+    build_cpp -O2 ../examples/c/counter.cpp -o "$work/counter-cpp"
+    "$work/counter-cpp" | cmp - <(echo "ann 1000, bob 1000, counted 2000")
     build_cpp -O2 ../examples/c/catalogue.cpp -o "$work/catalogue"
     mkdir "$work/files"
     printf 12345 >"$work/files/five.txt"
     printf 123456789 >"$work/files/nine.c"
     "$work/catalogue" "$work/files" 'size>5' 'kind==text' |
         cmp - <(printf '2 files\nsize>5: 1\n  nine.c 9\nkind==text: 1\n  five.txt 5\n')
+    # File names that are no UTF-8, or mean something in a pattern; and a comparison that is never true.
+    : >"$work/files/"$'bad\xff\xc3.txt' >"$work/files/[draft].txt"
+    "$work/catalogue" "$work/files" 'name=="bad*"' 'name==\[draft].txt' 'size>1.5' 2>"$work/warned" |
+        cmp - <(printf '4 files\nname=="bad*": 1\n  bad??.txt 0\nname==\\[draft].txt: 1\n  [draft].txt 0\nsize>1.5: 0\n')
+    grep -q "1.5 is none" "$work/warned"
     echo "examples in C++: ok"
 fi
 
@@ -125,6 +178,10 @@ fi
 make -s BUILT=1 DESTDIR="$work/root" PREFIX=/usr install
 cc -std=c11 -I"$work/root/usr/include" ../examples/c/first.c -L"$work/root/usr/lib" -lbestore -o "$work/installed"
 LD_LIBRARY_PATH="$work/root/usr/lib" "$work/installed" | cmp - <(echo "node 1")
+if [ -n "$has_cpp" ]; then
+    c++ -std=c++17 -I"$work/root/usr/include" ../examples/c/first.cpp -L"$work/root/usr/lib" -lbestore -lpthread -o "$work/installed-cpp"
+    LD_LIBRARY_PATH="$work/root/usr/lib" "$work/installed-cpp" | cmp - <(echo "node 1, from ann")
+fi
 for file in include/bestore.hpp lib/pkgconfig/bestore.pc share/man/man1/bestore.1 share/man/man3/bestore.3; do
     [ -s "$work/root/usr/$file" ] || { echo "make install: there is no $file" >&2; exit 1; }
 done
@@ -156,9 +213,9 @@ else
     echo "wheel: skipped, python3 makes no environments"
 fi
 
-# The query window, on a display in memory, and what it stands on.
+# The query window, on a display in memory, and what it uses.
 unset DISPLAY
-window="what the query window stands on"
+window="what the query window uses"
 if ! command -v Xvfb >/dev/null; then
     echo "the query window: skipped, there is no Xvfb"
 elif ! python3 -c 'import tkinter' 2>/dev/null; then
@@ -171,7 +228,7 @@ else
     for _ in {1..100}; do [ -s "$work/display" ] || sleep 0.1; done
     if [ -s "$work/display" ]; then
         export DISPLAY=":$(<"$work/display")"
-        window="the query window, and what it stands on"
+        window="the query window, and what it uses"
     else
         echo "the query window: skipped, Xvfb gives no display"
     fi

@@ -34,4 +34,22 @@ static inline bool is_as_it_was(bes_pass *pass, const view *before)
     return memcmp(before, &after, sizeof after) == 0;
 }
 
+/* Takes all passes that this one is given. Returns how many they were. */
+static inline int take_passes(bes_pass *pass, bes_pass *taken)
+{
+    for (int i = 0;; i++) {
+        uint32_t answer = bes_another(pass, &taken[i]);
+        if (answer == BES_NO_PASS)
+            return i;
+        CHECK(answer == BES_OK && i < 64);
+    }
+}
+
+/* Gives them all back. */
+static inline void close_passes(bes_pass *taken, int count)
+{
+    for (int i = 0; i < count; i++)
+        CHECK(bes_close(&taken[i]) == BES_OK);
+}
+
 #endif

@@ -1,453 +1,193 @@
-// bestore for C++17: the calls of bestore.h by objects that close themselves. Link as bestore.h says.
+// bestore for C++17: the calls of bestore.h by objects that close themselves. Link as bestore.h says, with -lpthread.
 //
 //     bestore::Store store;
 //     store.make_index("MAIL:from", bestore::Kind::string);
-//     bestore::Node node = store.new_node();
-//     store.set(node, "MAIL:from", "ann");
+//     store.change([](bestore::Change &change) {
+//         change.set(change.create(), "MAIL:from", "ann");
+//     });
 //     bestore::Pin pin = store.pin();
 //     for (bestore::Node found : pin.query("MAIL:from==ann"))
 //         std::cout << found << '\n';
 //
-// What bestore.h says of each call holds here too. A call that the library refuses throws a Refusal, which tells the number that goes
-// with the answer, and has done nothing.
-// Store, Pass, Pin, State, Prepared and Live can be moved and not copied. A Pin has to go before the pass that it was made by, and a
-// State before its Pin; the pass may be moved meanwhile. Each thread has a Pass of its own, and an object takes one call at a time.
+// What bestore.h says of each call holds here too: its errors, its cost, threads. A call that returns an error there throws a Refusal
+// here, which has the number that goes with the error. Nothing has changed then.
+// Store, Pass, Pin, State, Prepared and Live can be moved and not copied. A Pin has to go before its pass, and a State before its Pin;
+// the pass may be moved meanwhile. Each thread has a Pass of its own, and an object takes one call at a time.
+// In a forked child the objects of the parent are dead: their calls throw BES_CLOSED, and their ends do nothing.
 #ifndef BESTORE_HPP
 #define BESTORE_HPP
 
-#include "bestore.h"
+#include "bestore_snapshot.hpp"
 
-#include <algorithm>
-#include <cstddef>
-#include <cstdint>
-#include <iterator>
-#include <memory>
-#include <optional>
-#include <stdexcept>
-#include <string>
-#include <string_view>
-#include <type_traits>
-#include <utility>
-#include <variant>
-#include <vector>
+#include <map>
 
 namespace bestore {
 
-// The number of a node: the first is 1, and none is used again.
-using Node = std::uint64_t;
-
-namespace detail {
-
-// What the number that goes with an answer counts, in the call that answered: bytes of a text, or items, or operations.
-enum class Place { none, byte, item, operation };
-
-// Whether a place goes with the answer, where there is one.
-inline bool has_place(std::uint32_t answer, Place place)
-{
-    switch (answer) {
-    case BES_SYNTAX:
-        return place == Place::byte;
-    case BES_BAD_PATTERN:
-        return place == Place::byte || place == Place::item;
-    case BES_BAD_RPN:
-    case BES_NO_ITEM:
-        return place == Place::item;
-    case BES_NAME_LENGTH:
-    case BES_HAS_NUL:
-    case BES_NOT_UTF8:
-    case BES_BAD_PART:
-        return place == Place::item || place == Place::operation;
-    case BES_DATA_LENGTH:
-    case BES_NO_OPERATION:
-    case BES_NO_KIND:
-    case BES_NO_VALUE:
-        return place == Place::operation;
-    default:
-        return false;
-    }
-}
-
-} // namespace detail
-
-// Why a call did nothing.
-class Refusal : public std::runtime_error {
+// What Pass::change hands to its function: a pinned snapshot, and the operations of the transaction that will follow on it, up to 64.
+// get() sees what the change has set and removed so far; all else reads the snapshot alone.
+class Change : public Snapshot, public detail::Writes<Change> {
 public:
-    explicit Refusal(std::uint32_t number, std::uint64_t carried = 0, detail::Place place = detail::Place::none)
-        : std::runtime_error(bes_strerror(number)), number_(number), carried_(carried), place_(place)
+    Change(const Change &) = delete;
+    Change &operator=(const Change &) = delete;
+
+    // Makes a node, and returns its number.
+    Node create()
     {
+        if (next_ == 0)
+            detail::check(bes_next(handle(), &next_));
+        write({BES_NEW_NODE, next_});
+        return next_++;
     }
 
-    // The answer as bestore.h lists it, BES_BUSY to BES_NO_ITEM.
-    std::uint32_t number() const noexcept { return number_; }
-
-    // Of BES_BUSY: the pass that is writing.
-    std::optional<std::uint64_t> pass_number() const noexcept { return carried_if(number_ == BES_BUSY); }
-
-    // Of BES_FULL: the oldest version that a pass may still reach.
-    std::optional<std::uint64_t> least() const noexcept { return carried_if(number_ == BES_FULL); }
-
-    // Of BES_SYNTAX and BES_BAD_PATTERN: the byte of the query's text, from 0, that is at fault.
-    std::optional<std::uint64_t> offset() const noexcept { return carried_if(is_at(detail::Place::byte)); }
-
-    // The item of a Predicate, from 0, that can't be read or at which it builds no query.
-    std::optional<std::uint64_t> item() const noexcept { return carried_if(is_at(detail::Place::item)); }
-
-    // The operation of a Batch, from 0, that can't be read.
-    std::optional<std::uint64_t> operation() const noexcept { return carried_if(is_at(detail::Place::operation)); }
-
-private:
-    bool is_at(detail::Place place) const noexcept { return place_ == place && detail::has_place(number_, place); }
-
-    std::optional<std::uint64_t> carried_if(bool carries) const noexcept
+    // Takes integers of any kind from here on. At first one throws KindMismatch if the name has an index of another integer kind.
+    Change &any_kind() noexcept
     {
-        return carries ? std::optional<std::uint64_t>(carried_) : std::nullopt;
+        checks_kinds_ = false;
+        return *this;
     }
 
-    std::uint32_t number_;
-    std::uint64_t carried_;
-    detail::Place place_;
-};
-
-// The kinds of values.
-enum class Kind : std::uint32_t {
-    string = BES_STRING_TYPE,
-    int32 = BES_INT32_TYPE,
-    int64 = BES_INT64_TYPE,
-    mime = BES_MIME_STRING_TYPE,
-    raw = BES_RAW_TYPE,
-    uint32 = BES_UINT32_TYPE,
-    uint64 = BES_UINT64_TYPE
-};
-
-// A MIME type: a text that no index holds.
-struct Mime {
-    std::string text;
-};
-
-inline bool operator==(const Mime &a, const Mime &b) { return a.text == b.text; }
-inline bool operator!=(const Mime &a, const Mime &b) { return !(a == b); }
-
-// Bytes that no index holds.
-using Raw = std::vector<std::uint8_t>;
-
-// A value of an attribute.
-using Value = std::variant<std::string, std::int32_t, std::int64_t, std::uint32_t, std::uint64_t, Mime, Raw>;
-
-struct Attribute {
-    std::string name;
-    Value value;
-};
-
-struct Index {
-    std::string name;
-    Kind kind;
-};
-
-namespace detail {
-
-// Throws what the answer of a call says, if it did nothing: with the number that it put out, and what that counts.
-inline void check(std::uint32_t answer, std::uint64_t carried = 0, Place place = Place::none)
-{
-    if (answer != BES_OK)
-        throw Refusal(answer, carried, place);
-}
-
-// The library wants a pointer that isn't null, also to nothing.
-inline const std::uint8_t *bytes_of(std::string_view text)
-{
-    return reinterpret_cast<const std::uint8_t *>(text.empty() ? "" : text.data());
-}
-
-template <class T> const T *begin_of(const std::vector<T> &list)
-{
-    static const T none{};
-    return list.empty() ? &none : list.data();
-}
-
-// Puts a text behind the others, and answers where it begins.
-inline std::uint32_t append(std::string &bytes, std::string_view text)
-{
-    if (text.size() > UINT32_MAX - bytes.size())
-        throw std::length_error("bestore: texts of more than 4 GiB");
-    const auto at = static_cast<std::uint32_t>(bytes.size());
-    bytes.append(text);
-    return at;
-}
-
-template <class T> inline constexpr bool is_integer = std::is_integral_v<T> && !std::is_same_v<T, bool> && !std::is_same_v<T, char>;
-
-template <class T> constexpr Kind kind_of_integer()
-{
-    if (sizeof(T) > 4)
-        return std::is_signed_v<T> ? Kind::int64 : Kind::uint64;
-    return std::is_signed_v<T> ? Kind::int32 : Kind::uint32;
-}
-
-inline Value value_of(std::uint32_t code, std::uint64_t number, std::string_view bytes)
-{
-    switch (static_cast<Kind>(code)) {
-    case Kind::int32:
-        return static_cast<std::int32_t>(static_cast<std::int64_t>(number));
-    case Kind::int64:
-        return static_cast<std::int64_t>(number);
-    case Kind::uint32:
-        return static_cast<std::uint32_t>(number);
-    case Kind::uint64:
-        return number;
-    case Kind::mime:
-        return Mime{std::string(bytes)};
-    case Kind::raw:
-        return Raw(bytes.begin(), bytes.end());
-    case Kind::string:
-        break;
-    }
-    return std::string(bytes);
-}
-
-// All that a call puts out which counts what there is, and writes as much as there is room for. It is asked again with more.
-template <class List, class Call> List whole(std::size_t room, Place place, Call call)
-{
-    for (;;) {
-        List list(room, typename List::value_type{});
-        std::uint64_t count = 0;
-        const std::uint32_t answer = call(list.data(), room, &count);
-        check(answer, count, place);
-        if (count <= room) {
-            list.resize(count);
-            return list;
-        }
-        room = 2 * count;
-    }
-}
-
-// The answer of a call that is made again while another pass is writing: so many times at most, and once at least. It stands back
-// before each further try.
-template <class Call> std::uint32_t tried(std::uint32_t tries, Call call)
-{
-    unsigned turns = 1;
-    std::uint32_t answer = call();
-    for (std::uint32_t made = 1; answer == BES_BUSY && made < tries; made++) {
-        turns = bes_stand_back(turns);
-        answer = call();
-    }
-    return answer;
-}
-
-// A handle of the library, which stays in its place when the object that has it is moved, and is closed with that.
-template <class T, std::uint32_t (*close)(T *)> class Handle {
-public:
-    Handle() : handle_(new T()) {}
-
-    void reset() noexcept { handle_.reset(); }
-
-    T *get() const
-    {
-        if (!handle_)
-            throw Refusal(BES_CLOSED);
-        return handle_.get();
-    }
-
-private:
-    struct Closes {
-        void operator()(T *handle) const noexcept
-        {
-            close(handle);
-            delete handle;
-        }
-    };
-
-    std::unique_ptr<T, Closes> handle_;
-};
-
-struct Unpins {
-    void operator()(bes_pass *pass) const noexcept { bes_unpin(pass); }
-};
-
-} // namespace detail
-
-// A value on its way in, which looks at what the caller has: a text, a Mime, a Raw, a Value, or an integer, of 32 bits or of 64
-// and with a sign or without as its type is.
-class Input {
-public:
-    Input(std::string_view text) : Input(Kind::string, 0, text) {}
-    Input(const char *text) : Input(std::string_view(text)) {}
-    Input(const std::string &text) : Input(std::string_view(text)) {}
-    Input(const Mime &mime) : Input(Kind::mime, 0, mime.text) {}
-    Input(const Raw &raw) : Input(Kind::raw, 0, {reinterpret_cast<const char *>(raw.data()), raw.size()}) {}
-    Input(const Value &value) : Input(std::visit([](const auto &held) { return Input(held); }, value)) {}
-
-    template <class T, std::enable_if_t<detail::is_integer<T>, int> = 0>
-    Input(T number) : Input(detail::kind_of_integer<T>(), static_cast<std::uint64_t>(number), {})
-    {
-    }
-
-    Kind kind() const noexcept { return kind_; }
-    std::uint64_t number() const noexcept { return number_; }
-    std::string_view bytes() const noexcept { return bytes_; }
-
-private:
-    Input(Kind kind, std::uint64_t number, std::string_view bytes) : kind_(kind), number_(number), bytes_(bytes) {}
-
-    Kind kind_;
-    std::uint64_t number_;
-    std::string_view bytes_;
-};
-
-// 1 to 64 operations, which a pass applies all or none.
-class Batch {
-public:
-    Batch &new_node() { return add(BES_NEW_NODE, 0, {}); }
-    Batch &remove_node(Node node) { return add(BES_REMOVE_NODE, node, {}); }
-    Batch &set(Node node, std::string_view name, const Input &value)
-    {
-        return add(BES_SET, node, name, static_cast<std::uint32_t>(value.kind()), value.number(), value.bytes());
-    }
-    Batch &unset(Node node, std::string_view name) { return add(BES_UNSET, node, name); }
-    Batch &make_index(std::string_view name, Kind kind) { return add(BES_MAKE_INDEX, 0, name, static_cast<std::uint32_t>(kind)); }
-    Batch &remove_index(std::string_view name) { return add(BES_REMOVE_INDEX, 0, name); }
-
-    std::size_t size() const noexcept { return operations_.size(); }
-    bool empty() const noexcept { return operations_.empty(); }
-    void clear() noexcept
-    {
-        operations_.clear();
-        bytes_.clear();
-    }
+    // The operations so far.
+    const Batch &batch() const noexcept { return operations_; }
 
 private:
     friend class Pass;
-    friend class State;
+    friend class detail::Writes<Change>;
 
-    Batch &add(std::uint32_t kind, Node node, std::string_view name, std::uint32_t code = 0, std::uint64_t number = 0,
-               std::string_view value = {})
+    explicit Change(bes_pass *pass) : Snapshot(pass) { batch_ = &operations_; }
+
+    Change &write(const detail::Edit &edit)
     {
-        const auto name_at = detail::append(bytes_, name), value_at = detail::append(bytes_, value);
-        operations_.push_back({kind, code, node, number, name_at, static_cast<std::uint32_t>(name.size()), value_at,
-                               static_cast<std::uint32_t>(value.size())});
+        if (operations_.size() == 64)
+            throw Refusal(BES_BAD_COUNT);
+        if (checks_kinds_)
+            check_kind(edit);
+        operations_.write(edit);
         return *this;
     }
 
-    std::vector<bes_operation> operations_;
-    std::string bytes_;
+    void check_kind(const detail::Edit &edit)
+    {
+        const auto kind = static_cast<Kind>(edit.code);
+        if (edit.kind == BES_MAKE_INDEX)
+            kinds().insert_or_assign(std::string(edit.name), kind);
+        else if (edit.kind == BES_REMOVE_INDEX)
+            kinds().erase(std::string(edit.name));
+        if (edit.kind != BES_SET || !detail::is_integer_kind(kind))
+            return;
+        const auto index = kinds().find(edit.name);
+        if (index != kinds().end() && detail::is_integer_kind(index->second) && index->second != kind)
+            throw KindMismatch(edit.name, index->second, kind);
+    }
+
+    // The kinds of the indices, with those that the change has made.
+    std::map<std::string, Kind, std::less<>> &kinds()
+    {
+        if (!kinds_) {
+            kinds_.emplace();
+            for (auto &index : indices())
+                kinds_->emplace(std::move(index.name), index.kind);
+        }
+        return *kinds_;
+    }
+
+    // Writes the operations if no other transaction came after the snapshot, and unpins. Returns the error, and the commit number or
+    // what goes with the error.
+    std::uint32_t commit(std::uint64_t *number)
+    {
+        Node none = 0;
+        *number = this->number();
+        const auto error = operations_.empty()
+                               ? static_cast<std::uint32_t>(BES_OK)
+                               : bes_apply_if(handle(), *number, operations_.operations_.data(), operations_.size(),
+                                              detail::bytes_of(operations_.bytes_), operations_.bytes_.size(), &none, 0, number);
+        release();
+        return error;
+    }
+
+    Batch operations_;
+    Node next_ = 0;
+    bool checks_kinds_ = true;
+    std::optional<std::map<std::string, Kind, std::less<>>> kinds_;
 };
 
-// An accepted write: its number, and for each operation the node that it made, or 0.
-struct Written {
+// What a change returns whose function returns something: the commit number, and that.
+template <class T> struct Changed {
     std::uint64_t number;
-    std::vector<Node> made;
+    T value;
 };
 
-// What an item of a predicate does, by the names of BeOS.
-enum query_op : std::uint32_t {
-    B_EQ = BES_ITEM_EQ, B_NE = BES_ITEM_NE, B_LT = BES_ITEM_LT, B_LE = BES_ITEM_LE, B_GT = BES_ITEM_GT, B_GE = BES_ITEM_GE,
-    B_CONTAINS = BES_ITEM_CONTAINS, B_BEGINS_WITH = BES_ITEM_BEGINS_WITH, B_ENDS_WITH = BES_ITEM_ENDS_WITH,
-    B_AND = BES_ITEM_AND, B_OR = BES_ITEM_OR, B_NOT = BES_ITEM_NOT
+// An entry of the journal: its commit number, the pass that wrote it, and its operations, in which new_node has the node that it made.
+struct Entry {
+    std::uint64_t number;
+    std::uint64_t pass;
+    Batch batch;
 };
 
-// A query as items in reverse Polish order, pushed as on a BQuery: an attribute and a value, then the operator.
-//
-//     Predicate().PushAttr("size").PushUInt64(1000).PushOp(B_GT)
-class Predicate {
+// The entries of the journal from an index on, up to the end that it has when that is reached. Go over them once, while the pass is
+// open. A loop over them later goes on with what was written since.
+class Entries {
 public:
-    Predicate &PushAttr(std::string_view name) { return push_text(BES_ITEM_ATTRIBUTE, name); }
-    Predicate &PushString(std::string_view text) { return push_text(BES_ITEM_TEXT, text); }
-    Predicate &PushInt32(std::int32_t number) { return PushInt64(number); }
-    Predicate &PushInt64(std::int64_t number) { return push({BES_ITEM_INT64, 0, 0, static_cast<std::uint64_t>(number)}); }
-    Predicate &PushUInt32(std::uint32_t number) { return PushUInt64(number); }
-    Predicate &PushUInt64(std::uint64_t number) { return push({BES_ITEM_UINT64, 0, 0, number}); }
-    Predicate &PushOp(query_op op) { return push({op, 0, 0, 0}); }
+    using Iterator = detail::Iterator<Entries, Entry>;
 
-    void Clear() noexcept
+    // From the next entry on.
+    Iterator begin()
     {
-        items_.clear();
-        bytes_.clear();
+        std::uint64_t length = 0;
+        if (!detail::is_ours(made_in_))
+            throw Refusal(BES_CLOSED);
+        const auto error = item_.batch.read([&](bes_counts *counts, auto... room) {
+            return detail::tried(pass_, BES_TRIES, length, [&] {
+                return bes_journal_from(pass_, item_.number, &item_.pass, counts, room..., &length);
+            });
+        });
+        detail::check(error, length);
+        if (item_.batch.empty())
+            return end();
+        item_.number++;
+        return Iterator(this);
     }
+    Iterator end() { return Iterator(nullptr); }
 
 private:
-    friend class Pin;
-    friend class Prepared;
+    friend Iterator;
+    friend class Pass;
 
-    Predicate &push(const bes_item &item)
-    {
-        items_.push_back(item);
-        return *this;
-    }
+    Entries(bes_pass *pass, std::uint64_t from) : pass_(pass), item_{from, 0, {}} {}
 
-    Predicate &push_text(std::uint32_t kind, std::string_view text)
-    {
-        const auto at = detail::append(bytes_, text);
-        return push({kind, at, static_cast<std::uint32_t>(text.size()), 0});
-    }
-
-    std::vector<bes_item> items_;
-    std::string bytes_;
-};
-
-// A query that was parsed once. It belongs to no store, and any pin may ask it.
-class Prepared {
-public:
-    explicit Prepared(std::string_view text)
-    {
-        std::uint64_t at = 0;
-        const auto answer = bes_prepare(detail::bytes_of(text), text.size(), handle_.get(), &at);
-        detail::check(answer, at, detail::Place::byte);
-    }
-
-    explicit Prepared(const Predicate &predicate)
-    {
-        std::uint64_t at = 0;
-        const auto answer = bes_prepare_items(detail::begin_of(predicate.items_), predicate.items_.size(),
-                                              detail::bytes_of(predicate.bytes_), predicate.bytes_.size(), handle_.get(), &at);
-        detail::check(answer, at, detail::Place::item);
-    }
-
-protected:
-    friend class Pin;
-
-    bes_prepared *handle() const { return handle_.get(); }
-
-private:
-    detail::Handle<bes_prepared, bes_release> handle_;
-};
-
-// Which nodes came into the answer of a live query and which went, each ascending.
-struct Updates {
-    std::vector<Node> created;
-    std::vector<Node> removed;
+    bes_pass *pass_;
+    unsigned made_in_ = detail::generation();
+    Entry item_;
 };
 
 // How full a store is.
 struct Status {
-    // The oldest version that a pass has announced, and the first pass that has. The pass is pinned to that version or a later
-    // one, or is about to be.
+    // The oldest version that a pass has published, and the pass with the lowest number that has. It is pinned to that version or a
+    // later one, or is about to be.
     struct Held {
         std::uint64_t version;
         std::uint64_t pass_number;
     };
 
     std::uint64_t pages;        // all pages
-    std::uint64_t free;         // those that a write may take
-    std::uint64_t retired;      // those of older versions that wait, since a pass may read them
-    std::uint64_t entries;      // how many writes the journal has
+    std::uint64_t free;         // pages that a write may take
+    std::uint64_t retired;      // pages of older versions, which wait until no pass may read them
+    std::uint64_t entries;      // how many transactions the journal has
     std::uint64_t commits;      // how many it may have
-    std::optional<Held> oldest; // empty where no pass has announced a version
+    std::optional<Held> oldest; // empty if no pass has published a version
 };
 
-class Pin;
-
-// A query that tells what changed since it was refreshed last. At first all its nodes come.
-class Live : public Prepared {
+// A session: one thread's handle on a store.
+class Pass : public detail::Writes<Pass> {
 public:
-    using Prepared::Prepared;
+    // Its number, as the journal and errors have it.
+    std::uint64_t number() const
+    {
+        std::uint64_t number = 0;
+        detail::check(bes_number(handle(), &number));
+        return number;
+    }
 
-    // Asks the query at the pin, and answers what changed. Pins of one store, or of another that its state was carried on to.
-    Updates refresh(Pin &pin);
-};
-
-// One user's place in a store.
-class Pass {
-public:
-    // A pass of the same store, for another thread. Passes that nobody has used wait with the Store; one that was closed is
+    // A pass of the same store, for another thread. Passes that were never used wait with the Store; one that was closed is
     // handed out by each.
     Pass another()
     {
@@ -456,7 +196,7 @@ public:
         return other;
     }
 
-    // Meets a pass that was closed: both have then seen what either had. Answers how much of the journal that is.
+    // Meets a pass that was closed: both have then seen what either had. Returns how many transactions that is.
     std::uint64_t meet()
     {
         std::uint64_t seen = 0;
@@ -464,50 +204,98 @@ public:
         return seen;
     }
 
-    // Writes all operations or none, with so many tries at most while another pass is writing, and one at least.
-    Written apply(const Batch &batch, std::uint32_t tries = BES_TRIES)
+    // Reads and writes as one. Pins the current snapshot, runs f on a Change, and writes its operations as one transaction if no other
+    // came between. If one came, it unpins and runs f again, on a new snapshot; and so if the store is busy, or full while bes_again
+    // waits. So f may run several times, up to `attempts`, and must leave nothing behind but its Change and what it returns.
+    //
+    //     const auto [number, letter] = store.change([](bestore::Change &change) {
+    //         const auto letter = change.create();
+    //         change.set(letter, "MAIL:from", "ann").set(1, "letters", change.get<std::int64_t>(1, "letters").value_or(0) + 1);
+    //         return letter;
+    //     });
+    //
+    // Returns the commit number, or a Changed with that and what f returned. With no operations it writes nothing, and the number is
+    // the snapshot's. BES_CONFLICT is thrown if another transaction came between at the last attempt. What f throws ends it.
+    template <class F> auto change(F &&f, std::uint32_t attempts = BES_TRIES)
     {
-        Written written{0, std::vector<Node>(batch.size() + 1)};
-        const auto answer = detail::tried(tries, [&] {
-            return bes_apply(handle(), detail::begin_of(batch.operations_), batch.size(), detail::bytes_of(batch.bytes_),
-                             batch.bytes_.size(), written.made.data(), batch.size(), &written.number);
-        });
-        detail::check(answer, written.number, detail::Place::operation);
-        written.made.resize(batch.size());
-        return written;
+        using Result = std::invoke_result_t<F &, Change &>;
+        bes_retry retry{attempts > 0 ? attempts - 1 : 0, 1, 0};
+        if constexpr (std::is_void_v<Result>) {
+            for (;;) {
+                Change change(handle());
+                f(change);
+                if (const auto number = committed(change, retry))
+                    return *number;
+            }
+        } else {
+            for (;;) {
+                Change change(handle());
+                std::decay_t<Result> result = f(change);
+                if (const auto number = committed(change, retry))
+                    return Changed<std::decay_t<Result>>{*number, std::move(result)};
+            }
+        }
     }
 
-    // Writes of one operation.
-    Node new_node() { return apply(Batch().new_node()).made.front(); }
-    void remove_node(Node node) { apply(Batch().remove_node(node)); }
-    void set(Node node, std::string_view name, const Input &value) { apply(Batch().set(node, name, value)); }
-    void unset(Node node, std::string_view name) { apply(Batch().unset(node, name)); }
-    void make_index(std::string_view name, Kind kind) { apply(Batch().make_index(name, kind)); }
-    void remove_index(std::string_view name) { apply(Batch().remove_index(name)); }
+    // Writes all operations or none. Tries again as bes_apply_or_retry does, with this many tries in all and one at least.
+    Written apply(const Batch &batch, std::uint32_t tries = BES_TRIES)
+    {
+        return written(batch, tries, [&](auto... list) { return bes_apply(handle(), list...); });
+    }
 
-    // The journal up to now: a line for each write.
+    // The same, if the journal has this many entries; otherwise it throws BES_CONFLICT.
+    Written apply_if(std::uint64_t expected, const Batch &batch, std::uint32_t tries = BES_TRIES)
+    {
+        return written(batch, tries, [&](auto... list) { return bes_apply_if(handle(), expected, list...); });
+    }
+
+    // Makes a node.
+    Node new_node() { return apply(Batch().new_node()).made.front(); }
+
+    // Makes 1 to 64 nodes in one write. Their numbers are this caller's alone, so that later batches may name them.
+    std::vector<Node> new_nodes(std::size_t count)
+    {
+        Batch batch;
+        while (batch.size() < std::min<std::size_t>(count, 65))
+            batch.new_node();
+        return apply(batch).made;
+    }
+
+    // Sets again the attributes of this name that its index doesn't hold since they were set before it was made. Those of another kind
+    // stay outside. Each up to 64 are a change of their own. Returns how many these were.
+    std::uint64_t reindex(std::string_view name, std::uint32_t attempts = BES_TRIES);
+
+    // The journal up to now: a line for each transaction.
     std::string journal(std::uint32_t tries = BES_TRIES)
     {
         return detail::whole<std::string>(1 << 16, detail::Place::none, [&](char *text, std::size_t room, std::uint64_t *count) {
-            return detail::tried(tries, [&] { return bes_journal(handle(), reinterpret_cast<std::uint8_t *>(text), room, count); });
+            return detail::tried(handle(), tries, *count, [&] {
+                return bes_journal(handle(), reinterpret_cast<std::uint8_t *>(text), room, count);
+            });
         });
     }
 
-    // How full the store is, and whose pin is the oldest.
+    // The entries of the journal from an index on, which is 0 for the one with commit number 1.
+    //
+    //     for (const bestore::Entry &entry : pass.journal_from(seen))
+    //         for (const bestore::Operation &operation : entry.batch.operations())
+    [[nodiscard]] Entries journal_from(std::uint64_t from = 0) { return Entries(handle(), from); }
+
+    // How full the store is, and who is its oldest active reader.
     Status status(std::uint32_t tries = BES_TRIES)
     {
         bes_usage usage{};
         std::uint64_t number = 0;
-        const auto answer = detail::tried(tries, [&] { return bes_status(handle(), &usage, &number); });
-        detail::check(answer, number);
+        const auto error = detail::tried(handle(), tries, number, [&] { return bes_status(handle(), &usage, &number); });
+        detail::check(error, number);
         Status status{usage.pages, usage.free, usage.retired, usage.entries, usage.commits, {}};
         if (usage.is_held)
             status.oldest = Status::Held{usage.oldest, usage.holder};
         return status;
     }
 
-    // Pins the current version. A pass has one pin at a time.
-    [[nodiscard]] Pin pin() &;
+    // Pins the current snapshot. A pass has one pin at a time.
+    [[nodiscard]] Pin pin() & { return Pin(handle()); }
 
     // Closes the pass, as its end does: it goes back to the store, and `another` may hand it out again.
     void close() noexcept { handle_.reset(); }
@@ -518,6 +306,46 @@ protected:
     bes_pass *handle() const { return handle_.get(); }
 
 private:
+    friend class detail::Writes<Pass>;
+
+    void write(const detail::Edit &edit)
+    {
+        Batch batch;
+        batch.write(edit);
+        apply(batch);
+    }
+
+    template <class Call> Written written(const Batch &batch, std::uint32_t tries, Call call)
+    {
+        Written written{0, std::vector<Node>(batch.size() + 1)};
+        const auto error = detail::tried(handle(), tries, written.number, [&] {
+            return call(detail::begin_of(batch.operations_), batch.size(), detail::bytes_of(batch.bytes_), batch.bytes_.size(),
+                        written.made.data(), batch.size(), &written.number);
+        });
+        detail::check(error, written.number, detail::Place::operation);
+        written.made.resize(batch.size());
+        return written;
+    }
+
+    // The number of the change, if it is written. None if it is to be run again; the pass has stood back then.
+    std::optional<std::uint64_t> committed(Change &change, bes_retry &retry)
+    {
+        std::uint64_t number = 0;
+        const auto error = change.commit(&number);
+        if (error == BES_OK)
+            return number;
+        if (error == BES_CONFLICT && retry.left > 0) {
+            retry.left--;
+            retry.turns = bes_stand_back(retry.turns);
+        } else if (!bes_again(handle(), error, number, &retry)) {
+            throw Refusal(error, number, detail::Place::operation);
+        }
+        return std::nullopt;
+    }
+
+    // Sets again what isn't in the index, of the nodes from `from` on. Returns after which node the next change goes on, if any is left.
+    static std::optional<Node> reindex_some(Change &change, const Index &index, const std::vector<Node> &held, Node from);
+
     detail::Handle<bes_pass, bes_close> handle_;
 };
 
@@ -525,7 +353,7 @@ private:
 struct Limits {
     std::uint64_t pages = 4096;         // of 4 KiB, taken at once: 8 to 16,384
     std::uint64_t passes = 8;           // 1 to 64
-    std::uint64_t commits = UINT32_MAX; // accepted writes: 1 to 2^32 - 1
+    std::uint64_t commits = UINT32_MAX; // transactions: 1 to 2^32 - 1
 };
 
 // A new store, as its first pass. The store goes with its last pass.
@@ -537,226 +365,65 @@ public:
     }
 };
 
-// The operations that make a version again on an empty store, as batches of 1 to 64, each for one write. They are gone over once.
-//
-//     for (const bestore::Batch &batch : pin.state())
-//         other.apply(batch);
-class State {
-public:
-    class Iterator {
-    public:
-        using iterator_category = std::input_iterator_tag;
-        using value_type = Batch;
-        using difference_type = std::ptrdiff_t;
-        using pointer = const Batch *;
-        using reference = const Batch &;
-
-        reference operator*() const { return state_->batch_; }
-        pointer operator->() const { return &state_->batch_; }
-        Iterator &operator++()
-        {
-            *this = state_->next();
-            return *this;
-        }
-        void operator++(int) { ++*this; }
-        bool operator==(const Iterator &other) const { return state_ == other.state_; }
-        bool operator!=(const Iterator &other) const { return !(*this == other); }
-
-    private:
-        friend class State;
-
-        explicit Iterator(State *state) : state_(state) {}
-
-        State *state_; // none behind the last batch
-    };
-
-    // From the next batch on.
-    Iterator begin() { return next(); }
-    Iterator end() { return Iterator(nullptr); }
-
-private:
-    friend class Pin;
-
-    explicit State(bes_pass *pass) : pass_(pass) {}
-
-    Iterator next()
-    {
-        bes_counts counts{};
-        batch_.operations_.resize(64);
-        batch_.bytes_.resize(64 * (63 + 255));
-        auto *const bytes = reinterpret_cast<std::uint8_t *>(batch_.bytes_.data());
-        const auto answer = bes_state(pass_, place_.get(), &counts, batch_.operations_.data(), batch_.operations_.size(), bytes,
-                                      batch_.bytes_.size());
-        batch_.operations_.resize(counts.operations);
-        batch_.bytes_.resize(counts.bytes);
-        detail::check(answer);
-        return Iterator(batch_.empty() ? nullptr : this);
-    }
-
-    bes_pass *pass_;
-    detail::Handle<bes_place, bes_leave> place_;
-    Batch batch_;
-};
-
-// The version that was current when it was pinned. It is read, whatever is written meanwhile, until the pin goes.
-class Pin {
-public:
-    // How many writes the version contains.
-    std::uint64_t number() const noexcept { return number_; }
-
-    // Gives the pin up, as its end does.
-    void unpin() noexcept { pass_.reset(); }
-
-    // The nodes that meet the query, ascending.
-    std::vector<Node> query(std::string_view text)
-    {
-        return found(detail::Place::byte, [&](Node *nodes, std::size_t room, std::uint64_t *count) {
-            return bes_query(handle(), detail::bytes_of(text), text.size(), nodes, room, count);
-        });
-    }
-
-    std::vector<Node> query(const Predicate &predicate)
-    {
-        return found(detail::Place::item, [&](Node *nodes, std::size_t room, std::uint64_t *count) {
-            return bes_query_items(handle(), detail::begin_of(predicate.items_), predicate.items_.size(),
-                                   detail::bytes_of(predicate.bytes_), predicate.bytes_.size(), nodes, room, count);
-        });
-    }
-
-    std::vector<Node> query(Prepared &prepared)
-    {
-        return found(detail::Place::none, [&](Node *nodes, std::size_t room, std::uint64_t *count) {
-            return bes_query_prepared(handle(), prepared.handle(), nodes, room, count);
-        });
-    }
-
-    // The nodes from a number on, ascending, whatever attributes they have, and so many of them at most.
-    std::vector<Node> nodes(Node from = 0, std::size_t most = SIZE_MAX)
-    {
-        std::vector<Node> all;
-        for (;;) {
-            std::vector<Node> some(std::min<std::size_t>(most - all.size(), 1024) + 1);
-            const std::size_t room = some.size() - 1;
-            std::uint64_t count = 0;
-            detail::check(bes_nodes(handle(), from, some.data(), room, &count), count);
-            all.insert(all.end(), some.begin(), some.begin() + static_cast<std::ptrdiff_t>(count));
-            if (count < room || all.size() == most || all.back() == UINT64_MAX)
-                return all;
-            from = all.back() + 1;
-        }
-    }
-
-    // What the query would be answered from: the comparisons that are picked, and a score.
-    std::string explain(std::string_view text)
-    {
-        return detail::whole<std::string>(256, detail::Place::byte, [&](char *said, std::size_t room, std::uint64_t *count) {
-            return bes_explain(handle(), detail::bytes_of(text), text.size(), reinterpret_cast<std::uint8_t *>(said), room, count);
-        });
-    }
-
-    // An attribute, if the node is there and has it.
-    std::optional<Value> get(Node node, std::string_view name)
-    {
-        bes_attribute told{};
-        std::uint8_t bytes[255];
-        const auto answer = bes_get(handle(), node, detail::bytes_of(name), name.size(), &told, bytes, sizeof bytes);
-        if (answer == BES_NO_ATTRIBUTE)
-            return std::nullopt;
-        detail::check(answer);
-        return detail::value_of(told.code, told.number, {reinterpret_cast<const char *>(bytes), told.length});
-    }
-
-    // An attribute, if the node has it and it is a T, which is one of the types that a Value may hold.
-    template <class T> std::optional<T> get(Node node, std::string_view name)
-    {
-        auto value = get(node, name);
-        auto *held = value ? std::get_if<T>(&*value) : nullptr;
-        return held ? std::optional<T>(std::move(*held)) : std::nullopt;
-    }
-
-    // A node's attributes, by ascending names.
-    std::vector<Attribute> attributes(Node node)
-    {
-        std::vector<Attribute> attributes;
-        list([&](auto... room) { return bes_attributes(handle(), node, room...); },
-             [&](const bes_operation &set, std::string_view name, std::string_view value) {
-                 attributes.push_back({std::string(name), detail::value_of(set.code, set.number, value)});
-             });
-        return attributes;
-    }
-
-    // The indices, by ascending names.
-    std::vector<Index> indices()
-    {
-        std::vector<Index> indices;
-        list([&](auto... room) { return bes_indices(handle(), room...); },
-             [&](const bes_operation &made, std::string_view name, std::string_view) {
-                 indices.push_back({std::string(name), static_cast<Kind>(made.code)});
-             });
-        return indices;
-    }
-
-    // The operations that make the version again on an empty store.
-    [[nodiscard]] State state() { return State(handle()); }
-
-private:
-    friend class Live;
-    friend class Pass;
-
-    explicit Pin(bes_pass *pass)
-    {
-        detail::check(bes_pin(pass, &number_));
-        pass_.reset(pass);
-    }
-
-    bes_pass *handle() const
-    {
-        if (!pass_)
-            throw Refusal(BES_NOT_PINNED);
-        return pass_.get();
-    }
-
-    template <class Call> std::vector<Node> found(detail::Place place, Call call)
-    {
-        return detail::whole<std::vector<Node>>(256, place, call);
-    }
-
-    // Hands each operation that a list is told as to `take`, with its name and the bytes of its value.
-    template <class Call, class Take> void list(Call call, Take take)
-    {
-        std::vector<bes_operation> operations(64);
-        std::vector<std::uint8_t> bytes(4096);
-        bes_counts counts{};
-        detail::check(call(&counts, operations.data(), operations.size(), bytes.data(), bytes.size()));
-        if (counts.operations > operations.size() || counts.bytes > bytes.size()) {
-            operations.resize(counts.operations);
-            bytes.resize(counts.bytes);
-            detail::check(call(&counts, operations.data(), operations.size(), bytes.data(), bytes.size()));
-        }
-        const std::string_view all(reinterpret_cast<const char *>(bytes.data()), bytes.size());
-        operations.resize(counts.operations);
-        for (const auto &told : operations)
-            take(told, all.substr(told.name_at, told.name_length), all.substr(told.value_at, told.value_length));
-    }
-
-    std::uint64_t number_ = 0;
-    std::unique_ptr<bes_pass, detail::Unpins> pass_;
-};
-
-inline Pin Pass::pin() &
-{
-    return Pin(handle());
-}
-
-inline Updates Live::refresh(Pin &pin)
+inline Updates Live::refresh(Snapshot &snapshot)
 {
     bes_updates counts{};
-    detail::check(bes_refresh(pin.handle(), handle(), &counts));
+    detail::check(bes_refresh(snapshot.handle(), handle(), &counts));
     Updates updates{std::vector<Node>(counts.created + 1), std::vector<Node>(counts.removed + 1)};
     detail::check(bes_changes(handle(), updates.created.data(), counts.created, updates.removed.data(), counts.removed));
     updates.created.resize(counts.created);
     updates.removed.resize(counts.removed);
     return updates;
+}
+
+inline std::optional<Node> Pass::reindex_some(Change &change, const Index &index, const std::vector<Node> &held, Node from)
+{
+    for (;;) {
+        const auto nodes = change.nodes(from, 1024);
+        for (const Node node : nodes) {
+            if (change.batch().size() == 64)
+                return node;
+            const auto value = std::binary_search(held.begin(), held.end(), node) ? std::nullopt : change.get(node, index.name);
+            if (value && Input(*value).kind() == index.kind)
+                change.set(node, index.name, *value);
+        }
+        if (nodes.size() < 1024)
+            return std::nullopt;
+        from = nodes.back() + 1;
+    }
+}
+
+inline std::uint64_t Pass::reindex(std::string_view name, std::uint32_t attempts)
+{
+    Index index{std::string(name), Kind::string};
+    std::vector<Node> held;
+    {
+        Pin snapshot = pin();
+        const auto indices = snapshot.indices();
+        const auto found = std::find_if(indices.begin(), indices.end(), [&](const Index &it) { return it.name == name; });
+        if (found == indices.end())
+            throw Refusal(BES_NO_INDEX);
+        index = *found;
+        Predicate all;
+        all.PushAttr(name);
+        if (index.kind == Kind::string)
+            all.PushString("*").PushOp(B_EQ);
+        else
+            all.PushInt64(std::numeric_limits<std::int64_t>::min()).PushOp(B_GE);
+        held = snapshot.query(all);
+    }
+    std::uint64_t count = 0;
+    for (std::optional<Node> from = 0; from;) {
+        const auto step = change(
+            [&](Change &it) {
+                const auto next = reindex_some(it, index, held, *from);
+                return std::make_pair(next, it.batch().size());
+            },
+            attempts);
+        from = step.value.first;
+        count += step.value.second;
+    }
+    return count;
 }
 
 } // namespace bestore

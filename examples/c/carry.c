@@ -1,16 +1,16 @@
-/* A process that runs for long: two threads write letters, more than the journal of one store takes. Where a store takes no more, its
- * state is carried on to a new one, and the threads go on there. A pin of the first store goes on reading it. */
+/* A process that runs for long: two threads write letters, more than the journal of one store takes. When a store takes no more, its
+ * state is carried on to a new one, and the threads go on there. A snapshot of the first store can still be read. */
 #include "bestore.h"
 #include <pthread.h>
 #include <stdio.h>
 #include <stdlib.h>
 
-enum { WRITERS = 2, LETTERS = 500, COMMITS = 1000 };
+enum { WRITERS = 2, LETTERS = 500, COMMITS = 500 };
 
 /* The writers' passes, and where they wait for a new store. */
 typedef struct office {
     bes_pass passes[WRITERS];
-    bes_pass first; /* of the first store, pinned to its last version */
+    bes_pass first; /* of the first store, pinned to its last snapshot */
     pthread_mutex_t lock;
     pthread_cond_t moved;
     int at_work; /* how many writers have letters left */
@@ -21,18 +21,18 @@ typedef struct office {
 typedef struct writer {
     office *office;
     bes_pass *pass;
-    const char *name;
+    char *name;
 } writer;
 
-static void stop_at(const char *what, uint32_t answer)
+static void stop_at(const char *what, uint32_t error)
 {
-    if (answer != BES_OK) {
-        fprintf(stderr, "%s: %s\n", what, bes_strerror(answer));
+    if (error != BES_OK) {
+        fprintf(stderr, "%s: %s\n", what, bes_strerror(error));
         exit(1);
     }
 }
 
-/* Makes a new store what the pinned version is. */
+/* Makes a new store what the pinned snapshot is. */
 static void carry_on(bes_pass *old, bes_pass *next)
 {
     bes_batch batch;
@@ -77,7 +77,7 @@ static void wait_for_store(office *it)
     pthread_mutex_unlock(&it->lock);
 }
 
-/* Has no letters left. Where all others wait, they wait for nobody now. */
+/* Has no letters left. If all others wait, they wait for nobody now. */
 static void go_home(office *it)
 {
     pthread_mutex_lock(&it->lock);
@@ -86,29 +86,34 @@ static void go_home(office *it)
     pthread_mutex_unlock(&it->lock);
 }
 
-/* Two writes for each letter, and each of them once more in the next store where this one takes none. */
+/* Makes a letter with its sender. */
+static uint32_t letter_from(bes_pass *pass, bes_batch *batch, uint64_t next, void *name)
+{
+    uint32_t error = bes_batch_new_node(batch);
+    (void)pass;
+    return error != BES_OK ? error : bes_batch_set_text(batch, next, "MAIL:from", name);
+}
+
+/* A write for each letter, and once more in the next store if this one takes none. */
 static void *write_letters(void *arg)
 {
     writer *it = arg;
     for (int i = 0; i < LETTERS; i++) {
-        uint64_t letter = 0;
-        uint32_t answer;
-        while ((answer = bes_new_node(it->pass, &letter)) == BES_COMMITS_SPENT)
+        uint64_t number = 0;
+        uint32_t error;
+        while ((error = bes_change(it->pass, BES_TRIES, letter_from, it->name, &number)) == BES_COMMITS_SPENT)
             wait_for_store(it->office);
-        stop_at("new letter", answer);
-        while ((answer = bes_set_text(it->pass, letter, "MAIL:from", it->name)) == BES_COMMITS_SPENT)
-            wait_for_store(it->office);
-        stop_at("sender", answer);
+        stop_at("letter", error);
     }
     go_home(it->office);
     return NULL;
 }
 
-/* How many letters there are in the pinned version that meet the query. */
+/* How many letters there are in the pinned snapshot that meet the query. */
 static unsigned long long letters(bes_pass *pass, const char *query)
 {
-    uint64_t count = 0, none = 0;
-    stop_at(query, bes_find(pass, query, &none, 0, &count));
+    uint64_t count = 0;
+    stop_at(query, bes_count(pass, query, &count));
     return count;
 }
 

@@ -1,19 +1,24 @@
 // A catalogue of files: walks a folder, writes a node for each file with its name, size, time and kind, and answers queries.
 //
 //     catalogue FOLDER QUERY..      e.g. catalogue ~/music 'size>1000000 && kind==audio'
+//
+// A file that can't be read is passed over. Files that the store has no room for are counted, and the program returns 1 then. A query
+// with an error is shown with a caret under it.
 #include "bestore.hpp"
-#include <cerrno>
 #include <cstdio>
 #include <exception>
 #include <filesystem>
 #include <map>
 #include <string>
 #include <sys/stat.h>
-#include <system_error>
 
 namespace fs = std::filesystem;
 
 namespace {
+
+const bestore::Attribute<std::string> name{"name"}, kind{"kind"};
+const bestore::Attribute<std::uint64_t> size{"size"};
+const bestore::Attribute<std::int64_t> last_modified{"last_modified"};
 
 std::string kind_of(const fs::path &path)
 {
@@ -25,36 +30,77 @@ std::string kind_of(const fs::path &path)
     return found == kinds.end() ? "other" : found->second;
 }
 
-// One file: a node and its attributes, in one write. Nodes are numbered from 1, and nobody else makes any.
-void write_file(bestore::Pass &pass, bestore::Node node, const fs::path &path)
+// One file: a node and its attributes, in one write. A file's name may have any bytes, and a text has UTF-8.
+void write_file(bestore::Pass &pass, const fs::path &path)
 {
     struct stat about;
     if (lstat(path.c_str(), &about) != 0)
-        throw std::system_error(errno, std::generic_category(), path.string());
-    pass.apply(bestore::Batch()
-                   .new_node()
-                   .set(node, "name", path.filename().string())
-                   .set(node, "size", static_cast<std::uint64_t>(about.st_size))
-                   .set(node, "last_modified", static_cast<std::int64_t>(about.st_mtime))
-                   .set(node, "kind", kind_of(path)));
+        return;
+    pass.change([&](bestore::Change &change) {
+        const bestore::Node file = change.create();
+        change.set(file, name, bestore::to_utf8(path.filename().string()))
+            .set(file, size, static_cast<std::uint64_t>(about.st_size))
+            .set(file, last_modified, static_cast<std::int64_t>(about.st_mtime))
+            .set(file, kind, kind_of(path));
+    });
 }
 
-bestore::Node write_folder(bestore::Pass &pass, const fs::path &folder)
+// Returns how many files there are, and how many of them the store has no room for.
+std::pair<std::size_t, std::size_t> write_folder(bestore::Pass &pass, const fs::path &folder)
 {
-    bestore::Node files = 0;
-    for (const auto &entry : fs::recursive_directory_iterator(folder))
-        if (entry.is_regular_file() && !entry.is_symlink())
-            write_file(pass, ++files, entry.path());
-    return files;
+    std::size_t files = 0, left = 0;
+    std::error_code error;
+    fs::recursive_directory_iterator entry(folder, fs::directory_options::skip_permission_denied);
+    for (; entry != fs::recursive_directory_iterator(); entry.increment(error)) {
+        if (!entry->is_regular_file(error) || entry->is_symlink(error))
+            continue;
+        files++;
+        try {
+            if (left == 0)
+                write_file(pass, entry->path());
+            else
+                left++;
+        } catch (const bestore::Refusal &refusal) {
+            if (refusal.number() != BES_FULL && refusal.number() != BES_COMMITS_SPENT)
+                throw;
+            left++;
+        }
+    }
+    return {files, left};
 }
 
-void print(bestore::Pin &pin, const char *query)
+// The query's text is of the caller, so its errors are printed and not thrown. Returns whether there was none.
+bool print(bestore::Pin &pin, const char *query)
 {
-    const auto nodes = pin.query(query);
-    std::printf("%s: %zu\n", query, nodes.size());
-    for (const auto node : nodes)
-        std::printf("  %s %llu\n", pin.get<std::string>(node, "name").value_or("?").c_str(),
-                    static_cast<unsigned long long>(pin.get<std::uint64_t>(node, "size").value_or(0)));
+    try {
+        const auto nodes = pin.query(query);
+        std::printf("%s: %zu\n", query, nodes.size());
+        for (const auto node : nodes)
+            std::printf("  %s %llu\n", pin.get(node, name).value_or("?").c_str(),
+                        static_cast<unsigned long long>(pin.get(node, size).value_or(0)));
+    } catch (const bestore::Refusal &refusal) {
+        std::fprintf(stderr, "%s\n%s\n", bestore::caret(query, refusal.offset().value_or(0)).c_str(), refusal.what());
+        return false;
+    }
+    for (const auto &comparison : pin.never_true(bestore::Prepared(query)))
+        std::fprintf(stderr, "%s is a number in each file, and %s is none: the comparison is never true\n", comparison.name.c_str(),
+                     comparison.value.c_str());
+    return true;
+}
+
+int run(const char *folder, char **queries)
+{
+    bestore::Store store({16384, 1, 1000000});
+    store.apply(bestore::Batch().make_index(name).make_index(kind).make_index(size).make_index(last_modified));
+    const auto [files, left] = write_folder(store, folder);
+    std::printf("%zu files\n", files);
+    if (left > 0)
+        std::fprintf(stderr, "the store has no room for %zu of them\n", left);
+    auto pin = store.pin();
+    bool is_good = left == 0;
+    for (; *queries; queries++)
+        is_good = print(pin, *queries) && is_good;
+    return is_good ? 0 : 1;
 }
 
 } // namespace
@@ -66,17 +112,7 @@ int main(int argc, char **argv)
         return 2;
     }
     try {
-        bestore::Store store({16384, 1, 1000000});
-        store.apply(bestore::Batch()
-                        .make_index("name", bestore::Kind::string)
-                        .make_index("kind", bestore::Kind::string)
-                        .make_index("size", bestore::Kind::uint64)
-                        .make_index("last_modified", bestore::Kind::int64));
-        const auto files = write_folder(store, argv[1]);
-        std::printf("%llu files\n", static_cast<unsigned long long>(files));
-        auto pin = store.pin();
-        for (int i = 2; i < argc; i++)
-            print(pin, argv[i]);
+        return run(argv[1], argv + 2);
     } catch (const std::exception &error) {
         std::fprintf(stderr, "catalogue: %s\n", error.what());
         return 1;

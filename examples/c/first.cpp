@@ -7,8 +7,7 @@ int main()
     try {
         bestore::Store store;
         store.make_index("MAIL:from", bestore::Kind::string);
-        const bestore::Node letter = store.new_node();
-        store.set(letter, "MAIL:from", "ann");
+        store.change([](bestore::Change &change) { change.set(change.create(), "MAIL:from", "ann"); });
 
         bestore::Pin pin = store.pin();
         for (const bestore::Node node : pin.query("MAIL:from==ann"))

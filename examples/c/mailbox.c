@@ -2,69 +2,76 @@
  *
  *     mailbox FILE QUERY..      e.g. mailbox letters.mbox 'MAIL:from=="*ann*"'
  *
- * One thread writes a node for each mail; a second watches the first query meanwhile, each time in one version. The other
- * queries are asked once all mails are there. */
+ * One thread writes a node for each mail; a second follows the first query meanwhile, each time in one snapshot. The other queries are
+ * asked once all mails are there. A mail that the store has no room for ends the reading: the queries find those before it, and the
+ * program returns 1. */
 #include "bestore.h"
 #include <pthread.h>
 #include <stdio.h>
 #include <stdlib.h>
 
-enum { MOST = 1000 };
+enum { MOST = 1000, TEXTS = 3 };
 
-static void stop_at(const char *what, uint32_t answer)
+static void stop_at(const char *what, uint32_t error)
 {
-    if (answer != BES_OK) {
-        fprintf(stderr, "%s: %s\n", what, bes_strerror(answer));
+    if (error != BES_OK) {
+        fprintf(stderr, "%s: %s\n", what, bes_strerror(error));
         exit(1);
     }
 }
 
-struct watch {
+typedef struct watch {
     bes_pass pass;
     const char *query;
-    uint64_t last_version; /* 0 while the writer is at work; then the number of its last write */
+    uint64_t last; /* 0 while the writer is at work; then the number of its last write */
     pthread_mutex_t lock;
     size_t found;
-};
+} watch;
 
-/* Refreshes the query again and again until the last version was seen, and counts the mails that came. */
+/* Refreshes the query again and again until the last write was seen, and counts the mails that came. */
 static void *watcher(void *arg)
 {
-    struct watch *watch = arg;
+    watch *it = arg;
     bes_prepared query = BES_PREPARED_INIT;
     bes_updates updates = {0, 0};
-    uint64_t version = 0, until = 0, place = 0;
-    stop_at(watch->query, bes_prepare_text(watch->query, &query, &place));
+    uint64_t number = 0, until = 0, place = 0;
+    stop_at(it->query, bes_prepare_text(it->query, &query, &place));
     do {
-        pthread_mutex_lock(&watch->lock);
-        until = watch->last_version;
-        pthread_mutex_unlock(&watch->lock);
-        stop_at("pin", bes_pin(&watch->pass, &version));
-        stop_at(watch->query, bes_refresh(&watch->pass, &query, &updates));
-        stop_at("unpin", bes_unpin(&watch->pass));
+        pthread_mutex_lock(&it->lock);
+        until = it->last;
+        pthread_mutex_unlock(&it->lock);
+        stop_at("pin", bes_pin(&it->pass, &number));
+        stop_at(it->query, bes_refresh(&it->pass, &query, &updates));
+        stop_at("unpin", bes_unpin(&it->pass));
         if (updates.removed > 0) {
             fprintf(stderr, "a mail went away\n");
             exit(1);
         }
-        watch->found += updates.created;
-    } while (until == 0 || version < until);
+        it->found += updates.created;
+    } while (until == 0 || number < until);
     stop_at("release", bes_release(&query));
     return NULL;
 }
 
-/* The text behind "NAME: " without its line end, cut to what a value holds, or NULL. */
-static const char *header(char *line, const char *name)
+/* What is kept of a mail. A header has any bytes, and any length: a text has those that a value may have. */
+typedef struct mail {
+    char texts[TEXTS][256];
+    bool has_text[TEXTS];
+    int64_t when; /* seconds since 1970, or -1 */
+} mail;
+
+static const char *const headers[TEXTS][2] = {
+    {"From: ", "MAIL:from"}, {"To: ", "MAIL:to"}, {"Subject: ", "MAIL:subject"}
+};
+
+/* The text of a header line after its name, or NULL if it has another name. */
+static const char *after(const char *line, const char *name)
 {
     size_t length = strlen(name);
-    if (strncmp(line, name, length) != 0)
-        return NULL;
-    line[strcspn(line, "\r\n")] = 0;
-    if (strlen(line) > length + 255)
-        line[length + 255] = 0;
-    return line + length;
+    return strncmp(line, name, length) == 0 ? line + length : NULL;
 }
 
-/* The seconds since 1970 of a date as "Mon, 3 Mar 2025 09:12:00 +0000", or -1 where it is none. */
+/* The seconds since 1970 of a date as "Mon, 3 Mar 2025 09:12:00 +0000", or -1 if it is none. */
 static int64_t seconds(const char *date)
 {
     static const char months[] = "JanFebMarAprMayJunJulAugSepOctNovDec";
@@ -72,7 +79,7 @@ static int64_t seconds(const char *date)
     char name[4] = "";
     int64_t year, month, days;
     int day, shown_year, hour, minute, second, zone;
-    if (sscanf(comma ? comma + 1 : date, "%d %3s %d %d:%d:%d %d", &day, name, &shown_year, &hour, &minute, &second, &zone) != 7)
+    if (sscanf(comma ? comma + 1 : date, "%2d %3s %4d %2d:%2d:%2d %5d", &day, name, &shown_year, &hour, &minute, &second, &zone) != 7)
         return -1;
     found = strstr(months, name);
     if (!found || strlen(name) != 3)
@@ -84,86 +91,123 @@ static int64_t seconds(const char *date)
     return ((days * 24 + hour) * 60 + minute - zone / 100 * 60 - zone % 100) * 60 + second;
 }
 
-/* Writes a mail's attributes at once, and begins an empty batch for the next. */
-static void write_mail(bes_pass *pass, bes_batch *batch, uint64_t *number)
+/* Keeps what a header line says. The first line of a name counts. */
+static void read_header(mail *it, const char *line)
 {
-    uint64_t made[64];
-    uint32_t answer;
-    if (batch->count > 0) {
-        do
-            answer = bes_batch_apply(pass, batch, BES_TRIES, made, 64, number);
-        while (answer == BES_FULL && sched_yield() == 0); /* full while a pin holds the pages */
-        stop_at("write", answer);
+    const char *date = after(line, "Date: ");
+    if (date && it->when < 0)
+        it->when = seconds(date);
+    for (size_t i = 0; i < TEXTS; i++) {
+        const char *text = after(line, headers[i][0]);
+        if (!text || it->has_text[i])
+            continue;
+        bes_to_utf8(text, strcspn(text, "\r"), it->texts[i], sizeof it->texts[i]);
+        it->has_text[i] = true;
     }
-    bes_batch_clear(batch);
 }
 
-static uint64_t read_mails(bes_pass *pass, FILE *file)
+/* Makes the node of a mail, which gets the number next. */
+static uint32_t make_mail(bes_pass *pass, bes_batch *batch, uint64_t next, void *with)
 {
-    static bes_batch batch = BES_BATCH_INIT;
-    static const char *const names[][2] = {
-        {"From: ", "MAIL:from"}, {"To: ", "MAIL:to"}, {"Subject: ", "MAIL:subject"}
-    };
-    char line[4096];
-    uint64_t number = 0, node = 0;
-    bool in_head = false;
-    while (fgets(line, sizeof line, file)) {
-        if (strncmp(line, "From ", 5) == 0) {
-            write_mail(pass, &batch, &number);
-            in_head = true;
-            node++; /* nodes are numbered from 1, and nobody else makes any */
-            stop_at("batch", bes_batch_new_node(&batch));
-            stop_at("batch", bes_batch_set_mime(&batch, node, "BEOS:TYPE", "text/x-email"));
-        } else if (line[0] == '\n') {
+    const mail *it = with;
+    uint32_t error = bes_batch_new_node(batch);
+    (void)pass;
+    if (error == BES_OK)
+        error = bes_batch_set_mime(batch, next, "BEOS:TYPE", "text/x-email");
+    for (size_t i = 0; i < TEXTS && error == BES_OK; i++)
+        if (it->has_text[i])
+            error = bes_batch_set_text(batch, next, headers[i][1], it->texts[i]);
+    if (error == BES_OK && it->when >= 0)
+        error = bes_batch_set_int64(batch, next, "MAIL:when", it->when);
+    return error;
+}
+
+/* Reads a line, without its end and what it has beyond the room. A zero byte becomes a blank. Returns whether there is one. */
+static bool read_line(FILE *file, char *line, size_t room)
+{
+    size_t length = 0;
+    int c = getc(file);
+    if (c == EOF)
+        return false;
+    for (; c != EOF && c != '\n'; c = getc(file))
+        if (length + 1 < room)
+            line[length++] = c == 0 ? ' ' : (char)c;
+    line[length] = 0;
+    return true;
+}
+
+/* Writes the mails up to the first that the store refuses. Returns the error, and in *number that of the last write. */
+static uint32_t read_mails(bes_pass *pass, FILE *file, uint64_t *mails, uint64_t *number)
+{
+    char line[4096] = "";
+    mail it = {{{0}}, {false}, -1};
+    bool in_head = false, has_mail = false, has_line = true;
+    while (has_line) {
+        has_line = read_line(file, line, sizeof line);
+        bool begins = has_line && after(line, "From ");
+        if (has_mail && (begins || !has_line)) {
+            uint64_t written = 0;
+            uint32_t error = bes_change(pass, BES_TRIES, make_mail, &it, &written);
+            if (error != BES_OK)
+                return error;
+            *number = written;
+            ++*mails;
+        }
+        if (begins) {
+            it = (mail){{{0}}, {false}, -1};
+            has_mail = in_head = true;
+        } else if (line[0] == 0 || line[0] == '\r') {
             in_head = false;
+        } else if (in_head) {
+            read_header(&it, line);
         }
-        for (size_t i = 0; in_head && i < sizeof names / sizeof *names; i++) {
-            const char *text = header(line, names[i][0]);
-            if (text)
-                stop_at(text, bes_batch_set_text(&batch, node, names[i][1], text));
-        }
-        if (in_head && header(line, "Date: "))
-            stop_at("batch", bes_batch_set_int64(&batch, node, "MAIL:when", seconds(line + strlen("Date: "))));
     }
-    write_mail(pass, &batch, &number);
-    return number;
+    return BES_OK;
 }
 
 static void print(bes_pass *pass, const char *query)
 {
     uint64_t count = 0, nodes[MOST];
-    bes_attribute told;
+    bes_attribute read;
     uint8_t subject[255];
     stop_at(query, bes_find(pass, query, nodes, MOST, &count));
     printf("%s: %llu\n", query, (unsigned long long)count);
     for (uint64_t i = 0; i < count && i < MOST; i++)
-        if (bes_read(pass, nodes[i], "MAIL:subject", &told, subject, sizeof subject) == BES_OK)
-            printf("  %llu %.*s\n", (unsigned long long)nodes[i], (int)told.length, (const char *)subject);
+        if (bes_read(pass, nodes[i], "MAIL:subject", &read, subject, sizeof subject) == BES_OK)
+            printf("  %llu %.*s\n", (unsigned long long)nodes[i], (int)read.length, (const char *)subject);
+}
+
+/* Opens a store with the indices, and a pass for the watcher. */
+static void open_store(bes_pass *pass, bes_pass *other)
+{
+    stop_at("open", bes_open(4096, 2, 1000000, pass));
+    stop_at("another", bes_another(pass, other));
+    for (size_t i = 0; i < TEXTS; i++)
+        stop_at(headers[i][1], bes_make_index(pass, headers[i][1], BES_STRING_TYPE));
+    stop_at("MAIL:when", bes_make_index(pass, "MAIL:when", BES_INT64_TYPE));
 }
 
 int main(int argc, char **argv)
 {
-    static const char *const indexed[] = {"MAIL:from", "MAIL:to", "MAIL:subject"};
     bes_pass pass = BES_PASS_INIT;
-    struct watch watch = {BES_PASS_INIT, argv[argc > 2 ? 2 : 0], 0, PTHREAD_MUTEX_INITIALIZER, 0};
+    watch watch = {BES_PASS_INIT, argv[argc > 2 ? 2 : 0], 0, PTHREAD_MUTEX_INITIALIZER, 0};
     pthread_t running;
-    uint64_t number = 0, last = 0;
+    uint64_t mails = 0, number = TEXTS + 1;
+    uint32_t error;
     FILE *file = argc > 2 ? fopen(argv[1], "r") : NULL;
     if (!file) {
         fprintf(stderr, "mailbox FILE QUERY..\n");
         return 2;
     }
-    stop_at("open", bes_open(4096, 2, 1000000, &pass));
-    stop_at("another", bes_another(&pass, &watch.pass));
-    for (size_t i = 0; i < sizeof indexed / sizeof *indexed; i++)
-        stop_at(indexed[i], bes_make_index(&pass, indexed[i], BES_STRING_TYPE));
-    stop_at("MAIL:when", bes_make_index(&pass, "MAIL:when", BES_INT64_TYPE));
+    open_store(&pass, &watch.pass);
     if (pthread_create(&running, NULL, watcher, &watch) != 0)
         return 1;
-    last = read_mails(&pass, file);
+    error = read_mails(&pass, file, &mails, &number);
     fclose(file);
+    if (error != BES_OK)
+        fprintf(stderr, "the store takes no more after %llu mails: %s\n", (unsigned long long)mails, bes_strerror(error));
     pthread_mutex_lock(&watch.lock);
-    watch.last_version = last > 0 ? last : 4;
+    watch.last = number;
     pthread_mutex_unlock(&watch.lock);
     pthread_join(running, NULL);
     printf("watched %s: %zu\n", watch.query, watch.found);
@@ -172,5 +216,5 @@ int main(int argc, char **argv)
         print(&pass, argv[i]);
     stop_at("close", bes_close(&watch.pass));
     stop_at("close", bes_close(&pass));
-    return 0;
+    return error == BES_OK ? 0 : 1;
 }

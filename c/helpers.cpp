@@ -1,0 +1,371 @@
+// Changes, typed attributes, the journal's entries, batches as bytes, and texts of queries, by the objects of bestore.hpp; and objects in
+// a forked child.
+#define BES_FULL_SECONDS 60 // so that a thread comes to unpin also on a loaded machine
+#include "bestore.hpp"
+#include "tests.hpp"
+#include <chrono>
+#include <sys/wait.h>
+#include <thread>
+#include <unistd.h>
+
+using namespace bestore;
+using Nodes = std::vector<Node>;
+
+static void change_writes_on_what_it_read()
+{
+    Store store({256, 2, 1000});
+    store.make_index("count", Kind::int64);
+    const auto first = store.change([](Change &change) {
+        const Node node = change.create();
+        change.set(node, "count", std::int64_t{0}).set(node, "name", "ann");
+        CHECK(change.create() == node + 1 && change.batch().size() == 4);
+        return node;
+    });
+    CHECK(first.number == 2 && first.value == 1);
+    const std::uint64_t second = store.change([](Change &change) {
+        CHECK(change.number() == 2 && change.query("count>=0") == Nodes{1} && change.count("count<0") == 0);
+        for (int i = 0; i < 3; i++)
+            change.set(1, "count", change.get<std::int64_t>(1, "count").value() + 1);
+        CHECK(change.get<std::int64_t>(1, "count") == 3 && change.query("count==3").empty());
+        CHECK(!change.unset(1, "name").get(1, "name") && change.remove_node(1).get(1, "count") == std::nullopt);
+        CHECK(change.create() == 3 && !change.get(3, "count"));
+    });
+    CHECK(second == 3);
+    auto pin = store.pin();
+    CHECK(pin.nodes() == Nodes{2, 3});
+    pin.unpin();
+    CHECK(store.change([](Change &) {}) == 3);
+    store.apply_if(3, Batch().remove_node(2));
+    refused(BES_CONFLICT, [&] { store.apply_if(3, Batch().remove_node(3)); });
+}
+
+// Another pass writes in between, once for each of the first runs.
+static void change_begins_again()
+{
+    Store store({256, 2, 1000});
+    Pass other = store.another();
+    store.new_node();
+    int runs = 0;
+    const auto add = [&](Change &change) {
+        const auto count = change.get<std::int64_t>(1, "count").value_or(0);
+        if (runs++ < 3)
+            other.set(1, "count", count + 10);
+        change.set(1, "count", count + 1);
+        return count;
+    };
+    const auto [number, found] = store.change(add);
+    CHECK(runs == 4 && number == 5 && found == 30 && other.pin().get<std::int64_t>(1, "count") == 31);
+    runs = 1;
+    With with;
+    with.length = 7;
+    refused(BES_CONFLICT, with, [&] { store.change(add, 2); });
+    CHECK(other.pin().get<std::int64_t>(1, "count") == 51);
+    // What the function throws ends it, and the pass isn't pinned any more.
+    try {
+        store.change([](Change &change) -> int { throw std::runtime_error(std::to_string(change.create())); });
+        CHECK(!"thrown");
+    } catch (const std::runtime_error &error) {
+        CHECK(std::string(error.what()) == "2");
+    }
+    refused(BES_NO_NODE, [&] { store.change([](Change &change) { change.remove_node(9); }); });
+    refused(BES_BAD_COUNT, [&] {
+        store.change([](Change &change) {
+            for (int i = 0; i < 65; i++)
+                change.create();
+        });
+    });
+    auto pin = store.pin();
+    refused(BES_PINNED, [&] { store.change([](Change &) {}); });
+    CHECK(pin.number() == 7);
+}
+
+template <class Call> std::string mismatch(Pass &pass, Call call)
+{
+    try {
+        pass.change(call);
+    } catch (const KindMismatch &error) {
+        return error.what();
+    }
+    return "";
+}
+
+static void kinds_are_checked()
+{
+    Store store({256, 1, 1000});
+    store.make_index("size", Kind::int64);
+    store.make_index("text", Kind::string);
+    store.new_node();
+    CHECK(mismatch(store, [](Change &change) { change.set(1, "size", 5); }) == "\"size\" has an index of int64, and the value is int32");
+    CHECK(mismatch(store, [](Change &change) { change.set(1, "size", 5ull); }) == "\"size\" has an index of int64, and the value is uint64");
+    CHECK(mismatch(store, [](Change &change) { change.make_index("n", Kind::uint32).set(1, "n", 5); }) ==
+          "\"n\" has an index of uint32, and the value is int32");
+    CHECK(mismatch(store, [](Change &change) { change.remove_index("size").set(1, "size", 5).make_index("size", Kind::int32); }).empty());
+    CHECK(mismatch(store, [](Change &change) { change.set(1, "size", "text").set(1, "text", 5).set(1, "other", 5); }).empty());
+    CHECK(mismatch(store, [](Change &change) { change.any_kind().set(1, "size", 5ull); }).empty());
+    CHECK(mismatch(store, [](Change &change) { change.set(1, "size", Kind::int32, 5ull); }).empty());
+    CHECK(store.pin().query("size==5") == Nodes{1});
+    refused(BES_NO_VALUE, [&] { store.set(1, "size", Kind::int32, std::int64_t{1} << 31); });
+    refused(BES_NO_VALUE, [&] { store.set(1, "size", Kind::uint64, -1); });
+    refused(BES_NO_VALUE, [&] { store.set(1, "size", Kind::string, 1); });
+}
+
+static void attributes_have_types()
+{
+    const Attribute<std::int64_t> size{"size"};
+    const Attribute<std::uint32_t> mode{"mode"};
+    const Attribute<std::string> name{"name"};
+    const Attribute<Mime> type{"type"};
+    const Attribute<Raw> icon{"icon"};
+    Store store({256, 1, 1000});
+    store.make_index(size);
+    store.apply(Batch().make_index(name).make_index(mode).new_node());
+    store.change([&](Change &change) {
+        change.set(1, size, 5).set(1, name, "ann").set(1, type, Mime{"a/b"}).set(1, icon, Raw{0, 1}).set(1, mode, 7ull);
+        CHECK(change.get(1, size) == 5);
+    });
+    auto pin = store.pin();
+    CHECK(pin.query("size==5 && name==ann && mode==7") == Nodes{1} && pin.get(1, size) == 5 && pin.get(1, mode) == 7u);
+    CHECK(pin.get(1, name) == "ann" && pin.get(1, type) == Mime{"a/b"} && pin.get(1, icon) == Raw{0, 1});
+    CHECK(!pin.get(1, Attribute<std::int32_t>("size")) && pin.indices()[1].kind == Kind::string);
+    pin.unpin();
+    store.set(1, size, std::uint8_t{9});
+    store.unset(1, mode);
+    pin = store.pin();
+    CHECK(pin.get(1, size) == 9 && !pin.get(1, mode));
+    refused(BES_NO_VALUE, [&] { store.set(1, mode, -1); });
+    refused(BES_NO_VALUE, [&] { store.set(1, size, UINT64_MAX); });
+}
+
+static void nodes_are_reserved()
+{
+    Store store({256, 2, 1000});
+    Pass other = store.another();
+    const auto nodes = store.new_nodes(3);
+    CHECK(nodes == Nodes{1, 2, 3} && other.new_nodes(64).back() == 67 && store.number() == 1 && other.number() == 0);
+    refused(BES_BAD_COUNT, [&] { store.new_nodes(0); });
+    refused(BES_BAD_COUNT, [&] { store.new_nodes(65); });
+}
+
+// An index that is made late holds all once it was made anew, in each kind; other kinds stay outside.
+static void reindexed()
+{
+    Store store({2048, 2, 10000});
+    const std::pair<const char *, Value> all[] = {{"a", std::int32_t{-1}}, {"b", std::int64_t{-1}}, {"c", std::uint32_t{1}},
+                                                  {"d", std::uint64_t{1}}, {"e", std::string("x")}};
+    for (int i = 0; i < 300; i++)
+        store.change([&](Change &change) {
+            const Node node = change.create();
+            for (const auto &[name, value] : all)
+                change.set(node, name, value);
+        });
+    store.set(7, "a", "text");
+    store.set(8, "e", 5);
+    for (const auto &[name, value] : all) {
+        store.make_index(name, Input(value).kind());
+        store.set(100, name, value);
+        CHECK(store.pin().pairs(name) == 1);
+        const bool has_other = *name == 'a' || *name == 'e';
+        CHECK(store.reindex(name) == (has_other ? 298 : 299) && store.pin().pairs(name) == (has_other ? 299 : 300));
+        CHECK(store.reindex(name) == 0);
+    }
+    refused(BES_NO_INDEX, [&] { store.reindex("none"); });
+    auto pin = store.pin();
+    CHECK(pin.query("a<0").size() == 299 && pin.get<std::string>(7, "a") == "text");
+    refused(BES_NO_INDEX, [&] { pin.pairs("none"); });
+}
+
+static void journal_is_read()
+{
+    Store store({256, 2, 1000});
+    Pass other = store.another();
+    store.make_index("n", Kind::int64);
+    store.apply(Batch().new_node().set(1, "n", std::int64_t{-5}).new_node());
+    other.apply(Batch().set(1, "r", Raw{0, 255}).unset(1, "n").remove_node(2).remove_index("n"));
+    std::vector<Entry> entries;
+    for (const Entry &entry : store.journal_from())
+        entries.push_back(entry);
+    CHECK(entries.size() == 3 && entries[0].number == 1 && entries[2].number == 3 && entries[0].pass == 1 && entries[2].pass == 0);
+    const auto made = entries[0].batch.operations(), first = entries[1].batch.operations(), second = entries[2].batch.operations();
+    CHECK(made[0].action == Action::make_index && made[0].kind == Kind::int64 && made[0].name == "n" && !made[0].value);
+    CHECK(first[0].action == Action::new_node && first[0].node == 1 && first[2].node == 2 && first[1].action == Action::set);
+    CHECK(first[1].value == Value(std::int64_t{-5}) && first[1].kind == Kind::int64 && first[1].node == 1);
+    CHECK(second.size() == 4 && second[0].value == Value(Raw{0, 255}) && second[1].action == Action::unset && !second[1].kind);
+    CHECK(second[2].action == Action::remove_node && second[2].node == 2 && second[3].action == Action::remove_index);
+    // From a number on, and on again with what was written since.
+    auto rest = store.journal_from(2);
+    CHECK(rest.begin()->number == 3 && rest.begin() == rest.end());
+    other.new_node();
+    CHECK(rest.begin()->number == 4 && rest.begin() == rest.end() && store.journal_from(99).begin() == rest.end());
+    // Applied one by one they make the same store.
+    Store next({256, 1, 1000});
+    for (const Entry &entry : store.journal_from())
+        CHECK(next.apply(Batch::from_bytes(entry.batch.to_bytes())).number == entry.number);
+    auto mine = store.pin(), theirs = next.pin();
+    CHECK(theirs.nodes() == mine.nodes() && theirs.get(1, "r") == mine.get(1, "r"));
+}
+
+static void batches_as_bytes()
+{
+    const Batch batch = Batch().new_node().set(1, "n", "x").make_index("n", Kind::string);
+    Raw bytes = batch.to_bytes();
+    CHECK(bytes.size() == 5 + 9 + 17 + 7 && Batch::from_bytes(bytes).to_bytes() == bytes);
+    CHECK(Batch::from_bytes(bytes).operations()[1].value == Value("x"));
+    for (std::size_t length = 0; length < bytes.size(); length++) {
+        try {
+            Batch::from_bytes(Raw(bytes.begin(), bytes.begin() + static_cast<std::ptrdiff_t>(length)));
+            CHECK(!"refused");
+        } catch (const Refusal &refusal) {
+            CHECK(refusal.number() == BES_BAD_PART && refusal.offset() <= length);
+        }
+    }
+    bytes[5] = 9;
+    refused(BES_NO_OPERATION, at_byte(5), [&] { Batch::from_bytes(bytes); });
+    refused(BES_BAD_COUNT, [] { Batch().to_bytes(); });
+    refused(BES_NAME_LENGTH, at_operation(1), [] { Batch().new_node().unset(1, std::string(64, 'x')).to_bytes(); });
+    refused(BES_DATA_LENGTH, at_operation(0), [] { Batch().set(1, "k", std::string(256, 'x')).to_bytes(); });
+}
+
+static void texts()
+{
+    const Prepared prepared("!(a=1 && 'b c'<2) || a==\"[x]\"");
+    CHECK(prepared.text() == "\"a\"!=\"1\" || \"b c\">=\"2\" || \"a\"==\"[x]\"");
+    CHECK(prepared.names() == std::vector<std::string>{"a", "b c"});
+    const auto comparisons = comparisons_of("!(a=1 && b\\ c<2)");
+    CHECK(comparisons.size() == 2 && comparisons[1].name == "b c" && comparisons[1].op == B_LT && comparisons[1].value == "2");
+    CHECK(comparisons[1].offset == 9 && comparisons[1].length == 6 && comparisons_of("").empty());
+    CHECK(escape("[draft].txt") == "\\[draft].txt" && escape("").empty() && escape("a b") == "a\\ b");
+    CHECK(any_case("dR.[") == "[dD][rR].\\[" && any_case("\xc3\x89z\xe4\xb8\xad") == "[\xc3\x89\xc3\xa9][zZ]\xe4\xb8\xad");
+    CHECK(any_case("\xd0\x96\xd0\xb6\xcf\x80\xc5\xbe") ==
+          "[\xd0\x96\xd0\xb6][\xd0\xb6\xd0\x96][\xcf\x80\xce\xa0][\xc5\xbe\xc5\xbd]");
+    CHECK(any_case("\xc3\x97\xc3\xb7\xc3\x9f\xff\xc3") == "\xc3\x97\xc3\xb7\xc3\x9f\xff\xc3");
+    CHECK(caret("gr\xc3\xb6\xc3\x9f""e==[", 9) == "gr\xc3\xb6\xc3\x9f""e==[\n       ^" && caret("a\nb<", 4) == "b<\n  ^" && caret("", 3) == "\n^");
+    CHECK(to_utf8("a\xff") == "a?" && to_utf8("\xc3\xa9\xc3\xa9", 3) == "\xc3\xa9" && to_utf8("").empty());
+    CHECK(std::string(Refusal(BES_BUSY).name()) == "BES_BUSY");
+}
+
+// Each letter that has another case finds that, and only that.
+static void any_case_finds()
+{
+    Store store({512, 1, 100000});
+    store.make_index("name", Kind::string);
+    store.new_nodes(2);
+    int letters = 0;
+    for (char32_t c = 0x80; c < 0x600; c++) {
+        const std::string text = detail::two_bytes(c);
+        const char32_t other = detail::other_case(c);
+        CHECK(other == 0 || detail::other_case(other) == c);
+        if (other == 0)
+            continue;
+        letters++;
+        store.apply(Batch().set(1, "name", text).set(2, "name", detail::two_bytes(other)));
+        CHECK(store.pin().query("name==" + any_case(text)) == (Nodes{1, 2}));
+    }
+    CHECK(letters == 2 * (30 + 61 + 26 + 48));
+}
+
+static void questions()
+{
+    Store store({256, 1, 1000});
+    store.make_index("size", Kind::int64);
+    store.make_index("name", Kind::string);
+    store.change([](Change &change) {
+        for (std::int64_t i = 0; i < 5; i++)
+            change.set(change.create(), "size", i);
+    });
+    auto pin = store.pin();
+    Prepared small("size<2"), odd("size>1.5 || name==1.5 || !(size=='2024-01-01') || size=='-7'");
+    CHECK(pin.count("size<2") == 2 && pin.count(small) == 2 && pin.count(Predicate().PushAttr("size").PushInt32(0).PushOp(B_GE)) == 5);
+    refused(BES_NOT_COVERED, at_byte(12), [&] { pin.count("(size<2) || none==1"); });
+    refused(BES_NOT_COVERED, at_byte(0), [&] { (void)pin.explain("none==1 && 'x'==2"); });
+    refused(BES_SYNTAX, at_byte(5), [&] { pin.count("size<"); });
+    CHECK(pin.uncovered("size<2 && x==1") == 10 && !pin.uncovered("size<2") && pin.pairs("size") == 5 && pin.pairs("name") == 0);
+    const auto never = pin.never_true(odd);
+    CHECK(never.size() == 2 && never[0].name == "size" && never[0].value == "1.5" && never[0].op == B_GT && never[0].offset == 0);
+    CHECK(never[1].value == "2024-01-01" && never[1].op == B_NE && pin.never_true(small).empty());
+}
+
+// At BES_FULL a write waits for the pin of another pass, and not for its own.
+static void full_store_waits()
+{
+    Store store({16, 2, 10000});
+    Pass other = store.another();
+    store.new_node();
+    const auto fill = [&] {
+        try {
+            for (;;)
+                store.apply(Batch().new_node(), 1);
+        } catch (const Refusal &refusal) {
+            CHECK(refusal.number() == BES_FULL);
+        }
+    };
+    for (int i = 0; i < 2; i++) {
+        auto pin = other.pin();
+        fill();
+        std::thread later([&] {
+            std::this_thread::sleep_for(std::chrono::milliseconds(50));
+            pin.unpin();
+        });
+        if (i == 0)
+            store.new_node();
+        else
+            store.change([](Change &change) { change.create(); });
+        later.join();
+    }
+    auto own = store.pin();
+    fill();
+    const auto begin = std::chrono::steady_clock::now();
+    With with;
+    with.least = own.number();
+    refused(BES_FULL, with, [&] { store.new_node(); });
+    CHECK(std::chrono::steady_clock::now() - begin < std::chrono::seconds(BES_FULL_SECONDS));
+}
+
+// In a forked child the parent's objects throw, and their ends do nothing; a store of the child's own is as ever.
+static void forked()
+{
+    Store store({64, 3, 100});
+    Pass other = store.another();
+    Prepared prepared("n==1");
+    auto pin = other.pin();
+    auto state = pin.state();
+    auto entries = store.journal_from();
+    std::fflush(nullptr);
+    const pid_t child = fork();
+    CHECK(child >= 0);
+    if (child == 0) {
+        refused(BES_CLOSED, [&] { store.new_node(); });
+        refused(BES_CLOSED, [&] { (void)store.another(); });
+        refused(BES_CLOSED, [&] { pin.nodes(); });
+        refused(BES_CLOSED, [&] { (void)prepared.text(); });
+        refused(BES_CLOSED, [&] { store.change([](Change &) {}); });
+        refused(BES_CLOSED, [&] { state.begin(); });
+        refused(BES_CLOSED, [&] { entries.begin(); });
+        pin.unpin();
+        store.close();
+        Store own({64, 1, 100});
+        CHECK(own.new_node() == 1 && own.pin().nodes() == Nodes{1});
+        { Pass ends = std::move(other); }
+        execlp("true", "true", static_cast<char *>(nullptr)); // which leaves no leak to be found
+        _exit(1);
+    }
+    int status = 0;
+    CHECK(waitpid(child, &status, 0) == child && WIFEXITED(status) && WEXITSTATUS(status) == 0);
+    CHECK(store.new_node() == 1 && pin.nodes().empty() && store.status().oldest->pass_number == 1);
+}
+
+int main()
+{
+    change_writes_on_what_it_read();
+    change_begins_again();
+    kinds_are_checked();
+    attributes_have_types();
+    nodes_are_reserved();
+    reindexed();
+    journal_is_read();
+    batches_as_bytes();
+    texts();
+    any_case_finds();
+    questions();
+    full_store_waits();
+    forked();
+}

@@ -1,0 +1,438 @@
+// Handles, prepared queries and snapshots of bestore for C++17. Include bestore.hpp, which includes this file.
+#ifndef BESTORE_SNAPSHOT_HPP
+#define BESTORE_SNAPSHOT_HPP
+
+#include "bestore_text.hpp"
+#include "bestore_values.hpp"
+
+#include <algorithm>
+#include <atomic>
+#include <iterator>
+#include <memory>
+#include <new>
+#include <pthread.h>
+
+namespace bestore {
+
+namespace detail {
+
+// How many forks lie between the first process with this library and this one.
+inline std::atomic<unsigned> forks{0};
+
+// The same, once forks are counted.
+inline unsigned generation()
+{
+    static const bool is_counted = [] {
+        if (pthread_atfork(nullptr, nullptr, [] { forks++; }) != 0)
+            throw std::bad_alloc();
+        return true;
+    }();
+    (void)is_counted;
+    return forks;
+}
+
+// Whether what was made at this generation is of this process.
+inline bool is_ours(unsigned made_in) noexcept { return made_in == forks.load(std::memory_order_relaxed); }
+
+// A handle of the library, which stays in its place when the object that has it is moved, and is closed with that object.
+template <class T, std::uint32_t (*close)(T *)> class Handle {
+public:
+    Handle() : handle_(nullptr, Closes{generation()}) { handle_.reset(new T()); }
+
+    void reset() noexcept { handle_.reset(); }
+
+    T *get() const
+    {
+        if (!handle_ || !is_ours(handle_.get_deleter().made_in))
+            throw Refusal(BES_CLOSED);
+        return handle_.get();
+    }
+
+private:
+    struct Closes {
+        unsigned made_in;
+
+        void operator()(T *handle) const noexcept
+        {
+            if (!is_ours(made_in))
+                return;
+            close(handle);
+            delete handle;
+        }
+    };
+
+    std::unique_ptr<T, Closes> handle_;
+};
+
+struct Unpins {
+    unsigned made_in;
+
+    void operator()(bes_pass *pass) const noexcept
+    {
+        if (is_ours(made_in))
+            bes_unpin(pass);
+    }
+};
+
+// All that a call writes which counts what there is, and writes as much as there is room for. It is called again with more room.
+template <class List, class Call> List whole(std::size_t room, Place place, Call call)
+{
+    for (;;) {
+        List list(room, typename List::value_type{});
+        std::uint64_t count = 0;
+        const std::uint32_t error = call(list.data(), room, &count);
+        check(error, count, place);
+        if (count <= room) {
+            list.resize(count);
+            return list;
+        }
+        room = 2 * count;
+    }
+}
+
+// The error of a call that is made again as bes_again says, up to this many times in all and once at least. The call writes what goes
+// with its error to the number.
+template <class Call> std::uint32_t tried(bes_pass *pass, std::uint32_t tries, const std::uint64_t &number, Call call)
+{
+    bes_retry retry{tries > 0 ? tries - 1 : 0, 1, 0};
+    std::uint32_t error = call();
+    while (bes_again(pass, error, number, &retry))
+        error = call();
+    return error;
+}
+
+// Goes once over what a source reads item by item.
+template <class Source, class Item> class Iterator {
+public:
+    using iterator_category = std::input_iterator_tag;
+    using value_type = Item;
+    using difference_type = std::ptrdiff_t;
+    using pointer = const Item *;
+    using reference = const Item &;
+
+    // At the source's item, or after the last one if there is no source.
+    explicit Iterator(Source *source) : source_(source) {}
+
+    reference operator*() const { return source_->item_; }
+    pointer operator->() const { return &source_->item_; }
+    Iterator &operator++()
+    {
+        *this = source_->begin();
+        return *this;
+    }
+    void operator++(int) { ++*this; }
+    bool operator==(const Iterator &other) const { return source_ == other.source_; }
+    bool operator!=(const Iterator &other) const { return !(*this == other); }
+
+private:
+    Source *source_;
+};
+
+} // namespace detail
+
+// A query that was parsed once. It belongs to no store, and any snapshot may be asked it.
+class Prepared {
+public:
+    explicit Prepared(std::string_view text)
+    {
+        std::uint64_t at = 0;
+        const auto error = bes_prepare(detail::bytes_of(text), text.size(), handle_.get(), &at);
+        detail::check(error, at, detail::Place::byte);
+    }
+
+    explicit Prepared(const Predicate &predicate)
+    {
+        std::uint64_t at = 0;
+        const auto error = bes_prepare_items(detail::begin_of(predicate.items_), predicate.items_.size(),
+                                             detail::bytes_of(predicate.bytes_), predicate.bytes_.size(), handle_.get(), &at);
+        detail::check(error, at, detail::Place::item);
+    }
+
+    // The canonical text.
+    std::string text() const
+    {
+        return detail::whole<std::string>(256, detail::Place::none, [&](char *text, std::size_t room, std::uint64_t *count) {
+            return bes_prepared_text(handle(), reinterpret_cast<std::uint8_t *>(text), room, count);
+        });
+    }
+
+    // The names of its attributes, each once, as they come.
+    std::vector<std::string> names() const { return names_of(text()); }
+
+protected:
+    friend class Snapshot;
+
+    bes_prepared *handle() const { return handle_.get(); }
+
+private:
+    detail::Handle<bes_prepared, bes_release> handle_;
+};
+
+// Which nodes came into the result of a live query and which went, each ascending.
+struct Updates {
+    std::vector<Node> created;
+    std::vector<Node> removed;
+};
+
+class Snapshot;
+
+// A query that returns what changed since it was refreshed last. At first all its nodes come.
+class Live : public Prepared {
+public:
+    using Prepared::Prepared;
+
+    // Asks the query in the snapshot, and returns what changed. Use snapshots of one store, or of another that its state was carried
+    // on to.
+    Updates refresh(Snapshot &snapshot);
+};
+
+// The operations that make a snapshot again on an empty store, as batches of 1 to 64, each for one write. Go over them once.
+//
+//     for (const bestore::Batch &batch : pin.state())
+//         other.apply(batch);
+class State {
+public:
+    using Iterator = detail::Iterator<State, Batch>;
+
+    // From the next batch on.
+    Iterator begin()
+    {
+        detail::check(item_.read([&](auto... room) { return bes_state(pass_, place_.get(), room...); }));
+        return Iterator(item_.empty() ? nullptr : this);
+    }
+    Iterator end() { return Iterator(nullptr); }
+
+private:
+    friend Iterator;
+    friend class Pin;
+
+    explicit State(bes_pass *pass) : pass_(pass) {}
+
+    bes_pass *pass_;
+    detail::Handle<bes_place, bes_leave> place_;
+    Batch item_;
+};
+
+// What a pass reads: the store as it was when the pass was pinned, whatever is written meanwhile. It is a Pin or a Change.
+class Snapshot {
+public:
+    // Its number: how many transactions it includes.
+    std::uint64_t number() const noexcept { return number_; }
+
+    // The nodes that meet the query, ascending.
+    std::vector<Node> query(std::string_view text)
+    {
+        return found([&](auto... room) { return asked(text, room...); }, detail::Place::byte);
+    }
+    std::vector<Node> query(const Predicate &predicate)
+    {
+        return found([&](auto... room) { return asked(predicate, room...); }, detail::Place::item);
+    }
+    std::vector<Node> query(Prepared &prepared)
+    {
+        return found([&](auto... room) { return asked(prepared, room...); }, detail::Place::none);
+    }
+
+    // How many nodes meet the query, with none listed.
+    std::uint64_t count(std::string_view text) { return counted(text, detail::Place::byte); }
+    std::uint64_t count(const Predicate &predicate) { return counted(predicate, detail::Place::item); }
+    std::uint64_t count(Prepared &prepared) { return counted(prepared, detail::Place::none); }
+
+    // The nodes from a number on, ascending, whatever attributes they have; `most` of them at most.
+    std::vector<Node> nodes(Node from = 0, std::size_t most = SIZE_MAX)
+    {
+        std::vector<Node> all;
+        for (;;) {
+            std::vector<Node> some(std::min<std::size_t>(most - all.size(), 1024) + 1);
+            const std::size_t room = some.size() - 1;
+            std::uint64_t count = 0;
+            detail::check(bes_nodes(handle(), from, some.data(), room, &count), count);
+            all.insert(all.end(), some.begin(), some.begin() + static_cast<std::ptrdiff_t>(count));
+            if (count < room || all.size() == most || all.back() == UINT64_MAX)
+                return all;
+            from = all.back() + 1;
+        }
+    }
+
+    // Explains a query: the comparisons whose indices are read, and the cost.
+    std::string explain(std::string_view text)
+    {
+        return detail::whole<std::string>(256, detail::Place::byte, [&](char *said, std::size_t room, std::uint64_t *count) {
+            const auto error = bes_explain(handle(), detail::bytes_of(text), text.size(), reinterpret_cast<std::uint8_t *>(said), room,
+                                           count);
+            return located(error, text, count);
+        });
+    }
+
+    // The byte offset of the first comparison whose name has no index here. The library has to parse the text.
+    std::optional<std::size_t> uncovered(std::string_view text)
+    {
+        std::size_t at = 0;
+        detail::check(bes_uncovered(handle(), text.data(), text.size(), &at));
+        return at < text.size() ? std::optional<std::size_t>(at) : std::nullopt;
+    }
+
+    // The comparisons that are false for each node: the name has an index of integers here, and the value spells no number, as in
+    // size>1.5. Their offsets are those in the canonical text.
+    std::vector<Comparison> never_true(const Prepared &prepared)
+    {
+        const std::string text = prepared.text();
+        bes_index_list list;
+        bes_comparison found{};
+        std::vector<Comparison> never;
+        detail::check(bes_list_indices(handle(), &list));
+        for (std::size_t at = 0; bes_next_never_true(&list, text.data(), text.size(), &at, &found);)
+            never.push_back(detail::comparison_of(text, found));
+        return never;
+    }
+
+    // An attribute, if the node is there and has it. In a change it may be one that the change has set.
+    std::optional<Value> get(Node node, std::string_view name)
+    {
+        if (const bes_operation *last = pending(node, name))
+            return last->kind == BES_SET ? std::optional<Value>(batch_->value_of(*last)) : std::nullopt;
+        bes_attribute read{};
+        std::uint8_t bytes[255];
+        const auto error = bes_get(handle(), node, detail::bytes_of(name), name.size(), &read, bytes, sizeof bytes);
+        if (error == BES_NO_ATTRIBUTE)
+            return std::nullopt;
+        detail::check(error);
+        return detail::value_of(read.code, read.number, {reinterpret_cast<const char *>(bytes), read.length});
+    }
+
+    // An attribute, if the node has it and it is a T, which is one of the types that a Value may hold.
+    template <class T> std::optional<T> get(Node node, std::string_view name)
+    {
+        auto value = get(node, name);
+        auto *held = value ? std::get_if<T>(&*value) : nullptr;
+        return held ? std::optional<T>(std::move(*held)) : std::nullopt;
+    }
+    template <class T> std::optional<T> get(Node node, const Attribute<T> &attribute) { return get<T>(node, attribute.name()); }
+
+    // A node's attributes, by ascending names.
+    std::vector<NamedValue> attributes(Node node)
+    {
+        Batch sets;
+        detail::check(sets.read([&](auto... room) { return bes_attributes(handle(), node, room...); }));
+        std::vector<NamedValue> attributes;
+        for (const auto &it : sets.operations_)
+            attributes.push_back({std::string(sets.part(it.name_at, it.name_length)), sets.value_of(it)});
+        return attributes;
+    }
+
+    // The indices, by ascending names.
+    std::vector<Index> indices()
+    {
+        Batch makes;
+        detail::check(makes.read([&](auto... room) { return bes_indices(handle(), room...); }));
+        std::vector<Index> indices;
+        for (const auto &it : makes.operations_)
+            indices.push_back({std::string(makes.part(it.name_at, it.name_length)), static_cast<Kind>(it.code)});
+        return indices;
+    }
+
+    // How many nodes have an attribute of this name that its index holds.
+    std::uint64_t pairs(std::string_view name)
+    {
+        std::uint64_t count = 0;
+        detail::check(bes_pairs(handle(), std::string(name).c_str(), &count));
+        return count;
+    }
+
+protected:
+    friend class Live;
+
+    explicit Snapshot(bes_pass *pass) : pass_(nullptr, detail::Unpins{detail::generation()})
+    {
+        detail::check(bes_pin(pass, &number_));
+        pass_.reset(pass);
+    }
+
+    bes_pass *handle() const
+    {
+        if (!pass_)
+            throw Refusal(BES_NOT_PINNED);
+        if (!detail::is_ours(pass_.get_deleter().made_in))
+            throw Refusal(BES_CLOSED);
+        return pass_.get();
+    }
+
+    void release() noexcept { pass_.reset(); }
+
+    // The operations that a change has so far.
+    const Batch *batch_ = nullptr;
+
+private:
+    std::uint32_t asked(std::string_view text, Node *nodes, std::size_t room, std::uint64_t *count)
+    {
+        return located(bes_query(handle(), detail::bytes_of(text), text.size(), nodes, room, count), text, count);
+    }
+
+    std::uint32_t asked(const Predicate &predicate, Node *nodes, std::size_t room, std::uint64_t *count)
+    {
+        return bes_query_items(handle(), detail::begin_of(predicate.items_), predicate.items_.size(), detail::bytes_of(predicate.bytes_),
+                               predicate.bytes_.size(), nodes, room, count);
+    }
+
+    std::uint32_t asked(Prepared &prepared, Node *nodes, std::size_t room, std::uint64_t *count)
+    {
+        return bes_query_prepared(handle(), prepared.handle(), nodes, room, count);
+    }
+
+    template <class Call> std::vector<Node> found(Call call, detail::Place place)
+    {
+        return detail::whole<std::vector<Node>>(256, place, call);
+    }
+
+    template <class Query> std::uint64_t counted(Query &&query, detail::Place place)
+    {
+        std::uint64_t count = 0;
+        Node none = 0;
+        const auto error = asked(query, &none, 0, &count);
+        detail::check(error, count, place);
+        return count;
+    }
+
+    // The error, with the place of the comparison that has no index, if that is the error.
+    std::uint32_t located(std::uint32_t error, std::string_view text, std::uint64_t *place)
+    {
+        if (error == BES_NOT_COVERED)
+            *place = uncovered(text).value_or(0);
+        return error;
+    }
+
+    // The last operation of the change that says what a node's attribute is.
+    const bes_operation *pending(Node node, std::string_view name) const
+    {
+        if (!batch_)
+            return nullptr;
+        const auto says = [&](const bes_operation &it) {
+            return it.node == node && (it.kind == BES_NEW_NODE || it.kind == BES_REMOVE_NODE ||
+                                       ((it.kind == BES_SET || it.kind == BES_UNSET) && batch_->part(it.name_at, it.name_length) == name));
+        };
+        const auto &all = batch_->operations_;
+        const auto last = std::find_if(all.rbegin(), all.rend(), says);
+        return last == all.rend() ? nullptr : &*last;
+    }
+
+    std::uint64_t number_ = 0;
+    std::unique_ptr<bes_pass, detail::Unpins> pass_;
+};
+
+// A pinned snapshot, until it ends.
+class Pin : public Snapshot {
+public:
+    // Unpins, as its end does.
+    void unpin() noexcept { release(); }
+
+    // The operations that make the snapshot again on an empty store.
+    [[nodiscard]] State state() { return State(handle()); }
+
+private:
+    friend class Pass;
+
+    using Snapshot::Snapshot;
+};
+
+} // namespace bestore
+#endif

@@ -1,0 +1,327 @@
+/* Helpers over texts: comparisons of a query, indices that they need, escapes, UTF-8, and a caret under an error. Include bestore.h,
+ * which includes this file.
+ *
+ * A text that bes_next_comparison and the helpers over it read must be a query that the library parses: one that bes_query has
+ * taken or refused by BES_NOT_COVERED, or the text of bes_prepared_text. */
+#include "bestore.h" /* which includes this file once more, and then nothing here is left */
+
+#ifndef BESTORE_TEXT_H
+#define BESTORE_TEXT_H
+
+#include <stdio.h>
+
+#ifdef __cplusplus
+extern "C" {
+#endif
+
+/* A comparison of a query's text. Its name and value are without quotes, and with their backslashes. */
+typedef struct bes_comparison {
+    size_t at;           /* the byte offset of its first byte */
+    size_t length;       /* how many bytes it has */
+    size_t name_at;
+    size_t name_length;
+    uint32_t kind;       /* BES_ITEM_EQ .. BES_ITEM_GE */
+    size_t value_at;
+    size_t value_length;
+} bes_comparison;
+
+/* Whether c is one of the characters, of which zero is none. */
+static inline bool bes_is_among_(char c, const char *characters)
+{
+    return c != 0 && strchr(characters, c) != NULL;
+}
+
+static inline size_t bes_skip_(const char *text, size_t length, size_t at, const char *characters)
+{
+    while (at < length && bes_is_among_(text[at], characters))
+        at++;
+    return at;
+}
+
+/* Reads the word or quoted text at an offset, and returns the offset after it. */
+static inline size_t bes_take_text_(const char *text, size_t length, size_t at, size_t *begin, size_t *count)
+{
+    const char quote[2] = {at < length && bes_is_among_(text[at], "\"'") ? text[at] : '\0', '\0'};
+    const char *ends = quote[0] != 0 ? quote : " \t\n\r\"'=!<>&|()";
+    at += quote[0] != 0;
+    *begin = at;
+    while (at < length && text[at] != 0 && !bes_is_among_(text[at], ends))
+        at += text[at] == '\\' ? 2 : 1;
+    at = at < length ? at : length;
+    *count = at - *begin;
+    return quote[0] != 0 && at < length ? at + 1 : at;
+}
+
+/* Reads the operator at an offset, and returns the offset after it, or the same one if there is none. */
+static inline size_t bes_take_operator_(const char *text, size_t length, size_t at, uint32_t *kind)
+{
+    bool equals = at + 1 < length && text[at + 1] == '=';
+    if (at == length || !bes_is_among_(text[at], "=!<>") || (text[at] == '!' && !equals))
+        return at;
+    if (text[at] == '=')
+        *kind = BES_ITEM_EQ;
+    else if (text[at] == '!')
+        *kind = BES_ITEM_NE;
+    else if (text[at] == '<')
+        *kind = equals ? BES_ITEM_LE : BES_ITEM_LT;
+    else
+        *kind = equals ? BES_ITEM_GE : BES_ITEM_GT;
+    return at + (equals ? 2 : 1);
+}
+
+/* Reads the next comparison of a query.
+ * [in,out] at    where to read on: 0 at first, then after the comparison that was read
+ * Returns whether there is one. */
+static inline bool bes_next_comparison(const char *text, size_t length, size_t *at, bes_comparison *found)
+{
+    static const char blanks[] = " \t\n\r";
+    size_t begin = bes_skip_(text, length, *at, " \t\n\r()!&|"), after, value;
+    found->at = begin;
+    after = bes_take_text_(text, length, begin, &found->name_at, &found->name_length);
+    after = bes_skip_(text, length, after, blanks);
+    value = bes_take_operator_(text, length, after, &found->kind);
+    if (begin == length || value == after)
+        return false;
+    value = bes_skip_(text, length, value, blanks);
+    *at = bes_take_text_(text, length, value, &found->value_at, &found->value_length);
+    found->length = *at - begin;
+    return true;
+}
+
+/* Copies a part of a query's text without its backslashes, if it has room. Returns how long it is then. */
+static inline size_t bes_plain(const char *text, size_t length, char *plain, size_t room)
+{
+    size_t count = 0;
+    for (size_t i = 0; i < length; i++, count++) {
+        i += text[i] == '\\' && i + 1 < length;
+        if (count < room)
+            plain[count] = text[i];
+    }
+    return count;
+}
+
+/* The indices of a snapshot, by ascending names. */
+typedef struct bes_index_list {
+    bes_counts counts;
+    bes_operation operations[32];
+    uint8_t bytes[32 * 63];
+} bes_index_list;
+
+/* bes_indices into a list. After an error the list is empty. */
+static inline uint32_t bes_list_indices(bes_pass *pass, bes_index_list *list)
+{
+    list->counts.operations = list->counts.bytes = 0;
+    return bes_indices(pass, &list->counts, list->operations, 32, list->bytes, sizeof list->bytes);
+}
+
+/* The index of this name, or NULL. */
+static inline const bes_operation *bes_index_named(const bes_index_list *list, const char *name, size_t name_length)
+{
+    for (uint64_t i = 0; i < list->counts.operations; i++) {
+        const bes_operation *it = &list->operations[i];
+        if (it->name_length == name_length && memcmp(list->bytes + it->name_at, name, name_length) == 0)
+            return it;
+    }
+    return NULL;
+}
+
+/* The index of a comparison's name, or NULL. */
+static inline const bes_operation *bes_index_of(const bes_index_list *list, const char *text, const bes_comparison *comparison)
+{
+    char name[64];
+    size_t length = bes_plain(text + comparison->name_at, comparison->name_length, name, sizeof name);
+    return length < sizeof name ? bes_index_named(list, name, length) : NULL;
+}
+
+/* Finds the first comparison whose name has no index in the pinned snapshot: what is missing at BES_NOT_COVERED.
+ * [out] at       the byte offset of the comparison, or the text's length if each has an index
+ * The errors and the cost are those of bes_indices. */
+static inline uint32_t bes_uncovered(bes_pass *pass, const char *text, size_t length, size_t *at)
+{
+    bes_index_list list;
+    bes_comparison comparison;
+    size_t next = 0;
+    uint32_t error = bes_list_indices(pass, &list);
+    if (error != BES_OK)
+        return error;
+    *at = length;
+    while (*at == length && bes_next_comparison(text, length, &next, &comparison))
+        if (bes_index_of(&list, text, &comparison) == NULL)
+            *at = comparison.at;
+    return BES_OK;
+}
+
+/* Whether a value spells a number: an optional - and 1 to 20 digits, from -2^63 to 2^64 - 1. Backslashes are passed over. */
+static inline bool bes_spells_number(const char *text, size_t length)
+{
+    char plain[22];
+    size_t count = bes_plain(text, length, plain, sizeof plain), at = count > 0 && plain[0] == '-';
+    uint64_t most = at > 0 ? (uint64_t)1 << 63 : UINT64_MAX, number = 0;
+    if (count == at || count - at > 20)
+        return false;
+    for (; at < count; at++) {
+        uint64_t digit = (uint64_t)(plain[at] - '0');
+        if (plain[at] < '0' || plain[at] > '9' || number > (most - digit) / 10)
+            return false;
+        number = 10 * number + digit;
+    }
+    return true;
+}
+
+/* Finds the next comparison that is false for each node: its name has an index of integers in the snapshot, and its value spells
+ * no number, as in size>1.5. Use it as bes_next_comparison. */
+static inline bool bes_next_never_true(const bes_index_list *list, const char *text, size_t length, size_t *at,
+                                       bes_comparison *found)
+{
+    while (bes_next_comparison(text, length, at, found)) {
+        const bes_operation *index = bes_index_of(list, text, found);
+        if (index != NULL && bes_is_number_code(index->code) && !bes_spells_number(text + found->value_at, found->value_length))
+            return true;
+    }
+    return false;
+}
+
+/* Counts the pairs that an index holds in the pinned snapshot: how many nodes have an attribute of its name that it holds.
+ * BES_NO_INDEX, and the errors and cost of bes_query_items: a walk over the whole index, and memory for its nodes. */
+static inline uint32_t bes_pairs(bes_pass *pass, const char *name, uint64_t *count)
+{
+    bes_item items[3] = {{BES_ITEM_ATTRIBUTE, 0, 0, 0}, {BES_ITEM_TEXT, 0, 1, 0}, {BES_ITEM_EQ, 0, 0, 0}};
+    uint8_t bytes[1 + 63] = "*";
+    bes_index_list list;
+    const bes_operation *index;
+    uint64_t none = 0;
+    uint32_t error = bes_list_indices(pass, &list);
+    *count = 0;
+    if (error != BES_OK)
+        return error;
+    if ((index = bes_index_named(&list, name, strlen(name))) == NULL)
+        return BES_NO_INDEX;
+    items[0].at = 1;
+    items[0].length = index->name_length;
+    memcpy(bytes + 1, name, index->name_length);
+    if (bes_is_number_code(index->code)) {
+        bool is_signed = index->code == BES_INT32_TYPE || index->code == BES_INT64_TYPE;
+        items[1].kind = is_signed ? BES_ITEM_INT64 : BES_ITEM_UINT64;
+        items[1].number = is_signed ? (uint64_t)1 << 63 : 0;
+        items[2].kind = BES_ITEM_GE;
+    }
+    return bes_query_items(pass, items, 3, bytes, 1 + index->name_length, &none, 0, count);
+}
+
+/* Writes a character at an offset, if it has room there before a zero byte. */
+static inline size_t bes_put_char_(char *out, size_t room, size_t at, char c)
+{
+    if (room > 0 && at < room - 1)
+        out[at] = c;
+    return at + 1;
+}
+
+/* Writes a character, with a backslash if a query would take it for anything but itself. */
+static inline size_t bes_put_escaped_(char *out, size_t room, size_t at, char c)
+{
+    if (bes_is_among_(c, "*?[\\\"' \t\n\r=!<>&|()"))
+        at = bes_put_char_(out, room, at, '\\');
+    return bes_put_char_(out, room, at, c);
+}
+
+/* Writes a text so that it stands for itself in a query: as a name, a value or a part of a pattern, in quotes or not. So
+ * [draft].txt becomes \[draft].txt. An empty text needs quotes.
+ * [out] out      the text and a zero byte, cut to `room` bytes; twice the text's length and 1 suffice
+ * Returns how many bytes it has with enough room, without the zero byte. */
+static inline size_t bes_escape(const char *text, char *out, size_t room)
+{
+    size_t at = 0;
+    for (; *text != 0; text++)
+        at = bes_put_escaped_(out, room, at, *text);
+    if (room > 0)
+        out[at < room ? at : room - 1] = 0;
+    return at;
+}
+
+/* As bes_escape, and letters of ASCII match in either case, as BQuery builds it: draft becomes [dD][rR][aA][fF][tT]. The result is
+ * a pattern, for == and !=.
+ * [out] out      4 times the text's length and 1 suffice */
+static inline size_t bes_any_case(const char *text, char *out, size_t room)
+{
+    size_t at = 0;
+    for (; *text != 0; text++) {
+        char lower = *text >= 'A' && *text <= 'Z' ? (char)(*text - 'A' + 'a') : *text;
+        if (lower < 'a' || lower > 'z') {
+            at = bes_put_escaped_(out, room, at, *text);
+            continue;
+        }
+        at = bes_put_char_(out, room, at, '[');
+        at = bes_put_char_(out, room, at, lower);
+        at = bes_put_char_(out, room, at, (char)(lower - 'a' + 'A'));
+        at = bes_put_char_(out, room, at, ']');
+    }
+    if (room > 0)
+        out[at < room ? at : room - 1] = 0;
+    return at;
+}
+
+/* How many bytes the character of UTF-8 at the front of a text has, or 0 if no character begins there. A zero byte is none. */
+static inline size_t bes_character_(const char *text, size_t length)
+{
+    unsigned char first = length > 0 ? (unsigned char)text[0] : 0, second = length > 1 ? (unsigned char)text[1] : 0;
+    unsigned char least = first == 0xe0 ? 0xa0 : first == 0xf0 ? 0x90 : 0x80, most = first == 0xed ? 0x9f : first == 0xf4 ? 0x8f : 0xbf;
+    size_t count = first >= 0xf0 ? 4 : first >= 0xe0 ? 3 : 2;
+    if (first < 0x80)
+        return first != 0;
+    if (first < 0xc2 || first > 0xf4 || count > length || second < least || second > most)
+        return 0;
+    for (size_t i = 2; i < count; i++)
+        if (((unsigned char)text[i] & 0xc0) != 0x80)
+            return 0;
+    return count;
+}
+
+/* Makes a text of any bytes, as a file's name or a mail's header, that the library takes: each byte that is no character of UTF-8
+ * becomes a ?, and a text that is too long is cut after a whole character.
+ * [out] out      the text and a zero byte, `room` bytes at most: 256 for a value, 64 for a name
+ * Returns how many bytes it has, without the zero byte. */
+static inline size_t bes_to_utf8(const char *text, size_t length, char *out, size_t room)
+{
+    size_t at = 0, count;
+    for (size_t i = 0; i < length; i += count > 0 ? count : 1) {
+        count = bes_character_(text + i, length - i);
+        if (at + (count > 0 ? count : 1) >= room)
+            break;
+        if (count == 0)
+            out[at++] = '?';
+        for (size_t j = 0; j < count; j++)
+            out[at++] = text[i + j];
+    }
+    if (room > 0)
+        out[at] = 0;
+    return at;
+}
+
+/* How many columns the characters of UTF-8 take before a byte offset, one for each. */
+static inline size_t bes_columns_(const char *text, size_t bytes)
+{
+    size_t columns = 0;
+    for (size_t i = 0; i < bytes; i++)
+        columns += ((unsigned char)text[i] & 0xc0) != 0x80;
+    return columns;
+}
+
+/* Prints a query's text, and on the next line a caret under the character at a byte offset. Of a text with several lines it prints
+ * the one with that byte. Control characters are printed as blanks. Returns what ferror does. */
+static inline int bes_print_caret(FILE *file, const char *text, uint64_t byte)
+{
+    size_t length = strlen(text), at = byte < length ? (size_t)byte : length, begin = at, end = at;
+    while (begin > 0 && text[begin - 1] != '\n')
+        begin--;
+    while (end < length && text[end] != '\n')
+        end++;
+    for (size_t i = begin; i < end; i++)
+        fputc((unsigned char)text[i] < ' ' || text[i] == 0x7f ? ' ' : text[i], file);
+    fprintf(file, "\n%*s^\n", (int)bes_columns_(text + begin, at - begin), "");
+    return ferror(file);
+}
+
+#ifdef __cplusplus
+}
+#endif
+#endif

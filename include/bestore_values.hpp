@@ -1,0 +1,564 @@
+// Errors, values, batches and predicates of bestore for C++17. Include bestore.hpp, which includes this file.
+#ifndef BESTORE_VALUES_HPP
+#define BESTORE_VALUES_HPP
+
+#include "bestore.h"
+
+#include <cstddef>
+#include <cstdint>
+#include <limits>
+#include <optional>
+#include <stdexcept>
+#include <string>
+#include <string_view>
+#include <type_traits>
+#include <utility>
+#include <variant>
+#include <vector>
+
+namespace bestore {
+
+// The number of a node: the first is 1, and none is used again.
+using Node = std::uint64_t;
+
+namespace detail {
+
+// What the number that goes with an error counts: bytes of a query's text, bytes of a batch, items or operations.
+enum class Place { none, byte, batch_byte, item, operation };
+
+// Whether a place goes with the error, in a call that has such places.
+inline bool has_place(std::uint32_t error, Place place)
+{
+    switch (error) {
+    case BES_SYNTAX:
+    case BES_NOT_COVERED:
+        return place == Place::byte;
+    case BES_BAD_PATTERN:
+        return place == Place::byte || place == Place::item;
+    case BES_BAD_RPN:
+    case BES_NO_ITEM:
+        return place == Place::item;
+    case BES_NAME_LENGTH:
+    case BES_HAS_NUL:
+    case BES_NOT_UTF8:
+    case BES_BAD_PART:
+        return place == Place::item || place == Place::operation;
+    case BES_DATA_LENGTH:
+    case BES_NO_OPERATION:
+    case BES_NO_KIND:
+    case BES_NO_VALUE:
+        return place == Place::operation;
+    default:
+        return false;
+    }
+}
+
+} // namespace detail
+
+// An error of a call, which has changed nothing.
+class Refusal : public std::runtime_error {
+public:
+    explicit Refusal(std::uint32_t number, std::uint64_t carried = 0, detail::Place place = detail::Place::none)
+        : std::runtime_error(bes_strerror(number)), number_(number), carried_(carried), place_(place)
+    {
+    }
+
+    // The error as bestore.h lists it, BES_BUSY to BES_CONFLICT.
+    std::uint32_t number() const noexcept { return number_; }
+
+    // Its name there, as "BES_BUSY".
+    const char *name() const noexcept { return bes_error_name(number_); }
+
+    // Of BES_BUSY: the pass that is writing.
+    std::optional<std::uint64_t> pass_number() const noexcept { return carried_if(number_ == BES_BUSY); }
+
+    // Of BES_FULL: the oldest version that a pass may still read.
+    std::optional<std::uint64_t> least() const noexcept { return carried_if(number_ == BES_FULL); }
+
+    // Of BES_CONFLICT: the length of the journal.
+    std::optional<std::uint64_t> length() const noexcept { return carried_if(number_ == BES_CONFLICT); }
+
+    // The byte, from 0, at which a query's text has the error, or the bytes of a batch. Of BES_NOT_COVERED: the first comparison
+    // whose name has no index.
+    std::optional<std::uint64_t> offset() const noexcept
+    {
+        return carried_if(is_at(detail::Place::byte) || place_ == detail::Place::batch_byte);
+    }
+
+    // The item of a Predicate, from 0, that is invalid or at which it builds no query.
+    std::optional<std::uint64_t> item() const noexcept { return carried_if(is_at(detail::Place::item)); }
+
+    // The operation of a Batch, from 0, that is invalid.
+    std::optional<std::uint64_t> operation() const noexcept { return carried_if(is_at(detail::Place::operation)); }
+
+private:
+    bool is_at(detail::Place place) const noexcept { return place_ == place && detail::has_place(number_, place); }
+
+    std::optional<std::uint64_t> carried_if(bool carries) const noexcept
+    {
+        return carries ? std::optional<std::uint64_t>(carried_) : std::nullopt;
+    }
+
+    std::uint32_t number_;
+    std::uint64_t carried_;
+    detail::Place place_;
+};
+
+// The kinds of values.
+enum class Kind : std::uint32_t {
+    string = BES_STRING_TYPE,
+    int32 = BES_INT32_TYPE,
+    int64 = BES_INT64_TYPE,
+    mime = BES_MIME_STRING_TYPE,
+    raw = BES_RAW_TYPE,
+    uint32 = BES_UINT32_TYPE,
+    uint64 = BES_UINT64_TYPE
+};
+
+// The name of a kind, as "int64".
+inline const char *kind_name(Kind kind)
+{
+    switch (kind) {
+    case Kind::string:
+        return "string";
+    case Kind::int32:
+        return "int32";
+    case Kind::int64:
+        return "int64";
+    case Kind::mime:
+        return "mime";
+    case Kind::raw:
+        return "raw";
+    case Kind::uint32:
+        return "uint32";
+    case Kind::uint64:
+        return "uint64";
+    }
+    return "?";
+}
+
+// A change sets an integer of one kind under a name that has an index of another. The index would never hold it.
+class KindMismatch : public std::invalid_argument {
+public:
+    KindMismatch(std::string_view name, Kind of_index, Kind of_value)
+        : std::invalid_argument('"' + std::string(name) + "\" has an index of " + kind_name(of_index) + ", and the value is " +
+                                kind_name(of_value)),
+          of_index_(of_index), of_value_(of_value)
+    {
+    }
+
+    Kind of_index() const noexcept { return of_index_; }
+    Kind of_value() const noexcept { return of_value_; }
+
+private:
+    Kind of_index_;
+    Kind of_value_;
+};
+
+// A MIME type: a text that no index holds.
+struct Mime {
+    std::string text;
+};
+
+inline bool operator==(const Mime &a, const Mime &b) { return a.text == b.text; }
+inline bool operator!=(const Mime &a, const Mime &b) { return !(a == b); }
+
+// Bytes that no index holds.
+using Raw = std::vector<std::uint8_t>;
+
+// A value of an attribute.
+using Value = std::variant<std::string, std::int32_t, std::int64_t, std::uint32_t, std::uint64_t, Mime, Raw>;
+
+// An attribute of a node, as it is listed.
+struct NamedValue {
+    std::string name;
+    Value value;
+};
+
+struct Index {
+    std::string name;
+    Kind kind;
+};
+
+namespace detail {
+
+// Throws the error of a call, with the number that the call wrote, and what that counts.
+inline void check(std::uint32_t error, std::uint64_t carried = 0, Place place = Place::none)
+{
+    if (error != BES_OK)
+        throw Refusal(error, carried, place);
+}
+
+// The library wants a pointer that isn't null, also to nothing.
+inline const std::uint8_t *bytes_of(std::string_view text)
+{
+    return reinterpret_cast<const std::uint8_t *>(text.empty() ? "" : text.data());
+}
+
+template <class T> const T *begin_of(const std::vector<T> &list)
+{
+    static const T none{};
+    return list.empty() ? &none : list.data();
+}
+
+// Appends a text to the others, and returns where it begins.
+inline std::uint32_t append(std::string &bytes, std::string_view text)
+{
+    if (text.size() > UINT32_MAX - bytes.size())
+        throw std::length_error("bestore: texts of more than 4 GiB");
+    const auto at = static_cast<std::uint32_t>(bytes.size());
+    bytes.append(text);
+    return at;
+}
+
+template <class T> inline constexpr bool is_integer = std::is_integral_v<T> && !std::is_same_v<T, bool> && !std::is_same_v<T, char>;
+
+inline constexpr bool is_integer_kind(Kind kind)
+{
+    return kind == Kind::int32 || kind == Kind::int64 || kind == Kind::uint32 || kind == Kind::uint64;
+}
+
+template <class T> constexpr Kind kind_of_integer()
+{
+    if (sizeof(T) > 4)
+        return std::is_signed_v<T> ? Kind::int64 : Kind::uint64;
+    return std::is_signed_v<T> ? Kind::int32 : Kind::uint32;
+}
+
+// The kind of a type that a Value may hold.
+template <class T> constexpr Kind kind_of()
+{
+    if constexpr (std::is_same_v<T, std::string>)
+        return Kind::string;
+    else if constexpr (std::is_same_v<T, Mime>)
+        return Kind::mime;
+    else if constexpr (std::is_same_v<T, Raw>)
+        return Kind::raw;
+    else
+        return kind_of_integer<T>();
+}
+
+// Whether a number is one of T.
+template <class T, class U> constexpr bool fits(U number)
+{
+    if constexpr (std::is_signed_v<U>) {
+        if (number < 0)
+            return std::is_signed_v<T> && static_cast<std::int64_t>(number) >= static_cast<std::int64_t>(std::numeric_limits<T>::min());
+    }
+    return static_cast<std::uint64_t>(number) <= static_cast<std::uint64_t>(std::numeric_limits<T>::max());
+}
+
+// A number as bestore.h has it in an operation, if the kind holds it.
+template <class U> std::uint64_t number_of(Kind kind, U number)
+{
+    const bool is_held = (kind == Kind::int32 && fits<std::int32_t>(number)) || (kind == Kind::int64 && fits<std::int64_t>(number)) ||
+                         (kind == Kind::uint32 && fits<std::uint32_t>(number)) || (kind == Kind::uint64 && fits<std::uint64_t>(number));
+    if (!is_held)
+        throw Refusal(BES_NO_VALUE);
+    return static_cast<std::uint64_t>(number);
+}
+
+inline Value value_of(std::uint32_t code, std::uint64_t number, std::string_view bytes)
+{
+    switch (static_cast<Kind>(code)) {
+    case Kind::int32:
+        return static_cast<std::int32_t>(static_cast<std::int64_t>(number));
+    case Kind::int64:
+        return static_cast<std::int64_t>(number);
+    case Kind::uint32:
+        return static_cast<std::uint32_t>(number);
+    case Kind::uint64:
+        return number;
+    case Kind::mime:
+        return Mime{std::string(bytes)};
+    case Kind::raw:
+        return Raw(bytes.begin(), bytes.end());
+    case Kind::string:
+        break;
+    }
+    return std::string(bytes);
+}
+
+} // namespace detail
+
+// A value on its way in, which refers to what the caller has: a text, a Mime, a Raw, a Value or an integer. The type of an integer
+// says whether it has 32 or 64 bits, and a sign; with a kind given it is of that kind, and BES_NO_VALUE is thrown if it doesn't fit.
+class Input {
+public:
+    Input(std::string_view text) : Input(Kind::string, 0, text) {}
+    Input(const char *text) : Input(std::string_view(text)) {}
+    Input(const std::string &text) : Input(std::string_view(text)) {}
+    Input(const Mime &mime) : Input(Kind::mime, 0, mime.text) {}
+    Input(const Raw &raw) : Input(Kind::raw, 0, {reinterpret_cast<const char *>(raw.data()), raw.size()}) {}
+    Input(const Value &value) : Input(std::visit([](const auto &held) { return Input(held); }, value)) {}
+
+    template <class T, std::enable_if_t<detail::is_integer<T>, int> = 0>
+    Input(T number) : Input(detail::kind_of_integer<T>(), static_cast<std::uint64_t>(number), {})
+    {
+    }
+
+    template <class T, std::enable_if_t<detail::is_integer<T>, int> = 0>
+    Input(Kind kind, T number) : Input(kind, detail::number_of(kind, number), {})
+    {
+    }
+
+    Kind kind() const noexcept { return kind_; }
+    std::uint64_t number() const noexcept { return number_; }
+    std::string_view bytes() const noexcept { return bytes_; }
+
+private:
+    Input(Kind kind, std::uint64_t number, std::string_view bytes) : kind_(kind), number_(number), bytes_(bytes) {}
+
+    Kind kind_;
+    std::uint64_t number_;
+    std::string_view bytes_;
+};
+
+// A name with the type of its values, so that an index and the values under its name have one kind:
+//
+//     const bestore::Attribute<std::int64_t> size{"size"};
+//     store.make_index(size);
+//     store.set(node, size, 5);
+template <class T> class Attribute {
+public:
+    static constexpr Kind kind = detail::kind_of<T>();
+
+    explicit Attribute(std::string name) : name_(std::move(name)) {}
+
+    const std::string &name() const noexcept { return name_; }
+
+    // The value as one of T. An integer that T doesn't hold throws BES_NO_VALUE.
+    template <class U> static Input input(const U &value)
+    {
+        if constexpr (detail::is_integer<T>) {
+            static_assert(detail::is_integer<U>, "the attribute is an integer");
+            return Input(kind, value);
+        } else if constexpr (kind == Kind::string) {
+            return Input(std::string_view(value));
+        } else {
+            static_assert(std::is_same_v<T, U>, "the attribute has another type");
+            return Input(value);
+        }
+    }
+
+private:
+    std::string name_;
+};
+
+namespace detail {
+
+// An operation on its way into a batch.
+struct Edit {
+    std::uint32_t kind;
+    Node node = 0;
+    std::string_view name = {};
+    std::uint32_t code = 0;
+    std::uint64_t number = 0;
+    std::string_view value = {};
+};
+
+// The writes that Batch, Pass and Change have in common: each hands an operation to write(Edit) of Self, and returns what that does.
+template <class Self> class Writes {
+public:
+    decltype(auto) remove_node(Node node) { return write({BES_REMOVE_NODE, node}); }
+
+    decltype(auto) set(Node node, std::string_view name, const Input &value)
+    {
+        return write({BES_SET, node, name, static_cast<std::uint32_t>(value.kind()), value.number(), value.bytes()});
+    }
+
+    // An integer of this kind. BES_NO_VALUE is thrown if it doesn't fit.
+    template <class T> decltype(auto) set(Node node, std::string_view name, Kind kind, T number)
+    {
+        return set(node, name, Input(kind, number));
+    }
+
+    template <class T, class U> decltype(auto) set(Node node, const Attribute<T> &attribute, const U &value)
+    {
+        return set(node, attribute.name(), Attribute<T>::input(value));
+    }
+
+    decltype(auto) unset(Node node, std::string_view name) { return write({BES_UNSET, node, name}); }
+    template <class T> decltype(auto) unset(Node node, const Attribute<T> &attribute) { return unset(node, attribute.name()); }
+
+    decltype(auto) make_index(std::string_view name, Kind kind)
+    {
+        return write({BES_MAKE_INDEX, 0, name, static_cast<std::uint32_t>(kind)});
+    }
+    template <class T> decltype(auto) make_index(const Attribute<T> &attribute)
+    {
+        return make_index(attribute.name(), Attribute<T>::kind);
+    }
+
+    decltype(auto) remove_index(std::string_view name) { return write({BES_REMOVE_INDEX, 0, name}); }
+
+private:
+    decltype(auto) write(const Edit &edit) { return static_cast<Self *>(this)->write(edit); }
+};
+
+} // namespace detail
+
+// What an operation does.
+enum class Action : std::uint32_t {
+    new_node = BES_NEW_NODE,
+    remove_node = BES_REMOVE_NODE,
+    set = BES_SET,
+    unset = BES_UNSET,
+    make_index = BES_MAKE_INDEX,
+    remove_index = BES_REMOVE_INDEX
+};
+
+// An operation of a batch, read back.
+struct Operation {
+    Action action;
+    Node node;                  // of new_node: the node that it made if the batch is of the journal, or was made by a Change
+    std::string name;           // empty if the operation has none
+    std::optional<Kind> kind;   // of the value or the index
+    std::optional<Value> value; // of set
+};
+
+// 1 to 64 operations, which a pass applies all or none.
+class Batch : public detail::Writes<Batch> {
+public:
+    Batch &new_node() { return write({BES_NEW_NODE}); }
+
+    std::size_t size() const noexcept { return operations_.size(); }
+    bool empty() const noexcept { return operations_.empty(); }
+    void clear() noexcept
+    {
+        operations_.clear();
+        bytes_.clear();
+    }
+
+    // The operations, read back.
+    std::vector<Operation> operations() const
+    {
+        std::vector<Operation> operations;
+        for (const auto &it : operations_) {
+            const bool is_set = it.kind == BES_SET, has_kind = is_set || it.kind == BES_MAKE_INDEX;
+            operations.push_back({static_cast<Action>(it.kind), it.node, std::string(part(it.name_at, it.name_length)),
+                                  has_kind ? std::optional<Kind>(static_cast<Kind>(it.code)) : std::nullopt,
+                                  is_set ? std::optional<Value>(value_of(it)) : std::nullopt});
+        }
+        return operations;
+    }
+
+    // The batch as bytes, to be kept or sent, as bes_batch_to_bytes writes it.
+    Raw to_bytes() const
+    {
+        Raw bytes(BES_BATCH_BYTES);
+        std::uint64_t count = 0;
+        const auto error = bes_operations_to_bytes(detail::begin_of(operations_), operations_.size(), detail::bytes_of(bytes_),
+                                                   bytes_.size(), bytes.data(), bytes.size(), &count);
+        detail::check(error, count, detail::Place::operation);
+        bytes.resize(count);
+        return bytes;
+    }
+
+    // The batch that to_bytes wrote. Of an error offset() is the byte.
+    static Batch from_bytes(const Raw &bytes)
+    {
+        bes_batch read;
+        std::uint64_t place = 0;
+        const auto error = bes_batch_from_bytes(&read, detail::begin_of(bytes), bytes.size(), &place);
+        detail::check(error, place, detail::Place::batch_byte);
+        Batch batch;
+        batch.operations_.assign(read.operations, read.operations + read.count);
+        batch.bytes_.assign(reinterpret_cast<const char *>(read.bytes), read.used);
+        return batch;
+    }
+
+private:
+    friend class detail::Writes<Batch>;
+    friend class Change;
+    friend class Entries;
+    friend class Pass;
+    friend class Snapshot;
+    friend class State;
+
+    Batch &write(const detail::Edit &edit)
+    {
+        const auto name_at = detail::append(bytes_, edit.name), value_at = detail::append(bytes_, edit.value);
+        operations_.push_back({edit.kind, edit.code, edit.node, edit.number, name_at, static_cast<std::uint32_t>(edit.name.size()),
+                               value_at, static_cast<std::uint32_t>(edit.value.size())});
+        return *this;
+    }
+
+    std::string_view part(std::size_t at, std::size_t length) const { return std::string_view(bytes_).substr(at, length); }
+
+    Value value_of(const bes_operation &it) const
+    {
+        return detail::value_of(it.code, it.number, part(it.value_at, it.value_length));
+    }
+
+    // Makes room for any 64 operations, which the call fills, and then keeps what it counts. Returns the call's error.
+    template <class Call> std::uint32_t read(Call call)
+    {
+        bes_counts counts{0, 0};
+        operations_.resize(64);
+        bytes_.resize(64 * (63 + 255));
+        const std::uint32_t error =
+            call(&counts, operations_.data(), operations_.size(), reinterpret_cast<std::uint8_t *>(bytes_.data()), bytes_.size());
+        operations_.resize(counts.operations);
+        bytes_.resize(counts.bytes);
+        return error;
+    }
+
+    std::vector<bes_operation> operations_;
+    std::string bytes_;
+};
+
+// An accepted batch: its commit number, and for each operation the node that it made, or 0.
+struct Written {
+    std::uint64_t number;
+    std::vector<Node> made;
+};
+
+// What an item of a predicate does, by the names of BeOS.
+enum query_op : std::uint32_t {
+    B_EQ = BES_ITEM_EQ, B_NE = BES_ITEM_NE, B_LT = BES_ITEM_LT, B_LE = BES_ITEM_LE, B_GT = BES_ITEM_GT, B_GE = BES_ITEM_GE,
+    B_CONTAINS = BES_ITEM_CONTAINS, B_BEGINS_WITH = BES_ITEM_BEGINS_WITH, B_ENDS_WITH = BES_ITEM_ENDS_WITH,
+    B_AND = BES_ITEM_AND, B_OR = BES_ITEM_OR, B_NOT = BES_ITEM_NOT
+};
+
+// A query as items in reverse Polish order, pushed as on a BQuery: an attribute and a value, then the operator.
+//
+//     Predicate().PushAttr("size").PushUInt64(1000).PushOp(B_GT)
+class Predicate {
+public:
+    Predicate &PushAttr(std::string_view name) { return push_text(BES_ITEM_ATTRIBUTE, name); }
+    Predicate &PushString(std::string_view text) { return push_text(BES_ITEM_TEXT, text); }
+    Predicate &PushInt32(std::int32_t number) { return PushInt64(number); }
+    Predicate &PushInt64(std::int64_t number) { return push({BES_ITEM_INT64, 0, 0, static_cast<std::uint64_t>(number)}); }
+    Predicate &PushUInt32(std::uint32_t number) { return PushUInt64(number); }
+    Predicate &PushUInt64(std::uint64_t number) { return push({BES_ITEM_UINT64, 0, 0, number}); }
+    Predicate &PushOp(query_op op) { return push({op, 0, 0, 0}); }
+
+    void Clear() noexcept
+    {
+        items_.clear();
+        bytes_.clear();
+    }
+
+private:
+    friend class Prepared;
+    friend class Snapshot;
+
+    Predicate &push(const bes_item &item)
+    {
+        items_.push_back(item);
+        return *this;
+    }
+
+    Predicate &push_text(std::uint32_t kind, std::string_view text)
+    {
+        const auto at = detail::append(bytes_, text);
+        return push({kind, at, static_cast<std::uint32_t>(text.size()), 0});
+    }
+
+    std::vector<bes_item> items_;
+    std::string bytes_;
+};
+
+} // namespace bestore
+#endif
