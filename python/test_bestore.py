@@ -417,8 +417,8 @@ class Library(unittest.TestCase):
         self.assertIn(b"Run `make` in c/", said.stderr)
 
     def test_version(self):
-        self.assertEqual(bestore._library._dotted(bestore._library.calls.bes_version()), bestore.__version__)
-        self.assertEqual(bestore._library._dotted(12003045), "12.3.45")
+        self.assertEqual(bestore._library.dotted(bestore._library.calls.bes_version()), bestore.__version__)
+        self.assertEqual(bestore._library.dotted(12003045), "12.3.45")
 
 
 class Threads(unittest.TestCase):
