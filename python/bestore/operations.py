@@ -9,7 +9,7 @@ from typing import Iterable, Iterator, List, Optional, Tuple, Union
 
 from ._library import Counts, Operation as RawOperation
 from .errors import BadBytes, BadCount, DataLength, NameLength, NoKind, decoded, encoded
-from .values import KINDS, RANGES, Kind, Value, decode_value, encode_value, kind_code, node_number
+from .values import KIND_OF, RANGES, Kind, Value, decode_value, encode_value, kind_code, node_number
 
 NEW, REMOVE, SET, UNSET, MAKE_INDEX, REMOVE_INDEX = range(6)
 MOST = 64
@@ -181,11 +181,11 @@ def _read_back(raw: RawOperation, name: str, value: bytes) -> Operation:
         return UnsetAttribute(raw.node, name)
     if raw.kind == REMOVE_INDEX:
         return RemoveIndex(name)
-    if raw.code not in KINDS:
+    if raw.code not in KIND_OF:
         raise NoKind()
     if raw.kind == SET:
-        return SetAttribute(raw.node, name, decode_value(raw.code, raw.number, value), Kind(raw.code))
-    return MakeIndex(name, Kind(raw.code))
+        return SetAttribute(raw.node, name, decode_value(raw.code, raw.number, value), KIND_OF[raw.code])
+    return MakeIndex(name, KIND_OF[raw.code])
 
 
 # A batch as bytes, little-endian: the beginning, with the format's version as its last byte; one byte for the number of operations;
@@ -205,7 +205,7 @@ def _packed(place: int, raw: RawOperation, name: bytes, value: bytes) -> bytes:
             raise NameLength(place, listed="operation")
         parts += [bytes([len(name)]), name]
     if raw.kind in _WITH_CODE:
-        if raw.code not in KINDS:
+        if raw.code not in KIND_OF:
             raise NoKind(place, listed="operation")
         parts.append(struct.pack("<I", raw.code))
     if raw.kind == SET:
@@ -257,7 +257,7 @@ class _Reader:
         node = self._number(8, "a node") if kind in _WITH_NODE else 0
         name = self._counted("a name") if kind in _WITH_NAME else b""
         code = self._number(4, "a type code") if kind in _WITH_CODE else 0
-        if kind in _WITH_CODE and code not in KINDS:
+        if kind in _WITH_CODE and code not in KIND_OF:
             raise BadBytes(self._at - 4, f"the unknown type code {code:#x}")
         number = self._number(8, "a number") if kind == SET and code in RANGES else 0
         value = self._counted("a value") if kind == SET and code not in RANGES else b""

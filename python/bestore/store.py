@@ -10,7 +10,7 @@ import time
 from functools import partial
 from typing import Any, Callable, Iterator, List, NamedTuple, Optional, Tuple, TypeVar
 
-from ._library import Counts, Operation as RawOperation, Usage, calls, check, words
+from ._library import Attribute, Counts, Operation as RawOperation, Usage, calls, check, words
 from .changes import Change
 from .errors import BadLimits, Conflict, ErrorNumber, Nested, NoIndex, Refusal, TooManyAttempts
 from .handles import Owner
@@ -91,7 +91,10 @@ class Pass(Owner):
         self._is_left = False
         self._pinned: Optional[int] = None  # the commit number of the snapshot, while there is one
         self._changing: Optional[int] = None  # the thread that runs the function of a change
-        self._nodes = words(_ROOM)
+        self._nodes = words(_ROOM)  # what the reads of its versions are written into
+        self._attribute, self._value = Attribute(), bytearray(255)
+        self._attribute_pointer = ctypes.byref(self._attribute)
+        self._value_pointer = (ctypes.c_char * 255).from_buffer(self._value)
         self.committed = 0
         """The commit number of the last write that this pass made, or 0 before the first."""
 

@@ -24,7 +24,8 @@ class Kind(enum.IntEnum):
     UINT64 = 0x554C4C47
 
 
-KINDS = frozenset(Kind)
+KIND_OF = {int(kind): kind for kind in Kind}
+"""The kinds by their codes."""
 RANGES = {
     Kind.INT32: range(-(2**31), 2**31),
     Kind.INT64: range(-(2**63), 2**63),
@@ -118,17 +119,18 @@ def _fitting(kind: Optional[int], kinds: Tuple[Kind, ...]) -> Kind:
     for fitting in kinds:
         if fitting == kind:
             return fitting
-    if kind in KINDS:
+    if kind in KIND_OF:
         raise TypeError(f"a value of the kind {Kind(kind).name} can't be made from this type")
     raise NoKind()
 
 
+_TEXTS, _SIGNED = frozenset((Kind.STRING, Kind.MIME)), frozenset((Kind.INT32, Kind.INT64))
+
+
 def decode_value(code: int, number: int, value: bytes) -> Value:
     """The value that these encode."""
-    if code in (Kind.STRING, Kind.MIME):
+    if code in _TEXTS:
         return decoded(value)
-    if code == Kind.RAW:
+    if code not in RANGES:
         return value
-    if code in (Kind.INT32, Kind.INT64) and number >= 2**63:
-        return number - 2**64
-    return number
+    return number - 2**64 if number >= 2**63 and code in _SIGNED else number

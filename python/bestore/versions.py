@@ -15,7 +15,7 @@ from .handles import Owner
 from .language import Hint, comparisons, hint
 from .operations import BYTES_OF_A_BATCH, MOST, Batch, batch_of
 from .queries import Item, Name, Operator, Prepared, encode_items, prepare
-from .values import RANGES, Kind, Typed, Value, decode_value, node_number
+from .values import KIND_OF, RANGES, Kind, Typed, Value, decode_value, node_number
 
 if TYPE_CHECKING:
     from .store import Pass
@@ -72,12 +72,12 @@ class Version:
 
     def _call(self, call: Callable[..., int], *arguments: Any) -> int:
         """Makes a call on the pass while it has this pin, and not a later one."""
-        return self._user._call(self._asked, call, *arguments)
-
-    def _asked(self, handle: Any, call: Callable[..., int], *arguments: Any) -> int:
-        if not self._is_pinned:
-            raise NotPinned()
-        return call(handle, *arguments)
+        user = self._user
+        user._check_process()
+        with user._lock:
+            if not self._is_pinned:
+                raise NotPinned()
+            return call(user._pointer, *arguments)
 
     @property
     def next_node(self) -> int:
@@ -219,10 +219,11 @@ class Version:
             if counts.operations <= operations_room and counts.bytes <= bytes_room:
                 break
             operations_room, bytes_room = max(counts.operations, 1), max(counts.bytes, 1)
+        written = texts.raw
         for raw in operations[:counts.operations]:
-            value = texts.raw[raw.value_at:raw.value_at + raw.value_length]
-            yield (texts.raw[raw.name_at:raw.name_at + raw.name_length].decode(),
-                   Typed(decode_value(raw.code, raw.number, value), Kind(raw.code)))
+            value = written[raw.value_at:raw.value_at + raw.value_length]
+            yield (written[raw.name_at:raw.name_at + raw.name_length].decode(),
+                   Typed(decode_value(raw.code, raw.number, value), KIND_OF[raw.code]))
 
     def _listed(self, node: int) -> Dict[str, Typed]:
         return dict(self._list(calls.bes_attributes, node_number(node)))
@@ -266,11 +267,13 @@ class Version:
 
     def _read(self, node: int, name: str) -> Typed:
         """A node's attribute. `NoAttribute` if it isn't there."""
-        taken, attribute, room = encoded(name), Attribute(), ctypes.create_string_buffer(255)
-        check(self._call(
-            calls.bes_get, node_number(node), taken, len(taken), ctypes.byref(attribute), room, 255))
-        value = decode_value(attribute.code, attribute.number, room.raw[:attribute.length])
-        return Typed(value, Kind(attribute.code))
+        user, number, taken = self._user, node_number(node), encoded(name)
+        user._check_process()
+        with user._lock:
+            check(self._call(calls.bes_get, number, taken, len(taken), user._attribute_pointer, user._value_pointer, len(user._value)))
+            attribute = user._attribute
+            kind = KIND_OF[attribute.code]
+            return Typed(decode_value(kind, attribute.number, bytes(user._value[:attribute.length])), kind)
 
     def typed(self, node: int, name: str) -> Optional[Typed]:
         """A node's attribute with its kind, or None if it isn't there. Takes one search in a tree."""
