@@ -30,7 +30,7 @@ from .errors import (
     TooLong, TooMany, TooManyAttempts, TooManyAttributes, TooManyIndices, WrongKind,
 )
 from .language import Comparison, Hint, any_case, escape
-from .operations import Batch, MakeIndex, NewNode, Operation, RemoveIndex, RemoveNode, SetAttribute, UnsetAttribute
+from .operations import MOST_OPERATIONS, Batch, MakeIndex, NewNode, Operation, RemoveIndex, RemoveNode, SetAttribute, UnsetAttribute
 from .queries import Item, Name, Operator, Prepared, prepare, prepare_items
 from .store import Entry, Held, Pass, Status, open
 from .values import Int32, Int64, Integer, Kind, Typed, UInt32, UInt64, Value
@@ -43,7 +43,7 @@ __all__ = [
     "Attributes", "BadBytes", "BadCount", "BadItems", "BadLimits", "BadPart", "BadPattern", "Batch", "Busy", "Change",
     "ChangedAttributes", "Closed", "CommitsSpent", "Comparison", "Conflict", "DataLength", "Entry", "Error", "ErrorNumber", "Forked",
     "Full", "HasNul", "Held", "Hint", "INT32", "INT64", "IndexExists", "Int32", "Int64", "Integer", "Item", "Kind", "MIME",
-    "MakeIndex", "Name", "NameLength", "Nested", "NewNode", "NoAttribute", "NoIndex", "NoItem", "NoKind", "NoMemory", "NoNode",
+    "MOST_OPERATIONS", "MakeIndex", "Name", "NameLength", "Nested", "NewNode", "NoAttribute", "NoIndex", "NoItem", "NoKind", "NoMemory", "NoNode",
     "NoOperation", "NoPass", "NoValue", "NotCovered", "NotIndexable", "NotPinned", "NotUTF8", "Opened", "Operation", "Operator",
     "Pass", "Pinned", "Prepared", "QueryError", "QueryNotUTF8", "QuerySyntax", "RAW", "Refusal", "RemoveIndex", "RemoveNode",
     "STRING", "SetAttribute", "Status", "TooDeep", "TooLong", "TooMany", "TooManyAttempts", "TooManyAttributes", "TooManyIndices",

@@ -5,7 +5,7 @@ from __future__ import annotations
 from typing import TYPE_CHECKING, Dict, MutableMapping, Optional, Set
 
 from .errors import BadCount, NoAttribute, NoNode, NotPinned, WrongKind
-from .operations import MOST, SET, Batch
+from .operations import MOST_OPERATIONS, SET, Batch
 from .values import RANGES, Kind, Typed, Value, decode_value, encode_value
 from .versions import Attributes, Version
 
@@ -32,13 +32,13 @@ class Change(Version):
     @property
     def room(self) -> int:
         """How many operations may still be collected."""
-        return MOST - len(self._batch)
+        return MOST_OPERATIONS - len(self._batch)
 
     def _collecting(self) -> Batch:
         """The batch, which takes one more operation."""
         if not self._is_pinned:
             raise NotPinned()
-        if len(self._batch) >= MOST:
+        if len(self._batch) >= MOST_OPERATIONS:
             raise BadCount()
         return self._batch
 

@@ -12,9 +12,9 @@ from .errors import BadBytes, BadCount, DataLength, NameLength, NoKind, decoded,
 from .values import KIND_OF, RANGES, Kind, Value, decode_value, encode_value, kind_code, node_number
 
 NEW, REMOVE, SET, UNSET, MAKE_INDEX, REMOVE_INDEX = range(6)
-MOST = 64
+MOST_OPERATIONS = 64
 """How many operations a write has at most."""
-BYTES_OF_A_BATCH = MOST * (63 + 255)
+BYTES_OF_A_BATCH = MOST_OPERATIONS * (63 + 255)
 """How many bytes their names and values have at most."""
 
 
@@ -148,7 +148,7 @@ class Batch:
     def to_bytes(self) -> bytes:
         """The batch as bytes, which `from_bytes` and the libraries for C, C++ and Rust read. `BadCount` if it has not 1 to 64
         operations, `NameLength`, `DataLength` and `NoKind` for what no write takes."""
-        if not 1 <= len(self) <= MOST:
+        if not 1 <= len(self) <= MOST_OPERATIONS:
             raise BadCount()
         packed = [_packed(place, *parts) for place, parts in enumerate(self._parts())]
         return b"".join([BEGINNING, bytes([len(self)]), *packed])
@@ -245,7 +245,7 @@ class _Reader:
 
     def read_count(self) -> int:
         count = self._number(1, "the number of operations")
-        if not 1 <= count <= MOST:
+        if not 1 <= count <= MOST_OPERATIONS:
             raise BadBytes(self._at - 1, f"{count} operations")
         return count
 

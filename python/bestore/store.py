@@ -14,7 +14,7 @@ from ._library import Attribute, Counts, Operation as RawOperation, Usage, calls
 from .changes import Change
 from .errors import BadLimits, Conflict, ErrorNumber, Nested, NoIndex, Refusal, TooManyAttempts
 from .handles import Owner
-from .operations import BYTES_OF_A_BATCH, MOST, Batch, Operation, batch_of
+from .operations import BYTES_OF_A_BATCH, MOST_OPERATIONS, Batch, Operation, batch_of
 from .queries import encode_items
 from .values import Kind, Value
 from .versions import Version
@@ -207,7 +207,7 @@ class Pass(Owner):
         for _ in range(max(attempts, 1)):
             change = Change(self, check_kinds)
             result = self._run(function, change)
-            if change.room == MOST:
+            if change.room == MOST_OPERATIONS:
                 return result
             try:
                 self.apply_if(change.number, change._batch, tries)
@@ -259,7 +259,7 @@ class Pass(Owner):
         made: List[int] = []
         while len(made) < count:
             batch = Batch()
-            for _ in range(min(count - len(made), MOST)):
+            for _ in range(min(count - len(made), MOST_OPERATIONS)):
                 batch.new_node()
             made += self.apply(batch)[1]
         return made
@@ -295,7 +295,7 @@ class Pass(Owner):
                 raise NoIndex()
             held = set(version._find(calls.bes_query_items, *encode_items(version._all_in(name, kind))))
             lacking = [node for node in version if node not in held and version.kind(node, name) == kind]
-        parts = [lacking[first:first + MOST] for first in range(0, len(lacking), MOST)]
+        parts = [lacking[first:first + MOST_OPERATIONS] for first in range(0, len(lacking), MOST_OPERATIONS)]
         return sum(self.change(partial(_set_again, name, kind, part)) for part in parts)
 
     def journal(self, tries: int = TRIES) -> str:
@@ -313,9 +313,9 @@ class Pass(Owner):
         """The entries of the journal after the first `number`, until there are no more. So `store.journal_from(version.number)` has what was
         written after a snapshot. Each entry is read by a call of its own, which is tried up to so many times while another pass
         is writing, and then is `Busy`."""
-        operations, texts = (RawOperation * MOST)(), ctypes.create_string_buffer(BYTES_OF_A_BATCH)
+        operations, texts = (RawOperation * MOST_OPERATIONS)(), ctypes.create_string_buffer(BYTES_OF_A_BATCH)
         by, length, counts = ctypes.c_uint64(), ctypes.c_uint64(), Counts()
-        arguments = (ctypes.byref(by), ctypes.byref(counts), operations, MOST, texts, BYTES_OF_A_BATCH, ctypes.byref(length))
+        arguments = (ctypes.byref(by), ctypes.byref(counts), operations, MOST_OPERATIONS, texts, BYTES_OF_A_BATCH, ctypes.byref(length))
         while number < 2**64:
             check(self._tried(tries, calls.bes_journal_from, number, *arguments), length.value)
             if counts.operations == 0:
@@ -342,7 +342,7 @@ def _set_again(name: str, kind: Kind, nodes: List[int], change: Change) -> int:
         typed = change.typed(node, name)
         if typed is not None and typed.kind == kind:
             change.set(node, name, *typed)
-    return MOST - change.room
+    return MOST_OPERATIONS - change.room
 
 
 def open(pages: int = 4096, passes: int = 8, commits: int = 2**32 - 1) -> Pass:

@@ -13,7 +13,7 @@ from ._library import Attribute, Counts, Operation as RawOperation, Updates, cal
 from .errors import ErrorNumber, NoAttribute, NoIndex, NoNode, NotCovered, NotPinned, encoded, encoded_query
 from .handles import Owner
 from .language import Hint, comparisons, hint
-from .operations import BYTES_OF_A_BATCH, MOST, Batch, batch_of
+from .operations import BYTES_OF_A_BATCH, MOST_OPERATIONS, Batch, batch_of
 from .queries import Item, Name, Operator, Prepared, encode_items, prepare
 from .values import KIND_OF, RANGES, Kind, Typed, Value, decode_value, node_number
 
@@ -212,7 +212,7 @@ class Version:
 
     def _list(self, call: Callable[..., int], *node: int) -> Iterator[Tuple[str, Typed]]:
         """The names that a list of operations has, each with its value and kind."""
-        counts, operations_room, bytes_room = Counts(), MOST, 4096
+        counts, operations_room, bytes_room = Counts(), MOST_OPERATIONS, 4096
         while True:
             operations, texts = (RawOperation * operations_room)(), ctypes.create_string_buffer(bytes_room)
             check(self._call(call, *node, ctypes.byref(counts), operations, operations_room, texts, bytes_room))
@@ -258,9 +258,9 @@ class Version:
         counts = Counts()
         with _Cursor() as cursor:
             while True:
-                operations, texts = (RawOperation * MOST)(), ctypes.create_string_buffer(BYTES_OF_A_BATCH)
+                operations, texts = (RawOperation * MOST_OPERATIONS)(), ctypes.create_string_buffer(BYTES_OF_A_BATCH)
                 check(self._call(
-                    calls.bes_state, cursor._pointer, ctypes.byref(counts), operations, MOST, texts, BYTES_OF_A_BATCH))
+                    calls.bes_state, cursor._pointer, ctypes.byref(counts), operations, MOST_OPERATIONS, texts, BYTES_OF_A_BATCH))
                 if counts.operations == 0:
                     return
                 yield batch_of(counts, operations, texts)
