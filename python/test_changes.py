@@ -3,6 +3,7 @@
 import sys
 import threading
 import unittest
+from unittest import mock
 
 import bestore
 
@@ -322,14 +323,9 @@ class AtFull(unittest.TestCase):
 
     def test_never_for_itself(self):
         with bestore.open(16, 2, 10000) as store, store.another() as other, store.pin():
-            waits = bestore.store.time.sleep
             self.fill(other)
-            try:
-                bestore.store.time.sleep = lambda seconds: self.fail("it waits for itself")
-                with self.assertRaises(bestore.Full):
-                    store.new_node()
-            finally:
-                bestore.store.time.sleep = waits
+            with mock.patch("time.sleep", side_effect=AssertionError("it waits for itself")), self.assertRaises(bestore.Full):
+                store.new_node()
 
     def test_really_full(self):
         with bestore.open(8, 2, 10000) as store, self.assertRaises(bestore.Full) as full:
@@ -340,12 +336,10 @@ class AtFull(unittest.TestCase):
     def test_waits_no_longer_than_that(self):
         with bestore.open(16, 2, 10000) as store, store.another() as reader, reader.pin():
             self.fill(store)
-            pauses, bestore.store.PAUSES = bestore.store.PAUSES, 3
-            try:
-                with self.assertRaises(bestore.Full):
-                    store.new_node()
-            finally:
-                bestore.store.PAUSES = pauses
+            with mock.patch("time.sleep") as sleep, self.assertRaises(bestore.Full):
+                store.new_node()
+            self.assertEqual(sleep.call_count, bestore.store.PAUSES)
+            self.assertLess(sum(call.args[0] for call in sleep.call_args_list), 6)
 
 
 if __name__ == "__main__":

@@ -245,7 +245,7 @@ def short(line: str, width: int) -> str:
 def asked_lines(asked: Asked, width: int) -> List[str]:
     """What is known of a query, in lines that have room."""
     hints = [short(str(hint), width) for hint in asked.hints]
-    return [*hints[:TOLD_LINES - 1], short(f"asks {asked.plan.rpartition(' score ')[0]}", width)]
+    return [*hints[:TOLD_LINES - 1], short(f"asks {asked.plan.rsplit(' score ', 1)[0]}", width)]
 
 
 def fault_lines(fault: bestore.QueryError, width: int) -> List[str]:

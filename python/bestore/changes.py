@@ -6,7 +6,7 @@ from typing import TYPE_CHECKING, Dict, MutableMapping, Optional, Set
 
 from .errors import BadCount, NoAttribute, NoNode, NotPinned, WrongKind
 from .operations import MOST_OPERATIONS, SET, Batch
-from .values import RANGES, Kind, Typed, Value, decode_value, encode_value
+from .values import KIND_OF, RANGES, Kind, Typed, Value, decode_value, encode_value
 from .versions import Attributes, Version
 
 if TYPE_CHECKING:
@@ -71,9 +71,9 @@ class Change(Version):
     def _check_kind(self, name: str, kind: Kind) -> None:
         if not self._check_kinds or kind not in RANGES:
             return
-        index = self._indexed().get(name, kind)
-        if index != kind:
-            raise WrongKind(name, kind.name, Kind(index).name)
+        index = KIND_OF.get(self._indexed().get(name, kind))
+        if index is not None and index != kind:
+            raise WrongKind(name, kind.name, index.name)
 
     def _indexed(self) -> Dict[str, int]:
         """The kinds of the indices, the collected operations done."""

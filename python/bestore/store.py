@@ -15,7 +15,6 @@ from .changes import Change
 from .errors import BadLimits, Conflict, ErrorNumber, Nested, NoIndex, Refusal, TooManyAttempts
 from .handles import Owner
 from .operations import BYTES_OF_A_BATCH, MOST_OPERATIONS, Batch, Operation, batch_of
-from .queries import encode_items
 from .values import Kind, Value
 from .versions import Version
 
@@ -293,7 +292,7 @@ class Pass(Owner):
             kind = version.indices().get(name)
             if kind is None:
                 raise NoIndex()
-            held = set(version._find(calls.bes_query_items, *encode_items(version._all_in(name, kind))))
+            held = set(version.query_items(*version._all_in(name, kind)))
             lacking = [node for node in version if node not in held and version.kind(node, name) == kind]
         parts = [lacking[first:first + MOST_OPERATIONS] for first in range(0, len(lacking), MOST_OPERATIONS)]
         return sum(self.change(partial(_set_again, name, kind, part)) for part in parts)

@@ -43,7 +43,7 @@ class Integer(int):
     kind: ClassVar[Kind]
 
     def __new__(cls: Type[_Self], value: SupportsIndex) -> _Self:
-        number = operator.index(value)
+        number = plain(value)
         if number not in RANGES[cls.kind]:
             raise NoValue()
         return super().__new__(cls, number)
@@ -80,9 +80,14 @@ class Typed(NamedTuple):
     kind: Kind
 
 
+def plain(value: SupportsIndex) -> int:
+    """An integer as a plain int: a range looks for one of another class number by number."""
+    return int(operator.index(value))
+
+
 def node_number(node: int) -> int:
     """A node's number, which 64 bits hold. ctypes would cut another one down to them, and so to the number of some other node."""
-    number = operator.index(node)
+    number = plain(node)
     if number not in RANGES[Kind.UINT64]:
         raise NoNode()
     return number
@@ -90,7 +95,7 @@ def node_number(node: int) -> int:
 
 def kind_code(kind: int) -> int:
     """A kind's code, which 32 bits hold."""
-    code = operator.index(kind)
+    code = plain(kind)
     if code not in RANGES[Kind.UINT32]:
         raise NoKind()
     return code
@@ -106,7 +111,7 @@ def encode_value(value: Value, kind: Optional[int] = None) -> Tuple[Kind, int, b
     if kind is None and isinstance(value, Integer):
         kind = value.kind
     code = _fitting(kind, (Kind.INT64, Kind.INT32, Kind.UINT32, Kind.UINT64))
-    number = operator.index(value)
+    number = plain(value)
     if number not in RANGES[code]:
         raise NoValue()
     return code, number % 2**64, b""

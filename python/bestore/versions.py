@@ -10,7 +10,7 @@ from typing import (
     overload)
 
 from ._library import Attribute, Counts, Operation as RawOperation, Updates, calls, check, words
-from .errors import ErrorNumber, NoAttribute, NoIndex, NoNode, NotCovered, NotPinned, encoded, encoded_query
+from .errors import ErrorNumber, NoAttribute, NoIndex, NoNode, NotCovered, NotPinned, Refusal, encoded, encoded_query, refusal
 from .handles import Owner
 from .language import Hint, comparisons, hint
 from .operations import BYTES_OF_A_BATCH, MOST_OPERATIONS, Batch, batch_of
@@ -21,6 +21,7 @@ if TYPE_CHECKING:
     from .store import Pass
 
 _Self = TypeVar("_Self", bound="Version")
+Query = Union[str, Prepared, Tuple[Item, ...]]  # as it was asked
 
 
 class _Cursor(Owner):
@@ -86,75 +87,78 @@ class Version:
         check(self._call(calls.bes_next, ctypes.byref(node)))
         return node.value
 
-    def _find(self, call: Callable[..., int], *query: Any, text: Optional[str] = None, items: Sequence[Item] = ()) -> List[int]:
+    def _find(self, asked: Query, call: Callable[..., int], *query: Any) -> List[int]:
         """The nodes that a call finds. They are written into memory that the pass keeps, and that grows when it was too small, so that
         hardly any query is asked twice."""
         user, count = self._user, ctypes.c_uint64()
         user._check_process()
         with user._lock:
             answer = self._call(call, *query, user._nodes, len(user._nodes), ctypes.byref(count))
-            if answer == ErrorNumber.OK and count.value > len(user._nodes):
+            if answer == 0 and count.value > len(user._nodes):
                 user._nodes = words(2 ** count.value.bit_length())
                 answer = self._call(call, *query, user._nodes, len(user._nodes), ctypes.byref(count))
-            self._check_query(answer, count.value, text, items)
+            if answer != 0:
+                raise self._query_error(answer, count.value, asked)
             return user._nodes[:count.value]
 
-    def _check_query(self, answer: int, carried: int, text: Optional[str], items: Sequence[Item] = ()) -> None:
-        """Raises the error of a query by its text or its items."""
+    def _query_error(self, answer: int, carried: int, asked: Query) -> Refusal:
+        """The error of a query, with what goes with it."""
         if answer == ErrorNumber.NOT_COVERED:
-            raise self._not_covered(text, items)
-        check(answer, carried, text, None if text is not None else "item")
+            return self._not_covered(asked)
+        if isinstance(asked, str):
+            return refusal(answer, carried, asked)
+        return refusal(answer, carried, listed="item")
 
-    def _not_covered(self, text: Optional[str], items: Sequence[Item]) -> NotCovered:
-        """The error of a query that needs another index, with the first name that has none."""
-        indices, error = self.indices(), NotCovered(query=text)
-        error.indices = tuple(indices)
-        if text is None:
-            missing = [(place, str(item)) for place, item in enumerate(items) if isinstance(item, Name) and item not in indices]
-            if missing:
-                error.item, error.missing = missing[0]
-            return error
-        for comparison in comparisons(text):
-            if comparison.name not in indices:
-                error.offset, error.missing = comparison.offset, comparison.name
-                break
+    def _not_covered(self, asked: Query) -> NotCovered:
+        """The error of a query that needs another index, with the place of the first name that has none."""
+        if isinstance(asked, Prepared):
+            asked = asked.source or asked.text
+        if isinstance(asked, str):
+            error, field = NotCovered(query=asked), "offset"
+            names = [(comparison.offset, comparison.name) for comparison in comparisons(asked)]
+        else:
+            error, field = NotCovered(), "item"
+            names = [(place, str(item)) for place, item in enumerate(asked) if isinstance(item, Name)]
+        error.indices = tuple(self.indices())
+        missing = [(place, name) for place, name in names if name not in error.indices]
+        if missing:
+            setattr(error, field, missing[0][0])
+            error.missing = missing[0][1]
         return error
 
     def query(self, text: str) -> List[int]:
         """The nodes that meet the query, ascending. A `QueryError` if the text is no query, or `NotCovered` if it needs another index.
         Takes the time to parse the text, and to read the part of the indices that it needs."""
         taken = encoded_query(text)
-        return self._find(calls.bes_query, taken, len(taken), text=text)
+        return self._find(text, calls.bes_query, taken, len(taken))
 
     def query_items(self, *items: Item) -> List[int]:
         """The nodes that meet the query which items in reverse Polish order build: names, texts, numbers and operators.
 
             version.query_items(bestore.Name("size"), 5, bestore.Operator.LT)
         """
-        return self._find(calls.bes_query_items, *encode_items(items), items=items)
+        return self._find(items, calls.bes_query_items, *encode_items(items))
 
     def query_prepared(self, prepared: Prepared) -> List[int]:
         """The nodes that meet a prepared query, ascending. What its last refresh returned stays."""
         prepared._check_process()
         with prepared._lock:
-            try:
-                return self._find(calls.bes_query_prepared, prepared._pointer)
-            except NotCovered:
-                raise self._not_covered(prepared.source or prepared.text, ()) from None
+            return self._find(prepared, calls.bes_query_prepared, prepared._pointer)
 
     def count(self, query: Union[str, Prepared]) -> int:
         """How many nodes meet the query, by its text or prepared. Takes what the query takes, but no list."""
         if isinstance(query, Prepared):
             query._check_process()
             with query._lock:
-                return self._count(calls.bes_query_prepared, query._pointer, text=query.source or query.text)
+                return self._count(query, calls.bes_query_prepared, query._pointer)
         taken = encoded_query(query)
-        return self._count(calls.bes_query, taken, len(taken), text=query)
+        return self._count(query, calls.bes_query, taken, len(taken))
 
-    def _count(self, call: Callable[..., int], *query: Any, text: Optional[str] = None, items: Sequence[Item] = ()) -> int:
+    def _count(self, asked: Query, call: Callable[..., int], *query: Any) -> int:
         count = ctypes.c_uint64()
         answer = self._call(call, *query, words(0), 0, ctypes.byref(count))
-        self._check_query(answer, count.value, text, items)
+        if answer != 0:
+            raise self._query_error(answer, count.value, asked)
         return count.value
 
     def _all_in(self, name: str, kind: Kind) -> Tuple[Item, ...]:
@@ -170,7 +174,7 @@ class Version:
         if kind is None:
             raise NoIndex()
         items = self._all_in(name, kind)
-        return self._count(calls.bes_query_items, *encode_items(items), items=items)
+        return self._count(items, calls.bes_query_items, *encode_items(items))
 
     def hints(self, query: Union[str, Prepared]) -> List[Hint]:
         """The comparisons of a query that are never true, because their value is no number of the kind that the index of their name has:
@@ -191,9 +195,8 @@ class Version:
         prepared._check_process()
         with prepared._lock:
             answer = self._call(calls.bes_refresh, prepared._pointer, ctypes.byref(updates))
-            if answer == ErrorNumber.NOT_COVERED:
-                raise self._not_covered(prepared.source or prepared.text, ())
-            check(answer)
+            if answer != 0:
+                raise self._query_error(answer, 0, prepared)
             created, removed = words(updates.created), words(updates.removed)
             check(prepared._call(calls.bes_changes, created, updates.created, removed, updates.removed))
         return created[:updates.created], removed[:updates.removed]
@@ -205,7 +208,8 @@ class Version:
         while True:
             written = ctypes.create_string_buffer(room)
             answer = self._call(calls.bes_explain, taken, len(taken), written, room, ctypes.byref(count))
-            self._check_query(answer, count.value, text)
+            if answer != 0:
+                raise self._query_error(answer, count.value, text)
             if count.value <= room:
                 return written.raw[:count.value].decode()
             room = count.value
