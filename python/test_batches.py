@@ -18,11 +18,11 @@ EACH = [
 def random_operation(chance):
     node, name = chance.randrange(2**64), chance.choice(["a", "MAIL:from", "hé" * 20, "x" * 63])
     value, kind = chance.choice([
-        ("é" * 127, bestore.STRING), ("", bestore.MIME), (bytes(255), bestore.RAW), (-5, bestore.INT32), (-(2**63), bestore.INT64),
-        (5, bestore.UINT32), (2**64 - 1, bestore.UINT64)])
+        ("é" * 127, bestore.STRING), ("", bestore.MIME), (bytes(255), bestore.RAW), (-5, bestore.INT32),
+        (-(2**63), bestore.INT64), (5, bestore.UINT32), (2**64 - 1, bestore.UINT64)])
     return chance.choice([
-        bestore.NewNode(node), bestore.RemoveNode(node), bestore.SetAttribute(node, name, value, kind), bestore.UnsetAttribute(node, name),
-        bestore.MakeIndex(name, kind), bestore.RemoveIndex(name)])
+        bestore.NewNode(node), bestore.RemoveNode(node), bestore.SetAttribute(node, name, value, kind),
+        bestore.UnsetAttribute(node, name), bestore.MakeIndex(name, kind), bestore.RemoveIndex(name)])
 
 
 class Operations(unittest.TestCase):
@@ -37,9 +37,11 @@ class Operations(unittest.TestCase):
         self.assertNotEqual(bestore.NewNode(5), bestore.RemoveNode(5))
 
     def test_surrogates(self):
-        for add in (lambda it: it.set(1, "\udcff", 5), lambda it: it.set(1, "a", "\udcff"), lambda it: it.make_index("\ud800", bestore.INT32)):
+        for operation in (
+            bestore.SetAttribute(1, "\udcff", 5), bestore.SetAttribute(1, "a", "\udcff"), bestore.MakeIndex("\ud800", bestore.INT32),
+        ):
             with self.assertRaises(bestore.NotUTF8):
-                add(bestore.Batch())
+                bestore.Batch().add(operation)
         with bestore.open(64, 1, 100) as store, store.pin() as version, self.assertRaises(bestore.NotUTF8):
             version.get(1, "\udcff")
 
@@ -70,9 +72,11 @@ class Bytes(unittest.TestCase):
     def test_broken(self):
         whole = bestore.Batch([bestore.SetAttribute(1, "ab", 5, bestore.INT32)]).to_bytes()
         for data, offset, reason in [
-            (b"", 0, "another beginning"), (b"BEC" + whole[3:], 0, "another beginning"), (b"BEB\x02" + whole[4:], 3, "another version"),
-            (whole[:4], 4, "is cut off"), (whole[:4] + b"\0", 4, "0 operations"), (whole[:4] + b"\x41" + whole[5:], 4, "65 operations"),
-            (whole[:5] + b"\6" + whole[6:], 5, "the unknown operation 6"), (whole[:17] + b"\0" + whole[18:], 17, "the unknown type code"),
+            (b"", 0, "another beginning"), (b"BEC" + whole[3:], 0, "another beginning"),
+            (b"BEB\x02" + whole[4:], 3, "another version"), (whole[:4], 4, "is cut off"),
+            (whole[:4] + b"\0", 4, "0 operations"), (whole[:4] + b"\x41" + whole[5:], 4, "65 operations"),
+            (whole[:5] + b"\6" + whole[6:], 5, "the unknown operation 6"),
+            (whole[:17] + b"\0" + whole[18:], 17, "the unknown type code"),
             (whole[:9], 6, "a node is cut off"), (whole[:16], 15, "a name is cut off"), (whole[:-1], 21, "a number is cut off"),
             (whole + b"\0", len(whole), "more bytes"),
         ]:

@@ -178,7 +178,8 @@ class Kinds(unittest.TestCase):
                     self.assertEqual((version.kind(1, kind.name), version.get(1, kind.name)), (kind, value))
             store.set(1, "said", bestore.Int32(5), bestore.UINT64)
             with store.pin() as version:
-                self.assertEqual((version.kind(1, "said"), version.kind(1, "none"), version.kind(2, "said")), (bestore.UINT64, None, None))
+                kinds = version.kind(1, "said"), version.kind(1, "none"), version.kind(2, "said")
+                self.assertEqual(kinds, (bestore.UINT64, None, None))
                 self.assertEqual(version.typed(1, "said"), (5, bestore.UINT64))
                 self.assertEqual(version.attributes(1, kinds=True)["INT32"], bestore.Typed(-(2**31), bestore.INT32))
 
@@ -198,8 +199,8 @@ class Kinds(unittest.TestCase):
                 store.change(lambda change: change[1].update({"name": 5}))
             store.change(lambda change: change.set(1, "size", "a text"))
             store.change(lambda change: change.set(1, "size", 5), check_kinds=False)
-            for write in (lambda change: change.set(1, "size", bestore.Int32(7)), lambda change: change.set(1, "size", 8, bestore.INT32)):
-                store.change(write)
+            for value in ((bestore.Int32(7),), (8, bestore.INT32)):
+                store.change(lambda change: change.set(1, "size", *value))
                 with store.pin() as version:
                     self.assertEqual(version.query("size>=7"), [1])
 
@@ -243,8 +244,8 @@ class Reindexing(unittest.TestCase):
 
 
 class Writers(unittest.TestCase):
-    """Four threads make nodes with two attributes, and each time add 1 to a counter that they share. They change over as often as
-    they can."""
+    """Four threads make nodes with two attributes, and each time add 1 to a counter that they share. They change
+    over as often as they can."""
 
     def setUp(self):
         self.addCleanup(sys.setswitchinterval, sys.getswitchinterval())
@@ -282,7 +283,8 @@ class Writers(unittest.TestCase):
         self.assertEqual(self.run_writers(write), (0, 0, WRITERS * ROUNDS))
 
     def test_guess(self):
-        """With a guess of the node's number nodes get mixed, and with a plain `set` of what was read increments get lost."""
+        """With a guess of the node's number nodes get mixed, and with a plain `set` of what was read increments get
+        lost."""
         def write(user, counter, name):
             with user.pin() as version:
                 node, count = version.next_node, version.get(counter, "count")

@@ -57,10 +57,12 @@ class Errors(unittest.TestCase):
             with self.assertRaises(kind):
                 raise errors.refusal(number)
         of_queries = {it.__name__ for it in errors.Refusal._classes.values() if issubclass(it, bestore.QueryError)}
-        self.assertEqual(of_queries, {"QuerySyntax", "BadPattern", "TooLong", "TooDeep", "TooMany", "NotCovered", "BadItems", "NoItem"})
+        self.assertEqual(of_queries, {
+            "QuerySyntax", "BadPattern", "TooLong", "TooDeep", "TooMany", "NotCovered", "BadItems", "NoItem"})
         raised = [it for it in vars(errors).values() if isinstance(it, type) and issubclass(it, Exception)]
         self.assertTrue(all(issubclass(it, bestore.Error) for it in raised))
-        self.assertEqual([it.__name__ for it in raised if not it.__name__.startswith("_") and getattr(bestore, it.__name__) is not it], [])
+        for name in (it.__name__ for it in raised if not it.__name__.startswith("_")):
+            self.assertIs(getattr(bestore, name), getattr(errors, name))
 
     def test_pickled(self):
         fault = pickle.loads(pickle.dumps(errors.refusal(12, 6, "size <")))
@@ -69,7 +71,9 @@ class Errors(unittest.TestCase):
         fault = bestore.NotCovered(query="a==1")
         fault.offset, fault.missing, fault.indices = 0, "a", ("b",)
         self.assertEqual(str(pickle.loads(pickle.dumps(fault))), str(fault))
-        for fault in (bestore.TooManyAttempts(3), bestore.WrongKind("a", "INT64", "INT32"), bestore.BadBytes(3, "more bytes"), bestore.Forked()):
+        for fault in (
+            bestore.TooManyAttempts(3), bestore.WrongKind("a", "INT64", "INT32"), bestore.BadBytes(3, "more bytes"), bestore.Forked(),
+        ):
             self.assertEqual(str(pickle.loads(pickle.dumps(fault))), str(fault))
 
     def test_subclass_of_a_program(self):
@@ -82,7 +86,8 @@ class Carets(unittest.TestCase):
     def test_under_the_character(self):
         for text, offset, shown in [
             ("size <", 6, "  size <\n        ^"), ("näme == [a", 9, "  näme == [a\n          ^"), ("", 0, "  \n  ^"),
-            ("a==1\n||\tb", 6, "  a==1 || b\n        ^"), ("漢字==[a", 8, "  漢字==[a\n        ^"), ("e\u0301==[", 5, "  e\u0301==[\n     ^"),
+            ("a==1\n||\tb", 6, "  a==1 || b\n        ^"), ("漢字==[a", 8, "  漢字==[a\n        ^"),
+            ("e\u0301==[", 5, "  e\u0301==[\n     ^"),
         ]:
             fault = errors.refusal(12, offset, text)
             self.assertEqual((fault.offset, str(fault)), (offset, f"the query leaves the grammar\n{shown}"))

@@ -42,8 +42,9 @@ class Forks(unittest.TestCase):
             def work():
                 for use in (
                     store.new_node, store.another, store.pin, store.status, store.journal, store.meet, lambda: store.number,
-                    lambda: version.query("k==1"), lambda: version.get(1, "k"), lambda: version.query_prepared(query), lambda: query.text,
-                    lambda: version.refresh(query), lambda: version.count(query), lambda: store.change(lambda change: change.new()),
+                    lambda: version.query("k==1"), lambda: version.get(1, "k"), lambda: version.query_prepared(query),
+                    lambda: query.text, lambda: version.refresh(query), lambda: version.count(query),
+                    lambda: store.change(lambda change: change.new()),
                     lambda: list(store.journal_from()), lambda: store.reindex("k"), lambda: list(version.state()),
                 ):
                     with self.assertRaises(bestore.Forked):

@@ -72,7 +72,8 @@ class Texts(unittest.TestCase):
             ("größe", "==", "[ä]", 0), ("(x", "!=", 'a\\"b', 19)])
 
     def test_against_the_parser(self):
-        """The comparisons of a text are those that the library parses: the same names and operators, from left to right."""
+        """The comparisons of a text are those that the library parses: the same names and operators, from left to
+        right."""
         chance = random.Random(2)
         for _ in range(1000):
             text, expected = random_query(chance)
@@ -100,30 +101,33 @@ class Texts(unittest.TestCase):
 
 
 class Covered(unittest.TestCase):
+    def not_covered(self, ask, query):
+        """The place of what isn't covered, its name, and the text."""
+        with self.assertRaises(bestore.NotCovered) as fault:
+            ask(query)
+        return fault.exception.offset, fault.exception.missing, fault.exception.query
+
     def test_place_of_what_is_missing(self):
         with store_of(["a"]) as store, store.pin() as version:
             for text, offset, missing in [
-                ("größe==5", 0, "größe"), ('k==1 || ( "größe" ==5)', 10, "größe"), ("a==1 && b==2", 0, "a"), ("k==a || !(z<5)", 10, "z"),
+                ("größe==5", 0, "größe"), ('k==1 || ( "größe" ==5)', 10, "größe"), ("a==1 && b==2", 0, "a"),
+                ("k==a || !(z<5)", 10, "z"),
             ]:
                 for ask in (version.query, version.explain, version.count):
-                    with self.assertRaises(bestore.NotCovered) as fault:
-                        ask(text)
-                    self.assertEqual((fault.exception.offset, fault.exception.missing, fault.exception.query), (offset, missing, text))
+                    self.assertEqual(self.not_covered(ask, text), (offset, missing, text))
                 with bestore.prepare(text) as prepared:
                     for ask in (version.query_prepared, version.refresh, version.count):
-                        with self.assertRaises(bestore.NotCovered) as fault:
-                            ask(prepared)
-                        self.assertEqual((fault.exception.offset, fault.exception.missing, fault.exception.query), (offset, missing, text))
+                        self.assertEqual(self.not_covered(ask, prepared), (offset, missing, text))
             with self.assertRaises(bestore.QueryError) as fault:
                 version.query("k==a || größe==5")
             self.assertEqual(str(fault.exception), 'no index serves the query: "größe" has no index; indices: "k"\n'
                              "  k==a || größe==5\n          ^")
+            small = bestore.Name("z"), 5, bestore.Operator.LT
             with self.assertRaises(bestore.NotCovered) as fault:
-                version.query_items(bestore.Name("k"), "a", bestore.Operator.EQ, bestore.Name("z"), 5, bestore.Operator.LT, bestore.Operator.OR)
+                version.query_items(bestore.Name("k"), "a", bestore.Operator.EQ, *small, bestore.Operator.OR)
             self.assertEqual((fault.exception.item, fault.exception.missing), (3, "z"))
-            with bestore.prepare_items(bestore.Name("z"), 5, bestore.Operator.LT) as prepared, self.assertRaises(bestore.NotCovered) as fault:
-                version.query_prepared(prepared)
-            self.assertEqual((fault.exception.offset, fault.exception.query), (0, '"z"<"5"'))
+            with bestore.prepare_items(*small) as prepared:
+                self.assertEqual(self.not_covered(version.query_prepared, prepared), (0, "z", '"z"<"5"'))
         with bestore.open(64, 1, 10) as store, store.pin() as version, self.assertRaises(bestore.NotCovered) as fault:
             version.query("a==1")
         self.assertEqual(fault.exception.summary, 'no index serves the query: "a" has no index; there are no indices')
@@ -131,7 +135,8 @@ class Covered(unittest.TestCase):
 
 class Counts(unittest.TestCase):
     def test_count(self):
-        with store_of(list(range(300)), bestore.INT64) as store, store.pin() as version, bestore.prepare("k<5 || k>=100") as prepared:
+        store = store_of(list(range(300)), bestore.INT64)
+        with store, store.pin() as version, bestore.prepare("k<5 || k>=100") as prepared:
             self.assertEqual((version.count("k>=0"), version.count("k<0"), version.count(prepared)), (300, 0, 205))
             for wrong in ("k<", "a==1"):
                 with self.assertRaises(bestore.QueryError):
@@ -139,7 +144,8 @@ class Counts(unittest.TestCase):
 
     def test_pairs(self):
         for kind, values in [
-            (bestore.STRING, ["", "a", "漢"]), (bestore.INT32, [-(2**31), 0, 2**31 - 1]), (bestore.INT64, [-(2**63), 0, 2**63 - 1]),
+            (bestore.STRING, ["", "a", "漢"]),
+            (bestore.INT32, [-(2**31), 0, 2**31 - 1]), (bestore.INT64, [-(2**63), 0, 2**63 - 1]),
             (bestore.UINT32, [0, 1, 2**32 - 1]), (bestore.UINT64, [0, 1, 2**64 - 1]),
         ]:
             with store_of(values, kind) as store:
@@ -170,15 +176,17 @@ class Counts(unittest.TestCase):
 class Hints(unittest.TestCase):
     def test_what_is_never_true(self):
         with bestore.open(64, 1, 100) as store:
-            store.apply(bestore.Batch().make_index("size", bestore.INT64).make_index("small", bestore.INT32).make_index("n", bestore.UINT32)
-                        .make_index("name", bestore.STRING))
+            kinds = {"size": bestore.INT64, "small": bestore.INT32, "n": bestore.UINT32, "name": bestore.STRING}
+            store.apply(bestore.Batch(bestore.MakeIndex(name, kind) for name, kind in kinds.items()))
             with store.pin() as version:
                 for text, hinted in [
-                    ("size>1.5", ["size"]), ("name==x && size<2024-01-01", ["size"]), ("size==5*", ["size"]), ("size!=abc", ["size"]),
-                    ("size>5 || other==x", []), ("size==\\5", []), ('size=="[5]"', ["size"]), ('size==""', ["size"]), ("size>-0", []),
+                    ("size>1.5", ["size"]), ("name==x && size<2024-01-01", ["size"]), ("size==5*", ["size"]),
+                    ("size!=abc", ["size"]), ("size>5 || other==x", []), ("size==\\5", []), ('size=="[5]"', ["size"]),
+                    ('size==""', ["size"]), ("size>-0", []),
                     ("!(size>=1.5) && name==1.5", ["size"]), ("small==2147483648", ["small"]), ("small<2147483648", []),
-                    ("!(small<2147483648)", ["small"]), ("small>2147483647 || small>=2147483647", ["small"]), ("n<0 || n<=0", ["n"]),
-                    ("n>=-1 && n!=-1", []), ("n==-1 || size>18446744073709551616", ["n", "size"]), ("größe<x || size==x", ["size"]),
+                    ("!(small<2147483648)", ["small"]), ("small>2147483647 || small>=2147483647", ["small"]),
+                    ("n<0 || n<=0", ["n"]), ("n>=-1 && n!=-1", []), ("n==-1 || size>18446744073709551616", ["n", "size"]),
+                    ("größe<x || size==x", ["size"]),
                 ]:
                     hints = version.hints(text)
                     self.assertEqual([hint.name for hint in hints], hinted, text)
@@ -202,9 +210,11 @@ class Hints(unittest.TestCase):
             bits = 32 if kind in (bestore.INT32, bestore.UINT32) else 64
             low = 0 if kind in (bestore.UINT32, bestore.UINT64) else -(2**(bits - 1))
             high = low + 2**bits - 1
-            with store_of([low, low + 1, 0, high - 1, high], kind) as store, store.pin() as version:
+            numbers = [low, low + 1, 0, high - 1, high]
+            values = [*numbers, low - 1, high + 1, "x", "1.5", "5*", "", "-", 2**64, -(2**63) - 1]
+            with store_of(numbers, kind) as store, store.pin() as version:
                 for _ in range(200):
-                    value = chance.choice([low - 1, low, low + 1, 0, high - 1, high, high + 1, "x", "1.5", "5*", "", "-", 2**64, -(2**63) - 1])
+                    value = chance.choice(values)
                     query = f'{chance.choice(["", "!"])}(k{chance.choice(OPERATORS)}"{value}")'
                     found = version.query(query)
                     self.assertEqual(found == [], version.hints(query) != [], query)

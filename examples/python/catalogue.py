@@ -1,5 +1,5 @@
-"""A folder of files, or of mails, in a store. A thread of its own reads it in and follows it, and a live query finds which of its
-files are hits. There is no window here: queries.py shows it."""
+"""A folder of files, or of mails, in a store. A thread of its own reads it in and follows it, and a live query finds
+which of its files are hits. There is no window here: queries.py shows it."""
 
 from __future__ import annotations
 
@@ -32,7 +32,7 @@ def cut(text: str) -> str:
 
 
 def type_of(name: str) -> str:
-    """The MIME type that a file's name tells."""
+    """The MIME type of a file's name."""
     found, encoding = mimetypes.guess_type(name)
     return f"application/{encoding}" if encoding else found or "application/octet-stream"
 
@@ -58,7 +58,7 @@ def decoded_words(found: Match[str]) -> str:
 
 
 def mail_attributes(path: str) -> Dict[str, bestore.Value]:
-    """What the head of a mail tells, by the names of BeOS."""
+    """What the head of a mail says, by the names of BeOS."""
     with open(path, "rb") as file:
         head = email.parser.BytesHeaderParser().parse(file)
     is_read = "S" in os.path.basename(path).rpartition(":2,")[2] and os.path.basename(os.path.dirname(path)) == "cur"
@@ -110,8 +110,8 @@ class Waiting(NamedTuple):
 
 
 class Reader(threading.Thread):
-    """Writes a node for each file of a folder, and looks again and again for files that came, went or changed. A file that
-    changed gets a new node in the write that removes the old one, so each version has it once."""
+    """Writes a node for each file of a folder, and looks again and again for files that came, went or changed. A
+    file that changed gets a new node in the write that removes the old one, so each version has it once."""
 
     def __init__(self, user: bestore.Pass, folder: str, pause: float) -> None:
         super().__init__(name="reader", daemon=True)
@@ -180,7 +180,8 @@ class Reader(threading.Thread):
         self._waiting.append(file)
 
     def _write(self) -> None:
-        """Writes the files that wait. If no page is free while the window has an older version, the change waits for it."""
+        """Writes the files that wait. If no page is free while the window has an older version, the change waits for
+        it."""
         if not self._waiting:
             return
         nodes = self._user.change(self._file)
@@ -191,7 +192,8 @@ class Reader(threading.Thread):
         self._waiting = []
 
     def _file(self, change: bestore.Change) -> List[int]:
-        """Removes the nodes that these files had, makes new ones of those that are there, and returns their numbers, or 0."""
+        """Removes the nodes that these files had, makes new ones of those that are there, and returns their numbers,
+        or 0."""
         nodes = []
         for file in self._waiting:
             known = self._known.get(file.path)

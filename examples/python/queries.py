@@ -1,4 +1,5 @@
-"""A window that asks for files by their attributes, as the Tracker of BeOS did, and follows them while they come and go.
+"""A window that asks for files by their attributes, as the Tracker of BeOS did, and follows them while they come and
+go.
 
     PYTHONPATH=python python3 examples/python/queries.py FOLDER [QUERY]
 
@@ -217,7 +218,8 @@ class Window:
         self._rows[hit.node], self._hits[row] = row, hit
 
     def sort(self, column: Column) -> None:
-        """Sorts the rows that are there; at the second time the other way round. Those that come later are added below."""
+        """Sorts the rows that are there; at the second time the other way round. Those that come later are added
+        below."""
         is_turned = self._sorted == (column, False)
         self._sorted = column, is_turned
         rows = sorted(self._hits, key=lambda row: column.order(self._hits[row]), reverse=is_turned)
@@ -227,7 +229,8 @@ class Window:
 
     def _tell_state(self) -> None:
         catalogue, reader = self._catalogue, self._catalogue.reader
-        words = [f"{catalogue.hits:,} of {len(reader):,} files" if catalogue.is_asking else f"no answer, of {len(reader):,} files"]
+        answer = f"{catalogue.hits:,}" if catalogue.is_asking else "no answer,"
+        words = [f"{answer} of {len(reader):,} files"]
         if catalogue.waiting:
             words.append(f"{catalogue.waiting:,} to be shown")
         if reader.fault is None:

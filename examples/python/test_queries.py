@@ -1,4 +1,4 @@
-"""Tests of the query window: what it stands on, without a window, and the window itself where a display can be had."""
+"""Tests of the query window: the catalogue without a window, and the window itself if there is a display."""
 
 from __future__ import annotations
 
@@ -100,7 +100,8 @@ class Files(unittest.TestCase):
         self.assertEqual((self.catalogue.waiting, self.catalogue.hits), (0, 0))
 
     def test_beside_another_writer(self) -> None:
-        """Another pass makes nodes all the while. Each file has its own attributes all the same, and the other nodes have none."""
+        """Another pass makes nodes all the while. Each file has its own attributes all the same, and the other nodes
+        have none."""
         for number in range(200):
             write(self.path(f"{number}.txt"), "x" * number)
         other = self.catalogue.another()
@@ -175,8 +176,10 @@ class Texts(unittest.TestCase):
         """A header may be encoded, or have bytes of UTF-8, or of anything."""
         with tempfile.TemporaryDirectory() as folder:
             path = os.path.join(folder, "1")
-            for raw, text in [(b"=?utf-8?q?M=C3=BCller?=", "Müller"), ("Müller".encode(), "Müller"), (b"M\xfcller", "M\ufffdller"),
-                              (b"=?none?q?x?=", "=?none?q?x?="), ("=?utf-8?q?M=C3=BCller?= und Söhne".encode(), "Müller und Söhne")]:
+            for raw, text in [
+                (b"=?utf-8?q?M=C3=BCller?=", "Müller"), ("Müller".encode(), "Müller"), (b"M\xfcller", "M\ufffdller"),
+                (b"=?none?q?x?=", "=?none?q?x?="), ("=?utf-8?q?M=C3=BCller?= und Söhne".encode(), "Müller und Söhne"),
+            ]:
                 with open(path, "wb") as file:
                     file.write(b"Subject: " + raw + b"\n\n")
                 self.assertEqual(mail_attributes(path)["MAIL:subject"], text)
@@ -214,9 +217,11 @@ class Windows(unittest.TestCase):
             self.assertTrue(is_shown())
             window.ask(" || ".join(["size==1"] * 100) + " ||")
             shown, caret = str(window.told["text"]).splitlines()[1:]
-            self.assertTrue(window.told.winfo_reqwidth() <= root.winfo_width() and shown.startswith("…") and shown[len(caret) - 2] == "|")
+            self.assertLessEqual(window.told.winfo_reqwidth(), root.winfo_width())
+            self.assertEqual((shown[0], shown[len(caret) - 2]), ("…", "|"))
             window.ask("size<1.5")
-            self.assertTrue(str(window.told["text"]).startswith('never true: "size" is INT64, and "1.5" is no whole number\nasks'))
+            hint = 'never true: "size" is INT64, and "1.5" is no whole number'
+            self.assertEqual(str(window.told["text"]), hint + '\nasks "size"<"1.5"')
             self.assertEqual(str(window.told["foreground"]), queries.FAULT)
             window.ask("size==450")
             self.assertTrue(wait_for(lambda: is_shown("450.txt")))

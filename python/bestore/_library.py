@@ -115,8 +115,8 @@ def _arguments() -> dict[str, List[Any]]:
 
 
 def _path() -> str:
-    """The shared object: the one that BESTORE_LIBRARY names, that inside the package, that in c/ of the repository, or one that the
-    system finds."""
+    """The shared object: the one that BESTORE_LIBRARY names, that inside the package, that in c/ of the repository,
+    or one that the system finds."""
     here = os.path.dirname(os.path.abspath(__file__))
     named = os.environ.get("BESTORE_LIBRARY")
     if named:
@@ -161,8 +161,8 @@ calls = _load()
 
 
 def check(answer: int, carried: Optional[int] = None, query: Optional[str] = None, listed: Optional[str] = None) -> None:
-    """Raises the error that a call returned, if it returned one: with the number that goes with it, the text of the query that was
-    asked, and what the call takes a list of."""
+    """Raises the error that a call returned, if it returned one: with the number that goes with it, the text of the
+    query that was asked, and what the call takes a list of."""
     if answer != 0:
         raise refusal(answer, carried, query, listed)
 

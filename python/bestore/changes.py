@@ -16,9 +16,10 @@ if TYPE_CHECKING:
 class Change(Version):
     """What the function of `Pass.change` is given: a snapshot that is read, and up to 64 operations that are collected.
 
-    Operations are only collected; they are written after the function has returned. A node that `new` made has its number at once.
-    `change[node]`, `get`, `kind`, `attributes` and `node in change` read the collected operations first, and then the snapshot.
-    Queries, `count`, `pairs`, `nodes`, `indices` and `state` read the snapshot alone. The 65th operation is a `BadCount`."""
+    Operations are only collected; they are written after the function has returned. A node that `new` made has its
+    number at once. `change[node]`, `get`, `kind`, `attributes` and `node in change` read the collected operations
+    first, and then the snapshot. Queries, `count`, `pairs`, `nodes`, `indices` and `state` read the snapshot alone.
+    The 65th operation is a `BadCount`."""
 
     def __init__(self, user: Pass, check_kinds: bool = True) -> None:
         super().__init__(user)
@@ -60,8 +61,8 @@ class Change(Version):
         self._removed.add(node)
 
     def set(self, node: int, name: str, value: Value, kind: Optional[int] = None) -> None:
-        """Sets an attribute, with the kind that `Batch.set` gives it. `WrongKind` if it is an integer of another kind than the index
-        of that name, unless the change was made with check_kinds=False."""
+        """Sets an attribute, with the kind that `Batch.set` gives it. `WrongKind` if it is an integer of another
+        kind than the index of that name, unless the change was made with check_kinds=False."""
         code, number, taken = encode_value(value, kind)
         batch = self._collecting()
         self._check_kind(name, code)
@@ -87,8 +88,8 @@ class Change(Version):
         self._set.setdefault(node, {})[name] = None
 
     def make_index(self, name: str, kind: int) -> None:
-        """Makes an index of this name, for values of this kind. It takes the attributes that are set from then on; `Pass.reindex`
-        sets the others again."""
+        """Makes an index of this name, for values of this kind. It takes the attributes that are set from then on;
+        `Pass.reindex` sets the others again."""
         batch, indexed = self._collecting(), self._indexed()
         batch.make_index(name, kind)
         indexed.setdefault(name, kind)

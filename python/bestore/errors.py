@@ -110,7 +110,7 @@ class BadBytes(Error, ValueError):
 
 
 class Refusal(Error):
-    """A call of the library returned this error. After it the store is as it was before. What isn't known is None."""
+    """A call of the library returned this error, and wrote nothing. What isn't known of it is None."""
 
     number: int = 0
     """The error's number, one of `ErrorNumber`."""
@@ -183,8 +183,8 @@ def columns_of(text: str) -> int:
 
 
 def pointed(text: str, column: int, width: int = 8192) -> str:
-    """The text, and below it a caret under one of its characters. Of a text that is wider than `width` columns (4 or more) the part
-    round the caret is shown, between `…`."""
+    """The text, and below it a caret under one of its characters. Of a text that is wider than `width` columns (4 or
+    more) the part round the caret is shown, between `…`."""
     text = "".join(character if character.isprintable() else " " for character in text)
     first, last = max(column - width, 0), min(column + width, len(text))
     while (first, last) != (0, len(text)) and columns_of(text[first:last]) > width - 2 or columns_of(text[first:last]) > width:
@@ -205,8 +205,8 @@ class QueryError(Refusal):
         return len(self.query.encode(errors="surrogatepass")[:self.offset].decode(errors="ignore"))
 
     def shown(self, width: int = 8192) -> Optional[str]:
-        """The query with a caret under the character of the error, in two lines, if that is known. Of a query that is wider than
-        so many columns the part round the caret is shown."""
+        """The query with a caret under the character of the error, in two lines, if that is known. Of a query that
+        is wider than so many columns the part round the caret is shown."""
         if self.query is None or self.column is None:
             return None
         return pointed(self.query, self.column, width)
@@ -266,8 +266,8 @@ class NotCovered(QueryError, number=ErrorNumber.NOT_COVERED, meaning="no index s
     def summary(self) -> str:
         if self.missing is None:
             return self.meaning
-        there_are = ", ".join(f'"{name}"' for name in self.indices)
-        return f'{self.meaning}: "{self.missing}" has no index; ' + (f"indices: {there_are}" if there_are else "there are no indices")
+        names = ", ".join(f'"{name}"' for name in self.indices)
+        return f'{self.meaning}: "{self.missing}" has no index; ' + (f"indices: {names}" if names else "there are no indices")
 
 
 class NameLength(_OfList, ValueError, number=ErrorNumber.NAME_LENGTH, meaning="a name has not 1 to 63 bytes"): ...

@@ -17,8 +17,9 @@ _Self = TypeVar("_Self", bound="Owner")
 class Owner:
     """Owns a handle, and gives it up by `close`, at the end of a `with`, or when it goes itself.
 
-    The library takes one call on a handle at a time, so the calls of several threads wait for one another. In a forked child the
-    handle is dead: each call raises `Forked`, and giving it up does nothing. The child may make handles of its own."""
+    The library takes one call on a handle at a time, so the calls of several threads wait for one another. In a
+    forked child the handle is dead: each call raises `Forked`, and giving it up does nothing. The child may make
+    handles of its own."""
 
     _forks: ClassVar[int] = 0
 
@@ -34,7 +35,8 @@ class Owner:
         return self._made_after != Owner._forks
 
     def _check_process(self) -> None:
-        """Raises `Forked` if the handle is dead. It comes before each wait for the lock, whose owner may not be in this process."""
+        """Raises `Forked` if the handle is dead. It comes before each wait for the lock, whose owner may not be in
+        this process."""
         if self._made_after != Owner._forks:
             raise Forked()
 

@@ -19,14 +19,14 @@ _WILDCARD = re.compile(r"(?:[^\\*?\[]|\\.)*[*?\[]", re.DOTALL)
 
 
 def escape(text: str) -> str:
-    r"""The text with a backslash before what has a meaning of its own in a pattern or between quotes, so that it matches itself
-    alone: f'name=="{escape("[draft].txt")}"' is the query name=="\[draft].txt"."""
+    r"""The text with a backslash before what has a meaning of its own in a pattern or between quotes, so that it
+    matches itself alone: f'name=="{escape("[draft].txt")}"' is the query name=="\[draft].txt"."""
     return _SPECIAL.sub(r"\\\g<0>", text)
 
 
 def any_case(text: str) -> str:
-    """A pattern that matches the text in upper and lower case, as BQuery makes it: any_case("dr.") is "[dD][rR].". A letter whose
-    other case is more than one character matches as it is."""
+    """A pattern that matches the text in upper and lower case, as BQuery makes it: any_case("dr.") is "[dD][rR].". A
+    letter whose other case is more than one character matches as it is."""
     return "".join(_either_case(character) for character in text)
 
 
@@ -82,7 +82,8 @@ def comparisons(query: str) -> List[Comparison]:
 
 
 class Hint(NamedTuple):
-    """A comparison that is never true, because its name has an index of integers and its value is none, or is out of their range."""
+    """A comparison that is never true, because its name has an index of integers and its value is no integer, or out
+    of their range."""
 
     name: str
     value: str
@@ -100,8 +101,8 @@ class Hint(NamedTuple):
 
 
 def number_in(comparison: Comparison) -> Optional[int]:
-    """The whole number from -2^63 to 2^64 - 1 that the value of a comparison spells, if it spells one. A pattern with a wildcard spells
-    none."""
+    """The whole number from -2^63 to 2^64 - 1 that the value of a comparison spells, if it spells one. A pattern
+    with a wildcard spells none."""
     if comparison.operator in ("==", "!=") and _WILDCARD.match(comparison.value):
         return None
     text = without_backslashes(comparison.value)
@@ -119,8 +120,8 @@ def _is_never_true(operator: str, number: Optional[int], kind: Kind) -> bool:
 
 
 def hint(asked: Comparison, canonical: Comparison, kind: Optional[Kind]) -> Optional[Hint]:
-    """The hint about a comparison as it was asked and in its canonical form, which no `!` stands round. The index of its name is of
-    this kind, or isn't there."""
+    """The hint about a comparison as it was asked and in its canonical form, which has no `!`. The index of its name
+    is of this kind, or there is none."""
     if kind not in RANGES:
         return None
     number = number_in(canonical)

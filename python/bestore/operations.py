@@ -114,8 +114,8 @@ class Batch:
         return self._add(REMOVE, node)
 
     def set(self, node: int, name: str, value: Value, kind: Optional[int] = None) -> Batch:
-        """Sets an attribute. Without a kind a str is STRING, bytes are RAW, an `Int32` and its like are what they say, and another
-        int is INT64."""
+        """Sets an attribute. Without a kind a str is STRING, bytes are RAW, an `Int32` and its like are what they
+        say, and another int is INT64."""
         code, number, taken = encode_value(value, kind)
         return self._add(SET, node, name, code, number, taken)
 
@@ -146,8 +146,8 @@ class Batch:
         return self.remove_index(operation.name)
 
     def to_bytes(self) -> bytes:
-        """The batch as bytes, which `from_bytes` and the libraries for C, C++ and Rust read. `BadCount` if it has not 1 to 64
-        operations, `NameLength`, `DataLength` and `NoKind` for what no write takes."""
+        """The batch as bytes, which `from_bytes` and the libraries for C, C++ and Rust read. `BadCount` if it has
+        not 1 to 64 operations, `NameLength`, `DataLength` and `NoKind` for what no write takes."""
         if not 1 <= len(self) <= MOST_OPERATIONS:
             raise BadCount()
         packed = [_packed(place, *parts) for place, parts in enumerate(self._parts())]
@@ -188,9 +188,9 @@ def _read_back(raw: RawOperation, name: str, value: bytes) -> Operation:
     return MakeIndex(name, KIND_OF[raw.code])
 
 
-# A batch as bytes, little-endian: the beginning, with the format's version as its last byte; one byte for the number of operations;
-# and of each operation its kind in one byte, then those of the following that it has: the node in 8, the length of the name in one
-# and the name, the type code in 4, and the value, which is a number in 8 bytes, or a length in one and the bytes.
+# A batch as bytes, little-endian: the beginning, whose last byte is the format's version; the number of operations in one
+# byte; and the operations. Each has its kind in one byte, and then what it needs of these: the node in 8 bytes; the length of
+# the name in one, and the name; the type code in 4; and the value, a number in 8 bytes, or a length in one and the bytes.
 BEGINNING = b"BEB\x01"
 _WITH_NODE, _WITH_NAME, _WITH_CODE = (NEW, REMOVE, SET, UNSET), (SET, UNSET, MAKE_INDEX, REMOVE_INDEX), (SET, MAKE_INDEX)
 

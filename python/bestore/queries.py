@@ -53,8 +53,8 @@ def encode_items(items: Sequence[Item]) -> EncodedItems:
 
 
 class Prepared(Owner):
-    """A query that is parsed once and kept, by `prepare` or `prepare_items`. It belongs to no store. `Version.query_prepared` asks it,
-    and `Version.refresh` returns what changed since it was refreshed last."""
+    """A query that is parsed once and kept, by `prepare` or `prepare_items`. It belongs to no store.
+    `Version.query_prepared` asks it, and `Version.refresh` returns what changed since it was refreshed last."""
 
     def __init__(self, source: Optional[str] = None) -> None:
         super().__init__()
@@ -88,8 +88,8 @@ class Prepared(Owner):
 
 
 def prepare(text: str) -> Prepared:
-    """The query of this text, parsed once. `QuerySyntax`, `BadPattern`, `TooLong`, `TooDeep`, `TooMany`, or `QueryNotUTF8` if it is no
-    query. Takes the time to parse the text, and memory until it is closed."""
+    """The query of this text, parsed once. `QuerySyntax`, `BadPattern`, `TooLong`, `TooDeep`, `TooMany`, or
+    `QueryNotUTF8` if it is no query. Takes the time to parse the text, and memory until it is closed."""
     prepared, taken, place = Prepared(text), encoded_query(text), ctypes.c_uint64()
     answer = calls.bes_prepare(taken, len(taken), prepared._pointer, ctypes.byref(place))
     check(answer, place.value, text)
@@ -97,8 +97,8 @@ def prepare(text: str) -> Prepared:
 
 
 def prepare_items(*items: Item) -> Prepared:
-    """The query that items in reverse Polish order build, as `Version.query_items` takes them. `BadItems` or `BadPattern` if they
-    build none. Takes memory until it is closed."""
+    """The query that items in reverse Polish order build, as `Version.query_items` takes them. `BadItems` or
+    `BadPattern` if they build none. Takes memory until it is closed."""
     prepared, place = Prepared(), ctypes.c_uint64()
     answer = calls.bes_prepare_items(*encode_items(items), prepared._pointer, ctypes.byref(place))
     check(answer, place.value, listed="item")

@@ -21,16 +21,19 @@ from .versions import Version
 _Result = TypeVar("_Result")
 
 TRIES = 10_000
-"""How often a call is tried at most while another pass is writing, if nothing else is said: for some seconds at least."""
+"""How often a call is tried at most while another pass is writing, if nothing else is said: for some seconds at
+least."""
 PAUSES = 100
-"""How often a write waits at most for another pass to give its snapshot up, when no page is free: some five seconds in all."""
+"""How often a write waits at most for another pass to give its snapshot up, when no page is free: some five seconds
+in all."""
 ATTEMPTS = 1_000
 """How often the function of a change is run at most, if nothing else is said."""
 _ROOM = 4096  # how many nodes a query may find before it is asked again with more room
 
 
 class Held(NamedTuple):
-    """The oldest active reader: a commit number, and the first pass that is pinned to it or to a later one, or is about to be."""
+    """The oldest active reader: a commit number, and the first pass that is pinned to it or to a later one, or is
+    about to be."""
 
     version: int
     pass_number: int
@@ -64,8 +67,8 @@ class Entry(NamedTuple):
 
 
 class _StandingBack:
-    """Lets other threads run, twice as often each time, up to 1,024 times: two passes that hand the store to and fro at each
-    write would each wait for what the other has just written."""
+    """Lets other threads run, twice as often each time, up to 1,024 times: two passes that hand the store to and fro
+    at each write would each wait for what the other has just written."""
 
     def __init__(self) -> None:
         self._turns = 1
@@ -105,8 +108,8 @@ class Pass(Owner):
                 self._unpin_left()
 
     def _leave(self) -> None:
-        """Takes over the pin of a version that goes. Python may collect that one anywhere, also while this thread is at another
-        pass, so a thread that is at this one isn't waited for: it gives the pin up after its call."""
+        """Takes over the pin of a version that goes. Python may collect that one anywhere, also while this thread is
+        at another pass, so a thread that is at this one isn't waited for: it gives the pin up after its call."""
         if not self._is_dead:
             self._is_left = True
             self._unpin_left()
@@ -129,8 +132,9 @@ class Pass(Owner):
         return answer
 
     def _written(self, tries: int, call: Callable[..., int], batch: Batch, *before: int) -> Tuple[int, List[int]]:
-        """Makes a call that writes a batch: up to so many times while another pass is writing. With more than one try it also waits, when
-        no page is free, for other passes to give older snapshots up. Returns the commit number, and the nodes that were made."""
+        """Makes a call that writes a batch: up to so many times while another pass is writing. With more than one
+        try it also waits, when no page is free, for other passes to give older snapshots up. Returns the commit
+        number, and the nodes that were made."""
         if self._changing == threading.get_ident():
             raise Nested()
         count, made, number, pauses = len(batch), words(len(batch)), ctypes.c_uint64(), 0
@@ -145,8 +149,8 @@ class Pass(Owner):
         return number.value, made[:count]
 
     def _may_be_given_pages(self, least: int) -> bool:
-        """Whether pages may come free that a write didn't find, as those of the commit number `least` and later were kept: another pass
-        is the oldest active reader, or was it."""
+        """Whether pages may come free that a write didn't find, as those of the commit number `least` and later were
+        kept: another pass is the oldest active reader, or was it."""
         try:
             status = self.status()
         except Refusal:
@@ -164,28 +168,29 @@ class Pass(Owner):
         return number.value
 
     def another(self) -> Pass:
-        """A pass of the same store for another thread. Those that nobody has used wait with the pass that `open` returned: its thread
-        makes a pass for each thread before that starts. One that was closed is given by each pass of the store. `NoPass` if there
-        is none."""
+        """A pass of the same store for another thread. Those that nobody has used wait with the pass that `open`
+        returned: its thread makes a pass for each thread before that starts. One that was closed is given by each
+        pass of the store. `NoPass` if there is none."""
         other = Pass()
         check(self._call(calls.bes_another, other._pointer))
         return other
 
     def close(self) -> None:
-        """Closes the pass, if it is open, and gives it back: `another` may give it out again. The store goes with its last pass."""
+        """Closes the pass, if it is open, and gives it back: `another` may give it out again. The store goes with
+        its last pass."""
         self._give_up(calls.bes_close)
 
     def meet(self) -> int:
-        """Meets a pass that was closed: both have then seen what either had. Returns how many entries of the journal that is. `NoPass`
-        if none is there, or another thread is at it."""
+        """Meets a pass that was closed: both have then seen what either had. Returns how many entries of the journal
+        that is. `NoPass` if none is there, or another thread is at it."""
         seen = ctypes.c_uint64()
         check(self._call(calls.bes_meet, ctypes.byref(seen)))
         return seen.value
 
     def change(self, function: Callable[[Change], _Result], attempts: int = ATTEMPTS, *, check_kinds: bool = True,
                tries: int = TRIES) -> _Result:
-        """Writes on what was read: runs the function on a new snapshot, and commits the operations that it collected, only if nothing
-        else was written since. Otherwise it runs the function again, on a newer snapshot.
+        """Writes on what was read. Runs the function on a new snapshot, and commits the operations that it collected,
+        but only if nothing else was written since. Otherwise it runs the function again, on a newer snapshot.
 
             def file(change):
                 node = change.new()
@@ -194,13 +199,13 @@ class Pass(Owner):
 
             node = store.change(file)
 
-        Returns what the function returned at last; `committed` is then the commit number. With no operation nothing is written, and what
-        was read is of one snapshot. The function may run up to `attempts` times, so it does nothing else that can't be done twice. If
-        it raises, nothing is written.
+        Returns what the function returned the last time; `committed` is then the commit number. If it collected no
+        operation, nothing is written. The function may run up to `attempts` times, so it should do nothing else that
+        can't be done twice. If it raises, nothing is written. The snapshot is given up before the commit.
 
-        Raises `TooManyAttempts` if other writes came between each time; `Pinned` if this pass is pinned; `Nested` if the function writes
-        by this pass; and the errors of `apply`. The snapshot is given up before the commit. `check_kinds` and `Change.set` belong
-        together; `tries` is as in `apply`."""
+        Raises `TooManyAttempts` if other writes came between each time; `Pinned` if this pass is pinned; `Nested` if
+        the function writes by this pass; and the errors of `apply`. `Change.set` says what `check_kinds` does;
+        `tries` is as in `apply`."""
         back = _StandingBack()
         conflict: Optional[Conflict] = None
         for _ in range(max(attempts, 1)):
@@ -226,21 +231,21 @@ class Pass(Owner):
                 self._changing = None
 
     def apply(self, batch: Batch, tries: int = TRIES) -> Tuple[int, List[int]]:
-        """Applies a batch, all or none, whatever was written since it was thought of. Returns the commit number, and for each operation
-        the new node's number or 0. A write that rests on what was read is made by `change`.
+        """Applies a batch, all or none, whatever other passes have written meanwhile. Returns the commit number, and
+        for each operation the new node's number or 0. A write that rests on what was read is made by `change`.
 
-        While another pass is writing it tries again, `tries` times in all. With more than one try it also waits up to some five
-        seconds at `Full` while another pass has the oldest snapshot. Takes memory for the operations, and new pages on the way to each
-        change of a tree.
+        While another pass is writing it tries again, `tries` times in all. With more than one try it also waits up to
+        some five seconds at `Full` while another pass has the oldest snapshot. Takes memory for the operations, and new
+        pages on the way to each change of a tree.
 
-        Raises `Busy`, `BadCount`, `NoMemory`; `NameLength`, `DataLength`, `HasNul`, `NotUTF8`, `NoKind` and `NoValue` with the first
-        operation that can't be read; `NoNode`, `NoAttribute`, `TooManyAttributes`, `IndexExists`, `NoIndex`, `TooManyIndices` and
-        `NotIndexable`; `CommitsSpent`, `Full`."""
+        Raises `Busy`, `BadCount`, `NoMemory`; `NameLength`, `DataLength`, `HasNul`, `NotUTF8`, `NoKind` and
+        `NoValue` with the first operation that can't be read; `NoNode`, `NoAttribute`, `TooManyAttributes`,
+        `IndexExists`, `NoIndex`, `TooManyIndices` and `NotIndexable`; `CommitsSpent`, `Full`."""
         return self._written(tries, calls.bes_apply, batch)
 
     def apply_if(self, number: int, batch: Batch, tries: int = TRIES) -> Tuple[int, List[int]]:
-        """Applies a batch as `apply` does, if the journal has exactly so many entries: no write came after the snapshot of this
-        number. Otherwise raises `Conflict`, and nothing is written."""
+        """Applies a batch as `apply` does, if the journal has exactly so many entries: no write came after the
+        snapshot of this number. Otherwise raises `Conflict`, and nothing is written."""
         try:
             return self._written(tries, calls.bes_apply_if, batch, number)
         except Conflict as conflict:
@@ -276,8 +281,8 @@ class Pass(Owner):
         self.apply(Batch().unset(node, name))
 
     def make_index(self, name: str, kind: int) -> None:
-        """Makes an index of this name, for values of this kind. It takes the attributes that are set from then on; `reindex` sets the
-        others again."""
+        """Makes an index of this name, for values of this kind. It takes the attributes that are set from then on;
+        `reindex` sets the others again."""
         self.apply(Batch().make_index(name, kind))
 
     def remove_index(self, name: str) -> None:
@@ -285,9 +290,10 @@ class Pass(Owner):
         self.apply(Batch().remove_index(name))
 
     def reindex(self, name: str) -> int:
-        """Sets again, to the values that they have, the attributes that the index of this name lacks, because they were set before it was
-        made. Each 64 of them are a change, so no newer value is lost. Returns how many were set again. `NoIndex` if there is no such
-        index; other errors are those of `change`. Takes a read of each node, and a write of each attribute."""
+        """Sets again, to the values that they have, the attributes that the index of this name lacks, because they
+        were set before it was made. Each change sets up to 64 of them, so no newer value is lost. Returns how many were
+        set again. `NoIndex` if there is no such index; other errors are those of `change`. Takes a read of each
+        node, and a write of each attribute."""
         with self.pin() as version:
             kind = version.indices().get(name)
             if kind is None:
@@ -298,8 +304,9 @@ class Pass(Owner):
         return sum(self.change(partial(_set_again, name, kind, part)) for part in parts)
 
     def journal(self, tries: int = TRIES) -> str:
-        """The journal up to now, with up to so many tries while another pass is writing: a line for each write, with the pass
-        that wrote it, its operations and their outcomes. Takes memory for all of it, and other writes are `Busy` meanwhile."""
+        """The journal up to now, with up to so many tries while another pass is writing: a line for each write, with
+        the pass that wrote it, its operations and their outcomes. Takes memory for all of it, and other writes are
+        `Busy` meanwhile."""
         count, room = ctypes.c_uint64(), 65536
         while True:
             written = ctypes.create_string_buffer(room)
@@ -309,12 +316,13 @@ class Pass(Owner):
             room = 2 * count.value
 
     def journal_from(self, number: int = 0, tries: int = TRIES) -> Iterator[Entry]:
-        """The entries of the journal after the first `number`, until there are no more. So `store.journal_from(version.number)` has what was
-        written after a snapshot. Each entry is read by a call of its own, which is tried up to so many times while another pass
-        is writing, and then is `Busy`."""
+        """The entries of the journal after the first `number`, until there are no more. So
+        `store.journal_from(version.number)` has what was written after a snapshot. Each entry is read by a call of
+        its own, which is tried up to so many times while another pass is writing, and then is `Busy`."""
         operations, texts = (RawOperation * MOST_OPERATIONS)(), ctypes.create_string_buffer(BYTES_OF_A_BATCH)
         by, length, counts = ctypes.c_uint64(), ctypes.c_uint64(), Counts()
-        arguments = (ctypes.byref(by), ctypes.byref(counts), operations, MOST_OPERATIONS, texts, BYTES_OF_A_BATCH, ctypes.byref(length))
+        room = operations, MOST_OPERATIONS, texts, BYTES_OF_A_BATCH
+        arguments = (ctypes.byref(by), ctypes.byref(counts), *room, ctypes.byref(length))
         while number < 2**64:
             check(self._tried(tries, calls.bes_journal_from, number, *arguments), length.value)
             if counts.operations == 0:
@@ -323,15 +331,16 @@ class Pass(Owner):
             yield Entry(number, by.value, tuple(batch_of(counts, operations, texts)))
 
     def status(self, tries: int = TRIES) -> Status:
-        """How full the store is, and who is the oldest active reader, with up to so many tries while another pass is writing."""
+        """How full the store is, and who is the oldest active reader, with up to so many tries while another pass is
+        writing."""
         usage, number = Usage(), ctypes.c_uint64()
         check(self._tried(tries, calls.bes_status, ctypes.byref(usage), ctypes.byref(number)), number.value)
         oldest = Held(usage.oldest, usage.holder) if usage.is_held else None
         return Status(usage.pages, usage.free, usage.retired, usage.entries, usage.commits, oldest)
 
     def pin(self) -> Version:
-        """Pins the current version: `with store.pin() as version:` reads it, and gives the pin up at the end. `Pinned` if the pass is
-        pinned. Takes constant time."""
+        """Pins the current version: `with store.pin() as version:` reads it, and gives the pin up at the end.
+        `Pinned` if the pass is pinned. Takes constant time."""
         return Version(self)
 
 
@@ -345,8 +354,9 @@ def _set_again(name: str, kind: Kind, nodes: List[int], change: Change) -> int:
 
 
 def open(pages: int = 4096, passes: int = 8, commits: int = 2**32 - 1) -> Pass:
-    """A new store in memory, as its first pass: with so many pages of 4 KiB (8 to 16,384), which are taken at once, so many passes (1 to
-    64), and room for so many writes (1 to 2^32 - 1) in its life. `BadLimits` if one of these is out of its range, or `NoMemory`."""
+    """A new store in memory, as its first pass: with so many pages of 4 KiB (8 to 16,384), which are taken at once,
+    so many passes (1 to 64), and room for so many writes (1 to 2^32 - 1) in its life. `BadLimits` if one of these is
+    out of its range, or `NoMemory`."""
     if not all(0 <= operator.index(limit) < 2**64 for limit in (pages, passes, commits)):
         raise BadLimits()
     user = Pass()

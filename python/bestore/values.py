@@ -86,7 +86,8 @@ def plain(value: SupportsIndex) -> int:
 
 
 def node_number(node: int) -> int:
-    """A node's number, which 64 bits hold. ctypes would cut another one down to them, and so to the number of some other node."""
+    """A node's number, which 64 bits hold. ctypes would cut another one down to them, and so to the number of some
+    other node."""
     number = plain(node)
     if number not in RANGES[Kind.UINT64]:
         raise NoNode()
@@ -102,8 +103,8 @@ def kind_code(kind: int) -> int:
 
 
 def encode_value(value: Value, kind: Optional[int] = None) -> Tuple[Kind, int, bytes]:
-    """A value's kind, its number and its bytes. Without a kind a str is STRING, bytes are RAW, and an int is of the kind that it says,
-    or else INT64."""
+    """A value's kind, its number and its bytes. Without a kind a str is STRING, bytes are RAW, and an int is of the
+    kind of its class, or INT64 if it is a plain one."""
     if isinstance(value, str):
         return _fitting(kind, (Kind.STRING, Kind.MIME)), 0, encoded(value)
     if isinstance(value, (bytes, bytearray)):

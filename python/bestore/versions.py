@@ -35,9 +35,9 @@ class _Cursor(Owner):
 class Version:
     """A snapshot: what the store was when the pass was pinned, whatever is written meanwhile.
 
-    It is read until the pin is given up: at the end of a `with`, by `unpin`, or when it goes itself. After that each read is
-    `NotPinned`. `version[node]` has a node's attributes, `node in version` tells whether the node is there, and `for node in version`
-    goes over all nodes. While it is pinned the store keeps its pages, so give it up soon."""
+    It is read until the pin is given up: at the end of a `with`, by `unpin`, or when it goes itself. After that each
+    read is `NotPinned`. `version[node]` has a node's attributes, `node in version` is whether the node is there, and
+    `for node in version` goes over all nodes. While it is pinned the store keeps its pages, so give it up soon."""
 
     def __init__(self, user: Pass) -> None:
         self._user, self._is_pinned = user, False
@@ -88,8 +88,8 @@ class Version:
         return node.value
 
     def _find(self, asked: Query, call: Callable[..., int], *query: Any) -> List[int]:
-        """The nodes that a call finds. They are written into memory that the pass keeps, and that grows when it was too small, so that
-        hardly any query is asked twice."""
+        """The nodes that a call finds. They are written into memory that the pass keeps, and that grows when it was
+        too small, so that hardly any query is asked twice."""
         user, count = self._user, ctypes.c_uint64()
         user._check_process()
         with user._lock:
@@ -127,8 +127,8 @@ class Version:
         return error
 
     def query(self, text: str) -> List[int]:
-        """The nodes that meet the query, ascending. A `QueryError` if the text is no query, or `NotCovered` if it needs another index.
-        Takes the time to parse the text, and to read the part of the indices that it needs."""
+        """The nodes that meet the query, ascending. A `QueryError` if the text is no query, or `NotCovered` if it
+        needs another index. Takes the time to parse the text, and to read the part of the indices that it needs."""
         taken = encoded_query(text)
         return self._find(text, calls.bes_query, taken, len(taken))
 
@@ -168,8 +168,8 @@ class Version:
         return Name(name), "*", Operator.EQ
 
     def pairs(self, name: str) -> int:
-        """How many pairs of a value and a node the index of this name has. `NoIndex` if there is none. Takes the time to read the whole
-        index."""
+        """How many pairs of a value and a node the index of this name has. `NoIndex` if there is none. Takes the
+        time to read the whole index."""
         kind = self.indices().get(name)
         if kind is None:
             raise NoIndex()
@@ -177,8 +177,8 @@ class Version:
         return self._count(items, calls.bes_query_items, *encode_items(items))
 
     def hints(self, query: Union[str, Prepared]) -> List[Hint]:
-        """The comparisons of a query that are never true, because their value is no number of the kind that the index of their name has:
-        size>1.5, or last_modified>2024-01-01. A `QueryError` if the text is no query."""
+        """The comparisons of a query that are never true, because their value is no number of the kind that the
+        index of their name has: size>1.5, or last_modified>2024-01-01. A `QueryError` if the text is no query."""
         if not isinstance(query, Prepared):
             with prepare(query) as prepared:
                 return self.hints(prepared)
@@ -188,9 +188,9 @@ class Version:
         return [it for it in found if it is not None]
 
     def refresh(self, prepared: Prepared) -> Tuple[List[int], List[int]]:
-        """Which nodes came and which went since the prepared query was refreshed last: two lists, ascending. At first all of
-        its nodes come. Refresh a query in versions of one store, or of another that its state was carried on to: nodes are compared by
-        their numbers. After an error the query is as it was."""
+        """Which nodes came and which went since the prepared query was refreshed last: two lists, ascending. At
+        first all of its nodes come. Refresh a query in versions of one store, or of another that its state was
+        carried on to: nodes are compared by their numbers. After an error the query is as it was."""
         updates = Updates()
         prepared._check_process()
         with prepared._lock:
@@ -202,8 +202,8 @@ class Version:
         return created[:updates.created], removed[:updates.removed]
 
     def explain(self, text: str) -> str:
-        """What the query would be answered from: the comparisons whose indices are read, and a cost. No node is read. The errors are
-        those of `query`."""
+        """What the query would be answered from: the comparisons whose indices are read, and a cost. No node is
+        read. The errors are those of `query`."""
         taken, count, room = encoded_query(text), ctypes.c_uint64(), 256
         while True:
             written = ctypes.create_string_buffer(room)
@@ -242,8 +242,8 @@ class Version:
     def attributes(self, node: int, kinds: Literal[True]) -> Dict[str, Typed]: ...
 
     def attributes(self, node: int, kinds: bool = False) -> Union[Dict[str, Value], Dict[str, Typed]]:
-        """A node's attributes: a dict of names and values, or with `kinds` of names and `Typed` values with their kinds, by ascending
-        names. `NoNode` if it isn't there."""
+        """A node's attributes: a dict of names and values, or with `kinds` of names and `Typed` values with their
+        kinds, by ascending names. `NoNode` if it isn't there."""
         listed = self._listed(node)
         if kinds:
             return listed
@@ -254,7 +254,8 @@ class Version:
         return {name: typed.kind for name, typed in self._list(calls.bes_indices)}
 
     def state(self) -> Iterator[Batch]:
-        """The operations that make the version again on an empty store, as batches of 1 to 64, each for one `Pass.apply`:
+        """The operations that make the version again on an empty store, as batches of 1 to 64, each for one
+        `Pass.apply`:
 
             for batch in version.state():
                 other.apply(batch)
@@ -274,7 +275,8 @@ class Version:
         user, number, taken = self._user, node_number(node), encoded(name)
         user._check_process()
         with user._lock:
-            check(self._call(calls.bes_get, number, taken, len(taken), user._attribute_pointer, user._value_pointer, len(user._value)))
+            room = user._attribute_pointer, user._value_pointer, len(user._value)
+            check(self._call(calls.bes_get, number, taken, len(taken), *room))
             attribute = user._attribute
             kind = KIND_OF[attribute.code]
             return Typed(decode_value(kind, attribute.number, bytes(user._value[:attribute.length])), kind)
