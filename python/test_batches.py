@@ -35,10 +35,13 @@ class Operations(unittest.TestCase):
             bestore.MakeIndex("a", bestore.INT32)])
         self.assertEqual(list(bestore.Batch([bestore.SetAttribute(1, "a", 5)])), [bestore.SetAttribute(1, "a", 5, bestore.INT64)])
         self.assertNotEqual(bestore.NewNode(5), bestore.RemoveNode(5))
+        for operation in EACH:
+            self.assertEqual(eval(repr(operation), vars(bestore), {"bestore": bestore}), operation)
 
     def test_surrogates(self):
         for operation in (
-            bestore.SetAttribute(1, "\udcff", 5), bestore.SetAttribute(1, "a", "\udcff"), bestore.MakeIndex("\ud800", bestore.INT32),
+            bestore.SetAttribute(1, "\udcff", 5), bestore.SetAttribute(1, "a", "\udcff"),
+            bestore.MakeIndex("\ud800", bestore.INT32),
         ):
             with self.assertRaises(bestore.NotUTF8):
                 bestore.Batch().add(operation)

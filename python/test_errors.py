@@ -72,7 +72,8 @@ class Errors(unittest.TestCase):
         fault.offset, fault.missing, fault.indices = 0, "a", ("b",)
         self.assertEqual(str(pickle.loads(pickle.dumps(fault))), str(fault))
         for fault in (
-            bestore.TooManyAttempts(3), bestore.WrongKind("a", "INT64", "INT32"), bestore.BadBytes(3, "more bytes"), bestore.Forked(),
+            bestore.TooManyAttempts(3), bestore.WrongKind("a", "INT64", "INT32"), bestore.BadBytes(3, "more bytes"),
+            bestore.Forked(),
         ):
             self.assertEqual(str(pickle.loads(pickle.dumps(fault))), str(fault))
 

@@ -23,6 +23,9 @@ class Kind(enum.IntEnum):
     UINT32 = 0x554C4E47
     UINT64 = 0x554C4C47
 
+    def __repr__(self) -> str:
+        return f"bestore.{self.name}"
+
 
 KIND_OF = {int(kind): kind for kind in Kind}
 """The kinds by their codes."""
