@@ -143,6 +143,7 @@ class Entries(unittest.TestCase):
             self.assertEqual((list(store.journal_from()), list(other.journal_from(1))), ([first, second], [second]))
             for after in (2, 3, 2**64 - 1, 2**64):
                 self.assertEqual(list(store.journal_from(after)), [])
+            self.assertEqual(list(store.journal_from(1 - 2**64)), [first, second])
 
     def test_makes_the_store_again(self):
         chance = random.Random(3)

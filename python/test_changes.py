@@ -153,6 +153,10 @@ class Conditions(unittest.TestCase):
             self.assertEqual((conflict.exception.expected, conflict.exception.found, conflict.exception.number), (1, 2, 76))
             self.assertEqual(str(conflict.exception), "the journal has another length: 2 entries, and not 1")
             self.assertEqual((store.apply_if(2, batch), store.status().entries), ((3, [3]), 3))
+            for number in (-1, 2**64 + 3, 3 - 2**64):
+                with self.assertRaises(bestore.Conflict) as conflict:
+                    store.apply_if(number, batch)
+                self.assertEqual((conflict.exception.expected, conflict.exception.found), (number, 3))
 
     def test_new_nodes(self):
         with bestore.open(1024, 1, 100) as store:

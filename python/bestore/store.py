@@ -15,7 +15,7 @@ from .changes import Change
 from .errors import BadLimits, Conflict, ErrorNumber, Nested, NoIndex, Refusal, TooManyAttempts
 from .handles import Owner
 from .operations import BYTES_OF_A_BATCH, MOST_OPERATIONS, Batch, Operation, batch_of
-from .values import Kind, Value
+from .values import RANGES, Kind, Value
 from .versions import Version
 
 _Result = TypeVar("_Result")
@@ -246,8 +246,9 @@ class Pass(Owner):
     def apply_if(self, number: int, batch: Batch, tries: int = TRIES) -> Tuple[int, List[int]]:
         """Applies a batch as `apply` does, if the journal has exactly so many entries: no write came after the
         snapshot of this number. Otherwise raises `Conflict`, and nothing is written."""
+        expected = number if number in RANGES[Kind.UINT64] else 2**64 - 1  # which no journal has; ctypes would cut it down
         try:
-            return self._written(tries, calls.bes_apply_if, batch, number)
+            return self._written(tries, calls.bes_apply_if, batch, expected)
         except Conflict as conflict:
             conflict.expected = number
             raise
@@ -257,7 +258,7 @@ class Pass(Owner):
         return self.apply(Batch().new_node())[1][0]
 
     def new_nodes(self, count: int) -> List[int]:
-        """Makes so many nodes, and returns their numbers. Each 64 of them are a write of their own."""
+        """Makes so many nodes, and returns their numbers. Each write makes up to 64 of them."""
         if count < 0:
             raise ValueError(f"{count} nodes are asked for")
         made: List[int] = []
@@ -323,6 +324,7 @@ class Pass(Owner):
         by, length, counts = ctypes.c_uint64(), ctypes.c_uint64(), Counts()
         room = operations, MOST_OPERATIONS, texts, BYTES_OF_A_BATCH
         arguments = (ctypes.byref(by), ctypes.byref(counts), *room, ctypes.byref(length))
+        number = max(operator.index(number), 0)
         while number < 2**64:
             check(self._tried(tries, calls.bes_journal_from, number, *arguments), length.value)
             if counts.operations == 0:
