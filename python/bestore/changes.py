@@ -6,7 +6,7 @@ from typing import TYPE_CHECKING, Dict, MutableMapping, Optional, Set
 
 from .errors import BadCount, NoAttribute, NoNode, NotPinned, WrongKind
 from .operations import MOST_OPERATIONS, SET, Batch
-from .values import KIND_OF, RANGES, Kind, Typed, Value, decode_value, encode_value
+from .values import KIND_OF, RANGES, Encoded, Kind, Typed, Value, encode_value, typed_value
 from .versions import Attributes, Version
 
 if TYPE_CHECKING:
@@ -28,7 +28,7 @@ class Change(Version):
         self._kinds: Optional[Dict[str, int]] = None
         self._made: Set[int] = set()
         self._removed: Set[int] = set()
-        self._set: Dict[int, Dict[str, Optional[Typed]]] = {}  # what was set, and None for what was removed
+        self._set: Dict[int, Dict[str, Optional[Encoded]]] = {}  # what was set, and None for what was removed
 
     @property
     def room(self) -> int:
@@ -67,7 +67,7 @@ class Change(Version):
         batch = self._collecting()
         self._check_kind(name, code)
         batch._add(SET, node, name, code, number, taken)
-        self._set.setdefault(node, {})[name] = Typed(decode_value(code, number, taken), code)
+        self._set.setdefault(node, {})[name] = code, number, taken
 
     def _check_kind(self, name: str, kind: Kind) -> None:
         if not self._check_kinds or kind not in RANGES:
@@ -103,10 +103,10 @@ class Change(Version):
     def _read(self, node: int, name: str) -> Typed:
         written = self._set.get(node, {})
         if name in written:
-            typed = written[name]
-            if typed is None:
+            encoded = written[name]
+            if encoded is None:
                 raise NoAttribute()
-            return typed
+            return typed_value(*encoded)
         if node in self._made or node in self._removed:
             raise NoAttribute()
         return super()._read(node, name)
@@ -114,11 +114,12 @@ class Change(Version):
     def _listed(self, node: int) -> Dict[str, Typed]:
         if node in self._removed:
             raise NoNode()
-        listed: Dict[str, Optional[Typed]] = {}
-        if node not in self._made:
-            listed.update(super()._listed(node))
-        listed.update(self._set.get(node, {}))
-        return {name: typed for name, typed in sorted(listed.items()) if typed is not None}
+        listed = {} if node in self._made else super()._listed(node)
+        for name, encoded in self._set.get(node, {}).items():
+            listed.pop(name, None)
+            if encoded is not None:
+                listed[name] = typed_value(*encoded)
+        return dict(sorted(listed.items()))
 
     def __contains__(self, node: int) -> bool:
         return node in self._made or node not in self._removed and super().__contains__(node)

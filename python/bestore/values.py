@@ -83,6 +83,10 @@ class Typed(NamedTuple):
     kind: Kind
 
 
+Encoded = Tuple[Kind, int, bytes]
+"""A value's kind, its number and its bytes."""
+
+
 def plain(value: SupportsIndex) -> int:
     """An integer as a plain int: a range looks for one of another class number by number."""
     return int(operator.index(value))
@@ -105,8 +109,8 @@ def kind_code(kind: int) -> int:
     return code
 
 
-def encode_value(value: Value, kind: Optional[int] = None) -> Tuple[Kind, int, bytes]:
-    """A value's kind, its number and its bytes. Without a kind a str is STRING, bytes are RAW, and an int is of the
+def encode_value(value: Value, kind: Optional[int] = None) -> Encoded:
+    """A value as the library takes it. Without a kind a str is STRING, bytes are RAW, and an int is of the
     kind of its class, or INT64 if it is a plain one."""
     if isinstance(value, str):
         return _fitting(kind, (Kind.STRING, Kind.MIME)), 0, encoded(value)
@@ -143,3 +147,8 @@ def decode_value(code: int, number: int, value: bytes) -> Value:
     if code not in RANGES:
         return value
     return number - 2**64 if number >= 2**63 and code in _SIGNED else number
+
+
+def typed_value(code: int, number: int, value: bytes) -> Typed:
+    """The value that these encode, with its kind."""
+    return Typed(decode_value(code, number, value), KIND_OF[code])

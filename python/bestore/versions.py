@@ -15,7 +15,7 @@ from .handles import Owner
 from .language import Hint, comparisons, hint
 from .operations import BYTES_OF_A_BATCH, MOST_OPERATIONS, Batch, batch_of
 from .queries import Item, Name, Operator, Prepared, encode_items, prepare
-from .values import KIND_OF, RANGES, Kind, Typed, Value, decode_value, node_number
+from .values import RANGES, Kind, Typed, Value, node_number, typed_value
 
 if TYPE_CHECKING:
     from .store import Pass
@@ -226,8 +226,7 @@ class Version:
         written = texts.raw
         for raw in operations[:counts.operations]:
             value = written[raw.value_at:raw.value_at + raw.value_length]
-            yield (written[raw.name_at:raw.name_at + raw.name_length].decode(),
-                   Typed(decode_value(raw.code, raw.number, value), KIND_OF[raw.code]))
+            yield written[raw.name_at:raw.name_at + raw.name_length].decode(), typed_value(raw.code, raw.number, value)
 
     def _listed(self, node: int) -> Dict[str, Typed]:
         return dict(self._list(calls.bes_attributes, node_number(node)))
@@ -278,8 +277,7 @@ class Version:
             room = user._attribute_pointer, user._value_pointer, len(user._value)
             check(self._call(calls.bes_get, number, taken, len(taken), *room))
             attribute = user._attribute
-            kind = KIND_OF[attribute.code]
-            return Typed(decode_value(kind, attribute.number, bytes(user._value[:attribute.length])), kind)
+            return typed_value(attribute.code, attribute.number, bytes(user._value[:attribute.length]))
 
     def typed(self, node: int, name: str) -> Optional[Typed]:
         """A node's attribute with its kind, or None if it isn't there. Takes one search in a tree."""
