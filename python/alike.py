@@ -36,7 +36,7 @@ def value_of(chance, kind):
 
 
 def written(value):
-    """How a reply has a value, but for its kind."""
+    """A value as a reply has it after its kind."""
     if isinstance(value, str):
         return f'"{value}"'
     if isinstance(value, bytes):
@@ -45,7 +45,7 @@ def written(value):
 
 
 def add(chance, batch, nodes):
-    """Adds an operation to the batch, and answers its line in a script."""
+    """Adds an operation to the batch, and returns its line in a script."""
     node, name, kind = chance.randrange(1, nodes + 3), chance.choice(NAMES), chance.choice(list(KINDS))
     what = chance.randrange(12)
     if what < 3:
@@ -101,9 +101,9 @@ def one_list(chance, store, nodes):
         node = chance.randrange(1, nodes + 2)
         lines.append(f"attrs {node}")
         try:
-            attributes = version.attributes(node)
+            attributes = version.attributes(node, kinds=True)
             replies.append(f"attrs {len(attributes)}")
-            replies += [f'"{name}" ? {written(value)}' for name, value in attributes.items()]
+            replies += [f'"{name}" {KINDS[kind]} {written(value)}' for name, (value, kind) in attributes.items()]
         except bestore.Refusal as error:
             replies.append(refused(error))
     return lines, replies, nodes
@@ -121,13 +121,8 @@ def script(chance, count):
 
 
 def agrees(reply, said):
-    """Of a refusal the number is compared alone, and of an attribute all but the kind, which the journal has."""
-    if reply.startswith("refused "):
-        return (said + " ").startswith(reply + " ")
-    name, has_value, value = reply.partition(" ? ")
-    if has_value:
-        return any(said == f"{name} {kind} {value}" for kind in KINDS.values())
-    return reply == said
+    """Of an error the number is compared alone."""
+    return (said + " ").startswith(reply + " ") if reply.startswith("refused ") else reply == said
 
 
 def told(program, *words):

@@ -18,8 +18,9 @@ class Change(Version):
 
     Operations are only collected; they are written after the function has returned. A node that `new` made has its
     number at once. `change[node]`, `get`, `kind`, `attributes` and `node in change` read the collected operations
-    first, and then the snapshot. Queries, `count`, `pairs`, `nodes`, `indices` and `state` read the snapshot alone.
-    The 65th operation is a `BadCount`."""
+    first, and then the snapshot. Queries, lists of nodes, `count`, `pairs`, `indices` and `state` read the snapshot
+    alone. A live query is refreshed outside of a change, since the function may run again. The 65th operation is a
+    `BadCount`."""
 
     def __init__(self, user: Pass, check_kinds: bool = True) -> None:
         super().__init__(user)

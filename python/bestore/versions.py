@@ -48,6 +48,9 @@ class Version:
         """The commit number of the last write that it has: how many writes it contains."""
         user._pinned = self.number
 
+    def __repr__(self) -> str:
+        return f"<{type(self).__name__.lower()} at commit {self.number}>"
+
     def __enter__(self: _Self) -> _Self:
         return self
 
