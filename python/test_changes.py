@@ -27,6 +27,7 @@ class Changes(unittest.TestCase):
                 change[first]["MAIL:from"] = "Ada"
                 change[second].update({"MAIL:from": "Bob", "size": 5})
                 self.assertEqual((change.number, change.room, first in change, second + 1 in change), (1, 59, True, False))
+                self.assertEqual(repr(change), "<change at commit 1>")
                 return first, second
             self.assertEqual((store.change(file), store.committed), ((1, 2), 2))
             with store.pin() as version:
