@@ -1,10 +1,10 @@
-"""Lists of operations made by chance, over the library and over `bestore run`, have to be answered alike.
+"""Random batches have the same outcomes over the library and over `bestore run`.
 
     python3 alike.py PROGRAM [LISTS [SEED]]
 
-PROGRAM is crates/bestore/out/bestore. Each list is a batch of 1 to 6 operations; behind it stand a query and what the store
-then has. The journals have to be the same too, and `bestore check` has to find the library's right. What is wrong is printed
-with its script's file, and the status is 1.
+PROGRAM is crates/bestore/out/bestore. Each list is a batch of 1 to 6 operations, and then a query and what the store
+has. The journals have to be the same too, and `bestore check` has to accept that of the library. What differs is
+printed with its script's file, and the status is 1.
 """
 
 import os
@@ -22,7 +22,7 @@ LISTS_A_SCRIPT = 500
 
 
 def value_of(chance, kind):
-    """A value of this kind, and how a script spells it."""
+    """A value of this kind, and how a script writes it."""
     if kind in (bestore.STRING, bestore.MIME):
         text = chance.choice(["", "ann", "Ann B", "x" * 255, "é"])
         return text, f'"{text}"'
@@ -35,8 +35,8 @@ def value_of(chance, kind):
     return number, str(number)
 
 
-def spelled(value):
-    """How a reply has a value, but for its kind."""
+def written(value):
+    """A value as a reply has it after its kind."""
     if isinstance(value, str):
         return f'"{value}"'
     if isinstance(value, bytes):
@@ -45,7 +45,7 @@ def spelled(value):
 
 
 def add(chance, batch, nodes):
-    """Adds an operation to the batch, and answers its line in a script."""
+    """Adds an operation to the batch, and returns its line in a script."""
     node, name, kind = chance.randrange(1, nodes + 3), chance.choice(NAMES), chance.choice(list(KINDS))
     what = chance.randrange(12)
     if what < 3:
@@ -69,7 +69,7 @@ def add(chance, batch, nodes):
 
 
 def refused(error):
-    """How a script is answered, as far as the library tells it too."""
+    """The reply to a script, as far as the library returns the same."""
     return f"refused {error.number}"
 
 
@@ -101,9 +101,9 @@ def one_list(chance, store, nodes):
         node = chance.randrange(1, nodes + 2)
         lines.append(f"attrs {node}")
         try:
-            attributes = version.attributes(node)
+            attributes = version.attributes(node, kinds=True)
             replies.append(f"attrs {len(attributes)}")
-            replies += [f'"{name}" ? {spelled(value)}' for name, value in attributes.items()]
+            replies += [f'"{name}" {KINDS[kind]} {written(value)}' for name, (value, kind) in attributes.items()]
         except bestore.Refusal as error:
             replies.append(refused(error))
     return lines, replies, nodes
@@ -121,13 +121,8 @@ def script(chance, count):
 
 
 def agrees(reply, said):
-    """Of a refusal the number is compared alone, and of an attribute all but the kind, which the journal has."""
-    if reply.startswith("refused "):
-        return (said + " ").startswith(reply + " ")
-    name, has_value, value = reply.partition(" ? ")
-    if has_value:
-        return any(said == f"{name} {kind} {value}" for kind in KINDS.values())
-    return reply == said
+    """Of an error the number is compared alone."""
+    return (said + " ").startswith(reply + " ") if reply.startswith("refused ") else reply == said
 
 
 def told(program, *words):

@@ -140,7 +140,7 @@ class Versions(unittest.TestCase):
                 self.assertEqual(second.attributes(1), {})
 
     def test_gone(self):
-        """A version that nothing names any more leaves no pin behind, and one that was refused takes none away."""
+        """A version that nothing names any more leaves no pin, and one that was refused takes none away."""
         with bestore.open(64, 1, 100) as store:
             self.assertEqual(store.pin().nodes(), [])
             gc.collect()
@@ -310,11 +310,12 @@ def operations_of(version):
 
 class States(unittest.TestCase):
     def test_carried_on(self):
-        """Next number, nodes, attributes of each kind, indices, and what stands outside of its index."""
+        """Next number, nodes, attributes of each kind, indices, and attributes that their index lacks."""
         with bestore.open(64, 1, 100) as store, bestore.open(64, 1, 100) as other:
-            store.apply(bestore.Batch().new_node().new_node().new_node().set(1, "k", "before").set(1, "r", b"\0\xff").remove_node(2))
+            store.apply(bestore.Batch().new_node().new_node().new_node().remove_node(2))
+            store.apply(bestore.Batch().set(1, "k", "before").set(1, "r", b"\0\xff"))
             store.apply(bestore.Batch().make_index("k", bestore.STRING).make_index("n", bestore.INT32))
-            store.apply(bestore.Batch().set(3, "k", "behind").set(3, "n", -5, bestore.INT32).set(3, "m", "a/b", bestore.MIME))
+            store.apply(bestore.Batch().set(3, "k", "after").set(3, "n", -5, bestore.INT32).set(3, "m", "a/b", bestore.MIME))
             with store.pin() as version, carried_on(version, other).pin() as again:
                 self.assertEqual(operations_of(again), operations_of(version))
                 self.assertEqual((list(again), again.indices()), ([1, 3], {"k": bestore.STRING, "n": bestore.INT32}))
@@ -341,7 +342,7 @@ class States(unittest.TestCase):
                 next(second)
 
     def test_while_others_write(self):
-        """A pin of the old store goes on reading; a query asked there and then in the new store tells no change."""
+        """A pin of the old store goes on reading; a query asked there and then in the new store finds no change."""
         with bestore.open(4096, 3, 100000) as store, store.another() as first, store.another() as second:
             store.apply(bestore.Batch().make_index("n", bestore.INT64).new_node().new_node().set(1, "n", 1).set(2, "n", 2))
 
@@ -417,8 +418,8 @@ class Library(unittest.TestCase):
         self.assertIn(b"Run `make` in c/", said.stderr)
 
     def test_version(self):
-        self.assertEqual(bestore._library._dotted(bestore._library.calls.bes_version()), bestore.__version__)
-        self.assertEqual(bestore._library._dotted(12003045), "12.3.45")
+        self.assertEqual(bestore._library.dotted(bestore._library.calls.bes_version()), bestore.__version__)
+        self.assertEqual(bestore._library.dotted(12003045), "12.3.45")
 
 
 class Threads(unittest.TestCase):
@@ -435,7 +436,8 @@ class Threads(unittest.TestCase):
                 self.assertEqual(version.number, 200)
 
     def test_one_pass(self):
-        """Calls on one pass, and on one prepared query, wait for one another. A version that was given up isn't read by a later pin."""
+        """Calls on one pass, and on one prepared query, wait for one another. A version that was given up isn't read
+        by a later pin."""
         with bestore.open(4096, 1) as store, bestore.prepare("k >= 0") as query:
             store.apply(bestore.Batch().make_index("k", bestore.INT64).new_node().set(1, "k", 0))
             faults = []
@@ -460,7 +462,8 @@ class Threads(unittest.TestCase):
                 self.assertEqual((faults, version.number), ([], 401))
 
     def test_gone_beside_a_call(self):
-        """A version that goes while another thread is at its pass doesn't wait for that thread, which gives the pin up."""
+        """A version that goes while another thread is at its pass doesn't wait for that thread, which gives the pin
+        up."""
         with bestore.open(64, 1, 10) as store:
             version = store.pin()
             begun, gone, waits = threading.Event(), threading.Event(), []

@@ -1,5 +1,5 @@
-"""A folder of files, or of mails, in a store. A thread of its own reads it in and follows it, and a live query tells which of
-its files are hits. There is no window here: queries.py shows it."""
+"""A folder of files, or of mails, in a store. A thread of its own reads it in and follows it, and a live query finds
+which of its files are hits. There is no window here: queries.py shows it."""
 
 from __future__ import annotations
 
@@ -10,8 +10,9 @@ import email.parser
 import email.utils
 import mimetypes
 import os
+import re
 import threading
-from typing import Dict, Iterator, List, NamedTuple, Optional
+from typing import Dict, Iterator, List, Match, NamedTuple, Optional
 
 import bestore
 
@@ -21,7 +22,8 @@ INDICES = {
     "MAIL:when": bestore.INT64, "MAIL:status": bestore.STRING,
 }
 MAIL_TYPE = "text/x-email"
-OPERATIONS = 64  # of one write, at most
+WORD = r"=\?[^?\s]+\?[bq]\?[^?]*\?="
+ENCODED = re.compile(rf"{WORD}(?:\s+{WORD})*", re.IGNORECASE)  # words of a header that aren't ASCII
 
 
 def cut(text: str) -> str:
@@ -30,7 +32,7 @@ def cut(text: str) -> str:
 
 
 def type_of(name: str) -> str:
-    """The MIME type that a file's name tells."""
+    """The MIME type of a file's name."""
     found, encoding = mimetypes.guess_type(name)
     return f"application/{encoding}" if encoding else found or "application/octet-stream"
 
@@ -42,15 +44,21 @@ def is_mailbox(folder: str) -> bool:
 
 
 def header_of(head: email.message.Message, name: str) -> str:
-    """A header in plain text."""
+    """A header in plain text. Bytes that aren't ASCII are taken for UTF-8."""
+    raw = next((str(value) for key, value in head.raw_items() if key.lower() == name.lower()), "")
+    return ENCODED.sub(decoded_words, raw.encode(errors="surrogateescape").decode(errors="replace"))
+
+
+def decoded_words(found: Match[str]) -> str:
+    """Encoded words of a header in plain text, or as they are if they can't be read."""
     try:
-        return str(email.header.make_header(email.header.decode_header(str(head.get(name, "")))))
+        return str(email.header.make_header(email.header.decode_header(found[0])))
     except (LookupError, ValueError, email.errors.MessageError):
-        return str(head.get(name, ""))
+        return found[0]
 
 
 def mail_attributes(path: str) -> Dict[str, bestore.Value]:
-    """What the head of a mail tells, by the names of BeOS."""
+    """What the head of a mail says, by the names of BeOS."""
     with open(path, "rb") as file:
         head = email.parser.BytesHeaderParser().parse(file)
     is_read = "S" in os.path.basename(path).rpartition(":2,")[2] and os.path.basename(os.path.dirname(path)) == "cur"
@@ -88,15 +96,28 @@ class Known(NamedTuple):
     changed: int  # nanoseconds
 
 
+class Waiting(NamedTuple):
+    """A file that is to be written, or one that went."""
+
+    path: str
+    values: Dict[str, bestore.Value]
+    about: Optional[os.stat_result]  # None if it went
+
+    @property
+    def operations(self) -> int:
+        """How many operations it takes at most."""
+        return len(self.values) + 2
+
+
 class Reader(threading.Thread):
-    """Writes a node for each file of a folder, and looks again and again for files that came, went or changed. A file that
-    changed gets a new node in the write that removes the old one, so each version has it once."""
+    """Writes a node for each file of a folder, and looks again and again for files that came, went or changed. A
+    file that changed gets a new node in the write that removes the old one, so each version has it once."""
 
     def __init__(self, user: bestore.Pass, folder: str, pause: float) -> None:
         super().__init__(name="reader", daemon=True)
         self._user, self._folder, self._pause = user, folder, pause
         self._known: Dict[str, Known] = {}
-        self._batch, self._nodes = bestore.Batch(), 0
+        self._waiting: List[Waiting] = []
         self._ended = threading.Event()
         self.rounds = 0
         """How often the folder was read to its end."""
@@ -112,7 +133,7 @@ class Reader(threading.Thread):
                 self._read_folder()
                 self.rounds += 1
                 self._ended.wait(self._pause)
-        except (bestore.Refusal, OSError) as fault:
+        except (bestore.Error, OSError) as fault:
             self.fault = fault
 
     def end(self) -> None:
@@ -123,6 +144,7 @@ class Reader(threading.Thread):
         self._user.close()
 
     def _read_folder(self) -> None:
+        os.stat(self._folder)  # an error if it went
         gone = set(self._known)
         for entry in files_below(self._folder):
             if self._ended.is_set():
@@ -133,23 +155,13 @@ class Reader(threading.Thread):
             except OSError:
                 gone.add(entry.path)  # it went meanwhile, or may not be read
         for path in gone & self._known.keys():
-            self._need(1)
-            self._batch.remove_node(self._known.pop(path).node)
+            self._wait(Waiting(path, {}, None))
         self._write()
 
     def _read_file(self, entry: os.DirEntry[str]) -> None:
         about, known = entry.stat(follow_symlinks=False), self._known.get(entry.path)
-        if known is not None and (known.size, known.changed) == (about.st_size, about.st_mtime_ns):
-            return
-        values = self._attributes(entry, about)
-        self._need(len(values) + 2)
-        if known is not None:
-            self._batch.remove_node(known.node)
-        self._nodes += 1  # nodes are numbered from 1, and nobody else makes any
-        self._batch.new_node()
-        for name, value in values.items():
-            self._batch.set(self._nodes, name, value)
-        self._known[entry.path] = Known(self._nodes, about.st_size, about.st_mtime_ns)
+        if known is None or (known.size, known.changed) != (about.st_size, about.st_mtime_ns):
+            self._wait(Waiting(entry.path, self._attributes(entry, about), about))
 
     def _attributes(self, entry: os.DirEntry[str], about: os.stat_result) -> Dict[str, bestore.Value]:
         folder = os.path.dirname(entry.path)
@@ -161,24 +173,36 @@ class Reader(threading.Thread):
             values.update(mail_attributes(entry.path))
         return values
 
-    def _need(self, operations: int) -> None:
-        """Makes room for so many operations in the batch."""
-        if len(self._batch) + operations > OPERATIONS:
+    def _wait(self, file: Waiting) -> None:
+        """Keeps the file until as many wait as one change takes."""
+        if sum(it.operations for it in [*self._waiting, file]) > bestore.MOST_OPERATIONS:
             self._write()
+        self._waiting.append(file)
 
     def _write(self) -> None:
-        """Writes the batch. No page may be free while a pin of the window holds those of an older version."""
-        if len(self._batch) == 0:
+        """Writes the files that wait. If no page is free while the window has an older version, the change waits for
+        it."""
+        if not self._waiting:
             return
-        for _ in range(100):
-            try:
-                self._user.apply(self._batch)
-                break
-            except bestore.Full:
-                self._ended.wait(0.02)
-        else:
-            self._user.apply(self._batch)
-        self._batch = bestore.Batch()
+        nodes = self._user.change(self._file)
+        for file, node in zip(self._waiting, nodes):
+            self._known.pop(file.path, None)
+            if file.about is not None:
+                self._known[file.path] = Known(node, file.about.st_size, file.about.st_mtime_ns)
+        self._waiting = []
+
+    def _file(self, change: bestore.Change) -> List[int]:
+        """Removes the nodes that these files had, makes new ones of those that are there, and returns their numbers,
+        or 0."""
+        nodes = []
+        for file in self._waiting:
+            known = self._known.get(file.path)
+            if known is not None:
+                change.remove(known.node)
+            node = 0 if file.about is None else change.new()
+            change[node].update(file.values)  # nothing of one that went
+            nodes.append(node)
+        return nodes
 
 
 class Hit(NamedTuple):
@@ -195,11 +219,20 @@ class Step(NamedTuple):
     went: List[int]
 
 
+class Asked(NamedTuple):
+    """What is known of a query before it is answered."""
+
+    plan: str
+    """What it is answered from."""
+    hints: List[bestore.Hint]
+    """Its comparisons that are never true."""
+
+
 class Catalogue:
     """A folder in a store, and the query that is asked of it. Its calls are made by one thread."""
 
     def __init__(self, folder: str, pages: int = 16384, pause: float = 1.0) -> None:
-        self._store = bestore.open(pages, 2)
+        self._store = bestore.open(pages, 3)
         batch = bestore.Batch()
         for name, kind in INDICES.items():
             batch.make_index(name, kind)
@@ -211,6 +244,10 @@ class Catalogue:
         """The version that was asked last."""
         self.hits = 0
         """How many files meet the query in that version."""
+
+    def another(self) -> bestore.Pass:
+        """A pass of the store for another thread."""
+        return self._store.another()
 
     def start(self) -> None:
         """Begins to read the folder."""
@@ -228,17 +265,26 @@ class Catalogue:
     def __exit__(self, *_: object) -> None:
         self.close()
 
-    def ask(self, text: str) -> str:
-        """Follows this query from now on, with no hits at first, and answers what it is answered from. A refusal leaves the
-        query that was followed."""
+    def forget(self) -> None:
+        """Follows no query: there are no hits."""
+        self._query, self._waiting, self.version, self.hits = None, {}, -1, 0
+
+    @property
+    def is_asking(self) -> bool:
+        """Whether a query is followed."""
+        return self._query is not None
+
+    def ask(self, text: str) -> Asked:
+        """Follows this query from now on, with no hits at first. After an error no query is followed."""
+        self.forget()
         query = bestore.prepare(text)
         with self._store.pin() as version:
-            plan = version.explain(text)
-        self._query, self._waiting, self.version, self.hits = query, {}, -1, 0
-        return plan
+            asked = Asked(version.explain(text), version.hints(query))
+        self._query = query
+        return asked
 
     def step(self, most: int) -> Step:
-        """Looks what came and went since the last step, and reads so many hits at most; the others wait for the next."""
+        """Looks what came and went since the last step, and reads up to so many hits; the others wait for the next."""
         if self._query is None:
             return Step([], [])
         with self._store.pin() as version:
@@ -250,7 +296,7 @@ class Catalogue:
         return Step(came, went)
 
     def _refresh(self, version: bestore.Version, query: bestore.Prepared) -> List[int]:
-        """Brings the list of those that wait to this version, and answers which hits went that were told before."""
+        """Brings the list of those that wait to this version, and returns which hits went that a step had before."""
         if version.number == self.version:
             return []
         created, removed = version.refresh(query)

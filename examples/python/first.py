@@ -2,10 +2,15 @@
 
 import bestore
 
+
+def file(change):
+    letter = change.new()
+    change[letter]["MAIL:from"] = "ann"
+
+
 with bestore.open() as store:
     store.make_index("MAIL:from", bestore.STRING)
-    letter = store.new_node()
-    store.set(letter, "MAIL:from", "ann")
+    store.change(file)
     with store.pin() as version:
         for node in version.query("MAIL:from==ann"):
             print(node, version[node]["MAIL:from"])

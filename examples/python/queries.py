@@ -1,4 +1,5 @@
-"""A window that asks for files by their attributes, as the Tracker of BeOS did, and follows them while they come and go.
+"""A window that asks for files by their attributes, as the Tracker of BeOS did, and follows them while they come and
+go.
 
     PYTHONPATH=python python3 examples/python/queries.py FOLDER [QUERY]
 
@@ -11,18 +12,20 @@ import os
 import sys
 import time
 import tkinter as tk
+import tkinter.font
 from tkinter import ttk
 from typing import Callable, Dict, List, Literal, NamedTuple, Optional, Tuple
 
 import bestore
 
-from catalogue import MAIL_TYPE, Catalogue, Hit
+from catalogue import MAIL_TYPE, Asked, Catalogue, Hit
 
 SLICE = 100         # hits that are shown at a time, so that the window answers meanwhile
 GONE_SLICE = 500    # rows that are taken away at a time
 BUSY_PAUSE = 10     # milliseconds to the next slice
 IDLE_PAUSE = 200    # milliseconds to the next look
 TYPING_PAUSE = 150  # milliseconds without a key before a query is asked
+TOLD_LINES = 3      # below the query: what it is answered from, or its fault with the part round it
 
 DESKTOP, TAB, FACE, LINE, PAPER, STRIPE, MARKED = "#336698", "#ffcb00", "#d8d8d8", "#989898", "#ffffff", "#f3f6fa", "#9fb6d2"
 FAULT, QUIET = "#b3261e", "#4f4f4f"
@@ -137,12 +140,12 @@ class Window:
         head.pack(fill="x")
         self._entry = ttk.Combobox(head, textvariable=self._query, values=SAMPLES, font="TkFixedFont")
         self._entry.pack(fill="x")
-        self.told = tk.Label(head, background=FACE, anchor="w", justify="left", font="TkFixedFont", padx=6)
+        self.told = tk.Label(head, background=FACE, anchor="nw", justify="left", font="TkFixedFont", padx=6, height=TOLD_LINES)
         self.told.pack(fill="x", pady=(4, 0))
 
     def _build_list(self) -> None:
-        self._state = tk.Label(self._root, background=FACE, foreground=QUIET, anchor="w", padx=12, pady=5)
-        self._state.pack(side="bottom", fill="x")
+        self.state = tk.Label(self._root, background=FACE, foreground=QUIET, anchor="w", padx=12, pady=5)
+        self.state.pack(side="bottom", fill="x")
         frame = tk.Frame(self._root, background=LINE, padx=1, pady=1)
         frame.pack(fill="both", expand=True, padx=(12, 12))
         names = [column.title for column in self._columns]
@@ -171,18 +174,25 @@ class Window:
             self._root.after_cancel(self._typing)
         self._typing, text = "", self._query.get()
         try:
-            self._tell(f"asks {self._catalogue.ask(text)}", QUIET)
-        except bestore.Refusal as fault:
-            self._tell(fault_line(fault), FAULT)
-            return
+            asked = self._catalogue.ask(text)
+            self._tell(asked_lines(asked, self._columns_below()), FAULT if asked.hints else QUIET)
+        except bestore.QueryError as fault:
+            self._tell(fault_lines(fault, self._columns_below()), FAULT)
         self.list.set_children("")
         self._go(list(self._rows))
+        self._tell_state()
 
-    def _tell(self, text: str, colour: str) -> None:
-        self.told.configure(text=text, foreground=colour)
+    def _columns_below(self) -> int:
+        """How many characters a line below the query has room for."""
+        self._root.update_idletasks()
+        room = self.told.winfo_width() - 2 * int(str(self.told["padx"]))
+        return max(room // tkinter.font.nametofont("TkFixedFont").measure("0"), 20)
+
+    def _tell(self, lines: List[str], colour: str) -> None:
+        self.told.configure(text="\n".join(lines), foreground=colour)
 
     def follow(self) -> None:
-        """Shows the next slice of what came and went, and so on for as long as the window is there."""
+        """Shows the next slice of what came and went, and goes on as long as the window is there."""
         step = self._catalogue.step(SLICE)
         self._go(step.went)
         for hit in step.came:
@@ -193,7 +203,7 @@ class Window:
         self._root.after(BUSY_PAUSE if self._catalogue.waiting or self._gone else IDLE_PAUSE, self.follow)
 
     def _go(self, nodes: List[int]) -> None:
-        """These hits went: their rows are taken away a slice at a time."""
+        """These hits went: their rows are taken away in slices."""
         for node in nodes:
             row = self._rows.pop(node)
             del self._hits[row]
@@ -208,7 +218,8 @@ class Window:
         self._rows[hit.node], self._hits[row] = row, hit
 
     def sort(self, column: Column) -> None:
-        """Sorts the rows that are there; at the second time the other way round. Those that come later stand below."""
+        """Sorts the rows that are there; at the second time the other way round. Those that come later are added
+        below."""
         is_turned = self._sorted == (column, False)
         self._sorted = column, is_turned
         rows = sorted(self._hits, key=lambda row: column.order(self._hits[row]), reverse=is_turned)
@@ -218,19 +229,31 @@ class Window:
 
     def _tell_state(self) -> None:
         catalogue, reader = self._catalogue, self._catalogue.reader
-        if reader.fault is not None:
-            doing = f"the folder isn't followed any more: {reader.fault}"
-        else:
-            doing = "following the folder" if reader.rounds else "reading the folder"
-        words = [f"{catalogue.hits:,} of {len(reader):,} files", f"version {max(catalogue.version, 0):,}", doing]
+        answer = f"{catalogue.hits:,}" if catalogue.is_asking else "no answer,"
+        words = [f"{answer} of {len(reader):,} files"]
         if catalogue.waiting:
-            words.insert(1, f"{catalogue.waiting:,} to be shown")
-        self._state.configure(text="   ·   ".join(words))
+            words.append(f"{catalogue.waiting:,} to be shown")
+        if reader.fault is None:
+            words.append("following the folder" if reader.rounds else "reading the folder")
+        else:
+            words.append(f"no longer following the folder: {reader.fault}")
+        self.state.configure(text="   ·   ".join(words), foreground=QUIET if reader.fault is None else FAULT)
 
 
-def fault_line(fault: bestore.Refusal) -> str:
-    """What is wrong with a query, behind a caret under its character where that is known."""
-    return fault.meaning if fault.column is None else " " * fault.column + f"^ {fault.meaning}"
+def short(line: str, width: int) -> str:
+    """As much of a line as has room."""
+    return line if len(line) <= width else line[:width - 1] + "…"
+
+
+def asked_lines(asked: Asked, width: int) -> List[str]:
+    """What is known of a query, in lines that have room."""
+    hints = [short(str(hint), width) for hint in asked.hints]
+    return [*hints[:TOLD_LINES - 1], short(f"asks {asked.plan.rsplit(' score ', 1)[0]}", width)]
+
+
+def fault_lines(fault: bestore.QueryError, width: int) -> List[str]:
+    """What is wrong with a query, and the part round it with a caret under its character, if that is known."""
+    return [short(fault.summary, width), *(fault.shown(width) or "").splitlines()]
 
 
 def is_maildir(folder: str) -> bool:

@@ -1,4 +1,4 @@
-"""Tests of the query window: what it stands on, without a window, and the window itself where a display can be had."""
+"""Tests of the query window: the catalogue without a window, and the window itself if there is a display."""
 
 from __future__ import annotations
 
@@ -9,9 +9,8 @@ import unittest
 from typing import Callable, Dict, List
 
 import bestore
-from bestore.refusals import refusal
 
-from catalogue import Catalogue, cut, type_of
+from catalogue import Asked, Catalogue, cut, mail_attributes, type_of
 
 try:
     import queries
@@ -73,7 +72,7 @@ class Files(unittest.TestCase):
         write(self.path("nine.c"), "123456789")
         shown = Shown(self.catalogue)
         self.catalogue.start()
-        self.assertEqual(self.catalogue.ask("size>=5"), '"size">="5" score 3')
+        self.assertEqual(self.catalogue.ask("size>=5"), Asked('"size">="5" score 3', []))
         self.assertTrue(shown.becomes("five.txt", "nine.c"))
         write(self.path("new.txt"), "123456")
         self.assertTrue(shown.becomes("five.txt", "new.txt", "nine.c"))
@@ -100,15 +99,59 @@ class Files(unittest.TestCase):
         self.assertTrue(wait_for(lambda: len(shown.step(1)) == 0))
         self.assertEqual((self.catalogue.waiting, self.catalogue.hits), (0, 0))
 
-    def test_refused(self) -> None:
-        write(self.path("a"), "")
-        self.assertEqual(self.catalogue.step(10), ([], []))
+    def test_beside_another_writer(self) -> None:
+        """Another pass makes nodes all the while. Each file has its own attributes all the same, and the other nodes
+        have none."""
+        for number in range(200):
+            write(self.path(f"{number}.txt"), "x" * number)
+        other = self.catalogue.another()
+        self.addCleanup(other.close)
         self.catalogue.start()
-        self.catalogue.ask("name==a")
-        for text, kind in [("name==", bestore.QuerySyntax), ('name=="[a"', bestore.BadPattern), ("none==1", bestore.NotCovered)]:
+        others = 0
+        while self.catalogue.reader.rounds == 0 and others < 20000:
+            other.new_node()
+            others += 1
+        with other.pin() as version:
+            files = [version.attributes(node) for node in version]
+        names = [f"{int(attributes['size'])}.txt" for attributes in files if attributes]
+        self.assertEqual(sorted(names), sorted(str(attributes["name"]) for attributes in files if attributes))
+        self.assertEqual((len(names), len(files)), (200, 200 + others))
+
+    def test_no_query(self) -> None:
+        """After an error no query is followed: what was shown is no answer to it."""
+        write(self.path("a"), "")
+        self.assertEqual((self.catalogue.step(10), self.catalogue.is_asking), (([], []), False))
+        self.catalogue.start()
+        for text, kind in [("name==", bestore.QuerySyntax), ('name=="[a"', bestore.BadPattern), ("none==1", bestore.NotCovered),
+                           ("name==\udcff", bestore.QueryNotUTF8)]:
+            self.catalogue.ask("name==a")
+            self.assertTrue(Shown(self.catalogue).becomes("a"))
             with self.assertRaises(kind):
                 self.catalogue.ask(text)
-        self.assertTrue(Shown(self.catalogue).becomes("a"))
+            self.assertEqual((self.catalogue.step(10), self.catalogue.is_asking, self.catalogue.hits), (([], []), False, 0))
+
+    def test_hints(self) -> None:
+        self.assertEqual([str(hint) for hint in self.catalogue.ask("last_modified>2024-01-01 && size>5").hints], [
+            'never true: "last_modified" is INT64, and "2024-01-01" is no whole number'])
+
+    def test_folder_that_went(self) -> None:
+        self.catalogue.start()
+        os.rename(self.folder, self.folder + "-gone")
+        self.addCleanup(os.rename, self.folder + "-gone", self.folder)
+        self.assertTrue(wait_for(lambda: isinstance(self.catalogue.reader.fault, FileNotFoundError)))
+
+
+class Full(unittest.TestCase):
+    def test_store(self) -> None:
+        """The reader says that the store is full, and the files that are in it stay."""
+        with tempfile.TemporaryDirectory() as folder:
+            for number in range(500):
+                write(os.path.join(folder, f"{number}"), "")
+            with Catalogue(folder, 128, pause=0.02) as catalogue:
+                self.assertTrue(wait_for(lambda: catalogue.reader.fault is not None))
+                self.assertIsInstance(catalogue.reader.fault, bestore.Full)
+                catalogue.ask("name==*")
+                self.assertEqual(len(Shown(catalogue).step()), len(catalogue.reader))
 
 
 class Mails(unittest.TestCase):
@@ -129,6 +172,18 @@ class Mails(unittest.TestCase):
 
 
 class Texts(unittest.TestCase):
+    def test_headers(self) -> None:
+        """A header may be encoded, or have bytes of UTF-8, or of anything."""
+        with tempfile.TemporaryDirectory() as folder:
+            path = os.path.join(folder, "1")
+            for raw, text in [
+                (b"=?utf-8?q?M=C3=BCller?=", "Müller"), ("Müller".encode(), "Müller"), (b"M\xfcller", "M\ufffdller"),
+                (b"=?none?q?x?=", "=?none?q?x?="), ("=?utf-8?q?M=C3=BCller?= und Söhne".encode(), "Müller und Söhne"),
+            ]:
+                with open(path, "wb") as file:
+                    file.write(b"Subject: " + raw + b"\n\n")
+                self.assertEqual(mail_attributes(path)["MAIL:subject"], text)
+
     def test_cut(self) -> None:
         self.assertEqual([cut("a\0b"), cut("é" * 200), cut("\udcff")], ["ab", "é" * 127, "?"])
 
@@ -157,8 +212,17 @@ class Windows(unittest.TestCase):
             self.assertTrue(wait_for(lambda: is_shown(*names)))
             self.assertIn('"size"<"450"', str(window.told["text"]))
             window.ask("size<")
-            self.assertIn("     ^ the query leaves the grammar", str(window.told["text"]))
-            self.assertTrue(is_shown(*names))
+            self.assertEqual(str(window.told["text"]), "the query leaves the grammar\nsize<\n     ^")
+            self.assertIn("no answer, of 499 files", str(window.state["text"]))
+            self.assertTrue(is_shown())
+            window.ask(" || ".join(["size==1"] * 100) + " ||")
+            shown, caret = str(window.told["text"]).splitlines()[1:]
+            self.assertLessEqual(window.told.winfo_reqwidth(), root.winfo_width())
+            self.assertEqual((shown[0], shown[len(caret) - 2]), ("…", "|"))
+            window.ask("size<1.5")
+            hint = 'never true: "size" is INT64, and "1.5" is no whole number'
+            self.assertEqual(str(window.told["text"]), hint + '\nasks "size"<"1.5"')
+            self.assertEqual(str(window.told["foreground"]), queries.FAULT)
             window.ask("size==450")
             self.assertTrue(wait_for(lambda: is_shown("450.txt")))
             window.ask("size<3")
@@ -168,9 +232,13 @@ class Windows(unittest.TestCase):
                 self.assertEqual([window.list.item(row, "values")[0] for row in window.list.get_children()], sizes)
             root.destroy()
 
-    def test_fault_line(self) -> None:
-        self.assertEqual(queries.fault_line(refusal(12, 4, "é==")), "   ^ the query leaves the grammar")
-        self.assertEqual(queries.fault_line(refusal(17)), "no index serves the query")
+    def test_lines(self) -> None:
+        with self.assertRaises(bestore.QuerySyntax) as fault:
+            bestore.prepare("é==")
+        self.assertEqual(queries.fault_lines(fault.exception, 40), ["the query leaves the grammar", "é==", "   ^"])
+        self.assertEqual(queries.fault_lines(bestore.TooDeep(), 12), ["the query i…"])
+        hint = bestore.Hint("size", "1.5", bestore.INT64, 0, False)
+        self.assertEqual(queries.asked_lines(Asked("plan score 3", [hint] * 5), 20), ['never true: "size" …'] * 2 + ["asks plan"])
 
 
 if __name__ == "__main__":

@@ -2,35 +2,56 @@
 
     with bestore.open() as store:
         store.make_index("MAIL:from", bestore.STRING)
-        store.set(store.new_node(), "MAIL:from", "ann")
-        with store.pin() as version:
-            print(list(version.query("MAIL:from==ann")))
 
-A `Pass` is one user's place in a store. Each thread has one of its own, since the calls on one pass wait for one another: the
-thread that opened the store makes it by `another`, before that thread starts. What a call refuses is raised as a `Refusal`, of
-which each answer has a class of its own, as `Busy` or `QuerySyntax`.
+        def file(change):
+            letter = change.new()
+            change[letter]["MAIL:from"] = "ann"
+
+        store.change(file)
+        with store.pin() as version:
+            print(version.query("MAIL:from==ann"))
+
+A `Pass` is a session: one thread's handle on the store. Each thread has one of its own, since the calls on one pass
+wait for one another: the thread that opened the store makes it by `another`, before that thread starts. What goes wrong
+is raised as an `Error`; each error number of the library has a class of its own, as `Busy` or `QuerySyntax`.
+
+A store belongs to the process that opened it. In a forked child its passes, versions and prepared queries are dead:
+their calls raise `Forked`, closing them does nothing, and the parent's stay as they were. The child may open stores of
+its own.
 
 The package has its shared object inside. In the repository it is the one in c/, and BESTORE_LIBRARY names another.
 """
 
 from ._library import VERSION as __version__
-from .queries import Item, Name, Operator, Prepared, prepare, prepare_items
-from .refusals import (
-    BadCount, BadItems, BadLimits, BadPart, BadPattern, Busy, Closed, CommitsSpent, DataLength, Full, HasNul, IndexExists,
-    NameLength, NoAttribute, NoIndex, NoItem, NoKind, NoMemory, NoNode, NoOperation, NoPass, NoValue, NotCovered, NotIndexable,
-    NotPinned, NotUTF8, Opened, Pinned, QuerySyntax, Refusal, TooDeep, TooLong, TooMany, TooManyAttributes, TooManyIndices,
+from .changes import Change, ChangedAttributes
+from .errors import (
+    BadBytes, BadCount, BadItems, BadLimits, BadPart, BadPattern, Busy, Closed, CommitsSpent, Conflict, DataLength,
+    Error, ErrorNumber, Forked, Full, HasNul, IndexExists, NameLength, Nested, NoAttribute, NoIndex, NoItem, NoKind,
+    NoMemory, NoNode, NoOperation, NoPass, NotCovered, NotIndexable, NotPinned, NotUTF8, NoValue, Opened, Pinned,
+    QueryError, QueryNotUTF8, QuerySyntax, Refusal, TooDeep, TooLong, TooMany, TooManyAttempts, TooManyAttributes,
+    TooManyIndices, WrongKind,
 )
-from .store import Attributes, Batch, Held, Pass, Status, Version, open
-from .values import Kind, Value
+from .language import Comparison, Hint, any_case, escape
+from .operations import (
+    MOST_OPERATIONS, Batch, MakeIndex, NewNode, Operation, RemoveIndex, RemoveNode, SetAttribute, UnsetAttribute,
+)
+from .queries import Item, Name, Operator, Prepared, prepare, prepare_items
+from .store import Entry, Held, Pass, Status, open
+from .values import Int32, Int64, Integer, Kind, Typed, UInt32, UInt64, Value
+from .versions import Attributes, Version
 
 STRING, INT32, INT64, MIME, RAW, UINT32, UINT64 = (
     Kind.STRING, Kind.INT32, Kind.INT64, Kind.MIME, Kind.RAW, Kind.UINT32, Kind.UINT64)
 
 __all__ = [
-    "Attributes", "BadCount", "BadItems", "BadLimits", "BadPart", "BadPattern", "Batch", "Busy", "Closed", "CommitsSpent",
-    "DataLength", "Full", "HasNul", "Held", "INT32", "INT64", "IndexExists", "Item", "Kind", "MIME", "Name", "NameLength", "NoAttribute",
-    "NoIndex", "NoItem", "NoKind", "NoMemory", "NoNode", "NoOperation", "NoPass", "NoValue", "NotCovered", "NotIndexable",
-    "NotPinned", "NotUTF8", "Opened", "Operator", "Pass", "Pinned", "Prepared", "QuerySyntax", "RAW", "Refusal", "STRING",
-    "Status", "TooDeep", "TooLong", "TooMany", "TooManyAttributes", "TooManyIndices", "UINT32", "UINT64", "Value", "Version", "open",
-    "prepare", "prepare_items",
+    "Attributes", "BadBytes", "BadCount", "BadItems", "BadLimits", "BadPart", "BadPattern", "Batch", "Busy", "Change",
+    "ChangedAttributes", "Closed", "CommitsSpent", "Comparison", "Conflict", "DataLength", "Entry", "Error",
+    "ErrorNumber", "Forked", "Full", "HasNul", "Held", "Hint", "INT32", "INT64", "IndexExists", "Int32", "Int64",
+    "Integer", "Item", "Kind", "MIME", "MOST_OPERATIONS", "MakeIndex", "Name", "NameLength", "Nested", "NewNode",
+    "NoAttribute", "NoIndex", "NoItem", "NoKind", "NoMemory", "NoNode", "NoOperation", "NoPass", "NoValue",
+    "NotCovered", "NotIndexable", "NotPinned", "NotUTF8", "Opened", "Operation", "Operator", "Pass", "Pinned",
+    "Prepared", "QueryError", "QueryNotUTF8", "QuerySyntax", "RAW", "Refusal", "RemoveIndex", "RemoveNode", "STRING",
+    "SetAttribute", "Status", "TooDeep", "TooLong", "TooMany", "TooManyAttempts", "TooManyAttributes", "TooManyIndices",
+    "Typed", "UINT32", "UINT64", "UInt32", "UInt64", "UnsetAttribute", "Value", "Version", "WrongKind", "any_case",
+    "escape", "open", "prepare", "prepare_items",
 ]

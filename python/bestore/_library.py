@@ -6,10 +6,10 @@ import ctypes
 import os
 from typing import Any, List, Optional
 
-from .refusals import refusal
+from .errors import refusal
 
 SONAME = "libbestore.so.0"
-VERSION = "0.1.0"
+VERSION = "0.2.0"
 
 
 class Handle(ctypes.Structure):
@@ -73,7 +73,7 @@ class Counts(ctypes.Structure):
 
 
 def _arguments() -> dict[str, List[Any]]:
-    """What each call takes."""
+    """The types of each call's parameters."""
     handle, word, size, text = ctypes.POINTER(Handle), ctypes.c_uint64, ctypes.c_size_t, ctypes.c_char_p
     words = ctypes.POINTER(ctypes.c_uint64)
     write = [handle, ctypes.POINTER(Operation), size, text, size]
@@ -85,13 +85,17 @@ def _arguments() -> dict[str, List[Any]]:
         "bes_another": [handle, handle],
         "bes_close": [handle],
         "bes_meet": [handle, words],
+        "bes_number": [handle, words],
         "bes_pin": [handle, words],
         "bes_unpin": [handle],
+        "bes_next": [handle, words],
         "bes_apply": [*write, *put_out],
+        "bes_apply_if": [handle, word, *write[1:], *put_out],
         "bes_query": [handle, text, size, *put_out],
         "bes_query_items": [handle, *items, *put_out],
         "bes_prepare": [text, size, handle, words],
         "bes_prepare_items": [*items, handle, words],
+        "bes_prepared_text": [handle, text, size, words],
         "bes_release": [handle],
         "bes_query_prepared": [handle, handle, *put_out],
         "bes_refresh": [handle, handle, ctypes.POINTER(Updates)],
@@ -105,13 +109,14 @@ def _arguments() -> dict[str, List[Any]]:
         "bes_state": [handle, handle, *listed],
         "bes_leave": [handle],
         "bes_journal": [handle, text, size, words],
+        "bes_journal_from": [handle, word, words, *listed, words],
         "bes_version": [],
     }
 
 
 def _path() -> str:
-    """Where the shared object is: what BESTORE_LIBRARY names, inside the package, in c/ of the repository, or where the system
-    looks."""
+    """The shared object: the one that BESTORE_LIBRARY names, that inside the package, that in c/ of the repository,
+    or one that the system finds."""
     here = os.path.dirname(os.path.abspath(__file__))
     named = os.environ.get("BESTORE_LIBRARY")
     if named:
@@ -122,25 +127,33 @@ def _path() -> str:
     return SONAME
 
 
-def _dotted(version: int) -> str:
-    """A version as the library tells it, as text."""
+def dotted(version: int) -> str:
+    """A version as bes_version returns it, as text."""
     return f"{version // 1000000}.{version // 1000 % 1000}.{version % 1000}"
+
+
+def _check_age(path: str, loaded: ctypes.CDLL) -> None:
+    """Raises OSError if the library lacks a call of this package, or is of an earlier version."""
+    missing = [name for name in _arguments() if not hasattr(loaded, name)]
+    if missing:
+        raise OSError(f"{path}: libbestore.so is older than this package, it has no {missing[0]}")
+    found = dotted(loaded.bes_version())
+    if [int(part) for part in found.split(".")] < [int(part) for part in VERSION.split(".")]:
+        raise OSError(f"{path}: libbestore.so is older than this package, {found} and not {VERSION}")
 
 
 def _load() -> ctypes.CDLL:
     path = _path()
     try:
         loaded = ctypes.CDLL(path)
-        for name, arguments in _arguments().items():
-            call = getattr(loaded, name)
-            call.argtypes, call.restype = arguments, ctypes.c_uint32
-        found = _dotted(loaded.bes_version())
-        if found != VERSION:
-            raise OSError(f"{path} has the version {found}, and the package is of {VERSION}")
-    except (OSError, AttributeError) as error:
+        _check_age(path, loaded)
+    except OSError as error:
         raise ImportError(
             f"bestore can't load its library: {error}. Run `make` in c/ of the repository, and import bestore from python/ "
             f"there or install its wheel (`make wheel`); or name {SONAME} by the variable BESTORE_LIBRARY.", path=path) from error
+    for name, arguments in _arguments().items():
+        call = getattr(loaded, name)
+        call.argtypes, call.restype = arguments, ctypes.c_uint32
     return loaded
 
 
@@ -148,7 +161,12 @@ calls = _load()
 
 
 def check(answer: int, carried: Optional[int] = None, query: Optional[str] = None, listed: Optional[str] = None) -> None:
-    """Raises what the answer of a call says, if it did nothing, with the number that goes with the answer, the text of the query
-    that was asked, and what the call takes a list of."""
+    """Raises the error that a call returned, if it returned one: with the number that goes with it, the text of the
+    query that was asked, and what the call takes a list of."""
     if answer != 0:
         raise refusal(answer, carried, query, listed)
+
+
+def words(count: int) -> "ctypes.Array[ctypes.c_uint64]":
+    """Room for so many numbers, and for one at least: the library wants a pointer also to nothing."""
+    return (ctypes.c_uint64 * max(count, 1))()

@@ -4,41 +4,13 @@ from __future__ import annotations
 
 import ctypes
 import enum
-import threading
-from types import TracebackType
-from typing import Any, Callable, Optional, Sequence, Tuple, Type, TypeVar, Union
+from typing import List, Optional, Sequence, Tuple, Union
 
-from ._library import Handle, Item as _Item, calls, check
-from .values import Kind, spelled
-
-_Self = TypeVar("_Self", bound="Owner")
-
-
-class Owner:
-    """What owns a handle, and gives it up by `close`: at the end of a `with`, or when it goes itself. The library takes one call on
-    a handle at a time, so the calls of several threads wait for one another."""
-
-    def __init__(self) -> None:
-        self._handle = Handle()
-        self._pointer = ctypes.byref(self._handle)
-        self._lock = threading.RLock()
-
-    def _call(self, call: Callable[..., int], *arguments: Any) -> int:
-        with self._lock:
-            return call(self._pointer, *arguments)
-
-    def close(self) -> None:
-        raise NotImplementedError
-
-    def __enter__(self: _Self) -> _Self:
-        return self
-
-    def __exit__(self, kind: Optional[Type[BaseException]], value: Optional[BaseException],
-                 trace: Optional[TracebackType]) -> None:
-        self.close()
-
-    def __del__(self) -> None:
-        self.close()
+from ._library import Item as RawItem, calls, check
+from .errors import encoded, encoded_query
+from .handles import Owner
+from .language import Comparison, comparisons
+from .values import Kind, encode_value
 
 
 class Name(str):
@@ -54,7 +26,7 @@ class Operator(enum.IntEnum):
 Item = Union[Name, Operator, str, int]
 """An item of a query in reverse Polish order: a name, an operator, a text or a number."""
 
-Spelled = Tuple["ctypes.Array[_Item]", int, bytes, int]
+EncodedItems = Tuple["ctypes.Array[RawItem]", int, bytes, int]
 
 
 def _item(item: Item) -> Tuple[int, int, bytes]:
@@ -62,44 +34,72 @@ def _item(item: Item) -> Tuple[int, int, bytes]:
     if isinstance(item, Operator):
         return item.value, 0, b""
     if isinstance(item, Name):
-        return 0, 0, item.encode()
+        return 0, 0, encoded(item)
     if isinstance(item, str):
-        return 1, 0, item.encode()
+        return 1, 0, encoded(item)
     if item < 0:
-        return 2, spelled(item, Kind.INT64)[1], b""
-    return 3, spelled(item, Kind.UINT64)[1], b""
+        return 2, encode_value(item, Kind.INT64)[1], b""
+    return 3, encode_value(item, Kind.UINT64)[1], b""
 
 
-def spelled_items(items: Sequence[Item]) -> Spelled:
+def encode_items(items: Sequence[Item]) -> EncodedItems:
     """The items as the library takes them, with their bytes."""
-    taken, texts = (_Item * max(len(items), 1))(), b""
+    taken, texts = (RawItem * max(len(items), 1))(), b""
     for place, item in enumerate(items):
         kind, number, text = _item(item)
-        taken[place] = _Item(kind, len(texts), len(text), number)
+        taken[place] = RawItem(kind, len(texts), len(text), number)
         texts += text
     return taken, len(items), texts, len(texts)
 
 
 class Prepared(Owner):
-    """A query that is parsed once and kept, by `prepare` or `prepare_items`. `Version.query_prepared` asks it, and
-    `Version.refresh` tells what changed since it was refreshed last."""
+    """A query that is parsed once and kept, by `prepare` or `prepare_items`. It belongs to no store.
+    `Version.query_prepared` asks it, and `Version.refresh` returns what changed since it was refreshed last."""
+
+    def __init__(self, source: Optional[str] = None) -> None:
+        super().__init__()
+        self.source = source
+        """The text that it was prepared from, or None if it was prepared from items."""
 
     def close(self) -> None:
         """Gives the query up, if it is still there."""
-        self._call(calls.bes_release)
+        self._give_up(calls.bes_release)
+
+    @property
+    def text(self) -> str:
+        """The canonical text: no `!`, each name and value quoted, and parentheses only where they are needed."""
+        count, room = ctypes.c_uint64(), 256
+        while True:
+            written = ctypes.create_string_buffer(room)
+            check(self._call(calls.bes_prepared_text, written, room, ctypes.byref(count)))
+            if count.value <= room:
+                return written.raw[:count.value].decode()
+            room = count.value
+
+    @property
+    def comparisons(self) -> List[Comparison]:
+        """The comparisons of the canonical text, from left to right."""
+        return comparisons(self.text)
+
+    @property
+    def names(self) -> List[str]:
+        """The names that are compared, each once, from left to right."""
+        return list(dict.fromkeys(comparison.name for comparison in self.comparisons))
 
 
 def prepare(text: str) -> Prepared:
-    """The query of this text, parsed once."""
-    prepared, taken, place = Prepared(), text.encode(), ctypes.c_uint64()
+    """The query of this text, parsed once. `QuerySyntax`, `BadPattern`, `TooLong`, `TooDeep`, `TooMany`, or
+    `QueryNotUTF8` if it is no query. Takes the time to parse the text, and memory until it is closed."""
+    prepared, taken, place = Prepared(text), encoded_query(text), ctypes.c_uint64()
     answer = calls.bes_prepare(taken, len(taken), prepared._pointer, ctypes.byref(place))
     check(answer, place.value, text)
     return prepared
 
 
 def prepare_items(*items: Item) -> Prepared:
-    """The query that items in reverse Polish order build, as `Version.query_items` takes them."""
+    """The query that items in reverse Polish order build, as `Version.query_items` takes them. `BadItems` or
+    `BadPattern` if they build none. Takes memory until it is closed."""
     prepared, place = Prepared(), ctypes.c_uint64()
-    answer = calls.bes_prepare_items(*spelled_items(items), prepared._pointer, ctypes.byref(place))
+    answer = calls.bes_prepare_items(*encode_items(items), prepared._pointer, ctypes.byref(place))
     check(answer, place.value, listed="item")
     return prepared

@@ -4,9 +4,9 @@ from __future__ import annotations
 
 import enum
 import operator
-from typing import Optional, Tuple, Union
+from typing import ClassVar, NamedTuple, Optional, SupportsIndex, Tuple, Type, TypeVar, Union
 
-from .refusals import NoKind, NoNode, NoValue
+from .errors import NoKind, NoNode, NoValue, decoded, encoded
 
 Value = Union[str, bytes, int]
 """A text, raw bytes, or a number."""
@@ -23,40 +23,104 @@ class Kind(enum.IntEnum):
     UINT32 = 0x554C4E47
     UINT64 = 0x554C4C47
 
+    def __repr__(self) -> str:
+        return f"bestore.{self.name}"
 
-_RANGES = {
+
+KIND_OF = {int(kind): kind for kind in Kind}
+"""The kinds by their codes."""
+RANGES = {
     Kind.INT32: range(-(2**31), 2**31),
     Kind.INT64: range(-(2**63), 2**63),
     Kind.UINT32: range(2**32),
     Kind.UINT64: range(2**64),
 }
+"""The kinds of numbers, and what each holds."""
+
+_Self = TypeVar("_Self", bound="Integer")
+
+
+class Integer(int):
+    """An integer that says its kind. `NoValue` if the kind doesn't hold it. What is computed from it is a plain int."""
+
+    kind: ClassVar[Kind]
+
+    def __new__(cls: Type[_Self], value: SupportsIndex) -> _Self:
+        number = plain(value)
+        if number not in RANGES[cls.kind]:
+            raise NoValue()
+        return super().__new__(cls, number)
+
+
+class Int32(Integer):
+    """An integer of 32 bits with a sign."""
+
+    kind = Kind.INT32
+
+
+class Int64(Integer):
+    """An integer of 64 bits with a sign, as a plain int is."""
+
+    kind = Kind.INT64
+
+
+class UInt32(Integer):
+    """An integer of 32 bits without a sign."""
+
+    kind = Kind.UINT32
+
+
+class UInt64(Integer):
+    """An integer of 64 bits without a sign."""
+
+    kind = Kind.UINT64
+
+
+class Typed(NamedTuple):
+    """A value with its kind."""
+
+    value: Value
+    kind: Kind
+
+
+Encoded = Tuple[Kind, int, bytes]
+"""A value's kind, its number and its bytes."""
+
+
+def plain(value: SupportsIndex) -> int:
+    """An integer as a plain int: a range looks for one of another class number by number."""
+    return int(operator.index(value))
 
 
 def node_number(node: int) -> int:
-    """A node's number, which 64 bits hold. ctypes would cut another one down to them, and so to the number of some other node."""
-    number = operator.index(node)
-    if number not in _RANGES[Kind.UINT64]:
+    """A node's number, which 64 bits hold. ctypes would cut another one down to them, and so to the number of some
+    other node."""
+    number = plain(node)
+    if number not in RANGES[Kind.UINT64]:
         raise NoNode()
     return number
 
 
 def kind_code(kind: int) -> int:
     """A kind's code, which 32 bits hold."""
-    code = operator.index(kind)
-    if code not in _RANGES[Kind.UINT32]:
+    code = plain(kind)
+    if code not in RANGES[Kind.UINT32]:
         raise NoKind()
     return code
 
 
-def spelled(value: Value, kind: Optional[int] = None) -> Tuple[Kind, int, bytes]:
-    """A value's kind, its number and its bytes. Without a kind a str is STRING, bytes are RAW and an int is INT64."""
+def encode_value(value: Value, kind: Optional[int] = None) -> Encoded:
+    """A value as the library takes it. Without a kind a str is STRING, bytes are RAW, and an int is of the
+    kind of its class, or INT64 if it is a plain one."""
     if isinstance(value, str):
-        return _fitting(kind, (Kind.STRING, Kind.MIME)), 0, value.encode()
+        return _fitting(kind, (Kind.STRING, Kind.MIME)), 0, encoded(value)
     if isinstance(value, (bytes, bytearray)):
         return _fitting(kind, (Kind.RAW,)), 0, bytes(value)
+    if kind is None and isinstance(value, Integer):
+        kind = value.kind
     code = _fitting(kind, (Kind.INT64, Kind.INT32, Kind.UINT32, Kind.UINT64))
-    number = operator.index(value)
-    if number not in _RANGES[code]:
+    number = plain(value)
+    if number not in RANGES[code]:
         raise NoValue()
     return code, number % 2**64, b""
 
@@ -68,17 +132,23 @@ def _fitting(kind: Optional[int], kinds: Tuple[Kind, ...]) -> Kind:
     for fitting in kinds:
         if fitting == kind:
             return fitting
-    if kind in list(Kind):
+    if kind in KIND_OF:
         raise TypeError(f"a value of the kind {Kind(kind).name} can't be made from this type")
     raise NoKind()
 
 
-def value_of(code: int, number: int, value: bytes) -> Value:
-    """The value that these spell."""
-    if code in (Kind.STRING, Kind.MIME):
-        return value.decode()
-    if code == Kind.RAW:
+_TEXTS, _SIGNED = frozenset((Kind.STRING, Kind.MIME)), frozenset((Kind.INT32, Kind.INT64))
+
+
+def decode_value(code: int, number: int, value: bytes) -> Value:
+    """The value that these encode."""
+    if code in _TEXTS:
+        return decoded(value)
+    if code not in RANGES:
         return value
-    if code in (Kind.INT32, Kind.INT64) and number >= 2**63:
-        return number - 2**64
-    return number
+    return number - 2**64 if number >= 2**63 and code in _SIGNED else number
+
+
+def typed_value(code: int, number: int, value: bytes) -> Typed:
+    """The value that these encode, with its kind."""
+    return Typed(decode_value(code, number, value), KIND_OF[code])

@@ -1,0 +1,38 @@
+"""Two threads file letters and count them in one attribute. By `change` no count is lost, and no letter gets the sender of the
+other thread."""
+
+import threading
+
+import bestore
+
+LETTERS = 100
+
+
+def file_letters(store, counter, sender):
+    """Files a sender's letters, each in one write with the new count."""
+    def file(change):
+        letter = change.new()
+        change[letter]["MAIL:from"] = sender
+        change[counter]["letters"] += 1
+
+    for _ in range(LETTERS):
+        store.change(file)
+    store.close()
+
+
+def main():
+    with bestore.open() as store:
+        store.make_index("MAIL:from", bestore.STRING)
+        counter = store.new_node()
+        store.set(counter, "letters", 0)
+        threads = [threading.Thread(target=file_letters, args=(store.another(), counter, sender)) for sender in ("ann", "bob")]
+        for thread in threads:
+            thread.start()
+        for thread in threads:
+            thread.join()
+        with store.pin() as version:
+            print(version[counter]["letters"], version.count("MAIL:from==ann"), version.count("MAIL:from==bob"))
+
+
+if __name__ == "__main__":
+    main()

@@ -1,0 +1,40 @@
+"""Follows a query and the journal, and carries the store's state on to a new store."""
+
+import bestore
+
+
+def print_changes(store, unread, seen):
+    """Prints which letters came to be unread or are no longer, and what was written after the commit number that was seen
+    last. Returns the newest one."""
+    with store.pin() as version:
+        came, went = version.refresh(unread)
+        print("unread:", "came", came, "went", went)
+    for entry in store.journal_from(seen):
+        print(f"{entry.number} by {entry.pass_number}:", *entry.operations)
+        seen = entry.number
+    return seen
+
+
+def carry_on(store):
+    """A new store that has what the store has, with a journal of its own."""
+    other = bestore.open()
+    with store.pin() as version:
+        for batch in version.state():
+            other.apply(batch)
+    return other
+
+
+def main():
+    with bestore.open(passes=1) as store, bestore.prepare("MAIL:status==New") as unread:
+        store.make_index("MAIL:status", bestore.STRING)
+        letters = store.new_nodes(2)
+        seen = print_changes(store, unread, 0)
+        store.apply(bestore.Batch(bestore.SetAttribute(letter, "MAIL:status", "New") for letter in letters))
+        seen = print_changes(store, unread, seen)
+        store.set(letters[0], "MAIL:status", "Read")
+        with carry_on(store) as other:
+            print_changes(other, unread, other.committed)
+
+
+if __name__ == "__main__":
+    main()

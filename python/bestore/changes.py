@@ -1,0 +1,147 @@
+"""Changes: writes on what was read, with nothing written in between."""
+
+from __future__ import annotations
+
+from typing import TYPE_CHECKING, Dict, MutableMapping, Optional, Set
+
+from .errors import BadCount, NoAttribute, NoNode, NotPinned, WrongKind
+from .operations import MOST_OPERATIONS, SET, Batch
+from .values import KIND_OF, RANGES, Encoded, Kind, Typed, Value, encode_value, typed_value
+from .versions import Attributes, Version
+
+if TYPE_CHECKING:
+    from .store import Pass
+
+
+class Change(Version):
+    """What the function of `Pass.change` is given: a snapshot that is read, and up to 64 operations that are collected.
+
+    Operations are only collected; they are written after the function has returned. A node that `new` made has its
+    number at once. `change[node]`, `get`, `kind`, `attributes` and `node in change` read the collected operations
+    first, and then the snapshot. Queries, lists of nodes, `count`, `pairs`, `indices` and `state` read the snapshot
+    alone. A live query is refreshed outside of a change, since the function may run again. The 65th operation is a
+    `BadCount`."""
+
+    def __init__(self, user: Pass, check_kinds: bool = True) -> None:
+        super().__init__(user)
+        self._batch, self._check_kinds = Batch(), check_kinds
+        self._next: Optional[int] = None
+        self._kinds: Optional[Dict[str, int]] = None
+        self._made: Set[int] = set()
+        self._removed: Set[int] = set()
+        self._set: Dict[int, Dict[str, Optional[Encoded]]] = {}  # what was set, and None for what was removed
+
+    @property
+    def room(self) -> int:
+        """How many operations may still be collected."""
+        return MOST_OPERATIONS - len(self._batch)
+
+    def _collecting(self) -> Batch:
+        """The batch, which takes one more operation."""
+        if not self._is_pinned:
+            raise NotPinned()
+        if len(self._batch) >= MOST_OPERATIONS:
+            raise BadCount()
+        return self._batch
+
+    def new(self) -> int:
+        """Makes a node, and returns its number."""
+        batch = self._collecting()
+        if self._next is None:
+            self._next = self.next_node
+        node, self._next = self._next, self._next + 1
+        batch.new_node()
+        self._made.add(node)
+        return node
+
+    def remove(self, node: int) -> None:
+        """Removes a node and all its attributes."""
+        self._collecting().remove_node(node)
+        self._made.discard(node)
+        self._set.pop(node, None)
+        self._removed.add(node)
+
+    def set(self, node: int, name: str, value: Value, kind: Optional[int] = None) -> None:
+        """Sets an attribute, with the kind that `Batch.set` gives it. `WrongKind` if it is an integer of another
+        kind than the index of that name, unless the change was made with check_kinds=False."""
+        code, number, taken = encode_value(value, kind)
+        batch = self._collecting()
+        self._check_kind(name, code)
+        batch._add(SET, node, name, code, number, taken)
+        self._set.setdefault(node, {})[name] = code, number, taken
+
+    def _check_kind(self, name: str, kind: Kind) -> None:
+        if not self._check_kinds or kind not in RANGES:
+            return
+        index = KIND_OF.get(self._indexed().get(name, kind))
+        if index is not None and index != kind:
+            raise WrongKind(name, kind.name, index.name)
+
+    def _indexed(self) -> Dict[str, int]:
+        """The kinds of the indices, the collected operations done."""
+        if self._kinds is None:
+            self._kinds = dict(self.indices())
+        return self._kinds
+
+    def unset(self, node: int, name: str) -> None:
+        """Removes an attribute."""
+        self._collecting().unset(node, name)
+        self._set.setdefault(node, {})[name] = None
+
+    def make_index(self, name: str, kind: int) -> None:
+        """Makes an index of this name, for values of this kind. It takes the attributes that are set from then on;
+        `Pass.reindex` sets the others again."""
+        batch, indexed = self._collecting(), self._indexed()
+        batch.make_index(name, kind)
+        indexed.setdefault(name, kind)
+
+    def remove_index(self, name: str) -> None:
+        """Removes the index of this name."""
+        batch, indexed = self._collecting(), self._indexed()
+        batch.remove_index(name)
+        indexed.pop(name, None)
+
+    def _read(self, node: int, name: str) -> Typed:
+        written = self._set.get(node, {})
+        if name in written:
+            encoded = written[name]
+            if encoded is None:
+                raise NoAttribute()
+            return typed_value(*encoded)
+        if node in self._made or node in self._removed:
+            raise NoAttribute()
+        return super()._read(node, name)
+
+    def _listed(self, node: int) -> Dict[str, Typed]:
+        if node in self._removed:
+            raise NoNode()
+        listed = {} if node in self._made else super()._listed(node)
+        for name, encoded in self._set.get(node, {}).items():
+            listed.pop(name, None)
+            if encoded is not None:
+                listed[name] = typed_value(*encoded)
+        return dict(sorted(listed.items()))
+
+    def __contains__(self, node: int) -> bool:
+        return node in self._made or node not in self._removed and super().__contains__(node)
+
+    def __getitem__(self, node: int) -> ChangedAttributes:
+        """A node's attributes, which can be set and deleted as those of a dict."""
+        return ChangedAttributes(self, node)
+
+
+class ChangedAttributes(Attributes, MutableMapping[str, Value]):
+    """A node's attributes in a change."""
+
+    _version: Change
+
+    def __init__(self, change: Change, node: int) -> None:
+        super().__init__(change, node)
+
+    def __setitem__(self, name: str, value: Value) -> None:
+        self._version.set(self.node, name, value)
+
+    def __delitem__(self, name: str) -> None:
+        """Removes an attribute. `NoAttribute`, which is a KeyError, if it isn't there."""
+        self._version._read(self.node, name)
+        self._version.unset(self.node, name)

@@ -1,0 +1,72 @@
+"""Handles of the library: who owns one, and what becomes of it in a forked child."""
+
+from __future__ import annotations
+
+import ctypes
+import os
+import threading
+from types import TracebackType
+from typing import Any, Callable, ClassVar, Optional, Type, TypeVar
+
+from ._library import Handle
+from .errors import Forked
+
+_Self = TypeVar("_Self", bound="Owner")
+
+
+class Owner:
+    """Owns a handle, and gives it up by `close`, at the end of a `with`, or when it goes itself.
+
+    The library takes one call on a handle at a time, so the calls of several threads wait for one another. In a
+    forked child the handle is dead: each call raises `Forked`, and giving it up does nothing. The child may make
+    handles of its own."""
+
+    _forks: ClassVar[int] = 0
+
+    def __init__(self) -> None:
+        self._handle = Handle()
+        self._pointer = ctypes.byref(self._handle)
+        self._lock = threading.RLock()
+        self._made_after = Owner._forks
+
+    @property
+    def _is_dead(self) -> bool:
+        """Whether this process was forked since the handle was made."""
+        return self._made_after != Owner._forks
+
+    def _check_process(self) -> None:
+        """Raises `Forked` if the handle is dead. It comes before each wait for the lock, whose owner may not be in
+        this process."""
+        if self._made_after != Owner._forks:
+            raise Forked()
+
+    def _call(self, call: Callable[..., int], *arguments: Any) -> int:
+        if self._made_after != Owner._forks:
+            raise Forked()
+        with self._lock:
+            return call(self._pointer, *arguments)
+
+    def _give_up(self, call: Callable[..., int]) -> None:
+        """Makes a call that ends the handle's use, which a forked child leaves to its parent."""
+        if not self._is_dead:
+            self._call(call)
+
+    def close(self) -> None:
+        raise NotImplementedError
+
+    def __enter__(self: _Self) -> _Self:
+        return self
+
+    def __exit__(self, kind: Optional[Type[BaseException]], value: Optional[BaseException],
+                 trace: Optional[TracebackType]) -> None:
+        self.close()
+
+    def __del__(self) -> None:
+        self.close()
+
+
+def _count_fork() -> None:
+    Owner._forks += 1
+
+
+os.register_at_fork(after_in_child=_count_fork)

@@ -1,0 +1,268 @@
+"""The operations of a write, and batches of them."""
+
+from __future__ import annotations
+
+import ctypes
+import struct
+from dataclasses import dataclass
+from typing import Iterable, Iterator, List, Optional, Tuple, Union
+
+from ._library import Counts, Operation as RawOperation
+from .errors import BadBytes, BadCount, DataLength, NameLength, NoKind, decoded, encoded
+from .values import KIND_OF, RANGES, Kind, Value, decode_value, encode_value, kind_code, node_number
+
+NEW, REMOVE, SET, UNSET, MAKE_INDEX, REMOVE_INDEX = range(6)
+MOST_OPERATIONS = 64
+"""How many operations a write has at most."""
+BYTES_OF_A_BATCH = MOST_OPERATIONS * (63 + 255)
+"""How many bytes their names and values have at most."""
+
+
+@dataclass(frozen=True)
+class NewNode:
+    """Makes a node."""
+
+    node: int = 0
+    """In an entry of the journal the number of the node that was made, and otherwise of no use."""
+
+
+@dataclass(frozen=True)
+class RemoveNode:
+    """Removes a node and all its attributes."""
+
+    node: int
+
+
+@dataclass(frozen=True)
+class SetAttribute:
+    """Sets a node's attribute. The kind None is that of the value, as `Batch.set` takes it."""
+
+    node: int
+    name: str
+    value: Value
+    kind: Optional[Kind] = None
+
+
+@dataclass(frozen=True)
+class UnsetAttribute:
+    """Removes a node's attribute."""
+
+    node: int
+    name: str
+
+
+@dataclass(frozen=True)
+class MakeIndex:
+    """Makes an index."""
+
+    name: str
+    kind: Kind
+
+
+@dataclass(frozen=True)
+class RemoveIndex:
+    """Removes an index."""
+
+    name: str
+
+
+Operation = Union[NewNode, RemoveNode, SetAttribute, UnsetAttribute, MakeIndex, RemoveIndex]
+
+
+class Batch:
+    """Up to 64 operations, which `Pass.apply` applies all or none. Its calls return the batch, so they can be chained.
+
+    `for operation in batch` goes over them, `len(batch)` is how many there are, and `Batch(operations)` has these."""
+
+    def __init__(self, operations: Iterable[Operation] = ()) -> None:
+        self._operations: List[RawOperation] = []
+        self._bytes = b""
+        for operation in operations:
+            self.add(operation)
+
+    def __len__(self) -> int:
+        return len(self._operations)
+
+    def __iter__(self) -> Iterator[Operation]:
+        for raw, name, value in self._parts():
+            yield _read_back(raw, decoded(name), value)
+
+    def __repr__(self) -> str:
+        return f"<batch of {len(self)} operations>"
+
+    def _add(self, kind: int, node: int = 0, name: str = "", code: int = 0, number: int = 0, value: bytes = b"") -> Batch:
+        return self._add_encoded(kind, node_number(node), encoded(name), code, number, value)
+
+    def _add_encoded(self, kind: int, node: int, name: bytes, code: int, number: int, value: bytes) -> Batch:
+        at = len(self._bytes)
+        self._operations.append(RawOperation(kind, code, node, number, at, len(name), at + len(name), len(value)))
+        self._bytes += name + value
+        return self
+
+    def _parts(self) -> Iterator[Tuple[RawOperation, bytes, bytes]]:
+        """Each operation with the bytes of its name and of its value."""
+        for raw in self._operations:
+            yield (raw, self._bytes[raw.name_at:raw.name_at + raw.name_length],
+                   self._bytes[raw.value_at:raw.value_at + raw.value_length])
+
+    def new_node(self) -> Batch:
+        """Makes a node."""
+        return self._add(NEW)
+
+    def remove_node(self, node: int) -> Batch:
+        """Removes a node and all its attributes."""
+        return self._add(REMOVE, node)
+
+    def set(self, node: int, name: str, value: Value, kind: Optional[int] = None) -> Batch:
+        """Sets an attribute. Without a kind a str is STRING, bytes are RAW, an `Int32` and its like are what they
+        say, and another int is INT64."""
+        code, number, taken = encode_value(value, kind)
+        return self._add(SET, node, name, code, number, taken)
+
+    def unset(self, node: int, name: str) -> Batch:
+        """Removes an attribute."""
+        return self._add(UNSET, node, name)
+
+    def make_index(self, name: str, kind: int) -> Batch:
+        """Makes an index of this name, for values of this kind. It takes the attributes that are set from then on."""
+        return self._add(MAKE_INDEX, 0, name, kind_code(kind))
+
+    def remove_index(self, name: str) -> Batch:
+        """Removes the index of this name."""
+        return self._add(REMOVE_INDEX, 0, name)
+
+    def add(self, operation: Operation) -> Batch:
+        """Adds an operation, as `for operation in batch` gives it."""
+        if isinstance(operation, NewNode):
+            return self._add(NEW, operation.node)
+        if isinstance(operation, RemoveNode):
+            return self.remove_node(operation.node)
+        if isinstance(operation, SetAttribute):
+            return self.set(operation.node, operation.name, operation.value, operation.kind)
+        if isinstance(operation, UnsetAttribute):
+            return self.unset(operation.node, operation.name)
+        if isinstance(operation, MakeIndex):
+            return self.make_index(operation.name, operation.kind)
+        return self.remove_index(operation.name)
+
+    def to_bytes(self) -> bytes:
+        """The batch as bytes, which `from_bytes` and the libraries for C, C++ and Rust read. `BadCount` if it has
+        not 1 to 64 operations, `NameLength`, `DataLength` and `NoKind` for what no write takes."""
+        if not 1 <= len(self) <= MOST_OPERATIONS:
+            raise BadCount()
+        packed = [_packed(place, *parts) for place, parts in enumerate(self._parts())]
+        return b"".join([BEGINNING, bytes([len(self)]), *packed])
+
+    @classmethod
+    def from_bytes(cls, data: bytes) -> Batch:
+        """The batch that `to_bytes` wrote so. `BadBytes` if there is none, or something follows it."""
+        reader, batch = _Reader(data), cls()
+        reader.read_beginning()
+        for _ in range(reader.read_count()):
+            reader.read_operation(batch)
+        reader.read_end()
+        return batch
+
+
+def batch_of(counts: Counts, operations: "ctypes.Array[RawOperation]", texts: "ctypes.Array[ctypes.c_char]") -> Batch:
+    """The batch that a call of the library wrote."""
+    batch = Batch()
+    batch._operations, batch._bytes = operations[:counts.operations], texts.raw[:counts.bytes]
+    return batch
+
+
+def _read_back(raw: RawOperation, name: str, value: bytes) -> Operation:
+    """The operation of a batch that has this name and these bytes of a value."""
+    if raw.kind == NEW:
+        return NewNode(raw.node)
+    if raw.kind == REMOVE:
+        return RemoveNode(raw.node)
+    if raw.kind == UNSET:
+        return UnsetAttribute(raw.node, name)
+    if raw.kind == REMOVE_INDEX:
+        return RemoveIndex(name)
+    if raw.code not in KIND_OF:
+        raise NoKind()
+    if raw.kind == SET:
+        return SetAttribute(raw.node, name, decode_value(raw.code, raw.number, value), KIND_OF[raw.code])
+    return MakeIndex(name, KIND_OF[raw.code])
+
+
+# A batch as bytes, little-endian: the beginning, whose last byte is the format's version; the number of operations in one
+# byte; and the operations. Each has its kind in one byte, and then what it needs of these: the node in 8 bytes; the length of
+# the name in one, and the name; the type code in 4; and the value, a number in 8 bytes, or a length in one and the bytes.
+BEGINNING = b"BEB\x01"
+_WITH_NODE, _WITH_NAME, _WITH_CODE = (NEW, REMOVE, SET, UNSET), (SET, UNSET, MAKE_INDEX, REMOVE_INDEX), (SET, MAKE_INDEX)
+
+
+def _packed(place: int, raw: RawOperation, name: bytes, value: bytes) -> bytes:
+    """The bytes of an operation."""
+    parts = [bytes([raw.kind])]
+    if raw.kind in _WITH_NODE:
+        parts.append(struct.pack("<Q", raw.node))
+    if raw.kind in _WITH_NAME:
+        if len(name) > 63:
+            raise NameLength(place, listed="operation")
+        parts += [bytes([len(name)]), name]
+    if raw.kind in _WITH_CODE:
+        if raw.code not in KIND_OF:
+            raise NoKind(place, listed="operation")
+        parts.append(struct.pack("<I", raw.code))
+    if raw.kind == SET:
+        if len(value) > 255:
+            raise DataLength(place, listed="operation")
+        parts.append(struct.pack("<Q", raw.number) if raw.code in RANGES else bytes([len(value)]) + value)
+    return b"".join(parts)
+
+
+class _Reader:
+    """Reads a batch out of bytes."""
+
+    def __init__(self, data: bytes) -> None:
+        self._data, self._at = bytes(data), 0
+
+    def _take(self, count: int, what: str) -> bytes:
+        """The next bytes, so many of them."""
+        taken = self._data[self._at:self._at + count]
+        if len(taken) < count:
+            raise BadBytes(self._at, f"{what} is cut off")
+        self._at += count
+        return taken
+
+    def _number(self, count: int, what: str) -> int:
+        return int.from_bytes(self._take(count, what), "little")
+
+    def _counted(self, what: str) -> bytes:
+        """Bytes that their length comes before."""
+        return self._take(self._number(1, f"the length of {what}"), what)
+
+    def read_beginning(self) -> None:
+        if self._data[:3] != BEGINNING[:3]:
+            raise BadBytes(0, "another beginning")
+        if self._data[3:4] != BEGINNING[3:]:
+            raise BadBytes(3, "another version of the format")
+        self._at = len(BEGINNING)
+
+    def read_count(self) -> int:
+        count = self._number(1, "the number of operations")
+        if not 1 <= count <= MOST_OPERATIONS:
+            raise BadBytes(self._at - 1, f"{count} operations")
+        return count
+
+    def read_operation(self, batch: Batch) -> None:
+        """Reads an operation, and adds it to the batch."""
+        kind = self._number(1, "an operation")
+        if kind > REMOVE_INDEX:
+            raise BadBytes(self._at - 1, f"the unknown operation {kind}")
+        node = self._number(8, "a node") if kind in _WITH_NODE else 0
+        name = self._counted("a name") if kind in _WITH_NAME else b""
+        code = self._number(4, "a type code") if kind in _WITH_CODE else 0
+        if kind in _WITH_CODE and code not in KIND_OF:
+            raise BadBytes(self._at - 4, f"the unknown type code {code:#x}")
+        number = self._number(8, "a number") if kind == SET and code in RANGES else 0
+        value = self._counted("a value") if kind == SET and code not in RANGES else b""
+        batch._add_encoded(kind, node, name, code, number, value)
+
+    def read_end(self) -> None:
+        if self._at < len(self._data):
+            raise BadBytes(self._at, "more bytes")

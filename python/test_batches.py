@@ -1,0 +1,184 @@
+"""Tests of batches that are read back, as operations and as bytes, and of the entries of the journal."""
+
+import random
+import threading
+import unittest
+
+import bestore
+
+EACH = [
+    bestore.NewNode(), bestore.RemoveNode(2**64 - 1), bestore.SetAttribute(1, "hé", "é", bestore.STRING),
+    bestore.SetAttribute(1, "k", "a/b", bestore.MIME), bestore.SetAttribute(1, "k", b"\0\xff", bestore.RAW),
+    bestore.SetAttribute(1, "k", -(2**31), bestore.INT32), bestore.SetAttribute(1, "k", -(2**63), bestore.INT64),
+    bestore.SetAttribute(1, "k", 2**32 - 1, bestore.UINT32), bestore.SetAttribute(1, "k", 2**64 - 1, bestore.UINT64),
+    bestore.UnsetAttribute(1, "k"), bestore.MakeIndex("k", bestore.UINT64), bestore.RemoveIndex("k"),
+]
+
+
+def random_operation(chance):
+    node, name = chance.randrange(2**64), chance.choice(["a", "MAIL:from", "hé" * 20, "x" * 63])
+    value, kind = chance.choice([
+        ("é" * 127, bestore.STRING), ("", bestore.MIME), (bytes(255), bestore.RAW), (-5, bestore.INT32),
+        (-(2**63), bestore.INT64), (5, bestore.UINT32), (2**64 - 1, bestore.UINT64)])
+    return chance.choice([
+        bestore.NewNode(node), bestore.RemoveNode(node), bestore.SetAttribute(node, name, value, kind),
+        bestore.UnsetAttribute(node, name), bestore.MakeIndex(name, kind), bestore.RemoveIndex(name)])
+
+
+class Operations(unittest.TestCase):
+    def test_read_back(self):
+        batch = bestore.Batch(EACH)
+        self.assertEqual((list(batch), len(batch), repr(batch)), (EACH, len(EACH), f"<batch of {len(EACH)} operations>"))
+        chained = bestore.Batch().new_node().set(1, "a", bestore.Int32(5)).set(1, "b", "x").make_index("a", bestore.INT32)
+        self.assertEqual(list(chained), [
+            bestore.NewNode(), bestore.SetAttribute(1, "a", 5, bestore.INT32), bestore.SetAttribute(1, "b", "x", bestore.STRING),
+            bestore.MakeIndex("a", bestore.INT32)])
+        self.assertEqual(list(bestore.Batch([bestore.SetAttribute(1, "a", 5)])), [bestore.SetAttribute(1, "a", 5, bestore.INT64)])
+        self.assertNotEqual(bestore.NewNode(5), bestore.RemoveNode(5))
+        for operation in EACH:
+            self.assertEqual(eval(repr(operation), vars(bestore), {"bestore": bestore}), operation)
+
+    def test_surrogates(self):
+        for operation in (
+            bestore.SetAttribute(1, "\udcff", 5), bestore.SetAttribute(1, "a", "\udcff"),
+            bestore.MakeIndex("\ud800", bestore.INT32),
+        ):
+            with self.assertRaises(bestore.NotUTF8):
+                bestore.Batch().add(operation)
+        with bestore.open(64, 1, 100) as store, store.pin() as version, self.assertRaises(bestore.NotUTF8):
+            version.get(1, "\udcff")
+
+
+class Bytes(unittest.TestCase):
+    def test_each_operation(self):
+        """Byte by byte, as the libraries for the other languages have it too."""
+        for operation, packed in [
+            (bestore.NewNode(7), "00 0700000000000000"), (bestore.RemoveNode(258), "01 0201000000000000"),
+            (bestore.SetAttribute(1, "a", "é", bestore.STRING), "02 0100000000000000 01 61 52545343 02 c3a9"),
+            (bestore.SetAttribute(1, "a", b"", bestore.RAW), "02 0100000000000000 01 61 54574152 00"),
+            (bestore.SetAttribute(1, "a", -2, bestore.INT32), "02 0100000000000000 01 61 474e4f4c feffffffffffffff"),
+            (bestore.UnsetAttribute(1, "ab"), "03 0100000000000000 02 6162"),
+            (bestore.MakeIndex("a", bestore.UINT64), "04 01 61 474c4c55"), (bestore.RemoveIndex("a"), "05 01 61"),
+        ]:
+            data = bestore.Batch([operation]).to_bytes()
+            self.assertEqual(data, bytes.fromhex("42454201 01" + packed))
+            self.assertEqual(list(bestore.Batch.from_bytes(data)), [operation])
+
+    def test_random(self):
+        chance = random.Random(1)
+        for _ in range(300):
+            operations = [random_operation(chance) for _ in range(chance.randrange(1, 65))]
+            data = bestore.Batch(operations).to_bytes()
+            again = bestore.Batch.from_bytes(data)
+            self.assertEqual((list(again), again.to_bytes()), (operations, data))
+
+    def test_broken(self):
+        whole = bestore.Batch([bestore.SetAttribute(1, "ab", 5, bestore.INT32)]).to_bytes()
+        for data, offset, reason in [
+            (b"", 0, "another beginning"), (b"BEC" + whole[3:], 0, "another beginning"),
+            (b"BEB\x02" + whole[4:], 3, "another version"), (whole[:4], 4, "is cut off"),
+            (whole[:4] + b"\0", 4, "0 operations"), (whole[:4] + b"\x41" + whole[5:], 4, "65 operations"),
+            (whole[:5] + b"\6" + whole[6:], 5, "the unknown operation 6"),
+            (whole[:17] + b"\0" + whole[18:], 17, "the unknown type code"),
+            (whole[:9], 6, "a node is cut off"), (whole[:16], 15, "a name is cut off"), (whole[:-1], 21, "a number is cut off"),
+            (whole + b"\0", len(whole), "more bytes"),
+        ]:
+            with self.assertRaises(bestore.BadBytes) as fault:
+                bestore.Batch.from_bytes(data)
+            self.assertEqual(fault.exception.offset, offset)
+            self.assertIn(reason, str(fault.exception))
+        for end in range(len(whole)):
+            with self.assertRaises(bestore.BadBytes):
+                bestore.Batch.from_bytes(whole[:end])
+
+    def test_anything(self):
+        """Bytes with random changes are a batch that is written as it was read, or `BadBytes`."""
+        chance, read = random.Random(2), 0
+        for _ in range(3000):
+            data = bytearray(bestore.Batch([random_operation(chance) for _ in range(3)]).to_bytes())
+            for _ in range(chance.randrange(3)):
+                data[chance.randrange(len(data))] = chance.randrange(256)
+            try:
+                batch = bestore.Batch.from_bytes(bytes(data))
+                self.assertEqual(batch.to_bytes(), bytes(data))
+                list(batch)
+                read += 1
+            except bestore.Error:
+                pass
+        self.assertGreater(read, 500)
+
+    def test_no_bytes(self):
+        for batch, error in [
+            (bestore.Batch(), bestore.BadCount), (bestore.Batch([bestore.NewNode()] * 65), bestore.BadCount),
+            (bestore.Batch().new_node().unset(1, "x" * 64), bestore.NameLength),
+            (bestore.Batch().new_node().set(1, "x", bytes(256)), bestore.DataLength),
+            (bestore.Batch().new_node().make_index("x", 1), bestore.NoKind),
+        ]:
+            with self.assertRaises(error) as fault:
+                batch.to_bytes()
+            self.assertIn(fault.exception.operation, (None, 1))
+
+    def test_what_is_no_text(self):
+        """A text that is no UTF-8 is found when it is read back or applied."""
+        data = bestore.Batch([bestore.SetAttribute(1, "ab", "xy", bestore.STRING)]).to_bytes()
+        for broken in (data.replace(b"ab", b"\xff\xfe"), data.replace(b"xy", b"\xff\xfe")):
+            batch = bestore.Batch.from_bytes(broken)
+            with self.assertRaises(bestore.NotUTF8):
+                list(batch)
+            with bestore.open(64, 1, 100) as store, self.assertRaises(bestore.NotUTF8):
+                store.apply(batch)
+
+
+class Entries(unittest.TestCase):
+    def test_entries(self):
+        with bestore.open(64, 2, 100) as store, store.another() as other:
+            self.assertEqual(list(store.journal_from()), [])
+            store.apply(bestore.Batch().new_node().set(1, "k", "v").new_node())
+            other.apply(bestore.Batch().remove_node(2).make_index("k", bestore.INT32).set(1, "k", -5, bestore.INT32))
+            first = bestore.Entry(1, store.number, (
+                bestore.NewNode(1), bestore.SetAttribute(1, "k", "v", bestore.STRING), bestore.NewNode(2)))
+            second = bestore.Entry(2, other.number, (
+                bestore.RemoveNode(2), bestore.MakeIndex("k", bestore.INT32), bestore.SetAttribute(1, "k", -5, bestore.INT32)))
+            self.assertEqual((store.number, other.number), (1, 0))
+            self.assertEqual((list(store.journal_from()), list(other.journal_from(1))), ([first, second], [second]))
+            for after in (2, 3, 2**64 - 1, 2**64):
+                self.assertEqual(list(store.journal_from(after)), [])
+            self.assertEqual(list(store.journal_from(1 - 2**64)), [first, second])
+
+    def test_makes_the_store_again(self):
+        chance = random.Random(3)
+        with bestore.open(1024, 1, 1000) as store, bestore.open(1024, 1, 1000) as other:
+            store.new_nodes(20)
+            for _ in range(100):
+                batch = bestore.Batch()
+                for _ in range(chance.randrange(1, 65)):
+                    batch.set(chance.randrange(1, 21), chance.choice("abc"), chance.choice(["x" * 255, 5, b"\0"]))
+                store.apply(batch)
+            for entry in store.journal_from():
+                number, made = other.apply(bestore.Batch(entry.operations))
+                self.assertEqual(number, entry.number)
+                self.assertEqual(made, [it.node if isinstance(it, bestore.NewNode) else 0 for it in entry.operations])
+            self.assertEqual(other.journal(), store.journal())
+
+    def test_follows_writers(self):
+        with bestore.open(1024, 3, 10000) as store:
+            passes = [store.another() for _ in range(2)]
+
+            def write(user):
+                for _ in range(100):
+                    user.new_node()
+            running = [threading.Thread(target=write, args=(user,)) for user in passes]
+            for thread in running:
+                thread.start()
+            seen = []
+            while len(seen) < 200:
+                seen += store.journal_from(len(seen))
+            for thread in running:
+                thread.join()
+            self.assertEqual([entry.number for entry in seen], list(range(1, 201)))
+            self.assertEqual([entry.operations for entry in seen], [(bestore.NewNode(node),) for node in range(1, 201)])
+            self.assertEqual({entry.pass_number for entry in seen}, {user.number for user in passes})
+
+
+if __name__ == "__main__":
+    unittest.main()

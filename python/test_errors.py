@@ -1,0 +1,113 @@
+"""Tests of what errors carry and say."""
+
+import glob
+import os
+import pickle
+import re
+import unittest
+
+import bestore
+from bestore import errors
+
+INCLUDE = os.path.join(os.path.dirname(os.path.abspath(__file__)), "..", "include")
+
+
+def header():
+    """The text of the headers for C."""
+    texts = []
+    for path in sorted(glob.glob(os.path.join(INCLUDE, "*.h"))):
+        with open(path, encoding="utf-8") as file:
+            texts.append(file.read())
+    return "".join(texts)
+
+
+class Numbers(unittest.TestCase):
+    def test_each_error_of_the_header(self):
+        text = header()
+        enumerated = text[text.index("BES_OK = 0"):]
+        names = dict(re.findall(r"BES_(\w+) = (\d+)", enumerated[:enumerated.index("}")]))
+        self.assertEqual({name: int(number) for name, number in names.items()}, {it.name: it.value for it in bestore.ErrorNumber})
+        self.assertEqual(sorted(errors.Refusal._classes), sorted(number for number in bestore.ErrorNumber if number != 0))
+        texts = text[text.index("bes_strerror(uint32_t"):]
+        meanings = [it for it in re.findall(r'"([^"]+)"', texts[:texts.index("unknown")]) if it != "done"]
+        self.assertEqual(meanings, [errors.refusal(number).meaning for number in sorted(errors.Refusal._classes)])
+
+    def test_version_of_the_header(self):
+        self.assertEqual(re.findall(r'#define BES_VERSION "(.+)"', header()), [bestore.__version__])
+
+
+class Errors(unittest.TestCase):
+    def test_what_is_carried(self):
+        self.assertEqual(errors.refusal(1, 3).pass_number, 3)
+        self.assertEqual(errors.refusal(11, 7).least, 7)
+        self.assertEqual(errors.refusal(76, 7).found, 7)
+        self.assertEqual(errors.refusal(22, 2, listed="item").item, 2)
+        self.assertIsNone(errors.refusal(1).pass_number)
+        fault = errors.refusal(13, 4, listed="item")
+        self.assertEqual((fault.item, fault.offset, str(fault)), (4, None, "a pattern is malformed (item 4, counted from 0)"))
+        fault = errors.refusal(18, 5, listed="operation")
+        self.assertEqual((fault.item, fault.operation), (None, 5))
+        self.assertEqual(str(fault), "a name has not 1 to 63 bytes (operation 5, counted from 0)")
+        self.assertIsNone(errors.refusal(69, 0, listed="operation").operation)
+        self.assertIsNone(errors.refusal(14, 0, "a==1").offset)
+        self.assertEqual((errors.refusal(99).number, str(errors.refusal(99))), (99, "unknown error"))
+
+    def test_caught_by_what_they_are(self):
+        for kind, number in [(KeyError, 2), (KeyError, 3), (MemoryError, 10), (ValueError, 19), (bestore.Full, 11)]:
+            with self.assertRaises(kind):
+                raise errors.refusal(number)
+        of_queries = {it.__name__ for it in errors.Refusal._classes.values() if issubclass(it, bestore.QueryError)}
+        self.assertEqual(of_queries, {
+            "QuerySyntax", "BadPattern", "TooLong", "TooDeep", "TooMany", "NotCovered", "BadItems", "NoItem"})
+        raised = [it for it in vars(errors).values() if isinstance(it, type) and issubclass(it, Exception)]
+        self.assertTrue(all(issubclass(it, bestore.Error) for it in raised))
+        for name in (it.__name__ for it in raised if not it.__name__.startswith("_")):
+            self.assertIs(getattr(bestore, name), getattr(errors, name))
+
+    def test_pickled(self):
+        fault = pickle.loads(pickle.dumps(errors.refusal(12, 6, "size <")))
+        self.assertEqual((type(fault), fault.offset, fault.query), (bestore.QuerySyntax, 6, "size <"))
+        self.assertEqual(pickle.loads(pickle.dumps(errors.refusal(70, 3, listed="operation"))).operation, 3)
+        fault = bestore.NotCovered(query="a==1")
+        fault.offset, fault.missing, fault.indices = 0, "a", ("b",)
+        self.assertEqual(str(pickle.loads(pickle.dumps(fault))), str(fault))
+        for fault in (
+            bestore.TooManyAttempts(3), bestore.WrongKind("a", "INT64", "INT32"), bestore.BadBytes(3, "more bytes"),
+            bestore.Forked(),
+        ):
+            self.assertEqual(str(pickle.loads(pickle.dumps(fault))), str(fault))
+
+    def test_subclass_of_a_program(self):
+        class Mine(bestore.Busy):
+            pass
+        self.assertIs(type(errors.refusal(Mine.number)), bestore.Busy)
+
+
+class Carets(unittest.TestCase):
+    def test_under_the_character(self):
+        for text, offset, shown in [
+            ("size <", 6, "  size <\n        ^"), ("näme == [a", 9, "  näme == [a\n          ^"), ("", 0, "  \n  ^"),
+            ("a==1\n||\tb", 6, "  a==1 || b\n        ^"), ("漢字==[a", 8, "  漢字==[a\n        ^"),
+            ("e\u0301==[", 5, "  e\u0301==[\n     ^"),
+        ]:
+            fault = errors.refusal(12, offset, text)
+            self.assertEqual((fault.offset, str(fault)), (offset, f"the query leaves the grammar\n{shown}"))
+        self.assertEqual([errors.refusal(12, offset, "é é").column for offset in (0, 2, 3, 5, None)], [0, 1, 2, 3, None])
+        self.assertEqual((errors.refusal(12, None, "size <").shown(), str(errors.refusal(12, None, "size <"))), (
+            None, "the query leaves the grammar"))
+
+    def test_of_a_wide_query(self):
+        """What is shown is never wider than asked for, and the caret is under the same character."""
+        text = "".join(chr(0x4e00 + place) if place % 7 == 0 else chr(ord("a") + place % 26) for place in range(300)) + "!"
+        for column in (0, 1, 20, 150, 299, 300, 301):
+            for width in (4, 10, 40, 333, 1000):
+                shown, caret = errors.pointed(text, column, width).split("\n")
+                self.assertLessEqual(errors.columns_of(shown), max(width, 4))
+                front = len(caret) - 1
+                place = next(it for it in range(len(shown) + 1) if errors.columns_of(shown[:it]) == front)
+                self.assertEqual(shown[place:place + 1], text[column:column + 1])
+        self.assertEqual(errors.refusal(12, 16, "size < 5 && a ==").shown(10), "… && a ==\n         ^")
+
+
+if __name__ == "__main__":
+    unittest.main()

@@ -1,0 +1,106 @@
+"""Tests of handles in a forked child."""
+
+import gc
+import os
+import threading
+import traceback
+import unittest
+import warnings
+
+import bestore
+
+
+@unittest.skipUnless(hasattr(os, "fork"), "there is no fork")
+class Forks(unittest.TestCase):
+    def in_child(self, work):
+        """Runs this in a forked child, which has to end well within 20 seconds."""
+        reading, writing = os.pipe()
+        with warnings.catch_warnings():
+            warnings.simplefilter("ignore")  # of a fork beside threads, from Python 3.12 on
+            child = os.fork()
+        if child == 0:
+            try:
+                work()
+                os.write(writing, b"ended well")
+            except BaseException:
+                os.write(writing, traceback.format_exc().encode())
+            finally:
+                os._exit(0)
+        os.close(writing)
+        with os.fdopen(reading, "rb") as said:
+            timer = threading.Timer(20, os.kill, (child, 9))
+            timer.start()
+            self.assertEqual(said.read().decode(), "ended well")
+            timer.cancel()
+        os.waitpid(child, 0)
+
+    def test_dead(self):
+        with bestore.open(64, 2, 100) as store, bestore.prepare("k==1") as query:
+            store.make_index("k", bestore.INT64)
+            version = store.pin()
+
+            def work():
+                for use in (
+                    store.new_node, store.another, store.pin, store.status, store.journal, store.meet, lambda: store.number,
+                    lambda: version.query("k==1"), lambda: version.get(1, "k"), lambda: version.query_prepared(query),
+                    lambda: query.text, lambda: version.refresh(query), lambda: version.count(query),
+                    lambda: store.change(lambda change: change.new()),
+                    lambda: list(store.journal_from()), lambda: store.reindex("k"), lambda: list(version.state()),
+                ):
+                    with self.assertRaises(bestore.Forked):
+                        use()
+                with store, query, version:
+                    pass
+            self.in_child(work)
+            self.assertEqual((version.query("k==1"), store.status().oldest), ([], (1, store.number)))
+            version.unpin()
+            self.assertEqual(store.new_node(), 1)
+
+    def test_destructors_do_nothing(self):
+        with bestore.open(64, 3, 100) as store:
+            kept = [store.another(), bestore.prepare("k==1")]
+            kept.append(kept[0].pin())
+
+            def work():
+                kept.clear()
+                gc.collect()
+            self.in_child(work)
+            kept[0].new_node()
+            self.assertEqual((kept[2].nodes(), kept[0].status().entries), ([], 1))
+
+    def test_lock_of_a_thread_that_is_not_there(self):
+        """A thread of the parent is in a call as the child is forked. The child doesn't wait for it."""
+        with bestore.open(64, 1, 100) as store:
+            begun, ended = threading.Event(), threading.Event()
+
+            def call(handle):
+                begun.set()
+                ended.wait(20)
+                return 0
+            running = threading.Thread(target=store._call, args=(call,))
+            running.start()
+            begun.wait()
+
+            def work():
+                with self.assertRaises(bestore.Forked):
+                    store.new_node()
+                store.close()
+            self.in_child(work)
+            ended.set()
+            running.join()
+
+    def test_store_of_the_child(self):
+        with bestore.open(64, 1, 100) as store:
+            def work():
+                with bestore.open(64, 2, 100) as own, own.another() as other, bestore.prepare("k==1") as query:
+                    own.make_index("k", bestore.INT64)
+                    other.change(lambda change: change.set(change.new(), "k", 1))
+                    with own.pin() as version:
+                        self.assertEqual(version.query_prepared(query), [1])
+                    self.in_child(lambda: self.assertRaises(bestore.Forked, own.new_node))
+            self.in_child(work)
+            self.assertEqual(store.new_node(), 1)
+
+
+if __name__ == "__main__":
+    unittest.main()
