@@ -1,6 +1,6 @@
 # Completes the command bestore in bash.
 
-# The names of files that go on the word, as if the command had no completion.
+# Sets COMPREPLY to the files whose names begin with the word.
 _bestore_files() {
     compopt -o filenames 2>/dev/null
     mapfile -t COMPREPLY < <(compgen -f -- "$1")

@@ -47,7 +47,7 @@ def platform_tag(path: str) -> str:
     return f"manylinux_{major}_{minor}_{machine}"
 
 
-class BuildWithLibrary(build_py):  # type: ignore[misc]
+class BuildWithLibrary(build_py):
     """Copies the shared object beside the modules."""
 
     def run(self) -> None:
@@ -57,7 +57,7 @@ class BuildWithLibrary(build_py):  # type: ignore[misc]
             shutil.copyfile(path, os.path.join(self.build_lib, "bestore", SONAME))
 
 
-class PlatformWheel(bdist_wheel):  # type: ignore[misc]
+class PlatformWheel(bdist_wheel):
     """A wheel of one platform if the shared object is inside; of any Python 3, since no module is compiled."""
 
     def get_tag(self) -> Tuple[str, str, str]:
@@ -65,7 +65,7 @@ class PlatformWheel(bdist_wheel):  # type: ignore[misc]
         return ("py3", "none", "any" if path is None else platform_tag(path))
 
 
-class WithLibrary(Distribution):  # type: ignore[misc]
+class WithLibrary(Distribution):
     """Says whether what is packed is the same on every platform."""
 
     def has_ext_modules(self) -> bool:
