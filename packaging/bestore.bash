@@ -1,0 +1,33 @@
+# Completes the command bestore in bash.
+
+# Sets COMPREPLY to the files whose names begin with the word.
+_bestore_files() {
+    compopt -o filenames 2>/dev/null
+    mapfile -t COMPREPLY < <(compgen -f -- "$1")
+}
+
+# Sets COMPREPLY to the words with which the command line may go on.
+_bestore() {
+    local word=${COMP_WORDS[COMP_CWORD]} before=${COMP_WORDS[COMP_CWORD-1]} options
+    COMPREPLY=()
+    if [ "$COMP_CWORD" -eq 1 ]; then
+        mapfile -t COMPREPLY < <(compgen -W 'run race shell check dump --help --version' -- "$word")
+        return
+    fi
+    case $before in
+        --pages | --commits) return ;; # a number
+    esac
+    case ${COMP_WORDS[1]} in
+        run) options='--journal --pages --commits --help' ;;
+        race | shell) options='--pages --commits --help' ;;
+        dump) options='--state --help' ;;
+        check) options='--help' ;;
+        *) return ;;
+    esac
+    case $word in
+        -*) mapfile -t COMPREPLY < <(compgen -W "$options" -- "$word") ;;
+        *) _bestore_files "$word" ;;
+    esac
+}
+
+complete -F _bestore bestore
