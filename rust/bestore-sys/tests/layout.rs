@@ -38,7 +38,7 @@ fn layouts() -> Vec<Layout> {
     }
 }
 
-/// The folder with bestore.h: BESTORE_INCLUDE_DIR, otherwise the one of the repository.
+/// The folder with `bestore.h`: `BESTORE_INCLUDE_DIR`, otherwise the one of the repository.
 fn include_folder() -> PathBuf {
     std::env::var_os("BESTORE_INCLUDE_DIR").map_or_else(
         || PathBuf::from(concat!(env!("CARGO_MANIFEST_DIR"), "/../../include")),

@@ -60,7 +60,10 @@ pub enum Operation<'a> {
 /// # Ok::<(), bestore::Error>(())
 /// ```
 ///
-/// No call checks names and values. [`Pass::apply`](crate::Pass::apply) does, and returns the index of the first bad operation.
+/// No call here checks names and values: [`Pass::apply`](crate::Pass::apply) does, and returns the index of the first bad operation.
+///
+/// # Panics
+/// A call that adds an operation panics if the names and values have 4 GiB or more.
 #[derive(Clone, Default)]
 pub struct Batch {
     pub(crate) list: List,
@@ -159,19 +162,19 @@ impl Batch {
         value: &[u8],
     ) -> &mut Self {
         let List { operations, bytes } = &mut self.list;
-        let name_at = bytes.len() as u32;
+        let name_at = bytes.len();
         bytes.extend_from_slice(name.as_bytes());
-        let value_at = bytes.len() as u32;
+        let value_at = bytes.len();
         bytes.extend_from_slice(value);
         operations.push(bes_operation {
             kind,
             code,
             node,
             number,
-            name_at,
-            name_length: name.len() as u32,
-            value_at,
-            value_length: value.len() as u32,
+            name_at: narrow(name_at),
+            name_length: narrow(name.len()),
+            value_at: narrow(value_at),
+            value_length: narrow(value.len()),
         });
         self
     }
@@ -182,6 +185,10 @@ impl Batch {
             count => Err(Error::BadCount { count }),
         }
     }
+}
+
+fn narrow(length: usize) -> u32 {
+    u32::try_from(length).expect("the names and values of a batch have less than 4 GiB")
 }
 
 impl From<List> for Batch {

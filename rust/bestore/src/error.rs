@@ -91,6 +91,12 @@ pub enum Error {
     },
     /// The handle was opened before this process was forked, and belongs to the parent.
     Forked,
+    /// The write was made in memory, and could not be saved. The store accepts no further write.
+    #[cfg(feature = "saved")]
+    NotSaved(std::sync::Arc<crate::saved::Error>),
+    /// Nothing was written, because saving has failed before, or because the file is closed.
+    #[cfg(feature = "saved")]
+    Stopped(std::sync::Arc<crate::saved::Error>),
     /// An error of the program's own, made by [`Error::other`] in the closure of a change.
     Other(Box<dyn std::error::Error + Send + Sync>),
     /// An answer that this crate doesn't know.
@@ -134,6 +140,8 @@ impl Error {
             Error::Unexpected { code, .. } => *code,
             Error::KindMismatch { .. } | Error::BadBatch { .. } => return None,
             Error::Forked | Error::Other(_) => return None,
+            #[cfg(feature = "saved")]
+            Error::NotSaved(_) | Error::Stopped(_) => return None,
         })
     }
 
@@ -257,6 +265,10 @@ impl fmt::Display for Error {
             }
             Error::BadBatch { offset, why } => write!(f, "{why} (byte {offset}, counted from 0)"),
             Error::Forked => f.write_str("the handle belongs to the parent of this process"),
+            #[cfg(feature = "saved")]
+            Error::NotSaved(error) => write!(f, "the write could not be saved: {error}"),
+            #[cfg(feature = "saved")]
+            Error::Stopped(error) => write!(f, "the store accepts no writes: {error}"),
             Error::Other(error) => error.fmt(f),
             Error::Unexpected { code, .. } => write!(f, "the library returned {code}"),
         }
@@ -267,6 +279,8 @@ impl std::error::Error for Error {
     fn source(&self) -> Option<&(dyn std::error::Error + 'static)> {
         match self {
             Error::Query(error) => Some(error),
+            #[cfg(feature = "saved")]
+            Error::NotSaved(error) | Error::Stopped(error) => Some(error.as_ref()),
             Error::Other(error) => error.source(),
             _ => None,
         }

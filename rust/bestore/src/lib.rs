@@ -52,6 +52,10 @@
 //! ```
 //!
 //! In a forked child each handle of the parent is dead: its calls return [`Error::Forked`], and its end does nothing.
+//!
+//! # Features
+//!
+//! - `saved`: the module `saved`, a store whose writes are kept in a file of SQLite.
 #![warn(missing_docs, missing_debug_implementations, rust_2018_idioms)]
 #![deny(unsafe_code)]
 
@@ -63,6 +67,8 @@ mod journal;
 mod pass;
 mod prepared;
 mod raw;
+#[cfg(feature = "saved")]
+pub mod saved;
 mod snapshot;
 mod store;
 mod text;

@@ -3,6 +3,8 @@
 use crate::raw::{Answer, RawPass};
 use crate::{Batch, Change, Entries, Error, Kind, Result, Snapshot, Value};
 use bestore_sys as sys;
+use std::fmt;
+use std::sync::Arc;
 use std::thread;
 use std::time::Duration;
 
@@ -98,6 +100,18 @@ pub struct Oldest {
 pub struct Pass {
     raw: RawPass,
     retry: Retry,
+    keeper: Option<Arc<dyn Keeper>>,
+}
+
+/// What keeps the writes of a store elsewhere too.
+pub(crate) trait Keeper: Send + Sync + fmt::Debug {
+    /// Makes a write of the batch by the pass with this number, and returns when it is kept. No two writes are made at once.
+    fn keep(
+        &self,
+        pass: u64,
+        batch: &Batch,
+        write: &mut dyn FnMut() -> Result<Written>,
+    ) -> Result<Written>;
 }
 
 impl Pass {
@@ -105,7 +119,14 @@ impl Pass {
         Self {
             raw,
             retry: Retry::default(),
+            keeper: None,
         }
+    }
+
+    #[cfg(feature = "saved")]
+    pub(crate) fn kept_by(mut self, keeper: Arc<dyn Keeper>) -> Self {
+        self.keeper = Some(keeper);
+        self
     }
 
     pub(crate) fn raw(&self) -> &RawPass {
@@ -159,6 +180,15 @@ impl Pass {
     }
 
     fn write(&self, expected: Option<u64>, batch: &Batch) -> Result<Written> {
+        match &self.keeper {
+            None => self.write_unkept(expected, batch),
+            Some(keeper) => keeper.keep(self.number()?, batch, &mut || {
+                self.write_unkept(expected, batch)
+            }),
+        }
+    }
+
+    fn write_unkept(&self, expected: Option<u64>, batch: &Batch) -> Result<Written> {
         let mut made = vec![0; batch.len()];
         let mut full = 0;
         loop {

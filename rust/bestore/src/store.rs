@@ -2,7 +2,7 @@
 
 use crate::raw::{Birthplace, RawPass};
 use crate::{Error, Pass, Result};
-use std::sync::{Arc, Mutex, PoisonError};
+use std::sync::{Arc, Mutex, MutexGuard, PoisonError};
 
 /// How large a store may grow.
 ///
@@ -37,7 +37,7 @@ impl Default for Limits {
 /// The memory of the store is freed with the last clone and the last pass.
 #[derive(Clone, Debug)]
 pub struct Store {
-    own: Arc<Mutex<RawPass>>,
+    own: Arc<Mutex<Pass>>,
     birthplace: Birthplace,
 }
 
@@ -52,7 +52,7 @@ impl Store {
         }
         let own = RawPass::open(limits.pages, limits.passes + 1, limits.commits)?;
         Ok(Self {
-            own: Arc::new(Mutex::new(own)),
+            own: Arc::new(Mutex::new(Pass::new(own))),
             birthplace: Birthplace::here(),
         })
     }
@@ -62,8 +62,12 @@ impl Store {
     /// # Errors
     /// [`Error::NoPass`] if as many are open as [`Limits::passes`] says; [`Error::OutOfMemory`]; [`Error::Forked`].
     pub fn pass(&self) -> Result<Pass> {
+        Ok(Pass::new(self.own()?.raw().another()?))
+    }
+
+    /// The pass of the store itself, from which the others are made.
+    pub(crate) fn own(&self) -> Result<MutexGuard<'_, Pass>> {
         self.birthplace.check()?;
-        let own = self.own.lock().unwrap_or_else(PoisonError::into_inner);
-        Ok(Pass::new(own.another()?))
+        Ok(self.own.lock().unwrap_or_else(PoisonError::into_inner))
     }
 }
