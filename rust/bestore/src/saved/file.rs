@@ -12,6 +12,15 @@ const APPLICATION: i64 = 0x6265_7374;
 /// The version of the format.
 const FORMAT: i64 = 1;
 
+/// The last two statements take the lock.
+const SETTINGS: &str = "
+    PRAGMA journal_mode = WAL;
+    PRAGMA synchronous = FULL;
+    PRAGMA journal_size_limit = 1048576;
+    BEGIN IMMEDIATE;
+    COMMIT;
+";
+
 const TABLES: &str = "
     CREATE TABLE about (what TEXT PRIMARY KEY, number INTEGER NOT NULL) WITHOUT ROWID;
     INSERT INTO about VALUES ('entries', 0), ('next', 1);
@@ -75,18 +84,16 @@ impl File {
             self.connection
                 .pragma_update(None, "locking_mode", "EXCLUSIVE"),
         )?;
-        let is_empty = self.check_format()?;
-        let settings =
-            "PRAGMA auto_vacuum = FULL; PRAGMA journal_mode = WAL; PRAGMA synchronous = FULL;
-            PRAGMA journal_size_limit = 1048576; BEGIN IMMEDIATE; COMMIT;";
-        self.sqlite(self.connection.execute_batch(settings))?;
-        if is_empty {
-            let marks = format!(
+        let run = |sql: &str| self.sqlite(self.connection.execute_batch(sql));
+        if self.check_format()? {
+            run("PRAGMA auto_vacuum = FULL")?;
+            run(SETTINGS)?;
+            run(&format!(
                 "BEGIN IMMEDIATE; PRAGMA application_id = {APPLICATION}; PRAGMA user_version = {FORMAT}; {TABLES} COMMIT;"
-            );
-            self.sqlite(self.connection.execute_batch(&marks))?;
+            ))
+        } else {
+            run(SETTINGS)
         }
-        Ok(())
     }
 
     /// Whether the file is new. One of another program, or of a newer format, is refused.
