@@ -1,7 +1,7 @@
 //! Why a call did nothing.
 
 use crate::raw::{Refused, FORKED, OPERATIONS};
-use crate::Kind;
+use crate::{text, Kind};
 use bestore_sys as sys;
 use std::fmt;
 
@@ -154,8 +154,25 @@ impl Error {
                     .has_offset()
                     .then_some(refused.carried)
                     .and_then(|offset| usize::try_from(offset).ok()),
+                missing: None,
             }),
             None => refused.into(),
+        }
+    }
+
+    /// The same error, which names the first index that a query lacks, if that is what is wrong.
+    pub(crate) fn with_missing(self, has_index: impl Fn(&str) -> bool) -> Self {
+        match self {
+            Error::Query(mut error) if error.fault == QueryFault::NotCovered => {
+                let mut names = text::names(&error.text).into_iter();
+                let missing = names.find(|(_, name)| !has_index(name));
+                if let Some((offset, name)) = missing {
+                    error.offset = Some(offset);
+                    error.missing = Some(name);
+                }
+                Error::Query(error)
+            }
+            other => other,
         }
     }
 
@@ -216,19 +233,31 @@ fn at_operation(f: &mut fmt::Formatter<'_>, what: &str, operation: Option<u64>) 
     }
 }
 
+impl Error {
+    /// What an error is that nothing goes with.
+    fn plain(&self) -> &'static str {
+        match self {
+            Error::NoNode => "no such node",
+            Error::NoAttribute => "no such attribute",
+            Error::TooManyAttributes => "too many attributes",
+            Error::IndexExists => "the index exists",
+            Error::NoIndex => "no such index",
+            Error::TooManyIndices => "too many indices",
+            Error::NotIndexable => "no index may have this kind",
+            Error::CommitsSpent => "the journal is at its limit",
+            Error::OutOfMemory => "out of memory",
+            Error::BadLimits => "a limit is out of its range",
+            Error::NoPass => "each pass is in use",
+            Error::Forked => "the handle belongs to the parent of this process",
+            _ => "unknown error",
+        }
+    }
+}
+
 impl fmt::Display for Error {
     fn fmt(&self, f: &mut fmt::Formatter<'_>) -> fmt::Result {
         match self {
             Error::Busy { pass } => write!(f, "pass {pass} is writing"),
-            Error::NoNode => f.write_str("no such node"),
-            Error::NoAttribute => f.write_str("no such attribute"),
-            Error::TooManyAttributes => f.write_str("too many attributes"),
-            Error::IndexExists => f.write_str("the index exists"),
-            Error::NoIndex => f.write_str("no such index"),
-            Error::TooManyIndices => f.write_str("too many indices"),
-            Error::NotIndexable => f.write_str("no index may have this kind"),
-            Error::CommitsSpent => f.write_str("the journal is at its limit"),
-            Error::OutOfMemory => f.write_str("out of memory"),
             Error::Full { oldest } => {
                 write!(
                     f,
@@ -243,8 +272,6 @@ impl fmt::Display for Error {
                 at_operation(f, "a value has more than 255 bytes", *operation)
             }
             Error::HasNul { operation } => at_operation(f, "a text has a zero byte", *operation),
-            Error::BadLimits => f.write_str("a limit is out of its range"),
-            Error::NoPass => f.write_str("each pass is in use"),
             Error::BadCount { count } => {
                 write!(
                     f,
@@ -264,13 +291,13 @@ impl fmt::Display for Error {
                 )
             }
             Error::BadBatch { offset, why } => write!(f, "{why} (byte {offset}, counted from 0)"),
-            Error::Forked => f.write_str("the handle belongs to the parent of this process"),
             #[cfg(feature = "saved")]
             Error::NotSaved(error) => write!(f, "the write could not be saved: {error}"),
             #[cfg(feature = "saved")]
             Error::Stopped(error) => write!(f, "the store accepts no writes: {error}"),
             Error::Other(error) => error.fmt(f),
             Error::Unexpected { code, .. } => write!(f, "the library returned {code}"),
+            _ => f.write_str(self.plain()),
         }
     }
 }
@@ -354,6 +381,7 @@ pub struct QueryError {
     text: String,
     fault: QueryFault,
     offset: Option<usize>,
+    missing: Option<String>,
 }
 
 impl QueryError {
@@ -369,7 +397,13 @@ impl QueryError {
         self.fault
     }
 
-    /// The byte of the text at which it is wrong, from 0, if that is known.
+    /// Of [`QueryFault::NotCovered`]: the first name in the text that has no index.
+    #[must_use]
+    pub fn missing(&self) -> Option<&str> {
+        self.missing.as_deref()
+    }
+
+    /// The byte of the text at which it is wrong, from 0, if that is known. If an index is missing, its name begins there.
     #[must_use]
     pub fn offset(&self) -> Option<usize> {
         self.offset
@@ -408,7 +442,11 @@ impl fmt::Display for QueryError {
                 }
             })
             .collect();
-        write!(f, "{}\n  {shown}", self.fault)?;
+        self.fault.fmt(f)?;
+        if let Some(name) = &self.missing {
+            write!(f, ": {name:?} has none")?;
+        }
+        write!(f, "\n  {shown}")?;
         match column {
             Some(column) => write!(f, "\n  {:1$}^", "", column - first),
             None => Ok(()),

@@ -102,7 +102,7 @@ impl Live {
     pub fn refresh(&mut self, snapshot: &Snapshot<'_>) -> Result<Updates> {
         match snapshot.pass().raw().refresh(self.0.raw()) {
             Ok((created, removed)) => Ok(Updates { created, removed }),
-            Err(refused) => Err(Error::of_query(refused, || self.0.text_or_empty())),
+            Err(refused) => Err(snapshot.query_error(refused, || self.0.text_or_empty())),
         }
     }
 

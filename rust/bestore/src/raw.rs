@@ -6,6 +6,7 @@
 //! - a slice has a pointer that isn't null, even with a length of 0;
 //! - of a list the library writes as many items as it counts, up to the room that it is given.
 #![allow(unsafe_code)]
+#![deny(unsafe_op_in_unsafe_fn)]
 
 use bestore_sys as sys;
 use std::marker::PhantomData;
@@ -192,6 +193,31 @@ fn listed(
     }
 }
 
+/// `bes_apply`, or `bes_apply_if` if a length is expected.
+///
+/// # Safety
+/// `pass` points to a handle that no other call uses.
+unsafe fn apply(
+    pass: *mut bes_pass,
+    expected: Option<u64>,
+    list: &List,
+    made: &mut [u64],
+    number: &mut u64,
+) -> u32 {
+    let (operations, count) = (list.operations.as_ptr(), list.operations.len());
+    let (bytes, length) = (list.bytes.as_ptr(), list.bytes.len());
+    let (nodes, room) = (made.as_mut_ptr(), made.len());
+    // SAFETY: the slices are three, and outlive the call.
+    unsafe {
+        match expected {
+            None => sys::bes_apply(pass, operations, count, bytes, length, nodes, room, number),
+            Some(expected) => sys::bes_apply_if(
+                pass, expected, operations, count, bytes, length, nodes, room, number,
+            ),
+        }
+    }
+}
+
 /// A pass of a store.
 #[derive(Debug)]
 pub(crate) struct RawPass(Handle<bes_pass>);
@@ -247,37 +273,9 @@ impl RawPass {
         list: &List,
         made: &mut [u64],
     ) -> Answer<u64> {
-        let pass = self.0.get()?;
-        let (operations, count) = (list.operations.as_ptr(), list.operations.len());
-        let (bytes, bytes_count) = (list.bytes.as_ptr(), list.bytes.len());
-        let (nodes, room) = (made.as_mut_ptr(), made.len());
         let mut number = 0;
-        // SAFETY: as the module says; the slices are three.
-        let code = unsafe {
-            match expected {
-                None => sys::bes_apply(
-                    pass,
-                    operations,
-                    count,
-                    bytes,
-                    bytes_count,
-                    nodes,
-                    room,
-                    &mut number,
-                ),
-                Some(length) => sys::bes_apply_if(
-                    pass,
-                    length,
-                    operations,
-                    count,
-                    bytes,
-                    bytes_count,
-                    nodes,
-                    room,
-                    &mut number,
-                ),
-            }
-        };
+        // SAFETY: as the module says.
+        let code = unsafe { apply(self.0.get()?, expected, list, made, &mut number) };
         check(code, number).map(|()| number)
     }
 

@@ -1,6 +1,6 @@
 //! Snapshots: what a pass reads while it is pinned.
 
-use crate::raw::{List, RawPlace};
+use crate::raw::{List, RawPlace, Refused};
 use crate::{Batch, Error, Kind, Pass, Prepared, Result, Value};
 use bestore_sys as sys;
 
@@ -56,7 +56,7 @@ impl<'a> Snapshot<'a> {
     /// [`Error::Query`], [`Error::OutOfMemory`], [`Error::Forked`].
     pub fn query(&self, text: &str) -> Result<Vec<u64>> {
         let answer = self.pass.raw().query(text);
-        answer.map_err(|refused| Error::of_query(refused, || text.into()))
+        answer.map_err(|refused| self.query_error(refused, || text.into()))
     }
 
     /// The nodes that the prepared query finds, ascending. Nothing is parsed.
@@ -65,7 +65,21 @@ impl<'a> Snapshot<'a> {
     /// As [`query`](Self::query).
     pub fn query_prepared(&self, prepared: &Prepared) -> Result<Vec<u64>> {
         let answer = self.pass.raw().query_prepared(prepared.raw());
-        answer.map_err(|refused| Error::of_query(refused, || prepared.text_or_empty()))
+        answer.map_err(|refused| self.query_error(refused, || prepared.text_or_empty()))
+    }
+
+    /// The error of a query, with the first index that is missing.
+    pub(crate) fn query_error(&self, refused: Refused, text: impl FnOnce() -> String) -> Error {
+        let error = Error::of_query(refused, text);
+        if refused.code != sys::BES_NOT_COVERED {
+            return error;
+        }
+        match self.indices() {
+            Ok(indices) => {
+                error.with_missing(|name| indices.iter().any(|(index, _)| index == name))
+            }
+            Err(_) => error,
+        }
     }
 
     /// The chosen indices of the query, as comparisons joined by ` || `, and the cost: as in `"size"<"0" score 3`.
@@ -74,7 +88,7 @@ impl<'a> Snapshot<'a> {
     /// As [`query`](Self::query).
     pub fn explain(&self, text: &str) -> Result<String> {
         let answer = self.pass.raw().explain(text);
-        let bytes = answer.map_err(|refused| Error::of_query(refused, || text.into()))?;
+        let bytes = answer.map_err(|refused| self.query_error(refused, || text.into()))?;
         Ok(String::from_utf8_lossy(&bytes).into_owned())
     }
 

@@ -52,9 +52,68 @@ fn only(mut characters: impl Iterator<Item = char>) -> Option<char> {
     characters.next().is_none().then_some(first)
 }
 
+/// The names of the comparisons of a query that can be read, each with the byte at which it begins.
+///
+/// Words and quoted texts are names and values by turns, and all else stands between them.
+pub(crate) fn names(query: &str) -> Vec<(usize, String)> {
+    let mut characters = query.char_indices().peekable();
+    let mut texts = Vec::new();
+    while let Some((at, first)) = characters.next() {
+        if is_between(first) {
+            continue;
+        }
+        let quote = matches!(first, '"' | '\'').then_some(first);
+        let mut text = String::new();
+        if quote.is_none() {
+            push_read(&mut text, first, &mut characters);
+        }
+        while let Some((_, next)) = characters.peek().copied() {
+            if quote.map_or_else(
+                || is_between(next) || matches!(next, '"' | '\''),
+                |quote| next == quote,
+            ) {
+                break;
+            }
+            characters.next();
+            push_read(&mut text, next, &mut characters);
+        }
+        if quote.is_some() {
+            characters.next();
+        }
+        texts.push((at, text));
+    }
+    texts.into_iter().step_by(2).collect()
+}
+
+fn is_between(character: char) -> bool {
+    matches!(
+        character,
+        ' ' | '\t' | '\n' | '\r' | '=' | '!' | '<' | '>' | '&' | '|' | '(' | ')'
+    )
+}
+
+/// Adds a character, or the one after a backslash.
+fn push_read(text: &mut String, character: char, rest: &mut impl Iterator<Item = (usize, char)>) {
+    match character {
+        '\\' => text.extend(rest.next().map(|(_, escaped)| escaped)),
+        other => text.push(other),
+    }
+}
+
 #[cfg(test)]
 mod tests {
     use super::*;
+
+    #[test]
+    fn names_of_a_query_are_told_from_its_values() {
+        let query = r#"!(a=="x y" || 'b c' < \(d) && "e\"f"!=g"#;
+        let expected = [(2, "a"), (14, "b c"), (30, "e\"f")];
+        assert_eq!(
+            names(query),
+            expected.map(|(at, name)| (at, name.to_owned()))
+        );
+        assert!(names("").is_empty());
+    }
 
     #[test]
     fn letters_of_one_case_stand_for_themselves() {

@@ -1,4 +1,4 @@
-//! In a forked child the handles of the parent are dead. The test is alone in its program, since a fork copies one thread.
+//! In a forked child the handles of the parent are dead. One test runs at a time, since a fork copies one thread.
 
 mod common;
 
@@ -25,6 +25,33 @@ fn is_dead<T: std::fmt::Debug>(answer: bestore::Result<T>) -> bool {
 
 #[test]
 fn handles_of_the_parent_are_dead_in_a_child() {
+    plain_handles();
+    #[cfg(feature = "saved")]
+    kept_store();
+}
+
+#[cfg(feature = "saved")]
+fn kept_store() {
+    let path = std::path::Path::new(env!("CARGO_TARGET_TMPDIR")).join("forked.bestore");
+    let _ = std::fs::remove_file(&path);
+    let saved = bestore::saved::open(&path).unwrap();
+    let pass = saved.pass().unwrap();
+    pass.new_node().unwrap();
+    let mut kept = Some(saved);
+    let status = in_a_child(|| {
+        let saved = kept.take().unwrap();
+        let are_dead = is_dead(pass.new_node()) && is_dead(saved.pass()) && saved.flush().is_err();
+        drop(saved);
+        are_dead
+    });
+    assert_eq!(status, 0);
+    pass.new_node().unwrap();
+    kept.unwrap().close().unwrap();
+    let saved = bestore::saved::open(&path).unwrap();
+    assert_eq!(saved.pass().unwrap().pin().unwrap().nodes().count(), 2);
+}
+
+fn plain_handles() {
     let store = common::store();
     let mut pass = store.pass().unwrap();
     let prepared = Prepared::new("a==1").unwrap();

@@ -121,11 +121,17 @@ fn a_querys_error_has_its_text_and_place() {
     );
     assert_eq!(error(&"x".repeat(5000)).fault(), QueryFault::TooLong);
     assert_eq!(error("name==x").fault(), QueryFault::NotCovered);
-    assert_eq!(error("name==x").offset(), None);
+    let missing = error("size<5 || größe==x");
+    assert_eq!(
+        (missing.offset(), missing.missing()),
+        (Some(10), Some("größe"))
+    );
+    let said = "no index serves the query: \"größe\" has none\n  size<5 || größe==x\n            ^";
+    assert_eq!(missing.to_string(), said);
     assert!(matches!(snapshot.explain("size<"), Err(Error::Query(_))));
     assert!(matches!(Prepared::new("size<"), Err(Error::Query(_))));
     let prepared = Prepared::new("name=x").unwrap();
-    let said = "no index serves the query\n  \"name\"==\"x\"";
+    let said = "no index serves the query: \"name\" has none\n  \"name\"==\"x\"\n  ^";
     assert_eq!(
         snapshot.query_prepared(&prepared).unwrap_err().to_string(),
         said

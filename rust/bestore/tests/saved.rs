@@ -172,6 +172,13 @@ fn writes_are_saved_at_the_latest_when_the_file_is_closed() {
     assert_eq!(saved.pass().unwrap().pin().unwrap().nodes().count(), 22);
 }
 
+#[test]
+fn a_saved_store_may_be_shared() {
+    fn can_be_shared<T: Send + Sync>() {}
+    can_be_shared::<Saved>();
+    can_be_shared::<SavedError>();
+}
+
 fn refusal(path: &Path) -> SavedError {
     saved::open(path).map(drop).unwrap_err()
 }

@@ -298,3 +298,17 @@ fn a_pass_outlives_its_store() {
         .join()
         .unwrap();
 }
+
+fn can_go<T: Send>() {}
+fn can_be_shared<T: Send + Sync>() {}
+
+#[test]
+fn threads_get_what_they_may() {
+    can_go::<Pass>();
+    can_go::<bestore::Snapshot<'_>>();
+    can_go::<bestore::Prepared>();
+    can_go::<bestore::Live>();
+    can_be_shared::<Store>();
+    can_be_shared::<Error>();
+    can_be_shared::<Batch>();
+}
