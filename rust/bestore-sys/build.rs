@@ -17,12 +17,9 @@ fn main() {
 }
 
 fn link_from(folder: &Path) {
-    let folder = folder.canonicalize().unwrap_or_else(|error| {
-        fail(&format!(
-            "BESTORE_LIB_DIR names {}: {error}",
-            folder.display()
-        ))
-    });
+    let folder = folder
+        .canonicalize()
+        .unwrap_or_else(|error| fail(&format!("BESTORE_LIB_DIR names {}: {error}", folder.display())));
     let shared = folder.join("libbestore.so").exists();
     let archive = folder.join("libbestore.a").exists();
     if !shared && !archive {
@@ -39,9 +36,7 @@ fn link_from(folder: &Path) {
 }
 
 fn link_by_pkg_config() {
-    let found = pkg_config::Config::new()
-        .atleast_version("0.2.0")
-        .probe("bestore");
+    let found = pkg_config::Config::new().atleast_version("0.2.0").probe("bestore");
     if let Err(error) = found {
         fail(&format!(
             "libbestore 0.2.0 or later was not found.\n\

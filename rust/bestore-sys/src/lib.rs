@@ -231,12 +231,7 @@ extern "C" {
         nodes_room: usize,
         count: *mut u64,
     ) -> u32;
-    pub fn bes_prepare(
-        text: *const u8,
-        text_length: usize,
-        prepared: *mut bes_prepared,
-        place: *mut u64,
-    ) -> u32;
+    pub fn bes_prepare(text: *const u8, text_length: usize, prepared: *mut bes_prepared, place: *mut u64) -> u32;
     pub fn bes_prepare_items(
         items: *const bes_item,
         items_count: usize,
@@ -245,12 +240,7 @@ extern "C" {
         prepared: *mut bes_prepared,
         place: *mut u64,
     ) -> u32;
-    pub fn bes_prepared_text(
-        prepared: *mut bes_prepared,
-        bytes: *mut u8,
-        bytes_room: usize,
-        count: *mut u64,
-    ) -> u32;
+    pub fn bes_prepared_text(prepared: *mut bes_prepared, bytes: *mut u8, bytes_room: usize, count: *mut u64) -> u32;
     pub fn bes_move_prepared(prepared: *mut bes_prepared, other: *mut bes_prepared) -> u32;
     pub fn bes_release(prepared: *mut bes_prepared) -> u32;
     pub fn bes_query_prepared(
@@ -260,11 +250,7 @@ extern "C" {
         nodes_room: usize,
         count: *mut u64,
     ) -> u32;
-    pub fn bes_refresh(
-        pass: *mut bes_pass,
-        prepared: *mut bes_prepared,
-        updates: *mut bes_updates,
-    ) -> u32;
+    pub fn bes_refresh(pass: *mut bes_pass, prepared: *mut bes_prepared, updates: *mut bes_updates) -> u32;
     pub fn bes_changes(
         prepared: *mut bes_prepared,
         created: *mut u64,
@@ -280,13 +266,7 @@ extern "C" {
         bytes_room: usize,
         count: *mut u64,
     ) -> u32;
-    pub fn bes_nodes(
-        pass: *mut bes_pass,
-        from: u64,
-        nodes: *mut u64,
-        nodes_room: usize,
-        count: *mut u64,
-    ) -> u32;
+    pub fn bes_nodes(pass: *mut bes_pass, from: u64, nodes: *mut u64, nodes_room: usize, count: *mut u64) -> u32;
     pub fn bes_get(
         pass: *mut bes_pass,
         node: u64,
@@ -324,12 +304,7 @@ extern "C" {
     ) -> u32;
     pub fn bes_move_place(place: *mut bes_place, other: *mut bes_place) -> u32;
     pub fn bes_leave(place: *mut bes_place) -> u32;
-    pub fn bes_journal(
-        pass: *mut bes_pass,
-        bytes: *mut u8,
-        bytes_room: usize,
-        count: *mut u64,
-    ) -> u32;
+    pub fn bes_journal(pass: *mut bes_pass, bytes: *mut u8, bytes_room: usize, count: *mut u64) -> u32;
     pub fn bes_journal_from(
         pass: *mut bes_pass,
         from: u64,

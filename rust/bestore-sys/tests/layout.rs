@@ -47,24 +47,15 @@ fn include_folder() -> PathBuf {
 }
 
 fn program() -> String {
-    let mut text = String::from(
-        "#include \"bestore.h\"\n#include <stdalign.h>\n#include <stdio.h>\nint main(void)\n{\n",
-    );
+    let mut text =
+        String::from("#include \"bestore.h\"\n#include <stdalign.h>\n#include <stdio.h>\nint main(void)\n{\n");
     for (name, _) in CONSTANTS {
         writeln!(text, "printf(\"{name} %u\\n\", (unsigned){name});").unwrap();
     }
     for (name, _, _, fields) in layouts() {
-        writeln!(
-            text,
-            "printf(\"{name} %zu %zu\\n\", sizeof({name}), alignof({name}));"
-        )
-        .unwrap();
+        writeln!(text, "printf(\"{name} %zu %zu\\n\", sizeof({name}), alignof({name}));").unwrap();
         for (field, _) in fields {
-            writeln!(
-                text,
-                "printf(\"{name}.{field} %zu\\n\", offsetof({name}, {field}));"
-            )
-            .unwrap();
+            writeln!(text, "printf(\"{name}.{field} %zu\\n\", offsetof({name}, {field}));").unwrap();
         }
     }
     text.push_str("return 0;\n}\n");

@@ -60,7 +60,8 @@ pub enum Operation<'a> {
 /// # Ok::<(), bestore::Error>(())
 /// ```
 ///
-/// No call here checks names and values: [`Pass::apply`](crate::Pass::apply) does, and returns the index of the first bad operation.
+/// No call here checks names and values. [`Pass::apply`](crate::Pass::apply) does, and returns the index of the first bad
+/// operation.
 ///
 /// # Panics
 /// A call that adds an operation panics if the names and values have 4 GiB or more.
@@ -152,15 +153,7 @@ impl Batch {
         self
     }
 
-    pub(crate) fn add(
-        &mut self,
-        kind: u32,
-        node: u64,
-        name: &str,
-        code: u32,
-        number: u64,
-        value: &[u8],
-    ) -> &mut Self {
+    pub(crate) fn add(&mut self, kind: u32, node: u64, name: &str, code: u32, number: u64, value: &[u8]) -> &mut Self {
         let List { operations, bytes } = &mut self.list;
         let name_at = bytes.len();
         bytes.extend_from_slice(name.as_bytes());
@@ -187,8 +180,8 @@ impl Batch {
     }
 }
 
-fn narrow(length: usize) -> u32 {
-    u32::try_from(length).expect("the names and values of a batch have less than 4 GiB")
+pub(crate) fn narrow(length: usize) -> u32 {
+    u32::try_from(length).expect("names and values have less than 4 GiB")
 }
 
 impl From<List> for Batch {
@@ -293,10 +286,7 @@ mod tests {
     fn operations_are_read_back() {
         let mut batch = Batch::new();
         batch.new_node().set(1, "n", -5_i32).unset(1, "n");
-        batch
-            .make_index("i", Kind::Uint64)
-            .remove_index("i")
-            .remove_node(1);
+        batch.make_index("i", Kind::Uint64).remove_index("i").remove_node(1);
         let read: Vec<_> = batch.operations().collect();
         assert_eq!(read[0], Operation::NewNode { node: 0 });
         let value = Value::Int32(-5);

@@ -223,9 +223,7 @@ mod tests {
     fn example() -> Batch {
         let mut batch = Batch::new();
         batch.new_node().remove_node(2).unset(3, "größe");
-        batch
-            .set(1, "t", "Ada")
-            .set(1, "m", Value::Mime("text/plain".into()));
+        batch.set(1, "t", "Ada").set(1, "m", Value::Mime("text/plain".into()));
         batch.set(1, "r", vec![0, 255]).set(1, "e", "");
         batch.set(1, "i", i32::MIN).set(1, "l", i64::MIN);
         batch.set(1, "u", u32::MAX).set(1, "v", u64::MAX);
@@ -253,10 +251,7 @@ mod tests {
     #[test]
     fn every_operation_comes_back() {
         let batch = example();
-        assert_eq!(
-            Batch::from_bytes(&batch.to_bytes().unwrap()).unwrap(),
-            batch
-        );
+        assert_eq!(Batch::from_bytes(&batch.to_bytes().unwrap()).unwrap(), batch);
     }
 
     #[test]
@@ -291,10 +286,7 @@ mod tests {
                 let mut changed = bytes.clone();
                 changed[at] = value;
                 if let Ok(batch) = Batch::from_bytes(&changed) {
-                    assert_eq!(
-                        batch.to_bytes().ok().unwrap_or_else(|| changed.clone()),
-                        changed
-                    );
+                    assert_eq!(batch.to_bytes().ok().unwrap_or_else(|| changed.clone()), changed);
                 }
             }
         }
@@ -302,16 +294,11 @@ mod tests {
 
     #[test]
     fn a_batch_that_no_store_accepts_has_no_bytes() {
-        assert!(matches!(
-            Batch::new().to_bytes(),
-            Err(Error::BadCount { count: 0 })
-        ));
+        assert!(matches!(Batch::new().to_bytes(), Err(Error::BadCount { count: 0 })));
         let mut long = Batch::new();
         long.new_node().unset(1, &"x".repeat(64));
         let operation = Some(1);
-        assert!(
-            matches!(long.to_bytes(), Err(Error::NameLength { operation: o }) if o == operation)
-        );
+        assert!(matches!(long.to_bytes(), Err(Error::NameLength { operation: o }) if o == operation));
         let mut large = Batch::new();
         large.set(1, "r", vec![0; 256]);
         assert!(matches!(large.to_bytes(), Err(Error::DataLength { .. })));

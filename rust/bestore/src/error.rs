@@ -40,7 +40,7 @@ pub enum Error {
         /// The oldest snapshot that a pass may still read, and for which pages are kept.
         oldest: u64,
     },
-    /// The query can't be answered.
+    /// The query is refused.
     Query(QueryError),
     /// A name has not 1 to 63 bytes.
     NameLength {
@@ -66,7 +66,7 @@ pub enum Error {
         /// How many it has.
         count: usize,
     },
-    /// The journal is longer than the one that the write was meant for.
+    /// The journal is longer than the write expects.
     Conflict {
         /// The length that was expected.
         expected: u64,
@@ -99,9 +99,9 @@ pub enum Error {
     Stopped(std::sync::Arc<crate::saved::Error>),
     /// An error of the program's own, made by [`Error::other`] in the closure of a change.
     Other(Box<dyn std::error::Error + Send + Sync>),
-    /// An answer that this crate doesn't know.
+    /// An error of the library that this crate doesn't know.
     Unexpected {
-        /// The answer, as `bestore.h` lists it.
+        /// The error, as `bestore.h` lists it.
         code: u32,
         /// The number that goes with it.
         carried: u64,
@@ -160,6 +160,14 @@ impl Error {
         }
     }
 
+    /// The same error, if the number that goes with it is no byte of the text.
+    pub(crate) fn without_offset(self) -> Self {
+        match self {
+            Error::Query(error) => Error::Query(QueryError { offset: None, ..error }),
+            other => other,
+        }
+    }
+
     /// The same error, which names the first index that a query lacks, if that is what is wrong.
     pub(crate) fn with_missing(self, has_index: impl Fn(&str) -> bool) -> Self {
         match self {
@@ -176,7 +184,7 @@ impl Error {
         }
     }
 
-    /// The error of a write of so many operations, on a journal of the expected length if one was given.
+    /// The error of a write of `count` operations, on a journal of the expected length if one was given.
     pub(crate) fn of_write(refused: Refused, count: usize, expected: Option<u64>) -> Self {
         let operation = Some(refused.carried);
         match (refused.code, expected) {
@@ -197,9 +205,7 @@ impl From<Refused> for Error {
     fn from(refused: Refused) -> Self {
         let operation = None;
         match refused.code {
-            sys::BES_BUSY => Error::Busy {
-                pass: refused.carried,
-            },
+            sys::BES_BUSY => Error::Busy { pass: refused.carried },
             sys::BES_NO_NODE => Error::NoNode,
             sys::BES_NO_ATTRIBUTE => Error::NoAttribute,
             sys::BES_TOO_MANY_ATTRS => Error::TooManyAttributes,
@@ -234,7 +240,7 @@ fn at_operation(f: &mut fmt::Formatter<'_>, what: &str, operation: Option<u64>) 
 }
 
 impl Error {
-    /// What an error is that nothing goes with.
+    /// The text of an error that carries nothing.
     fn plain(&self) -> &'static str {
         match self {
             Error::NoNode => "no such node",
@@ -259,30 +265,32 @@ impl fmt::Display for Error {
         match self {
             Error::Busy { pass } => write!(f, "pass {pass} is writing"),
             Error::Full { oldest } => {
-                write!(
-                    f,
-                    "no page is free; the oldest snapshot that may be read is {oldest}"
-                )
+                write!(f, "no page is free; the oldest snapshot that may be read is {oldest}")
             }
             Error::Query(error) => error.fmt(f),
-            Error::NameLength { operation } => {
-                at_operation(f, "a name has not 1 to 63 bytes", *operation)
-            }
-            Error::DataLength { operation } => {
-                at_operation(f, "a value has more than 255 bytes", *operation)
-            }
+            Error::NameLength { operation } => at_operation(f, "a name has not 1 to 63 bytes", *operation),
+            Error::DataLength { operation } => at_operation(f, "a value has more than 255 bytes", *operation),
             Error::HasNul { operation } => at_operation(f, "a text has a zero byte", *operation),
+            #[cfg(feature = "saved")]
+            Error::NotSaved(error) => write!(f, "the write could not be saved: {error}"),
+            #[cfg(feature = "saved")]
+            Error::Stopped(error) => write!(f, "the store accepts no writes: {error}"),
+            Error::Other(error) => error.fmt(f),
+            Error::Unexpected { code, .. } => write!(f, "the library returned {code}"),
+            _ => self.show_own(f),
+        }
+    }
+}
+
+impl Error {
+    /// Shows an error that this crate finds itself, or one that carries nothing.
+    fn show_own(&self, f: &mut fmt::Formatter<'_>) -> fmt::Result {
+        match self {
             Error::BadCount { count } => {
-                write!(
-                    f,
-                    "a batch has 1 to {OPERATIONS} operations, and this one {count}"
-                )
+                write!(f, "a batch has 1 to {OPERATIONS} operations, and this one {count}")
             }
             Error::Conflict { expected, found } => {
-                write!(
-                    f,
-                    "the journal has {found} entries, and the write expected {expected}"
-                )
+                write!(f, "the journal has {found} entries, and the write expected {expected}")
             }
             Error::KindMismatch { name, index, value } => {
                 write!(
@@ -291,12 +299,6 @@ impl fmt::Display for Error {
                 )
             }
             Error::BadBatch { offset, why } => write!(f, "{why} (byte {offset}, counted from 0)"),
-            #[cfg(feature = "saved")]
-            Error::NotSaved(error) => write!(f, "the write could not be saved: {error}"),
-            #[cfg(feature = "saved")]
-            Error::Stopped(error) => write!(f, "the store accepts no writes: {error}"),
-            Error::Other(error) => error.fmt(f),
-            Error::Unexpected { code, .. } => write!(f, "the library returned {code}"),
             _ => f.write_str(self.plain()),
         }
     }
@@ -314,7 +316,7 @@ impl std::error::Error for Error {
     }
 }
 
-/// Why a query can't be answered.
+/// Why a query is refused.
 #[non_exhaustive]
 #[derive(Clone, Copy, Debug, PartialEq, Eq, Hash)]
 pub enum QueryFault {
@@ -375,7 +377,7 @@ impl fmt::Display for QueryFault {
     }
 }
 
-/// A query that can't be answered: its text, what is wrong, and where.
+/// A query that is refused: its text, what is wrong, and where.
 #[derive(Clone, Debug, PartialEq, Eq)]
 pub struct QueryError {
     text: String,
@@ -385,7 +387,7 @@ pub struct QueryError {
 }
 
 impl QueryError {
-    /// The text of the query, which of a prepared one is its canonical text.
+    /// The text of the query. Of a prepared one it is the canonical text, and of a predicate the pattern that is malformed.
     #[must_use]
     pub fn text(&self) -> &str {
         &self.text
@@ -412,12 +414,8 @@ impl QueryError {
     /// The character of the text at which it is wrong, from 0, if that is known.
     #[must_use]
     pub fn column(&self) -> Option<usize> {
-        self.offset.map(|offset| {
-            self.text
-                .char_indices()
-                .take_while(|(at, _)| *at < offset)
-                .count()
-        })
+        self.offset
+            .map(|offset| self.text.char_indices().take_while(|(at, _)| *at < offset).count())
     }
 }
 
@@ -434,13 +432,7 @@ impl fmt::Display for QueryError {
             .chars()
             .skip(first)
             .take(2 * SHOWN)
-            .map(|character| {
-                if character.is_control() {
-                    ' '
-                } else {
-                    character
-                }
-            })
+            .map(|character| if character.is_control() { ' ' } else { character })
             .collect();
         self.fault.fmt(f)?;
         if let Some(name) = &self.missing {

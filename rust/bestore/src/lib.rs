@@ -65,6 +65,7 @@ mod change;
 mod error;
 mod journal;
 mod pass;
+mod predicate;
 mod prepared;
 mod raw;
 #[cfg(feature = "saved")]
@@ -79,6 +80,7 @@ pub use change::Change;
 pub use error::{Error, QueryError, QueryFault, Result};
 pub use journal::{Entries, Entry};
 pub use pass::{Oldest, Pass, Retry, Status, Written};
+pub use predicate::{attribute, Attribute, Operand, Predicate};
 pub use prepared::{Live, Prepared, Updates};
 pub use snapshot::{Nodes, Snapshot, State};
 pub use store::{Limits, Store};
@@ -89,9 +91,5 @@ pub use value::{Kind, Value};
 #[must_use]
 pub fn library_version() -> (u32, u32, u32) {
     let version = raw::version();
-    (
-        version / 1_000_000,
-        version / 1_000 % 1_000,
-        version % 1_000,
-    )
+    (version / 1_000_000, version / 1_000 % 1_000, version % 1_000)
 }

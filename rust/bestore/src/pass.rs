@@ -106,12 +106,7 @@ pub struct Pass {
 /// What keeps the writes of a store elsewhere too.
 pub(crate) trait Keeper: Send + Sync + fmt::Debug {
     /// Makes a write of the batch by the pass with this number, and returns when it is kept. No two writes are made at once.
-    fn keep(
-        &self,
-        pass: u64,
-        batch: &Batch,
-        write: &mut dyn FnMut() -> Result<Written>,
-    ) -> Result<Written>;
+    fn keep(&self, pass: u64, batch: &Batch, write: &mut dyn FnMut() -> Result<Written>) -> Result<Written>;
 }
 
 impl Pass {
@@ -182,9 +177,7 @@ impl Pass {
     fn write(&self, expected: Option<u64>, batch: &Batch) -> Result<Written> {
         match &self.keeper {
             None => self.write_unkept(expected, batch),
-            Some(keeper) => keeper.keep(self.number()?, batch, &mut || {
-                self.write_unkept(expected, batch)
-            }),
+            Some(keeper) => keeper.keep(self.number()?, batch, &mut || self.write_unkept(expected, batch)),
         }
     }
 
@@ -195,15 +188,10 @@ impl Pass {
             match self.tried(|| self.raw.apply(expected, &batch.list, &mut made)) {
                 Ok(number) => {
                     made.retain(|node| *node != 0);
-                    return Ok(Written {
-                        number,
-                        nodes: made,
-                    });
+                    return Ok(Written { number, nodes: made });
                 }
                 Err(refused)
-                    if refused.code == sys::BES_FULL
-                        && full < self.retry.full
-                        && self.is_held_by_another()? =>
+                    if refused.code == sys::BES_FULL && full < self.retry.full && self.is_held_by_another()? =>
                 {
                     thread::sleep(Duration::from_millis(1 << full.min(6)));
                     full += 1;
@@ -215,13 +203,10 @@ impl Pass {
 
     fn is_held_by_another(&self) -> Result<bool> {
         let own = self.number()?;
-        Ok(self
-            .status()?
-            .oldest
-            .map_or(false, |oldest| oldest.pass != own))
+        Ok(self.status()?.oldest.map_or(false, |oldest| oldest.pass != own))
     }
 
-    /// The answer of a call that is made again while another pass is writing.
+    /// Makes a call again while another pass is writing.
     pub(crate) fn tried<T>(&self, mut call: impl FnMut() -> Answer<T>) -> Answer<T> {
         let mut stand_back = StandBack::new();
         for _ in 0..self.retry.busy {

@@ -4,7 +4,8 @@ use crate::raw::RawPrepared;
 use crate::{Error, Result, Snapshot};
 use std::fmt;
 
-/// A query that was parsed once. It belongs to no store, and any snapshot may be asked.
+/// A query that was parsed once, or built by [`Predicate::prepare`](crate::Predicate::prepare). It belongs to no store, and any
+/// snapshot may be asked.
 ///
 /// ```
 /// use bestore::Prepared;
@@ -25,6 +26,10 @@ impl Prepared {
             Ok(prepared) => Ok(Self(prepared)),
             Err(refused) => Err(Error::of_query(refused, || text.into())),
         }
+    }
+
+    pub(crate) fn of_raw(raw: RawPrepared) -> Self {
+        Self(raw)
     }
 
     /// The canonical text of the query.
@@ -49,6 +54,12 @@ impl std::str::FromStr for Prepared {
 
     fn from_str(text: &str) -> Result<Self> {
         Self::new(text)
+    }
+}
+
+impl From<Prepared> for Live {
+    fn from(prepared: Prepared) -> Self {
+        Self(prepared)
     }
 }
 

@@ -15,14 +15,14 @@ use std::sync::atomic::{AtomicU64, Ordering};
 use std::sync::Once;
 use sys::{bes_counts, bes_operation, bes_pass, bes_place, bes_prepared};
 
-/// The code with which a call in a forked child is answered, which the library doesn't have.
+/// The code of a call in a forked child, which no call of the library returns.
 pub(crate) const FORKED: u32 = u32::MAX;
 
 /// The most operations of a batch, and the most bytes of their names and values.
 pub(crate) const OPERATIONS: usize = 64;
 pub(crate) const BYTES: usize = OPERATIONS * (63 + 255);
 
-/// An answer that isn't `BES_OK`, and the number that goes with it.
+/// A code that isn't `BES_OK`, and the number that goes with it.
 #[derive(Clone, Copy, Debug, PartialEq, Eq)]
 pub(crate) struct Refused {
     pub(crate) code: u32,
@@ -197,13 +197,7 @@ fn listed(
 ///
 /// # Safety
 /// `pass` points to a handle that no other call uses.
-unsafe fn apply(
-    pass: *mut bes_pass,
-    expected: Option<u64>,
-    list: &List,
-    made: &mut [u64],
-    number: &mut u64,
-) -> u32 {
+unsafe fn apply(pass: *mut bes_pass, expected: Option<u64>, list: &List, made: &mut [u64], number: &mut u64) -> u32 {
     let (operations, count) = (list.operations.as_ptr(), list.operations.len());
     let (bytes, length) = (list.bytes.as_ptr(), list.bytes.len());
     let (nodes, room) = (made.as_mut_ptr(), made.len());
@@ -211,9 +205,7 @@ unsafe fn apply(
     unsafe {
         match expected {
             None => sys::bes_apply(pass, operations, count, bytes, length, nodes, room, number),
-            Some(expected) => sys::bes_apply_if(
-                pass, expected, operations, count, bytes, length, nodes, room, number,
-            ),
+            Some(expected) => sys::bes_apply_if(pass, expected, operations, count, bytes, length, nodes, room, number),
         }
     }
 }
@@ -267,12 +259,7 @@ impl RawPass {
     }
 
     /// Writes the list, on a journal of the expected length if one is given. Returns the commit number.
-    pub(crate) fn apply(
-        &self,
-        expected: Option<u64>,
-        list: &List,
-        made: &mut [u64],
-    ) -> Answer<u64> {
+    pub(crate) fn apply(&self, expected: Option<u64>, list: &List, made: &mut [u64]) -> Answer<u64> {
         let mut number = 0;
         // SAFETY: as the module says.
         let code = unsafe { apply(self.0.get()?, expected, list, made, &mut number) };
@@ -300,22 +287,13 @@ impl RawPass {
         let prepared = prepared.0.get()?;
         let mut updates = sys::bes_updates::default();
         // SAFETY: as the module says.
-        check(
-            unsafe { sys::bes_refresh(self.0.get()?, prepared, &mut updates) },
-            0,
-        )?;
+        check(unsafe { sys::bes_refresh(self.0.get()?, prepared, &mut updates) }, 0)?;
         let rooms = (updates.created as usize, updates.removed as usize);
         let mut created = Vec::with_capacity(rooms.0);
         let mut removed = Vec::with_capacity(rooms.1);
         // SAFETY: as the module says; there is room for as many nodes as the refresh counted, and all are written.
         unsafe {
-            let code = sys::bes_changes(
-                prepared,
-                created.as_mut_ptr(),
-                rooms.0,
-                removed.as_mut_ptr(),
-                rooms.1,
-            );
+            let code = sys::bes_changes(prepared, created.as_mut_ptr(), rooms.0, removed.as_mut_ptr(), rooms.1);
             check(code, 0)?;
             created.set_len(rooms.0);
             removed.set_len(rooms.1);
@@ -345,12 +323,7 @@ impl RawPass {
     }
 
     /// An attribute, whose bytes are put into `bytes`.
-    pub(crate) fn get(
-        &self,
-        node: u64,
-        name: &str,
-        bytes: &mut [u8; 255],
-    ) -> Answer<sys::bes_attribute> {
+    pub(crate) fn get(&self, node: u64, name: &str, bytes: &mut [u8; 255]) -> Answer<sys::bes_attribute> {
         let mut attribute = sys::bes_attribute::default();
         // SAFETY: as the module says.
         let code = unsafe {
@@ -371,39 +344,28 @@ impl RawPass {
         let pass = self.0.get()?;
         listed((16, 1024), |counts, operations, room, bytes, bytes_room| {
             // SAFETY: as the module says.
-            let code = unsafe {
-                sys::bes_attributes(pass, node, counts, operations, room, bytes, bytes_room)
-            };
+            let code = unsafe { sys::bes_attributes(pass, node, counts, operations, room, bytes, bytes_room) };
             check(code, 0)
         })
     }
 
     pub(crate) fn indices(&self) -> Answer<List> {
         let pass = self.0.get()?;
-        listed(
-            (32, 32 * 63),
-            |counts, operations, room, bytes, bytes_room| {
-                // SAFETY: as the module says.
-                let code =
-                    unsafe { sys::bes_indices(pass, counts, operations, room, bytes, bytes_room) };
-                check(code, 0)
-            },
-        )
+        listed((32, 32 * 63), |counts, operations, room, bytes, bytes_room| {
+            // SAFETY: as the module says.
+            let code = unsafe { sys::bes_indices(pass, counts, operations, room, bytes, bytes_room) };
+            check(code, 0)
+        })
     }
 
     /// The next list of the operations that make the snapshot again.
     pub(crate) fn state(&self, place: &RawPlace) -> Answer<List> {
         let (pass, place) = (self.0.get()?, place.0.get()?);
-        listed(
-            (OPERATIONS, BYTES),
-            |counts, operations, room, bytes, bytes_room| {
-                // SAFETY: as the module says.
-                let code = unsafe {
-                    sys::bes_state(pass, place, counts, operations, room, bytes, bytes_room)
-                };
-                check(code, 0)
-            },
-        )
+        listed((OPERATIONS, BYTES), |counts, operations, room, bytes, bytes_room| {
+            // SAFETY: as the module says.
+            let code = unsafe { sys::bes_state(pass, place, counts, operations, room, bytes, bytes_room) };
+            check(code, 0)
+        })
     }
 
     pub(crate) fn journal(&self) -> Answer<Vec<u8>> {
@@ -418,26 +380,23 @@ impl RawPass {
     pub(crate) fn entry(&self, from: u64) -> Answer<(u64, List)> {
         let pass = self.0.get()?;
         let (mut by, mut number) = (0, 0);
-        let list = listed(
-            (OPERATIONS, BYTES),
-            |counts, operations, room, bytes, bytes_room| {
-                // SAFETY: as the module says.
-                let code = unsafe {
-                    sys::bes_journal_from(
-                        pass,
-                        from,
-                        &mut by,
-                        counts,
-                        operations,
-                        room,
-                        bytes,
-                        bytes_room,
-                        &mut number,
-                    )
-                };
-                check(code, number)
-            },
-        )?;
+        let list = listed((OPERATIONS, BYTES), |counts, operations, room, bytes, bytes_room| {
+            // SAFETY: as the module says.
+            let code = unsafe {
+                sys::bes_journal_from(
+                    pass,
+                    from,
+                    &mut by,
+                    counts,
+                    operations,
+                    room,
+                    bytes,
+                    bytes_room,
+                    &mut number,
+                )
+            };
+            check(code, number)
+        })?;
         Ok((by, list))
     }
 
@@ -459,8 +418,24 @@ impl RawPrepared {
         let prepared = Self(Handle::new());
         let mut place = 0;
         // SAFETY: as the module says.
-        let code =
-            unsafe { sys::bes_prepare(text.as_ptr(), text.len(), prepared.0.get()?, &mut place) };
+        let code = unsafe { sys::bes_prepare(text.as_ptr(), text.len(), prepared.0.get()?, &mut place) };
+        check(code, place).map(|()| prepared)
+    }
+
+    pub(crate) fn build(items: &[sys::bes_item], bytes: &[u8]) -> Answer<Self> {
+        let prepared = Self(Handle::new());
+        let mut place = 0;
+        // SAFETY: as the module says.
+        let code = unsafe {
+            sys::bes_prepare_items(
+                items.as_ptr(),
+                items.len(),
+                bytes.as_ptr(),
+                bytes.len(),
+                prepared.0.get()?,
+                &mut place,
+            )
+        };
         check(code, place).map(|()| prepared)
     }
 

@@ -75,9 +75,7 @@ impl<'a> Snapshot<'a> {
             return error;
         }
         match self.indices() {
-            Ok(indices) => {
-                error.with_missing(|name| indices.iter().any(|(index, _)| index == name))
-            }
+            Ok(indices) => error.with_missing(|name| indices.iter().any(|(index, _)| index == name)),
             Err(_) => error,
         }
     }
@@ -132,11 +130,7 @@ impl<'a> Snapshot<'a> {
             Ok(attribute) => {
                 let kind = Kind::from_code(attribute.code).unwrap_or(Kind::Raw);
                 let length = (attribute.length as usize).min(bytes.len());
-                Ok(Some(Value::of_parts(
-                    kind,
-                    attribute.number,
-                    &bytes[..length],
-                )))
+                Ok(Some(Value::of_parts(kind, attribute.number, &bytes[..length])))
             }
             Err(refused) if refused.code == sys::BES_NO_ATTRIBUTE => Ok(None),
             Err(refused) => Err(refused.into()),

@@ -2,7 +2,7 @@
 
 /// The text with a backslash before each character that a query or a pattern may take for more than itself.
 ///
-/// It stands for itself as a word of a query, and between quotes too. An empty text needs the quotes.
+/// It is the text itself both as a word of a query and between quotes. An empty text needs the quotes.
 ///
 /// ```
 /// assert_eq!(bestore::escape("[draft].txt"), r"\[draft\]\.txt");
@@ -16,7 +16,7 @@ pub fn escape(text: &str) -> String {
     escaped
 }
 
-/// A pattern that matches the text in upper and lower case, as `BQuery` makes it. All other characters stand for themselves.
+/// A pattern that matches the text in upper and lower case, as `BQuery` makes it. Each other character matches itself.
 ///
 /// ```
 /// assert_eq!(bestore::any_case("Ab*"), r"[aA][bB]\*");
@@ -54,12 +54,12 @@ fn only(mut characters: impl Iterator<Item = char>) -> Option<char> {
 
 /// The names of the comparisons of a query that can be read, each with the byte at which it begins.
 ///
-/// Words and quoted texts are names and values by turns, and all else stands between them.
+/// Words and quoted texts are names and values by turns. Operators and blanks separate them.
 pub(crate) fn names(query: &str) -> Vec<(usize, String)> {
     let mut characters = query.char_indices().peekable();
     let mut texts = Vec::new();
     while let Some((at, first)) = characters.next() {
-        if is_between(first) {
+        if is_separator(first) {
             continue;
         }
         let quote = matches!(first, '"' | '\'').then_some(first);
@@ -69,7 +69,7 @@ pub(crate) fn names(query: &str) -> Vec<(usize, String)> {
         }
         while let Some((_, next)) = characters.peek().copied() {
             if quote.map_or_else(
-                || is_between(next) || matches!(next, '"' | '\''),
+                || is_separator(next) || matches!(next, '"' | '\''),
                 |quote| next == quote,
             ) {
                 break;
@@ -85,7 +85,7 @@ pub(crate) fn names(query: &str) -> Vec<(usize, String)> {
     texts.into_iter().step_by(2).collect()
 }
 
-fn is_between(character: char) -> bool {
+fn is_separator(character: char) -> bool {
     matches!(
         character,
         ' ' | '\t' | '\n' | '\r' | '=' | '!' | '<' | '>' | '&' | '|' | '(' | ')'
@@ -105,18 +105,15 @@ mod tests {
     use super::*;
 
     #[test]
-    fn names_of_a_query_are_told_from_its_values() {
+    fn names_of_a_query_are_found() {
         let query = r#"!(a=="x y" || 'b c' < \(d) && "e\"f"!=g"#;
         let expected = [(2, "a"), (14, "b c"), (30, "e\"f")];
-        assert_eq!(
-            names(query),
-            expected.map(|(at, name)| (at, name.to_owned()))
-        );
+        assert_eq!(names(query), expected.map(|(at, name)| (at, name.to_owned())));
         assert!(names("").is_empty());
     }
 
     #[test]
-    fn letters_of_one_case_stand_for_themselves() {
+    fn letters_of_one_case_match_themselves() {
         assert_eq!(any_case("ß1é"), "ß1[éÉ]");
         assert_eq!(escape(""), "");
     }

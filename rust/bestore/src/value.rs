@@ -75,10 +75,7 @@ impl Kind {
     }
 
     pub(crate) const fn is_number(self) -> bool {
-        matches!(
-            self,
-            Kind::Int32 | Kind::Int64 | Kind::Uint32 | Kind::Uint64
-        )
+        matches!(self, Kind::Int32 | Kind::Int64 | Kind::Uint32 | Kind::Uint64)
     }
 }
 
@@ -188,7 +185,7 @@ impl Value {
         }
     }
 
-    /// The value that the library has put out. What it puts out is valid: a text is UTF-8, and a number fits its kind.
+    /// The value of parts that the library has written. These are valid: a text is UTF-8, and a number fits its kind.
     pub(crate) fn of_parts(kind: Kind, number: u64, bytes: &[u8]) -> Value {
         let text = || String::from_utf8_lossy(bytes).into_owned();
         match kind {

@@ -2,7 +2,7 @@
 
 mod common;
 
-use bestore::{any_case, escape, Error, Kind, Live, Operation, Prepared, QueryFault, Value};
+use bestore::{any_case, attribute, escape, Error, Kind, Live, Operation, Prepared, QueryFault, Value};
 use common::{store, ten};
 
 #[test]
@@ -51,10 +51,7 @@ fn every_kind_of_value_is_read_as_it_was_written() {
         assert_eq!(snapshot.get(node, name).unwrap().as_ref(), Some(value));
     }
     let listed = snapshot.attributes(node).unwrap();
-    let listed: Vec<_> = listed
-        .iter()
-        .map(|(name, value)| (&**name, value.clone()))
-        .collect();
+    let listed: Vec<_> = listed.iter().map(|(name, value)| (&**name, value.clone())).collect();
     assert_eq!(listed, values);
     assert!(matches!(snapshot.attributes(9), Err(Error::NoNode)));
 }
@@ -64,13 +61,11 @@ fn a_list_of_any_length_is_read_whole() {
     let mut pass = store().pass().unwrap();
     let node = pass.new_node().unwrap();
     for number in 0..64 {
-        pass.set(node, &format!("{number:063}"), "x".repeat(255))
-            .unwrap();
+        pass.set(node, &format!("{number:063}"), "x".repeat(255)).unwrap();
     }
     assert_eq!(pass.pin().unwrap().attributes(node).unwrap().len(), 64);
     for number in 0..32 {
-        pass.make_index(&format!("{number:063}"), Kind::Text)
-            .unwrap();
+        pass.make_index(&format!("{number:063}"), Kind::Text).unwrap();
     }
     let full = pass.make_index("one more", Kind::Text);
     assert!(matches!(full, Err(Error::TooManyIndices)));
@@ -115,27 +110,28 @@ fn a_querys_error_has_its_text_and_place() {
     assert_eq!((bad.offset(), bad.column()), (Some(19), Some(17)));
     let said = "a pattern is malformed\n  size<5 || größe==[\n                   ^";
     assert_eq!(bad.to_string(), said);
-    assert_eq!(
-        error("").to_string(),
-        "the query leaves the grammar\n  \n  ^"
-    );
+    assert_eq!(error("").to_string(), "the query leaves the grammar\n  \n  ^");
     assert_eq!(error(&"x".repeat(5000)).fault(), QueryFault::TooLong);
     assert_eq!(error("name==x").fault(), QueryFault::NotCovered);
     let missing = error("size<5 || größe==x");
-    assert_eq!(
-        (missing.offset(), missing.missing()),
-        (Some(10), Some("größe"))
-    );
+    assert_eq!((missing.offset(), missing.missing()), (Some(10), Some("größe")));
     let said = "no index serves the query: \"größe\" has none\n  size<5 || größe==x\n            ^";
     assert_eq!(missing.to_string(), said);
     assert!(matches!(snapshot.explain("size<"), Err(Error::Query(_))));
     assert!(matches!(Prepared::new("size<"), Err(Error::Query(_))));
     let prepared = Prepared::new("name=x").unwrap();
     let said = "no index serves the query: \"name\" has none\n  \"name\"==\"x\"\n  ^";
-    assert_eq!(
-        snapshot.query_prepared(&prepared).unwrap_err().to_string(),
-        said
-    );
+    assert_eq!(snapshot.query_prepared(&prepared).unwrap_err().to_string(), said);
+}
+
+#[test]
+fn a_predicate_finds_what_its_text_finds() {
+    let mut pass = ten();
+    let prepared = (attribute("size").ge(3) & !attribute("size").gt(5)).prepare().unwrap();
+    let snapshot = pass.pin().unwrap();
+    assert_eq!(snapshot.query_prepared(&prepared).unwrap(), [3, 4, 5]);
+    let mut live = Live::from(prepared);
+    assert_eq!(live.refresh(&snapshot).unwrap().created, [3, 4, 5]);
 }
 
 #[test]
@@ -166,17 +162,7 @@ fn escaped_texts_are_found_and_match_nothing_else() {
     let mut pass = store().pass().unwrap();
     pass.make_index("name", Kind::Text).unwrap();
     let every: String = (' '..='~').collect();
-    let names = [
-        &*every,
-        "[draft].txt",
-        "d",
-        "*",
-        "a b",
-        "größe",
-        "\\",
-        "\"'",
-        "A",
-    ];
+    let names = [&*every, "[draft].txt", "d", "*", "a b", "größe", "\\", "\"'", "A"];
     for name in names {
         let node = pass.new_node().unwrap();
         pass.set(node, "name", name).unwrap();
@@ -196,9 +182,7 @@ fn escaped_texts_are_found_and_match_nothing_else() {
     }
     let any = any_case("GRÖSSE [draft]");
     assert_eq!(any, "[gG][rR][öÖ][sS][sS][eE]\\ \\[[dD][rR][aA][fF][tT]\\]");
-    let found = snapshot
-        .query(&format!("name==\"{}\"", any_case("GRÖßE")))
-        .unwrap();
+    let found = snapshot.query(&format!("name==\"{}\"", any_case("GRÖßE"))).unwrap();
     assert_eq!(found, [6]);
 }
 
@@ -215,16 +199,10 @@ fn a_state_makes_the_snapshot_again() {
     let made = next.pin().unwrap();
     assert_eq!(made.next_node().unwrap(), snapshot.next_node().unwrap());
     assert_eq!(made.indices().unwrap(), snapshot.indices().unwrap());
-    assert_eq!(
-        made.query("size>=1").unwrap(),
-        snapshot.query("size>=1").unwrap()
-    );
+    assert_eq!(made.query("size>=1").unwrap(), snapshot.query("size>=1").unwrap());
     for node in snapshot.nodes() {
         let node = node.unwrap();
-        assert_eq!(
-            made.attributes(node).unwrap(),
-            snapshot.attributes(node).unwrap()
-        );
+        assert_eq!(made.attributes(node).unwrap(), snapshot.attributes(node).unwrap());
     }
 }
 
@@ -247,10 +225,7 @@ fn the_journal_has_each_write_with_its_outcomes() {
     assert!(pass.journal_from(7).next().is_none());
     let text = pass.journal().unwrap();
     assert_eq!(text.lines().count(), 3);
-    assert!(
-        text.lines().nth(1).unwrap().ends_with("new -> node 1"),
-        "{text}"
-    );
+    assert!(text.lines().nth(1).unwrap().ends_with("new -> node 1"), "{text}");
 }
 
 #[test]

@@ -85,10 +85,7 @@ fn what_was_written_is_there_again() {
     let snapshot = pass.pin().unwrap();
     assert_eq!(snapshot.get(1, "round").unwrap(), Some(Value::Uint64(2)));
     assert_eq!(snapshot.get(6, "size").unwrap(), Some(Value::Int64(9)));
-    assert_eq!(
-        snapshot.indices().unwrap(),
-        [("size".to_owned(), Kind::Int64)]
-    );
+    assert_eq!(snapshot.indices().unwrap(), [("size".to_owned(), Kind::Int64)]);
 }
 
 #[test]
@@ -109,10 +106,7 @@ fn writers_on_several_passes_share_the_file() {
         saved.compact().unwrap();
     });
     let mut live = Live::new("size>0").unwrap();
-    assert_eq!(
-        live.refresh(&reader.pin().unwrap()).unwrap().created.len(),
-        100
-    );
+    assert_eq!(live.refresh(&reader.pin().unwrap()).unwrap().created.len(), 100);
     saved.close().unwrap();
     let saved = saved::open(folder.file()).unwrap();
     assert_eq!(sizes(&mut saved.pass().unwrap()).len(), 100);
@@ -219,6 +213,25 @@ fn files_of_others_are_refused() {
 }
 
 #[test]
+fn a_file_with_any_changed_byte_is_opened_or_refused() {
+    let folder = Folder::new("changed");
+    three(&folder.file());
+    let whole = std::fs::read(folder.file()).unwrap();
+    let mut refused = 0;
+    for at in (0..whole.len()).step_by(whole.len() / 97) {
+        let mut changed = whole.clone();
+        changed[at] ^= 0x55;
+        std::fs::write(folder.file(), &changed).unwrap();
+        refused += u32::from(saved::open(folder.file()).is_err());
+    }
+    for length in (0..whole.len()).step_by(whole.len() / 11) {
+        std::fs::write(folder.file(), &whole[..length]).unwrap();
+        refused += u32::from(saved::open(folder.file()).is_err());
+    }
+    assert!(refused > 0);
+}
+
+#[test]
 fn a_file_is_opened_once() {
     let folder = Folder::new("once");
     let first = saved::open(folder.file()).unwrap();
@@ -240,7 +253,8 @@ fn place_after(name: &str, change: &str) -> Place {
 
 #[test]
 fn a_file_that_differs_is_refused_with_the_entry() {
-    let other_node = "UPDATE entry SET batch = CAST(substr(batch, 1, 6) || x'09' || substr(batch, 8) AS BLOB) WHERE number = 3";
+    let other_node =
+        "UPDATE entry SET batch = CAST(substr(batch, 1, 6) || x'09' || substr(batch, 8) AS BLOB) WHERE number = 3";
     assert_eq!(place_after("node", other_node), Place::Entry(3));
     let missing = "DELETE FROM entry WHERE number = 2";
     assert_eq!(place_after("missing", missing), Place::Entry(2));
@@ -253,7 +267,7 @@ fn a_file_that_differs_is_refused_with_the_entry() {
 }
 
 #[test]
-fn a_store_that_is_too_small_is_told_apart() {
+fn a_store_that_is_too_small_is_an_error_of_its_own() {
     let folder = Folder::new("small");
     three(&folder.file());
     let limits = Limits {
@@ -289,10 +303,7 @@ impl Mounted {
 
     fn resize(&self, size: &str) {
         let options = format!("remount,size={size}");
-        let status = Command::new("mount")
-            .args(["-o", &options])
-            .arg(&self.0 .0)
-            .status();
+        let status = Command::new("mount").args(["-o", &options]).arg(&self.0 .0).status();
         assert!(status.unwrap().success());
     }
 }
@@ -314,7 +325,7 @@ fn write_on(pass: &Pass, node: u64) -> (u64, Error) {
 }
 
 #[test]
-fn on_a_full_disk_what_was_answered_is_kept() {
+fn on_a_full_disk_acknowledged_writes_are_kept() {
     let mounted = match Mounted::new("full", "256k") {
         Some(mounted) => mounted,
         None => return println!("a full disk: skipped, no file system can be mounted"),
@@ -323,34 +334,33 @@ fn on_a_full_disk_what_was_answered_is_kept() {
     let saved = saved::open(&path).unwrap();
     let mut pass = saved.pass().unwrap();
     let node = pass.new_node().unwrap();
-    let (answered, error) = write_on(&pass, node);
+    let (acknowledged, error) = write_on(&pass, node);
     assert!(
         matches!(&error, Error::NotSaved(error) if matches!(**error, SavedError::DiskFull { .. })),
         "{error}"
     );
-    assert!(answered > 0);
+    assert!(acknowledged > 0);
     assert!(matches!(pass.new_node(), Err(Error::Stopped(_))));
     let read = pass.pin().unwrap().get(node, "count").unwrap();
-    assert_eq!(read, Some(Value::Uint64(answered + 1)));
+    assert_eq!(read, Some(Value::Uint64(acknowledged + 1)));
     assert!(matches!(saved.flush(), Err(SavedError::Stopped(_))));
     assert!(matches!(saved.compact(), Err(SavedError::Stopped(_))));
     assert!(saved.close().is_err());
+    opens_on_a_full_disk(&mounted, node, acknowledged);
+}
 
+/// Opens the file while the disk is full, and when there is room again.
+fn opens_on_a_full_disk(mounted: &Mounted, node: u64, acknowledged: u64) {
+    let path = mounted.0.file();
     let count = |saved: &Saved| {
-        let value = saved
-            .pass()
-            .unwrap()
-            .pin()
-            .unwrap()
-            .get(node, "count")
-            .unwrap();
+        let value = saved.pass().unwrap().pin().unwrap().get(node, "count").unwrap();
         value.and_then(|value| value.as_u64()).unwrap()
     };
     let reopened = saved::open(&path).unwrap();
     let kept = count(&reopened);
     assert!(
-        kept == answered || kept == answered + 1,
-        "{answered} {kept}"
+        kept == acknowledged || kept == acknowledged + 1,
+        "{acknowledged} {kept}"
     );
     drop(reopened);
     mounted.resize("4m");
@@ -433,7 +443,7 @@ fn flush_once(path: &str) {
     thread::sleep(Duration::from_secs(60));
 }
 
-/// A time up to so many milliseconds, which differs from call to call.
+/// A time of up to `most` milliseconds, which differs from call to call.
 fn some_time(most: u64) -> Duration {
     let now = SystemTime::now().duration_since(UNIX_EPOCH).unwrap();
     let mixed = u64::from(now.subsec_nanos()).wrapping_mul(0x9e37_79b9_7f4a_7c15) >> 32;
@@ -448,20 +458,13 @@ fn killed(path: &Path, round: u64) -> Vec<String> {
     let mut said = vec![lines.by_ref().map(Result::unwrap).find(is_write).unwrap()];
     assert!(matches!(refusal(path), SavedError::Held { .. }));
     thread::scope(|scope| {
-        let reader = scope.spawn(|| {
-            lines
-                .map(Result::unwrap)
-                .filter(is_write)
-                .collect::<Vec<_>>()
-        });
+        let reader = scope.spawn(|| lines.map(Result::unwrap).filter(is_write).collect::<Vec<_>>());
         thread::sleep(some_time(60));
         child.kill().unwrap();
         child.wait().unwrap();
         said.extend(reader.join().unwrap());
     });
-    said.iter()
-        .map(|line| line["wrote ".len()..].to_owned())
-        .collect()
+    said.iter().map(|line| line["wrote ".len()..].to_owned()).collect()
 }
 
 /// How often each key is in the store.
@@ -471,10 +474,7 @@ fn keys(saved: &Saved) -> BTreeMap<String, u32> {
     let mut keys = BTreeMap::new();
     for node in snapshot.nodes() {
         let node = node.unwrap();
-        assert_eq!(
-            snapshot.get(node, "node").unwrap(),
-            Some(Value::Uint64(node))
-        );
+        assert_eq!(snapshot.get(node, "node").unwrap(), Some(Value::Uint64(node)));
         let key = snapshot.get(node, "key").unwrap().unwrap();
         *keys.entry(key.as_str().unwrap().to_owned()).or_insert(0) += 1;
     }
@@ -482,21 +482,21 @@ fn keys(saved: &Saved) -> BTreeMap<String, u32> {
 }
 
 #[test]
-fn a_killed_process_loses_no_answered_write() {
+fn a_killed_process_loses_no_acknowledged_write() {
     let folder = Folder::new("killed");
-    let mut answered = Vec::new();
+    let mut acknowledged = Vec::new();
     for round in 0..8 {
-        answered.extend(killed(&folder.file(), round));
+        acknowledged.extend(killed(&folder.file(), round));
         let saved = saved::open(folder.file()).unwrap();
         let keys = keys(&saved);
-        for key in &answered {
+        for key in &acknowledged {
             assert_eq!(keys.get(key), Some(&1), "{key} in round {round}");
         }
         assert!(keys.values().all(|count| *count == 1));
-        let unanswered = keys.len() - answered.len();
-        assert!(unanswered as u64 <= 3 * (round + 1), "{unanswered}");
+        let in_flight = keys.len() - acknowledged.len();
+        assert!(in_flight as u64 <= 3 * (round + 1), "{in_flight}");
     }
-    println!("{} answered writes in 8 rounds", answered.len());
+    println!("{} acknowledged writes in 8 rounds", acknowledged.len());
 }
 
 #[test]

@@ -21,9 +21,7 @@ fn a_batch_is_done_whole_or_not_at_all() {
     batch.new_node().set(99, "size", 1_i64);
     assert!(matches!(pass.apply(&batch), Err(Error::NoNode)));
     assert_eq!(pass.status().unwrap().entries, before);
-    let written = pass
-        .apply(Batch::new().remove_node(1).new_node().new_node())
-        .unwrap();
+    let written = pass.apply(Batch::new().remove_node(1).new_node().new_node()).unwrap();
     assert_eq!((written.number, written.nodes), (before + 1, vec![11, 12]));
 }
 
@@ -38,10 +36,7 @@ fn bad_operations_are_named() {
     assert!(matches!(data, Error::DataLength { operation } if operation == at));
     let nul = refused(Batch::new().new_node().set(1, "a", "\0"));
     assert!(matches!(nul, Error::HasNul { operation } if operation == at));
-    assert!(matches!(
-        refused(&Batch::new()),
-        Error::BadCount { count: 0 }
-    ));
+    assert!(matches!(refused(&Batch::new()), Error::BadCount { count: 0 }));
     let mut long = Batch::new();
     for _ in 0..65 {
         long.new_node();
@@ -77,9 +72,7 @@ fn a_change_names_the_nodes_that_it_makes() {
     let (first, second, number) = pass
         .change(|change| {
             let (first, second) = (change.new_node(), change.new_node());
-            change
-                .set(first, "size", 1_i64)?
-                .set(second, "size", 2_i64)?;
+            change.set(first, "size", 1_i64)?.set(second, "size", 2_i64)?;
             assert_eq!(change.batch().len(), 4);
             Ok((first, second, change.number()))
         })
@@ -94,11 +87,7 @@ fn a_change_names_the_nodes_that_it_makes() {
 fn a_change_without_operations_writes_nothing() {
     let mut pass = ten();
     let before = pass.status().unwrap().entries;
-    assert_eq!(
-        pass.change(|change| change.snapshot().query("size==5"))
-            .unwrap(),
-        [5]
-    );
+    assert_eq!(pass.change(|change| change.snapshot().query("size==5")).unwrap(), [5]);
     let stopped = pass.change(|change| {
         change.new_node();
         Err::<(), _>(Error::other("enough"))
@@ -172,10 +161,7 @@ fn nodes_that_two_threads_make_have_their_own_attributes() {
     let snapshot = pass.pin().unwrap();
     for node in snapshot.nodes() {
         let node = node.unwrap();
-        assert_eq!(
-            snapshot.get(node, "node").unwrap(),
-            Some(Value::Uint64(node))
-        );
+        assert_eq!(snapshot.get(node, "node").unwrap(), Some(Value::Uint64(node)));
         assert_eq!(snapshot.attributes(node).unwrap().len(), 2);
     }
     assert_eq!(snapshot.nodes().count(), 400);
@@ -255,18 +241,9 @@ fn a_write_waits_for_another_pass_to_unpin() {
 
 #[test]
 fn limits_are_kept() {
-    let open = |pages, passes, commits| {
-        Store::open(Limits {
-            pages,
-            passes,
-            commits,
-        })
-    };
+    let open = |pages, passes, commits| Store::open(Limits { pages, passes, commits });
     for (pages, passes, commits) in [(7, 1, 1), (16385, 1, 1), (8, 0, 1), (8, 64, 1), (8, 1, 0)] {
-        assert!(matches!(
-            open(pages, passes, commits),
-            Err(Error::BadLimits)
-        ));
+        assert!(matches!(open(pages, passes, commits), Err(Error::BadLimits)));
     }
     let store = open(16, 63, 2).unwrap();
     let passes: Vec<_> = (0..63).map(|_| store.pass().unwrap()).collect();

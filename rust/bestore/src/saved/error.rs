@@ -83,14 +83,8 @@ pub enum Error {
 }
 
 impl Error {
-    pub(super) fn differs(
-        place: Place,
-        why: impl Into<Box<dyn std::error::Error + Send + Sync>>,
-    ) -> Self {
-        Error::Differs {
-            place,
-            why: why.into(),
-        }
+    pub(super) fn differs(place: Place, why: impl Into<Box<dyn std::error::Error + Send + Sync>>) -> Self {
+        Error::Differs { place, why: why.into() }
     }
 
     /// The error of a store that refuses what the file has at this place.
@@ -126,11 +120,7 @@ impl fmt::Display for Error {
             Error::Foreign { path } => {
                 write!(f, "{}: the file is of another program", path.display())
             }
-            Error::Newer {
-                path,
-                version,
-                known,
-            } => write!(
+            Error::Newer { path, version, known } => write!(
                 f,
                 "{}: the file has format {version}, and format {known} is the latest known here",
                 path.display()
@@ -141,10 +131,7 @@ impl fmt::Display for Error {
                 write!(f, "{place}: the file has what no store did: {why}")
             }
             Error::TooLarge { place, error } => {
-                write!(
-                    f,
-                    "{place}: the file doesn't fit the limits of the store: {error}"
-                )
+                write!(f, "{place}: the file doesn't fit the limits of the store: {error}")
             }
             Error::Sqlite { path, error } => write!(f, "{}: {error}", path.display()),
             Error::Thread(error) => write!(f, "the thread that saves can't be started: {error}"),

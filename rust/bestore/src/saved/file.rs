@@ -6,7 +6,7 @@ use rusqlite::{Connection, OpenFlags, Transaction};
 use std::path::{Path, PathBuf};
 use std::time::Duration;
 
-/// "best" in ASCII: by this SQLite's header tells whose the file is.
+/// "best" in ASCII: the mark in SQLite's header by which the file is recognised.
 const APPLICATION: i64 = 0x6265_7374;
 
 /// The version of the format.
@@ -53,9 +53,7 @@ pub(super) struct File {
 impl File {
     /// Opens the file for this process alone, or makes it.
     pub(super) fn open(path: &Path) -> Result<Self> {
-        let flags = OpenFlags::SQLITE_OPEN_READ_WRITE
-            | OpenFlags::SQLITE_OPEN_CREATE
-            | OpenFlags::SQLITE_OPEN_NO_MUTEX;
+        let flags = OpenFlags::SQLITE_OPEN_READ_WRITE | OpenFlags::SQLITE_OPEN_CREATE | OpenFlags::SQLITE_OPEN_NO_MUTEX;
         // SQLite takes ":memory:" and an empty name for no file, and neither has a folder before it.
         let opened = Connection::open_with_flags(Path::new(".").join(path), flags);
         let file = Self {
@@ -71,19 +69,13 @@ impl File {
     }
 
     fn pragma(&self, name: &str) -> Result<i64> {
-        self.sqlite(
-            self.connection
-                .pragma_query_value(None, name, |row| row.get(0)),
-        )
+        self.sqlite(self.connection.pragma_query_value(None, name, |row| row.get(0)))
     }
 
     /// Locks the file, looks whose it is, and makes the tables in an empty one.
     fn take(&self) -> Result<()> {
         self.sqlite(self.connection.busy_timeout(Duration::ZERO))?;
-        self.sqlite(
-            self.connection
-                .pragma_update(None, "locking_mode", "EXCLUSIVE"),
-        )?;
+        self.sqlite(self.connection.pragma_update(None, "locking_mode", "EXCLUSIVE"))?;
         let run = |sql: &str| self.sqlite(self.connection.execute_batch(sql));
         if self.check_format()? {
             run("PRAGMA auto_vacuum = FULL")?;
@@ -100,9 +92,7 @@ impl File {
     fn check_format(&self) -> Result<bool> {
         let tables = self
             .connection
-            .query_row("SELECT count(*) FROM sqlite_master", [], |row| {
-                row.get::<_, i64>(0)
-            });
+            .query_row("SELECT count(*) FROM sqlite_master", [], |row| row.get::<_, i64>(0));
         let has_tables = self.sqlite(tables)? > 0;
         let path = self.path.clone();
         match (self.pragma("application_id")?, self.pragma("user_version")?) {
@@ -119,11 +109,11 @@ impl File {
 
     pub(super) fn state(&self) -> Result<About> {
         let number = |what: &str| {
-            let found = self.connection.query_row(
-                "SELECT number FROM about WHERE what = ?",
-                [what],
-                |row| row.get::<_, i64>(0),
-            );
+            let found = self
+                .connection
+                .query_row("SELECT number FROM about WHERE what = ?", [what], |row| {
+                    row.get::<_, i64>(0)
+                });
             self.sqlite(found).map(|number| number as u64)
         };
         Ok(About {
@@ -153,10 +143,7 @@ impl File {
         Ok(())
     }
 
-    fn transaction(
-        &mut self,
-        work: impl FnOnce(&Transaction<'_>) -> rusqlite::Result<()>,
-    ) -> Result<()> {
+    fn transaction(&mut self, work: impl FnOnce(&Transaction<'_>) -> rusqlite::Result<()>) -> Result<()> {
         let done = self.connection.transaction().and_then(|transaction| {
             work(&transaction)?;
             transaction.commit()
@@ -203,9 +190,7 @@ impl File {
         let transaction = written.map_err(|error| Error::of_sqlite(&path, error))?;
         match failed {
             Some(error) => Err(error.into()),
-            None => transaction
-                .commit()
-                .map_err(|error| Error::of_sqlite(&path, error)),
+            None => transaction.commit().map_err(|error| Error::of_sqlite(&path, error)),
         }
     }
 }

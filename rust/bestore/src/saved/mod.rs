@@ -126,10 +126,7 @@ fn load(file: &File, store: &Store) -> Result<u64> {
     let mut last = state.entries;
     file.each_entry(|number, batch| {
         if number != last + 1 {
-            return Err(Error::differs(
-                Place::Entry(last + 1),
-                "the entry is missing",
-            ));
+            return Err(Error::differs(Place::Entry(last + 1), "the entry is missing"));
         }
         last = number;
         repeat(&own, number, &read(Place::Entry(number), batch)?)
@@ -140,9 +137,7 @@ fn load(file: &File, store: &Store) -> Result<u64> {
 /// Applies an entry, and compares its outcome with the one that the file has.
 fn repeat(pass: &Pass, number: u64, batch: &Batch) -> Result<()> {
     let place = Place::Entry(number);
-    let written = pass
-        .apply(batch)
-        .map_err(|error| Error::refused(place, error))?;
+    let written = pass.apply(batch).map_err(|error| Error::refused(place, error))?;
     let mut repeated = batch.clone();
     repeated.set_nodes(&written.nodes);
     if repeated == *batch {

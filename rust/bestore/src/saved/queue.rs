@@ -18,9 +18,7 @@ fn lock<T>(mutex: &Mutex<T>) -> MutexGuard<'_, T> {
 }
 
 fn wait<'a, T>(condition: &Condvar, guard: MutexGuard<'a, T>) -> MutexGuard<'a, T> {
-    condition
-        .wait(guard)
-        .unwrap_or_else(PoisonError::into_inner)
+    condition.wait(guard).unwrap_or_else(PoisonError::into_inner)
 }
 
 /// What was written and what was saved, by numbers of the file.
@@ -68,11 +66,7 @@ impl Shared {
     }
 
     /// Waits until the entry with this number is saved.
-    fn wait_for(
-        &self,
-        mut line: MutexGuard<'_, Line>,
-        number: u64,
-    ) -> std::result::Result<(), Arc<Error>> {
+    fn wait_for(&self, mut line: MutexGuard<'_, Line>, number: u64) -> std::result::Result<(), Arc<Error>> {
         while line.saved < number {
             if let Some(error) = &line.failed {
                 return Err(error.clone());
@@ -89,9 +83,7 @@ impl Shared {
         let mut line = lock(&self.line);
         loop {
             let is_due = line.is_urgent || line.is_closed;
-            let left = line
-                .due
-                .map(|due| due.saturating_duration_since(Instant::now()));
+            let left = line.due.map(|due| due.saturating_duration_since(Instant::now()));
             match left {
                 None if line.is_closed => return None,
                 None => line = wait(&self.work, line),
@@ -179,8 +171,7 @@ impl Keeper for Shared {
             self.work.notify_one();
         }
         if self.every.is_none() {
-            self.wait_for(line, number)
-                .map_err(crate::Error::NotSaved)?;
+            self.wait_for(line, number).map_err(crate::Error::NotSaved)?;
         }
         Ok(written)
     }
@@ -196,12 +187,7 @@ pub(super) struct Queue {
 
 impl Queue {
     /// Starts the thread, for a file whose last entry has this number and a store whose last entry has that one.
-    pub(super) fn start(
-        file: File,
-        number: u64,
-        in_memory: u64,
-        every: Option<Duration>,
-    ) -> Result<Self> {
+    pub(super) fn start(file: File, number: u64, in_memory: u64, every: Option<Duration>) -> Result<Self> {
         let shared = Arc::new(Shared {
             line: Mutex::new(Line {
                 waiting: Vec::new(),

@@ -8,7 +8,7 @@ pub fn store() -> Store {
     sized(256)
 }
 
-/// A store of so many pages.
+/// A store of this many pages.
 pub fn sized(pages: u64) -> Store {
     let limits = Limits {
         pages,
