@@ -175,29 +175,30 @@ impl Pass {
     }
 
     fn write(&self, expected: Option<u64>, batch: &Batch) -> Result<Written> {
-        match &self.keeper {
-            None => self.write_unkept(expected, batch),
-            Some(keeper) => keeper.keep(self.number()?, batch, &mut || self.write_unkept(expected, batch)),
-        }
-    }
-
-    fn write_unkept(&self, expected: Option<u64>, batch: &Batch) -> Result<Written> {
-        let mut made = vec![0; batch.len()];
         let mut full = 0;
         loop {
-            match self.tried(|| self.raw.apply(expected, &batch.list, &mut made)) {
-                Ok(number) => {
-                    made.retain(|node| *node != 0);
-                    return Ok(Written { number, nodes: made });
-                }
-                Err(refused)
-                    if refused.code == sys::BES_FULL && full < self.retry.full && self.is_held_by_another()? =>
-                {
+            let written = match &self.keeper {
+                None => self.write_now(expected, batch),
+                Some(keeper) => keeper.keep(self.number()?, batch, &mut || self.write_now(expected, batch)),
+            };
+            match written {
+                Err(Error::Full { .. }) if full < self.retry.full && self.is_held_by_another()? => {
                     thread::sleep(Duration::from_millis(1 << full.min(6)));
                     full += 1;
                 }
-                Err(refused) => return Err(Error::of_write(refused, batch.len(), expected)),
+                written => return written,
             }
+        }
+    }
+
+    fn write_now(&self, expected: Option<u64>, batch: &Batch) -> Result<Written> {
+        let mut made = vec![0; batch.len()];
+        match self.tried(|| self.raw.apply(expected, &batch.list, &mut made)) {
+            Ok(number) => {
+                made.retain(|node| *node != 0);
+                Ok(Written { number, nodes: made })
+            }
+            Err(refused) => Err(Error::of_write(refused, batch.len(), expected)),
         }
     }
 

@@ -112,6 +112,33 @@ fn writers_on_several_passes_share_the_file() {
     assert_eq!(sizes(&mut saved.pass().unwrap()).len(), 100);
 }
 
+/// Writers that wait until they are saved hold their snapshots, for which pages are kept.
+#[test]
+fn writers_share_a_store_that_is_almost_full() {
+    let folder = Folder::new("almost-full");
+    let limits = Limits {
+        pages: 24,
+        ..Limits::default()
+    };
+    let saved = Options::new().limits(limits).open(folder.file()).unwrap();
+    let mut reader = saved.pass().unwrap();
+    reader.new_node().unwrap();
+    thread::scope(|scope| {
+        for writer in ["a", "b", "c", "d"] {
+            let saved = &saved;
+            scope.spawn(move || {
+                let mut pass = saved.pass().unwrap();
+                for count in 0..100_u64 {
+                    pass.change(|change| change.set(1, writer, count).map(drop)).unwrap();
+                }
+            });
+        }
+    });
+    let attributes = reader.pin().unwrap().attributes(1).unwrap();
+    assert!(attributes.iter().all(|(_, value)| *value == Value::Uint64(99)));
+    assert_eq!(attributes.len(), 4);
+}
+
 #[test]
 fn the_state_takes_the_place_of_the_entries() {
     let folder = Folder::new("compact");
@@ -264,6 +291,8 @@ fn a_file_that_differs_is_refused_with_the_entry() {
     assert_eq!(place_after("twice", twice), Place::Entry(5));
     let next = "UPDATE about SET number = 5 WHERE what = 'next'";
     assert_eq!(place_after("next", next), Place::State(0));
+    let negative = "UPDATE about SET number = -1 WHERE what = 'entries'";
+    assert_eq!(place_after("negative", negative), Place::State(0));
 }
 
 #[test]

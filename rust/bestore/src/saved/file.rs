@@ -1,6 +1,6 @@
 //! The file: a database of SQLite with the last state and the entries since. docs/KEPT.md describes the format.
 
-use super::{Error, Result};
+use super::{Error, Place, Result};
 use crate::Batch;
 use rusqlite::{Connection, OpenFlags, Transaction};
 use std::path::{Path, PathBuf};
@@ -114,7 +114,8 @@ impl File {
                 .query_row("SELECT number FROM about WHERE what = ?", [what], |row| {
                     row.get::<_, i64>(0)
                 });
-            self.sqlite(found).map(|number| number as u64)
+            let number = self.sqlite(found)?;
+            u64::try_from(number).map_err(|error| Error::differs(Place::State(0), error))
         };
         Ok(About {
             entries: number("entries")?,
