@@ -105,8 +105,11 @@ pub struct Pass {
 
 /// What keeps the writes of a store elsewhere too.
 pub(crate) trait Keeper: Send + Sync + fmt::Debug {
-    /// Makes a write of the batch by the pass with this number, and returns when it is kept. No two writes are made at once.
-    fn keep(&self, pass: u64, batch: &Batch, write: &mut dyn FnMut() -> Result<Written>) -> Result<Written>;
+    /// Makes a write of the batch by the pass with this number, while no other write is made. Returns its number for `wait`.
+    fn keep(&self, pass: u64, batch: &Batch, write: &mut dyn FnMut() -> Result<Written>) -> Result<(Written, u64)>;
+
+    /// Returns when the write is kept.
+    fn wait(&self, number: u64) -> Result<()>;
 }
 
 impl Pass {
@@ -175,11 +178,19 @@ impl Pass {
     }
 
     fn write(&self, expected: Option<u64>, batch: &Batch) -> Result<Written> {
+        let (written, number) = self.begin_write(expected, batch)?;
+        self.end_write(number)?;
+        Ok(written)
+    }
+
+    /// Writes in memory. Returns the number for `end_write`.
+    pub(crate) fn begin_write(&self, expected: Option<u64>, batch: &Batch) -> Result<(Written, u64)> {
         let mut full = 0;
         loop {
+            let mut write = || self.write_now(expected, batch);
             let written = match &self.keeper {
-                None => self.write_now(expected, batch),
-                Some(keeper) => keeper.keep(self.number()?, batch, &mut || self.write_now(expected, batch)),
+                None => write().map(|written| (written, 0)),
+                Some(keeper) => keeper.keep(self.number()?, batch, &mut write),
             };
             match written {
                 Err(Error::Full { .. }) if full < self.retry.full && self.is_held_by_another()? => {
@@ -189,6 +200,11 @@ impl Pass {
                 written => return written,
             }
         }
+    }
+
+    /// Waits until the write is kept, if the writes of this pass are.
+    pub(crate) fn end_write(&self, number: u64) -> Result<()> {
+        self.keeper.as_ref().map_or(Ok(()), |keeper| keeper.wait(number))
     }
 
     fn write_now(&self, expected: Option<u64>, batch: &Batch) -> Result<Written> {
@@ -245,9 +261,7 @@ impl Pass {
     /// Those of the closure; [`Error::Conflict`] after as many tries as [`Retry::conflict`] says; otherwise as
     /// [`apply`](Self::apply).
     pub fn change<T>(&mut self, mut change: impl FnMut(&mut Change<'_>) -> Result<T>) -> Result<T> {
-        Change::run(self, &mut change, |pass, expected, batch| {
-            pass.apply_if(expected, batch).map(drop)
-        })
+        Change::run(self, &mut change)
     }
 
     /// Makes a node, and returns its number. As [`apply`](Self::apply), like the five calls after it.

@@ -16,7 +16,22 @@ struct Folder(PathBuf);
 
 impl Folder {
     fn new(name: &str) -> Self {
-        let path = Path::new(env!("CARGO_TARGET_TMPDIR")).join(name);
+        Self::within(Path::new(env!("CARGO_TARGET_TMPDIR")), name)
+    }
+
+    /// A folder in memory if there may be one, for a test that opens many files.
+    fn in_memory(name: &str) -> Self {
+        let memory = Path::new("/dev/shm");
+        let name = format!("bestore-{}-{name}", std::process::id());
+        if std::fs::create_dir(memory.join(&name)).is_ok() {
+            Self::within(memory, &name)
+        } else {
+            Self::new(&name)
+        }
+    }
+
+    fn within(parent: &Path, name: &str) -> Self {
+        let path = parent.join(name);
         let _ = std::fs::remove_dir_all(&path);
         std::fs::create_dir_all(&path).unwrap();
         Self(path)
@@ -112,7 +127,7 @@ fn writers_on_several_passes_share_the_file() {
     assert_eq!(sizes(&mut saved.pass().unwrap()).len(), 100);
 }
 
-/// Writers that wait until they are saved hold their snapshots, for which pages are kept.
+/// A writer that waits for the file keeps no pages.
 #[test]
 fn writers_share_a_store_that_is_almost_full() {
     let folder = Folder::new("almost-full");
@@ -241,7 +256,7 @@ fn files_of_others_are_refused() {
 
 #[test]
 fn a_file_with_any_changed_byte_is_opened_or_refused() {
-    let folder = Folder::new("changed");
+    let folder = Folder::in_memory("changed");
     three(&folder.file());
     let whole = std::fs::read(folder.file()).unwrap();
     let mut refused = 0;
