@@ -1,0 +1,321 @@
+//! Declarations of `bestore.h`, the C interface of bestore. The crate `bestore` is the safe one.
+//!
+//! Each call, its errors and its cost are described in the header and in bestore(3). Names are those of C.
+//!
+//! The library is looked for in the folder that `BESTORE_LIB_DIR` names, otherwise by pkg-config. `BESTORE_STATIC` links
+//! `libbestore.a`, if it lies beside `libbestore.so`.
+#![no_std]
+#![allow(non_camel_case_types)]
+
+use core::ffi::c_void;
+use core::ptr::null_mut;
+
+/// The version of the header that these declarations were made from, as `bes_version` returns it.
+pub const BES_VERSION_NUMBER: u32 = 2000;
+
+macro_rules! constants {
+    ($($(#[$about:meta])* $name:ident = $value:expr;)*) => {
+        $($(#[$about])* pub const $name: u32 = $value;)*
+
+        /// Every constant of the header that is declared here, by its name.
+        pub const CONSTANTS: &[(&str, u32)] = &[("BES_VERSION_NUMBER", BES_VERSION_NUMBER), $((stringify!($name), $name)),*];
+    };
+}
+
+constants! {
+    BES_OK = 0;
+    BES_BUSY = 1;
+    BES_NO_NODE = 2;
+    BES_NO_ATTRIBUTE = 3;
+    BES_TOO_MANY_ATTRS = 4;
+    BES_INDEX_EXISTS = 5;
+    BES_NO_INDEX = 6;
+    BES_TOO_MANY_INDICES = 7;
+    BES_NOT_INDEXABLE = 8;
+    BES_COMMITS_SPENT = 9;
+    BES_NO_MEMORY = 10;
+    BES_FULL = 11;
+    BES_SYNTAX = 12;
+    BES_BAD_PATTERN = 13;
+    BES_TOO_LONG = 14;
+    BES_TOO_DEEP = 15;
+    BES_TOO_MANY = 16;
+    BES_NOT_COVERED = 17;
+    BES_NAME_LENGTH = 18;
+    BES_DATA_LENGTH = 19;
+    BES_HAS_NUL = 20;
+    BES_BAD_LIMITS = 21;
+    BES_BAD_RPN = 22;
+    BES_CLOSED = 64;
+    BES_OPEN = 65;
+    BES_NOT_PINNED = 66;
+    BES_PINNED = 67;
+    BES_NO_PASS = 68;
+    BES_BAD_COUNT = 69;
+    BES_NOT_UTF8 = 70;
+    BES_NO_OPERATION = 71;
+    BES_NO_KIND = 72;
+    BES_NO_VALUE = 73;
+    BES_BAD_PART = 74;
+    BES_NO_ITEM = 75;
+    BES_CONFLICT = 76;
+
+    BES_STRING_TYPE = 0x4353_5452;
+    BES_INT32_TYPE = 0x4c4f_4e47;
+    BES_INT64_TYPE = 0x4c4c_4e47;
+    BES_MIME_STRING_TYPE = 0x4d49_4d53;
+    BES_RAW_TYPE = 0x5241_5754;
+    BES_UINT32_TYPE = 0x554c_4e47;
+    BES_UINT64_TYPE = 0x554c_4c47;
+
+    BES_NEW_NODE = 0;
+    BES_REMOVE_NODE = 1;
+    BES_SET = 2;
+    BES_UNSET = 3;
+    BES_MAKE_INDEX = 4;
+    BES_REMOVE_INDEX = 5;
+
+    BES_ITEM_ATTRIBUTE = 0;
+    BES_ITEM_TEXT = 1;
+    BES_ITEM_INT64 = 2;
+    BES_ITEM_UINT64 = 3;
+    BES_ITEM_EQ = 4;
+    BES_ITEM_NE = 5;
+    BES_ITEM_LT = 6;
+    BES_ITEM_LE = 7;
+    BES_ITEM_GT = 8;
+    BES_ITEM_GE = 9;
+    BES_ITEM_CONTAINS = 10;
+    BES_ITEM_BEGINS_WITH = 11;
+    BES_ITEM_ENDS_WITH = 12;
+    BES_ITEM_AND = 13;
+    BES_ITEM_OR = 14;
+    BES_ITEM_NOT = 15;
+}
+
+macro_rules! handles {
+    ($($(#[$about:meta])* $name:ident, $init:ident;)*) => {$(
+        $(#[$about])*
+        #[repr(C)]
+        #[derive(Debug)]
+        pub struct $name {
+            pub live: bool,
+            pub at: *mut c_void,
+        }
+
+        impl $name {
+            #[doc = concat!("The closed handle, `", stringify!($init), "` of C.")]
+            pub const INIT: Self = Self { live: false, at: null_mut() };
+        }
+    )*};
+}
+
+handles! {
+    /// One thread's handle on a store. It is never copied, and keeps its address while it is open.
+    bes_pass, BES_PASS_INIT;
+    /// A query that was parsed once.
+    bes_prepared, BES_PREPARED_INIT;
+    /// A place in the operations that make a snapshot again.
+    bes_place, BES_PLACE_INIT;
+}
+
+/// An operation, whose name and value lie in the bytes that go with all operations of a batch.
+#[repr(C)]
+#[derive(Clone, Copy, Debug, Default, PartialEq, Eq)]
+pub struct bes_operation {
+    pub kind: u32,
+    pub code: u32,
+    pub node: u64,
+    pub number: u64,
+    pub name_at: u32,
+    pub name_length: u32,
+    pub value_at: u32,
+    pub value_length: u32,
+}
+
+/// An item of a query in reverse Polish order.
+#[repr(C)]
+#[derive(Clone, Copy, Debug, Default, PartialEq, Eq)]
+pub struct bes_item {
+    pub kind: u32,
+    pub at: u32,
+    pub length: u32,
+    pub number: u64,
+}
+
+/// A value as `bes_get` writes it.
+#[repr(C)]
+#[derive(Clone, Copy, Debug, Default, PartialEq, Eq)]
+pub struct bes_attribute {
+    pub code: u32,
+    pub length: u64,
+    pub number: u64,
+}
+
+/// How full a store is.
+#[repr(C)]
+#[derive(Clone, Copy, Debug, Default, PartialEq, Eq)]
+pub struct bes_usage {
+    pub pages: u64,
+    pub free: u64,
+    pub retired: u64,
+    pub entries: u64,
+    pub commits: u64,
+    pub is_held: bool,
+    pub oldest: u64,
+    pub holder: u64,
+}
+
+/// How many nodes came and went at a refresh.
+#[repr(C)]
+#[derive(Clone, Copy, Debug, Default, PartialEq, Eq)]
+pub struct bes_updates {
+    pub created: u64,
+    pub removed: u64,
+}
+
+/// How many operations and bytes a list has.
+#[repr(C)]
+#[derive(Clone, Copy, Debug, Default, PartialEq, Eq)]
+pub struct bes_counts {
+    pub operations: u64,
+    pub bytes: u64,
+}
+
+extern "C" {
+    pub fn bes_open(pages: u64, passes: u64, commits: u64, pass: *mut bes_pass) -> u32;
+    pub fn bes_another(pass: *mut bes_pass, other: *mut bes_pass) -> u32;
+    pub fn bes_move(pass: *mut bes_pass, other: *mut bes_pass) -> u32;
+    pub fn bes_close(pass: *mut bes_pass) -> u32;
+    pub fn bes_meet(pass: *mut bes_pass, seen: *mut u64) -> u32;
+    pub fn bes_number(pass: *mut bes_pass, number: *mut u64) -> u32;
+    pub fn bes_pin(pass: *mut bes_pass, number: *mut u64) -> u32;
+    pub fn bes_unpin(pass: *mut bes_pass) -> u32;
+    pub fn bes_next(pass: *mut bes_pass, node: *mut u64) -> u32;
+    pub fn bes_apply(
+        pass: *mut bes_pass,
+        operations: *const bes_operation,
+        operations_count: usize,
+        bytes: *const u8,
+        bytes_count: usize,
+        made: *mut u64,
+        made_room: usize,
+        number: *mut u64,
+    ) -> u32;
+    pub fn bes_apply_if(
+        pass: *mut bes_pass,
+        expected: u64,
+        operations: *const bes_operation,
+        operations_count: usize,
+        bytes: *const u8,
+        bytes_count: usize,
+        made: *mut u64,
+        made_room: usize,
+        number: *mut u64,
+    ) -> u32;
+    pub fn bes_query(
+        pass: *mut bes_pass,
+        text: *const u8,
+        text_length: usize,
+        nodes: *mut u64,
+        nodes_room: usize,
+        count: *mut u64,
+    ) -> u32;
+    pub fn bes_query_items(
+        pass: *mut bes_pass,
+        items: *const bes_item,
+        items_count: usize,
+        bytes: *const u8,
+        bytes_count: usize,
+        nodes: *mut u64,
+        nodes_room: usize,
+        count: *mut u64,
+    ) -> u32;
+    pub fn bes_prepare(text: *const u8, text_length: usize, prepared: *mut bes_prepared, place: *mut u64) -> u32;
+    pub fn bes_prepare_items(
+        items: *const bes_item,
+        items_count: usize,
+        bytes: *const u8,
+        bytes_count: usize,
+        prepared: *mut bes_prepared,
+        place: *mut u64,
+    ) -> u32;
+    pub fn bes_prepared_text(prepared: *mut bes_prepared, bytes: *mut u8, bytes_room: usize, count: *mut u64) -> u32;
+    pub fn bes_move_prepared(prepared: *mut bes_prepared, other: *mut bes_prepared) -> u32;
+    pub fn bes_release(prepared: *mut bes_prepared) -> u32;
+    pub fn bes_query_prepared(
+        pass: *mut bes_pass,
+        prepared: *mut bes_prepared,
+        nodes: *mut u64,
+        nodes_room: usize,
+        count: *mut u64,
+    ) -> u32;
+    pub fn bes_refresh(pass: *mut bes_pass, prepared: *mut bes_prepared, updates: *mut bes_updates) -> u32;
+    pub fn bes_changes(
+        prepared: *mut bes_prepared,
+        created: *mut u64,
+        created_room: usize,
+        removed: *mut u64,
+        removed_room: usize,
+    ) -> u32;
+    pub fn bes_explain(
+        pass: *mut bes_pass,
+        text: *const u8,
+        text_length: usize,
+        bytes: *mut u8,
+        bytes_room: usize,
+        count: *mut u64,
+    ) -> u32;
+    pub fn bes_nodes(pass: *mut bes_pass, from: u64, nodes: *mut u64, nodes_room: usize, count: *mut u64) -> u32;
+    pub fn bes_get(
+        pass: *mut bes_pass,
+        node: u64,
+        name: *const u8,
+        name_length: usize,
+        attribute: *mut bes_attribute,
+        bytes: *mut u8,
+        bytes_room: usize,
+    ) -> u32;
+    pub fn bes_attributes(
+        pass: *mut bes_pass,
+        node: u64,
+        counts: *mut bes_counts,
+        operations: *mut bes_operation,
+        operations_room: usize,
+        bytes: *mut u8,
+        bytes_room: usize,
+    ) -> u32;
+    pub fn bes_indices(
+        pass: *mut bes_pass,
+        counts: *mut bes_counts,
+        operations: *mut bes_operation,
+        operations_room: usize,
+        bytes: *mut u8,
+        bytes_room: usize,
+    ) -> u32;
+    pub fn bes_state(
+        pass: *mut bes_pass,
+        place: *mut bes_place,
+        counts: *mut bes_counts,
+        operations: *mut bes_operation,
+        operations_room: usize,
+        bytes: *mut u8,
+        bytes_room: usize,
+    ) -> u32;
+    pub fn bes_move_place(place: *mut bes_place, other: *mut bes_place) -> u32;
+    pub fn bes_leave(place: *mut bes_place) -> u32;
+    pub fn bes_journal(pass: *mut bes_pass, bytes: *mut u8, bytes_room: usize, count: *mut u64) -> u32;
+    pub fn bes_journal_from(
+        pass: *mut bes_pass,
+        from: u64,
+        by: *mut u64,
+        counts: *mut bes_counts,
+        operations: *mut bes_operation,
+        operations_room: usize,
+        bytes: *mut u8,
+        bytes_room: usize,
+        number: *mut u64,
+    ) -> u32;
+    pub fn bes_status(pass: *mut bes_pass, usage: *mut bes_usage, number: *mut u64) -> u32;
+    pub fn bes_version() -> u32;
+}

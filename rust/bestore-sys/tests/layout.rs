@@ -1,0 +1,112 @@
+//! The declarations agree with the header: a C program prints sizes, offsets and constants, and they are compared.
+
+use bestore_sys::*;
+use std::fmt::Write as _;
+use std::mem::{align_of, size_of};
+use std::path::PathBuf;
+use std::process::Command;
+
+macro_rules! layouts {
+    ($($type:ident { $($field:ident),* })*) => {
+        vec![$((
+            stringify!($type),
+            size_of::<$type>(),
+            align_of::<$type>(),
+            vec![$((stringify!($field), {
+                let value = std::mem::MaybeUninit::<$type>::uninit();
+                let base = value.as_ptr();
+                // SAFETY: the address of a field is taken and nothing is read.
+                unsafe { std::ptr::addr_of!((*base).$field) as usize - base as usize }
+            })),*],
+        )),*]
+    };
+}
+
+type Layout = (&'static str, usize, usize, Vec<(&'static str, usize)>);
+
+fn layouts() -> Vec<Layout> {
+    layouts! {
+        bes_pass { live, at }
+        bes_prepared { live, at }
+        bes_place { live, at }
+        bes_operation { kind, code, node, number, name_at, name_length, value_at, value_length }
+        bes_item { kind, at, length, number }
+        bes_attribute { code, length, number }
+        bes_usage { pages, free, retired, entries, commits, is_held, oldest, holder }
+        bes_updates { created, removed }
+        bes_counts { operations, bytes }
+    }
+}
+
+/// The folder with `bestore.h`: `BESTORE_INCLUDE_DIR`, otherwise the one of the repository.
+fn include_folder() -> PathBuf {
+    std::env::var_os("BESTORE_INCLUDE_DIR").map_or_else(
+        || PathBuf::from(concat!(env!("CARGO_MANIFEST_DIR"), "/../../include")),
+        PathBuf::from,
+    )
+}
+
+fn program() -> String {
+    let mut text =
+        String::from("#include \"bestore.h\"\n#include <stdalign.h>\n#include <stdio.h>\nint main(void)\n{\n");
+    for (name, _) in CONSTANTS {
+        writeln!(text, "printf(\"{name} %u\\n\", (unsigned){name});").unwrap();
+    }
+    for (name, _, _, fields) in layouts() {
+        writeln!(text, "printf(\"{name} %zu %zu\\n\", sizeof({name}), alignof({name}));").unwrap();
+        for (field, _) in fields {
+            writeln!(text, "printf(\"{name}.{field} %zu\\n\", offsetof({name}, {field}));").unwrap();
+        }
+    }
+    text.push_str("return 0;\n}\n");
+    text
+}
+
+fn declared() -> String {
+    let mut text = String::new();
+    for (name, value) in CONSTANTS {
+        writeln!(text, "{name} {value}").unwrap();
+    }
+    for (name, size, alignment, fields) in layouts() {
+        writeln!(text, "{name} {size} {alignment}").unwrap();
+        for (field, offset) in fields {
+            writeln!(text, "{name}.{field} {offset}").unwrap();
+        }
+    }
+    text
+}
+
+#[test]
+fn agrees_with_the_header() {
+    let include = include_folder();
+    let compiler = std::env::var("CC").unwrap_or_else(|_| "cc".into());
+    if !include.join("bestore.h").exists() {
+        return println!("layout: skipped, there is no bestore.h");
+    }
+    if Command::new(&compiler).arg("--version").output().is_err() {
+        return println!("layout: skipped, there is no {compiler}");
+    }
+    let folder = PathBuf::from(env!("CARGO_TARGET_TMPDIR"));
+    let (source, binary) = (folder.join("layout.c"), folder.join("layout"));
+    std::fs::write(&source, program()).unwrap();
+    let compiled = Command::new(&compiler)
+        .arg("-std=c11")
+        .arg("-I")
+        .arg(&include)
+        .arg(&source)
+        .arg("-o")
+        .arg(&binary)
+        .output()
+        .unwrap();
+    let said = String::from_utf8_lossy(&compiled.stderr);
+    assert!(compiled.status.success(), "{said}");
+    let printed = Command::new(&binary).output().unwrap().stdout;
+    assert_eq!(String::from_utf8(printed).unwrap(), declared());
+}
+
+/// The library that is linked has every call, and is of the version of these declarations.
+#[test]
+fn has_every_call() {
+    // SAFETY: the call takes nothing.
+    assert_eq!(unsafe { bes_version() } / 1000, BES_VERSION_NUMBER / 1000);
+}

@@ -1,0 +1,51 @@
+//! The journal: the accepted transactions of a store, in their order.
+
+use crate::{Batch, Pass, Result};
+
+/// An entry of the journal: an accepted transaction.
+#[derive(Clone, Debug, PartialEq, Eq)]
+pub struct Entry {
+    /// The commit number. The first entry has 1.
+    pub number: u64,
+    /// The number of the pass that wrote it.
+    pub pass: u64,
+    /// The operations with their outcomes: each new node has the number that it got.
+    pub batch: Batch,
+}
+
+/// The entries of a journal from one on, by [`Pass::journal_from`].
+///
+/// It returns `None` at the end of the journal, and may be asked again when the journal has grown. Each entry is read for
+/// itself, and other passes can't write meanwhile. After an error the same entry is read again.
+#[derive(Debug)]
+pub struct Entries<'a> {
+    pass: &'a Pass,
+    from: u64,
+}
+
+impl<'a> Entries<'a> {
+    pub(crate) fn new(pass: &'a Pass, from: u64) -> Self {
+        Self { pass, from }
+    }
+}
+
+impl Iterator for Entries<'_> {
+    type Item = Result<Entry>;
+
+    fn next(&mut self) -> Option<Result<Entry>> {
+        match self.pass.tried(|| self.pass.raw().entry(self.from)) {
+            Ok((_, list)) if list.operations.is_empty() => None,
+            Ok((pass, mut list)) => {
+                self.from += 1;
+                list.operations.shrink_to_fit();
+                list.bytes.shrink_to_fit();
+                Some(Ok(Entry {
+                    number: self.from,
+                    pass,
+                    batch: list.into(),
+                }))
+            }
+            Err(refused) => Some(Err(refused.into())),
+        }
+    }
+}

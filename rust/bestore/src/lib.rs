@@ -1,0 +1,95 @@
+//! A shared, multi-version attribute store in memory, with the attributes, indices and query language of BeOS.
+//!
+//! A [`Store`] has numbered nodes with typed attributes. A [`Pass`] is one thread's handle on it: it writes transactions, and
+//! pins a [`Snapshot`], in which it reads and asks queries. Readers take no lock, and a snapshot stays as it is while others
+//! write. The store is the library libbestore, whose functions are proved to do what their contracts say.
+//!
+//! ```
+//! use bestore::{Kind, Limits, Store};
+//!
+//! let store = Store::open(Limits::default())?;
+//! let mut pass = store.pass()?;
+//! pass.make_index("MAIL:from", Kind::Text)?;
+//! let letter = pass.change(|change| {
+//!     let node = change.new_node();
+//!     change.set(node, "MAIL:from", "Ada <ada@example.org>")?;
+//!     Ok(node)
+//! })?;
+//!
+//! let snapshot = pass.pin()?;
+//! assert_eq!(snapshot.query("MAIL:from==Ada*")?, [letter]);
+//! # Ok::<(), bestore::Error>(())
+//! ```
+//!
+//! An index takes only attributes that are set after it was made, so the indices come first.
+//!
+//! # What is promised
+//!
+//! Writes are serializable in one order, the journal. A snapshot is a beginning of that order, which includes all that its pass
+//! has written or seen. A write of [`Pass::change`] is made on exactly the snapshot that its closure has read.
+//!
+//! # Threads and processes
+//!
+//! A [`Store`] may be shared. A [`Pass`] may go to another thread, and isn't shared:
+//!
+//! ```
+//! use bestore::{Limits, Store};
+//! use std::thread;
+//!
+//! let store = Store::open(Limits::default())?;
+//! thread::scope(|scope| {
+//!     for _ in 0..2 {
+//!         scope.spawn(|| store.pass()?.new_node());
+//!     }
+//! });
+//! assert_eq!(store.pass()?.status()?.entries, 2);
+//! # Ok::<(), bestore::Error>(())
+//! ```
+//!
+//! ```compile_fail
+//! fn shared<T: Sync>(_: T) {}
+//! shared(bestore::Store::open(bestore::Limits::default()).unwrap().pass().unwrap());
+//! ```
+//!
+//! In a forked child each handle of the parent is dead: its calls return [`Error::Forked`], and its end does nothing.
+//!
+//! # Features
+//!
+//! - `saved`: the module `saved`, a store whose writes are kept in a file of SQLite.
+#![warn(missing_docs, missing_debug_implementations, rust_2018_idioms)]
+#![deny(unsafe_code)]
+
+mod batch;
+mod bytes;
+mod change;
+mod error;
+mod journal;
+mod pass;
+mod predicate;
+mod prepared;
+mod raw;
+#[cfg(feature = "saved")]
+pub mod saved;
+mod snapshot;
+mod store;
+mod text;
+mod value;
+
+pub use batch::{Batch, Operation, Operations};
+pub use change::Change;
+pub use error::{Error, QueryError, QueryFault, Result};
+pub use journal::{Entries, Entry};
+pub use pass::{Oldest, Pass, Retry, Status, Written};
+pub use predicate::{attribute, Attribute, Operand, Predicate};
+pub use prepared::{Live, Prepared, Updates};
+pub use snapshot::{Nodes, Snapshot, State};
+pub use store::{Limits, Store};
+pub use text::{any_case, escape};
+pub use value::{Kind, Value};
+
+/// The version of the library that runs: major, minor and patch.
+#[must_use]
+pub fn library_version() -> (u32, u32, u32) {
+    let version = raw::version();
+    (version / 1_000_000, version / 1_000 % 1_000, version % 1_000)
+}

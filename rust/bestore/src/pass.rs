@@ -1,0 +1,355 @@
+//! Passes: one thread's handle on a store.
+
+use crate::raw::{Answer, RawPass};
+use crate::{Batch, Change, Entries, Error, Kind, Result, Snapshot, Value};
+use bestore_sys as sys;
+use std::fmt;
+use std::sync::Arc;
+use std::thread;
+use std::time::Duration;
+
+/// How often a call is tried again before its error is returned.
+#[derive(Clone, Copy, Debug, PartialEq, Eq)]
+pub struct Retry {
+    /// While another pass is writing. Between two tries other threads run, twice as often each time, up to 1,024 times.
+    pub busy: u32,
+    /// While the store is full and another pass holds an older snapshot. Between two tries lie 1 to 64 milliseconds.
+    pub full: u32,
+    /// Of [`Pass::change`], after a conflict with another write. Other threads run in between, as at `busy`.
+    pub conflict: u32,
+}
+
+impl Retry {
+    /// No call is tried again.
+    pub const NEVER: Retry = Retry {
+        busy: 0,
+        full: 0,
+        conflict: 0,
+    };
+}
+
+impl Default for Retry {
+    /// 10,000 times at busy, which takes some seconds; 10 times at full, which takes .5 seconds; 1,000 times at a conflict.
+    fn default() -> Self {
+        Self {
+            busy: 10_000,
+            full: 10,
+            conflict: 1_000,
+        }
+    }
+}
+
+/// Lets other threads run between two tries, twice as often each time.
+pub(crate) struct StandBack(u32);
+
+impl StandBack {
+    pub(crate) fn new() -> Self {
+        Self(1)
+    }
+
+    pub(crate) fn wait(&mut self) {
+        for _ in 0..self.0 {
+            thread::yield_now();
+        }
+        if self.0 < 1024 {
+            self.0 *= 2;
+        }
+    }
+}
+
+/// An accepted transaction.
+#[derive(Clone, Debug, PartialEq, Eq)]
+pub struct Written {
+    /// Its commit number: how many entries the journal had with it.
+    pub number: u64,
+    /// The nodes that it made, in the order of the operations.
+    pub nodes: Vec<u64>,
+}
+
+/// How full a store is.
+#[derive(Clone, Copy, Debug, PartialEq, Eq)]
+pub struct Status {
+    /// All pages of the store.
+    pub pages: u64,
+    /// Those that a write may take.
+    pub free: u64,
+    /// Those of older snapshots, which are kept because a pass may read them.
+    pub retired: u64,
+    /// How many entries the journal has.
+    pub entries: u64,
+    /// How many it may have.
+    pub commits: u64,
+    /// The oldest active reader, if there is one.
+    pub oldest: Option<Oldest>,
+}
+
+/// The oldest active reader of a store.
+#[derive(Clone, Copy, Debug, PartialEq, Eq)]
+pub struct Oldest {
+    /// The pass reads the snapshot with this number, or a later one.
+    pub snapshot: u64,
+    /// The number of the pass.
+    pub pass: u64,
+}
+
+/// A pass: a session with the store, for one thread at a time.
+///
+/// It writes, and pins the snapshots that it reads. It may go to another thread, and isn't shared. Calls on different passes
+/// run at the same time.
+#[derive(Debug)]
+pub struct Pass {
+    raw: RawPass,
+    retry: Retry,
+    keeper: Option<Arc<dyn Keeper>>,
+}
+
+/// What keeps the writes of a store elsewhere too.
+pub(crate) trait Keeper: Send + Sync + fmt::Debug {
+    /// Makes a write of the batch by the pass with this number, while no other write is made. Returns its number for `wait`.
+    fn keep(&self, pass: u64, batch: &Batch, write: &mut dyn FnMut() -> Result<Written>) -> Result<(Written, u64)>;
+
+    /// Returns when the write is kept.
+    fn wait(&self, number: u64) -> Result<()>;
+}
+
+impl Pass {
+    pub(crate) fn new(raw: RawPass) -> Self {
+        Self {
+            raw,
+            retry: Retry::default(),
+            keeper: None,
+        }
+    }
+
+    #[cfg(feature = "saved")]
+    pub(crate) fn kept_by(mut self, keeper: Arc<dyn Keeper>) -> Self {
+        self.keeper = Some(keeper);
+        self
+    }
+
+    pub(crate) fn raw(&self) -> &RawPass {
+        &self.raw
+    }
+
+    pub(crate) fn retry(&self) -> Retry {
+        self.retry
+    }
+
+    /// Sets how often calls of this pass are tried again.
+    pub fn set_retry(&mut self, retry: Retry) {
+        self.retry = retry;
+    }
+
+    /// The number of this pass, as the journal and [`Error::Busy`] have it.
+    ///
+    /// # Errors
+    /// [`Error::Forked`].
+    pub fn number(&self) -> Result<u64> {
+        Ok(self.raw.number()?)
+    }
+
+    /// Pins the current snapshot, which can be read until it is dropped. Takes constant time.
+    ///
+    /// Writes go on through [`Snapshot::pass`]; they leave the snapshot as it is.
+    ///
+    /// # Errors
+    /// [`Error::Forked`].
+    pub fn pin(&mut self) -> Result<Snapshot<'_>> {
+        Snapshot::pin(self)
+    }
+
+    /// Writes all operations of the batch or none.
+    ///
+    /// # Errors
+    /// [`Error::Busy`] and [`Error::Full`] after as many tries as [`Retry`] says. [`Error::BadCount`], [`Error::NameLength`],
+    /// [`Error::DataLength`], [`Error::HasNul`]: an operation is bad. [`Error::NoNode`] to [`Error::NotIndexable`]: the store
+    /// refuses an operation. [`Error::CommitsSpent`], [`Error::OutOfMemory`], [`Error::Forked`].
+    pub fn apply(&self, batch: &Batch) -> Result<Written> {
+        self.write(None, batch)
+    }
+
+    /// Writes as [`apply`](Self::apply), if the journal has exactly `expected` entries. So what was read in the snapshot with
+    /// that number is still true.
+    ///
+    /// # Errors
+    /// [`Error::Conflict`] if the journal has another length; otherwise as `apply`.
+    pub fn apply_if(&self, expected: u64, batch: &Batch) -> Result<Written> {
+        self.write(Some(expected), batch)
+    }
+
+    fn write(&self, expected: Option<u64>, batch: &Batch) -> Result<Written> {
+        let (written, number) = self.begin_write(expected, batch)?;
+        self.end_write(number)?;
+        Ok(written)
+    }
+
+    /// Writes in memory. Returns the number for `end_write`.
+    pub(crate) fn begin_write(&self, expected: Option<u64>, batch: &Batch) -> Result<(Written, u64)> {
+        let mut full = 0;
+        loop {
+            let mut write = || self.write_now(expected, batch);
+            let written = match &self.keeper {
+                None => write().map(|written| (written, 0)),
+                Some(keeper) => keeper.keep(self.number()?, batch, &mut write),
+            };
+            match written {
+                Err(Error::Full { .. }) if full < self.retry.full && self.is_held_by_another()? => {
+                    thread::sleep(Duration::from_millis(1 << full.min(6)));
+                    full += 1;
+                }
+                written => return written,
+            }
+        }
+    }
+
+    /// Waits until the write is kept, if the writes of this pass are.
+    pub(crate) fn end_write(&self, number: u64) -> Result<()> {
+        self.keeper.as_ref().map_or(Ok(()), |keeper| keeper.wait(number))
+    }
+
+    fn write_now(&self, expected: Option<u64>, batch: &Batch) -> Result<Written> {
+        let mut made = vec![0; batch.len()];
+        match self.tried(|| self.raw.apply(expected, &batch.list, &mut made)) {
+            Ok(number) => {
+                made.retain(|node| *node != 0);
+                Ok(Written { number, nodes: made })
+            }
+            Err(refused) => Err(Error::of_write(refused, batch.len(), expected)),
+        }
+    }
+
+    fn is_held_by_another(&self) -> Result<bool> {
+        let own = self.number()?;
+        Ok(self.status()?.oldest.map_or(false, |oldest| oldest.pass != own))
+    }
+
+    /// Makes a call again while another pass is writing.
+    pub(crate) fn tried<T>(&self, mut call: impl FnMut() -> Answer<T>) -> Answer<T> {
+        let mut stand_back = StandBack::new();
+        for _ in 0..self.retry.busy {
+            match call() {
+                Err(refused) if refused.code == sys::BES_BUSY => stand_back.wait(),
+                answer => return answer,
+            }
+        }
+        call()
+    }
+
+    /// Reads and writes as one: runs the closure on the current snapshot, and writes the operations that it collects if no
+    /// other write came between. Otherwise it runs the closure again, on the next snapshot.
+    ///
+    /// ```
+    /// # use bestore::{Limits, Store, Kind};
+    /// # let mut pass = Store::open(Limits::default())?.pass()?;
+    /// let letter = pass.change(|change| {
+    ///     let node = change.new_node();
+    ///     change.set(node, "MAIL:from", "Ada")?;
+    ///     Ok(node)
+    /// })?;
+    /// pass.change(|change| {
+    ///     let read = change.snapshot().get(letter, "reads")?.and_then(|value| value.as_i64());
+    ///     change.set(letter, "reads", read.unwrap_or(0) + 1)?;
+    ///     Ok(())
+    /// })?;
+    /// # Ok::<(), bestore::Error>(())
+    /// ```
+    ///
+    /// A closure that collects no operation writes nothing. One that returns an error stops the change, and nothing is written;
+    /// [`Error::other`] makes one of any error.
+    ///
+    /// # Errors
+    /// Those of the closure; [`Error::Conflict`] after as many tries as [`Retry::conflict`] says; otherwise as
+    /// [`apply`](Self::apply).
+    pub fn change<T>(&mut self, mut change: impl FnMut(&mut Change<'_>) -> Result<T>) -> Result<T> {
+        Change::run(self, &mut change)
+    }
+
+    /// Makes a node, and returns its number. As [`apply`](Self::apply), like the five calls after it.
+    ///
+    /// # Errors
+    /// As `apply`.
+    pub fn new_node(&self) -> Result<u64> {
+        Ok(self.apply(Batch::new().new_node())?.nodes[0])
+    }
+
+    /// Removes the node and all its attributes.
+    ///
+    /// # Errors
+    /// As [`apply`](Self::apply).
+    pub fn remove_node(&self, node: u64) -> Result<()> {
+        self.apply(Batch::new().remove_node(node)).map(drop)
+    }
+
+    /// Sets the attribute.
+    ///
+    /// # Errors
+    /// As [`apply`](Self::apply).
+    pub fn set(&self, node: u64, name: &str, value: impl Into<Value>) -> Result<()> {
+        self.apply(Batch::new().set(node, name, value)).map(drop)
+    }
+
+    /// Removes the attribute.
+    ///
+    /// # Errors
+    /// As [`apply`](Self::apply).
+    pub fn unset(&self, node: u64, name: &str) -> Result<()> {
+        self.apply(Batch::new().unset(node, name)).map(drop)
+    }
+
+    /// Makes an index, which takes attributes of this name and kind that are set from then on.
+    ///
+    /// # Errors
+    /// As [`apply`](Self::apply).
+    pub fn make_index(&self, name: &str, kind: Kind) -> Result<()> {
+        self.apply(Batch::new().make_index(name, kind)).map(drop)
+    }
+
+    /// Removes the index.
+    ///
+    /// # Errors
+    /// As [`apply`](Self::apply).
+    pub fn remove_index(&self, name: &str) -> Result<()> {
+        self.apply(Batch::new().remove_index(name)).map(drop)
+    }
+
+    /// The entries of the journal after the first `from`, so the commit numbers `from + 1` and on.
+    pub fn journal_from(&self, from: u64) -> Entries<'_> {
+        Entries::new(self, from)
+    }
+
+    /// The journal as text, a line for each entry. Other passes can't write while it is made.
+    ///
+    /// # Errors
+    /// [`Error::Busy`], [`Error::OutOfMemory`], [`Error::Forked`].
+    pub fn journal(&self) -> Result<String> {
+        let bytes = self.tried(|| self.raw.journal())?;
+        Ok(String::from_utf8_lossy(&bytes).into_owned())
+    }
+
+    /// How full the store is, and which snapshot keeps pages. Other passes can't write meanwhile.
+    ///
+    /// # Errors
+    /// [`Error::Busy`], [`Error::Forked`].
+    pub fn status(&self) -> Result<Status> {
+        let usage = self.tried(|| self.raw.status())?;
+        Ok(Status {
+            pages: usage.pages,
+            free: usage.free,
+            retired: usage.retired,
+            entries: usage.entries,
+            commits: usage.commits,
+            oldest: usage.is_held.then_some(Oldest {
+                snapshot: usage.oldest,
+                pass: usage.holder,
+            }),
+        })
+    }
+
+    /// Meets a pass that was dropped: both have then seen what either had. Returns how many entries of the journal that is.
+    ///
+    /// # Errors
+    /// [`Error::NoPass`]: no pass waits to be met, or another thread is meeting it. [`Error::Forked`].
+    pub fn meet(&self) -> Result<u64> {
+        Ok(self.raw.meet()?)
+    }
+}

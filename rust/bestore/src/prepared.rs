@@ -1,0 +1,125 @@
+//! Queries that are parsed once.
+
+use crate::raw::RawPrepared;
+use crate::{Error, Result, Snapshot};
+use std::fmt;
+
+/// A query that was parsed once, or built by [`Predicate::prepare`](crate::Predicate::prepare). It belongs to no store, and any
+/// snapshot may be asked.
+///
+/// ```
+/// use bestore::Prepared;
+/// let query: Prepared = "size>=5 && !(name=*.c)".parse()?;
+/// assert_eq!(query.text()?, r#""size">="5" && "name"!="*.c""#);
+/// # Ok::<(), bestore::Error>(())
+/// ```
+#[derive(Debug)]
+pub struct Prepared(RawPrepared);
+
+impl Prepared {
+    /// Parses the query.
+    ///
+    /// # Errors
+    /// [`Error::Query`], [`Error::OutOfMemory`].
+    pub fn new(text: &str) -> Result<Self> {
+        match RawPrepared::parse(text) {
+            Ok(prepared) => Ok(Self(prepared)),
+            Err(refused) => Err(Error::of_query(refused, || text.into())),
+        }
+    }
+
+    pub(crate) fn of_raw(raw: RawPrepared) -> Self {
+        Self(raw)
+    }
+
+    /// The canonical text of the query.
+    ///
+    /// # Errors
+    /// [`Error::OutOfMemory`], [`Error::Forked`].
+    pub fn text(&self) -> Result<String> {
+        Ok(String::from_utf8_lossy(&self.0.text()?).into_owned())
+    }
+
+    pub(crate) fn text_or_empty(&self) -> String {
+        self.text().unwrap_or_default()
+    }
+
+    pub(crate) fn raw(&self) -> &RawPrepared {
+        &self.0
+    }
+}
+
+impl std::str::FromStr for Prepared {
+    type Err = Error;
+
+    fn from_str(text: &str) -> Result<Self> {
+        Self::new(text)
+    }
+}
+
+impl From<Prepared> for Live {
+    fn from(prepared: Prepared) -> Self {
+        Self(prepared)
+    }
+}
+
+/// The canonical text.
+impl fmt::Display for Prepared {
+    fn fmt(&self, f: &mut fmt::Formatter<'_>) -> fmt::Result {
+        f.write_str(&self.text().map_err(|_| fmt::Error)?)
+    }
+}
+
+/// What changed in the answer of a live query, each ascending.
+#[derive(Clone, Debug, Default, PartialEq, Eq)]
+pub struct Updates {
+    /// The nodes that came into the answer.
+    pub created: Vec<u64>,
+    /// The nodes that left it.
+    pub removed: Vec<u64>,
+}
+
+/// A live query: each refresh returns what changed since the last one. At the first, all nodes of the answer come.
+///
+/// ```
+/// # use bestore::{Kind, Limits, Live, Store};
+/// # let mut pass = Store::open(Limits::default())?.pass()?;
+/// # pass.make_index("size", Kind::Int64)?;
+/// # let node = pass.new_node()?;
+/// # pass.set(node, "size", 5_i64)?;
+/// let mut large = Live::new("size>=5")?;
+/// assert_eq!(large.refresh(&pass.pin()?)?.created, [node]);
+/// pass.set(node, "size", 4_i64)?;
+/// assert_eq!(large.refresh(&pass.pin()?)?.removed, [node]);
+/// # Ok::<(), bestore::Error>(())
+/// ```
+#[derive(Debug)]
+pub struct Live(Prepared);
+
+impl Live {
+    /// Parses the query.
+    ///
+    /// # Errors
+    /// [`Error::Query`], [`Error::OutOfMemory`].
+    pub fn new(text: &str) -> Result<Self> {
+        Prepared::new(text).map(Self)
+    }
+
+    /// Asks the query, and compares with its answer at the last refresh. Snapshots of one store, or of another to which its
+    /// state was carried: nodes are compared by their numbers.
+    ///
+    /// # Errors
+    /// As [`Snapshot::query`]. The query stays as it was.
+    pub fn refresh(&mut self, snapshot: &Snapshot<'_>) -> Result<Updates> {
+        match snapshot.pass().raw().refresh(self.0.raw()) {
+            Ok((created, removed)) => Ok(Updates { created, removed }),
+            Err(refused) => Err(snapshot.query_error(refused, || self.0.text_or_empty())),
+        }
+    }
+
+    /// The query, to ask it without a refresh.
+    #[must_use]
+    pub fn prepared(&self) -> &Prepared {
+        &self.0
+    }
+}

@@ -1,0 +1,465 @@
+//! The calls of the library on handles that close themselves. All unsafe code of the crate is here.
+//!
+//! What each block rests on:
+//! - a pointer to a handle is one of `Handle`, which keeps the handle at one address until it closes it;
+//! - a handle takes one call at a time: `Handle` isn't `Sync`, and no call of the library calls back;
+//! - a slice has a pointer that isn't null, even with a length of 0;
+//! - of a list the library writes as many items as it counts, up to the room that it is given.
+#![allow(unsafe_code)]
+#![deny(unsafe_op_in_unsafe_fn)]
+
+use bestore_sys as sys;
+use std::marker::PhantomData;
+use std::ptr::NonNull;
+use std::sync::atomic::{AtomicU64, Ordering};
+use std::sync::Once;
+use sys::{bes_counts, bes_operation, bes_pass, bes_place, bes_prepared};
+
+/// The code of a call in a forked child, which no call of the library returns.
+pub(crate) const FORKED: u32 = u32::MAX;
+
+/// The most operations of a batch, and the most bytes of their names and values.
+pub(crate) const OPERATIONS: usize = 64;
+pub(crate) const BYTES: usize = OPERATIONS * (63 + 255);
+
+/// A code that isn't `BES_OK`, and the number that goes with it.
+#[derive(Clone, Copy, Debug, PartialEq, Eq)]
+pub(crate) struct Refused {
+    pub(crate) code: u32,
+    pub(crate) carried: u64,
+}
+
+pub(crate) type Answer<T> = Result<T, Refused>;
+
+/// Operations with the bytes of their names and values.
+#[derive(Clone, Debug, Default)]
+pub(crate) struct List {
+    pub(crate) operations: Vec<bes_operation>,
+    pub(crate) bytes: Vec<u8>,
+}
+
+fn check(code: u32, carried: u64) -> Answer<()> {
+    if code == sys::BES_OK {
+        Ok(())
+    } else {
+        Err(Refused { code, carried })
+    }
+}
+
+/// How many forks lie between the first process and this one.
+static FORKS: AtomicU64 = AtomicU64::new(0);
+
+extern "C" fn count_fork() {
+    FORKS.fetch_add(1, Ordering::Relaxed);
+}
+
+/// The process in which something was made.
+#[derive(Clone, Copy, Debug)]
+pub(crate) struct Birthplace(u64);
+
+impl Birthplace {
+    pub(crate) fn here() -> Self {
+        static WATCH: Once = Once::new();
+        WATCH.call_once(|| {
+            // SAFETY: the handler is a function that takes nothing, and does one atomic step.
+            unsafe { libc::pthread_atfork(None, None, Some(count_fork)) };
+        });
+        Self(FORKS.load(Ordering::Relaxed))
+    }
+
+    /// Whether this process is that one, and no forked child of it.
+    pub(crate) fn is_here(self) -> bool {
+        FORKS.load(Ordering::Relaxed) == self.0
+    }
+
+    pub(crate) fn check(self) -> Answer<()> {
+        if self.is_here() {
+            Ok(())
+        } else {
+            Err(Refused {
+                code: FORKED,
+                carried: 0,
+            })
+        }
+    }
+}
+
+/// A handle of C, with how it begins and how it is closed.
+trait CloseHandle: Sized {
+    const CLOSED: Self;
+
+    /// # Safety
+    /// `at` points to a handle that no other call uses.
+    unsafe fn close(at: *mut Self);
+}
+
+macro_rules! close_by {
+    ($($handle:ident by $call:ident),*) => {$(
+        impl CloseHandle for $handle {
+            const CLOSED: Self = Self::INIT;
+
+            unsafe fn close(at: *mut Self) {
+                // SAFETY: as the trait asks.
+                unsafe { sys::$call(at) };
+            }
+        }
+    )*};
+}
+
+close_by!(bes_pass by bes_close, bes_prepared by bes_release, bes_place by bes_leave);
+
+/// A handle at one address, which is closed at the end. In a forked child it is dead, and is left as it is.
+#[derive(Debug)]
+struct Handle<T: CloseHandle> {
+    at: NonNull<T>,
+    birthplace: Birthplace,
+    owns: PhantomData<T>,
+}
+
+// SAFETY: the header lets a handle go to another thread whose calls come after. It isn't `Sync`.
+unsafe impl<T: CloseHandle> Send for Handle<T> {}
+
+impl<T: CloseHandle> Handle<T> {
+    fn new() -> Self {
+        Self {
+            at: NonNull::from(Box::leak(Box::new(T::CLOSED))),
+            birthplace: Birthplace::here(),
+            owns: PhantomData,
+        }
+    }
+
+    fn get(&self) -> Answer<*mut T> {
+        self.birthplace.check().map(|()| self.at.as_ptr())
+    }
+}
+
+impl<T: CloseHandle> Drop for Handle<T> {
+    fn drop(&mut self) {
+        if self.birthplace.is_here() {
+            // SAFETY: `at` is of a box that was leaked by `new`, and nothing uses it any more.
+            unsafe {
+                T::close(self.at.as_ptr());
+                drop(Box::from_raw(self.at.as_ptr()));
+            }
+        }
+    }
+}
+
+/// All that a call has which counts what there is and writes what there is room for. It is asked again with more room.
+fn whole<T>(mut room: usize, mut call: impl FnMut(*mut T, usize, &mut u64) -> u32) -> Answer<Vec<T>>
+where
+    T: Copy,
+{
+    loop {
+        let mut list = Vec::with_capacity(room);
+        let mut count = 0;
+        let code = call(list.as_mut_ptr(), room, &mut count);
+        check(code, count)?;
+        let count = usize::try_from(count).unwrap_or(usize::MAX);
+        if count <= room {
+            // SAFETY: the library has written `count` items.
+            unsafe { list.set_len(count) };
+            return Ok(list);
+        }
+        room = count;
+    }
+}
+
+/// A list of operations, from a call that is asked again with more room if the list is longer.
+fn listed(
+    room: (usize, usize),
+    mut call: impl FnMut(&mut bes_counts, *mut bes_operation, usize, *mut u8, usize) -> Answer<()>,
+) -> Answer<List> {
+    let (mut operations_room, mut bytes_room) = room;
+    loop {
+        let mut list = List {
+            operations: Vec::with_capacity(operations_room),
+            bytes: Vec::with_capacity(bytes_room),
+        };
+        let mut counts = bes_counts::default();
+        let operations = list.operations.as_mut_ptr();
+        let bytes = list.bytes.as_mut_ptr();
+        call(&mut counts, operations, operations_room, bytes, bytes_room)?;
+        let (operations, bytes) = (counts.operations as usize, counts.bytes as usize);
+        if operations <= operations_room && bytes <= bytes_room {
+            // SAFETY: the library has written as many operations and bytes as it counts.
+            unsafe {
+                list.operations.set_len(operations);
+                list.bytes.set_len(bytes);
+            }
+            return Ok(list);
+        }
+        (operations_room, bytes_room) = (operations, bytes);
+    }
+}
+
+/// `bes_apply`, or `bes_apply_if` if a length is expected.
+///
+/// # Safety
+/// `pass` points to a handle that no other call uses.
+unsafe fn apply(pass: *mut bes_pass, expected: Option<u64>, list: &List, made: &mut [u64], number: &mut u64) -> u32 {
+    let (operations, count) = (list.operations.as_ptr(), list.operations.len());
+    let (bytes, length) = (list.bytes.as_ptr(), list.bytes.len());
+    let (nodes, room) = (made.as_mut_ptr(), made.len());
+    // SAFETY: the slices are three, and outlive the call.
+    unsafe {
+        match expected {
+            None => sys::bes_apply(pass, operations, count, bytes, length, nodes, room, number),
+            Some(expected) => sys::bes_apply_if(pass, expected, operations, count, bytes, length, nodes, room, number),
+        }
+    }
+}
+
+/// A pass of a store.
+#[derive(Debug)]
+pub(crate) struct RawPass(Handle<bes_pass>);
+
+impl RawPass {
+    pub(crate) fn open(pages: u64, passes: u64, commits: u64) -> Answer<Self> {
+        let pass = Self(Handle::new());
+        // SAFETY: as the module says.
+        let code = unsafe { sys::bes_open(pages, passes, commits, pass.0.get()?) };
+        check(code, 0).map(|()| pass)
+    }
+
+    pub(crate) fn another(&self) -> Answer<Self> {
+        let other = Self(Handle::new());
+        // SAFETY: as the module says; the handles are two.
+        let code = unsafe { sys::bes_another(self.0.get()?, other.0.get()?) };
+        check(code, 0).map(|()| other)
+    }
+
+    /// A number that a call of the pass alone writes.
+    fn number_by(&self, call: unsafe extern "C" fn(*mut bes_pass, *mut u64) -> u32) -> Answer<u64> {
+        let mut number = 0;
+        // SAFETY: as the module says, and `number` outlives the call.
+        let code = unsafe { call(self.0.get()?, &mut number) };
+        check(code, number).map(|()| number)
+    }
+
+    pub(crate) fn number(&self) -> Answer<u64> {
+        self.number_by(sys::bes_number)
+    }
+
+    pub(crate) fn meet(&self) -> Answer<u64> {
+        self.number_by(sys::bes_meet)
+    }
+
+    pub(crate) fn pin(&self) -> Answer<u64> {
+        self.number_by(sys::bes_pin)
+    }
+
+    pub(crate) fn next(&self) -> Answer<u64> {
+        self.number_by(sys::bes_next)
+    }
+
+    pub(crate) fn unpin(&self) -> Answer<()> {
+        // SAFETY: as the module says.
+        check(unsafe { sys::bes_unpin(self.0.get()?) }, 0)
+    }
+
+    /// Writes the list, on a journal of the expected length if one is given. Returns the commit number.
+    pub(crate) fn apply(&self, expected: Option<u64>, list: &List, made: &mut [u64]) -> Answer<u64> {
+        let mut number = 0;
+        // SAFETY: as the module says.
+        let code = unsafe { apply(self.0.get()?, expected, list, made, &mut number) };
+        check(code, number).map(|()| number)
+    }
+
+    pub(crate) fn query(&self, text: &str) -> Answer<Vec<u64>> {
+        let pass = self.0.get()?;
+        whole(256, |nodes, room, count| {
+            // SAFETY: as the module says.
+            unsafe { sys::bes_query(pass, text.as_ptr(), text.len(), nodes, room, count) }
+        })
+    }
+
+    pub(crate) fn query_prepared(&self, prepared: &RawPrepared) -> Answer<Vec<u64>> {
+        let (pass, prepared) = (self.0.get()?, prepared.0.get()?);
+        whole(256, |nodes, room, count| {
+            // SAFETY: as the module says.
+            unsafe { sys::bes_query_prepared(pass, prepared, nodes, room, count) }
+        })
+    }
+
+    /// The nodes that came and those that went.
+    pub(crate) fn refresh(&self, prepared: &RawPrepared) -> Answer<(Vec<u64>, Vec<u64>)> {
+        let prepared = prepared.0.get()?;
+        let mut updates = sys::bes_updates::default();
+        // SAFETY: as the module says.
+        check(unsafe { sys::bes_refresh(self.0.get()?, prepared, &mut updates) }, 0)?;
+        let rooms = (updates.created as usize, updates.removed as usize);
+        let mut created = Vec::with_capacity(rooms.0);
+        let mut removed = Vec::with_capacity(rooms.1);
+        // SAFETY: as the module says; there is room for as many nodes as the refresh counted, and all are written.
+        unsafe {
+            let code = sys::bes_changes(prepared, created.as_mut_ptr(), rooms.0, removed.as_mut_ptr(), rooms.1);
+            check(code, 0)?;
+            created.set_len(rooms.0);
+            removed.set_len(rooms.1);
+        }
+        Ok((created, removed))
+    }
+
+    pub(crate) fn explain(&self, text: &str) -> Answer<Vec<u8>> {
+        let pass = self.0.get()?;
+        whole(256, |bytes, room, count| {
+            // SAFETY: as the module says.
+            unsafe { sys::bes_explain(pass, text.as_ptr(), text.len(), bytes, room, count) }
+        })
+    }
+
+    /// Up to `room` nodes from a number on.
+    pub(crate) fn nodes(&self, from: u64, room: usize) -> Answer<Vec<u64>> {
+        let mut nodes = Vec::with_capacity(room);
+        let mut count = 0;
+        // SAFETY: as the module says; the count is at most the room.
+        unsafe {
+            let code = sys::bes_nodes(self.0.get()?, from, nodes.as_mut_ptr(), room, &mut count);
+            check(code, count)?;
+            nodes.set_len(room.min(count as usize));
+        }
+        Ok(nodes)
+    }
+
+    /// An attribute, whose bytes are put into `bytes`.
+    pub(crate) fn get(&self, node: u64, name: &str, bytes: &mut [u8; 255]) -> Answer<sys::bes_attribute> {
+        let mut attribute = sys::bes_attribute::default();
+        // SAFETY: as the module says.
+        let code = unsafe {
+            sys::bes_get(
+                self.0.get()?,
+                node,
+                name.as_ptr(),
+                name.len(),
+                &mut attribute,
+                bytes.as_mut_ptr(),
+                bytes.len(),
+            )
+        };
+        check(code, 0).map(|()| attribute)
+    }
+
+    pub(crate) fn attributes(&self, node: u64) -> Answer<List> {
+        let pass = self.0.get()?;
+        listed((16, 1024), |counts, operations, room, bytes, bytes_room| {
+            // SAFETY: as the module says.
+            let code = unsafe { sys::bes_attributes(pass, node, counts, operations, room, bytes, bytes_room) };
+            check(code, 0)
+        })
+    }
+
+    pub(crate) fn indices(&self) -> Answer<List> {
+        let pass = self.0.get()?;
+        listed((32, 32 * 63), |counts, operations, room, bytes, bytes_room| {
+            // SAFETY: as the module says.
+            let code = unsafe { sys::bes_indices(pass, counts, operations, room, bytes, bytes_room) };
+            check(code, 0)
+        })
+    }
+
+    /// The next list of the operations that make the snapshot again.
+    pub(crate) fn state(&self, place: &RawPlace) -> Answer<List> {
+        let (pass, place) = (self.0.get()?, place.0.get()?);
+        listed((OPERATIONS, BYTES), |counts, operations, room, bytes, bytes_room| {
+            // SAFETY: as the module says.
+            let code = unsafe { sys::bes_state(pass, place, counts, operations, room, bytes, bytes_room) };
+            check(code, 0)
+        })
+    }
+
+    pub(crate) fn journal(&self) -> Answer<Vec<u8>> {
+        let pass = self.0.get()?;
+        whole(1 << 16, |bytes, room, count| {
+            // SAFETY: as the module says.
+            unsafe { sys::bes_journal(pass, bytes, room, count) }
+        })
+    }
+
+    /// The entry with this index and the pass that wrote it. It has no operations if the journal ends before.
+    pub(crate) fn entry(&self, from: u64) -> Answer<(u64, List)> {
+        let pass = self.0.get()?;
+        let (mut by, mut number) = (0, 0);
+        let list = listed((OPERATIONS, BYTES), |counts, operations, room, bytes, bytes_room| {
+            // SAFETY: as the module says.
+            let code = unsafe {
+                sys::bes_journal_from(
+                    pass,
+                    from,
+                    &mut by,
+                    counts,
+                    operations,
+                    room,
+                    bytes,
+                    bytes_room,
+                    &mut number,
+                )
+            };
+            check(code, number)
+        })?;
+        Ok((by, list))
+    }
+
+    pub(crate) fn status(&self) -> Answer<sys::bes_usage> {
+        let mut usage = sys::bes_usage::default();
+        let mut number = 0;
+        // SAFETY: as the module says.
+        let code = unsafe { sys::bes_status(self.0.get()?, &mut usage, &mut number) };
+        check(code, number).map(|()| usage)
+    }
+}
+
+/// A query that was parsed once.
+#[derive(Debug)]
+pub(crate) struct RawPrepared(Handle<bes_prepared>);
+
+impl RawPrepared {
+    pub(crate) fn parse(text: &str) -> Answer<Self> {
+        let prepared = Self(Handle::new());
+        let mut place = 0;
+        // SAFETY: as the module says.
+        let code = unsafe { sys::bes_prepare(text.as_ptr(), text.len(), prepared.0.get()?, &mut place) };
+        check(code, place).map(|()| prepared)
+    }
+
+    pub(crate) fn build(items: &[sys::bes_item], bytes: &[u8]) -> Answer<Self> {
+        let prepared = Self(Handle::new());
+        let mut place = 0;
+        // SAFETY: as the module says.
+        let code = unsafe {
+            sys::bes_prepare_items(
+                items.as_ptr(),
+                items.len(),
+                bytes.as_ptr(),
+                bytes.len(),
+                prepared.0.get()?,
+                &mut place,
+            )
+        };
+        check(code, place).map(|()| prepared)
+    }
+
+    pub(crate) fn text(&self) -> Answer<Vec<u8>> {
+        let prepared = self.0.get()?;
+        whole(256, |bytes, room, count| {
+            // SAFETY: as the module says.
+            unsafe { sys::bes_prepared_text(prepared, bytes, room, count) }
+        })
+    }
+}
+
+/// A place in the operations that make a snapshot again.
+#[derive(Debug)]
+pub(crate) struct RawPlace(Handle<bes_place>);
+
+impl RawPlace {
+    pub(crate) fn new() -> Self {
+        Self(Handle::new())
+    }
+}
+
+/// The version of the library that runs, as `BES_VERSION_NUMBER` of its header.
+pub(crate) fn version() -> u32 {
+    // SAFETY: the call takes nothing.
+    unsafe { sys::bes_version() }
+}

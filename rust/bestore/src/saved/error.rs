@@ -1,0 +1,156 @@
+//! Why a file can't be opened, or a write not be saved.
+
+use rusqlite::ErrorCode;
+use std::fmt;
+use std::path::{Path, PathBuf};
+use std::sync::Arc;
+
+/// Where in a file something is.
+#[derive(Clone, Copy, Debug, PartialEq, Eq)]
+pub enum Place {
+    /// The batch of the state with this index, from 0.
+    State(u64),
+    /// The entry with this number, from 1.
+    Entry(u64),
+}
+
+impl fmt::Display for Place {
+    fn fmt(&self, f: &mut fmt::Formatter<'_>) -> fmt::Result {
+        match self {
+            Place::State(index) => write!(f, "batch {index} of the state"),
+            Place::Entry(number) => write!(f, "entry {number}"),
+        }
+    }
+}
+
+/// Why a file can't be opened, or a write not be saved.
+#[non_exhaustive]
+#[derive(Debug)]
+pub enum Error {
+    /// The file is of another program.
+    Foreign {
+        /// The file.
+        path: PathBuf,
+    },
+    /// The file is of a newer format.
+    Newer {
+        /// The file.
+        path: PathBuf,
+        /// The version of its format.
+        version: i64,
+        /// The latest version that can be read.
+        known: i64,
+    },
+    /// Another process has the file, or another [`Saved`](super::Saved) of this one.
+    Held {
+        /// The file.
+        path: PathBuf,
+    },
+    /// The disk is full.
+    DiskFull {
+        /// The file.
+        path: PathBuf,
+    },
+    /// What the file has isn't what a store did.
+    Differs {
+        /// Where it differs.
+        place: Place,
+        /// What is wrong there.
+        why: Box<dyn std::error::Error + Send + Sync>,
+    },
+    /// What the file has doesn't fit the limits of the store.
+    TooLarge {
+        /// What was applied when the store refused.
+        place: Place,
+        /// The store's error.
+        error: crate::Error,
+    },
+    /// An error of SQLite.
+    Sqlite {
+        /// The file.
+        path: PathBuf,
+        /// The error.
+        error: rusqlite::Error,
+    },
+    /// The thread that saves could not be started.
+    Thread(std::io::Error),
+    /// An error of the store.
+    Store(crate::Error),
+    /// Saving has failed before.
+    Stopped(Arc<Error>),
+    /// The file was closed.
+    Closed,
+}
+
+impl Error {
+    pub(super) fn differs(place: Place, why: impl Into<Box<dyn std::error::Error + Send + Sync>>) -> Self {
+        Error::Differs { place, why: why.into() }
+    }
+
+    /// The error of a store that refuses what the file has at this place.
+    pub(super) fn refused(place: Place, error: crate::Error) -> Self {
+        match error {
+            crate::Error::Full { .. } | crate::Error::CommitsSpent | crate::Error::OutOfMemory => {
+                Error::TooLarge { place, error }
+            }
+            error => Error::differs(place, error),
+        }
+    }
+
+    pub(super) fn of_sqlite(path: &Path, error: rusqlite::Error) -> Self {
+        let path = path.to_owned();
+        match error.sqlite_error_code() {
+            Some(ErrorCode::NotADatabase) => Error::Foreign { path },
+            Some(ErrorCode::DatabaseBusy | ErrorCode::DatabaseLocked) => Error::Held { path },
+            Some(ErrorCode::DiskFull) => Error::DiskFull { path },
+            _ => Error::Sqlite { path, error },
+        }
+    }
+}
+
+impl From<crate::Error> for Error {
+    fn from(error: crate::Error) -> Self {
+        Error::Store(error)
+    }
+}
+
+impl fmt::Display for Error {
+    fn fmt(&self, f: &mut fmt::Formatter<'_>) -> fmt::Result {
+        match self {
+            Error::Foreign { path } => {
+                write!(f, "{}: the file is of another program", path.display())
+            }
+            Error::Newer { path, version, known } => write!(
+                f,
+                "{}: the file has format {version}, and format {known} is the latest known here",
+                path.display()
+            ),
+            Error::Held { path } => write!(f, "{}: the file is in use", path.display()),
+            Error::DiskFull { path } => write!(f, "{}: the disk is full", path.display()),
+            Error::Differs { place, why } => {
+                write!(f, "{place}: the file has what no store did: {why}")
+            }
+            Error::TooLarge { place, error } => {
+                write!(f, "{place}: the file doesn't fit the limits of the store: {error}")
+            }
+            Error::Sqlite { path, error } => write!(f, "{}: {error}", path.display()),
+            Error::Thread(error) => write!(f, "the thread that saves can't be started: {error}"),
+            Error::Store(error) => error.fmt(f),
+            Error::Stopped(error) => write!(f, "saving has failed: {error}"),
+            Error::Closed => f.write_str("the file is closed"),
+        }
+    }
+}
+
+impl std::error::Error for Error {
+    fn source(&self) -> Option<&(dyn std::error::Error + 'static)> {
+        match self {
+            Error::TooLarge { error, .. } | Error::Store(error) => Some(error),
+            Error::Differs { why, .. } => Some(why.as_ref()),
+            Error::Sqlite { error, .. } => Some(error),
+            Error::Thread(error) => Some(error),
+            Error::Stopped(error) => Some(error.as_ref()),
+            _ => None,
+        }
+    }
+}

@@ -1,0 +1,219 @@
+//! Stores whose writes are kept in a file.
+//!
+//! The store is in memory, and each accepted transaction goes into a file of SQLite before its call returns. Opening the file
+//! makes the store again.
+//!
+//! ```
+//! use bestore::{saved, Kind};
+//! # let folder = std::env::temp_dir().join(format!("bestore-doc-{}", std::process::id()));
+//! # std::fs::create_dir_all(&folder)?;
+//! # let path = folder.join("letters.bestore");
+//! let saved = saved::open(&path)?;
+//! let pass = saved.pass()?;
+//! pass.make_index("MAIL:from", Kind::Text)?;
+//! let letter = pass.new_node()?;
+//! pass.set(letter, "MAIL:from", "Ada")?;
+//! saved.close()?;
+//!
+//! let saved = saved::open(&path)?;
+//! assert_eq!(saved.pass()?.pin()?.query("MAIL:from==Ada")?, [letter]);
+//! # drop(saved);
+//! # std::fs::remove_dir_all(&folder)?;
+//! # Ok::<(), Box<dyn std::error::Error>>(())
+//! ```
+//!
+//! # What is promised
+//!
+//! - **A write that has returned is in the file**, after `kill -9` too, and after a power failure if the disk keeps what it
+//!   has confirmed. With [`Options::every`] that holds after the given time, and after [`Saved::flush`].
+//! - Writes that come together share one commit of SQLite. They are in the file in the order of the journal.
+//! - **A snapshot may show a write that isn't in the file yet.** Its call has not returned then.
+//! - **When a commit fails**, as on a full disk, each write that waits for it returns [`Error::NotSaved`](crate::Error). These
+//!   writes are in memory, and may be in the file or not. All later writes return [`Error::Stopped`](crate::Error), and reads
+//!   go on. Opening the file again gives what it has.
+//! - Opening repeats each write and compares its outcome with the kept one. A file that differs is refused, and the error names
+//!   the entry.
+//! - One process at a time has the file.
+//!
+//! The file has the last state and the entries since. The state is written anew at opening and by [`Saved::compact`], so the
+//! file doesn't grow for ever.
+
+mod error;
+mod file;
+mod queue;
+
+pub use error::{Error, Place};
+
+use crate::{Batch, Limits, Pass, Snapshot, Store};
+use file::File;
+use queue::Queue;
+use std::path::Path;
+use std::time::Duration;
+
+/// The result of a call of this module.
+pub type Result<T> = std::result::Result<T, Error>;
+
+/// Opens the file, or makes it, with the default limits. Each write is saved before its call returns.
+///
+/// # Errors
+/// As [`Options::open`].
+pub fn open(path: impl AsRef<Path>) -> Result<Saved> {
+    Options::new().open(path)
+}
+
+/// How a file is opened.
+#[derive(Clone, Debug, Default)]
+pub struct Options {
+    limits: Limits,
+    every: Option<Duration>,
+}
+
+impl Options {
+    /// The default limits, and each write is saved before its call returns.
+    #[must_use]
+    pub fn new() -> Self {
+        Self::default()
+    }
+
+    /// Sets how large the store in memory may grow. The journal in memory begins with the entries that opening the file takes.
+    pub fn limits(&mut self, limits: Limits) -> &mut Self {
+        self.limits = limits;
+        self
+    }
+
+    /// Saves so long after a write has returned, at the latest. What was written within that time can be lost.
+    pub fn every(&mut self, time: Duration) -> &mut Self {
+        self.every = Some(time);
+        self
+    }
+
+    /// Opens the file, or makes it, and makes the store again.
+    ///
+    /// # Errors
+    /// [`Error::Foreign`], [`Error::Newer`], [`Error::Held`], [`Error::Differs`], [`Error::TooLarge`], [`Error::DiskFull`],
+    /// [`Error::Sqlite`], [`Error::Store`].
+    pub fn open(&self, path: impl AsRef<Path>) -> Result<Saved> {
+        let mut file = File::open(path.as_ref())?;
+        let store = Store::open(self.limits)?;
+        let number = load(&file, &store)?;
+        let in_memory = {
+            let mut own = store.own()?;
+            let snapshot = own.pin()?;
+            renew(&mut file, &snapshot, number)?;
+            snapshot.number()
+        };
+        let queue = Queue::start(file, number, in_memory, self.every)?;
+        Ok(Saved { store, queue })
+    }
+}
+
+/// Applies what the file has to the empty store. Returns the number of the last entry.
+fn load(file: &File, store: &Store) -> Result<u64> {
+    let mut own = store.own()?;
+    let state = file.state()?;
+    file.each_state(|index, batch| {
+        let applied = own.apply(&read(Place::State(index), batch)?);
+        applied
+            .map(drop)
+            .map_err(|error| Error::refused(Place::State(index), error))
+    })?;
+    if own.pin()?.next_node()? != state.next {
+        return Err(Error::differs(
+            Place::State(0),
+            "the state has another next node than it says",
+        ));
+    }
+    let mut last = state.entries;
+    file.each_entry(|number, batch| {
+        if number != last + 1 {
+            return Err(Error::differs(Place::Entry(last + 1), "the entry is missing"));
+        }
+        last = number;
+        repeat(&own, number, &read(Place::Entry(number), batch)?)
+    })?;
+    Ok(last)
+}
+
+/// Applies an entry, and compares its outcome with the one that the file has.
+fn repeat(pass: &Pass, number: u64, batch: &Batch) -> Result<()> {
+    let place = Place::Entry(number);
+    let written = pass.apply(batch).map_err(|error| Error::refused(place, error))?;
+    let mut repeated = batch.clone();
+    repeated.set_nodes(&written.nodes);
+    if repeated == *batch {
+        Ok(())
+    } else {
+        Err(Error::differs(place, "it makes other nodes now"))
+    }
+}
+
+fn read(place: Place, bytes: &[u8]) -> Result<Batch> {
+    Batch::from_bytes(bytes).map_err(|error| Error::differs(place, error))
+}
+
+/// Writes the state anew if there are entries since. On a full disk the file stays as it is, and the next write says so.
+fn renew(file: &mut File, snapshot: &Snapshot<'_>, number: u64) -> Result<()> {
+    if number == file.state()?.entries {
+        return Ok(());
+    }
+    match file.write_state(number, snapshot.next_node()?, snapshot.state()) {
+        Err(Error::DiskFull { .. }) => Ok(()),
+        answer => answer,
+    }
+}
+
+/// A store whose writes are kept in a file. It closes the file when it is dropped.
+#[derive(Debug)]
+pub struct Saved {
+    store: Store,
+    queue: Queue,
+}
+
+impl Saved {
+    /// Takes a pass, whose writes are saved.
+    ///
+    /// # Errors
+    /// As [`Store::pass`].
+    pub fn pass(&self) -> crate::Result<Pass> {
+        Ok(self.store.pass()?.kept_by(self.queue.keeper()))
+    }
+
+    /// Waits until all that was written before the call is in the file.
+    ///
+    /// # Errors
+    /// The error of the commit that failed, in [`Error::Stopped`]; [`Error::Store`] in a forked child.
+    pub fn flush(&self) -> Result<()> {
+        drop(self.store.own()?);
+        self.queue.flush(None)
+    }
+
+    /// Writes the current snapshot into the file, in the place of the state and of the entries that it contains. Writes go on
+    /// meanwhile, and are saved after it.
+    ///
+    /// # Errors
+    /// Those of [`flush`](Self::flush); [`Error::DiskFull`], [`Error::Sqlite`]: the file is as it was.
+    pub fn compact(&self) -> Result<()> {
+        let mut own = self.store.own()?;
+        let snapshot = own.pin()?;
+        let number = self.queue.number_in_file(snapshot.number());
+        self.queue.flush(Some(number))?;
+        let next = snapshot.next_node()?;
+        self.queue
+            .with_file(|file| file.write_state(number, next, snapshot.state()))
+    }
+
+    /// The number in the file of the entry with this commit number. Numbers in the file go on from one opening to the next.
+    #[must_use]
+    pub fn number_in_file(&self, commit: u64) -> u64 {
+        self.queue.number_in_file(commit)
+    }
+
+    /// Saves what was written, and closes the file. Passes that are still open can read.
+    ///
+    /// # Errors
+    /// As [`flush`](Self::flush).
+    pub fn close(mut self) -> Result<()> {
+        drop(self.store.own()?);
+        self.queue.close()
+    }
+}

@@ -1,0 +1,268 @@
+//! The order of the writes, and the thread that saves them.
+
+use super::file::{File, Row};
+use super::{Error, Result};
+use crate::pass::Keeper;
+use crate::raw::Birthplace;
+use crate::{Batch, Written};
+use std::mem;
+use std::sync::{Arc, Condvar, Mutex, MutexGuard, PoisonError};
+use std::thread::{self, JoinHandle};
+use std::time::{Duration, Instant};
+
+/// How many bytes may wait to be saved before the next write waits too.
+const WAITING: usize = 16 << 20;
+
+fn lock<T>(mutex: &Mutex<T>) -> MutexGuard<'_, T> {
+    mutex.lock().unwrap_or_else(PoisonError::into_inner)
+}
+
+fn wait<'a, T>(condition: &Condvar, guard: MutexGuard<'a, T>) -> MutexGuard<'a, T> {
+    condition.wait(guard).unwrap_or_else(PoisonError::into_inner)
+}
+
+/// What was written and what was saved, by numbers of the file.
+#[derive(Debug)]
+struct Line {
+    waiting: Vec<Row>,
+    waiting_bytes: usize,
+    /// When the first of those that wait has to be saved.
+    due: Option<Instant>,
+    written: u64,
+    saved: u64,
+    /// Whether somebody waits for what is waiting, so that it is saved at once.
+    is_urgent: bool,
+    is_closed: bool,
+    failed: Option<Arc<Error>>,
+}
+
+impl Line {
+    fn check(&self) -> std::result::Result<(), Arc<Error>> {
+        match &self.failed {
+            Some(error) => Err(error.clone()),
+            None if self.is_closed => Err(Arc::new(Error::Closed)),
+            None => Ok(()),
+        }
+    }
+}
+
+#[derive(Debug)]
+struct Shared {
+    line: Mutex<Line>,
+    /// Something waits to be saved, or the end has come.
+    work: Condvar,
+    /// Something was saved, or saving has failed.
+    done: Condvar,
+    /// Until the queue is closed.
+    file: Mutex<Option<File>>,
+    every: Option<Duration>,
+    /// What has to be added to a commit number of the store to have the number in the file.
+    shift: i64,
+}
+
+impl Shared {
+    fn number_in_file(&self, commit: u64) -> u64 {
+        commit.wrapping_add(self.shift as u64)
+    }
+
+    /// Waits until the entry with this number is saved.
+    fn wait_for(&self, mut line: MutexGuard<'_, Line>, number: u64) -> std::result::Result<(), Arc<Error>> {
+        while line.saved < number {
+            if let Some(error) = &line.failed {
+                return Err(error.clone());
+            }
+            line.is_urgent = true;
+            self.work.notify_one();
+            line = wait(&self.done, line);
+        }
+        Ok(())
+    }
+
+    /// The rows to save next: those that wait, when they are due. `None` at the end.
+    fn next_rows(&self) -> Option<Vec<Row>> {
+        let mut line = lock(&self.line);
+        loop {
+            let is_due = line.is_urgent || line.is_closed;
+            let left = line.due.map(|due| due.saturating_duration_since(Instant::now()));
+            match left {
+                None if line.is_closed => return None,
+                None => line = wait(&self.work, line),
+                Some(left) if is_due || left.is_zero() => break,
+                Some(left) => {
+                    let waited = self.work.wait_timeout(line, left);
+                    line = waited.unwrap_or_else(PoisonError::into_inner).0;
+                }
+            }
+        }
+        line.due = None;
+        line.is_urgent = false;
+        line.waiting_bytes = 0;
+        Some(mem::take(&mut line.waiting))
+    }
+
+    /// Saves what waits, again and again, until the end or until a commit fails.
+    fn save(&self) {
+        let _end = End(self);
+        while let Some(rows) = self.next_rows() {
+            let answer = self.with_file(|file| file.append(&rows));
+            let mut line = lock(&self.line);
+            match answer {
+                Ok(()) => line.saved = rows.last().map_or(line.saved, |row| row.number),
+                Err(error) => line.failed = Some(Arc::new(error)),
+            }
+            self.done.notify_all();
+            if line.failed.is_some() {
+                return;
+            }
+        }
+    }
+
+    fn with_file<T>(&self, work: impl FnOnce(&mut File) -> Result<T>) -> Result<T> {
+        match lock(&self.file).as_mut() {
+            Some(file) => work(file),
+            None => Err(Error::Closed),
+        }
+    }
+}
+
+/// The end of the thread that saves, also by a panic: nobody waits for it any more.
+struct End<'a>(&'a Shared);
+
+impl Drop for End<'_> {
+    fn drop(&mut self) {
+        let mut line = lock(&self.0.line);
+        line.failed.get_or_insert_with(|| Arc::new(Error::Closed));
+        self.0.done.notify_all();
+    }
+}
+
+impl Keeper for Shared {
+    fn keep(
+        &self,
+        pass: u64,
+        batch: &Batch,
+        write: &mut dyn FnMut() -> crate::Result<Written>,
+    ) -> crate::Result<(Written, u64)> {
+        let mut line = lock(&self.line);
+        while line.waiting_bytes > WAITING && line.failed.is_none() {
+            line.is_urgent = true;
+            self.work.notify_one();
+            line = wait(&self.done, line);
+        }
+        line.check().map_err(crate::Error::Stopped)?;
+        let written = write()?;
+        let bytes = match batch.clone().set_nodes(&written.nodes).to_bytes() {
+            Ok(bytes) => bytes,
+            Err(error) => {
+                let error = line.failed.insert(Arc::new(Error::Store(error)));
+                return Err(crate::Error::NotSaved(error.clone()));
+            }
+        };
+        let number = self.number_in_file(written.number);
+        line.written = number;
+        line.waiting_bytes += bytes.len();
+        line.waiting.push(Row {
+            number,
+            pass,
+            batch: bytes,
+        });
+        if line.due.is_none() {
+            line.due = Some(Instant::now() + self.every.unwrap_or_default());
+            self.work.notify_one();
+        }
+        Ok((written, number))
+    }
+
+    fn wait(&self, number: u64) -> crate::Result<()> {
+        if self.every.is_some() {
+            return Ok(());
+        }
+        self.wait_for(lock(&self.line), number).map_err(crate::Error::NotSaved)
+    }
+}
+
+/// The queue of one file, and the thread that saves.
+#[derive(Debug)]
+pub(super) struct Queue {
+    shared: Arc<Shared>,
+    saving: Option<JoinHandle<()>>,
+    birthplace: Birthplace,
+}
+
+impl Queue {
+    /// Starts the thread, for a file whose last entry has this number and a store whose last entry has that one.
+    pub(super) fn start(file: File, number: u64, in_memory: u64, every: Option<Duration>) -> Result<Self> {
+        let shared = Arc::new(Shared {
+            line: Mutex::new(Line {
+                waiting: Vec::new(),
+                waiting_bytes: 0,
+                due: None,
+                written: number,
+                saved: number,
+                is_urgent: false,
+                is_closed: false,
+                failed: None,
+            }),
+            work: Condvar::new(),
+            done: Condvar::new(),
+            file: Mutex::new(Some(file)),
+            every,
+            shift: number.wrapping_sub(in_memory) as i64,
+        });
+        let of_thread = shared.clone();
+        let saving = thread::Builder::new()
+            .name("bestore-saving".into())
+            .spawn(move || of_thread.save())
+            .map_err(Error::Thread)?;
+        Ok(Self {
+            shared,
+            saving: Some(saving),
+            birthplace: Birthplace::here(),
+        })
+    }
+
+    pub(super) fn keeper(&self) -> Arc<dyn Keeper> {
+        self.shared.clone()
+    }
+
+    pub(super) fn number_in_file(&self, commit: u64) -> u64 {
+        self.shared.number_in_file(commit)
+    }
+
+    pub(super) fn with_file<T>(&self, work: impl FnOnce(&mut File) -> Result<T>) -> Result<T> {
+        self.shared.with_file(work)
+    }
+
+    /// Waits until the entry with this number is saved, or all that were written.
+    pub(super) fn flush(&self, number: Option<u64>) -> Result<()> {
+        let line = lock(&self.shared.line);
+        let number = number.unwrap_or(line.written);
+        self.shared.wait_for(line, number).map_err(Error::Stopped)
+    }
+
+    /// Saves what waits, and ends the thread.
+    pub(super) fn close(&mut self) -> Result<()> {
+        let saving = match self.saving.take() {
+            Some(saving) => saving,
+            None => return Ok(()),
+        };
+        if !self.birthplace.is_here() {
+            // A forked child has no such thread, and the file belongs to the parent.
+            mem::forget(saving);
+            return Ok(());
+        }
+        lock(&self.shared.line).is_closed = true;
+        self.shared.work.notify_one();
+        // If the thread has panicked, what it hasn't saved is an error below.
+        let _ = saving.join();
+        let flushed = self.flush(None);
+        drop(lock(&self.shared.file).take());
+        flushed
+    }
+}
+
+impl Drop for Queue {
+    fn drop(&mut self) {
+        let _ = self.close();
+    }
+}

@@ -1,0 +1,264 @@
+//! Snapshots: what a pass reads while it is pinned.
+
+use crate::raw::{List, RawPlace, Refused};
+use crate::{Batch, Error, Kind, Pass, Prepared, Result, Value};
+use bestore_sys as sys;
+
+/// A pinned snapshot: the store after the first [`number`](Self::number) entries of its journal, whatever is written meanwhile.
+///
+/// It is unpinned when it is dropped. Until then the pages of the snapshot can't be used again, so drop it soon.
+#[derive(Debug)]
+pub struct Snapshot<'a> {
+    pass: &'a mut Pass,
+    number: u64,
+}
+
+impl<'a> Snapshot<'a> {
+    pub(crate) fn pin(pass: &'a mut Pass) -> Result<Self> {
+        let number = match pass.raw().pin() {
+            // The last snapshot was forgotten, since nobody else can have the pass.
+            Err(refused) if refused.code == sys::BES_PINNED => {
+                pass.raw().unpin()?;
+                pass.raw().pin()?
+            }
+            answer => answer?,
+        };
+        Ok(Self { pass, number })
+    }
+
+    /// How many entries of the journal the snapshot contains.
+    #[must_use]
+    pub fn number(&self) -> u64 {
+        self.number
+    }
+
+    /// The pass, to write by while the snapshot is read.
+    #[must_use]
+    pub fn pass(&self) -> &Pass {
+        self.pass
+    }
+
+    /// The nodes that the query finds, ascending.
+    ///
+    /// ```
+    /// # use bestore::{escape, Kind, Limits, Store};
+    /// # let mut pass = Store::open(Limits::default())?.pass()?;
+    /// # pass.make_index("name", Kind::Text)?;
+    /// # let node = pass.new_node()?;
+    /// # pass.set(node, "name", "[draft].txt")?;
+    /// let snapshot = pass.pin()?;
+    /// let found = snapshot.query(&format!("name==\"*{}*\"", escape("[draft]")))?;
+    /// # assert_eq!(found, [node]);
+    /// # Ok::<(), bestore::Error>(())
+    /// ```
+    ///
+    /// # Errors
+    /// [`Error::Query`], [`Error::OutOfMemory`], [`Error::Forked`].
+    pub fn query(&self, text: &str) -> Result<Vec<u64>> {
+        let answer = self.pass.raw().query(text);
+        answer.map_err(|refused| self.query_error(refused, || text.into()))
+    }
+
+    /// The nodes that the prepared query finds, ascending. Nothing is parsed.
+    ///
+    /// # Errors
+    /// As [`query`](Self::query).
+    pub fn query_prepared(&self, prepared: &Prepared) -> Result<Vec<u64>> {
+        let answer = self.pass.raw().query_prepared(prepared.raw());
+        answer.map_err(|refused| self.query_error(refused, || prepared.text_or_empty()))
+    }
+
+    /// The error of a query, with the first index that is missing.
+    pub(crate) fn query_error(&self, refused: Refused, text: impl FnOnce() -> String) -> Error {
+        let error = Error::of_query(refused, text);
+        if refused.code != sys::BES_NOT_COVERED {
+            return error;
+        }
+        match self.indices() {
+            Ok(indices) => error.with_missing(|name| indices.iter().any(|(index, _)| index == name)),
+            Err(_) => error,
+        }
+    }
+
+    /// The chosen indices of the query, as comparisons joined by ` || `, and the cost: as in `"size"<"0" score 3`.
+    ///
+    /// # Errors
+    /// As [`query`](Self::query).
+    pub fn explain(&self, text: &str) -> Result<String> {
+        let answer = self.pass.raw().explain(text);
+        let bytes = answer.map_err(|refused| self.query_error(refused, || text.into()))?;
+        Ok(String::from_utf8_lossy(&bytes).into_owned())
+    }
+
+    /// All nodes, ascending, whatever attributes they have.
+    pub fn nodes(&self) -> Nodes<'_> {
+        self.nodes_from(0)
+    }
+
+    /// The nodes from this number on, ascending.
+    pub fn nodes_from(&self, from: u64) -> Nodes<'_> {
+        Nodes {
+            snapshot: self,
+            read: Vec::new().into_iter(),
+            from: Some(from),
+        }
+    }
+
+    /// Whether the node exists.
+    ///
+    /// # Errors
+    /// [`Error::OutOfMemory`], [`Error::Forked`].
+    pub fn contains(&self, node: u64) -> Result<bool> {
+        Ok(self.pass.raw().nodes(node, 1)?.first() == Some(&node))
+    }
+
+    /// The number that the next node will have, if it is made on this snapshot.
+    ///
+    /// # Errors
+    /// [`Error::Forked`].
+    pub fn next_node(&self) -> Result<u64> {
+        Ok(self.pass.raw().next()?)
+    }
+
+    /// An attribute, or `None` if the node or the attribute doesn't exist.
+    ///
+    /// # Errors
+    /// [`Error::NameLength`], [`Error::HasNul`], [`Error::Forked`].
+    pub fn get(&self, node: u64, name: &str) -> Result<Option<Value>> {
+        let mut bytes = [0; 255];
+        match self.pass.raw().get(node, name, &mut bytes) {
+            Ok(attribute) => {
+                let kind = Kind::from_code(attribute.code).unwrap_or(Kind::Raw);
+                let length = (attribute.length as usize).min(bytes.len());
+                Ok(Some(Value::of_parts(kind, attribute.number, &bytes[..length])))
+            }
+            Err(refused) if refused.code == sys::BES_NO_ATTRIBUTE => Ok(None),
+            Err(refused) => Err(refused.into()),
+        }
+    }
+
+    /// The attributes of a node, by ascending names.
+    ///
+    /// # Errors
+    /// [`Error::NoNode`], [`Error::OutOfMemory`], [`Error::Forked`].
+    pub fn attributes(&self, node: u64) -> Result<Vec<(String, Value)>> {
+        let list = self.pass.raw().attributes(node)?;
+        Ok(named(&list, |operation| list.value(operation)))
+    }
+
+    /// The indices with their kinds, by ascending names.
+    ///
+    /// # Errors
+    /// [`Error::OutOfMemory`], [`Error::Forked`].
+    pub fn indices(&self) -> Result<Vec<(String, Kind)>> {
+        let list = self.pass.raw().indices()?;
+        Ok(named(&list, |operation| {
+            Kind::from_code(operation.code).unwrap_or(Kind::Raw)
+        }))
+    }
+
+    /// The batches that make the snapshot again on an empty store: its next node number, its nodes with their attributes, and
+    /// its indices with what they hold.
+    ///
+    /// ```
+    /// # use bestore::{Limits, Store};
+    /// # let mut pass = Store::open(Limits::default())?.pass()?;
+    /// # let other = Store::open(Limits::default())?.pass()?;
+    /// for batch in pass.pin()?.state() {
+    ///     other.apply(&batch?)?;
+    /// }
+    /// # Ok::<(), bestore::Error>(())
+    /// ```
+    pub fn state(&self) -> State<'_> {
+        State {
+            snapshot: self,
+            place: RawPlace::new(),
+            is_over: false,
+        }
+    }
+}
+
+impl Drop for Snapshot<'_> {
+    fn drop(&mut self) {
+        // Fails in a forked child alone, where nothing is pinned.
+        let _ = self.pass.raw().unpin();
+    }
+}
+
+fn named<T>(list: &List, read: impl Fn(&sys::bes_operation) -> T) -> Vec<(String, T)> {
+    list.operations
+        .iter()
+        .map(|operation| (list.name(operation).to_owned(), read(operation)))
+        .collect()
+}
+
+/// How many nodes are read at a time.
+const NODES: usize = 1024;
+
+/// The nodes of a snapshot, by [`Snapshot::nodes`]. An error ends them.
+#[derive(Debug)]
+pub struct Nodes<'a> {
+    snapshot: &'a Snapshot<'a>,
+    read: std::vec::IntoIter<u64>,
+    from: Option<u64>,
+}
+
+impl Nodes<'_> {
+    fn read_on(&mut self, from: u64) -> Result<()> {
+        self.from = None;
+        let nodes = self.snapshot.pass.raw().nodes(from, NODES)?;
+        if nodes.len() == NODES {
+            self.from = nodes.last().and_then(|last| last.checked_add(1));
+        }
+        self.read = nodes.into_iter();
+        Ok(())
+    }
+}
+
+impl Iterator for Nodes<'_> {
+    type Item = Result<u64>;
+
+    fn next(&mut self) -> Option<Result<u64>> {
+        if let Some(node) = self.read.next() {
+            return Some(Ok(node));
+        }
+        let from = self.from?;
+        match self.read_on(from) {
+            Ok(()) => self.read.next().map(Ok),
+            Err(error) => Some(Err(error)),
+        }
+    }
+}
+
+impl std::iter::FusedIterator for Nodes<'_> {}
+
+/// The batches that make a snapshot again, by [`Snapshot::state`]. An error ends them.
+#[derive(Debug)]
+pub struct State<'a> {
+    snapshot: &'a Snapshot<'a>,
+    place: RawPlace,
+    is_over: bool,
+}
+
+impl Iterator for State<'_> {
+    type Item = Result<Batch>;
+
+    fn next(&mut self) -> Option<Result<Batch>> {
+        if self.is_over {
+            return None;
+        }
+        match self.snapshot.pass.raw().state(&self.place) {
+            Ok(list) if !list.operations.is_empty() => Some(Ok(list.into())),
+            Ok(_) => {
+                self.is_over = true;
+                None
+            }
+            Err(refused) => {
+                self.is_over = true;
+                Some(Err(refused.into()))
+            }
+        }
+    }
+}
+
+impl std::iter::FusedIterator for State<'_> {}

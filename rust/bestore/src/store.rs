@@ -1,0 +1,73 @@
+//! Stores, and how large they may grow.
+
+use crate::raw::{Birthplace, RawPass};
+use crate::{Error, Pass, Result};
+use std::sync::{Arc, Mutex, MutexGuard, PoisonError};
+
+/// How large a store may grow.
+///
+/// ```
+/// use bestore::{Limits, Store};
+/// let store = Store::open(Limits { pages: 64, ..Limits::default() })?;
+/// # Ok::<(), bestore::Error>(())
+/// ```
+#[derive(Clone, Copy, Debug, PartialEq, Eq)]
+pub struct Limits {
+    /// Pages of 4 KiB, which are all taken at once: 8 to 16,384.
+    pub pages: u64,
+    /// Passes that are open at the same time: 1 to 63. The store itself has one more.
+    pub passes: u64,
+    /// Entries of the journal: 1 to 4,294,967,295.
+    pub commits: u64,
+}
+
+impl Default for Limits {
+    /// 4,096 pages, 8 passes, and as many entries as there may be.
+    fn default() -> Self {
+        Self {
+            pages: 4096,
+            passes: 8,
+            commits: u32::MAX.into(),
+        }
+    }
+}
+
+/// A store in memory. Clones are the same store, and each thread may make its pass from one.
+///
+/// The memory of the store is freed with the last clone and the last pass.
+#[derive(Clone, Debug)]
+pub struct Store {
+    own: Arc<Mutex<Pass>>,
+    birthplace: Birthplace,
+}
+
+impl Store {
+    /// Opens an empty store.
+    ///
+    /// # Errors
+    /// [`Error::BadLimits`], [`Error::OutOfMemory`].
+    pub fn open(limits: Limits) -> Result<Self> {
+        if !(1..=63).contains(&limits.passes) {
+            return Err(Error::BadLimits);
+        }
+        let own = RawPass::open(limits.pages, limits.passes + 1, limits.commits)?;
+        Ok(Self {
+            own: Arc::new(Mutex::new(Pass::new(own))),
+            birthplace: Birthplace::here(),
+        })
+    }
+
+    /// Takes a pass, which goes back to the store when it is dropped.
+    ///
+    /// # Errors
+    /// [`Error::NoPass`] if as many are open as [`Limits::passes`] says; [`Error::OutOfMemory`]; [`Error::Forked`].
+    pub fn pass(&self) -> Result<Pass> {
+        Ok(Pass::new(self.own()?.raw().another()?))
+    }
+
+    /// The pass of the store itself, from which the others are made.
+    pub(crate) fn own(&self) -> Result<MutexGuard<'_, Pass>> {
+        self.birthplace.check()?;
+        Ok(self.own.lock().unwrap_or_else(PoisonError::into_inner))
+    }
+}

@@ -1,0 +1,76 @@
+//! In a forked child the handles of the parent are dead. One test runs at a time, since a fork copies one thread.
+
+mod common;
+
+use bestore::{Error, Limits, Live, Prepared, Store};
+
+/// The exit status of a child that runs the closure.
+fn in_a_child(closure: impl FnOnce() -> bool) -> i32 {
+    // SAFETY: the child calls the closure and leaves by _exit.
+    unsafe {
+        let child = libc::fork();
+        if child == 0 {
+            let is_right = std::panic::catch_unwind(std::panic::AssertUnwindSafe(closure));
+            libc::_exit(i32::from(!is_right.unwrap_or(false)));
+        }
+        let mut status = 0;
+        assert_eq!(libc::waitpid(child, &mut status, 0), child);
+        status
+    }
+}
+
+fn is_dead<T: std::fmt::Debug>(answer: bestore::Result<T>) -> bool {
+    matches!(answer, Err(Error::Forked))
+}
+
+#[test]
+fn handles_of_the_parent_are_dead_in_a_child() {
+    plain_handles();
+    #[cfg(feature = "saved")]
+    kept_store();
+}
+
+#[cfg(feature = "saved")]
+fn kept_store() {
+    let path = std::path::Path::new(env!("CARGO_TARGET_TMPDIR")).join("forked.bestore");
+    let _ = std::fs::remove_file(&path);
+    let saved = bestore::saved::open(&path).unwrap();
+    let pass = saved.pass().unwrap();
+    pass.new_node().unwrap();
+    let mut kept = Some(saved);
+    let status = in_a_child(|| {
+        let saved = kept.take().unwrap();
+        let are_dead = is_dead(pass.new_node()) && is_dead(saved.pass()) && saved.flush().is_err();
+        drop(saved);
+        are_dead
+    });
+    assert_eq!(status, 0);
+    pass.new_node().unwrap();
+    kept.unwrap().close().unwrap();
+    let saved = bestore::saved::open(&path).unwrap();
+    assert_eq!(saved.pass().unwrap().pin().unwrap().nodes().count(), 2);
+}
+
+fn plain_handles() {
+    let store = common::store();
+    let mut pass = store.pass().unwrap();
+    let prepared = Prepared::new("a==1").unwrap();
+    let live = Live::new("a==1").unwrap();
+    pass.new_node().unwrap();
+    let snapshot = pass.pin().unwrap();
+    let status = in_a_child(|| {
+        let are_dead = is_dead(store.pass())
+            && is_dead(snapshot.get(1, "a"))
+            && is_dead(snapshot.pass().new_node())
+            && is_dead(prepared.text());
+        let own = Store::open(Limits::default()).unwrap();
+        let works = own.pass().unwrap().new_node().unwrap() == 1;
+        drop((snapshot, live));
+        are_dead && works
+    });
+    assert_eq!(status, 0);
+    let mut pass = store.pass().unwrap();
+    assert_eq!(pass.new_node().unwrap(), 2);
+    assert!(pass.pin().unwrap().contains(1).unwrap());
+    assert!(store.pass().is_ok());
+}

@@ -1,0 +1,291 @@
+//! Batches, changes and what refuses them.
+
+mod common;
+
+use bestore::{Batch, Error, Kind, Limits, Pass, Retry, Store, Value};
+use common::{sized, store, ten};
+use std::sync::mpsc;
+use std::thread;
+use std::time::Duration;
+
+fn count(pass: &mut Pass, node: u64) -> i64 {
+    let value = pass.pin().unwrap().get(node, "count").unwrap();
+    value.and_then(|value| value.as_i64()).unwrap_or(0)
+}
+
+#[test]
+fn a_batch_is_done_whole_or_not_at_all() {
+    let pass = ten();
+    let before = pass.status().unwrap().entries;
+    let mut batch = Batch::new();
+    batch.new_node().set(99, "size", 1_i64);
+    assert!(matches!(pass.apply(&batch), Err(Error::NoNode)));
+    assert_eq!(pass.status().unwrap().entries, before);
+    let written = pass.apply(Batch::new().remove_node(1).new_node().new_node()).unwrap();
+    assert_eq!((written.number, written.nodes), (before + 1, vec![11, 12]));
+}
+
+#[test]
+fn bad_operations_are_named() {
+    let pass = ten();
+    let at = Some(1);
+    let refused = |batch: &Batch| pass.apply(batch).unwrap_err();
+    let name = refused(Batch::new().new_node().set(1, "", 1_i32));
+    assert!(matches!(name, Error::NameLength { operation } if operation == at));
+    let data = refused(Batch::new().new_node().set(1, "a", "x".repeat(256)));
+    assert!(matches!(data, Error::DataLength { operation } if operation == at));
+    let nul = refused(Batch::new().new_node().set(1, "a", "\0"));
+    assert!(matches!(nul, Error::HasNul { operation } if operation == at));
+    assert!(matches!(refused(&Batch::new()), Error::BadCount { count: 0 }));
+    let mut long = Batch::new();
+    for _ in 0..65 {
+        long.new_node();
+    }
+    assert!(matches!(refused(&long), Error::BadCount { count: 65 }));
+    let index = refused(Batch::new().make_index("size", Kind::Text));
+    assert!(matches!(index, Error::IndexExists));
+    let raw = refused(Batch::new().make_index("raw", Kind::Raw));
+    assert!(matches!(raw, Error::NotIndexable));
+    assert!(matches!(pass.remove_index("none"), Err(Error::NoIndex)));
+    assert!(matches!(pass.unset(1, "none"), Err(Error::NoAttribute)));
+}
+
+#[test]
+fn a_conditional_write_finds_the_journal_as_it_expects() {
+    let mut pass = ten();
+    let number = pass.pin().unwrap().number();
+    let mut batch = Batch::new();
+    batch.new_node();
+    let written = pass.apply_if(number, &batch).unwrap();
+    assert_eq!(written.number, number + 1);
+    match pass.apply_if(number, &batch) {
+        Err(Error::Conflict { expected, found }) => {
+            assert_eq!((expected, found), (number, number + 1));
+        }
+        other => panic!("{other:?}"),
+    }
+}
+
+#[test]
+fn a_change_names_the_nodes_that_it_makes() {
+    let mut pass = ten();
+    let (first, second, number) = pass
+        .change(|change| {
+            let (first, second) = (change.new_node(), change.new_node());
+            change.set(first, "size", 1_i64)?.set(second, "size", 2_i64)?;
+            assert_eq!(change.batch().len(), 4);
+            Ok((first, second, change.number()))
+        })
+        .unwrap();
+    let snapshot = pass.pin().unwrap();
+    assert_eq!(snapshot.number(), number);
+    assert_eq!(snapshot.get(first, "size").unwrap(), Some(Value::Int64(1)));
+    assert_eq!(snapshot.get(second, "size").unwrap(), Some(Value::Int64(2)));
+}
+
+#[test]
+fn a_change_without_operations_writes_nothing() {
+    let mut pass = ten();
+    let before = pass.status().unwrap().entries;
+    assert_eq!(pass.change(|change| change.snapshot().query("size==5")).unwrap(), [5]);
+    let stopped = pass.change(|change| {
+        change.new_node();
+        Err::<(), _>(Error::other("enough"))
+    });
+    assert_eq!(stopped.unwrap_err().to_string(), "enough");
+    assert_eq!(pass.status().unwrap().entries, before);
+}
+
+#[test]
+fn a_change_looks_at_kinds() {
+    let mut pass = ten();
+    let refused = pass
+        .change(|change| change.set(1, "size", 5_i32).map(drop))
+        .unwrap_err();
+    let said = "the index \"size\" takes values of kind i64, and this one is i32";
+    assert_eq!(refused.to_string(), said);
+    pass.change(|change| {
+        change.remove_index("size")?.set(1, "size", 5_i32)?;
+        change.make_index("length", Kind::Uint32)?;
+        assert!(change.set(1, "length", 5_i64).is_err());
+        change.set(1, "length", 5_u32)?.set(1, "other", "free")?;
+        Ok(())
+    })
+    .unwrap();
+    assert_eq!(pass.pin().unwrap().query("length==5").unwrap(), [1]);
+}
+
+#[test]
+fn no_change_is_lost_between_two_threads() {
+    let store = store();
+    let mut pass = store.pass().unwrap();
+    let node = pass.new_node().unwrap();
+    let add = || {
+        let mut pass = store.pass().unwrap();
+        for _ in 0..500 {
+            pass.change(|change| {
+                let value = change.snapshot().get(node, "count")?;
+                let count = value.and_then(|value| value.as_i64()).unwrap_or(0);
+                change.set(node, "count", count + 1)?;
+                Ok(())
+            })
+            .unwrap();
+        }
+    };
+    thread::scope(|scope| {
+        scope.spawn(add);
+        scope.spawn(add);
+    });
+    assert_eq!(count(&mut pass, node), 1000);
+}
+
+#[test]
+fn nodes_that_two_threads_make_have_their_own_attributes() {
+    let store = store();
+    let file = |owner: &'static str| {
+        let mut pass = store.pass().unwrap();
+        for _ in 0..200 {
+            pass.change(|change| {
+                let node = change.new_node();
+                change.set(node, "owner", owner)?.set(node, "node", node)?;
+                Ok(())
+            })
+            .unwrap();
+        }
+    };
+    thread::scope(|scope| {
+        scope.spawn(|| file("ada"));
+        scope.spawn(|| file("bob"));
+    });
+    let mut pass = store.pass().unwrap();
+    let snapshot = pass.pin().unwrap();
+    for node in snapshot.nodes() {
+        let node = node.unwrap();
+        assert_eq!(snapshot.get(node, "node").unwrap(), Some(Value::Uint64(node)));
+        assert_eq!(snapshot.attributes(node).unwrap().len(), 2);
+    }
+    assert_eq!(snapshot.nodes().count(), 400);
+}
+
+#[test]
+fn a_change_gives_up_after_so_many_conflicts() {
+    let store = store();
+    let (mut pass, other) = (store.pass().unwrap(), store.pass().unwrap());
+    pass.set_retry(Retry {
+        conflict: 3,
+        ..Retry::default()
+    });
+    let mut tries = 0;
+    let refused = pass.change(|change| {
+        tries += 1;
+        other.new_node()?;
+        change.new_node();
+        Ok(())
+    });
+    assert!(matches!(refused, Err(Error::Conflict { .. })));
+    assert_eq!(tries, 4);
+}
+
+/// Sets an attribute until the store has no free page.
+fn fill(pass: &Pass, node: u64) -> Error {
+    loop {
+        if let Err(error) = pass.set(node, "a", "x".repeat(255)) {
+            return error;
+        }
+    }
+}
+
+#[test]
+fn a_full_store_says_what_keeps_its_pages() {
+    let store = sized(16);
+    let (mut reader, mut writer) = (store.pass().unwrap(), store.pass().unwrap());
+    writer.set_retry(Retry::NEVER);
+    let node = writer.new_node().unwrap();
+    let snapshot = reader.pin().unwrap();
+    match fill(&writer, node) {
+        Error::Full { oldest } => assert_eq!(oldest, snapshot.number()),
+        other => panic!("{other}"),
+    }
+    let oldest = writer.status().unwrap().oldest.unwrap();
+    assert_eq!(oldest.snapshot, snapshot.number());
+    assert_eq!(oldest.pass, snapshot.pass().number().unwrap());
+    drop(snapshot);
+    writer.set(node, "a", "again").unwrap();
+    assert_eq!(writer.status().unwrap().oldest, None);
+}
+
+#[test]
+fn a_write_waits_for_another_pass_to_unpin() {
+    let store = sized(16);
+    let mut writer = store.pass().unwrap();
+    let node = writer.new_node().unwrap();
+    let (pinned, wait) = mpsc::channel();
+    thread::scope(|scope| {
+        let mut reader = store.pass().unwrap();
+        scope.spawn(move || {
+            let snapshot = reader.pin().unwrap();
+            pinned.send(()).unwrap();
+            thread::sleep(Duration::from_millis(50));
+            drop(snapshot);
+        });
+        wait.recv().unwrap();
+        for _ in 0..100 {
+            writer.set(node, "a", "x".repeat(255)).unwrap();
+        }
+    });
+    let own = writer.pin().unwrap();
+    let started = std::time::Instant::now();
+    assert!(matches!(fill(own.pass(), node), Error::Full { .. }));
+    assert!(started.elapsed() < Duration::from_millis(400));
+}
+
+#[test]
+fn limits_are_kept() {
+    let open = |pages, passes, commits| Store::open(Limits { pages, passes, commits });
+    for (pages, passes, commits) in [(7, 1, 1), (16385, 1, 1), (8, 0, 1), (8, 64, 1), (8, 1, 0)] {
+        assert!(matches!(open(pages, passes, commits), Err(Error::BadLimits)));
+    }
+    let store = open(16, 63, 2).unwrap();
+    let passes: Vec<_> = (0..63).map(|_| store.pass().unwrap()).collect();
+    assert!(matches!(store.pass(), Err(Error::NoPass)));
+    let numbers: Vec<_> = passes.iter().map(|pass| pass.number().unwrap()).collect();
+    drop(passes);
+    assert!(numbers.contains(&store.pass().unwrap().number().unwrap()));
+    let pass = store.pass().unwrap();
+    pass.new_node().unwrap();
+    pass.new_node().unwrap();
+    assert!(matches!(pass.new_node(), Err(Error::CommitsSpent)));
+}
+
+#[test]
+fn a_pass_that_was_dropped_is_met() {
+    let store = store();
+    let (first, second) = (store.pass().unwrap(), store.pass().unwrap());
+    assert!(matches!(second.meet(), Err(Error::NoPass)));
+    first.new_node().unwrap();
+    drop(first);
+    assert_eq!(second.meet().unwrap(), 1);
+}
+
+#[test]
+fn a_pass_outlives_its_store() {
+    let pass = store().pass().unwrap();
+    assert_eq!(pass.new_node().unwrap(), 1);
+    thread::spawn(move || assert_eq!(pass.new_node().unwrap(), 2))
+        .join()
+        .unwrap();
+}
+
+fn can_go<T: Send>() {}
+fn can_be_shared<T: Send + Sync>() {}
+
+#[test]
+fn threads_get_what_they_may() {
+    can_go::<Pass>();
+    can_go::<bestore::Snapshot<'_>>();
+    can_go::<bestore::Prepared>();
+    can_go::<bestore::Live>();
+    can_be_shared::<Store>();
+    can_be_shared::<Error>();
+    can_be_shared::<Batch>();
+}

@@ -1,0 +1,88 @@
+#!/usr/bin/env bash
+# Runs all tests of the crates over the library in the folder that BESTORE_LIB_DIR names, otherwise ../c: plain, in the
+# documentation, by clippy and rustfmt, and under what finds faults of memory. What isn't there is skipped, and said to be.
+#
+# The crates that these need come from Debian's packages librust-*-dev if they are installed, otherwise from what cargo has
+# already fetched. Nothing is fetched.
+set -euo pipefail
+cd "$(dirname "$0")"
+debian=/usr/share/cargo/registry
+
+skip() {
+    echo "Rust: skipped, $1"
+    exit 0
+}
+
+command -v cargo >/dev/null || skip "there is no cargo"
+BESTORE_LIB_DIR=$(realpath "${BESTORE_LIB_DIR:-../c}")
+[ -e "$BESTORE_LIB_DIR/libbestore.so" ] || skip "there is no libbestore.so in $BESTORE_LIB_DIR"
+export BESTORE_LIB_DIR LD_LIBRARY_PATH="$BESTORE_LIB_DIR${LD_LIBRARY_PATH:+:$LD_LIBRARY_PATH}"
+export CARGO_NET_OFFLINE=true CARGO_TARGET_DIR="${CARGO_TARGET_DIR:-$PWD/target}"
+
+options=()
+if compgen -G "$debian/libc-*" >/dev/null; then
+    options=(--config 'source.crates-io.replace-with="debian"' --config "source.debian.directory=\"$debian\"")
+fi
+work=$(mktemp -d)
+trap 'rm -rf "$work"' EXIT
+
+# What it is that is run, and the arguments of cargo; those after -- go to what cargo runs.
+run() {
+    local what=$1 all=()
+    shift
+    all+=("$1")
+    shift
+    while [ $# -gt 0 ] && [ "$1" != -- ]; do
+        all+=("$1")
+        shift
+    done
+    if ! timeout -k 10 600 cargo "${all[@]}" "${options[@]}" "$@" >"$work/said" 2>&1; then
+        cat "$work/said" >&2
+        echo "$what: failed, or not at its end after 600 seconds" >&2
+        exit 1
+    fi
+    local passed
+    passed=$(sed -n 's/^test result: ok. \([0-9]*\) passed.*/\1/p' "$work/said" | paste -sd+ | sed 's/^$/0/')
+    echo "$what: ok$([ "$passed" = 0 ] || echo ", $((passed)) tests passed")"
+    grep -h "skipped" "$work/said" || true
+}
+
+# Cargo resolves the dependencies of all features, so without rusqlite it finds no way.
+if ! cargo metadata --format-version 1 "${options[@]}" >/dev/null 2>"$work/said"; then
+    skip "a package is missing: $(grep -m1 -o 'no matching package named.*' "$work/said" || tail -1 "$work/said")"
+fi
+
+run "Rust" test --workspace --features saved -- --show-output
+run "Rust, without features" test --workspace --lib --tests
+for example in first mailbox; do
+    run "Rust, example $example" run -q -p bestore --example $example
+done
+if cargo clippy --version >/dev/null 2>&1; then
+    run "Rust, clippy" clippy --workspace --all-targets --features saved -- -D warnings
+else
+    echo "Rust, clippy: skipped, there is no cargo clippy"
+fi
+if cargo fmt --version >/dev/null 2>&1; then
+    cargo fmt --all --check && echo "Rust, fmt: ok"
+else
+    echo "Rust, fmt: skipped, there is no cargo fmt"
+fi
+RUSTDOCFLAGS="-D warnings" run "Rust, documentation" doc --workspace --no-deps --features saved
+
+# A nightly compiler has AddressSanitizer, which looks at the library's memory too, as it takes over malloc. ThreadSanitizer
+# would need the standard library and libbestore built with it. Debian's ahash, which rusqlite needs, is too old for it.
+host=$(rustc -vV | sed -n 's/^host: //p')
+if cargo +nightly --version >/dev/null 2>&1; then
+    RUSTFLAGS="-Zsanitizer=address" CARGO_TARGET_DIR="$CARGO_TARGET_DIR/address" \
+        run "Rust, AddressSanitizer" +nightly test -p bestore --tests --target "$host"
+else
+    echo "Rust, AddressSanitizer: skipped, there is no nightly toolchain"
+fi
+if command -v valgrind >/dev/null; then
+    runner="valgrind -q --fair-sched=try --leak-check=full --errors-for-leak-kinds=definite --error-exitcode=9"
+    host=${host//-/_}
+    export "CARGO_TARGET_${host^^}_RUNNER=$runner"
+    run "Rust, valgrind" test -p bestore --test reading --test writing --test forked
+else
+    echo "Rust, valgrind: skipped, there is no valgrind"
+fi
