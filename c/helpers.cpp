@@ -165,8 +165,7 @@ static void reindexed()
         store.set(100, name, value);
         CHECK(store.pin().pairs(name) == 1);
         const bool has_other = *name == 'a' || *name == 'e';
-        CHECK(store.reindex(name) == (has_other ? 298 : 299) && store.pin().pairs(name) == (has_other ? 299 : 300));
-        CHECK(store.reindex(name) == 0);
+        CHECK(store.reindex(name) == (has_other ? 299 : 300) && store.pin().pairs(name) == (has_other ? 299 : 300));
     }
     refused(BES_NO_INDEX, [&] { store.reindex("none"); });
     auto pin = store.pin();

@@ -82,7 +82,7 @@ static void reindex_beside_writer()
                 pass.set(node, value, round);
     });
     store.make_index(value);
-    store.reindex(value.name(), UINT32_MAX);
+    store.reindex(value, UINT32_MAX);
     writer.join();
     auto pin = store.pin();
     CHECK(pin.pairs("n") == nodes && pin.count("n==5") == nodes);

@@ -1,4 +1,4 @@
-/* The helpers over texts of queries, tried on random texts against what the library parses and finds. */
+/* The helpers over indices and texts of queries, tried on random texts against what the library parses and finds. */
 #include "tests.h"
 
 static uint64_t seed = 7;
@@ -247,6 +247,31 @@ static void pairs(void)
     CHECK(bes_close(&pass) == BES_OK);
 }
 
+/* An index that was made late has all of its kind after bes_reindex. */
+static void reindexed(void)
+{
+    static const char *const names[] = {"a", "b"};
+    bes_pass pass = BES_PASS_INIT;
+    uint64_t count = 7, made[64], number = 0;
+    bes_attribute read;
+    uint8_t bytes[255];
+    CHECK(bes_reindex(&pass, "a", 1, &count) == BES_CLOSED && count == 0);
+    CHECK(bes_open(1024, 1, 10000, &pass) == BES_OK && bes_reindex(&pass, "a", 1, &count) == BES_NO_INDEX);
+    for (uint64_t i = 0; i < 3; i++)
+        CHECK(bes_new_nodes(&pass, 64, made) == BES_OK);
+    for (uint64_t node = 1; node <= 150; node++)
+        CHECK(bes_set_int64(&pass, node, "a", -(int64_t)node) == BES_OK && bes_set_text(&pass, node, "b", "text") == BES_OK);
+    CHECK(bes_set_int32(&pass, 7, "a", 7) == BES_OK);
+    CHECK(bes_make_index(&pass, "a", BES_INT64_TYPE) == BES_OK && bes_make_index(&pass, "b", BES_STRING_TYPE) == BES_OK);
+    for (uint64_t i = 0; i < 2; i++) {
+        CHECK(bes_reindex(&pass, names[i], 1, &count) == BES_OK && count == 149 + i);
+        CHECK(bes_pin(&pass, &number) == BES_OK && bes_pairs(&pass, names[i], &count) == BES_OK && count == 149 + i);
+        CHECK(bes_reindex(&pass, names[i], 1, &count) == BES_PINNED && bes_unpin(&pass) == BES_OK);
+    }
+    CHECK(bes_pin(&pass, &number) == BES_OK && bes_count(&pass, "a==-150 && b==text", &count) == BES_OK && count == 1);
+    CHECK(bes_read(&pass, 7, "a", &read, bytes, 0) == BES_OK && read.code == BES_INT32_TYPE && bes_close(&pass) == BES_OK);
+}
+
 /* A text of up to 12 characters, with those that mean something in a query. */
 static void random_text(char *text)
 {
@@ -363,6 +388,7 @@ int main(void)
     uncovered();
     never_true();
     pairs();
+    reindexed();
     escapes();
     any_case();
     valid_texts();

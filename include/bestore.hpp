@@ -261,9 +261,18 @@ public:
         return apply(batch).made;
     }
 
-    // Sets again the attributes of this name that its index doesn't hold since they were set before it was made. Those of another kind
-    // stay outside. Each up to 64 are a change of their own. Returns how many these were.
-    std::uint64_t reindex(std::string_view name, std::uint32_t attempts = BES_TRIES);
+    // Sets again each attribute of this name that has the kind of its index, as bes_reindex does: the index holds then also those that
+    // were set before it was made. Returns how many these were.
+    std::uint64_t reindex(std::string_view name, std::uint32_t attempts = BES_TRIES)
+    {
+        std::uint64_t count = 0;
+        detail::check(bes_reindex(handle(), std::string(name).c_str(), attempts, &count));
+        return count;
+    }
+    template <class T> std::uint64_t reindex(const Attribute<T> &attribute, std::uint32_t attempts = BES_TRIES)
+    {
+        return reindex(attribute.name(), attempts);
+    }
 
     // The journal up to now: a line for each transaction.
     std::string journal(std::uint32_t tries = BES_TRIES)
@@ -343,9 +352,6 @@ private:
         return std::nullopt;
     }
 
-    // Sets again what isn't in the index, of the nodes from `from` on. Returns after which node the next change goes on, if any is left.
-    static std::optional<Node> reindex_some(Change &change, const Index &index, const std::vector<Node> &held, Node from);
-
     detail::Handle<bes_pass, bes_close> handle_;
 };
 
@@ -374,56 +380,6 @@ inline Updates Live::refresh(Snapshot &snapshot)
     updates.created.resize(counts.created);
     updates.removed.resize(counts.removed);
     return updates;
-}
-
-inline std::optional<Node> Pass::reindex_some(Change &change, const Index &index, const std::vector<Node> &held, Node from)
-{
-    for (;;) {
-        const auto nodes = change.nodes(from, 1024);
-        for (const Node node : nodes) {
-            if (change.batch().size() == 64)
-                return node;
-            const auto value = std::binary_search(held.begin(), held.end(), node) ? std::nullopt : change.get(node, index.name);
-            if (value && Input(*value).kind() == index.kind)
-                change.set(node, index.name, *value);
-        }
-        if (nodes.size() < 1024)
-            return std::nullopt;
-        from = nodes.back() + 1;
-    }
-}
-
-inline std::uint64_t Pass::reindex(std::string_view name, std::uint32_t attempts)
-{
-    Index index{std::string(name), Kind::string};
-    std::vector<Node> held;
-    {
-        Pin snapshot = pin();
-        const auto indices = snapshot.indices();
-        const auto found = std::find_if(indices.begin(), indices.end(), [&](const Index &it) { return it.name == name; });
-        if (found == indices.end())
-            throw Refusal(BES_NO_INDEX);
-        index = *found;
-        Predicate all;
-        all.PushAttr(name);
-        if (index.kind == Kind::string)
-            all.PushString("*").PushOp(B_EQ);
-        else
-            all.PushInt64(std::numeric_limits<std::int64_t>::min()).PushOp(B_GE);
-        held = snapshot.query(all);
-    }
-    std::uint64_t count = 0;
-    for (std::optional<Node> from = 0; from;) {
-        const auto step = change(
-            [&](Change &it) {
-                const auto next = reindex_some(it, index, held, *from);
-                return std::make_pair(next, it.batch().size());
-            },
-            attempts);
-        from = step.value.first;
-        count += step.value.second;
-    }
-    return count;
 }
 
 } // namespace bestore

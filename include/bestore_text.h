@@ -1,4 +1,4 @@
-/* Helpers over texts: comparisons of a query, indices that they need, escapes, UTF-8, and a caret under an error. Include bestore.h,
+/* Helpers over indices and texts: comparisons of a query, indices that they need, escapes, UTF-8, and a caret under an error. Include bestore.h,
  * which includes this file.
  *
  * A text that bes_next_comparison and the helpers over it read must be a query that the library parses: one that bes_query has
@@ -206,6 +206,68 @@ static inline uint32_t bes_pairs(bes_pass *pass, const char *name, uint64_t *cou
         items[2].kind = BES_ITEM_GE;
     }
     return bes_query_items(pass, items, 3, bytes, 1 + index->name_length, &none, 0, count);
+}
+
+/* What bes_reindex_some_ does: the index, and the nodes from which on. */
+typedef struct bes_reindexing_ {
+    const char *name;
+    uint32_t code;
+    uint64_t from;
+    uint64_t after; /* where to go on, or 0 after the last node */
+    uint64_t count;
+} bes_reindexing_;
+
+/* Sets again the attributes of up to 64 nodes. */
+static inline uint32_t bes_reindex_some_(bes_pass *pass, bes_batch *batch, uint64_t next, void *with)
+{
+    bes_reindexing_ *it = (bes_reindexing_ *)with;
+    uint64_t nodes[64], count = 0;
+    uint32_t error = bes_nodes(pass, it->from, nodes, 64, &count);
+    (void)next;
+    it->after = count == 64 ? nodes[63] + 1 : 0;
+    for (uint64_t i = 0; i < count && error == BES_OK; i++) {
+        bes_attribute value = {0, 0, 0};
+        uint8_t bytes[255];
+        error = bes_read(pass, nodes[i], it->name, &value, bytes, sizeof bytes);
+        if (error == BES_NO_ATTRIBUTE)
+            error = BES_OK;
+        else if (error == BES_OK && value.code == it->code)
+            error = bes_batch_add_bytes(batch, BES_SET, nodes[i], it->name, strlen(it->name), value.code, value.number, bytes,
+                                        (size_t)value.length);
+    }
+    it->count = batch->count;
+    return error;
+}
+
+/* Sets again each attribute of this name that has the kind of its index. The index holds then also those that were set before it was
+ * made. Each up to 64 nodes are a bes_change of their own, which loses no newer value.
+ * [in] pass      a pass that isn't pinned
+ * [in] attempts  how many attempts each change has
+ * [out] count    how many attributes were set again, also before an error
+ * BES_NO_INDEX, and the errors of bes_pin, bes_indices and bes_change. */
+static inline uint32_t bes_reindex(bes_pass *pass, const char *name, uint32_t attempts, uint64_t *count)
+{
+    bes_reindexing_ it = {name, 0, 0, 0, 0};
+    bes_index_list list;
+    const bes_operation *index;
+    uint64_t number = 0;
+    uint32_t error = bes_pin(pass, &number);
+    *count = 0;
+    if (error != BES_OK)
+        return error;
+    error = bes_list_indices(pass, &list);
+    bes_unpin(pass);
+    if (error != BES_OK)
+        return error;
+    if ((index = bes_index_named(&list, name, strlen(name))) == NULL)
+        return BES_NO_INDEX;
+    it.code = index->code;
+    do {
+        it.from = it.after;
+        error = bes_change(pass, attempts, bes_reindex_some_, &it, &number);
+        *count += error == BES_OK ? it.count : 0;
+    } while (error == BES_OK && it.after != 0);
+    return error;
 }
 
 /* Writes a character at an offset, if it has room there before a zero byte. */

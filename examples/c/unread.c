@@ -22,36 +22,39 @@ static uint32_t print_changes(bes_pass *pass, bes_prepared *query)
     return BES_OK;
 }
 
-/* Makes a letter that nobody has read yet. */
-static uint32_t unread_letter(bes_pass *pass, bes_batch *batch, uint64_t next, void *with)
+/* Makes a letter that nobody has read yet, and keeps its number. */
+static uint32_t unread_letter(bes_pass *pass, bes_batch *batch, uint64_t next, void *letter)
 {
     uint32_t error = bes_batch_new_node(batch);
-    (void)pass, (void)with;
+    (void)pass;
+    *(uint64_t *)letter = next;
     return error != BES_OK ? error : bes_batch_set_text(batch, next, "MAIL:status", "New");
 }
 
-static uint32_t write_letter(bes_pass *pass)
+static uint32_t write_letter(bes_pass *pass, uint64_t *letter)
 {
     uint64_t number = 0;
-    return bes_change(pass, BES_TRIES, unread_letter, NULL, &number);
+    return bes_change(pass, BES_TRIES, unread_letter, letter, &number);
 }
 
 static uint32_t run(bes_pass *pass, bes_prepared *unread)
 {
-    uint64_t place = 0;
+    uint64_t place = 0, first = 0, letter = 0;
     uint32_t error = bes_open(64, 1, 100, pass);
     if (error == BES_OK)
         error = bes_make_index(pass, "MAIL:status", BES_STRING_TYPE);
     if (error == BES_OK)
         error = bes_prepare_text("MAIL:status==New", unread, &place);
-    for (int i = 0; i < 2 && error == BES_OK; i++)
-        error = write_letter(pass);
+    if (error == BES_OK)
+        error = write_letter(pass, &first);
+    if (error == BES_OK)
+        error = write_letter(pass, &letter);
     if (error == BES_OK)
         error = print_changes(pass, unread);
     if (error == BES_OK)
-        error = bes_set_text(pass, 1, "MAIL:status", "Read");
+        error = bes_set_text(pass, first, "MAIL:status", "Read");
     if (error == BES_OK)
-        error = write_letter(pass);
+        error = write_letter(pass, &letter);
     return error != BES_OK ? error : print_changes(pass, unread);
 }
 
