@@ -230,6 +230,11 @@ class Windows(unittest.TestCase):
             for sizes in (["0 bytes", "1 bytes", "2 bytes"], ["2 bytes", "1 bytes", "0 bytes"]):
                 window.sort(queries.FILE_COLUMNS[1])
                 self.assertEqual([window.list.item(row, "values")[0] for row in window.list.get_children()], sizes)
+            self.assertEqual(window.list.heading("Size", "text"), "Size ▼")
+            write(os.path.join(folder, "new.txt"), "x")
+            self.assertTrue(wait_for(lambda: is_shown("000.txt", "001.txt", "002.txt", "new.txt")))
+            rows = [window.list.item(row, "values")[0] for row in window.list.get_children()]
+            self.assertEqual(rows, ["2 bytes", "1 bytes", "1 bytes", "0 bytes"])
             root.destroy()
 
     def test_lines(self) -> None:
