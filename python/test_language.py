@@ -54,6 +54,9 @@ class Patterns(unittest.TestCase):
                     self.assertEqual(version.query(query), same, text)
                 self.assertEqual(version.query(f'k>="{bestore.escape(text)}" && k<="{bestore.escape(text)}"'), same)
                 self.assertEqual(version.query_items(bestore.Name("k"), bestore.escape(text), bestore.Operator.EQ), same)
+                if text:
+                    containing = [node for node, it in enumerate(texts, 1) if text in it]
+                    self.assertEqual(version.query_items(bestore.Name("k"), text, bestore.Operator.CONTAINS), containing)
 
     def test_any_case(self):
         self.assertEqual([bestore.any_case(it) for it in ("dR. x*", "é1", "ß", "")], ["[dD][rR]. [xX]\\*", "[éÉ]1", "ß", ""])

@@ -148,9 +148,10 @@ class Window:
         self.state.pack(side="bottom", fill="x")
         frame = tk.Frame(self._root, background=LINE, padx=1, pady=1)
         frame.pack(fill="both", expand=True, padx=(12, 12))
-        names = [column.title for column in self._columns]
-        self.list = ttk.Treeview(frame, columns=names[1:], selectmode="extended")
-        for place, column in zip(["#0", *names[1:]], self._columns):
+        titles = [column.title for column in self._columns]
+        self.list = ttk.Treeview(frame, columns=titles[1:], selectmode="extended")
+        self._places = ["#0", *titles[1:]]
+        for place, column in zip(self._places, self._columns):
             self.list.heading(place, text=column.title, anchor=column.anchor, command=lambda column=column: self.sort(column))
             self.list.column(place, width=column.width, anchor=column.anchor, stretch=place == "#0")
         self.list.tag_configure("stripe", background=STRIPE)
@@ -197,6 +198,8 @@ class Window:
         self._go(step.went)
         for hit in step.came:
             self._show(hit)
+        if step.came and not self._catalogue.waiting:
+            self._arrange()
         self.list.delete(*self._gone[:-GONE_SLICE - 1:-1])  # the newest first: Tk looks for a row's icon from the newest on
         del self._gone[-GONE_SLICE:]
         self._tell_state()
@@ -218,11 +221,20 @@ class Window:
         self._rows[hit.node], self._hits[row] = row, hit
 
     def sort(self, column: Column) -> None:
-        """Sorts the rows that are there; at the second time the other way round. Those that come later are added
-        below."""
-        is_turned = self._sorted == (column, False)
-        self._sorted = column, is_turned
-        rows = sorted(self._hits, key=lambda row: column.order(self._hits[row]), reverse=is_turned)
+        """Sorts the rows by a column from now on; at the second time the other way round."""
+        self._sorted = column, self._sorted == (column, False)
+        for place, other in zip(self._places, self._columns):
+            arrow = "" if other != column else " ▼" if self._sorted[1] else " ▲"
+            self.list.heading(place, text=other.title + arrow)
+        self._arrange()
+
+    def _arrange(self) -> None:
+        """Puts the rows in their order, if there is one."""
+        column, is_turned = self._sorted
+        if column is None:
+            return
+        orders = {row: column.order(hit) for row, hit in self._hits.items()}
+        rows = sorted(orders, key=orders.__getitem__, reverse=is_turned)
         self.list.set_children("", *rows)
         for place, row in enumerate(rows):
             self.list.item(row, tags=("stripe",) if place % 2 else ())

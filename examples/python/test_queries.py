@@ -102,20 +102,21 @@ class Files(unittest.TestCase):
     def test_beside_another_writer(self) -> None:
         """Another pass makes nodes all the while. Each file has its own attributes all the same, and the other nodes
         have none."""
-        for number in range(200):
+        for number in range(100):
             write(self.path(f"{number}.txt"), "x" * number)
         other = self.catalogue.another()
         self.addCleanup(other.close)
         self.catalogue.start()
         others = 0
-        while self.catalogue.reader.rounds == 0 and others < 20000:
+        while self.catalogue.reader.rounds == 0 and others < 3000:
             other.new_node()
             others += 1
+        self.assertTrue(wait_for(lambda: self.catalogue.reader.rounds > 0))
         with other.pin() as version:
             files = [version.attributes(node) for node in version]
         names = [f"{int(attributes['size'])}.txt" for attributes in files if attributes]
         self.assertEqual(sorted(names), sorted(str(attributes["name"]) for attributes in files if attributes))
-        self.assertEqual((len(names), len(files)), (200, 200 + others))
+        self.assertEqual((len(names), len(files)), (100, 100 + others))
 
     def test_no_query(self) -> None:
         """After an error no query is followed: what was shown is no answer to it."""
@@ -230,6 +231,11 @@ class Windows(unittest.TestCase):
             for sizes in (["0 bytes", "1 bytes", "2 bytes"], ["2 bytes", "1 bytes", "0 bytes"]):
                 window.sort(queries.FILE_COLUMNS[1])
                 self.assertEqual([window.list.item(row, "values")[0] for row in window.list.get_children()], sizes)
+            self.assertEqual(window.list.heading("Size", "text"), "Size ▼")
+            write(os.path.join(folder, "new.txt"), "x")
+            self.assertTrue(wait_for(lambda: is_shown("000.txt", "001.txt", "002.txt", "new.txt")))
+            rows = [window.list.item(row, "values")[0] for row in window.list.get_children()]
+            self.assertEqual(rows, ["2 bytes", "1 bytes", "1 bytes", "0 bytes"])
             root.destroy()
 
     def test_lines(self) -> None:

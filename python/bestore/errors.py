@@ -186,9 +186,11 @@ def pointed(text: str, column: int, width: int = 8192) -> str:
     """The text, and below it a caret under one of its characters. Of a text that is wider than `width` columns (4 or
     more) the part round the caret is shown, between `…`."""
     text = "".join(character if character.isprintable() else " " for character in text)
-    first, last = max(column - width, 0), min(column + width, len(text))
-    while (first, last) != (0, len(text)) and columns_of(text[first:last]) > width - 2 or columns_of(text[first:last]) > width:
-        first, last = (first + 1, last) if column - first >= last - column else (first, last - 1)
+    first, last = 0, len(text)
+    if columns_of(text) > width:
+        first, last = max(column - width, 0), min(column + width, len(text))
+        while columns_of(text[first:last]) > width - 2:
+            first, last = (first + 1, last) if column - first >= last - column else (first, last - 1)
     front = ("…" if first > 0 else "") + text[first:column]
     shown = front + text[column:last] + ("…" if last < len(text) else "")
     return f"{shown}\n{' ' * columns_of(front)}^"

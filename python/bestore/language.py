@@ -20,7 +20,8 @@ _WILDCARD = re.compile(r"(?:[^\\*?\[]|\\.)*[*?\[]", re.DOTALL)
 
 def escape(text: str) -> str:
     r"""The text with a backslash before what has a meaning of its own in a pattern or between quotes, so that it
-    matches itself alone: f'name=="{escape("[draft].txt")}"' is the query name=="\[draft].txt"."""
+    matches itself alone: f'name=="{escape("[draft].txt")}"' is the query name=="\[draft].txt". The
+    operators CONTAINS, BEGINS_WITH and ENDS_WITH of items take a text as it is."""
     return _SPECIAL.sub(r"\\\g<0>", text)
 
 

@@ -12,7 +12,7 @@ from typing import Any, Callable, Iterator, List, NamedTuple, Optional, Tuple, T
 
 from ._library import Attribute, Counts, Operation as RawOperation, Usage, calls, check, words
 from .changes import Change
-from .errors import BadLimits, Conflict, ErrorNumber, Nested, NoIndex, Refusal, TooManyAttempts
+from .errors import BadLimits, Conflict, ErrorNumber, Nested, NoIndex, Refusal, TooManyAttempts, refusal
 from .handles import Owner
 from .operations import BYTES_OF_A_BATCH, MOST_OPERATIONS, Batch, Operation, batch_of
 from .values import RANGES, Kind, Value
@@ -29,6 +29,7 @@ in all."""
 ATTEMPTS = 1_000
 """How often the function of a change is run at most, if nothing else is said."""
 _ROOM = 4096  # how many nodes a query may find before it is asked again with more room
+_BUSY, _FULL = int(ErrorNumber.BUSY), int(ErrorNumber.FULL)
 
 
 class Held(NamedTuple):
@@ -125,10 +126,12 @@ class Pass(Owner):
 
     def _tried(self, tries: int, call: Callable[..., int], *arguments: Any) -> int:
         """Makes a call, up to so many times while another pass is writing, and once at least."""
-        back, answer = _StandingBack(), self._call(call, *arguments)
-        while answer == ErrorNumber.BUSY and tries > 1:
-            back.wait()
-            tries, answer = tries - 1, self._call(call, *arguments)
+        answer = self._call(call, *arguments)
+        if answer == _BUSY:
+            back = _StandingBack()
+            while answer == _BUSY and tries > 1:
+                back.wait()
+                tries, answer = tries - 1, self._call(call, *arguments)
         return answer
 
     def _written(self, tries: int, call: Callable[..., int], batch: Batch, *before: int) -> Tuple[int, List[int]]:
@@ -141,12 +144,13 @@ class Pass(Owner):
         operations = (RawOperation * max(count, 1))(*batch._operations)
         arguments = (*before, operations, count, batch._bytes, len(batch._bytes), made, count, ctypes.byref(number))
         answer = self._tried(tries, call, *arguments)
-        while answer == ErrorNumber.FULL and tries > 1 and pauses < PAUSES and self._may_be_given_pages(number.value):
+        while answer == _FULL and tries > 1 and pauses < PAUSES and self._may_be_given_pages(number.value):
             time.sleep(min(0.001 * 2**pauses, 0.05))
             pauses, answer = pauses + 1, self._tried(tries, call, *arguments)
-        check(answer, number.value, listed="operation")
+        if answer != 0:
+            raise refusal(answer, number.value, listed="operation")
         self.committed = number.value
-        return number.value, made[:count]
+        return self.committed, made[:count]
 
     def _may_be_given_pages(self, least: int) -> bool:
         """Whether pages may come free that a write didn't find, as those of the commit number `least` and later were

@@ -137,6 +137,7 @@ class Version:
 
     def query_items(self, *items: Item) -> List[int]:
         """The nodes that meet the query which items in reverse Polish order build: names, texts, numbers and operators.
+        The text of EQ and NE is a pattern, and that of the other operators is taken as it is.
 
             version.query_items(bestore.Name("size"), 5, bestore.Operator.LT)
         """
