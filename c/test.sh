@@ -1,7 +1,7 @@
 #!/usr/bin/env bash
-# Builds the tests in C and C++ and runs them, plain and under what finds faults of memory and of threads; then the examples, the
-# tests in Python, the wheel and what is installed. Needs libbestore.a and libbestore.so beside it. What isn't there is skipped,
-# and said to be.
+# Builds the tests in C and C++ and runs them, plain and under what finds faults of memory and of threads; then the examples and the
+# tests in Python. What is installed and packed is tried by tools/try-packages. Needs libbestore.a and libbestore.so beside it.
+# What isn't there is skipped, and said to be.
 set -euo pipefail
 cd "$(dirname "$0")"
 warn=(-Wall -Wextra -pedantic -Werror)
@@ -174,19 +174,6 @@ if [ -n "$has_cpp" ]; then
     echo "examples in C++: ok"
 fi
 
-# What is installed is enough to build a program.
-make -s BUILT=1 DESTDIR="$work/root" PREFIX=/usr install
-cc -std=c11 -I"$work/root/usr/include" ../examples/c/first.c -L"$work/root/usr/lib" -lbestore -o "$work/installed"
-LD_LIBRARY_PATH="$work/root/usr/lib" "$work/installed" | cmp - <(echo "node 1")
-if [ -n "$has_cpp" ]; then
-    c++ -std=c++17 -I"$work/root/usr/include" ../examples/c/first.cpp -L"$work/root/usr/lib" -lbestore -lpthread -o "$work/installed-cpp"
-    LD_LIBRARY_PATH="$work/root/usr/lib" "$work/installed-cpp" | cmp - <(echo "node 1, from ann")
-fi
-for file in include/bestore.hpp lib/pkgconfig/bestore.pc share/man/man1/bestore.1 share/man/man3/bestore.3; do
-    [ -s "$work/root/usr/$file" ] || { echo "make install: there is no $file" >&2; exit 1; }
-done
-echo "make install: ok"
-
 if ! command -v python3 >/dev/null; then
     echo "Python: skipped, there is no python3"
     exit
@@ -202,16 +189,6 @@ else
 fi
 python3 manual.py | cmp - ../docs/bestore.3
 (cd ../python && run_if_there types mypy --cache-dir="$work/mypy")
-
-# The wheel, in an environment that has nothing else.
-if python3 -m venv "$work/venv" >/dev/null 2>&1; then
-    "${python[@]}" ../python/backend.py "$work" >/dev/null
-    "$work/venv/bin/python" -m pip install -q --no-index "$work"/bestore-*.whl
-    (cd / && env -u BESTORE_LIBRARY "$work/venv/bin/python" -W error -c 'import bestore; bestore.open(8, 1, 1).close()')
-    echo "wheel: ok"
-else
-    echo "wheel: skipped, python3 makes no environments"
-fi
 
 # The query window, on a display in memory, and what it uses.
 unset DISPLAY
