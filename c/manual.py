@@ -158,7 +158,7 @@ def manual():
     examples = ".Sh EXAMPLES\n" + literal(read("examples", "c", "first.c")) + literal(read("examples", "c", "counter.c"))
     page = "".join([
         HEAD, *(prototype(*it) for it in prototypes), description(), calls(), types(),
-        *(helpers(title, header) for title, header in HELPERS), CPP, errors(), examples, ".Sh SEE ALSO\n.Xr bestore 1\n",
+        *(helpers(title, header) for title, header in HELPERS), CPP, errors(), examples, ".Sh SEE ALSO\n.Xr bestore 1 ,\n.Xr bestore-script 5 ,\n.Xr bestore-query 7\n",
     ])
     return page.replace(".Pp\n.Sh", ".Sh")
 
