@@ -153,14 +153,17 @@ def errors():
     return f".Sh RETURN VALUES\n.Dv BES_OK ,\nor an error:\n.Bl -tag -width indent -compact\n{told}.El\n"
 
 
+SEE_ALSO = ".Sh SEE ALSO\n.Xr bestore 1 ,\n.Xr bestore-script 5 ,\n.Xr bestore-query 7\n"
+
+
 def manual():
     prototypes = re.findall(r"^(uint32_t )(\w+)\(([^;]*)\);", HEADER, re.MULTILINE)
     examples = ".Sh EXAMPLES\n" + literal(read("examples", "c", "first.c")) + literal(read("examples", "c", "counter.c"))
     page = "".join([
         HEAD, *(prototype(*it) for it in prototypes), description(), calls(), types(),
-        *(helpers(title, header) for title, header in HELPERS), CPP, errors(), examples, ".Sh SEE ALSO\n.Xr bestore 1 ,\n.Xr bestore-script 5 ,\n.Xr bestore-query 7\n",
+        *(helpers(title, header) for title, header in HELPERS), CPP, errors(), examples, SEE_ALSO,
     ])
-    return page.replace(".Pp\n.Sh", ".Sh")
+    return re.sub(r"\.Pp\n(?=\.(?:Sh|Bl|Bd))", "", page)
 
 
 if __name__ == "__main__":
