@@ -188,7 +188,7 @@ fn a_closed_file_takes_no_writes_and_is_free() {
 fn writes_are_saved_at_the_latest_when_the_file_is_closed() {
     let folder = Folder::new("every");
     let mut options = Options::new();
-    options.every(Duration::from_secs(3600));
+    options.every(Duration::MAX);
     let saved = options.open(folder.file()).unwrap();
     let pass = saved.pass().unwrap();
     pass.new_node().unwrap();

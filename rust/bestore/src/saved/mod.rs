@@ -61,6 +61,9 @@ pub fn open(path: impl AsRef<Path>) -> Result<Saved> {
     Options::new().open(path)
 }
 
+/// The longest time for which a write waits to be saved.
+const YEAR: Duration = Duration::from_secs(365 * 24 * 3600);
+
 /// How a file is opened.
 #[derive(Clone, Debug, Default)]
 pub struct Options {
@@ -81,9 +84,9 @@ impl Options {
         self
     }
 
-    /// Saves so long after a write has returned, at the latest. What was written within that time can be lost.
+    /// Saves a write at the latest when this time has passed since it returned. A crash within that time can lose it.
     pub fn every(&mut self, time: Duration) -> &mut Self {
-        self.every = Some(time);
+        self.every = Some(time.min(YEAR));
         self
     }
 
