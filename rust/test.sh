@@ -57,6 +57,10 @@ run "Rust, without features" test --workspace --lib --tests
 for example in first mailbox; do
     run "Rust, example $example" run -q -p bestore --example $example
 done
+for expected in "run 1" "run 2"; do
+    run "Rust, example kept" run -q -p bestore --features saved --example kept -- "$work/kept.bestore"
+    grep -qx "$expected" "$work/said" || { echo "Rust, example kept: failed, it doesn't say $expected" >&2; exit 1; }
+done
 if cargo clippy --version >/dev/null 2>&1; then
     run "Rust, clippy" clippy --workspace --all-targets --features saved -- -D warnings
 else
