@@ -89,6 +89,8 @@ fn more_nodes_than_are_read_at_a_time() {
     let snapshot = pass.pin().unwrap();
     let all: Vec<u64> = (1..=1600).collect();
     assert_eq!(snapshot.query("n==1").unwrap(), all);
+    assert_eq!(snapshot.query("n==2").unwrap(), []);
+    assert_eq!(snapshot.query("n==1").unwrap(), all);
     let nodes: Result<Vec<u64>, Error> = snapshot.nodes().collect();
     assert_eq!(nodes.unwrap(), all);
     assert_eq!(snapshot.nodes_from(1599).count(), 2);

@@ -22,21 +22,13 @@
 //! # Ok::<(), Box<dyn std::error::Error>>(())
 //! ```
 //!
-//! # What is promised
+//! A write that has returned is in the file, also after `kill -9`. A snapshot may show a write before that. The format of
+//! the file, and all that is promised, are in `docs/KEPT.md` of the repository.
 //!
-//! - **A write that has returned is in the file**, after `kill -9` too, and after a power failure if the disk keeps what it
-//!   has confirmed. With [`Options::every`] that holds after the given time, and after [`Saved::flush`].
-//! - Writes that come together share one commit of SQLite. They are in the file in the order of the journal.
-//! - **A snapshot may show a write that isn't in the file yet.** Its call has not returned then.
-//! - **When a commit fails**, as on a full disk, each write that waits for it returns [`Error::NotSaved`](crate::Error). These
-//!   writes are in memory, and may be in the file or not. All later writes return [`Error::Stopped`](crate::Error), and reads
-//!   go on. Opening the file again gives what it has.
-//! - Opening repeats each write and compares its outcome with the kept one. A file that differs is refused, and the error names
-//!   the entry.
-//! - One process at a time has the file.
+//! When a commit fails, as on a full disk, the writes that wait for it return [`NotSaved`](crate::Error::NotSaved), and later
+//! ones [`Stopped`](crate::Error::Stopped). Reads go on.
 //!
-//! The file has the last state and the entries since. The state is written anew at opening and by [`Saved::compact`], so the
-//! file doesn't grow for ever.
+//! Opening and [`Saved::compact`] write the state anew, so the file doesn't grow for ever.
 
 mod error;
 mod file;
