@@ -11,16 +11,13 @@ fn main() -> Result<(), Box<dyn Error>> {
 
     let runs = pass.change(|change| {
         let snapshot = change.snapshot();
-        let is_new = snapshot.indices()?.is_empty();
-        if is_new {
-            change.make_index("name", Kind::Text)?;
-        }
-        let found = if is_new {
-            None
+        let found = if snapshot.indices()?.iter().any(|(name, _)| name == "name") {
+            snapshot.query_prepared(&counter)?
         } else {
-            snapshot.query_prepared(&counter)?.first().copied()
+            change.make_index("name", Kind::Text)?;
+            Vec::new()
         };
-        let node = found.unwrap_or_else(|| change.new_node());
+        let node = found.first().copied().unwrap_or_else(|| change.new_node());
         let runs = snapshot.get(node, "runs")?.and_then(|runs| runs.as_u64()).unwrap_or(0) + 1;
         change.set(node, "name", "counter")?.set(node, "runs", runs)?;
         Ok(runs)
