@@ -178,12 +178,12 @@ impl Saved {
     /// # Errors
     /// The error of the commit that failed, in [`Error::Stopped`]; [`Error::Store`] in a forked child.
     pub fn flush(&self) -> Result<()> {
-        drop(self.store.own()?);
+        self.store.check()?;
         self.queue.flush(None)
     }
 
     /// Writes the current snapshot into the file, in the place of the state and of the entries that it contains. Writes go on
-    /// meanwhile, and are saved after it.
+    /// meanwhile, and are saved after it. A new pass waits until it is done.
     ///
     /// # Errors
     /// Those of [`flush`](Self::flush); [`Error::DiskFull`], [`Error::Sqlite`]: the file is as it was.
@@ -208,7 +208,7 @@ impl Saved {
     /// # Errors
     /// As [`flush`](Self::flush).
     pub fn close(mut self) -> Result<()> {
-        drop(self.store.own()?);
+        self.store.check()?;
         self.queue.close()
     }
 }
