@@ -104,7 +104,7 @@ else
     echo "Rust, AddressSanitizer: skipped, there is no nightly toolchain"
 fi
 if command -v valgrind >/dev/null; then
-    runner="valgrind -q --fair-sched=try --leak-check=full --errors-for-leak-kinds=definite --error-exitcode=9"
+    runner="valgrind -q --fair-sched=try --leak-check=full --show-leak-kinds=definite --errors-for-leak-kinds=definite --error-exitcode=9"
     host=${host//-/_}
     export "CARGO_TARGET_${host^^}_RUNNER=$runner"
     run "Rust, valgrind" test -p bestore --test reading --test writing --test forked
