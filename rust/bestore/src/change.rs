@@ -114,7 +114,11 @@ impl<'a> Change<'a> {
     /// Runs the closure on one snapshot after the other, until its operations are written on the one that it has read.
     pub(crate) fn run<T>(pass: &mut Pass, closure: &mut impl FnMut(&mut Change<'_>) -> Result<T>) -> Result<T> {
         let mut stand_back = StandBack::new();
-        let mut left = pass.retry().conflict;
+        let mut left = if pass.held().is_some() {
+            0
+        } else {
+            pass.retry().conflict
+        };
         loop {
             let snapshot = pass.pin()?;
             let mut change = Change::new(&snapshot)?;

@@ -100,6 +100,7 @@ pub struct Oldest {
 pub struct Pass {
     raw: RawPass,
     retry: Retry,
+    held: Option<u64>,
     keeper: Option<Arc<dyn Keeper>>,
 }
 
@@ -117,6 +118,7 @@ impl Pass {
         Self {
             raw,
             retry: Retry::default(),
+            held: None,
             keeper: None,
         }
     }
@@ -156,6 +158,44 @@ impl Pass {
     /// [`Error::Forked`].
     pub fn pin(&mut self) -> Result<Snapshot<'_>> {
         Snapshot::pin(self)
+    }
+
+    /// Pins the current snapshot, and holds it until [`release`](Self::release): each [`pin`](Self::pin) in between returns it.
+    /// So a session can keep one without a borrow. One that is held already stays. Returns the number of the snapshot.
+    ///
+    /// ```
+    /// # use bestore::{Limits, Store};
+    /// # let mut pass = Store::open(Limits::default())?.pass()?;
+    /// let number = pass.hold()?;
+    /// pass.new_node()?;
+    /// assert_eq!(pass.pin()?.number(), number);
+    /// pass.release();
+    /// assert_eq!(pass.pin()?.number(), number + 1);
+    /// # Ok::<(), bestore::Error>(())
+    /// ```
+    ///
+    /// # Errors
+    /// [`Error::Forked`].
+    pub fn hold(&mut self) -> Result<u64> {
+        let snapshot = self.pin()?;
+        let number = snapshot.number();
+        std::mem::forget(snapshot);
+        self.held = Some(number);
+        Ok(number)
+    }
+
+    /// Unpins the snapshot that is held, if one is.
+    pub fn release(&mut self) {
+        if self.held.take().is_some() {
+            // Fails in a forked child alone, where nothing is pinned.
+            let _ = self.raw.unpin();
+        }
+    }
+
+    /// The number of the snapshot that is held.
+    #[must_use]
+    pub fn held(&self) -> Option<u64> {
+        self.held
     }
 
     /// Writes all operations of the batch or none.
@@ -253,6 +293,8 @@ impl Pass {
     /// })?;
     /// # Ok::<(), bestore::Error>(())
     /// ```
+    ///
+    /// While a snapshot is [held](Self::hold), the closure reads that one and runs once.
     ///
     /// A closure that collects no operation writes nothing. One that returns an error stops the change, and nothing is written;
     /// [`Error::other`] makes one of any error.
