@@ -57,18 +57,28 @@ fn change(store: &Store, pass: &mut Pass, seen: &Seen) -> Result<bool, Refusal>
     }
 }
 
+/// Reads and writes. Whether no other write came between.
+fn change_once(store: &Store, pass: &mut Pass) -> Result<bool, Refusal>
+    requires { IsPassOf store.now pass.old }
+    ensures { IsPassOf store.now pass.new }
+{
+    let count = Name::new("count")?;
+    match pass.pinned() {
+        Some(_) => Err(Refusal::BadLimits),
+        None => {
+            let seen = look(store, pass, &count);
+            change(store, pass, &seen)
+        }
+    }
+}
+
 /// Reads and writes until no other write came between.
 fn change_at_last(store: &Store, pass: &mut Pass) -> Result<(), Refusal>
     requires { IsPassOf store.now pass.old }
     ensures { IsPassOf store.now pass.new }
 {
-    let count = Name::new("count")?;
     for _ in 0..TRIES {
-        if let Some(_) = pass.pinned() {
-            return Err(Refusal::BadLimits);
-        }
-        let seen = look(store, pass, &count);
-        if change(store, pass, &seen)? {
+        if change_once(store, pass)? {
             return Ok(());
         }
     }
@@ -102,23 +112,49 @@ fn change_by_two<R: Threads + Sync>(
     other
 }
 
-/// How many nodes a pass has made, and the count, at the end.
-fn totals(store: &Store, alloc: Global, pass: &mut Pass) -> Result<(u64, i64), Refusal>
+/// Whether a query finds just fifty nodes, at a pin that goes with the read.
+fn find_fifty(store: &Store, alloc: Global, pass: &mut Pass, text: &str) -> Result<bool, Refusal>
     requires pass { IsPassOf store.now pass.old }
     requires unpinned { pinned_number pass.old.knows.phase ≡ None }
+    ensures { IsPassOf store.now pass.new }
 {
+    let query = parse(alloc, text)?;
     let mut snapshot = store.pinned(pass);
-    let mut made = 0;
+    let found = snapshot.query(alloc, &query)?;
+    Ok(found.nodes.len() == 50)
+}
+
+fn has_fifty(store: &Store, alloc: Global, pass: &mut Pass, text: &str) -> Result<bool, Refusal>
+    requires { IsPassOf store.now pass.old }
+    ensures { IsPassOf store.now pass.new }
+{
+    match pass.pinned() {
+        Some(_) => Err(Refusal::BadLimits),
+        None => find_fifty(store, alloc, pass, text),
+    }
+}
+
+fn count_of(store: &Store, pass: &mut Pass) -> Result<i64, Refusal>
+    requires { IsPassOf store.now pass.old }
+{
+    let count = Name::new("count")?;
+    match pass.pinned() {
+        Some(_) => Err(Refusal::BadLimits),
+        None => Ok(look(store, pass, &count).count),
+    }
+}
+
+/// How many of the four passes have made just fifty nodes, and the count.
+fn totals(store: &Store, alloc: Global, pass: &mut Pass) -> Result<(u64, i64), Refusal>
+    requires { IsPassOf store.now pass.old }
+{
+    let mut made: u64 = 0;
     for text in ["by==0", "by==1", "by==2", "by==3"] {
-        let found = snapshot.query(alloc, &parse(alloc, text)?)?;
-        if found.nodes.len() == 50 {
-            made += 1;
+        if has_fifty(store, alloc, pass, text)? {
+            made = made.saturating_add(1);
         }
     }
-    match snapshot.get(1, &Name::new("count")?) {
-        Some(Value::Llng(count)) => Ok((made, count)),
-        _ => Ok((made, 0)),
-    }
+    Ok((made, count_of(store, pass)?))
 }
 
 /// Four threads make fifty nodes each and count them. How many of the four have made just fifty, and the count.
