@@ -84,7 +84,7 @@ enum {
     BES_NOT_INDEXABLE = 8,    /* no index may have this kind: BES_MIME_STRING_TYPE, BES_RAW_TYPE */
     BES_COMMITS_SPENT = 9,    /* the journal is at the limit that bes_open set, and stays there */
     BES_NO_MEMORY = 10,       /* malloc returned NULL: the call may be made again */
-    BES_FULL = 11,            /* no page is free, until an older snapshot is unpinned or something is removed */
+    BES_FULL = 11,            /* no page is free: bes_apply says what to do */
     BES_SYNTAX = 12,          /* the query isn't in the grammar */
     BES_BAD_PATTERN = 13,     /* a pattern of the query is malformed */
     BES_TOO_LONG = 14,        /* the query has more than 4,096 bytes */
@@ -181,7 +181,7 @@ typedef struct bes_attribute {
     uint64_t number;  /* of a number: the value; (int64_t)number of a signed one */
 } bes_attribute;
 
-/* How full a store is, and the oldest active reader. */
+/* How full a store is, and which pass holds the oldest version. */
 typedef struct bes_usage {
     uint64_t pages;    /* all pages of the store */
     uint64_t free;     /* pages that a write may take */
@@ -271,9 +271,9 @@ uint32_t bes_unpin(bes_pass *pass);
  * BES_NO_NODE, BES_NO_ATTRIBUTE, BES_TOO_MANY_ATTRS, BES_INDEX_EXISTS, BES_NO_INDEX, BES_TOO_MANY_INDICES, BES_NOT_INDEXABLE: the
  * first operation that the store refuses refuses the batch.
  * BES_COMMITS_SPENT, BES_NO_MEMORY.
- * BES_FULL: no page is free, and number is the oldest version that a pass may still read. If that is an older snapshot, the write
- * succeeds once it is unpinned; bes_apply_or_retry waits for that. Otherwise the store has no room for the batch: write a smaller
- * one, remove nodes a few at a time, or carry the state on to a larger store.
+ * BES_FULL: no page is free, and number is the oldest version that a pass may still read; bes_status names the pass that holds it.
+ * If that is an older snapshot, the write succeeds once it is unpinned; bes_apply_or_retry waits for that. Otherwise the store has
+ * no room for the batch: write a smaller one, remove nodes a few at a time, or carry the state on to a larger store.
  * Cost: memory for the operations and for their entry in the journal, and new pages on the way to each change of a tree. If no page
  * is free, or 32 pages were retired since the last scan, it scans: a look at each pass, and work for each page that becomes free. At
  * BES_BUSY it is one step, and the memory for the operations. */
@@ -303,7 +303,8 @@ uint32_t bes_next(bes_pass *pass, uint64_t *node);
  * BES_SYNTAX, BES_BAD_PATTERN, BES_TOO_MANY, BES_TOO_DEEP: the first from the left. Of BES_SYNTAX and BES_BAD_PATTERN count is the
  * byte offset in the text.
  * BES_NOT_PINNED.
- * BES_NOT_COVERED: bes_uncovered finds the comparison. BES_NO_MEMORY, also while the text is parsed.
+ * BES_NOT_COVERED: the query rests on no index. bes_uncovered finds the first name without one. BES_NO_MEMORY, also while the text is
+ * parsed.
  * Cost: the time to parse the text; a descent of a tree for each chosen comparison, and a walk over the range of keys that it leaves;
  * look-ups of other names at each key, if the range doesn't decide the query. Memory for the plan and the whole result. */
 uint32_t bes_query(bes_pass *pass, const uint8_t *text, size_t text_length, uint64_t *nodes, size_t nodes_room,
@@ -355,8 +356,9 @@ uint32_t bes_prepared_text(bes_prepared *prepared, uint8_t *bytes, size_t bytes_
 uint32_t bes_query_prepared(bes_pass *pass, bes_prepared *prepared, uint64_t *nodes, size_t nodes_room, uint64_t *count);
 
 /* Refreshes a prepared query: asks it in the pinned snapshot, and compares with its result at the last refresh, which at first is
- * empty. The handle keeps which nodes came and went until the next refresh, for bes_changes. Nodes are compared by their numbers:
- * use passes of one store, or of another that its state was carried on to.
+ * empty. The handle keeps which nodes came and went until the next refresh, for bes_changes. Nodes are compared by their numbers, so
+ * a node that changed and is in both results isn't reported. Use passes of one store, or of another that its state was carried on
+ * to.
  * [out] updates  how many nodes came and how many went
  * BES_CLOSED (of pass, then of prepared), BES_NOT_PINNED, BES_NOT_COVERED, BES_NO_MEMORY. The query keeps its last result.
  * Cost: that of bes_query without parsing, and a search in one result for each node of the other. */
@@ -449,7 +451,7 @@ uint32_t bes_journal(bes_pass *pass, uint8_t *bytes, size_t bytes_room, uint64_t
 uint32_t bes_journal_from(bes_pass *pass, uint64_t from, uint64_t *by, bes_counts *counts, bes_operation *operations,
                           size_t operations_room, uint8_t *bytes, size_t bytes_room, uint64_t *number);
 
-/* Writes how full the store is and who is its oldest active reader, pinned or not. It first frees the pages that no pass may read.
+/* Writes how full the store is and which pass holds the oldest version, pinned or not. It first frees the pages that no pass may read.
  * So a program sees BES_FULL and BES_COMMITS_SPENT before they come, and whose pin keeps pages.
  * [out] usage    the figures
  * [out] number   0

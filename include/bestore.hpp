@@ -290,7 +290,7 @@ public:
     //         for (const bestore::Operation &operation : entry.batch.operations())
     [[nodiscard]] Entries journal_from(std::uint64_t from = 0) { return Entries(handle(), from); }
 
-    // How full the store is, and who is its oldest active reader.
+    // How full the store is, and which pass holds the oldest version.
     Status status(std::uint32_t tries = BES_TRIES)
     {
         bes_usage usage{};

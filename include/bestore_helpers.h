@@ -465,7 +465,7 @@ static inline uint32_t bes_operations_to_bytes(const bes_operation *operations, 
 /* The most bytes that bes_batch_to_bytes writes. */
 #define BES_BATCH_BYTES (5 + 64 * (1 + 8 + 1 + 63 + 4 + 1 + 255))
 
-/* Writes a batch as bytes, to be kept or sent, in the format that FORMATS.md of bestore describes. bes_batch_from_bytes reads them.
+/* Writes a batch as bytes, to be kept or sent, in the format that KEPT.md of bestore describes. bes_batch_from_bytes reads them.
  * [out] bytes    the first bytes; as many as bytes_room, and BES_BATCH_BYTES suffice
  * [out] count    how many bytes there are, or the index of the operation that has an error
  * BES_BAD_COUNT: the batch is empty. BES_BAD_PART, BES_NO_OPERATION, BES_NO_KIND: an operation was added that no call takes. */

@@ -133,7 +133,8 @@ static inline const bes_operation *bes_index_of(const bes_index_list *list, cons
     return length < sizeof name ? bes_index_named(list, name, length) : NULL;
 }
 
-/* Finds the first comparison whose name has no index in the pinned snapshot: what is missing at BES_NOT_COVERED.
+/* Finds the first comparison whose name has no index in the pinned snapshot, for a message at BES_NOT_COVERED. It need not be the one
+ * that needs an index: an || needs one on both sides, an && on one.
  * [out] at       the byte offset of the comparison, or the text's length if each has an index
  * The errors and the cost are those of bes_indices. */
 static inline uint32_t bes_uncovered(bes_pass *pass, const char *text, size_t length, size_t *at)
