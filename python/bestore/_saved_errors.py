@@ -1,0 +1,155 @@
+"""The errors of stores that are kept in a file."""
+
+from __future__ import annotations
+
+import sqlite3
+from typing import Optional
+
+from .errors import CommitsSpent, Error, Full, NoMemory
+
+# The codes of SQLite, and its messages, which Python before 3.11 has alone.
+_BUSY, _LOCKED, _FULL, _NO_DATABASE = 5, 6, 13, 26
+_CODES = {
+    "database is locked": _BUSY, "database table is locked": _LOCKED, "database or disk is full": _FULL,
+    "file is not a database": _NO_DATABASE,
+}
+
+
+class SavedError(Error):
+    """Every error of a file is one of these."""
+
+    def __init__(self, path: str, *others: object) -> None:
+        super().__init__(path, *others)
+        self.path = path
+        """The file."""
+
+    @property
+    def summary(self) -> str:
+        """What went wrong, without the file."""
+        return "the file can't be used"
+
+    def __str__(self) -> str:
+        return f"{self.path}: {self.summary}"
+
+
+class Foreign(SavedError):
+    """The file is of another program. It stays as it is."""
+
+    @property
+    def summary(self) -> str:
+        return "the file is of another program"
+
+
+class Newer(SavedError):
+    """The file is of a newer format. It stays as it is."""
+
+    def __init__(self, path: str, version: int, known: int) -> None:
+        super().__init__(path, version, known)
+        self.version = version
+        """The version of its format."""
+        self.known = known
+        """The latest version that can be read."""
+
+    @property
+    def summary(self) -> str:
+        return f"the file has format {self.version}, and format {self.known} is the latest known here"
+
+
+class Held(SavedError):
+    """Another process has the file, or another store of this one."""
+
+    @property
+    def summary(self) -> str:
+        return "the file is in use"
+
+
+class DiskFull(SavedError):
+    """The disk is full."""
+
+    @property
+    def summary(self) -> str:
+        return "the disk is full"
+
+
+class SqliteError(SavedError):
+    """Another error of SQLite, which is the `__cause__`."""
+
+    @property
+    def summary(self) -> str:
+        return str(self.__cause__)
+
+
+class _AtPlace(SavedError):
+    """An error of a part of the file."""
+
+    def __init__(self, path: str, reason: str, entry: Optional[int] = None, batch: Optional[int] = None) -> None:
+        super().__init__(path, reason, entry, batch)
+        self.reason = reason
+        self.entry = entry
+        """The number of the entry, from 1, or None."""
+        self.batch = batch
+        """The batch of the state, from 0, or None."""
+
+    @property
+    def place(self) -> str:
+        """The part of the file."""
+        if self.entry is not None:
+            return f"entry {self.entry}"
+        return "the state" if self.batch is None else f"batch {self.batch} of the state"
+
+    @property
+    def summary(self) -> str:
+        return f"{self.place}: {self.reason}"
+
+
+class Differs(_AtPlace):
+    """The file has what no store did. An error of the store or of the batch is the `__cause__`."""
+
+
+class TooLarge(_AtPlace):
+    """What the file has doesn't fit the limits of the store, whose error is the `__cause__`."""
+
+
+class NotSaved(SavedError):
+    """The write is in memory, and may be in the file or not. The error of the commit is the `__cause__`."""
+
+    def __init__(self, path: str, number: int) -> None:
+        super().__init__(path, number)
+        self.number = number
+        """The commit number of the write."""
+
+    @property
+    def summary(self) -> str:
+        return f"write {self.number} is not saved: {_told(self.__cause__)}"
+
+
+class Stopped(SavedError):
+    """Nothing is saved any more, and nothing was written. The error of the commit that failed is the `__cause__`, or
+    there is none if the file was closed."""
+
+    @property
+    def summary(self) -> str:
+        return "the file is closed" if self.__cause__ is None else f"saving has failed: {_told(self.__cause__)}"
+
+
+def _told(error: Optional[BaseException]) -> str:
+    """What went wrong, without the file."""
+    return error.summary if isinstance(error, SavedError) else str(error)
+
+
+def of_sqlite(path: str, error: sqlite3.Error) -> SavedError:
+    """The error of the file for one of SQLite."""
+    code = getattr(error, "sqlite_errorcode", None)
+    code = _CODES.get(str(error)) if code is None else code & 0xff
+    if code in (_BUSY, _LOCKED):
+        return Held(path)
+    if code == _FULL:
+        return DiskFull(path)
+    return Foreign(path) if code == _NO_DATABASE else SqliteError(path)
+
+
+def refused(path: str, error: Error, entry: Optional[int] = None, batch: Optional[int] = None) -> SavedError:
+    """The error of the file for one of a store that repeats what the file has."""
+    if isinstance(error, (Full, CommitsSpent, NoMemory)):
+        return TooLarge(path, f"the file doesn't fit the limits of the store: {error}", entry, batch)
+    return Differs(path, f"the file has what no store did: {error}", entry, batch)

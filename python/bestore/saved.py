@@ -1,0 +1,297 @@
+"""Stores that are kept in a file of SQLite.
+
+    from bestore import saved
+
+    with saved.open("mail.bestore") as store:
+        letter = store.new_node()
+        store.set(letter, "MAIL:from", "ann")
+
+The store is in memory, and each accepted write is in the file before its call returns: after `kill -9` too, and after a
+power failure if the disk keeps what it has confirmed. Opening the file makes the store again. It repeats each write,
+and refuses a file with another outcome. One store at a time has a file. docs/KEPT.md has what is promised, and the
+format, which the crate for Rust shares.
+
+Writers that come at the same time share a commit: one of them saves what all have written, in the order of the journal.
+A snapshot may show a write that isn't in the file yet, while its call waits; whoever hands it on calls `flush` first. If
+a `KeyboardInterrupt` ends the wait, the write is in memory, and the next commit saves it.
+
+In a forked child all handles are dead, as everywhere in the package. Such a child can't open the file itself, as SQLite
+thinks there that the parent's handle is its own.
+"""
+
+from __future__ import annotations
+
+import atexit
+import operator
+import os
+import threading
+from contextlib import ExitStack, suppress
+from itertools import islice
+from types import TracebackType
+from typing import Any, Callable, Iterator, List, Optional, Tuple, Type, Union
+
+from . import store as _store
+from ._library import calls, check
+from ._saved_errors import (
+    Differs, DiskFull, Foreign, Held, Newer, NotSaved, SavedError, SqliteError, Stopped, TooLarge, refused)
+from ._saved_file import File, Row
+from .errors import BadLimits, Error
+from .operations import NEW, Batch
+
+__all__ = [
+    "Differs", "DiskFull", "Foreign", "Held", "Newer", "NotSaved", "Saved", "SavedError", "SavedPass", "SqliteError",
+    "Stopped", "TooLarge", "open",
+]
+
+_MOST_ROWS = 4096  # how many entries a commit has at most
+
+
+class _Saver:
+    """Saves the entries of the journal. Whoever wants one saved takes the lock, and saves all that are there."""
+
+    def __init__(self, file: File, own: _store.Pass, last: int, every: Optional[float]) -> None:
+        self.own = own
+        """A pass that nobody else uses. It reads what is saved, and makes the other passes."""
+        self.path = file.path
+        self._file: Optional[File] = file
+        self._lock = threading.Lock()
+        self._failed: Optional[Exception] = None
+        with own.pin() as version:
+            self._saved = version.number
+        self._shift = last - self._saved
+        self._work, self._ending = threading.Event(), threading.Event()
+        self.is_timed = every is not None
+        if every is not None:
+            atexit.register(self.close)
+            threading.Thread(target=self._save_now_and_then, args=(every,), name="bestore-saving", daemon=True).start()
+
+    def number_in_file(self, commit: int) -> int:
+        """The number in the file of the entry with this commit number."""
+        return commit + self._shift
+
+    def check(self) -> None:
+        """Raises `Stopped` if nothing is saved any more."""
+        if self._failed is not None or self._file is None:
+            raise Stopped(self.path) from self._failed
+
+    def keep(self, number: int) -> None:
+        """Saves the write with this commit number, or says to the thread that saves that there is one."""
+        if self.is_timed:
+            self._work.set()
+            return
+        try:
+            while self._saved < number:
+                with self._lock:
+                    self._save_up_to(number)
+        except Stopped as error:
+            raise NotSaved(self.path, number) from error.__cause__ or error
+
+    def _save_up_to(self, number: int) -> None:
+        """Saves the entries up to this commit number, and those after it that are there too. The lock is held."""
+        while self._saved < number:
+            self.check()
+            assert self._file is not None
+            try:
+                rows = list(islice(self._rows(), _MOST_ROWS))
+                self._file.append(rows)
+            except Exception as error:
+                self._failed = error
+                self.check()
+            self._saved += len(rows)
+
+    def _rows(self) -> Iterator[Row]:
+        """The entries that aren't saved."""
+        for entry in self.own.journal_from(self._saved):
+            yield self.number_in_file(entry.number), entry.pass_number, Batch(entry.operations).to_bytes()
+
+    def flush(self) -> None:
+        """Saves what was written before the call."""
+        with self._lock:
+            self._save_all()
+
+    def _save_all(self) -> None:
+        with self.own.pin() as version:
+            number = version.number
+        self._save_up_to(number)
+
+    def compact(self) -> None:
+        """Puts the current snapshot into the file, in the place of the state and the entries that it contains."""
+        with self._lock:
+            self.check()
+            with self.own.pin() as version:
+                self._save_up_to(version.number)
+                assert self._file is not None
+                number = self.number_in_file(version.number)
+                self._file.write_state(number, version.next_node, (batch.to_bytes() for batch in version.state()))
+
+    def _save_now_and_then(self, every: float) -> None:
+        """Saves what was written, so many seconds after the first write, again and again. At the end closes the file."""
+        while not self._ending.is_set():
+            self._work.wait()
+            self._ending.wait(every)
+            self._work.clear()
+            try:
+                self.flush()
+            except Error:  # which later writes and `flush` raise
+                self._ending.wait()
+        with suppress(Error):
+            self.close()
+
+    def end(self) -> None:
+        """Closes the file, or has it closed by the thread that saves, which may be the one that calls this."""
+        if self.own._is_dead:
+            return
+        if self.is_timed:
+            self._ending.set()
+            self._work.set()
+        else:
+            self.close()
+
+    def close(self) -> None:
+        """Saves what was written, and closes the file, which a forked child leaves to its parent."""
+        if self.own._is_dead:
+            return
+        with self._lock:
+            file = self._file
+            if file is None:
+                return
+            try:
+                self._save_all()
+            finally:
+                self._file = None
+                file.close()
+                self.own.close()
+        self._ending.set()
+        self._work.set()
+        atexit.unregister(self.close)
+
+
+class SavedPass(_store.Pass):
+    """A pass whose writes are saved. Each call that writes may also raise `Stopped`, if nothing is saved any more, and
+    `NotSaved`, if the write couldn't be saved."""
+
+    def __init__(self, saver: _Saver, first: Optional[Saved] = None) -> None:
+        super().__init__()
+        self._saver, self._first = saver, first  # which stays, so that the file isn't closed
+
+    def _written(self, tries: int, call: Callable[..., int], batch: Batch, *before: int) -> Tuple[int, List[int]]:
+        self._check_process()
+        self._saver.check()
+        written = super()._written(tries, call, batch, *before)
+        self._saver.keep(written[0])
+        return written
+
+    def another(self) -> SavedPass:
+        """A pass of the same store for another thread, by any pass and in any thread. `NoPass` if there is none."""
+        other = SavedPass(self._saver, self._first)
+        check(self._saver.own._call(calls.bes_another, other._pointer))
+        return other
+
+    def flush(self) -> None:
+        """Returns when all that was written before the call is in the file. Otherwise raises `Stopped`."""
+        self._check_process()
+        self._saver.flush()
+
+    def compact(self) -> None:
+        """Puts the current snapshot into the file, in the place of the state and of the entries that it contains. Writes
+        wait meanwhile for the file. `DiskFull` and `SqliteError` leave the file as it was, and `Stopped` is as in
+        `flush`. Takes the time to read and to write all attributes."""
+        self._check_process()
+        self._saver.compact()
+
+    def number_in_file(self, commit: int) -> int:
+        """The number in the file of the entry with this commit number. Numbers in the file go on from one opening to the
+        next."""
+        return self._saver.number_in_file(commit)
+
+
+class Saved(SavedPass):
+    """A store that is kept, as its first pass. The file is closed with it, or when all of its passes are gone."""
+
+    def __init__(self, saver: _Saver) -> None:
+        super().__init__(saver)
+        check(saver.own._call(calls.bes_another, self._pointer))
+
+    def another(self) -> SavedPass:
+        other = super().another()
+        other._first = self
+        return other
+
+    def close(self) -> None:
+        """Saves what was written, and closes the file and this pass. Other passes can still read. `Stopped` if something
+        couldn't be saved; the file and the pass are closed then too."""
+        try:
+            self._saver.close()
+        finally:
+            super().close()
+
+    def __exit__(self, kind: Optional[Type[BaseException]], value: Optional[BaseException],
+                 trace: Optional[TracebackType]) -> None:
+        if isinstance(value, (NotSaved, Stopped)):
+            with suppress(Stopped):  # which would say the same again
+                self.close()
+        else:
+            self.close()
+
+    def __del__(self) -> None:
+        self._saver.end()
+        super().close()
+
+
+def open(path: Union[str, bytes, "os.PathLike[Any]"], pages: int = 4096, passes: int = 8, commits: int = 2**32 - 1,
+         every: Optional[float] = None) -> Saved:
+    """Opens the file, or makes it, and makes the store again. The limits are those of `bestore.open`, but for `passes`,
+    of which there are up to 63. The journal begins with what the file has, so `commits` has to leave room for that.
+
+    With `every` a write returns at once, and is in the file so many seconds later. `flush` and `close` save it earlier.
+
+    If the file has entries since its state, the state is written anew; on a full disk the file stays as it is.
+
+    Raises `Foreign`, `Newer`, `Held`; `Differs` and `TooLarge` with the place in the file; `DiskFull` and `SqliteError`;
+    and the errors of `bestore.open`."""
+    if not 1 <= operator.index(passes) <= 63:
+        raise BadLimits()
+    with ExitStack() as opened:
+        own = opened.enter_context(_store.open(pages, passes + 1, commits))
+        file = File(os.fsdecode(path))
+        opened.callback(file.close)
+        last = _load(file, own)
+        has_entries = last != file.about().entries
+        saver = _Saver(file, own, last, every)
+        opened.callback(saver.close)
+        if has_entries:
+            with suppress(DiskFull):
+                saver.compact()
+        store = Saved(saver)
+        opened.pop_all()
+    return store
+
+
+def _load(file: File, own: _store.Pass) -> int:
+    """Applies what the file has to an empty store. Returns the number of the last entry."""
+    about = file.about()
+    for place, data in file.state():
+        _repeat(file.path, own, data, batch=place)
+    with own.pin() as version:
+        if version.next_node != about.next_node:
+            raise Differs(file.path, "it has another next node than it says")
+    last = about.entries
+    for number, data in file.entries():
+        if number != last + 1:
+            raise Differs(file.path, "the entry is missing", entry=last + 1)
+        kept, made = _repeat(file.path, own, data, entry=number)
+        if made != kept:
+            raise Differs(file.path, "it makes other nodes now", entry=number)
+        last = number
+    return last
+
+
+def _repeat(path: str, own: _store.Pass, data: bytes, entry: Optional[int] = None,
+            batch: Optional[int] = None) -> Tuple[List[int], List[int]]:
+    """Applies a batch of the file. Returns for each operation the node that it made, or 0: by the file, and now."""
+    try:
+        repeated = Batch.from_bytes(data)
+        made = own.apply(repeated, tries=1)[1]
+    except Error as error:
+        raise refused(path, error, entry, batch) from error
+    return [raw.node if raw.kind == NEW else 0 for raw in repeated._operations], made
