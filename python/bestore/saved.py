@@ -25,7 +25,7 @@ import atexit
 import operator
 import os
 import threading
-from contextlib import ExitStack, suppress
+from contextlib import ExitStack, contextmanager, suppress
 from itertools import islice
 from types import TracebackType
 from typing import Any, Callable, Iterator, List, Optional, Tuple, Type, Union
@@ -47,14 +47,15 @@ _MOST_ROWS = 4096  # how many entries a commit has at most
 
 
 class _Saver:
-    """Saves the entries of the journal. Whoever wants one saved takes the lock, and saves all that are there."""
+    """Saves the entries of the journal. A writer waits for its turn, and then saves all entries that are there. Those
+    that it saves for others are told to go on."""
 
     def __init__(self, file: File, own: _store.Pass, last: int, every: Optional[float]) -> None:
         self.own = own
         """A pass that nobody else uses. It reads what is saved, and makes the other passes."""
         self.path = file.path
         self._file: Optional[File] = file
-        self._lock = threading.Lock()
+        self._line, self._is_taken = threading.Condition(), False  # those who wait, and whether one has its turn
         self._failed: Optional[Exception] = None
         with own.pin() as version:
             self._saved = version.number
@@ -80,14 +81,35 @@ class _Saver:
             self._work.set()
             return
         try:
-            while self._saved < number:
-                with self._lock:
+            with self._turn(number) as has_turn:
+                if has_turn:
                     self._save_up_to(number)
         except Stopped as error:
             raise NotSaved(self.path, number) from error.__cause__ or error
 
+    @contextmanager
+    def _turn(self, number: Optional[int] = None) -> Iterator[bool]:
+        """Waits until nobody else uses the file, and is alone then. With a number: False as soon as that entry is saved."""
+        has_turn = False
+        try:
+            with self._line:
+                while self._is_taken and not self._has(number):
+                    self._line.wait()
+                if not self._has(number):
+                    has_turn = self._is_taken = True
+            yield has_turn
+        finally:
+            if has_turn:
+                with self._line:
+                    self._is_taken = False
+                    self._line.notify_all()
+
+    def _has(self, number: Optional[int]) -> bool:
+        """Whether the entry with this commit number is saved."""
+        return number is not None and self._saved >= number
+
     def _save_up_to(self, number: int) -> None:
-        """Saves the entries up to this commit number, and those after it that are there too. The lock is held."""
+        """In a turn: saves the entries up to this commit number, and those after it that are there too."""
         while self._saved < number:
             self.check()
             assert self._file is not None
@@ -106,17 +128,18 @@ class _Saver:
 
     def flush(self) -> None:
         """Saves what was written before the call."""
-        with self._lock:
+        with self._turn():
             self._save_all()
 
     def _save_all(self) -> None:
+        self.check()
         with self.own.pin() as version:
             number = version.number
         self._save_up_to(number)
 
     def compact(self) -> None:
         """Puts the current snapshot into the file, in the place of the state and the entries that it contains."""
-        with self._lock:
+        with self._turn():
             self.check()
             with self.own.pin() as version:
                 self._save_up_to(version.number)
@@ -151,7 +174,7 @@ class _Saver:
         """Saves what was written, and closes the file, which a forked child leaves to its parent."""
         if self.own._is_dead:
             return
-        with self._lock:
+        with self._turn():
             file = self._file
             if file is None:
                 return

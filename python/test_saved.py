@@ -1,0 +1,607 @@
+"""Tests of stores that are kept in a file: opened again, refused, on a full disk, and after the process was killed."""
+
+import glob
+import os
+import random
+import shutil
+import signal
+import sqlite3
+import subprocess
+import sys
+import tempfile
+import threading
+import time
+import unittest
+import warnings
+from contextlib import closing, contextmanager
+from unittest import mock
+
+import bestore
+from bestore import saved
+from bestore._library import _path
+from bestore._saved_errors import of_sqlite
+from bestore._saved_file import File
+
+HERE = os.path.dirname(os.path.abspath(__file__))
+MEMORY = "/dev/shm" if os.access("/dev/shm", os.W_OK) else None  # where a commit waits for no disk
+WRITERS, ROUNDS = 3, 6  # of the processes that are killed
+
+
+def say(line):
+    os.write(1, line.encode() + b"\n")
+
+
+def run(work, *arguments):
+    """Runs a function of this file in a process of its own."""
+    code = f"import sys, test_saved; test_saved.{work}(*sys.argv[1:])"
+    return subprocess.Popen(
+        [sys.executable, "-c", code, *map(str, arguments)], cwd=HERE, stdout=subprocess.PIPE, universal_newlines=True)
+
+
+def write_for_ever(path, round_number):
+    """Writes in threads, says each write that has returned, and writes the state anew now and then."""
+    store = saved.open(path)
+
+    def write(user, writer):
+        count = 0
+        while True:
+            def file(change):
+                node, key = change.new(), f"{round_number}-{writer}-{count}"
+                change[node].update({"key": key, "node": node})
+                return key
+            say(user.change(file))
+            count += 1
+    for writer in range(WRITERS):
+        threading.Thread(target=write, args=(store.another(), writer), daemon=True).start()
+    while True:
+        time.sleep(0.007)
+        store.compact()
+
+
+def hold(path):
+    """Writes ten nodes, flushes, and waits for its end."""
+    store = saved.open(path, every=3600)
+    store.new_nodes(10)
+    store.flush()
+    store.new_node()
+    say("flushed")
+    time.sleep(60)
+
+
+def end_without_close(path):
+    """Ends by an exception, and leaves a store open."""
+    store = saved.open(path, every=3600)
+    store.new_nodes(3)
+    sys.modules["kept till the end"] = store
+    sys.exit(3)
+
+
+def fork_and_write(path, every):
+    """Forks, lets the child end as Python does, and writes after that."""
+    warnings.simplefilter("ignore")  # of a fork beside threads, from Python 3.12 on
+    store = saved.open(path, 64, every=float(every) or None)
+    store.new_node()
+    store.flush()
+    child = os.fork()
+    if child == 0:
+        say("the child")
+        return
+    os.waitpid(child, 0)
+    store.new_node()
+    store.flush()
+    assert os.path.exists(path + "-wal")
+    say("the parent")
+    store.close()
+
+
+def sql(path, *statements):
+    with closing(sqlite3.connect(path, isolation_level=None)) as connection:
+        return [connection.execute(statement).fetchall() for statement in statements][-1]
+
+
+def file_size(store, size):
+    def file(change):
+        node = change.new()
+        change[node]["size"] = size
+        return node
+    return store.change(file)
+
+
+def three(path):
+    """Makes a file with an index and three nodes, by four entries."""
+    with saved.open(path, 64) as store:
+        store.make_index("size", bestore.INT64)
+        for size in (1, 2, 3):
+            file_size(store, size)
+
+
+def sizes(store):
+    with store.pin() as version:
+        return version.query("size>0")
+
+
+class Files(unittest.TestCase):
+    """What the other tests share: a folder, and a path in it."""
+
+    def setUp(self):
+        folder = tempfile.TemporaryDirectory(dir=MEMORY)
+        self.addCleanup(folder.cleanup)
+        self.folder, self.path = folder.name, os.path.join(folder.name, "test.bestore")
+
+    def refusal(self, path=None, **limits):
+        with self.assertRaises(saved.SavedError) as refused:
+            saved.open(path or self.path, **{"pages": 64, **limits})
+        return refused.exception
+
+    def ended(self, child):
+        """Waits for a child's end, and takes what it said."""
+        said = child.stdout.read()
+        child.stdout.close()
+        return child.wait(), said.splitlines()
+
+
+class Kept(Files):
+    def test_there_again(self):
+        three(self.path)
+        for count in range(3):
+            with saved.open(self.path, 64) as store:
+                self.assertEqual(len(sizes(store)), 3 + count)
+                with store.pin() as version:
+                    self.assertEqual(store.number_in_file(version.number), 4 + 2 * count)
+                self.assertEqual(file_size(store, 9), 4 + count)
+                store.set(1, "round", bestore.UInt32(count))
+                self.assertEqual(store.number_in_file(store.committed), 6 + 2 * count)
+        with saved.open(self.path, 64) as store, store.pin() as version:
+            self.assertEqual(version.attributes(1, kinds=True), {"round": (2, bestore.UINT32), "size": (1, bestore.INT64)})
+            self.assertEqual((version.indices(), len(list(version))), ({"size": bestore.INT64}, 6))
+
+    def test_each_call(self):
+        """Each call that writes is saved, by each pass, also a node that is gone."""
+        with saved.open(self.path, 64, every=None) as store, store.another() as other, other.another() as third:
+            nodes = other.new_nodes(65)
+            third.apply(bestore.Batch().set(1, "k", "é").set(1, "r", b"\0").new_node())
+            with store.pin() as version:
+                number = version.number
+            store.apply_if(number, bestore.Batch().unset(1, "r"))
+            with self.assertRaises(bestore.Conflict):
+                other.apply_if(number, bestore.Batch().new_node())
+            store.make_index("k", bestore.STRING)
+            self.assertEqual(third.reindex("k"), 1)
+            third.remove_node(66)
+            with self.assertRaises(bestore.NoNode):
+                store.unset(66, "k")
+            entries = list(store.journal_from())
+        with saved.open(self.path.encode(), 64) as store, store.pin() as version:
+            self.assertEqual((list(version), version.next_node), (nodes, 67))
+            self.assertEqual((version.attributes(1), version.query("k==é")), ({"k": "é"}, [1]))
+            self.assertEqual(len(entries), store.number_in_file(version.number))
+        with saved.open(self.path, 64) as store:
+            self.assertEqual(store.new_node(), 67)
+
+    def test_writers_share(self):
+        with saved.open(self.path, 24) as store:
+            store.new_node()
+            passes = [store.another() for _ in "abcd"]
+
+            def write(user, name):
+                for count in range(40):
+                    user.change(lambda change: change.set(1, name, count))
+            running = [threading.Thread(target=write, args=pair) for pair in zip(passes, "abcd")]
+            for thread in running:
+                thread.start()
+            store.compact()
+            for thread in running:
+                thread.join()
+            store.compact()
+            number = store.number_in_file(store.status().entries)
+        self.assertEqual(sql(self.path, "SELECT count(*) FROM entry"), [(0,)])
+        self.assertEqual(number, 161)
+        with saved.open(self.path, 24) as store, store.pin() as version:
+            self.assertEqual(version.attributes(1), dict.fromkeys("abcd", 39))
+
+    def test_compact(self):
+        three(self.path)
+        self.assertEqual(sql(self.path, "SELECT count(*), min(number) FROM entry"), [(4, 1)])
+        with saved.open(self.path, 64) as store:
+            store.remove_node(3)
+            with store.pin() as version:
+                store.compact()
+                self.assertEqual(version.nodes(), [1, 2])
+            file_size(store, 4)
+        self.assertEqual(sql(self.path, "SELECT number FROM entry"), [(6,)])
+        self.assertEqual(sql(self.path, "SELECT number FROM about ORDER BY what"), [(5,), (4,)])
+        with saved.open(self.path, 64) as store:
+            self.assertEqual(sizes(store), [1, 2, 4])
+        self.assertEqual(os.listdir(self.folder), ["test.bestore"])
+
+    def test_closed(self):
+        with saved.open(self.path, 64) as store:
+            other = store.another()
+            node = other.new_node()
+        for use in (other.new_node, other.flush, other.compact):
+            with self.assertRaises(saved.Stopped) as stopped:
+                use()
+            self.assertEqual(str(stopped.exception), f"{self.path}: the file is closed")
+        for use in (other.another, store.new_node):
+            with self.assertRaises(bestore.Error):
+                use()
+        with saved.open(self.path, 64), other.pin() as version:
+            self.assertIn(node, version)
+            store.close()
+        other.close()
+
+    def test_last_pass(self):
+        """A store that nobody names any more stays open while one of its passes is used."""
+        other = saved.open(self.path, 64).another()
+        other.new_node()
+        self.assertIsInstance(self.refusal(), saved.Held)
+        del other
+        with saved.open(self.path, 64) as store, store.pin() as version:
+            self.assertEqual(version.nodes(), [1])
+
+    def test_limits(self):
+        for passes in (0, 64, -1):
+            with self.assertRaises(bestore.BadLimits):
+                saved.open(self.path, passes=passes)
+        self.assertEqual(os.listdir(self.folder), [])
+        with saved.open(self.path, 64, passes=2) as store, store.another() as other:
+            with self.assertRaises(bestore.NoPass):
+                other.another()
+
+
+class Timed(Files):
+    def count(self):
+        with saved.open(self.path, 64) as store, store.pin() as version:
+            return len(version.nodes())
+
+    def test_flush_and_close(self):
+        store = saved.open(self.path, 64, every=3600)
+        store.new_node()
+        with mock.patch.object(File, "append", side_effect=AssertionError):
+            store.new_node()
+        store.flush()
+        store.new_node()
+        store.close()
+        self.assertEqual(self.count(), 3)
+
+    def test_time(self):
+        with saved.open(self.path, 64, every=0.005) as store:
+            for _ in range(10):
+                store.new_node()
+                time.sleep(0.001)
+            for _ in range(2000):
+                if store._saver._saved == 10:
+                    break
+                time.sleep(0.005)
+            self.assertEqual(store._saver._saved, 10)
+        self.assertEqual(self.count(), 10)
+
+    def test_many_in_one_commit(self):
+        with mock.patch.object(saved, "_MOST_ROWS", 7), saved.open(self.path, 64, every=3600) as store:
+            for _ in range(50):
+                store.new_node()
+        self.assertEqual(self.count(), 50)
+
+    def test_left_open(self):
+        """A store that is dropped, and one that is open when Python ends."""
+        saved.open(self.path, 64, every=3600).new_node()
+        for _ in range(2000):
+            try:
+                self.assertEqual(self.count(), 1)
+                break
+            except saved.Held:
+                time.sleep(0.005)
+        self.assertEqual(self.ended(run("end_without_close", self.path)), (3, []))
+        self.assertEqual(self.count(), 4)
+
+
+class Refused(Files):
+    def test_foreign(self):
+        text, other = os.path.join(self.folder, "text"), os.path.join(self.folder, "other")
+        with open(text, "w") as file:
+            file.write("no database, and long enough to be looked at as one\n" * 20)
+        sql(other, "CREATE TABLE mine (a)", "INSERT INTO mine VALUES (1)")
+        for path in (text, other):
+            with open(path, "rb") as file:
+                before = file.read()
+            refused = self.refusal(path)
+            self.assertIsInstance(refused, saved.Foreign)
+            self.assertEqual((refused.path, str(refused)), (path, f"{path}: the file is of another program"))
+            with open(path, "rb") as file:
+                self.assertEqual(file.read(), before)
+
+    def test_newer(self):
+        three(self.path)
+        sql(self.path, "PRAGMA user_version = 7")
+        newer = self.refusal()
+        self.assertEqual((type(newer), newer.path, newer.version, newer.known), (saved.Newer, self.path, 7, 1))
+
+    def test_no_file(self):
+        for path in (os.path.join(self.folder, "missing", "file"), self.folder):
+            refused = self.refusal(path)
+            self.assertEqual((type(refused), refused.path), (saved.SqliteError, path))
+            self.assertIn("unable to open", str(refused))
+
+    def test_names(self):
+        """Names that SQLite takes for no file."""
+        before = os.getcwd()
+        os.chdir(self.folder)
+        try:
+            with saved.open(":memory:", 64) as store:
+                store.new_node()
+            self.assertEqual(os.listdir(), [":memory:"])
+        finally:
+            os.chdir(before)
+
+    def test_differs(self):
+        made = "UPDATE entry SET batch = CAST(substr(batch, 1, 6) || x'09' || substr(batch, 8) AS BLOB) WHERE number = 3"
+        for change, entry, batch, reason in [
+            (made, 3, None, "other nodes"), ("DELETE FROM entry WHERE number = 2", 2, None, "missing"),
+            ("UPDATE entry SET batch = substr(batch, 1, 9) WHERE number = 4", 4, None, "cut off"),
+            ("UPDATE entry SET batch = 'text' WHERE number = 4", 4, None, "another beginning"),
+            ("UPDATE entry SET batch = 5 WHERE number = 1", 1, None, "another beginning"),
+            ("INSERT INTO entry SELECT 5, pass, batch FROM entry WHERE number = 1", 5, None, "the index exists"),
+            ("INSERT INTO state VALUES (0, x'00')", None, 0, "another beginning"),
+            ("UPDATE about SET number = 5 WHERE what = 'next'", None, None, "next node"),
+            ("UPDATE about SET number = -1 WHERE what = 'entries'", None, None, "doesn't say"),
+            ("UPDATE about SET number = 'x' WHERE what = 'next'", None, None, "doesn't say"),
+            ("DELETE FROM about", None, None, "doesn't say"),
+        ]:
+            with self.subTest(change):
+                three(self.path)
+                sql(self.path, change)
+                differs = self.refusal()
+                self.assertEqual(
+                    (type(differs), differs.path, differs.entry, differs.batch), (saved.Differs, self.path, entry, batch))
+                self.assertIn(reason, str(differs))
+                os.unlink(self.path)
+
+    def test_too_large(self):
+        three(self.path)
+        small = self.refusal(commits=3)
+        self.assertEqual((type(small), small.entry), (saved.TooLarge, 4))
+        self.assertIsInstance(small.__cause__, bestore.CommitsSpent)
+
+    def test_any_changed_byte(self):
+        """A file with a changed byte, or cut off, is opened or refused."""
+        three(self.path)
+        with open(self.path, "rb") as file:
+            whole = file.read()
+        changed = [whole[:at] + bytes([whole[at] ^ 0x55]) + whole[at + 1:] for at in range(0, len(whole), len(whole) // 97)]
+        cut = [whole[:length] for length in range(0, len(whole), len(whole) // 11)]
+        refused = 0
+        for data in changed + cut:
+            with open(self.path, "wb") as file:
+                file.write(data)
+            try:
+                saved.open(self.path, 64).close()
+            except saved.SavedError:
+                refused += 1
+        self.assertGreater(refused, 0)
+
+    def test_errors_of_older_pythons(self):
+        """Before 3.11 an error of SQLite has a message alone."""
+        for message, kind in [
+            ("database is locked", saved.Held), ("database or disk is full", saved.DiskFull),
+            ("file is not a database", saved.Foreign), ("disk I/O error", saved.SqliteError),
+        ]:
+            self.assertIs(type(of_sqlite("path", sqlite3.OperationalError(message))), kind)
+
+
+class Failures(Files):
+    @contextmanager
+    def broken(self, error, after=0):
+        """Lets each commit fail, after so many that succeed, before or after what it writes."""
+        append, left = File.append, [after]
+
+        def break_off(file, rows):
+            left[0] -= 1
+            if left[0] < 0:
+                raise error
+            append(file, rows)
+        with mock.patch.object(File, "append", break_off):
+            yield
+
+    def test_stopped(self):
+        with self.assertRaises(saved.NotSaved) as refused, saved.open(self.path, 64) as store:
+            other = store.another()
+            store.new_node()
+            with self.broken(saved.DiskFull(self.path)):
+                store.new_node()
+        self.assertEqual((refused.exception.path, refused.exception.number), (self.path, 2))
+        self.assertIsInstance(refused.exception.__cause__, saved.DiskFull)
+        self.assertEqual(str(refused.exception), f"{self.path}: write 2 is not saved: the disk is full")
+        with other.pin() as version:
+            self.assertEqual(version.nodes(), [1, 2])
+        with self.assertRaises(saved.Stopped) as stopped:
+            other.new_node()
+        self.assertIs(stopped.exception.__cause__, refused.exception.__cause__)
+        self.assertEqual(str(stopped.exception), f"{self.path}: saving has failed: the disk is full")
+        with saved.open(self.path, 64) as store, store.pin() as version:
+            self.assertEqual(version.nodes(), [1])
+
+    def test_each_that_waits(self):
+        with self.assertRaises(saved.Stopped), saved.open(self.path, 64) as store:
+            refused, passes = [], [store.another() for _ in range(4)]
+
+            def write(user):
+                try:
+                    while True:
+                        user.new_node()
+                except (saved.NotSaved, saved.Stopped) as error:
+                    refused.append(error)
+            with self.broken(saved.DiskFull(self.path), 10):
+                running = [threading.Thread(target=write, args=(user,)) for user in passes]
+                for thread in running:
+                    thread.start()
+                for thread in running:
+                    thread.join()
+            made, causes = store.status().entries, {type(error.__cause__) for error in refused}
+            self.assertEqual((len(refused), causes), (4, {saved.DiskFull}))
+            with self.assertRaises(saved.Stopped):
+                store.flush()
+            self.assertEqual(store.status().entries, made)
+        self.assertEqual(len(sql(self.path, "SELECT number FROM entry")), store._saver._saved)
+
+    def test_interrupted(self):
+        """A write whose wait is interrupted is saved by the next one, also if it was in the file already."""
+        for after in (False, True):
+            append = File.append
+
+            def interrupted(file, rows):
+                if after:
+                    append(file, rows)
+                raise KeyboardInterrupt
+            with saved.open(self.path, 64) as store:
+                with mock.patch.object(File, "append", interrupted), self.assertRaises(KeyboardInterrupt):
+                    store.new_node()
+                store.new_node()
+        with saved.open(self.path, 64) as store, store.pin() as version:
+            self.assertEqual((version.nodes(), store.number_in_file(version.number)), ([1, 2, 3, 4], 4))
+
+    def test_interrupted_transaction(self):
+        """A transaction that was interrupted while it was rolled back is rolled back by the next one."""
+        with saved.open(self.path, 64) as store:
+            store._saver._file._run("BEGIN")
+            store._saver._file._run("INSERT INTO entry VALUES (1, 1, x'00')")
+            store.new_node()
+        with saved.open(self.path, 64) as store, store.pin() as version:
+            self.assertEqual(version.nodes(), [1])
+
+    def test_compact(self):
+        """A state that can't be written leaves the file as it was."""
+        with saved.open(self.path, 64) as store:
+            store.new_nodes(3)
+            with mock.patch.object(bestore.Batch, "to_bytes", side_effect=saved.DiskFull(self.path)):
+                with self.assertRaises(saved.DiskFull):
+                    store.compact()
+            store.new_node()
+        self.assertEqual(sql(self.path, "SELECT count(*) FROM state UNION ALL SELECT number FROM entry"), [(0,), (1,), (2,)])
+
+    def test_full_disk(self):
+        options = ["mount", "-t", "tmpfs", "-o", "size=256k", "tmpfs", self.folder]
+        if shutil.which("mount") is None or subprocess.run(options, stderr=subprocess.DEVNULL).returncode != 0:
+            self.skipTest("no file system can be mounted")
+        self.addCleanup(subprocess.run, ["umount", self.folder])
+        store, count = saved.open(self.path, 64), 0
+        other, value = store.another(), bytes(255)
+        node = store.new_node()
+        with self.assertRaises(saved.NotSaved) as refused, store:
+            while True:
+                store.apply(bestore.Batch().set(node, "count", count + 1).set(node, "value", value))
+                count += 1
+        self.assertEqual((type(refused.exception.__cause__), count > 0), (saved.DiskFull, True))
+        with other.pin() as version:
+            self.assertEqual(version.get(node, "count"), count + 1)
+        with saved.open(self.path, 64) as store, store.pin() as version:
+            kept = version.get(node, "count")
+        self.assertIn(kept, (count, count + 1))
+        subprocess.run(["mount", "-o", "remount,size=4m", self.folder], check=True)
+        with saved.open(self.path, 64) as store, store.pin() as version:
+            self.assertEqual(version.get(node, "count"), kept)
+            store.new_node()
+
+
+class Processes(Files):
+    def killed(self, round_number):
+        """Lets a process write, kills it at some moment, and returns the keys of the writes that had returned."""
+        child = run("write_for_ever", self.path, round_number)
+        keys = [child.stdout.readline().strip()]
+        self.assertIsInstance(self.refusal(), saved.Held)
+        time.sleep(random.random() * 0.06)
+        child.kill()
+        return keys + self.ended(child)[1]
+
+    def keys(self):
+        with saved.open(self.path, 1024) as store, store.pin() as version:
+            attributes = {node: version.attributes(node) for node in version}
+        self.assertTrue(all(it["node"] == node for node, it in attributes.items()))
+        return sorted(it["key"] for it in attributes.values())
+
+    def test_killed(self):
+        returned = set()
+        for round_number in range(ROUNDS):
+            returned.update(self.killed(round_number))
+            keys = self.keys()
+            self.assertEqual(len(keys), len(set(keys)))
+            self.assertEqual(returned - set(keys), set())
+            self.assertLessEqual(len(keys) - len(returned), WRITERS * (round_number + 1))
+
+    def test_held_and_flushed(self):
+        child = run("hold", self.path)
+        self.assertEqual(child.stdout.readline(), "flushed\n")
+        held = self.refusal()
+        self.assertEqual((type(held), str(held)), (saved.Held, f"{self.path}: the file is in use"))
+        child.kill()
+        self.assertEqual(self.ended(child), (-signal.SIGKILL, []))
+        with saved.open(self.path, 64) as store, store.pin() as version:
+            self.assertEqual(version.nodes(), list(range(1, 11)))
+
+    def test_rust(self):
+        """The test program of the crate for Rust opens a file that Python made, and Python opens it after that."""
+        target = os.environ.get("CARGO_TARGET_DIR", os.path.join(HERE, "..", "rust", "target"))
+        built = [it for it in glob.glob(os.path.join(target, "debug", "deps", "saved-*")) if os.access(it, os.X_OK)]
+        if not built:
+            self.skipTest("the tests of the crate for Rust are not built")
+        three(self.path)
+        with saved.open(self.path, 64) as store:
+            store.remove_node(2)
+            store.apply(bestore.Batch().set(1, "é", "ü").set(1, "raw", b"\0\xff").set(3, "n", bestore.UInt64(2**64 - 1)))
+            with store.pin() as version:
+                before = {node: version.attributes(node, kinds=True) for node in version}
+        child = subprocess.Popen(
+            [max(built, key=os.path.getmtime), "--exact", "in_a_child", "--nocapture", "--test-threads=1"],
+            env={**os.environ, "BESTORE_TEST_CHILD": f"flush 0 {self.path}", "LD_LIBRARY_PATH": os.path.dirname(_path())},
+            stdout=subprocess.PIPE, universal_newlines=True)
+        self.assertIn("flushed\n", iter(child.stdout.readline, ""))
+        child.kill()
+        self.ended(child)
+        with saved.open(self.path, 64) as store, store.pin() as version:
+            after = {node: version.attributes(node, kinds=True) for node in version}
+            self.assertEqual(version.query("size>0"), [1, 3])
+        self.assertEqual(after, {**before, **dict.fromkeys(range(4, 104), {})})
+
+
+@unittest.skipUnless(hasattr(os, "fork"), "there is no fork")
+class Forks(Files):
+    def test_dead(self):
+        """The child's handles are dead, and their end leaves the file to the parent. The child has a file of its own."""
+        with saved.open(self.path, 64) as store:
+            node, other = store.new_node(), store.another()
+            with warnings.catch_warnings():
+                warnings.simplefilter("ignore")  # of a fork beside threads, from Python 3.12 on
+                child = os.fork()
+            if child == 0:
+                self.in_child(store, other)
+            self.assertEqual(os.WEXITSTATUS(os.waitpid(child, 0)[1]), 7)
+            self.assertEqual(other.new_node(), node + 1)
+        with saved.open(self.path, 64) as store, store.pin() as version:
+            self.assertEqual(version.nodes(), [node, node + 1])
+
+    def in_child(self, *stores):
+        ended = 1
+        try:
+            for store in stores:
+                for use in (store.new_node, store.flush, store.compact, store.another, store.pin):
+                    with self.assertRaises(bestore.Forked):
+                        use()
+                with store:
+                    pass
+            with saved.open(self.path + "2", 64) as own:
+                own.new_node()
+            ended = 7
+        finally:
+            os._exit(ended)
+
+    def test_end_of_the_child(self):
+        """The end of Python in the child, with all destructors, leaves the file to the parent."""
+        for every in (0, 3600):
+            with self.subTest(every):
+                path = f"{self.path}{every}"
+                self.assertEqual(self.ended(run("fork_and_write", path, every)), (0, ["the child", "the parent"]))
+                with saved.open(path, 64) as store, store.pin() as version:
+                    self.assertEqual(version.nodes(), [1, 2])
+
+
+if __name__ == "__main__":
+    unittest.main()
