@@ -129,9 +129,12 @@ class Files(unittest.TestCase):
         self.folder, self.path = folder.name, os.path.join(folder.name, "test.bestore")
 
     def refusal(self, path=None, **limits):
-        with self.assertRaises(saved.SavedError) as refused:
-            saved.open(path or self.path, **{"pages": 64, **limits})
-        return refused.exception
+        """The error, with all that its traceback keeps alive."""
+        try:
+            saved.open(path or self.path, **{"pages": 64, **limits}).close()
+        except saved.SavedError as error:
+            return error
+        self.fail("the file is opened")
 
     def ended(self, child):
         """Waits for a child's end, and takes what it said."""
@@ -157,7 +160,7 @@ class Kept(Files):
 
     def test_each_call(self):
         """Each call that writes is saved, by each pass, also a node that is gone."""
-        with saved.open(self.path, 64, every=None) as store, store.another() as other, other.another() as third:
+        with saved.open(self.path, 64) as store, store.another() as other, other.another() as third:
             nodes = other.new_nodes(65)
             third.apply(bestore.Batch().set(1, "k", "é").set(1, "r", b"\0").new_node())
             with store.pin() as version:
@@ -243,8 +246,11 @@ class Kept(Files):
         for passes in (0, 64, -1):
             with self.assertRaises(bestore.BadLimits):
                 saved.open(self.path, passes=passes)
+        for every in (-1, float("nan")):
+            with self.assertRaises(ValueError):
+                saved.open(self.path, every=every)
         self.assertEqual(os.listdir(self.folder), [])
-        with saved.open(self.path, 64, passes=2) as store, store.another() as other:
+        with saved.open(self.path, 64, passes=2, every=float("inf")) as store, store.another() as other:
             with self.assertRaises(bestore.NoPass):
                 other.another()
 
@@ -354,6 +360,7 @@ class Refused(Files):
                 self.assertEqual(
                     (type(differs), differs.path, differs.entry, differs.batch), (saved.Differs, self.path, entry, batch))
                 self.assertIn(reason, str(differs))
+                sql(self.path, "PRAGMA locking_mode = EXCLUSIVE", "BEGIN EXCLUSIVE")
                 os.unlink(self.path)
 
     def test_too_large(self):
@@ -391,7 +398,7 @@ class Refused(Files):
 class Failures(Files):
     @contextmanager
     def broken(self, error, after=0):
-        """Lets each commit fail, after so many that succeed, before or after what it writes."""
+        """Lets each commit fail, after so many that succeed."""
         append, left = File.append, [after]
 
         def break_off(file, rows):
@@ -587,6 +594,7 @@ class Forks(Files):
                         use()
                 with store:
                     pass
+            self.assertIsInstance(self.refusal(), saved.Held)
             with saved.open(self.path + "2", 64) as own:
                 own.new_node()
             ended = 7

@@ -7,7 +7,7 @@ import os
 import sqlite3
 import weakref
 from contextlib import contextmanager
-from typing import Any, ClassVar, Iterable, Iterator, NamedTuple, Optional, Tuple
+from typing import Any, ClassVar, Iterable, Iterator, List, NamedTuple, Optional, Tuple
 
 from ._saved_errors import Differs, Foreign, Newer, of_sqlite
 
@@ -48,6 +48,7 @@ class File:
     def __init__(self, path: str) -> None:
         self.path = path
         self._connection: Optional[sqlite3.Connection] = None
+        self._reading: List[sqlite3.Cursor] = []
         with self._translated():
             # SQLite takes ":memory:" and an empty name for no file, and neither has a folder before it.
             self._connection = sqlite3.connect(
@@ -107,19 +108,22 @@ class File:
     def _transaction(self) -> Iterator[None]:
         """A transaction, which is committed at the end of a `with`, or rolled back at an exception. One that an earlier
         exception left open is rolled back first."""
-        with self._translated():
+        try:
             self._roll_back()
             self._run("BEGIN")
-            try:
-                yield
-                self._run("COMMIT")
-            except BaseException:
-                self._roll_back()
-                raise
+            yield
+            self._run("COMMIT")
+        except sqlite3.Error as error:
+            self._roll_back()
+            raise of_sqlite(self.path, error) from error
+        except BaseException:
+            self._roll_back()
+            raise
 
     def _roll_back(self) -> None:
         if self._connection is not None and self._connection.in_transaction:
-            self._run("ROLLBACK")
+            with self._translated():
+                self._run("ROLLBACK")
 
     def about(self) -> About:
         """What the file says of its state."""
@@ -141,6 +145,7 @@ class File:
     def _batches(self, sql: str) -> Iterator[Tuple[int, bytes]]:
         with self._translated():
             rows = self._run(sql)
+        self._reading.append(rows)
         while True:
             with self._translated():
                 row = rows.fetchone()
@@ -170,6 +175,8 @@ class File:
         connection, self._connection = self._connection, None
         if connection is not None:
             with self._translated():
+                for rows in self._reading:  # SQLite keeps the lock while one is open
+                    rows.close()
                 connection.close()
 
     def _leave_to_parent(self) -> None:

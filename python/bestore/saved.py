@@ -22,21 +22,21 @@ thinks there that the parent's handle is its own.
 from __future__ import annotations
 
 import atexit
+import ctypes
 import operator
 import os
 import threading
 from contextlib import ExitStack, contextmanager, suppress
-from itertools import islice
 from types import TracebackType
 from typing import Any, Callable, Iterator, List, Optional, Tuple, Type, Union
 
 from . import store as _store
-from ._library import calls, check
+from ._library import Counts, Operation as RawOperation, calls, check
 from ._saved_errors import (
     Differs, DiskFull, Foreign, Held, Newer, NotSaved, SavedError, SqliteError, Stopped, TooLarge, refused)
-from ._saved_file import File, Row
+from ._saved_file import File
 from .errors import BadLimits, Error
-from .operations import NEW, Batch
+from .operations import BYTES_OF_A_BATCH, MOST_OPERATIONS, NEW, Batch, batch_of
 
 __all__ = [
     "Differs", "DiskFull", "Foreign", "Held", "Newer", "NotSaved", "Saved", "SavedError", "SavedPass", "SqliteError",
@@ -46,6 +46,26 @@ __all__ = [
 _MOST_ROWS = 4096  # how many entries a commit has at most
 
 
+class _Reader:
+    """Reads entries of the journal as bytes, by a pass that nobody else uses."""
+
+    def __init__(self, user: _store.Pass) -> None:
+        self._user, self._operations = user, (RawOperation * MOST_OPERATIONS)()
+        self._texts = ctypes.create_string_buffer(BYTES_OF_A_BATCH)
+        self._by, self._length, self._counts = ctypes.c_uint64(), ctypes.c_uint64(), Counts()
+        self._arguments = (
+            ctypes.byref(self._by), ctypes.byref(self._counts), self._operations, MOST_OPERATIONS, self._texts,
+            BYTES_OF_A_BATCH, ctypes.byref(self._length))
+
+    def read(self, after: int) -> Iterator[Tuple[int, int, bytes]]:
+        """The entries after this commit number, up to `_MOST_ROWS` of them: their numbers, passes and batches."""
+        for number in range(after, after + _MOST_ROWS):
+            check(self._user._tried(_store.TRIES, calls.bes_journal_from, number, *self._arguments), self._length.value)
+            yield number + 1, self._by.value, batch_of(self._counts, self._operations, self._texts).to_bytes()
+            if number + 1 >= self._length.value:
+                return
+
+
 class _Saver:
     """Saves the entries of the journal. A writer waits for its turn, and then saves all entries that are there. Those
     that it saves for others are told to go on."""
@@ -53,7 +73,7 @@ class _Saver:
     def __init__(self, file: File, own: _store.Pass, last: int, every: Optional[float]) -> None:
         self.own = own
         """A pass that nobody else uses. It reads what is saved, and makes the other passes."""
-        self.path = file.path
+        self.path, self._reader = file.path, _Reader(own)
         self._file: Optional[File] = file
         self._line, self._is_taken = threading.Condition(), False  # those who wait, and whether one has its turn
         self._failed: Optional[Exception] = None
@@ -114,17 +134,12 @@ class _Saver:
             self.check()
             assert self._file is not None
             try:
-                rows = list(islice(self._rows(), _MOST_ROWS))
+                rows = [(self.number_in_file(entry), by, batch) for entry, by, batch in self._reader.read(self._saved)]
                 self._file.append(rows)
             except Exception as error:
                 self._failed = error
                 self.check()
             self._saved += len(rows)
-
-    def _rows(self) -> Iterator[Row]:
-        """The entries that aren't saved."""
-        for entry in self.own.journal_from(self._saved):
-            yield self.number_in_file(entry.number), entry.pass_number, Batch(entry.operations).to_bytes()
 
     def flush(self) -> None:
         """Saves what was written before the call."""
@@ -151,7 +166,7 @@ class _Saver:
         """Saves what was written, so many seconds after the first write, again and again. At the end closes the file."""
         while not self._ending.is_set():
             self._work.wait()
-            self._ending.wait(every)
+            self._ending.wait(min(every, threading.TIMEOUT_MAX))
             self._work.clear()
             try:
                 self.flush()
@@ -271,9 +286,11 @@ def open(path: Union[str, bytes, "os.PathLike[Any]"], pages: int = 4096, passes:
     If the file has entries since its state, the state is written anew; on a full disk the file stays as it is.
 
     Raises `Foreign`, `Newer`, `Held`; `Differs` and `TooLarge` with the place in the file; `DiskFull` and `SqliteError`;
-    and the errors of `bestore.open`."""
+    the errors of `bestore.open`; and a ValueError if `every` is below 0."""
     if not 1 <= operator.index(passes) <= 63:
         raise BadLimits()
+    if every is not None and not every >= 0:
+        raise ValueError(f"every {every} seconds")
     with ExitStack() as opened:
         own = opened.enter_context(_store.open(pages, passes + 1, commits))
         file = File(os.fsdecode(path))
