@@ -120,7 +120,7 @@ class NotSaved(SavedError):
 
     @property
     def summary(self) -> str:
-        return f"write {self.number} is not saved: {_told(self.__cause__)}"
+        return f"write {self.number} is not saved: {_said(self.__cause__)}"
 
 
 class Stopped(SavedError):
@@ -129,10 +129,10 @@ class Stopped(SavedError):
 
     @property
     def summary(self) -> str:
-        return "the file is closed" if self.__cause__ is None else f"saving has failed: {_told(self.__cause__)}"
+        return "the file is closed" if self.__cause__ is None else f"saving has failed: {_said(self.__cause__)}"
 
 
-def _told(error: Optional[BaseException]) -> str:
+def _said(error: Optional[BaseException]) -> str:
     """What went wrong, without the file."""
     return error.summary if isinstance(error, SavedError) else str(error)
 

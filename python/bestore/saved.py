@@ -67,8 +67,8 @@ class _Reader:
 
 
 class _Saver:
-    """Saves the entries of the journal. A writer waits for its turn, and then saves all entries that are there. Those
-    that it saves for others are told to go on."""
+    """Saves the entries of the journal. A writer waits for its turn, and then saves all entries that are there. The writers
+    whose entries it has saved go on."""
 
     def __init__(self, file: File, own: _store.Pass, last: int, every: Optional[float]) -> None:
         self.own = own
@@ -83,8 +83,8 @@ class _Saver:
         self._work, self._ending = threading.Event(), threading.Event()
         self.is_timed = every is not None
         if every is not None:
-            atexit.register(self.close)
             threading.Thread(target=self._save_now_and_then, args=(every,), name="bestore-saving", daemon=True).start()
+            atexit.register(self.close)
 
     def number_in_file(self, commit: int) -> int:
         """The number in the file of the entry with this commit number."""
@@ -265,7 +265,7 @@ class Saved(SavedPass):
 
     def __exit__(self, kind: Optional[Type[BaseException]], value: Optional[BaseException],
                  trace: Optional[TracebackType]) -> None:
-        if isinstance(value, (NotSaved, Stopped)):
+        if isinstance(value, (NotSaved, Stopped)) and value.path == self._saver.path:
             with suppress(Stopped):  # which would say the same again
                 self.close()
         else:
