@@ -217,6 +217,30 @@ class Kept(Files):
             self.assertEqual(sizes(store), [1, 2, 4])
         self.assertEqual(os.listdir(self.folder), ["test.bestore"])
 
+    def test_compact_comes_first(self):
+        """Writers that wait let a state be written first. It saves their writes."""
+        ran, append, write_state = [], File.append, File.write_state
+
+        def recorded(call):
+            def record(*arguments):
+                ran.append((call.__name__, threading.current_thread().name))
+                return call(*arguments)
+            return record
+        with saved.open(self.path, 64) as store, store.another() as other:
+            running = [threading.Thread(target=other.new_node), threading.Thread(target=store.compact, name="compact")]
+            with mock.patch.object(File, "append", recorded(append)), \
+                    mock.patch.object(File, "write_state", recorded(write_state)):
+                with store._saver._turn():
+                    running[0].start()
+                    while store.status().entries == 0:
+                        time.sleep(0.001)
+                    running[1].start()
+                    while store._saver._asked < 2:
+                        time.sleep(0.001)
+                for thread in running:
+                    thread.join()
+        self.assertEqual(ran, [("append", "compact"), ("write_state", "compact")])
+
     def test_closed(self):
         with saved.open(self.path, 64) as store:
             other = store.another()

@@ -76,6 +76,7 @@ class _Saver:
         self.path, self._reader = file.path, _Reader(own)
         self._file: Optional[File] = file
         self._line, self._is_taken = threading.Condition(), False  # those who wait, and whether one has its turn
+        self._asked = 0  # how many turns without a number are waited for, or taken
         self._failed: Optional[Exception] = None
         with own.pin() as version:
             self._saved = version.number
@@ -109,24 +110,30 @@ class _Saver:
 
     @contextmanager
     def _turn(self, number: Optional[int] = None) -> Iterator[bool]:
-        """Waits until nobody else uses the file, and is alone then. With a number: False as soon as that entry is saved."""
-        has_turn = False
+        """Waits until nobody else uses the file, and is alone then. With a number: False as soon as that entry is saved.
+        Without one it comes before those who have one."""
+        has_turn, asked = False, 0
         try:
             with self._line:
-                while self._is_taken and not self._has(number):
+                asked = int(number is None)
+                self._asked += asked
+                while self._waits(number):
                     self._line.wait()
-                if not self._has(number):
+                if number is None or self._saved < number:
                     has_turn = self._is_taken = True
             yield has_turn
         finally:
-            if has_turn:
-                with self._line:
+            with self._line:
+                self._asked -= asked
+                if has_turn:
                     self._is_taken = False
-                    self._line.notify_all()
+                self._line.notify_all()
 
-    def _has(self, number: Optional[int]) -> bool:
-        """Whether the entry with this commit number is saved."""
-        return number is not None and self._saved >= number
+    def _waits(self, number: Optional[int]) -> bool:
+        """Whether somebody else comes first."""
+        if number is None:
+            return self._is_taken
+        return self._saved < number and (self._is_taken or self._asked > 0)
 
     def _save_up_to(self, number: int) -> None:
         """In a turn: saves the entries up to this commit number, and those after it that are there too."""
