@@ -306,6 +306,39 @@ class Timed(Files):
             self.assertEqual(store._saver._saved, 10)
         self.assertEqual(self.count(), 10)
 
+    def test_write_beside_close(self):
+        """A write that comes too late for the last commit is no success."""
+        store = saved.open(self.path, 64, every=3600)
+        other, save_all = store.another(), saved._Saver._save_all
+
+        def late(saver):
+            save_all(saver)
+            writing.start()
+            while other.committed == 0:
+                time.sleep(0.001)
+        refused = []
+
+        def write():
+            try:
+                other.new_node()
+            except saved.NotSaved as error:
+                refused.append(str(error))
+        writing = threading.Thread(target=write)
+        with mock.patch.object(saved._Saver, "_save_all", late):
+            store.close()
+        writing.join()
+        self.assertEqual((refused, self.count()), ([f"{self.path}: write 1 is not saved: the file is closed"], 0))
+
+    def test_saving_that_ends(self):
+        """After an error the thread that saves is gone, and writes are refused."""
+        with self.assertRaises(saved.Stopped), saved.open(self.path, 64, every=0) as store:
+            with mock.patch.object(saved._Saver, "_save_all", side_effect=bestore.NoMemory()):
+                with self.assertRaises(saved.Stopped) as stopped:
+                    while True:
+                        store.new_node()
+            self.assertIsInstance(stopped.exception.__cause__, bestore.NoMemory)
+            store.flush()
+
     def test_many_in_one_commit(self):
         with mock.patch.object(saved, "_MOST_ROWS", 7), saved.open(self.path, 64, every=3600) as store:
             for _ in range(50):

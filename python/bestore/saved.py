@@ -43,7 +43,8 @@ __all__ = [
     "Stopped", "TooLarge", "open",
 ]
 
-_MOST_ROWS = 4096  # how many entries a commit has at most
+_MOST_ROWS = 1024  # how many entries a commit has at most
+_TRIES = 2**63 - 1  # for as long as other passes write: an entry that can't be read would end all saving
 
 
 class _Reader:
@@ -60,7 +61,7 @@ class _Reader:
     def read(self, after: int) -> Iterator[Tuple[int, int, bytes]]:
         """The entries after this commit number, up to `_MOST_ROWS` of them: their numbers, passes and batches."""
         for number in range(after, after + _MOST_ROWS):
-            check(self._user._tried(_store.TRIES, calls.bes_journal_from, number, *self._arguments), self._length.value)
+            check(self._user._tried(_TRIES, calls.bes_journal_from, number, *self._arguments), self._length.value)
             yield number + 1, self._by.value, batch_of(self._counts, self._operations, self._texts).to_bytes()
             if number + 1 >= self._length.value:
                 return
@@ -78,6 +79,7 @@ class _Saver:
         self._line, self._is_taken = threading.Condition(), False  # those who wait, and whether one has its turn
         self._asked = 0  # how many turns without a number are waited for, or taken
         self._failed: Optional[Exception] = None
+        self._is_closing = False
         with own.pin() as version:
             self._saved = version.number
         self._shift = last - self._saved
@@ -98,7 +100,7 @@ class _Saver:
 
     def keep(self, number: int) -> None:
         """Saves the write with this commit number, or says to the thread that saves that there is one."""
-        if self.is_timed:
+        if self.is_timed and not self._is_closing:
             self._work.set()
             return
         try:
@@ -177,7 +179,9 @@ class _Saver:
             self._work.clear()
             try:
                 self.flush()
-            except Error:  # which later writes and `flush` raise
+            except Exception as error:  # which later writes and `flush` raise
+                if self._failed is None and not isinstance(error, Stopped):
+                    self._failed = error
                 self._ending.wait()
         with suppress(Error):
             self.close()
@@ -200,6 +204,7 @@ class _Saver:
             file = self._file
             if file is None:
                 return
+            self._is_closing = True  # so a write that comes now and isn't saved below is an error
             try:
                 self._save_all()
             finally:
@@ -279,8 +284,10 @@ class Saved(SavedPass):
             self.close()
 
     def __del__(self) -> None:
-        self._saver.end()
-        super().close()
+        try:
+            self._saver.end()
+        finally:
+            super().close()
 
 
 def open(path: Union[str, bytes, "os.PathLike[Any]"], pages: int = 4096, passes: int = 8, commits: int = 2**32 - 1,
