@@ -136,6 +136,11 @@ class Files(unittest.TestCase):
             return error
         self.fail("the file is opened")
 
+    def skip(self, reason):
+        """Skips the test, with a line that a quiet run shows too."""
+        print(f"{self.id()}: skipped, {reason}", file=sys.stderr)
+        self.skipTest(reason)
+
     def ended(self, child):
         """Waits for a child's end, and takes what it said."""
         said = child.stdout.read()
@@ -545,7 +550,7 @@ class Failures(Files):
     def test_full_disk(self):
         options = ["mount", "-t", "tmpfs", "-o", "size=256k", "tmpfs", self.folder]
         if shutil.which("mount") is None or subprocess.run(options, stderr=subprocess.DEVNULL).returncode != 0:
-            self.skipTest("no file system can be mounted")
+            self.skip("no file system can be mounted")
         self.addCleanup(subprocess.run, ["umount", self.folder])
         store, count = saved.open(self.path, 64), 0
         other, value = store.another(), bytes(255)
@@ -606,7 +611,7 @@ class Processes(Files):
         target = os.environ.get("CARGO_TARGET_DIR", os.path.join(HERE, "..", "rust", "target"))
         built = [it for it in glob.glob(os.path.join(target, "debug", "deps", "saved-*")) if os.access(it, os.X_OK)]
         if not built:
-            self.skipTest("the tests of the crate for Rust are not built")
+            self.skip("the tests of the crate for Rust aren't built: see rust/test.sh")
         three(self.path)
         with saved.open(self.path, 64) as store:
             store.remove_node(2)
