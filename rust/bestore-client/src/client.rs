@@ -121,9 +121,7 @@ impl Client {
         }
         match (line.ok, line.error) {
             (_, Some(refusal)) => Ok(Some(Err(Error::Refused(refusal)))),
-            (Some(ok), None) if line.id == Some(id) => {
-                Ok(Some(Ok(serde_json::from_str(ok.get()).map_err(bad)?)))
-            }
+            (Some(ok), None) if line.id == Some(id) => Ok(Some(Ok(serde_json::from_str(ok.get()).map_err(bad)?))),
             _ => Err(bad("the reply is of another request")),
         }
     }
@@ -267,7 +265,10 @@ impl Client {
     /// As `call`.
     pub fn query(&mut self, text: &str) -> Result<Vec<u64>> {
         let mut found = Vec::new();
-        let mut query = Query { text, ..Query::default() };
+        let mut query = Query {
+            text,
+            ..Query::default()
+        };
         loop {
             let page = self.hits(query)?;
             found.extend(page.nodes.unwrap_or_default());

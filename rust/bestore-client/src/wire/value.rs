@@ -149,9 +149,7 @@ struct IntegerVisitor<T>(std::marker::PhantomData<T>);
 
 impl<T> IntegerVisitor<T> {
     fn fitting<E: de::Error, F>(number: Result<T, F>) -> Result<Integer<T>, E> {
-        number
-            .map(Integer)
-            .map_err(|_| E::custom("no integer of this kind"))
+        number.map(Integer).map_err(|_| E::custom("no integer of this kind"))
     }
 }
 
