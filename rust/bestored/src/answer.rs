@@ -23,10 +23,10 @@ const COLLECTED: usize = 1 << 16;
 pub enum View<'v, 'p> {
     /// For each read the current snapshot.
     Current(&'v mut Pass),
-    /// One snapshot until this time.
+    /// One snapshot, since this time.
     Kept {
         snapshot: &'v Snapshot<'p>,
-        until: Instant,
+        since: Instant,
         /// How far `state` has been read, by the index of its next batch.
         state: Option<(u64, State<'v>)>,
     },
@@ -35,17 +35,18 @@ pub enum View<'v, 'p> {
 }
 
 impl<'v, 'p> View<'v, 'p> {
-    pub fn kept(snapshot: &'v Snapshot<'p>, until: Instant) -> Self {
+    pub fn kept(snapshot: &'v Snapshot<'p>) -> Self {
         View::Kept {
             snapshot,
-            until,
+            since: Instant::now(),
             state: None,
         }
     }
 
-    pub fn until(&self) -> Option<Instant> {
+    /// Since when a snapshot is kept, if one is.
+    pub fn since(&self) -> Option<Instant> {
         match self {
-            View::Kept { until, .. } => Some(*until),
+            View::Kept { since, .. } => Some(*since),
             View::Current(_) | View::Expired(_) => None,
         }
     }
@@ -162,10 +163,7 @@ impl<'a> Desk<'a> {
         if *count > batch.len() {
             return Err(bestore::Error::BadCount { count: *count }.into());
         }
-        let written = match write.expected {
-            None => view.pass().apply(batch)?,
-            Some(expected) => view.pass().apply_if(expected, batch)?,
-        };
+        let written = self.shared.pressure.write(view.pass(), write.expected, batch)?;
         self.shared.watcher.written();
         let reply = wire::Written {
             commit: written.number,

@@ -4,6 +4,7 @@ use crate::answer::{Desk, View};
 use crate::failure::Failure;
 use crate::lines::{Lines, Received};
 use crate::outbox::Outbox;
+use crate::pressure;
 use crate::server::Shared;
 use bestore::Pass;
 use bestore_client::wire::{id_of, Command, Next, Nothing, Request};
@@ -72,8 +73,7 @@ impl<'a> Connection<'a> {
             Ok(next) => self.desk.reply(id, &Next { commit, next }),
             Err(error) => self.desk.refuse(Some(id), error.into()),
         }
-        let until = Instant::now() + self.desk.shared.options.hold;
-        self.serve(&mut View::kept(&snapshot, until))
+        self.serve(&mut View::kept(&snapshot))
     }
 
     /// Answers requests until reads have to see another state.
@@ -81,7 +81,7 @@ impl<'a> Connection<'a> {
         loop {
             let line = match self.lines.take() {
                 Some(line) => line,
-                None => match self.receive(view.until())? {
+                None => match self.receive(view.since())? {
                     None => continue,
                     Some(turn) => return Ok(turn),
                 },
@@ -105,12 +105,19 @@ impl<'a> Connection<'a> {
         }
     }
 
-    /// Sends the replies that were made, and waits for more requests.
-    fn receive(&mut self, until: Option<Instant>) -> io::Result<Option<Turn>> {
+    /// Sends the replies that were made, and waits for more requests. `since`: when the snapshot was pinned, if one is.
+    fn receive(&mut self, since: Option<Instant>) -> io::Result<Option<Turn>> {
         self.desk.send()?;
+        let mut until = None;
+        if let Some(since) = since {
+            let pressure = &self.desk.shared.pressure;
+            if pressure.is_over(since) {
+                return Ok(Some(Turn::Expire));
+            }
+            until = Some(Instant::now() + pressure::LOOK);
+        }
         let (name, message) = match self.lines.read(until)? {
-            Received::Some => return Ok(None),
-            Received::Late => return Ok(Some(Turn::Expire)),
+            Received::Some | Received::Late => return Ok(None),
             Received::End => return Ok(Some(Turn::Close)),
             Received::Half => ("Timeout", "the rest of the request didn't come"),
             Received::TooLong => ("LineTooLong", "the request has more than 1 MiB"),

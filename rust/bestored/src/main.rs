@@ -11,12 +11,14 @@ mod options;
 mod os;
 mod outbox;
 mod page;
+mod pressure;
 mod server;
 mod socket;
 mod watcher;
 
 use kept::Kept;
 use options::Options;
+use pressure::Pressure;
 use server::Shared;
 use socket::Socket;
 use std::error::Error;
@@ -45,6 +47,7 @@ fn start(options: Options) -> Result<(), Box<dyn Error>> {
     let shared = Shared {
         kept,
         watcher: Default::default(),
+        pressure: Pressure::new(options.hold),
         clients: Default::default(),
         run: server::run_text()?,
         options,

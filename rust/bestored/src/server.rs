@@ -5,6 +5,7 @@ use crate::failure::Failure;
 use crate::kept::Kept;
 use crate::options::Options;
 use crate::os;
+use crate::pressure::{self, Pressure};
 use crate::socket::Socket;
 use crate::watcher::Watcher;
 use bestore::{Error, Pass};
@@ -33,6 +34,7 @@ pub struct Shared {
     pub options: Options,
     pub kept: Kept,
     pub watcher: Watcher,
+    pub pressure: Pressure,
     pub clients: Clients,
     /// Another text for each run.
     pub run: String,
@@ -174,7 +176,11 @@ fn take_pass(shared: &Shared) -> bestore::Result<Pass> {
     loop {
         match shared.kept.pass() {
             Err(Error::NoPass) if Instant::now() < until => thread::sleep(Duration::from_millis(5)),
-            answer => return answer,
+            answer => {
+                let mut pass = answer?;
+                pass.set_retry(pressure::retry());
+                return Ok(pass);
+            }
         }
     }
 }

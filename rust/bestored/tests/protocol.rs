@@ -52,36 +52,66 @@ fn reads() {
     let mut talk = server.talk();
     three(&mut talk);
     for (request, reply) in [
-        (r#""query":{"query":"size>1"}"#, r#""ok":{"commit":1,"count":2,"nodes":[2,3]}"#),
-        (r#""query":{"query":"size>0","limit":1}"#, r#""ok":{"commit":1,"count":3,"nodes":[1],"more":2}"#),
+        (
+            r#""query":{"query":"size>1"}"#,
+            r#""ok":{"commit":1,"count":2,"nodes":[2,3]}"#,
+        ),
+        (
+            r#""query":{"query":"size>0","limit":1}"#,
+            r#""ok":{"commit":1,"count":3,"nodes":[1],"more":2}"#,
+        ),
         (
             r#""query":{"query":"size>0","from":2,"limit":1,"columns":["size"]}"#,
             r#""ok":{"commit":1,"count":2,"nodes":[2],"rows":[[2]],"more":3}"#,
         ),
-        (r#""query":{"query":"size>0","limit":0}"#, r#""ok":{"commit":1,"count":3,"nodes":[],"more":1}"#),
-        (r#""query":{"query":"size>0","count":true}"#, r#""ok":{"commit":1,"count":3}"#),
+        (
+            r#""query":{"query":"size>0","limit":0}"#,
+            r#""ok":{"commit":1,"count":3,"nodes":[],"more":1}"#,
+        ),
+        (
+            r#""query":{"query":"size>0","count":true}"#,
+            r#""ok":{"commit":1,"count":3}"#,
+        ),
         (r#""get":{"node":2,"name":"size"}"#, r#""ok":{"commit":1,"value":2}"#),
         (r#""get":{"node":9,"name":"size"}"#, r#""ok":{"commit":1,"value":null}"#),
-        (r#""attributes":{"node":2}"#, r#""ok":{"commit":1,"attributes":{"size":2}}"#),
+        (
+            r#""attributes":{"node":2}"#,
+            r#""ok":{"commit":1,"attributes":{"size":2}}"#,
+        ),
         (r#""indices":{}"#, r#""ok":{"commit":1,"indices":{"size":"int64"}}"#),
         (r#""nodes":{}"#, r#""ok":{"commit":1,"nodes":[1,2,3]}"#),
-        (r#""nodes":{"from":2,"limit":1}"#, r#""ok":{"commit":1,"nodes":[2],"more":3}"#),
+        (
+            r#""nodes":{"from":2,"limit":1}"#,
+            r#""ok":{"commit":1,"nodes":[2],"more":3}"#,
+        ),
         (r#""next":{}"#, r#""ok":{"commit":1,"next":4}"#),
-        (r#""explain":{"query":"size<0"}"#, r#""ok":{"commit":1,"text":"\"size\"<\"0\" score 3"}"#),
+        (
+            r#""explain":{"query":"size<0"}"#,
+            r#""ok":{"commit":1,"text":"\"size\"<\"0\" score 3"}"#,
+        ),
     ] {
         talk.check(request, reply);
     }
     let status = talk.ask(r#"{"id":1,"status":{}}"#);
-    assert!(status.contains(r#""pages":4096"#) && status.contains(r#""clients":1,"watches":0"#), "{status}");
+    assert!(
+        status.contains(r#""pages":4096"#) && status.contains(r#""clients":1,"watches":0"#),
+        "{status}"
+    );
     let hello = talk.ask(r#"{"id":1,"hello":{"protocol":1}}"#);
-    assert!(hello.starts_with(r#"{"id":1,"ok":{"protocol":1,"server":"0.2.0","#), "{hello}");
+    assert!(
+        hello.starts_with(r#"{"id":1,"ok":{"protocol":1,"server":"0.2.0","#),
+        "{hello}"
+    );
 }
 
 #[test]
 fn values_lose_nothing() {
     let (_folder, server) = start(&[]);
     let mut talk = server.talk();
-    talk.check(r#""batch":{"operations":[["new"]]}"#, r#""ok":{"commit":1,"nodes":[1]}"#);
+    talk.check(
+        r#""batch":{"operations":[["new"]]}"#,
+        r#""ok":{"commit":1,"nodes":[1]}"#,
+    );
     let values = concat!(
         r#"{"a":"é\"\u0001","b":-5,"c":{"int64":"9223372036854775807"},"d":{"int32":-2147483648},"e":{"uint32":4294967295},"#,
         r#""f":{"uint64":"18446744073709551615"},"g":{"mime":"text/plain"},"h":{"raw":"AP8="},"i":9007199254740991}"#
@@ -93,7 +123,10 @@ fn values_lose_nothing() {
             &format!(r#""ok":{{"commit":{},"nodes":[]}}"#, index + 2),
         );
     }
-    talk.check(r#""attributes":{"node":1}"#, &format!(r#""ok":{{"commit":10,"attributes":{values}}}"#));
+    talk.check(
+        r#""attributes":{"node":1}"#,
+        &format!(r#""ok":{{"commit":10,"attributes":{values}}}"#),
+    );
 }
 
 #[test]
@@ -103,15 +136,36 @@ fn errors_of_the_store() {
     three(&mut talk);
     let long = "a".repeat(64);
     for (request, error) in [
-        (r#""batch":{"operations":[["remove",9]]}"#.to_owned(), r#""NoNode","number":2"#),
+        (
+            r#""batch":{"operations":[["remove",9]]}"#.to_owned(),
+            r#""NoNode","number":2"#,
+        ),
         (r#""batch":{"operations":[]}"#.into(), r#""BadCount","number":69"#),
-        (r#""batch":{"operations":[["new"],["set",1,"","a"]]}"#.into(), r#""NameLength","number":18"#),
-        (format!(r#""batch":{{"operations":[["unset",1,"{long}"]]}}"#), r#""NameLength","number":18"#),
-        (r#""batch":{"operations":[["set",1,"a\u0000","a"]]}"#.into(), r#""HasNul","number":20"#),
-        (r#""batch":{"operations":[["index","size","int64"]]}"#.into(), r#""IndexExists","number":5"#),
-        (r#""batch":{"operations":[["index","a","raw"]]}"#.into(), r#""NotIndexable","number":8"#),
+        (
+            r#""batch":{"operations":[["new"],["set",1,"","a"]]}"#.into(),
+            r#""NameLength","number":18"#,
+        ),
+        (
+            format!(r#""batch":{{"operations":[["unset",1,"{long}"]]}}"#),
+            r#""NameLength","number":18"#,
+        ),
+        (
+            r#""batch":{"operations":[["set",1,"a\u0000","a"]]}"#.into(),
+            r#""HasNul","number":20"#,
+        ),
+        (
+            r#""batch":{"operations":[["index","size","int64"]]}"#.into(),
+            r#""IndexExists","number":5"#,
+        ),
+        (
+            r#""batch":{"operations":[["index","a","raw"]]}"#.into(),
+            r#""NotIndexable","number":8"#,
+        ),
         (r#""query":{"query":"size=>1"}"#.into(), r#""Syntax","number":12"#),
-        (r#""explain":{"query":"size==[a"}"#.into(), r#""BadPattern","number":13"#),
+        (
+            r#""explain":{"query":"size==[a"}"#.into(),
+            r#""BadPattern","number":13"#,
+        ),
         (r#""watch":{"query":"name==a"}"#.into(), r#""NotCovered","number":17"#),
         (r#""attributes":{"node":9}"#.into(), r#""NoNode","number":2"#),
         (r#""unwatch":{"watch":1}"#.into(), r#""NoWatch""#),
@@ -121,7 +175,10 @@ fn errors_of_the_store() {
         (r#""hello":{"protocol":2}"#.into(), r#""Protocol""#),
     ] {
         let said = talk.ask(&format!("{{\"id\":1,{request}}}"));
-        assert!(said.starts_with(&format!(r#"{{"id":1,"error":{{"name":{error}"#)), "{request}: {said}");
+        assert!(
+            said.starts_with(&format!(r#"{{"id":1,"error":{{"name":{error}"#)),
+            "{request}: {said}"
+        );
     }
     talk.check(
         r#""batch":{"operations":[["new"]],"expected":7}"#,
@@ -132,9 +189,18 @@ fn errors_of_the_store() {
     );
     let many = vec![r#"["new"]"#; 65].join(",");
     let said = talk.ask(&format!("{{\"id\":1,\"batch\":{{\"operations\":[{many}]}}}}"));
-    assert!(said.contains(r#""name":"BadCount","number":69"#) && said.contains(r#""count":65"#), "{said}");
-    talk.check(r#""batch":{"operations":[["new"]],"expected":1}"#, r#""ok":{"commit":2,"nodes":[4]}"#);
-    talk.check(r#""batch":{"operations":[["new"]]}"#, r#""ok":{"commit":3,"nodes":[5]}"#);
+    assert!(
+        said.contains(r#""name":"BadCount","number":69"#) && said.contains(r#""count":65"#),
+        "{said}"
+    );
+    talk.check(
+        r#""batch":{"operations":[["new"]],"expected":1}"#,
+        r#""ok":{"commit":2,"nodes":[4]}"#,
+    );
+    talk.check(
+        r#""batch":{"operations":[["new"]]}"#,
+        r#""ok":{"commit":3,"nodes":[5]}"#,
+    );
     let said = talk.ask(r#"{"id":1,"batch":{"operations":[["new"]]}}"#);
     assert!(said.contains(r#""name":"CommitsSpent","number":9"#), "{said}");
 }
@@ -176,7 +242,10 @@ fn a_line_that_is_too_long_ends_the_connection() {
     let mut talk = server.talk();
     talk.send(&vec![b' '; 1 << 20]);
     let said = talk.line();
-    assert!(said.starts_with(r#"{"id":null,"error":{"name":"LineTooLong","#), "{said}");
+    assert!(
+        said.starts_with(r#"{"id":null,"error":{"name":"LineTooLong","#),
+        "{said}"
+    );
     assert_eq!(talk.line(), "");
 }
 
@@ -191,7 +260,10 @@ fn replies_come_in_the_order_of_requests() {
     talk.send(sent.as_bytes());
     for id in 0..2000 {
         let node = id + 1;
-        assert_eq!(talk.line(), format!("{{\"id\":{id},\"ok\":{{\"commit\":{node},\"nodes\":[{node}]}}}}"));
+        assert_eq!(
+            talk.line(),
+            format!("{{\"id\":{id},\"ok\":{{\"commit\":{node},\"nodes\":[{node}]}}}}")
+        );
     }
 }
 
@@ -201,13 +273,22 @@ fn a_snapshot_stays_as_it_is() {
     let (mut talk, mut other) = (server.talk(), server.talk());
     three(&mut talk);
     talk.check(r#""pin":{}"#, r#""ok":{"commit":1,"next":4}"#);
-    other.check(r#""batch":{"operations":[["remove",3]]}"#, r#""ok":{"commit":2,"nodes":[]}"#);
-    talk.check(r#""query":{"query":"size>1"}"#, r#""ok":{"commit":1,"count":2,"nodes":[2,3]}"#);
+    other.check(
+        r#""batch":{"operations":[["remove",3]]}"#,
+        r#""ok":{"commit":2,"nodes":[]}"#,
+    );
+    talk.check(
+        r#""query":{"query":"size>1"}"#,
+        r#""ok":{"commit":1,"count":2,"nodes":[2,3]}"#,
+    );
     let said = talk.ask(r#"{"id":1,"pin":{}}"#);
     assert!(said.contains(r#""name":"Pinned","number":67"#), "{said}");
     let said = talk.ask(r#"{"id":1,"batch":{"operations":[["new"]],"expected":1}}"#);
     assert!(said.contains(r#""expected":1,"found":2"#), "{said}");
-    talk.check(r#""batch":{"operations":[["remove",2]]}"#, r#""ok":{"commit":3,"nodes":[]}"#);
+    talk.check(
+        r#""batch":{"operations":[["remove",2]]}"#,
+        r#""ok":{"commit":3,"nodes":[]}"#,
+    );
     talk.check(r#""nodes":{}"#, r#""ok":{"commit":1,"nodes":[1,2,3]}"#);
     talk.check(r#""unpin":{}"#, r#""ok":{}"#);
     talk.check(r#""nodes":{}"#, r#""ok":{"commit":3,"nodes":[1]}"#);
@@ -227,7 +308,10 @@ fn a_snapshot_that_is_kept_too_long_is_taken_back() {
     assert!(said.starts_with(r#"{"id":1,"error":{"name":"Expired","#), "{said}");
     let said = talk.ask(r#"{"id":1,"state":{}}"#);
     assert!(said.starts_with(r#"{"id":1,"error":{"name":"Expired","#), "{said}");
-    talk.check(r#""batch":{"operations":[["new"]]}"#, r#""ok":{"commit":2,"nodes":[4]}"#);
+    talk.check(
+        r#""batch":{"operations":[["new"]]}"#,
+        r#""ok":{"commit":2,"nodes":[4]}"#,
+    );
     talk.check(r#""pin":{}"#, r#""ok":{"commit":2,"next":5}"#);
     talk.check(r#""unpin":{}"#, r#""ok":{}"#);
 }
@@ -237,9 +321,19 @@ fn the_journal_and_the_state() {
     let (_folder, server) = start(&[]);
     let mut talk = server.talk();
     three(&mut talk);
-    talk.check(r#""batch":{"operations":[["remove",3],["new"],["unset",2,"size"]]}"#, r#""ok":{"commit":2,"nodes":[4]}"#);
+    talk.check(
+        r#""batch":{"operations":[["remove",3],["new"],["unset",2,"size"]]}"#,
+        r#""ok":{"commit":2,"nodes":[4]}"#,
+    );
     let pass: String = talk.ask(r#"{"id":1,"hello":{}}"#);
-    let pass = pass.split("\"pass\":").nth(1).unwrap().split(',').next().unwrap().to_owned();
+    let pass = pass
+        .split("\"pass\":")
+        .nth(1)
+        .unwrap()
+        .split(',')
+        .next()
+        .unwrap()
+        .to_owned();
     talk.check(
         r#""journal":{"from":1}"#,
         &format!(
@@ -251,5 +345,8 @@ fn the_journal_and_the_state() {
     assert!(said.ends_with(r#""more":1}}"#), "{said}");
     talk.check(r#""pin":{}"#, r#""ok":{"commit":2,"next":5}"#);
     let said = talk.ask(r#"{"id":1,"state":{}}"#);
-    assert!(said.starts_with(r#"{"id":1,"ok":{"commit":2,"next":5,"batches":[["#), "{said}");
+    assert!(
+        said.starts_with(r#"{"id":1,"ok":{"commit":2,"next":5,"batches":[["#),
+        "{said}"
+    );
 }

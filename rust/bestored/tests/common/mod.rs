@@ -99,6 +99,16 @@ impl Server {
         Talk::new(UnixStream::connect(&self.socket).unwrap())
     }
 
+    /// Kills the server while others use it.
+    pub fn kill_only(&self) {
+        let number = self.child.id().to_string();
+        assert!(Command::new("kill")
+            .args(["-s", "KILL", &number])
+            .status()
+            .unwrap()
+            .success());
+    }
+
     pub fn kill(&mut self) {
         let _ = self.child.kill();
         let _ = self.child.wait();
@@ -107,7 +117,11 @@ impl Server {
     /// Sends a signal, and waits for the end.
     pub fn end_by(mut self, signal: &str) -> ExitStatus {
         let number = self.child.id().to_string();
-        assert!(Command::new("kill").args(["-s", signal, &number]).status().unwrap().success());
+        assert!(Command::new("kill")
+            .args(["-s", signal, &number])
+            .status()
+            .unwrap()
+            .success());
         wait_until("the server ends", || self.child.try_wait().unwrap().is_some());
         self.child.wait().unwrap()
     }
