@@ -18,7 +18,7 @@ const MEMORY: u64 = 150 << 10;
 
 /// A client that does all right, and checks each answer. Returns how many requests it made.
 fn good(server: &Server, number: u64, until: Instant) -> u64 {
-    let mut client = server.client();
+    let mut client = server.patient_client();
     let name = format!("client{number}");
     client.apply(Batch::new().make_index(&name, Kind::Int64)).unwrap();
     let mut own = Vec::new();
@@ -115,6 +115,7 @@ fn bad_clients_disturb_nobody() {
     println!("{} requests, {} MiB", requests.load(Ordering::Relaxed), memory >> 10);
     assert!(memory < MEMORY, "{memory} KiB");
     common::wait_until("the clients are gone", || {
-        server.client().status().unwrap().clients == 1
+        let status = server.client().status();
+        status.map_or(false, |status| status.clients == 1)
     });
 }

@@ -66,7 +66,7 @@ fn no_answered_write_is_lost_and_none_is_made_twice() {
         .ok()
         .and_then(|text| text.parse().ok())
         .unwrap_or(KILLS);
-    let folder = Folder::new();
+    let folder = Folder::in_memory();
     let keep = folder.join("file");
     let options = ["--keep", keep.to_str().unwrap(), "--pages", "16384"];
     let known: [Known; WRITERS] = Default::default();

@@ -135,20 +135,22 @@ fn another_user_cant_connect() {
     }
     let folder = Folder::new();
     let server = Server::start(&folder, &[]);
-    let connect = format!(
-        "import socket; s = socket.socket(socket.AF_UNIX); s.connect({:?}); s.settimeout(9); print(s.recv(999))",
-        server.socket().to_str().unwrap()
-    );
+    let connect = r#"$s = IO::Socket::UNIX->new(Peer => $ARGV[0]) or die "$!\n"; print scalar <$s>"#;
     let as_nobody = || {
         let nobody = [
             "--reuid=65534",
             "--regid=65534",
             "--clear-groups",
-            "python3",
-            "-c",
-            &connect,
+            "perl",
+            "-MIO::Socket::UNIX",
+            "-e",
+            connect,
         ];
-        let output = Command::new("setpriv").args(nobody).output().unwrap();
+        let output = Command::new("setpriv")
+            .args(nobody)
+            .arg(server.socket())
+            .output()
+            .unwrap();
         String::from_utf8(output.stdout).unwrap() + &String::from_utf8(output.stderr).unwrap()
     };
     assert!(as_nobody().contains("Permission denied"), "{}", as_nobody());
@@ -168,6 +170,7 @@ fn systemd_passes_the_socket() {
     }
     let folder = Folder::new();
     let socket = folder.join("socket");
+    let library_path = std::env::var_os("LD_LIBRARY_PATH").unwrap_or_default();
     let mut server = Command::new("systemd-socket-activate")
         .arg("-l")
         .arg(&socket)
@@ -176,7 +179,6 @@ fn systemd_passes_the_socket() {
             "LD_LIBRARY_PATH",
             std::env::var_os("LD_LIBRARY_PATH").unwrap_or_default(),
         )
-        .stderr(Stdio::null())
         .spawn()
         .unwrap();
     wait_until("the socket is there", || UnixStream::connect(&socket).is_ok());
@@ -215,7 +217,7 @@ fn a_client_without_a_pass_is_told_so() {
 
 #[test]
 fn what_was_sent_before_the_end_is_answered() {
-    let folder = Folder::new();
+    let folder = Folder::in_memory();
     let keep = folder.join("file");
     let options = ["--keep", keep.to_str().unwrap()];
     let server = Server::start(&folder, &options);

@@ -21,9 +21,21 @@ pub struct Folder(PathBuf);
 
 impl Folder {
     pub fn new() -> Self {
+        Self::new_in(&std::env::temp_dir())
+    }
+
+    /// A folder in memory, if there is such a place. What is in it outlives a process that is killed.
+    pub fn in_memory() -> Self {
+        match Path::new("/dev/shm") {
+            memory if memory.is_dir() => Self::new_in(memory),
+            _ => Self::new(),
+        }
+    }
+
+    fn new_in(parent: &Path) -> Self {
         static LAST: AtomicU32 = AtomicU32::new(0);
         let number = LAST.fetch_add(1, Ordering::Relaxed);
-        let path = std::env::temp_dir().join(format!("bestored-{}-{number}", std::process::id()));
+        let path = parent.join(format!("bestored-{}-{number}", std::process::id()));
         DirBuilder::new().mode(0o700).create(&path).unwrap();
         Self(path)
     }
@@ -93,6 +105,19 @@ impl Server {
 
     pub fn client(&self) -> Client {
         Client::connect(&self.socket).unwrap()
+    }
+
+    /// A client that tries again while there is no pass.
+    pub fn patient_client(&self) -> Client {
+        let mut client = self.client();
+        wait_until("there is a pass", || match client.hello() {
+            Ok(_) => true,
+            Err(_) => {
+                client = self.client();
+                false
+            }
+        });
+        client
     }
 
     pub fn talk(&self) -> Talk {
