@@ -36,9 +36,9 @@ run() {
         all+=("$1")
         shift
     done
-    if ! timeout -k 10 300 cargo "${all[@]}" "${options[@]}" "$@" >"$work/said" 2>&1; then
+    if ! timeout -k 10 600 cargo "${all[@]}" "${options[@]}" "$@" >"$work/said" 2>&1; then
         cat "$work/said" >&2
-        echo "$what: failed, or not at its end after 300 seconds" >&2
+        echo "$what: failed, or not at its end after 600 seconds" >&2
         exit 1
     fi
     local passed
@@ -57,6 +57,10 @@ run "Rust, without features" test --workspace --lib --tests
 for example in first mailbox; do
     run "Rust, example $example" run -q -p bestore --example $example
 done
+for expected in "run 1" "run 2"; do
+    run "Rust, example kept" run -q -p bestore --features saved --example kept -- "$work/kept.bestore"
+    grep -qx "$expected" "$work/said" || { echo "Rust, example kept: failed, it doesn't say $expected" >&2; exit 1; }
+done
 if cargo clippy --version >/dev/null 2>&1; then
     run "Rust, clippy" clippy --workspace --all-targets --features saved -- -D warnings
 else
@@ -69,6 +73,27 @@ else
 fi
 RUSTDOCFLAGS="-D warnings" run "Rust, documentation" doc --workspace --no-deps --features saved
 
+# How the library is found: by pkg-config, in an archive, and not at all.
+found="$CARGO_TARGET_DIR/found"
+if command -v pkg-config >/dev/null; then
+    version=$(sed -n 's/^version = "\(.*\)"$/\1/p' bestore-sys/Cargo.toml)
+    printf 'Name: bestore\nDescription: bestore\nVersion: %s\nLibs: -L%s -lbestore\n' "$version" "$BESTORE_LIB_DIR" \
+        >"$work/bestore.pc"
+    CARGO_TARGET_DIR=$found PKG_CONFIG_PATH=$work BESTORE_LIB_DIR="" run "Rust, pkg-config" test -p bestore-sys
+else
+    echo "Rust, pkg-config: skipped, there is no pkg-config"
+fi
+if [ -e "$BESTORE_LIB_DIR/libbestore.a" ]; then
+    CARGO_TARGET_DIR=$found BESTORE_STATIC=1 run "Rust, archive" test -p bestore-sys
+fi
+if CARGO_TARGET_DIR=$found BESTORE_LIB_DIR=$work cargo check -q -p bestore-sys "${options[@]}" >"$work/said" 2>&1 ||
+    ! grep -q "neither libbestore.so nor libbestore.a is in $work, the folder that BESTORE_LIB_DIR names" "$work/said"; then
+    cat "$work/said" >&2
+    echo "Rust, no library: failed, the build says nothing of it" >&2
+    exit 1
+fi
+echo "Rust, no library: ok"
+
 # A nightly compiler has AddressSanitizer, which looks at the library's memory too, as it takes over malloc. ThreadSanitizer
 # would need the standard library and libbestore built with it. Debian's ahash, which rusqlite needs, is too old for it.
 host=$(rustc -vV | sed -n 's/^host: //p')
@@ -79,7 +104,7 @@ else
     echo "Rust, AddressSanitizer: skipped, there is no nightly toolchain"
 fi
 if command -v valgrind >/dev/null; then
-    runner="valgrind -q --fair-sched=try --leak-check=full --errors-for-leak-kinds=definite --error-exitcode=9"
+    runner="valgrind -q --fair-sched=try --leak-check=full --show-leak-kinds=definite --errors-for-leak-kinds=definite --error-exitcode=9"
     host=${host//-/_}
     export "CARGO_TARGET_${host^^}_RUNNER=$runner"
     run "Rust, valgrind" test -p bestore --test reading --test writing --test forked

@@ -10,7 +10,7 @@ fn main() {
     if env::var_os("DOCS_RS").is_some() {
         return;
     }
-    match env::var_os("BESTORE_LIB_DIR") {
+    match env::var_os("BESTORE_LIB_DIR").filter(|folder| !folder.is_empty()) {
         Some(folder) => link_from(&PathBuf::from(folder)),
         None => link_by_pkg_config(),
     }

@@ -111,14 +111,14 @@ impl<'a> Change<'a> {
         Ok(self.indices.get_or_insert_with(BTreeMap::new))
     }
 
-    /// Runs the closure on one snapshot after the other, until `apply` writes its operations on the one that it has read.
-    pub(crate) fn run<T>(
-        pass: &mut Pass,
-        closure: &mut impl FnMut(&mut Change<'_>) -> Result<T>,
-        mut apply: impl FnMut(&Pass, u64, &Batch) -> Result<()>,
-    ) -> Result<T> {
+    /// Runs the closure on one snapshot after the other, until its operations are written on the one that it has read.
+    pub(crate) fn run<T>(pass: &mut Pass, closure: &mut impl FnMut(&mut Change<'_>) -> Result<T>) -> Result<T> {
         let mut stand_back = StandBack::new();
-        let mut left = pass.retry().conflict;
+        let mut left = if pass.held().is_some() {
+            0
+        } else {
+            pass.retry().conflict
+        };
         loop {
             let snapshot = pass.pin()?;
             let mut change = Change::new(&snapshot)?;
@@ -127,8 +127,12 @@ impl<'a> Change<'a> {
             if batch.is_empty() {
                 return Ok(value);
             }
-            match apply(snapshot.pass(), snapshot.number(), &batch) {
-                Ok(()) => return Ok(value),
+            match snapshot.pass().begin_write(Some(snapshot.number()), &batch) {
+                Ok((_, number)) => {
+                    drop(snapshot);
+                    pass.end_write(number)?;
+                    return Ok(value);
+                }
                 Err(Error::Conflict { .. }) if left > 0 => left -= 1,
                 Err(error) => return Err(error),
             }

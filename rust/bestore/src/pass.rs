@@ -100,13 +100,17 @@ pub struct Oldest {
 pub struct Pass {
     raw: RawPass,
     retry: Retry,
+    held: Option<u64>,
     keeper: Option<Arc<dyn Keeper>>,
 }
 
 /// What keeps the writes of a store elsewhere too.
 pub(crate) trait Keeper: Send + Sync + fmt::Debug {
-    /// Makes a write of the batch by the pass with this number, and returns when it is kept. No two writes are made at once.
-    fn keep(&self, pass: u64, batch: &Batch, write: &mut dyn FnMut() -> Result<Written>) -> Result<Written>;
+    /// Makes a write of the batch by the pass with this number, while no other write is made. Returns its number for `wait`.
+    fn keep(&self, pass: u64, batch: &Batch, write: &mut dyn FnMut() -> Result<Written>) -> Result<(Written, u64)>;
+
+    /// Returns when the write is kept.
+    fn wait(&self, number: u64) -> Result<()>;
 }
 
 impl Pass {
@@ -114,6 +118,7 @@ impl Pass {
         Self {
             raw,
             retry: Retry::default(),
+            held: None,
             keeper: None,
         }
     }
@@ -155,6 +160,44 @@ impl Pass {
         Snapshot::pin(self)
     }
 
+    /// Pins the current snapshot, and holds it until [`release`](Self::release): each [`pin`](Self::pin) in between returns it.
+    /// So a session can keep one without a borrow. One that is held already stays. Returns the number of the snapshot.
+    ///
+    /// ```
+    /// # use bestore::{Limits, Store};
+    /// # let mut pass = Store::open(Limits::default())?.pass()?;
+    /// let number = pass.hold()?;
+    /// pass.new_node()?;
+    /// assert_eq!(pass.pin()?.number(), number);
+    /// pass.release();
+    /// assert_eq!(pass.pin()?.number(), number + 1);
+    /// # Ok::<(), bestore::Error>(())
+    /// ```
+    ///
+    /// # Errors
+    /// [`Error::Forked`].
+    pub fn hold(&mut self) -> Result<u64> {
+        let snapshot = self.pin()?;
+        let number = snapshot.number();
+        std::mem::forget(snapshot);
+        self.held = Some(number);
+        Ok(number)
+    }
+
+    /// Unpins the snapshot that is held, if one is.
+    pub fn release(&mut self) {
+        if self.held.take().is_some() {
+            // Fails in a forked child alone, where nothing is pinned.
+            let _ = self.raw.unpin();
+        }
+    }
+
+    /// The number of the snapshot that is held.
+    #[must_use]
+    pub fn held(&self) -> Option<u64> {
+        self.held
+    }
+
     /// Writes all operations of the batch or none.
     ///
     /// # Errors
@@ -175,11 +218,19 @@ impl Pass {
     }
 
     fn write(&self, expected: Option<u64>, batch: &Batch) -> Result<Written> {
+        let (written, number) = self.begin_write(expected, batch)?;
+        self.end_write(number)?;
+        Ok(written)
+    }
+
+    /// Writes in memory. Returns the number for `end_write`.
+    pub(crate) fn begin_write(&self, expected: Option<u64>, batch: &Batch) -> Result<(Written, u64)> {
         let mut full = 0;
         loop {
+            let mut write = || self.write_now(expected, batch);
             let written = match &self.keeper {
-                None => self.write_now(expected, batch),
-                Some(keeper) => keeper.keep(self.number()?, batch, &mut || self.write_now(expected, batch)),
+                None => write().map(|written| (written, 0)),
+                Some(keeper) => keeper.keep(self.number()?, batch, &mut write),
             };
             match written {
                 Err(Error::Full { .. }) if full < self.retry.full && self.is_held_by_another()? => {
@@ -189,6 +240,11 @@ impl Pass {
                 written => return written,
             }
         }
+    }
+
+    /// Waits until the write is kept, if the writes of this pass are.
+    pub(crate) fn end_write(&self, number: u64) -> Result<()> {
+        self.keeper.as_ref().map_or(Ok(()), |keeper| keeper.wait(number))
     }
 
     fn write_now(&self, expected: Option<u64>, batch: &Batch) -> Result<Written> {
@@ -238,6 +294,8 @@ impl Pass {
     /// # Ok::<(), bestore::Error>(())
     /// ```
     ///
+    /// While a snapshot is [held](Self::hold), the closure reads that one and runs once.
+    ///
     /// A closure that collects no operation writes nothing. One that returns an error stops the change, and nothing is written;
     /// [`Error::other`] makes one of any error.
     ///
@@ -245,9 +303,7 @@ impl Pass {
     /// Those of the closure; [`Error::Conflict`] after as many tries as [`Retry::conflict`] says; otherwise as
     /// [`apply`](Self::apply).
     pub fn change<T>(&mut self, mut change: impl FnMut(&mut Change<'_>) -> Result<T>) -> Result<T> {
-        Change::run(self, &mut change, |pass, expected, batch| {
-            pass.apply_if(expected, batch).map(drop)
-        })
+        Change::run(self, &mut change)
     }
 
     /// Makes a node, and returns its number. As [`apply`](Self::apply), like the five calls after it.

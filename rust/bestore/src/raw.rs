@@ -9,6 +9,7 @@
 #![deny(unsafe_op_in_unsafe_fn)]
 
 use bestore_sys as sys;
+use std::cell::Cell;
 use std::marker::PhantomData;
 use std::ptr::NonNull;
 use std::sync::atomic::{AtomicU64, Ordering};
@@ -210,22 +211,45 @@ unsafe fn apply(pass: *mut bes_pass, expected: Option<u64>, list: &List, made: &
     }
 }
 
+/// How many nodes there is room for at the first query.
+const NODES: usize = 256;
+
+/// The nodes of a query, with room for as many as the last one had and some more: so few queries are asked twice.
+fn found(room: &Cell<usize>, call: impl FnMut(*mut u64, usize, &mut u64) -> u32) -> Answer<Vec<u64>> {
+    let mut nodes = whole(room.get(), call)?;
+    room.set((nodes.len() + nodes.len() / 4).max(NODES));
+    if nodes.capacity() > 2 * nodes.len() + NODES {
+        nodes.shrink_to_fit();
+    }
+    Ok(nodes)
+}
+
 /// A pass of a store.
 #[derive(Debug)]
-pub(crate) struct RawPass(Handle<bes_pass>);
+pub(crate) struct RawPass {
+    handle: Handle<bes_pass>,
+    room: Cell<usize>,
+}
 
 impl RawPass {
+    fn new() -> Self {
+        Self {
+            handle: Handle::new(),
+            room: Cell::new(NODES),
+        }
+    }
+
     pub(crate) fn open(pages: u64, passes: u64, commits: u64) -> Answer<Self> {
-        let pass = Self(Handle::new());
+        let pass = Self::new();
         // SAFETY: as the module says.
-        let code = unsafe { sys::bes_open(pages, passes, commits, pass.0.get()?) };
+        let code = unsafe { sys::bes_open(pages, passes, commits, pass.handle.get()?) };
         check(code, 0).map(|()| pass)
     }
 
     pub(crate) fn another(&self) -> Answer<Self> {
-        let other = Self(Handle::new());
+        let other = Self::new();
         // SAFETY: as the module says; the handles are two.
-        let code = unsafe { sys::bes_another(self.0.get()?, other.0.get()?) };
+        let code = unsafe { sys::bes_another(self.handle.get()?, other.handle.get()?) };
         check(code, 0).map(|()| other)
     }
 
@@ -233,7 +257,7 @@ impl RawPass {
     fn number_by(&self, call: unsafe extern "C" fn(*mut bes_pass, *mut u64) -> u32) -> Answer<u64> {
         let mut number = 0;
         // SAFETY: as the module says, and `number` outlives the call.
-        let code = unsafe { call(self.0.get()?, &mut number) };
+        let code = unsafe { call(self.handle.get()?, &mut number) };
         check(code, number).map(|()| number)
     }
 
@@ -255,28 +279,28 @@ impl RawPass {
 
     pub(crate) fn unpin(&self) -> Answer<()> {
         // SAFETY: as the module says.
-        check(unsafe { sys::bes_unpin(self.0.get()?) }, 0)
+        check(unsafe { sys::bes_unpin(self.handle.get()?) }, 0)
     }
 
     /// Writes the list, on a journal of the expected length if one is given. Returns the commit number.
     pub(crate) fn apply(&self, expected: Option<u64>, list: &List, made: &mut [u64]) -> Answer<u64> {
         let mut number = 0;
         // SAFETY: as the module says.
-        let code = unsafe { apply(self.0.get()?, expected, list, made, &mut number) };
+        let code = unsafe { apply(self.handle.get()?, expected, list, made, &mut number) };
         check(code, number).map(|()| number)
     }
 
     pub(crate) fn query(&self, text: &str) -> Answer<Vec<u64>> {
-        let pass = self.0.get()?;
-        whole(256, |nodes, room, count| {
+        let pass = self.handle.get()?;
+        found(&self.room, |nodes, room, count| {
             // SAFETY: as the module says.
             unsafe { sys::bes_query(pass, text.as_ptr(), text.len(), nodes, room, count) }
         })
     }
 
     pub(crate) fn query_prepared(&self, prepared: &RawPrepared) -> Answer<Vec<u64>> {
-        let (pass, prepared) = (self.0.get()?, prepared.0.get()?);
-        whole(256, |nodes, room, count| {
+        let (pass, prepared) = (self.handle.get()?, prepared.0.get()?);
+        found(&self.room, |nodes, room, count| {
             // SAFETY: as the module says.
             unsafe { sys::bes_query_prepared(pass, prepared, nodes, room, count) }
         })
@@ -287,7 +311,10 @@ impl RawPass {
         let prepared = prepared.0.get()?;
         let mut updates = sys::bes_updates::default();
         // SAFETY: as the module says.
-        check(unsafe { sys::bes_refresh(self.0.get()?, prepared, &mut updates) }, 0)?;
+        check(
+            unsafe { sys::bes_refresh(self.handle.get()?, prepared, &mut updates) },
+            0,
+        )?;
         let rooms = (updates.created as usize, updates.removed as usize);
         let mut created = Vec::with_capacity(rooms.0);
         let mut removed = Vec::with_capacity(rooms.1);
@@ -302,7 +329,7 @@ impl RawPass {
     }
 
     pub(crate) fn explain(&self, text: &str) -> Answer<Vec<u8>> {
-        let pass = self.0.get()?;
+        let pass = self.handle.get()?;
         whole(256, |bytes, room, count| {
             // SAFETY: as the module says.
             unsafe { sys::bes_explain(pass, text.as_ptr(), text.len(), bytes, room, count) }
@@ -315,7 +342,7 @@ impl RawPass {
         let mut count = 0;
         // SAFETY: as the module says; the count is at most the room.
         unsafe {
-            let code = sys::bes_nodes(self.0.get()?, from, nodes.as_mut_ptr(), room, &mut count);
+            let code = sys::bes_nodes(self.handle.get()?, from, nodes.as_mut_ptr(), room, &mut count);
             check(code, count)?;
             nodes.set_len(room.min(count as usize));
         }
@@ -328,7 +355,7 @@ impl RawPass {
         // SAFETY: as the module says.
         let code = unsafe {
             sys::bes_get(
-                self.0.get()?,
+                self.handle.get()?,
                 node,
                 name.as_ptr(),
                 name.len(),
@@ -341,7 +368,7 @@ impl RawPass {
     }
 
     pub(crate) fn attributes(&self, node: u64) -> Answer<List> {
-        let pass = self.0.get()?;
+        let pass = self.handle.get()?;
         listed((16, 1024), |counts, operations, room, bytes, bytes_room| {
             // SAFETY: as the module says.
             let code = unsafe { sys::bes_attributes(pass, node, counts, operations, room, bytes, bytes_room) };
@@ -350,7 +377,7 @@ impl RawPass {
     }
 
     pub(crate) fn indices(&self) -> Answer<List> {
-        let pass = self.0.get()?;
+        let pass = self.handle.get()?;
         listed((32, 32 * 63), |counts, operations, room, bytes, bytes_room| {
             // SAFETY: as the module says.
             let code = unsafe { sys::bes_indices(pass, counts, operations, room, bytes, bytes_room) };
@@ -360,7 +387,7 @@ impl RawPass {
 
     /// The next list of the operations that make the snapshot again.
     pub(crate) fn state(&self, place: &RawPlace) -> Answer<List> {
-        let (pass, place) = (self.0.get()?, place.0.get()?);
+        let (pass, place) = (self.handle.get()?, place.0.get()?);
         listed((OPERATIONS, BYTES), |counts, operations, room, bytes, bytes_room| {
             // SAFETY: as the module says.
             let code = unsafe { sys::bes_state(pass, place, counts, operations, room, bytes, bytes_room) };
@@ -369,7 +396,7 @@ impl RawPass {
     }
 
     pub(crate) fn journal(&self) -> Answer<Vec<u8>> {
-        let pass = self.0.get()?;
+        let pass = self.handle.get()?;
         whole(1 << 16, |bytes, room, count| {
             // SAFETY: as the module says.
             unsafe { sys::bes_journal(pass, bytes, room, count) }
@@ -378,7 +405,7 @@ impl RawPass {
 
     /// The entry with this index and the pass that wrote it. It has no operations if the journal ends before.
     pub(crate) fn entry(&self, from: u64) -> Answer<(u64, List)> {
-        let pass = self.0.get()?;
+        let pass = self.handle.get()?;
         let (mut by, mut number) = (0, 0);
         let list = listed((OPERATIONS, BYTES), |counts, operations, room, bytes, bytes_room| {
             // SAFETY: as the module says.
@@ -404,7 +431,7 @@ impl RawPass {
         let mut usage = sys::bes_usage::default();
         let mut number = 0;
         // SAFETY: as the module says.
-        let code = unsafe { sys::bes_status(self.0.get()?, &mut usage, &mut number) };
+        let code = unsafe { sys::bes_status(self.handle.get()?, &mut usage, &mut number) };
         check(code, number).map(|()| usage)
     }
 }

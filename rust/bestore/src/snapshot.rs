@@ -15,6 +15,9 @@ pub struct Snapshot<'a> {
 
 impl<'a> Snapshot<'a> {
     pub(crate) fn pin(pass: &'a mut Pass) -> Result<Self> {
+        if let Some(number) = pass.held() {
+            return Ok(Self { pass, number });
+        }
         let number = match pass.raw().pin() {
             // The last snapshot was forgotten, since nobody else can have the pass.
             Err(refused) if refused.code == sys::BES_PINNED => {
@@ -180,8 +183,10 @@ impl<'a> Snapshot<'a> {
 
 impl Drop for Snapshot<'_> {
     fn drop(&mut self) {
-        // Fails in a forked child alone, where nothing is pinned.
-        let _ = self.pass.raw().unpin();
+        if self.pass.held().is_none() {
+            // Fails in a forked child alone, where nothing is pinned.
+            let _ = self.pass.raw().unpin();
+        }
     }
 }
 

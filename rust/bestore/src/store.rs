@@ -65,9 +65,14 @@ impl Store {
         Ok(Pass::new(self.own()?.raw().another()?))
     }
 
+    /// [`Error::Forked`] in a forked child of the process that opened the store.
+    pub(crate) fn check(&self) -> Result<()> {
+        Ok(self.birthplace.check()?)
+    }
+
     /// The pass of the store itself, from which the others are made.
     pub(crate) fn own(&self) -> Result<MutexGuard<'_, Pass>> {
-        self.birthplace.check()?;
+        self.check()?;
         Ok(self.own.lock().unwrap_or_else(PoisonError::into_inner))
     }
 }

@@ -30,6 +30,32 @@ fn a_snapshot_that_was_forgotten_goes_at_the_next_pin() {
 }
 
 #[test]
+fn a_snapshot_is_held_until_it_is_released() {
+    let store = store();
+    let (mut pass, other) = (store.pass().unwrap(), store.pass().unwrap());
+    let number = pass.hold().unwrap();
+    other.new_node().unwrap();
+    assert_eq!(pass.hold().unwrap(), number);
+    assert_eq!((pass.held(), pass.pin().unwrap().number()), (Some(number), number));
+    let mut runs = 0;
+    let refused = pass.change(|change| {
+        runs += 1;
+        change.new_node();
+        Ok(())
+    });
+    assert!(matches!(refused, Err(Error::Conflict { .. })));
+    assert_eq!(runs, 1);
+    assert_eq!(other.status().unwrap().oldest.unwrap().snapshot, number);
+    pass.release();
+    pass.release();
+    assert_eq!(other.status().unwrap().oldest, None);
+    assert_eq!((pass.held(), pass.pin().unwrap().number()), (None, number + 1));
+    pass.hold().unwrap();
+    drop(pass);
+    assert_eq!(other.status().unwrap().oldest, None);
+}
+
+#[test]
 fn every_kind_of_value_is_read_as_it_was_written() {
     let mut pass = store().pass().unwrap();
     let node = pass.new_node().unwrap();
@@ -88,6 +114,8 @@ fn more_nodes_than_are_read_at_a_time() {
     }
     let snapshot = pass.pin().unwrap();
     let all: Vec<u64> = (1..=1600).collect();
+    assert_eq!(snapshot.query("n==1").unwrap(), all);
+    assert_eq!(snapshot.query("n==2").unwrap(), []);
     assert_eq!(snapshot.query("n==1").unwrap(), all);
     let nodes: Result<Vec<u64>, Error> = snapshot.nodes().collect();
     assert_eq!(nodes.unwrap(), all);

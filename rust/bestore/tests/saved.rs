@@ -2,7 +2,7 @@
 #![cfg(feature = "saved")]
 
 use bestore::saved::{self, Error as SavedError, Options, Place, Saved};
-use bestore::{Error, Kind, Limits, Live, Pass, Value};
+use bestore::{Batch, Error, Kind, Limits, Live, Pass, Value};
 use rusqlite::Connection;
 use std::collections::BTreeMap;
 use std::io::{BufRead, BufReader, Write};
@@ -16,7 +16,22 @@ struct Folder(PathBuf);
 
 impl Folder {
     fn new(name: &str) -> Self {
-        let path = Path::new(env!("CARGO_TARGET_TMPDIR")).join(name);
+        Self::within(Path::new(env!("CARGO_TARGET_TMPDIR")), name)
+    }
+
+    /// A folder in memory if there may be one, for a test that opens many files.
+    fn in_memory(name: &str) -> Self {
+        let memory = Path::new("/dev/shm");
+        let name = format!("bestore-{}-{name}", std::process::id());
+        if std::fs::create_dir(memory.join(&name)).is_ok() {
+            Self::within(memory, &name)
+        } else {
+            Self::new(&name)
+        }
+    }
+
+    fn within(parent: &Path, name: &str) -> Self {
+        let path = parent.join(name);
         let _ = std::fs::remove_dir_all(&path);
         std::fs::create_dir_all(&path).unwrap();
         Self(path)
@@ -112,7 +127,70 @@ fn writers_on_several_passes_share_the_file() {
     assert_eq!(sizes(&mut saved.pass().unwrap()).len(), 100);
 }
 
-/// Writers that wait until they are saved hold their snapshots, for which pages are kept.
+/// The next number of a sequence that looks random.
+fn next_random(state: &mut u64, below: u64) -> u64 {
+    *state ^= *state << 13;
+    *state ^= *state >> 7;
+    *state ^= *state << 17;
+    *state % below
+}
+
+/// Any of the six operations, of which the store refuses some.
+fn random_batch(random: &mut u64) -> Batch {
+    let mut batch = Batch::new();
+    for _ in 0..=next_random(random, 3) {
+        let node = 1 + next_random(random, 20);
+        let name = ["a", "b", "c"][next_random(random, 3) as usize];
+        match next_random(random, 12) {
+            0..=3 => batch.new_node(),
+            4 => batch.remove_node(node),
+            5..=7 => batch.set(node, name, next_random(random, 9) as i64),
+            8 => batch.set(node, name, "text"),
+            9 => batch.unset(node, name),
+            10 => batch.make_index(name, Kind::Int64),
+            _ => batch.remove_index(name),
+        };
+    }
+    batch
+}
+
+/// All that a snapshot has, with what its indices hold.
+fn shown(pass: &mut Pass) -> String {
+    let snapshot = pass.pin().unwrap();
+    let mut all = format!("next {}", snapshot.next_node().unwrap());
+    for node in snapshot.nodes() {
+        let node = node.unwrap();
+        all += &format!("\n{node} {:?}", snapshot.attributes(node).unwrap());
+    }
+    for (name, kind) in snapshot.indices().unwrap() {
+        all += &format!("\n{name} {kind} {:?}", snapshot.query(&format!("{name}>=0")).unwrap());
+    }
+    all
+}
+
+#[test]
+fn any_store_is_the_same_when_it_is_opened_again() {
+    let folder = Folder::in_memory("random");
+    let mut random = 0x2545_f491_4f6c_dd1d;
+    let (mut expected, mut accepted) = (None, 0);
+    for round in 0..12 {
+        let saved = saved::open(folder.file()).unwrap();
+        let mut pass = saved.pass().unwrap();
+        let opened = shown(&mut pass);
+        assert_eq!(expected.unwrap_or_else(|| opened.clone()), opened, "round {round}");
+        for count in 0..60 {
+            accepted += u32::from(pass.apply(&random_batch(&mut random)).is_ok());
+            if round % 3 == 1 && count == 30 {
+                saved.compact().unwrap();
+            }
+        }
+        expected = Some(shown(&mut pass));
+        saved.close().unwrap();
+    }
+    assert!(accepted > 200, "{accepted}");
+}
+
+/// A writer that waits for the file keeps no pages.
 #[test]
 fn writers_share_a_store_that_is_almost_full() {
     let folder = Folder::new("almost-full");
@@ -173,7 +251,7 @@ fn a_closed_file_takes_no_writes_and_is_free() {
 fn writes_are_saved_at_the_latest_when_the_file_is_closed() {
     let folder = Folder::new("every");
     let mut options = Options::new();
-    options.every(Duration::from_secs(3600));
+    options.every(Duration::MAX);
     let saved = options.open(folder.file()).unwrap();
     let pass = saved.pass().unwrap();
     pass.new_node().unwrap();
@@ -241,19 +319,26 @@ fn files_of_others_are_refused() {
 
 #[test]
 fn a_file_with_any_changed_byte_is_opened_or_refused() {
-    let folder = Folder::new("changed");
+    let folder = Folder::in_memory("changed");
     three(&folder.file());
+    let limits = Limits {
+        pages: 32,
+        ..Limits::default()
+    };
+    let is_refused = |bytes: &[u8]| {
+        std::fs::write(folder.file(), bytes).unwrap();
+        Options::new().limits(limits).open(folder.file()).is_err()
+    };
     let whole = std::fs::read(folder.file()).unwrap();
+    assert!(!is_refused(&whole));
     let mut refused = 0;
-    for at in (0..whole.len()).step_by(whole.len() / 97) {
+    for at in (0..whole.len()).step_by(whole.len() / 61) {
         let mut changed = whole.clone();
         changed[at] ^= 0x55;
-        std::fs::write(folder.file(), &changed).unwrap();
-        refused += u32::from(saved::open(folder.file()).is_err());
+        refused += u32::from(is_refused(&changed));
     }
     for length in (0..whole.len()).step_by(whole.len() / 11) {
-        std::fs::write(folder.file(), &whole[..length]).unwrap();
-        refused += u32::from(saved::open(folder.file()).is_err());
+        refused += u32::from(is_refused(&whole[..length]));
     }
     assert!(refused > 0);
 }

@@ -22,21 +22,13 @@
 //! # Ok::<(), Box<dyn std::error::Error>>(())
 //! ```
 //!
-//! # What is promised
+//! A write that has returned is in the file, also after `kill -9`. A snapshot may show a write before that. The format of
+//! the file, and all that is promised, are in `docs/KEPT.md` of the repository.
 //!
-//! - **A write that has returned is in the file**, after `kill -9` too, and after a power failure if the disk keeps what it
-//!   has confirmed. With [`Options::every`] that holds after the given time, and after [`Saved::flush`].
-//! - Writes that come together share one commit of SQLite. They are in the file in the order of the journal.
-//! - **A snapshot may show a write that isn't in the file yet.** Its call has not returned then.
-//! - **When a commit fails**, as on a full disk, each write that waits for it returns [`Error::NotSaved`](crate::Error). These
-//!   writes are in memory, and may be in the file or not. All later writes return [`Error::Stopped`](crate::Error), and reads
-//!   go on. Opening the file again gives what it has.
-//! - Opening repeats each write and compares its outcome with the kept one. A file that differs is refused, and the error names
-//!   the entry.
-//! - One process at a time has the file.
+//! When a commit fails, as on a full disk, the writes that wait for it return [`NotSaved`](crate::Error::NotSaved), and later
+//! ones [`Stopped`](crate::Error::Stopped). Reads go on.
 //!
-//! The file has the last state and the entries since. The state is written anew at opening and by [`Saved::compact`], so the
-//! file doesn't grow for ever.
+//! Opening and [`Saved::compact`] write the state anew, so the file doesn't grow for ever.
 
 mod error;
 mod file;
@@ -61,6 +53,9 @@ pub fn open(path: impl AsRef<Path>) -> Result<Saved> {
     Options::new().open(path)
 }
 
+/// The longest time for which a write waits to be saved.
+const YEAR: Duration = Duration::from_secs(365 * 24 * 3600);
+
 /// How a file is opened.
 #[derive(Clone, Debug, Default)]
 pub struct Options {
@@ -81,9 +76,9 @@ impl Options {
         self
     }
 
-    /// Saves so long after a write has returned, at the latest. What was written within that time can be lost.
+    /// Saves a write at the latest when this time has passed since it returned. A crash within that time can lose it.
     pub fn every(&mut self, time: Duration) -> &mut Self {
-        self.every = Some(time);
+        self.every = Some(time.min(YEAR));
         self
     }
 
@@ -183,12 +178,12 @@ impl Saved {
     /// # Errors
     /// The error of the commit that failed, in [`Error::Stopped`]; [`Error::Store`] in a forked child.
     pub fn flush(&self) -> Result<()> {
-        drop(self.store.own()?);
+        self.store.check()?;
         self.queue.flush(None)
     }
 
     /// Writes the current snapshot into the file, in the place of the state and of the entries that it contains. Writes go on
-    /// meanwhile, and are saved after it.
+    /// meanwhile, and are saved after it. A new pass waits until it is done.
     ///
     /// # Errors
     /// Those of [`flush`](Self::flush); [`Error::DiskFull`], [`Error::Sqlite`]: the file is as it was.
@@ -213,7 +208,7 @@ impl Saved {
     /// # Errors
     /// As [`flush`](Self::flush).
     pub fn close(mut self) -> Result<()> {
-        drop(self.store.own()?);
+        self.store.check()?;
         self.queue.close()
     }
 }

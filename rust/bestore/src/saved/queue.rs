@@ -142,7 +142,7 @@ impl Keeper for Shared {
         pass: u64,
         batch: &Batch,
         write: &mut dyn FnMut() -> crate::Result<Written>,
-    ) -> crate::Result<Written> {
+    ) -> crate::Result<(Written, u64)> {
         let mut line = lock(&self.line);
         while line.waiting_bytes > WAITING && line.failed.is_none() {
             line.is_urgent = true;
@@ -170,10 +170,14 @@ impl Keeper for Shared {
             line.due = Some(Instant::now() + self.every.unwrap_or_default());
             self.work.notify_one();
         }
-        if self.every.is_none() {
-            self.wait_for(line, number).map_err(crate::Error::NotSaved)?;
+        Ok((written, number))
+    }
+
+    fn wait(&self, number: u64) -> crate::Result<()> {
+        if self.every.is_some() {
+            return Ok(());
         }
-        Ok(written)
+        self.wait_for(lock(&self.line), number).map_err(crate::Error::NotSaved)
     }
 }
 
