@@ -1,7 +1,7 @@
 //! `addattr`, `catattr`, `listattr` and `rmattr`.
 
 use crate::command_line::{AddAttribute, ListAttributes, RemoveAttribute, ShowAttribute};
-use crate::failure::Failure;
+use crate::failure::{complain, Failure};
 use crate::kind::{kind_name, size};
 use crate::output::Output;
 use crate::server::{self, all_done, pinned, report};
@@ -16,7 +16,7 @@ use std::io::{self, Read};
 use std::os::unix::ffi::OsStringExt;
 use std::path::Path;
 
-/// The most bytes that are read as a value. The server refuses all values of more than 255 bytes.
+/// A file of this many bytes or more is no value. The server refuses values of more than 255 bytes.
 const READ: u64 = 1 << 16;
 
 /// What `addattr` does, once its command line is taken apart.
@@ -75,6 +75,9 @@ fn read_file(path: &Path) -> io::Result<Vec<u8>> {
     } else {
         File::open(path)?.take(READ).read_to_end(&mut bytes)?;
     }
+    if bytes.len() as u64 == READ {
+        return Err(io::Error::new(io::ErrorKind::InvalidData, "too long for a value"));
+    }
     Ok(bytes)
 }
 
@@ -108,10 +111,10 @@ fn warn_of_index(client: &mut Client, name: &str, value: &Value) -> Result<(), F
     match taken {
         Some(kind) if kind != value.kind() => {
             let (taken, given) = (kind_name(kind), kind_name(value.kind()));
-            eprintln!(
-                "be: warning: the index {} takes {taken} and leaves out this {given}",
-                escaped(name)
-            );
+            let name = escaped(name);
+            complain(&format!(
+                "warning: the index {name} takes {taken} and leaves out this {given}"
+            ));
         }
         _ => {}
     }
@@ -145,7 +148,7 @@ pub fn show(client: &mut Client, line: &ShowAttribute, output: &mut Output) -> R
         match value {
             Some(value) => show_value(line, node, value, output)?,
             None => {
-                report(node, &format!("there is no attribute {}", escaped(&line.name)));
+                report(node, &format!("no attribute {}", escaped(&line.name)));
                 all = false;
             }
         }
@@ -203,7 +206,7 @@ pub fn list(client: &mut Client, line: &ListAttributes, output: &mut Output) -> 
             }
             Some(attributes) => list_node(line, node, &attributes, output)?,
             None => {
-                report(node, "there is no such node");
+                report(node, "no such node");
                 all = false;
             }
         }
@@ -224,7 +227,7 @@ fn list_node(
     output.line(format!("{:->8} {:->6}  {:-<32}", "", "", "").as_bytes())?;
     for (name, value) in attributes {
         let (kind, name) = (kind_name(value.kind()), output.name(name));
-        let mut text = format!("{kind:>8} {:>6}  {name:?}", size(value)).into_bytes();
+        let mut text = format!("{kind:>8} {:>6}  \"{name}\"", size(value)).into_bytes();
         if line.long {
             text.extend_from_slice(b"  ");
             text.extend(output.value(value));
@@ -237,7 +240,7 @@ fn list_node(
         }
     }
     let total: usize = attributes.values().map(size).sum();
-    output.line(format!("\n{total} bytes in {} attributes", attributes.len()).as_bytes())
+    output.line(format!("\n{total} bytes total in attributes").as_bytes())
 }
 
 /// The bytes that the value has in BeOS: numbers are little-endian.

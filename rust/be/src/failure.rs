@@ -5,6 +5,7 @@ use crate::text::{escaped, excerpt};
 use bestore_client::wire::Refusal;
 use bestore_client::Error;
 use std::collections::BTreeMap;
+use std::io::Write as _;
 use std::path::PathBuf;
 use std::process::ExitCode;
 use std::{fmt, io};
@@ -17,7 +18,7 @@ pub enum Failure {
     /// The server refused, or the connection failed.
     Server(Error),
     /// A query was refused.
-    Query(QueryRefused),
+    Query(Box<QueryRefused>),
     /// The value isn't of this type.
     Value(&'static str),
     /// A file can't be read.
@@ -43,7 +44,7 @@ impl Failure {
         match self {
             Failure::Output(error) if error.kind() == io::ErrorKind::BrokenPipe => return ExitCode::SUCCESS,
             Failure::Reported => {}
-            _ => eprintln!("be: {self}"),
+            _ => complain(&self.to_string()),
         }
         match self {
             Failure::Value(_) => ExitCode::from(2),
@@ -102,6 +103,11 @@ impl fmt::Display for QueryRefused {
             None => Ok(()),
         }
     }
+}
+
+/// Prints on standard error. There is nothing to be done if that fails.
+pub fn complain(text: &str) {
+    let _ = writeln!(io::stderr(), "be: {text}");
 }
 
 /// The message of an error, with what goes with it.

@@ -1,7 +1,7 @@
 //! Standard output: a terminal, where what is printed is escaped, or a pipe or a file, where it is printed as it is.
 
 use crate::failure::Failure;
-use crate::text::{escaped, escaped_bytes, width};
+use crate::text::{escaped, escaped_bytes, escaped_json, width};
 use bestore::Value;
 use serde::Serialize;
 use std::borrow::Cow;
@@ -45,8 +45,11 @@ impl Output {
 
     /// Prints a line of JSON.
     pub fn json(&mut self, value: &impl Serialize) -> Result<(), Failure> {
-        serde_json::to_writer(&mut self.out, value).map_err(io::Error::from)?;
-        self.bytes(b"\n")
+        let json = serde_json::to_string(value).map_err(io::Error::from)?;
+        match self.escapes {
+            true => self.line(escaped_json(&json).as_bytes()),
+            false => self.line(json.as_bytes()),
+        }
     }
 
     /// The name as it is printed.

@@ -44,7 +44,7 @@ fn refused(client: &mut Client, line: &Line, refusal: wire::Refusal) -> Failure 
         None
     };
     let text = line.text.clone();
-    Failure::Query(QueryRefused { text, refusal, indices })
+    Failure::Query(Box::new(QueryRefused { text, refusal, indices }))
 }
 
 fn count(client: &mut Client, line: &Line, output: &mut Output) -> Result<(), Failure> {

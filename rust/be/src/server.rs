@@ -1,6 +1,6 @@
 //! The server: where it is, and what several commands ask it for.
 
-use crate::failure::{message, Failure};
+use crate::failure::{complain, message, Failure};
 use bestore::Batch;
 use bestore_client::wire::{Command, Indices, Nothing};
 use bestore_client::{Client, Error};
@@ -102,7 +102,7 @@ fn apply_one_by_one(client: &mut Client, nodes: &[u64], add: impl Fn(&mut Batch,
 
 /// Reports why something failed for a node.
 pub fn report(node: u64, why: &str) {
-    eprintln!("be: node {node}: {why}");
+    complain(&format!("node {node}: {why}"));
 }
 
 /// Runs the closure while the client keeps one snapshot.

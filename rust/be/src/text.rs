@@ -35,6 +35,18 @@ fn push_visible(shown: &mut String, character: char) {
     }
 }
 
+/// The same JSON, in which what a terminal would obey or hide is escaped. Outside texts JSON has none of it.
+pub fn escaped_json(json: &str) -> String {
+    let mut shown = String::with_capacity(json.len());
+    for character in json.chars() {
+        match character.is_control() || is_hidden(character) {
+            true => shown.push_str(&format!("\\u{:04x}", u32::from(character))),
+            false => shown.push(character),
+        }
+    }
+    shown
+}
+
 /// Whether the character has no picture of its own and changes how others look: marks of direction, ends of lines.
 fn is_hidden(character: char) -> bool {
     matches!(character, '\u{200b}'..='\u{200f}' | '\u{2028}'..='\u{202e}' | '\u{2060}'..='\u{206f}' | '\u{feff}')
@@ -115,6 +127,14 @@ mod tests {
     fn what_a_terminal_obeys_is_escaped() {
         assert_eq!(escaped("a\u{1b}[2J\n\u{9b}\u{202e}é\\"), r"a\x1b[2J\n\u{9b}\u{202e}é\\");
         assert_eq!(escaped_bytes(b"a\\\0\xff"), r"a\\\x00\xff");
+    }
+
+    #[test]
+    fn json_stays_the_same_json() {
+        assert_eq!(
+            escaped_json("{\"a\":\"\u{9b}\u{202e}é\\n\"}"),
+            r#"{"a":"\u009b\u202eé\n"}"#
+        );
     }
 
     #[test]

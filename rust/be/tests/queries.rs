@@ -222,13 +222,21 @@ fn a_terminal_gets_escapes_and_columns() {
     assert_eq!(
         lines,
         [
-            "Node  name             size",
+            "Node  name          size",
             "1     x\\x1b[2J\\n\\\\  10",
-            "2     b              20",
+            "2     b             20",
             "3     c"
         ]
     );
     assert_eq!(on_terminal(&server, "query 'name==b'").unwrap(), "2\n");
+    server.done(&["addattr", "a\u{9b}b", "\u{9b}", "3"]);
+    let listed = on_terminal(&server, "listattr -l 3").unwrap();
+    assert!(listed.contains("  \"a\\u{9b}b\"  \\u{9b}\n"), "{listed}");
+    let listed = on_terminal(&server, "listattr --json 3").unwrap();
+    assert_eq!(
+        listed,
+        "{\"node\":3,\"attributes\":{\"a\\u009bb\":\"\\u009b\",\"name\":\"c\"}}\n"
+    );
 }
 
 #[test]

@@ -94,25 +94,25 @@ fn values_that_do_not_fit_are_refused() {
 #[test]
 fn attributes_are_listed_and_removed() {
     let server = server!(Server::with_three());
-    server.done(&["addattr", "a\nb", "x\ty", "1"]);
+    server.done(&["addattr", "a\tb", "x\ty", "1"]);
     let listed = server.done(&["listattr", "-l", "1"]);
     let lines: Vec<&str> = listed.lines().collect();
     assert_eq!(lines[0], "Node: 1");
     assert_eq!(
         lines[3..6],
         [
-            "  string      3  \"a\\nb\"  x\ty",
+            "  string      3  \"a\tb\"  x\ty",
             "  string      1  \"name\"  a",
             "   int64      8  \"size\"  10"
         ]
     );
-    assert_eq!(lines.last(), Some(&"12 bytes in 3 attributes"));
+    assert_eq!(lines.last(), Some(&"12 bytes total in attributes"));
     let dumped = server.done(&["listattr", "-x", "1"]);
     assert!(dumped.contains("0000  0a 00 00 00 00 00 00 00"), "{dumped}");
     let json = server.done(&["listattr", "--json", "1", "3"]);
     assert_eq!(
         json,
-        "{\"node\":1,\"attributes\":{\"a\\nb\":\"x\\ty\",\"name\":\"a\",\"size\":10}}\n\
+        "{\"node\":1,\"attributes\":{\"a\\tb\":\"x\\ty\",\"name\":\"a\",\"size\":10}}\n\
          {\"node\":3,\"attributes\":{\"name\":\"c\"}}\n"
     );
 
@@ -121,13 +121,10 @@ fn attributes_are_listed_and_removed() {
     let said = server.be(&["catattr", "size", "1"]);
     assert_eq!(
         (said.status, said.error.as_str()),
-        (1, "be: node 1: there is no attribute size\n")
+        (1, "be: node 1: no attribute size\n")
     );
     let said = server.be(&["listattr", "99"]);
-    assert_eq!(
-        (said.status, said.error.as_str()),
-        (1, "be: node 99: there is no such node\n")
-    );
+    assert_eq!((said.status, said.error.as_str()), (1, "be: node 99: no such node\n"));
 }
 
 #[test]
@@ -278,5 +275,5 @@ fn exit_statuses_are_those_of_the_page() {
     }
     assert_eq!((none(&["--help"]).status, none(&["--version"]).status), (0, 0));
     let server = server!(Server::start());
-    refused(&server, &["rmattr", "name", "7"], "be: node 7: there is no such node\n");
+    refused(&server, &["rmattr", "name", "7"], "be: node 7: no such node\n");
 }

@@ -1,5 +1,5 @@
 //! A server of its own for each test, and the tool as a process. Not every test uses all of it.
-#![allow(dead_code)]
+#![allow(dead_code, unused_macros)]
 
 use bestore_client::Client;
 use std::ffi::OsStr;
