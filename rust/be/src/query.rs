@@ -33,9 +33,8 @@ pub fn run(client: &mut Client, line: &Line, output: &mut Output) -> Result<(), 
 
 /// Adds to an error of a query what helps to see why.
 fn refused(client: &mut Client, line: &Line, refusal: wire::Refusal) -> Failure {
-    let has_place = refusal.details.contains_key("offset");
     let lacks_index = refusal.name == "NotCovered";
-    if !has_place && !lacks_index {
+    if !lacks_index && !matches!(refusal.name.as_str(), "Syntax" | "BadPattern") {
         return Failure::Server(Error::Refused(refusal));
     }
     let indices = if lacks_index {

@@ -107,6 +107,17 @@ fn a_missing_index_is_named_with_those_that_there_are() {
     assert_eq!((said.status, said.error.lines().count()), (1, 5), "{said:?}");
 }
 
+#[test]
+fn other_errors_of_a_query_have_one_line() {
+    let server = server!(Server::with_three());
+    let columns = vec!["size"; 65].join(",");
+    let said = server.be(&["query", "-c", &columns, "name==a"]);
+    assert_eq!((said.status, said.error.lines().count()), (1, 1), "{said:?}");
+    assert_eq!(fault(&server, &vec!["name==a"; 257].join("||")).len(), 1);
+    assert_eq!(fault(&server, &format!("name=={}", "a".repeat(4_096))).len(), 1);
+    assert_eq!(fault(&server, &format!("{}name==a", "(".repeat(65))).len(), 1);
+}
+
 /// Begins a watch, and returns its process and its lines as they come.
 fn watched(server: &Server, words: &[&str]) -> (std::process::Child, Receiver<String>) {
     let mut all = vec!["query", "--watch"];

@@ -9,6 +9,7 @@ use std::os::unix::net::UnixStream;
 use std::path::{Path, PathBuf};
 use std::process::{Child, Command, Output, Stdio};
 use std::sync::atomic::{AtomicU32, Ordering};
+use std::sync::Once;
 use std::time::{Duration, Instant};
 use std::{env, fs, thread};
 
@@ -63,7 +64,8 @@ impl Server {
         let program = match server_program() {
             Some(program) => program,
             None => {
-                println!("the tools: skipped, bestored isn't built");
+                static SAID: Once = Once::new();
+                SAID.call_once(|| println!("be, {}: skipped, bestored isn't built", env!("CARGO_CRATE_NAME")));
                 return None;
             }
         };

@@ -1,0 +1,109 @@
+//! A server that sends what is no protocol, and output that can't be written.
+
+#[macro_use]
+mod common;
+
+use common::{Said, Server, BE};
+use std::fs::OpenOptions;
+use std::io::{Read, Write};
+use std::os::unix::net::UnixListener;
+use std::process::Command;
+use std::thread;
+
+/// What the tool says to a server that sends these bytes and closes the connection.
+fn told(number: usize, bytes: Vec<u8>, words: &[&str]) -> Said {
+    let path = std::env::temp_dir().join(format!("be-broken-{}-{number}", std::process::id()));
+    let listener = UnixListener::bind(&path).unwrap();
+    let server = thread::spawn(move || {
+        let (mut stream, _) = listener.accept().unwrap();
+        // The tool may have gone before all is sent.
+        let _ = stream.read(&mut [0; 4_096]);
+        let _ = stream.write_all(&bytes);
+    });
+    let mut command = Command::new(BE);
+    let said = command.arg("--socket").arg(&path).args(words).output().unwrap().into();
+    server.join().unwrap();
+    std::fs::remove_file(path).unwrap();
+    said
+}
+
+#[test]
+fn a_broken_server_is_an_error_of_one_line() {
+    let hello = r#"{"id":1,"ok":{"protocol":1,"server":"0","library":"0","run":"a","pass":1,"kept":"no","limits":
+        {"pages":8,"passes":1,"commits":1,"operations":64,"line":1048576,"watches":32}}}"#;
+    let after_hello = |line: &str| format!("{}\n{line}", hello.replace('\n', "")).into_bytes();
+    let answers = [
+        Vec::new(),
+        b"\n".to_vec(),
+        b"\xff\xfe\0\n".to_vec(),
+        b"{}\n".to_vec(),
+        b"[1]\n".to_vec(),
+        b"{\"id\":1,\"ok\":{\"protocol\":1}}\n".to_vec(),
+        b"{\"id\":99,\"ok\":{}}\n".to_vec(),
+        b"{\"id\":1,\"ok\"".to_vec(),
+        vec![b'a'; 5 << 20],
+        b"{\"id\":null,\"error\":{\"name\":\"NoPass\",\"number\":68,\"message\":\"\x7f\",\"clients\":62}}\n".to_vec(),
+        after_hello(""),
+        after_hello("{\"id\":2,\"ok\":{}}\n"),
+        after_hello("{\"id\":2,\"error\":{}}\n"),
+        after_hello("{\"id\":2,\"error\":{\"name\":\"Syntax\",\"message\":\"\",\"offset\":1e99}}\n"),
+    ];
+    for (number, bytes) in answers.into_iter().enumerate() {
+        for words in [
+            &["status"][..],
+            &["query", "a==1"],
+            &["query", "-w", "a==1"],
+            &["lsindex"],
+        ] {
+            let said = told(number, bytes.clone(), words);
+            assert_eq!(
+                (said.status, said.error.lines().count(), said.out.as_str()),
+                (1, 1, ""),
+                "{number}: {said:?}"
+            );
+            assert!(
+                said.error.starts_with("be: ") && !said.error.contains('\x7f'),
+                "{number}: {said:?}"
+            );
+        }
+    }
+}
+
+#[test]
+fn a_place_outside_the_query_is_shown_at_its_end() {
+    let hello = concat!(
+        r#"{"id":1,"ok":{"protocol":1,"server":"0","library":"0","run":"a","pass":1,"kept":"no","limits":"#,
+        r#"{"pages":8,"passes":1,"commits":1,"operations":64,"line":1048576,"watches":32}}}"#
+    );
+    let error = r#"{"id":2,"error":{"name":"Syntax","message":"wrong","offset":18446744073709551615}}"#;
+    let said = told(99, format!("{hello}\n{error}\n").into_bytes(), &["query", "-w", "a==1"]);
+    assert_eq!((said.status, said.error.as_str()), (1, "be: wrong\n  a==1\n      ^\n"));
+}
+
+#[test]
+fn output_that_cannot_be_written_is_an_error() {
+    let server = server!(Server::with_three());
+    for words in [
+        &["query", "name==*"][..],
+        &["query", "--json", "name==*"],
+        &["query", "-w", "name==*"],
+        &["status"],
+        &["catattr", "name", "1"],
+        &["listattr", "1"],
+        &["addattr", "--new", "name", "d"],
+    ] {
+        let full = OpenOptions::new().write(true).open("/dev/full").unwrap();
+        let said: Said = server.command(words).stdout(full).output().unwrap().into();
+        assert_eq!((said.status, said.error.lines().count()), (1, 1), "{words:?}: {said:?}");
+        assert!(said.error.starts_with("be: the output can't be written: "), "{said:?}");
+    }
+    let closed = |end: &str| format!("{BE} status {end}; echo $?");
+    for (end, status) in [(">&- 2>&-", "0\n"), ("nonsense 2>/dev/full", "2\n")] {
+        let mut command = Command::new("sh");
+        command
+            .args(["-c", &closed(end)])
+            .env("BESTORE_SOCKET", server.socket());
+        let said: Said = command.output().unwrap().into();
+        assert_eq!(said.out, status, "{end}");
+    }
+}
