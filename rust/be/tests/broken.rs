@@ -27,56 +27,74 @@ fn told(number: usize, bytes: Vec<u8>, words: &[&str]) -> Said {
     said
 }
 
+/// A good reply to the tool's first request.
+const HELLO: &str = concat!(
+    r#"{"id":1,"ok":{"protocol":1,"server":"0","library":"0","run":"a","pass":1,"kept":"no","limits":"#,
+    r#"{"pages":8,"passes":1,"commits":1,"operations":64,"line":1048576,"watches":32}}}"#
+);
+
+fn check(number: usize, bytes: &[u8]) {
+    for words in [
+        &["status"][..],
+        &["query", "a==1"],
+        &["query", "-w", "a==1"],
+        &["lsindex"],
+    ] {
+        let said = told(number, bytes.to_vec(), words);
+        assert_eq!((said.status, said.error.lines().count()), (1, 1), "{number}: {said:?}");
+        assert!(
+            said.out.is_empty() && said.error.starts_with("be: "),
+            "{number}: {said:?}"
+        );
+        assert!(!said.error.contains('\x7f'), "{number}: {said:?}");
+    }
+}
+
 #[test]
-fn a_broken_server_is_an_error_of_one_line() {
-    let hello = r#"{"id":1,"ok":{"protocol":1,"server":"0","library":"0","run":"a","pass":1,"kept":"no","limits":
-        {"pages":8,"passes":1,"commits":1,"operations":64,"line":1048576,"watches":32}}}"#;
-    let after_hello = |line: &str| format!("{}\n{line}", hello.replace('\n', "")).into_bytes();
-    let answers = [
-        Vec::new(),
-        b"\n".to_vec(),
-        b"\xff\xfe\0\n".to_vec(),
-        b"{}\n".to_vec(),
-        b"[1]\n".to_vec(),
-        b"{\"id\":1,\"ok\":{\"protocol\":1}}\n".to_vec(),
-        b"{\"id\":99,\"ok\":{}}\n".to_vec(),
-        b"{\"id\":1,\"ok\"".to_vec(),
-        vec![b'a'; 5 << 20],
-        b"{\"id\":null,\"error\":{\"name\":\"NoPass\",\"number\":68,\"message\":\"\x7f\",\"clients\":62}}\n".to_vec(),
-        after_hello(""),
-        after_hello("{\"id\":2,\"ok\":{}}\n"),
-        after_hello("{\"id\":2,\"error\":{}}\n"),
-        after_hello("{\"id\":2,\"error\":{\"name\":\"Syntax\",\"message\":\"\",\"offset\":1e99}}\n"),
-    ];
-    for (number, bytes) in answers.into_iter().enumerate() {
-        for words in [
-            &["status"][..],
-            &["query", "a==1"],
-            &["query", "-w", "a==1"],
-            &["lsindex"],
-        ] {
-            let said = told(number, bytes.clone(), words);
-            assert_eq!(
-                (said.status, said.error.lines().count(), said.out.as_str()),
-                (1, 1, ""),
-                "{number}: {said:?}"
-            );
-            assert!(
-                said.error.starts_with("be: ") && !said.error.contains('\x7f'),
-                "{number}: {said:?}"
-            );
-        }
+fn a_first_reply_that_is_wrong_is_an_error_of_one_line() {
+    for (number, bytes) in [
+        &b""[..],
+        b"\n",
+        b"\xff\xfe\0\n",
+        b"{}\n",
+        b"[1]\n",
+        b"{\"id\":1,\"ok\":{\"protocol\":1}}\n",
+        b"{\"id\":99,\"ok\":{}}\n",
+        b"{\"id\":1,\"ok\"",
+        &[b'a'; 5 << 20],
+        b"{\"id\":null,\"error\":{\"name\":\"NoPass\",\"number\":68,\"message\":\"\x7f\",\"clients\":62}}\n",
+    ]
+    .into_iter()
+    .enumerate()
+    {
+        check(number, bytes);
+    }
+}
+
+#[test]
+fn a_later_reply_that_is_wrong_is_an_error_of_one_line() {
+    for (number, line) in [
+        "",
+        r#"{"id":2,"ok":{}}"#,
+        r#"{"id":2,"error":{}}"#,
+        r#"{"id":2,"error":{"name":"Syntax","message":"","offset":1e99}}"#,
+        r#"{"watch":1,"commit":-1}"#,
+    ]
+    .into_iter()
+    .enumerate()
+    {
+        check(100 + number, format!("{HELLO}\n{line}\n").as_bytes());
     }
 }
 
 #[test]
 fn a_place_outside_the_query_is_shown_at_its_end() {
-    let hello = concat!(
-        r#"{"id":1,"ok":{"protocol":1,"server":"0","library":"0","run":"a","pass":1,"kept":"no","limits":"#,
-        r#"{"pages":8,"passes":1,"commits":1,"operations":64,"line":1048576,"watches":32}}}"#
-    );
     let error = r#"{"id":2,"error":{"name":"Syntax","message":"wrong","offset":18446744073709551615}}"#;
-    let said = told(99, format!("{hello}\n{error}\n").into_bytes(), &["query", "-w", "a==1"]);
+    let said = told(
+        200,
+        format!("{HELLO}\n{error}\n").into_bytes(),
+        &["query", "-w", "a==1"],
+    );
     assert_eq!((said.status, said.error.as_str()), (1, "be: wrong\n  a==1\n      ^\n"));
 }
 
