@@ -15,6 +15,9 @@ const TRIES: u32 = 100;
 /// The most operations of a batch.
 const OPERATIONS: usize = 64;
 
+/// How many snapshots a read is tried on.
+const SNAPSHOTS: u32 = 5;
+
 /// Connects to the server at this socket, otherwise where the environment says.
 pub fn connect(socket: Option<PathBuf>) -> Result<Client, Failure> {
     let path = socket.unwrap_or_else(default_socket);
@@ -105,10 +108,19 @@ pub fn report(node: u64, why: &str) {
     complain(&format!("node {node}: {why}"));
 }
 
-/// Runs the closure while the client keeps one snapshot.
-pub fn pinned<T>(client: &mut Client, read: impl FnOnce(&mut Client) -> Result<T, Failure>) -> Result<T, Failure> {
-    client.pin()?;
-    let answer = read(client)?;
-    client.unpin()?;
-    Ok(answer)
+/// Runs the closure while the client keeps one snapshot. If the server takes that back, the closure runs again on the next one.
+pub fn pinned<T>(client: &mut Client, read: impl Fn(&mut Client) -> Result<T, Failure>) -> Result<T, Failure> {
+    let mut left = SNAPSHOTS;
+    loop {
+        left -= 1;
+        client.pin()?;
+        match read(client) {
+            Err(Failure::Server(error)) if error.is("Expired") && left > 0 => client.unpin()?,
+            Err(failure) => return Err(failure),
+            Ok(answer) => {
+                client.unpin()?;
+                return Ok(answer);
+            }
+        }
+    }
 }

@@ -6,6 +6,7 @@ mod common;
 use common::{Said, Server, BE};
 use std::fs::OpenOptions;
 use std::io::{Read, Write};
+use std::net::Shutdown;
 use std::os::unix::net::UnixListener;
 use std::process::Command;
 use std::thread;
@@ -19,6 +20,8 @@ fn told(number: usize, bytes: Vec<u8>, words: &[&str]) -> Said {
         // The tool may have gone before all is sent.
         let _ = stream.read(&mut [0; 4_096]);
         let _ = stream.write_all(&bytes);
+        let _ = stream.shutdown(Shutdown::Write);
+        let _ = stream.read_to_end(&mut Vec::new());
     });
     let mut command = Command::new(BE);
     let said = command.arg("--socket").arg(&path).args(words).output().unwrap().into();
@@ -96,6 +99,23 @@ fn a_place_outside_the_query_is_shown_at_its_end() {
         &["query", "-w", "a==1"],
     );
     assert_eq!((said.status, said.error.as_str()), (1, "be: wrong\n  a==1\n      ^\n"));
+}
+
+#[test]
+fn a_snapshot_that_was_taken_back_is_followed_by_another() {
+    let pin = r#""ok":{"commit":1,"next":2}"#;
+    let expired = r#""error":{"name":"Expired","message":"taken back"}"#;
+    let hits = r#""ok":{"commit":1,"count":1,"nodes":[1]}"#;
+    let lines = |replies: &[&str]| {
+        let numbered = replies.iter().zip(2..);
+        let lines = numbered.map(|(reply, id)| format!("{{\"id\":{id},{reply}}}\n"));
+        format!("{HELLO}\n{}", lines.collect::<String>()).into_bytes()
+    };
+    let bytes = lines(&[pin, expired, r#""ok":{}"#, pin, hits, r#""ok":{}"#]);
+    let said = told(201, bytes, &["query", "a==1"]);
+    assert_eq!((said.status, said.out.as_str(), said.error.as_str()), (0, "1\n", ""));
+    let said = told(202, lines(&[pin, expired, r#""ok":{}"#].repeat(9)), &["query", "a==1"]);
+    assert_eq!((said.status, said.error.as_str()), (1, "be: taken back\n"));
 }
 
 #[test]
