@@ -1,0 +1,71 @@
+# Completion of be for bash, with the functions of the package bash-completion. Source it, or install it as be in
+# /usr/share/bash-completion/completions.
+
+# The names of the indices of the server that the words name, if it answers.
+_be_indices() {
+    local at socket=()
+    for ((at = 1; at < cword - 1; at++)); do
+        [ "${words[at]}" != --socket ] || socket=(--socket "${words[at + 1]}")
+    done
+    be lsindex "${socket[@]}" 2>/dev/null
+}
+
+# The command among the words before the cursor, if there is one.
+_be_command() {
+    local at
+    for ((at = 1; at < cword; at++)); do
+        case ${words[at]} in
+        --socket) ((at++)) ;;
+        -*) ;;
+        *)
+            echo "${words[at]}"
+            return
+            ;;
+        esac
+    done
+}
+
+_be_options() {
+    case $1 in
+    "") echo --version ;;
+    query) printf '%s\n' --columns --limit --count --watch --escape --json ;;
+    addattr) printf '%s\n' --type --file --new ;;
+    catattr) printf '%s\n' --raw --json ;;
+    listattr) printf '%s\n' --long --hexdump --json ;;
+    mkindex) echo --type ;;
+    lsindex) printf '%s\n' --long --verbose --json ;;
+    status) echo --json ;;
+    esac
+    printf '%s\n' --socket --help
+}
+
+# Offers the lines that begin with the word at the cursor.
+_be_offer() {
+    local line
+    while IFS= read -r line; do
+        [[ -z $line || $line != "$cur"* ]] || COMPREPLY+=("$(printf %q "$line")")
+    done
+    __ltrim_colon_completions "$cur"
+}
+
+_be() {
+    local cur prev words cword command
+    COMPREPLY=()
+    _get_comp_words_by_ref -n : cur prev words cword
+    command=$(_be_command)
+    case $command:$prev in
+    *:--socket | addattr:-f | addattr:--file) compopt -o default ;;
+    addattr:-t | addattr:--type | mkindex:-t | mkindex:--type)
+        _be_offer < <(printf '%s\n' string mime int32 int64 uint32 uint64 raw)
+        ;;
+    *)
+        case $command:$cur in
+        *:-*) _be_offer < <(_be_options "$command") ;;
+        :*) _be_offer < <(printf '%s\n' query addattr catattr listattr rmattr mkindex lsindex rmindex status) ;;
+        query:* | addattr:* | catattr:* | rmattr:* | rmindex:*) _be_offer < <(_be_indices) ;;
+        esac
+        ;;
+    esac
+}
+
+complete -F _be be

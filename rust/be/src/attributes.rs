@@ -1,0 +1,256 @@
+//! `addattr`, `catattr`, `listattr` and `rmattr`.
+
+use crate::command_line::{AddAttribute, ListAttributes, RemoveAttribute, ShowAttribute};
+use crate::failure::{complain, Failure};
+use crate::kind::{kind_name, size};
+use crate::output::Output;
+use crate::server::{self, all_done, pinned, report};
+use crate::text::{escaped, hexadecimal};
+use bestore::{Batch, Value};
+use bestore_client::wire::Json;
+use bestore_client::Client;
+use serde::Serialize;
+use std::collections::BTreeMap;
+use std::fs::File;
+use std::io::{self, Read};
+use std::os::unix::ffi::OsStringExt;
+use std::path::Path;
+
+/// A file of this many bytes or more is no value. The server refuses values of more than 255 bytes.
+const READ: u64 = 1 << 16;
+
+/// What `addattr` does, once its command line is taken apart.
+#[derive(Debug)]
+pub struct Added {
+    name: String,
+    value: Value,
+    nodes: Vec<u64>,
+    new: bool,
+}
+
+impl Added {
+    /// Takes the command line apart, and reads the value. `Err` of a text: the command line is wrong.
+    pub fn read(line: AddAttribute) -> Result<Result<Self, Failure>, String> {
+        let AddAttribute {
+            kind,
+            file,
+            new,
+            name,
+            rest,
+        } = line;
+        let mut rest = rest.into_iter();
+        let given = match &file {
+            Some(_) => None,
+            None => Some(rest.next().ok_or("the value is missing")?),
+        };
+        let nodes: Vec<u64> = rest
+            .map(|word| {
+                let number = word.to_str().and_then(|text| text.parse().ok());
+                number.ok_or_else(|| format!("{} is no node", escaped(&word.to_string_lossy())))
+            })
+            .collect::<Result<_, _>>()?;
+        match (new, nodes.is_empty()) {
+            (true, false) => return Err("--new makes the node, so none can be given".into()),
+            (false, true) => return Err("the nodes are missing".into()),
+            _ => {}
+        }
+        let bytes = match (&file, given) {
+            (Some(path), _) => read_file(path).map_err(|error| Failure::File(path.clone(), error)),
+            (None, given) => Ok(given.unwrap_or_default().into_vec()),
+        };
+        let value = bytes.and_then(|bytes| kind.value(bytes));
+        Ok(value.map(|value| Self {
+            name,
+            value,
+            nodes,
+            new,
+        }))
+    }
+}
+
+fn read_file(path: &Path) -> io::Result<Vec<u8>> {
+    let mut bytes = Vec::new();
+    if path == Path::new("-") {
+        io::stdin().lock().take(READ).read_to_end(&mut bytes)?;
+    } else {
+        File::open(path)?.take(READ).read_to_end(&mut bytes)?;
+    }
+    if bytes.len() as u64 == READ {
+        return Err(io::Error::new(io::ErrorKind::InvalidData, "too long for a value"));
+    }
+    Ok(bytes)
+}
+
+pub fn add(client: &mut Client, added: &Added, output: &mut Output) -> Result<(), Failure> {
+    let Added {
+        name,
+        value,
+        nodes,
+        new,
+    } = added;
+    warn_of_index(client, name, value)?;
+    if !*new {
+        return server::apply_each(client, nodes, |batch, node| {
+            batch.set(node, name, value.clone());
+        });
+    }
+    let node = client.change(|change| {
+        let node = change.new_node();
+        change.batch().set(node, name, value.clone());
+        Ok(node)
+    })?;
+    output.line(node.to_string().as_bytes())
+}
+
+/// Says so if the index of this name will leave the value out.
+fn warn_of_index(client: &mut Client, name: &str, value: &Value) -> Result<(), Failure> {
+    let indices = server::indices(client)?;
+    let taken = indices
+        .get(name)
+        .and_then(|kind| bestore_client::wire::kind_named(kind));
+    match taken {
+        Some(kind) if kind != value.kind() => {
+            let (taken, given) = (kind_name(kind), kind_name(value.kind()));
+            let name = escaped(name);
+            complain(&format!(
+                "warning: the index {name} takes {taken} and leaves out this {given}"
+            ));
+        }
+        _ => {}
+    }
+    Ok(())
+}
+
+pub fn remove(client: &mut Client, line: &RemoveAttribute) -> Result<(), Failure> {
+    server::apply_each(client, &line.nodes, |batch: &mut Batch, node| {
+        batch.unset(node, &line.name);
+    })
+}
+
+/// An attribute as a line of JSON.
+#[derive(Serialize)]
+struct Attribute<'a> {
+    node: u64,
+    name: &'a str,
+    value: Json,
+}
+
+pub fn show(client: &mut Client, line: &ShowAttribute, output: &mut Output) -> Result<(), Failure> {
+    let values = pinned(client, |client| {
+        let values = line
+            .nodes
+            .iter()
+            .map(|node| Ok((*node, client.get(*node, &line.name)?)));
+        values.collect::<Result<Vec<_>, Failure>>()
+    })?;
+    let mut all = true;
+    for (node, value) in values {
+        match value {
+            Some(value) => show_value(line, node, value, output)?,
+            None => {
+                report(node, &format!("no attribute {}", escaped(&line.name)));
+                all = false;
+            }
+        }
+    }
+    output.flush()?;
+    all_done(all)
+}
+
+fn show_value(line: &ShowAttribute, node: u64, value: Value, output: &mut Output) -> Result<(), Failure> {
+    if line.json {
+        let (name, value) = (line.name.as_str(), Json(value));
+        return output.json(&Attribute { node, name, value });
+    }
+    if line.raw {
+        return output.bytes(&output.value(&value));
+    }
+    let kind = kind_name(value.kind());
+    match &value {
+        Value::Raw(bytes) => {
+            output.line(format!("{node} : {kind} : {} bytes", bytes.len()).as_bytes())?;
+            let lines = hexadecimal(bytes);
+            lines.iter().try_for_each(|line| output.line(line.as_bytes()))
+        }
+        _ => {
+            output.bytes(format!("{node} : {kind} : ").as_bytes())?;
+            output.line(&output.value(&value))
+        }
+    }
+}
+
+/// The attributes of a node as a line of JSON.
+#[derive(Serialize)]
+struct Attributes<'a> {
+    node: u64,
+    attributes: BTreeMap<&'a str, Json>,
+}
+
+pub fn list(client: &mut Client, line: &ListAttributes, output: &mut Output) -> Result<(), Failure> {
+    let read = pinned(client, |client| {
+        let read = line.nodes.iter().map(|node| match client.attributes(*node) {
+            Err(error) if error.is("NoNode") => Ok((*node, None)),
+            answer => Ok((*node, Some(answer?))),
+        });
+        read.collect::<Result<Vec<_>, Failure>>()
+    })?;
+    let mut all = true;
+    for (node, attributes) in read {
+        match attributes {
+            Some(attributes) if line.json => {
+                let attributes = attributes
+                    .iter()
+                    .map(|(name, value)| (name.as_str(), Json(value.clone())))
+                    .collect();
+                output.json(&Attributes { node, attributes })?;
+            }
+            Some(attributes) => list_node(line, node, &attributes, output)?,
+            None => {
+                report(node, "no such node");
+                all = false;
+            }
+        }
+    }
+    output.flush()?;
+    all_done(all)
+}
+
+fn list_node(
+    line: &ListAttributes,
+    node: u64,
+    attributes: &BTreeMap<String, Value>,
+    output: &mut Output,
+) -> Result<(), Failure> {
+    output.line(format!("Node: {node}").as_bytes())?;
+    let contents = if line.long { "  Contents" } else { "" };
+    output.line(format!("{:>8} {:>6}  Name{contents}", "Type", "Size").as_bytes())?;
+    output.line(format!("{:->8} {:->6}  {:-<32}", "", "", "").as_bytes())?;
+    for (name, value) in attributes {
+        let (kind, name) = (kind_name(value.kind()), output.name(name));
+        let mut text = format!("{kind:>8} {:>6}  \"{name}\"", size(value)).into_bytes();
+        if line.long {
+            text.extend_from_slice(b"  ");
+            text.extend(output.value(value));
+        }
+        output.line(&text)?;
+        if line.hexdump {
+            for line in hexadecimal(&bytes_of(value)) {
+                output.line(format!("{:17}{line}", "").as_bytes())?;
+            }
+        }
+    }
+    let total: usize = attributes.values().map(size).sum();
+    output.line(format!("\n{total} bytes total in attributes").as_bytes())
+}
+
+/// The bytes that the value has in BeOS: numbers are little-endian.
+fn bytes_of(value: &Value) -> Vec<u8> {
+    match value {
+        Value::Int32(number) => number.to_le_bytes().to_vec(),
+        Value::Int64(number) => number.to_le_bytes().to_vec(),
+        Value::Uint32(number) => number.to_le_bytes().to_vec(),
+        Value::Uint64(number) => number.to_le_bytes().to_vec(),
+        Value::Text(text) | Value::Mime(text) => text.clone().into_bytes(),
+        Value::Raw(bytes) => bytes.clone(),
+    }
+}

@@ -1,0 +1,172 @@
+//! The words of the command line. `docs/be.1` describes them.
+
+use crate::kind::Type;
+use clap::{Args, Parser, Subcommand};
+use std::ffi::OsString;
+use std::path::PathBuf;
+
+/// The attribute tools of BeOS, over a store that bestored shares
+#[derive(Debug, Parser)]
+#[command(name = "be", version, disable_help_subcommand = true)]
+pub struct CommandLine {
+    /// The socket of the server. Otherwise $BESTORE_SOCKET, or the one that bestored has by default
+    #[arg(long, value_name = "PATH", global = true)]
+    pub socket: Option<PathBuf>,
+    #[command(subcommand)]
+    pub command: Command,
+}
+
+#[derive(Debug, Subcommand)]
+pub enum Command {
+    Query(Query),
+    Addattr(AddAttribute),
+    Catattr(ShowAttribute),
+    Listattr(ListAttributes),
+    Rmattr(RemoveAttribute),
+    Mkindex(MakeIndex),
+    Lsindex(ListIndices),
+    Rmindex(RemoveIndex),
+    Status(Status),
+}
+
+/// Find nodes
+#[derive(Debug, Args)]
+pub struct Query {
+    /// Also print these attributes of each node
+    #[arg(short, long, value_name = "NAMES", value_delimiter = ',')]
+    pub columns: Vec<String>,
+    /// Print the first N nodes alone
+    #[arg(short = 'n', long, value_name = "N")]
+    pub limit: Option<u64>,
+    /// Print how many nodes there are, not which
+    #[arg(long, conflicts_with_all = ["columns", "limit"])]
+    pub count: bool,
+    /// Go on, and print nodes that come as +NODE and nodes that go as -NODE
+    #[arg(short, long, conflicts_with = "limit")]
+    pub watch: bool,
+    /// Escape control characters also in a pipe or a file
+    #[arg(short, long, conflicts_with = "json")]
+    pub escape: bool,
+    /// Print JSON
+    #[arg(long)]
+    pub json: bool,
+    /// The query, such as 'name=="*.txt" && size>=100'
+    pub text: String,
+}
+
+/// Set an attribute
+#[derive(Debug, Args)]
+#[command(
+    override_usage = "be addattr [-t TYPE] NAME VALUE NODE...\n       be addattr [-t TYPE] -f FILE NAME NODE...\n       \
+                            be addattr [-t TYPE] --new NAME VALUE\n       be addattr [-t TYPE] --new -f FILE NAME"
+)]
+pub struct AddAttribute {
+    /// The type of the value
+    #[arg(
+        short = 't',
+        long = "type",
+        value_enum,
+        value_name = "TYPE",
+        default_value = "string"
+    )]
+    pub kind: Type,
+    /// Read the value from a file; - is standard input
+    #[arg(short, long, value_name = "FILE")]
+    pub file: Option<PathBuf>,
+    /// Make a node with the attribute, and print its number
+    #[arg(long)]
+    pub new: bool,
+    /// The name of the attribute
+    pub name: String,
+    /// The value, if it isn't in a file, and the nodes
+    #[arg(value_name = "VALUE NODE", allow_negative_numbers = true)]
+    pub rest: Vec<OsString>,
+}
+
+/// Print an attribute
+#[derive(Debug, Args)]
+pub struct ShowAttribute {
+    /// Print the value alone, as it is
+    #[arg(short, long)]
+    pub raw: bool,
+    /// Print a line of JSON for each node
+    #[arg(long, conflicts_with = "raw")]
+    pub json: bool,
+    /// The name of the attribute
+    pub name: String,
+    /// The nodes
+    #[arg(required = true, value_name = "NODE")]
+    pub nodes: Vec<u64>,
+}
+
+/// List the attributes of nodes
+#[derive(Debug, Args)]
+pub struct ListAttributes {
+    /// Also print the values
+    #[arg(short, long)]
+    pub long: bool,
+    /// Also print the values, in hexadecimal digits
+    #[arg(short = 'x', long)]
+    pub hexdump: bool,
+    /// Print a line of JSON for each node
+    #[arg(long, conflicts_with_all = ["long", "hexdump"])]
+    pub json: bool,
+    /// The nodes
+    #[arg(required = true, value_name = "NODE")]
+    pub nodes: Vec<u64>,
+}
+
+/// Remove an attribute
+#[derive(Debug, Args)]
+pub struct RemoveAttribute {
+    /// The name of the attribute
+    pub name: String,
+    /// The nodes
+    #[arg(required = true, value_name = "NODE")]
+    pub nodes: Vec<u64>,
+}
+
+/// Make an index, which takes attributes that are set from then on
+#[derive(Debug, Args)]
+pub struct MakeIndex {
+    /// The type of the values that it takes
+    #[arg(
+        short = 't',
+        long = "type",
+        value_enum,
+        value_name = "TYPE",
+        default_value = "string"
+    )]
+    pub kind: Type,
+    /// The name of the attributes
+    pub name: String,
+}
+
+/// List the indices
+#[derive(Debug, Args)]
+pub struct ListIndices {
+    /// Also print their types
+    #[arg(short, long)]
+    pub long: bool,
+    /// As --long
+    #[arg(short, long)]
+    pub verbose: bool,
+    /// Print JSON
+    #[arg(long)]
+    pub json: bool,
+}
+
+/// Remove an index
+#[derive(Debug, Args)]
+pub struct RemoveIndex {
+    /// Its name
+    pub name: String,
+}
+
+/// Print how full the store is, and who keeps an old snapshot
+#[derive(Debug, Args)]
+pub struct Status {
+    /// Print JSON
+    #[arg(long)]
+    pub json: bool,
+}

@@ -1,0 +1,125 @@
+//! Why a command failed, and how that is reported.
+
+use crate::kind::shown_name;
+use crate::text::{escaped, excerpt};
+use bestore_client::wire::Refusal;
+use bestore_client::Error;
+use std::collections::BTreeMap;
+use std::io::Write as _;
+use std::path::PathBuf;
+use std::process::ExitCode;
+use std::{fmt, io};
+
+/// Why a command failed.
+#[derive(Debug)]
+pub enum Failure {
+    /// No server answers at the socket.
+    NoServer(PathBuf, io::Error),
+    /// The server refused, or the connection failed.
+    Server(Error),
+    /// A query was refused.
+    Query(Box<QueryRefused>),
+    /// The value isn't of this type.
+    Value(&'static str),
+    /// A file can't be read.
+    File(PathBuf, io::Error),
+    /// The output can't be written.
+    Output(io::Error),
+    /// Something failed for some nodes, and was reported.
+    Reported,
+}
+
+/// A query that was refused.
+#[derive(Debug)]
+pub struct QueryRefused {
+    pub text: String,
+    pub refusal: Refusal,
+    /// The names of kinds by the names of the indices, if the query lacks one.
+    pub indices: Option<BTreeMap<String, String>>,
+}
+
+impl Failure {
+    /// Prints why, if that was not done, and returns the exit status.
+    pub fn report(&self) -> ExitCode {
+        match self {
+            Failure::Output(error) if error.kind() == io::ErrorKind::BrokenPipe => return ExitCode::SUCCESS,
+            Failure::Reported => {}
+            _ => complain(&self.to_string()),
+        }
+        match self {
+            Failure::Value(_) => ExitCode::from(2),
+            _ => ExitCode::FAILURE,
+        }
+    }
+}
+
+impl From<Error> for Failure {
+    fn from(error: Error) -> Self {
+        Failure::Server(error)
+    }
+}
+
+impl From<io::Error> for Failure {
+    fn from(error: io::Error) -> Self {
+        Failure::Output(error)
+    }
+}
+
+impl fmt::Display for Failure {
+    fn fmt(&self, f: &mut fmt::Formatter<'_>) -> fmt::Result {
+        match self {
+            Failure::NoServer(path, error) => {
+                let path = path.to_string_lossy();
+                writeln!(f, "no server answers at {}: {error}", escaped(&path))?;
+                write!(f, "  bestored --socket PATH starts one")
+            }
+            Failure::Server(error) => f.write_str(&message(error)),
+            Failure::Query(refused) => refused.fmt(f),
+            Failure::Value(kind) => write!(f, "the value is no {kind}"),
+            Failure::File(path, error) => write!(f, "{}: {error}", escaped(&path.to_string_lossy())),
+            Failure::Output(error) => write!(f, "the output can't be written: {error}"),
+            Failure::Reported => Ok(()),
+        }
+    }
+}
+
+impl fmt::Display for QueryRefused {
+    fn fmt(&self, f: &mut fmt::Formatter<'_>) -> fmt::Result {
+        f.write_str(&escaped(&self.refusal.message))?;
+        if let Some(offset) = self.refusal.number_of("offset") {
+            let (line, column) = excerpt(&self.text, usize::try_from(offset).unwrap_or(usize::MAX));
+            write!(f, "\n  {line}\n  {:column$}^", "")?;
+        }
+        if let Some(missing) = self.refusal.details.get("missing").and_then(|name| name.as_str()) {
+            write!(f, "\n  {} has no index", escaped(missing))?;
+        }
+        match &self.indices {
+            Some(indices) if indices.is_empty() => f.write_str("\n  there are no indices"),
+            Some(indices) => {
+                let named = |(name, kind): (&String, &String)| format!("{} ({})", escaped(name), shown_name(kind));
+                let list: Vec<_> = indices.iter().map(named).collect();
+                write!(f, "\n  the indices are: {}", list.join(", "))
+            }
+            None => Ok(()),
+        }
+    }
+}
+
+/// Prints on standard error. There is nothing to be done if that fails.
+pub fn complain(text: &str) {
+    let _ = writeln!(io::stderr(), "be: {text}");
+}
+
+/// The message of an error, with what goes with it.
+pub fn message(error: &Error) -> String {
+    let refusal = match error {
+        Error::Refused(refusal) => refusal,
+        other => return escaped(&other.to_string()),
+    };
+    let shown = refusal.details.iter().filter(|(name, _)| *name != "operation");
+    let details: Vec<_> = shown.map(|(name, value)| format!("{name} {value}")).collect();
+    match details.is_empty() {
+        true => escaped(&refusal.message),
+        false => escaped(&format!("{} ({})", refusal.message, details.join(", "))),
+    }
+}

@@ -1,0 +1,116 @@
+//! Standard output: a terminal, where what is printed is escaped, or a pipe or a file, where it is printed as it is.
+
+use crate::failure::Failure;
+use crate::text::{escaped, escaped_bytes, escaped_json, width};
+use bestore::Value;
+use serde::Serialize;
+use std::borrow::Cow;
+use std::io::{self, BufWriter, StdoutLock, Write};
+
+/// Standard output.
+#[derive(Debug)]
+pub struct Output {
+    out: BufWriter<StdoutLock<'static>>,
+    /// Whether it is a terminal, on which columns are aligned and have headings.
+    terminal: bool,
+    escapes: bool,
+}
+
+impl Output {
+    pub fn standard() -> Self {
+        // SAFETY: isatty reads no memory of the program.
+        let terminal = unsafe { libc::isatty(libc::STDOUT_FILENO) } == 1;
+        Self {
+            out: BufWriter::new(io::stdout().lock()),
+            terminal,
+            escapes: terminal,
+        }
+    }
+
+    /// Escapes control characters also where the output is no terminal.
+    pub fn escape(&mut self) {
+        self.escapes = true;
+    }
+
+    /// Prints bytes.
+    pub fn bytes(&mut self, bytes: &[u8]) -> Result<(), Failure> {
+        Ok(self.out.write_all(bytes)?)
+    }
+
+    /// Prints a line.
+    pub fn line(&mut self, line: &[u8]) -> Result<(), Failure> {
+        self.bytes(line)?;
+        self.bytes(b"\n")
+    }
+
+    /// Prints a line of JSON.
+    pub fn json(&mut self, value: &impl Serialize) -> Result<(), Failure> {
+        let json = serde_json::to_string(value).map_err(io::Error::from)?;
+        match self.escapes {
+            true => self.line(escaped_json(&json).as_bytes()),
+            false => self.line(json.as_bytes()),
+        }
+    }
+
+    /// The name as it is printed.
+    pub fn name<'a>(&self, name: &'a str) -> Cow<'a, str> {
+        match self.escapes {
+            true => escaped(name).into(),
+            false => name.into(),
+        }
+    }
+
+    /// The value as it is printed: a text, digits, or bytes.
+    pub fn value(&self, value: &Value) -> Vec<u8> {
+        match value.as_bytes() {
+            Some(bytes) if !self.escapes => bytes.to_vec(),
+            Some(bytes) => value
+                .as_str()
+                .map_or_else(|| escaped_bytes(bytes), escaped)
+                .into_bytes(),
+            None => value.to_string().into_bytes(),
+        }
+    }
+
+    /// Prints rows: aligned below headings on a terminal, otherwise with tabs between the columns.
+    pub fn rows(&mut self, headings: &[&str], rows: &[Vec<Vec<u8>>]) -> Result<(), Failure> {
+        if !self.terminal || headings.len() < 2 {
+            return rows.iter().try_for_each(|row| self.line(&row.join(&b'\t')));
+        }
+        let shown = |row: &Vec<Vec<u8>>| {
+            row.iter()
+                .map(|cell| String::from_utf8_lossy(cell).into_owned())
+                .collect()
+        };
+        let headings = headings.iter().map(|heading| escaped(heading)).collect();
+        let lines: Vec<Vec<String>> = std::iter::once(headings).chain(rows.iter().map(shown)).collect();
+        self.aligned(&lines)
+    }
+
+    /// Prints lines with their columns aligned.
+    pub fn aligned(&mut self, lines: &[Vec<String>]) -> Result<(), Failure> {
+        let columns = lines.iter().map(Vec::len).max().unwrap_or(0);
+        let widest = |column: usize| {
+            lines
+                .iter()
+                .filter_map(|line| line.get(column))
+                .map(|cell| width(cell))
+                .max()
+        };
+        let widths: Vec<usize> = (0..columns).map(|column| widest(column).unwrap_or(0)).collect();
+        for line in lines {
+            let mut text = String::new();
+            for (cell, width_here) in line.iter().zip(&widths) {
+                text.push_str(cell);
+                text.push_str(&" ".repeat(width_here - width(cell) + 2));
+            }
+            self.line(text.trim_end_matches(' ').as_bytes())?;
+        }
+        Ok(())
+    }
+
+    /// Hands on all that was printed.
+    pub fn flush(&mut self) -> Result<(), Failure> {
+        Ok(self.out.flush()?)
+    }
+}

@@ -1,0 +1,200 @@
+//! `query`: once, counted, or watched.
+
+use crate::command_line::Query as Line;
+use crate::failure::{Failure, QueryRefused};
+use crate::output::Output;
+use crate::server::{self, pinned};
+use bestore::Value;
+use bestore_client::wire::{self, Command, Hits, Json, Push};
+use bestore_client::{Client, Error, Query};
+use serde::Serialize;
+use std::time::Duration;
+
+/// The values of a node's columns.
+type Row = Vec<Option<Json>>;
+
+/// How long a wait for a push is, after which the next begins.
+const WAIT: Duration = Duration::from_secs(3_600);
+
+pub fn run(client: &mut Client, line: &Line, output: &mut Output) -> Result<(), Failure> {
+    if line.escape {
+        output.escape();
+    }
+    let answer = match (line.watch, line.count) {
+        (true, _) => watch(client, line, output),
+        (false, true) => count(client, line, output),
+        (false, false) => find(client, line, output),
+    };
+    answer.map_err(|failure| match failure {
+        Failure::Server(Error::Refused(refusal)) => refused(client, line, refusal),
+        other => other,
+    })
+}
+
+/// Adds to an error of a query what helps to see why.
+fn refused(client: &mut Client, line: &Line, refusal: wire::Refusal) -> Failure {
+    let lacks_index = refusal.name == "NotCovered";
+    if !lacks_index && !matches!(refusal.name.as_str(), "Syntax" | "BadPattern") {
+        return Failure::Server(Error::Refused(refusal));
+    }
+    let indices = if lacks_index {
+        server::indices(client).ok()
+    } else {
+        None
+    };
+    let text = line.text.clone();
+    Failure::Query(Box::new(QueryRefused { text, refusal, indices }))
+}
+
+fn count(client: &mut Client, line: &Line, output: &mut Output) -> Result<(), Failure> {
+    let hits: Hits = client.call(Command::Query(wire::Query {
+        query: line.text.as_str().into(),
+        count: true,
+        ..wire::Query::default()
+    }))?;
+    match line.json {
+        true => output.json(&hits),
+        false => output.line(hits.count.to_string().as_bytes()),
+    }
+}
+
+fn find(client: &mut Client, line: &Line, output: &mut Output) -> Result<(), Failure> {
+    let hits = pinned(client, |client| all_pages(client, line))?;
+    if line.json {
+        return output.json(&hits);
+    }
+    let nodes = hits.nodes.unwrap_or_default();
+    let mut found = hits.rows.unwrap_or_default();
+    found.resize(nodes.len(), Row::new());
+    let rows: Vec<_> = nodes
+        .iter()
+        .zip(&found)
+        .map(|(node, row)| cells(node.to_string(), row, output))
+        .collect();
+    output.rows(&headings(line), &rows)
+}
+
+/// All that the query finds, up to the limit, as one page. The client is pinned.
+fn all_pages(client: &mut Client, line: &Line) -> Result<Hits, Failure> {
+    let columns: Vec<&str> = line.columns.iter().map(String::as_str).collect();
+    let mut query = Query {
+        text: &line.text,
+        columns: &columns,
+        limit: line.limit,
+        from: 0,
+    };
+    let mut all = client.hits(query)?;
+    while let Some(from) = all.more.take() {
+        let had = all.nodes.as_ref().map_or(0, Vec::len) as u64;
+        query.from = from;
+        query.limit = line.limit.map(|limit| limit.saturating_sub(had));
+        if query.limit == Some(0) {
+            break;
+        }
+        let page = client.hits(query)?;
+        all.nodes
+            .get_or_insert_with(Vec::new)
+            .extend(page.nodes.unwrap_or_default());
+        if let Some(rows) = &mut all.rows {
+            rows.extend(page.rows.unwrap_or_default());
+        }
+        all.more = page.more;
+    }
+    Ok(all)
+}
+
+fn headings(line: &Line) -> Vec<&str> {
+    std::iter::once("Node")
+        .chain(line.columns.iter().map(String::as_str))
+        .collect()
+}
+
+fn cells(node: String, row: &Row, output: &Output) -> Vec<Vec<u8>> {
+    let values = row
+        .iter()
+        .map(|value| value.as_ref().map_or_else(Vec::new, |Json(value)| output.value(value)));
+    std::iter::once(node.into_bytes()).chain(values).collect()
+}
+
+/// A push as a line of JSON, with the columns of the nodes that came.
+#[derive(Serialize)]
+struct Change<'a> {
+    #[serde(flatten)]
+    push: &'a Push,
+    #[serde(skip_serializing_if = "Option::is_none")]
+    rows: Option<Vec<Row>>,
+}
+
+/// Prints what the query finds, and then what comes and goes, until the server ends or the watch does.
+fn watch(client: &mut Client, line: &Line, output: &mut Output) -> Result<(), Failure> {
+    let begun = client.watch(Some(&line.text))?;
+    let mut push = Push {
+        watch: begun.watch,
+        commit: begun.commit,
+        created: begun.nodes.unwrap_or_default(),
+        more: begun.more,
+        ..Push::default()
+    };
+    let mut count = 0_usize;
+    loop {
+        count = (count + push.created.len()).saturating_sub(push.removed.len());
+        match line.count {
+            true if !push.more => show_count(push.commit, count, line, output)?,
+            true => {}
+            false => show_change(client, &push, line, output)?,
+        }
+        output.flush()?;
+        push = next_push(client)?;
+        if let Some(refusal) = push.error.take() {
+            return Err(Error::Refused(refusal).into());
+        }
+    }
+}
+
+fn next_push(client: &mut Client) -> Result<Push, Failure> {
+    loop {
+        if let Some(push) = client.next_push(WAIT)? {
+            return Ok(push);
+        }
+    }
+}
+
+fn show_count(commit: u64, count: usize, line: &Line, output: &mut Output) -> Result<(), Failure> {
+    match line.json {
+        true => output.json(&serde_json::json!({ "commit": commit, "count": count })),
+        false => output.line(count.to_string().as_bytes()),
+    }
+}
+
+fn show_change(client: &mut Client, push: &Push, line: &Line, output: &mut Output) -> Result<(), Failure> {
+    let rows = match line.columns.is_empty() {
+        true => None,
+        false => Some(columns_of(client, &push.created, &line.columns)?),
+    };
+    if line.json {
+        return output.json(&Change { push, rows });
+    }
+    for node in &push.removed {
+        output.line(format!("-{node}").as_bytes())?;
+    }
+    let none = Row::new();
+    for (index, node) in push.created.iter().enumerate() {
+        let row = rows.as_ref().map_or(&none, |rows| &rows[index]);
+        let cells = cells(format!("+{node}"), row, output);
+        output.line(&cells.join(&b'\t'))?;
+    }
+    Ok(())
+}
+
+/// The columns of the nodes as they are now. A node that is gone has none.
+fn columns_of(client: &mut Client, nodes: &[u64], columns: &[String]) -> Result<Vec<Row>, Failure> {
+    let row = |node: &u64| {
+        let mut attributes = match client.attributes(*node) {
+            Err(error) if error.is("NoNode") => Default::default(),
+            answer => answer?,
+        };
+        let mut value = |name: &String| attributes.remove(name).map(|value: Value| Json(value));
+        Ok(columns.iter().map(&mut value).collect())
+    };
+    nodes.iter().map(row).collect()
+}

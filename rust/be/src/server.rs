@@ -1,0 +1,126 @@
+//! The server: where it is, and what several commands ask it for.
+
+use crate::failure::{complain, message, Failure};
+use bestore::Batch;
+use bestore_client::wire::{Command, Indices, Nothing};
+use bestore_client::{Client, Error};
+use std::collections::BTreeMap;
+use std::env;
+use std::ffi::OsString;
+use std::path::PathBuf;
+
+/// How often a write is tried again if another client is writing.
+const TRIES: u32 = 100;
+
+/// The most operations of a batch.
+const OPERATIONS: usize = 64;
+
+/// How many snapshots a read is tried on.
+const SNAPSHOTS: u32 = 5;
+
+/// Connects to the server at this socket, otherwise where the environment says.
+pub fn connect(socket: Option<PathBuf>) -> Result<Client, Failure> {
+    let path = socket.unwrap_or_else(default_socket);
+    let mut client = match Client::connect(&path) {
+        Err(Error::Io(error)) => return Err(Failure::NoServer(path, error)),
+        answer => answer?,
+    };
+    client.hello()?;
+    Ok(client)
+}
+
+fn default_socket() -> PathBuf {
+    if let Some(socket) = variable("BESTORE_SOCKET") {
+        return socket.into();
+    }
+    let folder = match variable("XDG_RUNTIME_DIR") {
+        Some(folder) => PathBuf::from(folder).join("bestore"),
+        // SAFETY: getuid reads no memory of the program.
+        None => format!("/tmp/bestore-{}", unsafe { libc::getuid() }).into(),
+    };
+    folder.join("socket")
+}
+
+fn variable(name: &str) -> Option<OsString> {
+    env::var_os(name).filter(|value| !value.is_empty())
+}
+
+/// The names of kinds by the names of the indices.
+pub fn indices(client: &mut Client) -> Result<BTreeMap<String, String>, Error> {
+    let read: Indices = client.call(Command::Indices(Nothing {}))?;
+    Ok(read.indices)
+}
+
+/// Writes the batch, and tries again while another client is writing.
+pub fn apply(client: &mut Client, batch: &Batch) -> Result<(), Error> {
+    let mut left = TRIES;
+    loop {
+        match client.apply(batch) {
+            Err(error) if error.is("Busy") && left > 0 => left -= 1,
+            answer => return answer.map(drop),
+        }
+        std::thread::sleep(std::time::Duration::from_millis(2));
+    }
+}
+
+/// Writes an operation for each node, as many at a time as a batch takes. If such a batch is refused, its operations are
+/// written one by one, and those that are refused are reported.
+pub fn apply_each(client: &mut Client, nodes: &[u64], add: impl Fn(&mut Batch, u64)) -> Result<(), Failure> {
+    let mut all = true;
+    for nodes in nodes.chunks(OPERATIONS) {
+        let mut batch = Batch::new();
+        nodes.iter().for_each(|node| add(&mut batch, *node));
+        match apply(client, &batch) {
+            Err(Error::Refused(_)) => all &= apply_one_by_one(client, nodes, &add)?,
+            answer => answer?,
+        }
+    }
+    all_done(all)
+}
+
+/// Fails if something was reported.
+pub fn all_done(all: bool) -> Result<(), Failure> {
+    match all {
+        true => Ok(()),
+        false => Err(Failure::Reported),
+    }
+}
+
+/// Returns whether all were written.
+fn apply_one_by_one(client: &mut Client, nodes: &[u64], add: impl Fn(&mut Batch, u64)) -> Result<bool, Failure> {
+    let mut all = true;
+    for node in nodes {
+        let mut batch = Batch::new();
+        add(&mut batch, *node);
+        match apply(client, &batch) {
+            Err(error @ Error::Refused(_)) => {
+                report(*node, &message(&error));
+                all = false;
+            }
+            answer => answer?,
+        }
+    }
+    Ok(all)
+}
+
+/// Reports why something failed for a node.
+pub fn report(node: u64, why: &str) {
+    complain(&format!("node {node}: {why}"));
+}
+
+/// Runs the closure while the client keeps one snapshot. If the server takes that back, the closure runs again on the next one.
+pub fn pinned<T>(client: &mut Client, read: impl Fn(&mut Client) -> Result<T, Failure>) -> Result<T, Failure> {
+    let mut left = SNAPSHOTS;
+    loop {
+        left -= 1;
+        client.pin()?;
+        match read(client) {
+            Err(Failure::Server(error)) if error.is("Expired") && left > 0 => client.unpin()?,
+            Err(failure) => return Err(failure),
+            Ok(answer) => {
+                client.unpin()?;
+                return Ok(answer);
+            }
+        }
+    }
+}

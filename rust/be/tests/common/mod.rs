@@ -1,0 +1,169 @@
+//! A server of its own for each test, and the tool as a process. Not every test uses all of it.
+#![allow(dead_code, unused_macros)]
+
+use bestore_client::Client;
+use std::ffi::OsStr;
+use std::io::Write;
+use std::os::unix::fs::DirBuilderExt;
+use std::os::unix::net::UnixStream;
+use std::path::{Path, PathBuf};
+use std::process::{Child, Command, Output, Stdio};
+use std::sync::atomic::{AtomicU32, Ordering};
+use std::sync::Once;
+use std::time::{Duration, Instant};
+use std::{env, fs, thread};
+
+/// Takes the server, or leaves the test: a line has said why.
+macro_rules! server {
+    ($server:expr) => {
+        match $server {
+            Some(server) => server,
+            None => return,
+        }
+    };
+}
+
+/// The tool.
+pub const BE: &str = env!("CARGO_BIN_EXE_be");
+
+/// A server, in a folder that is removed with it.
+pub struct Server {
+    child: Child,
+    folder: PathBuf,
+}
+
+/// What a run of the tool has printed, and its exit status.
+#[derive(Debug, PartialEq, Eq)]
+pub struct Said {
+    pub status: i32,
+    pub out: String,
+    pub error: String,
+}
+
+impl From<Output> for Said {
+    fn from(output: Output) -> Self {
+        Self {
+            status: output.status.code().unwrap_or(-1),
+            out: String::from_utf8_lossy(&output.stdout).into_owned(),
+            error: String::from_utf8_lossy(&output.stderr).into_owned(),
+        }
+    }
+}
+
+/// The program `bestored`: beside the tool, or where the environment says.
+fn server_program() -> Option<PathBuf> {
+    let beside = Path::new(BE).with_file_name("bestored");
+    let program = env::var_os("BESTORED").map_or(beside, PathBuf::from);
+    program.exists().then_some(program)
+}
+
+impl Server {
+    /// Starts a server. `None`, and a line that says so, if it isn't built.
+    pub fn start() -> Option<Self> {
+        static STARTED: AtomicU32 = AtomicU32::new(0);
+        let program = match server_program() {
+            Some(program) => program,
+            None => {
+                static SAID: Once = Once::new();
+                SAID.call_once(|| println!("be, {}: skipped, bestored isn't built", env!("CARGO_CRATE_NAME")));
+                return None;
+            }
+        };
+        let number = STARTED.fetch_add(1, Ordering::Relaxed);
+        let folder = env::temp_dir().join(format!("be-test-{}-{number}", std::process::id()));
+        fs::DirBuilder::new().mode(0o700).create(&folder).unwrap();
+        let child = Command::new(program)
+            .arg("--socket")
+            .arg(folder.join("socket"))
+            .spawn()
+            .unwrap();
+        let server = Self { child, folder };
+        server.wait();
+        Some(server)
+    }
+
+    fn wait(&self) {
+        let until = Instant::now() + Duration::from_secs(20);
+        while UnixStream::connect(self.socket()).is_err() {
+            assert!(Instant::now() < until, "the server doesn't listen");
+            thread::sleep(Duration::from_millis(10));
+        }
+    }
+
+    pub fn socket(&self) -> PathBuf {
+        self.folder.join("socket")
+    }
+
+    /// Ends the server at once.
+    pub fn end(&mut self) {
+        self.child.kill().unwrap();
+        self.child.wait().unwrap();
+    }
+
+    /// The tool with these words, ready to be run.
+    pub fn command(&self, words: &[impl AsRef<OsStr>]) -> Command {
+        let mut command = Command::new(BE);
+        command.env("BESTORE_SOCKET", self.socket()).args(words);
+        command.stdin(Stdio::null());
+        command
+    }
+
+    /// Runs the tool with these words.
+    pub fn be(&self, words: &[&str]) -> Said {
+        self.command(words).output().unwrap().into()
+    }
+
+    /// Runs the tool with these words, which has to succeed without an error, and returns what it printed.
+    pub fn done(&self, words: &[&str]) -> String {
+        let said = self.be(words);
+        assert_eq!((said.status, said.error.as_str()), (0, ""), "{words:?}");
+        said.out
+    }
+
+    /// Runs the tool with these words and this input.
+    pub fn fed(&self, words: &[&str], input: &[u8]) -> Said {
+        let mut command = self.command(words);
+        command
+            .stdin(Stdio::piped())
+            .stdout(Stdio::piped())
+            .stderr(Stdio::piped());
+        let mut child = command.spawn().unwrap();
+        // What the tool doesn't read is no error.
+        let _ = child.stdin.take().unwrap().write_all(input);
+        child.wait_with_output().unwrap().into()
+    }
+
+    /// Makes this many nodes with this attribute, by the client of the protocol.
+    pub fn make(&self, count: u64, name: &str, value: &str) {
+        let mut client = Client::connect(self.socket()).unwrap();
+        for _ in 0..count {
+            let made = client.change(|change| {
+                let node = change.new_node();
+                change.batch().set(node, name, value);
+                Ok(())
+            });
+            made.unwrap();
+        }
+    }
+
+    /// A store with indices `name` and `size`, and nodes 1 to 3: `a` of 10, `b` of 20, and `c` without a size.
+    pub fn with_three() -> Option<Self> {
+        let server = Self::start()?;
+        server.done(&["mkindex", "name"]);
+        server.done(&["mkindex", "-t", "int64", "size"]);
+        for (node, name) in [("1", "a"), ("2", "b"), ("3", "c")] {
+            assert_eq!(server.done(&["addattr", "--new", "name", name]), format!("{node}\n"));
+        }
+        server.done(&["addattr", "-t", "int64", "size", "10", "1"]);
+        server.done(&["addattr", "-t", "int64", "size", "20", "2"]);
+        Some(server)
+    }
+}
+
+impl Drop for Server {
+    fn drop(&mut self) {
+        let _ = self.child.kill();
+        let _ = self.child.wait();
+        let _ = fs::remove_dir_all(&self.folder);
+    }
+}

@@ -1,0 +1,72 @@
+//! The manual page and the completion have what the command line has.
+
+mod common;
+
+use common::{Said, BE};
+use std::path::PathBuf;
+use std::process::Command;
+
+const COMMANDS: [&str; 9] = [
+    "query", "addattr", "catattr", "listattr", "rmattr", "mkindex", "lsindex", "rmindex", "status",
+];
+
+fn page() -> PathBuf {
+    PathBuf::from(concat!(env!("CARGO_MANIFEST_DIR"), "/../../docs/be.1"))
+}
+
+/// The long options of a command, as its help has them.
+fn options(command: &str) -> Vec<String> {
+    let said: Said = Command::new(BE).args([command, "--help"]).output().unwrap().into();
+    let words = said
+        .out
+        .split(|character: char| character != '-' && !character.is_ascii_alphabetic());
+    let names = words.filter_map(|word| word.strip_prefix("--"));
+    let mut names: Vec<String> = names.filter(|name| !name.is_empty()).map(String::from).collect();
+    names.sort();
+    names.dedup();
+    assert!(names.contains(&"socket".into()), "{command}: {names:?}");
+    names
+}
+
+#[test]
+fn the_page_has_each_command_and_option() {
+    let page = std::fs::read_to_string(page()).unwrap();
+    for command in COMMANDS {
+        assert!(page.contains(&format!(".Ss {command}\n")), "{command}");
+        for name in options(command) {
+            assert!(
+                page.contains(&format!("Fl -{name}")) || page.contains(&format!(", -{name}")),
+                "{command} {name}"
+            );
+        }
+    }
+}
+
+#[test]
+fn the_completion_has_each_command_and_option() {
+    let completion = include_str!("../completion/be.bash");
+    assert!(completion.contains(&COMMANDS.join(" ")));
+    for command in COMMANDS {
+        let line = completion
+            .lines()
+            .find(|line| line.trim_start().starts_with(&format!("{command}) ")));
+        for name in options(command) {
+            let option = format!("--{name}");
+            let common = ["socket", "help"].contains(&name.as_str());
+            assert!(
+                common || line.map_or(false, |line| line.contains(&option)),
+                "{command} {option}"
+            );
+        }
+    }
+}
+
+#[test]
+fn the_page_has_no_fault() {
+    let mut command = Command::new("mandoc");
+    command.args(["-T", "lint", "-W", "warning"]).arg(page());
+    match command.output() {
+        Ok(output) => assert!(output.status.success(), "{}", String::from_utf8_lossy(&output.stdout)),
+        Err(_) => println!("the page of be: skipped, there is no mandoc"),
+    }
+}

@@ -1,0 +1,284 @@
+//! Queries: once, counted, watched, refused, and on a terminal.
+
+#[macro_use]
+mod common;
+
+use common::{Said, Server};
+use std::io::{BufRead, BufReader};
+use std::path::Path;
+use std::process::{Command, Stdio};
+use std::sync::mpsc::{channel, Receiver};
+use std::thread;
+use std::time::Duration;
+
+#[test]
+fn nodes_are_found_with_columns_up_to_a_limit_and_counted() {
+    let server = server!(Server::with_three());
+    assert_eq!(server.done(&["query", "name==*"]), "1\n2\n3\n");
+    assert_eq!(server.done(&["query", "name==z"]), "");
+    assert_eq!(server.done(&["query", "-n", "2", "name==*"]), "1\n2\n");
+    assert_eq!(server.done(&["query", "--count", "name==*"]), "3\n");
+    let columns = server.done(&["query", "--columns", "size,name", "name==[bc]"]);
+    assert_eq!(columns, "2\t20\tb\n3\t\tc\n");
+    let json = server.done(&["query", "--json", "-c", "size", "name==[bc]"]);
+    assert_eq!(
+        json,
+        "{\"commit\":7,\"count\":2,\"nodes\":[2,3],\"rows\":[[20],[null]]}\n"
+    );
+    assert_eq!(
+        server.done(&["query", "--json", "--count", "size>0"]),
+        "{\"commit\":7,\"count\":2}\n"
+    );
+}
+
+#[test]
+fn an_answer_of_several_pages_is_whole() {
+    let server = server!(Server::start());
+    server.done(&["mkindex", "n"]);
+    let text = "x".repeat(255);
+    server.make(300, "n", &text);
+    let columns = vec!["n"; 64].join(",");
+    let printed = server.done(&["query", "-c", &columns, "n==*"]);
+    assert_eq!(printed.lines().count(), 300);
+    let last = printed.lines().last().unwrap();
+    assert_eq!((last.split('\t').next(), last.len()), (Some("300"), 3 + 64 * 256));
+    assert_eq!(
+        server
+            .done(&["query", "-n", "250", "-c", &columns, "n==*"])
+            .lines()
+            .count(),
+        250
+    );
+    let json: serde_json::Value =
+        serde_json::from_str(&server.done(&["query", "--json", "-c", &columns, "n==*"])).unwrap();
+    assert_eq!(json["rows"].as_array().unwrap().len(), 300);
+    assert!(json.get("more").is_none());
+}
+
+fn fault(server: &Server, query: &str) -> Vec<String> {
+    let said = server.be(&["query", query]);
+    assert_eq!((said.status, said.out.as_str()), (1, ""), "{said:?}");
+    said.error.lines().map(String::from).collect()
+}
+
+#[test]
+fn a_caret_shows_the_fault_of_a_query() {
+    let server = server!(Server::with_three());
+    for (query, shown, caret) in [
+        ("name==a b", "name==a b", "        ^"),
+        ("name==漢 b", "name==漢 b", "         ^"),
+        ("name==\"[a\"", "name==\"[a\"", "       ^"),
+        ("(name==a", "(name==a", "        ^"),
+        ("name==a\n\u{1b}[2J b==1", r"name==a\n\x1b[2J b==1", "         ^"),
+        ("", "", "^"),
+    ] {
+        let lines = fault(&server, query);
+        assert!(lines[0].starts_with("be: "), "{lines:?}");
+        assert_eq!(lines[1..], [format!("  {shown}"), format!("  {caret}")], "{query}");
+    }
+    let long = format!("{} b", vec!["name==a"; 300].join(" || "));
+    let lines = fault(&server, &long[..3_000]);
+    assert!(lines[0].starts_with("be: "), "{lines:?}");
+    let lines = fault(&server, &format!("{} b", vec!["name==a"; 100].join(" || ")));
+    assert!(
+        lines[1].starts_with("  …") && lines[1].chars().count() < 80,
+        "{lines:?}"
+    );
+    assert_eq!(lines[2].len(), lines[1].chars().count());
+}
+
+#[test]
+fn a_missing_index_is_named_with_those_that_there_are() {
+    let server = server!(Server::with_three());
+    let lines = fault(&server, "name==a || kind==b");
+    assert_eq!(
+        lines[1..],
+        [
+            "  name==a || kind==b",
+            "             ^",
+            "  kind has no index",
+            "  the indices are: name (string), size (int64)"
+        ]
+    );
+    server.done(&["rmindex", "name"]);
+    server.done(&["rmindex", "size"]);
+    assert_eq!(fault(&server, "name==a").last().unwrap(), "  there are no indices");
+    let said = server.be(&["query", "--watch", "name==a"]);
+    assert_eq!((said.status, said.error.lines().count()), (1, 5), "{said:?}");
+}
+
+#[test]
+fn other_errors_of_a_query_have_one_line() {
+    let server = server!(Server::with_three());
+    let columns = vec!["size"; 65].join(",");
+    let said = server.be(&["query", "-c", &columns, "name==a"]);
+    assert_eq!((said.status, said.error.lines().count()), (1, 1), "{said:?}");
+    assert_eq!(fault(&server, &vec!["name==a"; 257].join("||")).len(), 1);
+    assert_eq!(fault(&server, &format!("name=={}", "a".repeat(4_096))).len(), 1);
+    assert_eq!(fault(&server, &format!("{}name==a", "(".repeat(65))).len(), 1);
+}
+
+/// Begins a watch, and returns its process and its lines as they come.
+fn watched(server: &Server, words: &[&str]) -> (std::process::Child, Receiver<String>) {
+    let mut all = vec!["query", "--watch"];
+    all.extend(words);
+    let mut command = server.command(&all);
+    let mut child = command.stdout(Stdio::piped()).stderr(Stdio::piped()).spawn().unwrap();
+    let out = BufReader::new(child.stdout.take().unwrap());
+    let (sender, receiver) = channel();
+    thread::spawn(move || {
+        for line in out.lines() {
+            if sender.send(line.unwrap()).is_err() {
+                return;
+            }
+        }
+    });
+    (child, receiver)
+}
+
+fn next(lines: &Receiver<String>) -> String {
+    lines.recv_timeout(Duration::from_secs(20)).unwrap()
+}
+
+#[test]
+fn a_watch_prints_what_comes_and_goes() {
+    let mut server = server!(Server::with_three());
+    let (child, lines) = watched(&server, &["-c", "size", "size>=15"]);
+    assert_eq!(next(&lines), "+2\t20");
+    server.done(&["addattr", "-t", "int64", "size", "30", "1"]);
+    assert_eq!(next(&lines), "+1\t30");
+    server.done(&["rmattr", "size", "2"]);
+    assert_eq!(next(&lines), "-2");
+    server.end();
+    let said: Said = child.wait_with_output().unwrap().into();
+    assert_eq!((said.status, said.error.lines().count()), (1, 1), "{said:?}");
+}
+
+#[test]
+fn a_watch_counts_and_ends_with_its_index() {
+    let server = server!(Server::with_three());
+    let (child, lines) = watched(&server, &["--count", "size>=15"]);
+    assert_eq!(next(&lines), "1");
+    server.done(&["addattr", "-t", "int64", "size", "30", "1", "3"]);
+    assert_eq!(next(&lines), "3");
+    server.done(&["rmindex", "size"]);
+    let said: Said = child.wait_with_output().unwrap().into();
+    assert_eq!(said.status, 1);
+    assert!(
+        said.error.contains("size has no index") || said.error.contains("no index"),
+        "{said:?}"
+    );
+}
+
+#[test]
+fn a_watch_prints_json() {
+    let server = server!(Server::with_three());
+    let (mut child, lines) = watched(&server, &["--json", "-c", "name", "size>=15"]);
+    let parsed = |line: String| -> serde_json::Value { serde_json::from_str(&line).unwrap() };
+    let first = parsed(next(&lines));
+    assert_eq!(
+        (&first["commit"], &first["created"], &first["rows"]),
+        (&7.into(), &vec![2].into(), &serde_json::json!([["b"]]))
+    );
+    server.done(&["rmattr", "size", "2"]);
+    let second = parsed(next(&lines));
+    assert_eq!((&second["commit"], &second["removed"]), (&8.into(), &vec![2].into()));
+    child.kill().unwrap();
+    child.wait().unwrap();
+}
+
+#[test]
+fn a_reader_that_has_gone_is_no_error() {
+    let server = server!(Server::with_three());
+    let (mut child, lines) = watched(&server, &["size>=15"]);
+    assert_eq!(next(&lines), "+2");
+    drop(lines);
+    for size in ["1", "99", "2", "98"] {
+        server.done(&["addattr", "-t", "int64", "size", size, "1"]);
+        thread::sleep(Duration::from_millis(100));
+    }
+    assert!(child.wait().unwrap().success());
+}
+
+/// What the tool prints on a terminal.
+fn on_terminal(server: &Server, words: &str) -> Option<String> {
+    let mut command = Command::new("script");
+    command.args(["-qec", &format!("{} {words}", common::BE), "/dev/null"]);
+    command.env("BESTORE_SOCKET", server.socket()).stdin(Stdio::null());
+    match command.output() {
+        Ok(output) => Some(String::from_utf8(output.stdout).unwrap().replace("\r\n", "\n")),
+        Err(_) => {
+            println!("the tools on a terminal: skipped, there is no command script");
+            None
+        }
+    }
+}
+
+#[test]
+fn a_terminal_gets_escapes_and_columns() {
+    let server = server!(Server::with_three());
+    server.done(&["addattr", "name", "x\u{1b}[2J\n\\", "1"]);
+    assert_eq!(server.done(&["catattr", "name", "1"]), "1 : string : x\u{1b}[2J\n\\\n");
+    assert_eq!(
+        server.done(&["query", "-e", "-c", "name", "size==10"]),
+        "1\tx\\x1b[2J\\n\\\\\n"
+    );
+    let shown = match on_terminal(&server, "catattr name 1") {
+        Some(shown) => shown,
+        None => return,
+    };
+    assert_eq!(shown, "1 : string : x\\x1b[2J\\n\\\\\n");
+    let shown = on_terminal(&server, "query -c name,size 'name==*'").unwrap();
+    let lines: Vec<&str> = shown.lines().collect();
+    assert_eq!(
+        lines,
+        [
+            "Node  name          size",
+            "1     x\\x1b[2J\\n\\\\  10",
+            "2     b             20",
+            "3     c"
+        ]
+    );
+    assert_eq!(on_terminal(&server, "query 'name==b'").unwrap(), "2\n");
+    server.done(&["addattr", "a\u{9b}b", "\u{9b}", "3"]);
+    let listed = on_terminal(&server, "listattr -l 3").unwrap();
+    assert!(listed.contains("  \"a\\u{9b}b\"  \\u{9b}\n"), "{listed}");
+    let listed = on_terminal(&server, "listattr --json 3").unwrap();
+    assert_eq!(
+        listed,
+        "{\"node\":3,\"attributes\":{\"a\\u009bb\":\"\\u009b\",\"name\":\"c\"}}\n"
+    );
+}
+
+#[test]
+fn words_are_completed() {
+    let functions = "/usr/share/bash-completion/bash_completion";
+    if !Path::new(functions).exists() {
+        println!("the completion of words: skipped, there is no bash-completion");
+        return;
+    }
+    let server = server!(Server::with_three());
+    server.done(&["mkindex", "MAIL:from"]);
+    let script = format!(
+        ". {functions}; . {}/completion/be.bash; complete_line() {{ \
+         COMP_LINE=$1; COMP_POINT=${{#1}}; read -ra COMP_WORDS <<<\"${{1//:/ : }}\"; \
+         [[ $1 != *' ' ]] || COMP_WORDS+=(''); COMP_CWORD=$((${{#COMP_WORDS[@]}} - 1)); \
+         _be; echo \"${{COMPREPLY[*]}}\"; }}; \
+         complete_line 'be lsi'; complete_line 'be query --co'; complete_line 'be addattr -t uint'; \
+         complete_line 'be rmindex s'; complete_line 'be rmindex MAIL:f'",
+        env!("CARGO_MANIFEST_DIR")
+    );
+    let mut command = Command::new("bash");
+    let folder = Path::new(common::BE).parent().unwrap();
+    let path = format!("{}:{}", folder.display(), std::env::var("PATH").unwrap());
+    command
+        .args(["-c", &script])
+        .env("BESTORE_SOCKET", server.socket())
+        .env("PATH", path);
+    let said: Said = command.output().unwrap().into();
+    assert_eq!(
+        said.out, "lsindex\n--columns --count\nuint32 uint64\nsize\nfrom\n",
+        "{}",
+        said.error
+    );
+}

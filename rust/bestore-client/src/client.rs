@@ -1,0 +1,343 @@
+//! A connection to the server.
+
+use crate::wire::{self, Command, Json, Nothing, Push, Refusal, Request};
+use crate::{Error, Result};
+use bestore::{Batch, Value, Written};
+use serde::de::DeserializeOwned;
+use serde::Deserialize;
+use std::borrow::Cow;
+use std::collections::{BTreeMap, VecDeque};
+use std::io::{ErrorKind, Read, Write};
+use std::os::unix::net::UnixStream;
+use std::path::Path;
+use std::time::{Duration, Instant};
+
+/// The most bytes of a line of the server.
+const LINE: usize = 2 << 20;
+
+/// A connection, and with it a pass of the server's store.
+#[derive(Debug)]
+pub struct Client {
+    stream: UnixStream,
+    last: u64,
+    received: Vec<u8>,
+    /// How many of the received bytes have been looked at and have no end of a line.
+    searched: usize,
+    pushes: VecDeque<Push>,
+}
+
+/// A query with what the reply has besides the nodes, by [`Client::hits`].
+#[derive(Clone, Copy, Debug, Default)]
+pub struct Query<'a> {
+    /// The text of the query.
+    pub text: &'a str,
+    /// The attributes of each node that are wanted.
+    pub columns: &'a [&'a str],
+    /// The most nodes.
+    pub limit: Option<u64>,
+    /// The lowest node.
+    pub from: u64,
+}
+
+/// A line of the server, whose result is read later.
+#[derive(Deserialize)]
+struct Line<'a> {
+    #[serde(default)]
+    id: Option<u64>,
+    #[serde(default)]
+    watch: Option<u64>,
+    #[serde(borrow, default)]
+    ok: Option<&'a serde_json::value::RawValue>,
+    #[serde(default)]
+    error: Option<Refusal>,
+}
+
+fn bad(error: impl std::fmt::Display) -> Error {
+    Error::BadLine(error.to_string())
+}
+
+impl Client {
+    /// Connects to the server at this socket.
+    ///
+    /// # Errors
+    /// [`Error::Io`]: there is no server. A server that refuses the connection does so at the first call.
+    pub fn connect(path: impl AsRef<Path>) -> Result<Self> {
+        Ok(Self {
+            stream: UnixStream::connect(path)?,
+            last: 0,
+            received: Vec::new(),
+            searched: 0,
+            pushes: VecDeque::new(),
+        })
+    }
+
+    /// Sends a command, and returns the `ok` of its reply.
+    ///
+    /// # Errors
+    /// [`Error::Refused`], [`Error::Io`], [`Error::Closed`], [`Error::BadLine`].
+    pub fn call<T: DeserializeOwned>(&mut self, command: Command<'_>) -> Result<T> {
+        let id = self.send(command)?;
+        self.receive(id)
+    }
+
+    /// Sends a command. Its reply is received by [`receive`](Self::receive), after those of earlier ones.
+    ///
+    /// # Errors
+    /// [`Error::Io`].
+    pub fn send(&mut self, command: Command<'_>) -> Result<u64> {
+        self.last += 1;
+        let request = Request { id: self.last, command };
+        let mut line = serde_json::to_vec(&request).map_err(bad)?;
+        line.push(b'\n');
+        match self.stream.write_all(&line) {
+            // The server may have said why it closed the connection.
+            Err(error) if error.kind() == ErrorKind::BrokenPipe => Ok(self.last),
+            answer => Ok(answer.map(|()| self.last)?),
+        }
+    }
+
+    /// Receives the reply to the request with this number, which is the oldest one without.
+    ///
+    /// # Errors
+    /// As [`call`](Self::call).
+    pub fn receive<T: DeserializeOwned>(&mut self, id: u64) -> Result<T> {
+        loop {
+            let end = self.read_line(None)?.ok_or(Error::Closed)?;
+            let answer = self.reply(id, end);
+            self.received.drain(..end);
+            if let Some(answer) = answer? {
+                return answer;
+            }
+        }
+    }
+
+    /// Reads a line. `None`: it was a push.
+    fn reply<T: DeserializeOwned>(&mut self, id: u64, end: usize) -> Result<Option<Result<T>>> {
+        let line: Line<'_> = serde_json::from_slice(&self.received[..end]).map_err(bad)?;
+        if line.watch.is_some() {
+            let push = serde_json::from_slice(&self.received[..end]).map_err(bad)?;
+            self.pushes.push_back(push);
+            return Ok(None);
+        }
+        match (line.ok, line.error) {
+            (_, Some(refusal)) => Ok(Some(Err(Error::Refused(refusal)))),
+            (Some(ok), None) if line.id == Some(id) => Ok(Some(Ok(serde_json::from_str(ok.get()).map_err(bad)?))),
+            _ => Err(bad("the reply is of another request")),
+        }
+    }
+
+    /// The length of the next line, once it is received. `None` at the end of the time.
+    fn read_line(&mut self, until: Option<Instant>) -> Result<Option<usize>> {
+        loop {
+            let unseen = &self.received[self.searched..];
+            if let Some(at) = unseen.iter().position(|byte| *byte == b'\n') {
+                let end = self.searched + at + 1;
+                self.searched = 0;
+                return Ok(Some(end));
+            }
+            self.searched = self.received.len();
+            if self.searched > LINE {
+                return Err(bad("the line is too long"));
+            }
+            if !self.read_some(until)? {
+                return Ok(None);
+            }
+        }
+    }
+
+    fn read_some(&mut self, until: Option<Instant>) -> Result<bool> {
+        let left = match until.map(|until| until.saturating_duration_since(Instant::now())) {
+            Some(left) if left.is_zero() => return Ok(false),
+            left => left,
+        };
+        if left.is_some() {
+            self.stream.set_read_timeout(left)?;
+        }
+        let mut bytes = [0; 1 << 14];
+        let read = self.stream.read(&mut bytes);
+        if left.is_some() {
+            self.stream.set_read_timeout(None)?;
+        }
+        match read {
+            Ok(0) => Err(Error::Closed),
+            Ok(count) => {
+                self.received.extend_from_slice(&bytes[..count]);
+                Ok(true)
+            }
+            Err(error) if matches!(error.kind(), ErrorKind::WouldBlock | ErrorKind::TimedOut) => Ok(false),
+            Err(error) if error.kind() == ErrorKind::Interrupted => Ok(true),
+            Err(error) if error.kind() == ErrorKind::ConnectionReset => Err(Error::Closed),
+            Err(error) => Err(error.into()),
+        }
+    }
+
+    /// The next line that was pushed for a live query, if one comes within the time.
+    ///
+    /// # Errors
+    /// [`Error::Io`], [`Error::Closed`], [`Error::BadLine`].
+    pub fn next_push(&mut self, within: Duration) -> Result<Option<Push>> {
+        if let Some(push) = self.pushes.pop_front() {
+            return Ok(Some(push));
+        }
+        let end = match self.read_line(Some(Instant::now() + within))? {
+            Some(end) => end,
+            None => return Ok(None),
+        };
+        let push = serde_json::from_slice(&self.received[..end]).map_err(bad);
+        self.received.drain(..end);
+        push.map(Some)
+    }
+
+    /// Versions and limits of the server.
+    ///
+    /// # Errors
+    /// As [`call`](Self::call), like all calls below.
+    pub fn hello(&mut self) -> Result<wire::Hello> {
+        self.call(Command::Hello(wire::Greeting {
+            protocol: Some(wire::PROTOCOL),
+        }))
+    }
+
+    /// Writes all operations of the batch or none.
+    ///
+    /// # Errors
+    /// As `call`.
+    pub fn apply(&mut self, batch: &Batch) -> Result<Written> {
+        self.write(batch, None)
+    }
+
+    /// Writes as [`apply`](Self::apply), if the journal has exactly `expected` entries. Otherwise the error is `Conflict`.
+    ///
+    /// # Errors
+    /// As `call`.
+    pub fn apply_if(&mut self, expected: u64, batch: &Batch) -> Result<Written> {
+        self.write(batch, Some(expected))
+    }
+
+    fn write(&mut self, batch: &Batch, expected: Option<u64>) -> Result<Written> {
+        let operations = batch.clone().into();
+        let written: wire::Written = self.call(Command::Batch(wire::Write { operations, expected }))?;
+        Ok(Written {
+            number: written.commit,
+            nodes: written.nodes,
+        })
+    }
+
+    /// Keeps the current snapshot for reads, until [`unpin`](Self::unpin).
+    ///
+    /// # Errors
+    /// As `call`.
+    pub fn pin(&mut self) -> Result<wire::Next> {
+        self.call(Command::Pin(Nothing {}))
+    }
+
+    /// Gives the snapshot back.
+    ///
+    /// # Errors
+    /// As `call`.
+    pub fn unpin(&mut self) -> Result<()> {
+        self.call::<Nothing>(Command::Unpin(Nothing {})).map(drop)
+    }
+
+    /// An attribute, or `None` if the node or the attribute doesn't exist.
+    ///
+    /// # Errors
+    /// As `call`.
+    pub fn get(&mut self, node: u64, name: &str) -> Result<Option<Value>> {
+        let name = name.into();
+        let read: wire::Value = self.call(Command::Get(wire::Get { node, name }))?;
+        Ok(read.value.map(|value| value.0))
+    }
+
+    /// The attributes of a node.
+    ///
+    /// # Errors
+    /// As `call`.
+    pub fn attributes(&mut self, node: u64) -> Result<BTreeMap<String, Value>> {
+        let read: wire::Attributes = self.call(Command::Attributes(wire::Node { node }))?;
+        let attributes = read.attributes.into_iter();
+        Ok(attributes.map(|(name, Json(value))| (name, value)).collect())
+    }
+
+    /// All nodes that the query finds, ascending. Of more than a page they are of one snapshot only if the client is pinned.
+    ///
+    /// # Errors
+    /// As `call`.
+    pub fn query(&mut self, text: &str) -> Result<Vec<u64>> {
+        let mut found = Vec::new();
+        let mut query = Query {
+            text,
+            ..Query::default()
+        };
+        loop {
+            let page = self.hits(query)?;
+            found.extend(page.nodes.unwrap_or_default());
+            match page.more {
+                Some(from) => query.from = from,
+                None => return Ok(found),
+            }
+        }
+    }
+
+    /// A page of what a query finds, with columns.
+    ///
+    /// # Errors
+    /// As `call`.
+    pub fn hits(&mut self, query: Query<'_>) -> Result<wire::Hits> {
+        let columns: Vec<_> = query.columns.iter().map(|name| Cow::from(*name)).collect();
+        self.call(Command::Query(wire::Query {
+            query: query.text.into(),
+            columns: (!columns.is_empty()).then_some(wire::Columns(columns)),
+            limit: query.limit,
+            from: query.from,
+            count: false,
+        }))
+    }
+
+    /// How many nodes the query finds.
+    ///
+    /// # Errors
+    /// As `call`.
+    pub fn count(&mut self, text: &str) -> Result<u64> {
+        let hits: wire::Hits = self.call(Command::Query(wire::Query {
+            query: text.into(),
+            count: true,
+            ..wire::Query::default()
+        }))?;
+        Ok(hits.count)
+    }
+
+    /// Begins a live query, whose changes come by [`next_push`](Self::next_push). Without a query each commit is pushed.
+    ///
+    /// # Errors
+    /// As `call`.
+    pub fn watch(&mut self, query: Option<&str>) -> Result<wire::Watched> {
+        let query = query.map(Cow::from);
+        self.call(Command::Watch(wire::Watch { query }))
+    }
+
+    /// Ends a live query. Pushes that have come before may still be waiting.
+    ///
+    /// # Errors
+    /// As `call`.
+    pub fn unwatch(&mut self, watch: u64) -> Result<()> {
+        let command = Command::Unwatch(wire::Watching { watch });
+        self.call::<Nothing>(command).map(drop)
+    }
+
+    /// How full the store is.
+    ///
+    /// # Errors
+    /// As `call`.
+    pub fn status(&mut self) -> Result<wire::Status> {
+        self.call(Command::Status(Nothing {}))
+    }
+
+    /// A page of the journal, from the entry with this index on.
+    ///
+    /// # Errors
+    /// As `call`.
+    pub fn journal_from(&mut self, from: u64) -> Result<wire::Journal> {
+        self.call(Command::Journal(wire::JournalFrom { from, limit: None }))
+    }
+}

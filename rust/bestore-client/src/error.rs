@@ -1,0 +1,64 @@
+//! Why a call failed.
+
+use crate::wire::Refusal;
+use std::{fmt, io};
+
+/// The result of a call of this crate.
+pub type Result<T> = std::result::Result<T, Error>;
+
+/// Why a call failed.
+#[non_exhaustive]
+#[derive(Debug)]
+pub enum Error {
+    /// The server refused the request, and did nothing.
+    Refused(Refusal),
+    /// The connection failed. Whether a write was made is not known.
+    Io(io::Error),
+    /// The server closed the connection. Whether a write was made is not known.
+    Closed,
+    /// The server sent what is no line of the protocol.
+    BadLine(String),
+}
+
+impl Error {
+    /// What the server refused, if it did.
+    #[must_use]
+    pub fn refusal(&self) -> Option<&Refusal> {
+        match self {
+            Error::Refused(refusal) => Some(refusal),
+            _ => None,
+        }
+    }
+
+    /// Whether the server refused with this error, such as `Conflict`.
+    #[must_use]
+    pub fn is(&self, name: &str) -> bool {
+        self.refusal().map_or(false, |refusal| refusal.name == name)
+    }
+}
+
+impl From<io::Error> for Error {
+    fn from(error: io::Error) -> Self {
+        Error::Io(error)
+    }
+}
+
+impl fmt::Display for Error {
+    fn fmt(&self, f: &mut fmt::Formatter<'_>) -> fmt::Result {
+        match self {
+            Error::Refused(refusal) => refusal.fmt(f),
+            Error::Io(error) => write!(f, "the connection to the server: {error}"),
+            Error::Closed => f.write_str("the server closed the connection"),
+            Error::BadLine(why) => write!(f, "the server sent what is no line of the protocol: {why}"),
+        }
+    }
+}
+
+impl std::error::Error for Error {
+    fn source(&self) -> Option<&(dyn std::error::Error + 'static)> {
+        match self {
+            Error::Io(error) => Some(error),
+            _ => None,
+        }
+    }
+}

@@ -1,0 +1,31 @@
+//! A client of bestored, which shares a store of attributes between the programs of a user.
+//!
+//! ```no_run
+//! use bestore::{Batch, Kind};
+//! use bestore_client::Client;
+//!
+//! let mut client = Client::connect("/run/user/1000/bestore/socket")?;
+//! client.apply(Batch::new().make_index("MAIL:from", Kind::Text))?;
+//! client.change(|change| {
+//!     let letter = change.new_node();
+//!     change.batch().set(letter, "MAIL:from", "Ada");
+//!     Ok(())
+//! })?;
+//! for node in client.query("MAIL:from==Ada")? {
+//!     println!("node {node}");
+//! }
+//! # Ok::<(), bestore_client::Error>(())
+//! ```
+//!
+//! [`wire`] has the lines of the protocol, and [`Client::call`] sends any of them.
+#![warn(missing_docs, missing_debug_implementations, rust_2018_idioms)]
+#![forbid(unsafe_code)]
+
+mod change;
+mod client;
+mod error;
+pub mod wire;
+
+pub use change::Change;
+pub use client::{Client, Query};
+pub use error::{Error, Result};

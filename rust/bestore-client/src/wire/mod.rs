@@ -1,0 +1,26 @@
+//! The protocol: requests, replies and values as JSON. `docs/SERVER.md` describes it.
+
+mod operation;
+mod reply;
+mod request;
+mod value;
+
+pub use operation::{Operations, ShownOperations};
+pub use reply::{
+    Attributes, Commit, Explained, HeldBy, Hello, Hits, Indices, Journal, JournalEntry, Limits, Next, Nodes, Push,
+    Refusal, State, Status, Value, Watched, Written,
+};
+pub use request::{
+    id_of, Columns, Command, From, Get, Greeting, JournalFrom, Node, NodesFrom, Nothing, Query, QueryText, Request,
+    Watch, Watching, Write,
+};
+pub use value::{kind_name, kind_named, Json};
+
+/// The version of the protocol.
+pub const PROTOCOL: u64 = 1;
+
+/// The most bytes of a request, with the end of the line.
+pub const LINE: usize = 1 << 20;
+
+/// The greatest integer that is written as a number of JSON. Some readers of JSON round greater ones.
+pub const EXACT: u64 = (1 << 53) - 1;

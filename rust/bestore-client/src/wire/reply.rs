@@ -1,0 +1,260 @@
+//! Replies, and the lines that the server pushes.
+
+use super::{Json, Operations};
+use serde::{Deserialize, Serialize};
+use std::collections::BTreeMap;
+use std::fmt;
+
+macro_rules! replies {
+    ($($(#[$meta:meta])* $name:ident { $($body:tt)* })*) => {$(
+        $(#[$meta])*
+        #[derive(Clone, Debug, Default, PartialEq, Eq, Serialize, Deserialize)]
+        pub struct $name { $($body)* }
+    )*};
+}
+
+replies! {
+    /// Of `hello`.
+    Hello {
+        /// The version of the protocol.
+        pub protocol: u64,
+        /// The version of the server.
+        pub server: String,
+        /// The version of the library.
+        pub library: String,
+        /// Another text for each run of a server. Commit numbers begin anew with each run.
+        pub run: String,
+        /// The number of the connection's pass.
+        pub pass: u64,
+        /// `no`, or when a write is in the file: at `each` write, or `every` so often.
+        pub kept: String,
+        /// The limits.
+        pub limits: Limits,
+    }
+
+    /// How large the store may grow, and a connection's requests.
+    Limits {
+        /// Pages of 4 KiB.
+        pub pages: u64,
+        /// Clients at the same time.
+        pub passes: u64,
+        /// Entries of the journal.
+        pub commits: u64,
+        /// Operations of a batch.
+        pub operations: u64,
+        /// Bytes of a request.
+        pub line: u64,
+        /// Live queries of a connection.
+        pub watches: u64,
+    }
+
+    /// Of `batch`.
+    Written {
+        /// The commit number.
+        pub commit: u64,
+        /// The nodes that were made.
+        pub nodes: Vec<u64>,
+    }
+
+    /// A snapshot, and the number that the next node will have: of `pin` and `next`.
+    Next {
+        /// The snapshot.
+        pub commit: u64,
+        /// The next node.
+        pub next: u64,
+    }
+
+    /// Of `query`.
+    Hits {
+        /// The snapshot.
+        pub commit: u64,
+        /// How many nodes the query finds.
+        pub count: u64,
+        /// The nodes of this page. Missing if the count alone was asked for.
+        #[serde(default, skip_serializing_if = "Option::is_none")]
+        pub nodes: Option<Vec<u64>>,
+        /// Of each node the values of the columns.
+        #[serde(default, skip_serializing_if = "Option::is_none")]
+        pub rows: Option<Vec<Vec<Option<Json>>>>,
+        /// Where the next page begins.
+        #[serde(default, skip_serializing_if = "Option::is_none")]
+        pub more: Option<u64>,
+    }
+
+    /// Of `get`.
+    Value {
+        /// The snapshot.
+        pub commit: u64,
+        /// The value, if there is one.
+        pub value: Option<Json>,
+    }
+
+    /// Of `attributes`.
+    Attributes {
+        /// The snapshot.
+        pub commit: u64,
+        /// The attributes by their names.
+        pub attributes: BTreeMap<String, Json>,
+    }
+
+    /// Of `indices`.
+    Indices {
+        /// The snapshot.
+        pub commit: u64,
+        /// The names of kinds by the names of the indices.
+        pub indices: BTreeMap<String, String>,
+    }
+
+    /// Of `nodes`.
+    Nodes {
+        /// The snapshot.
+        pub commit: u64,
+        /// The nodes of this page.
+        pub nodes: Vec<u64>,
+        /// Where the next page begins.
+        #[serde(default, skip_serializing_if = "Option::is_none")]
+        pub more: Option<u64>,
+    }
+
+    /// Of `explain`.
+    Explained {
+        /// The snapshot.
+        pub commit: u64,
+        /// The chosen indices and the cost.
+        pub text: String,
+    }
+
+    /// Of `watch`.
+    Watched {
+        /// The number of the watch.
+        pub watch: u64,
+        /// The snapshot.
+        pub commit: u64,
+        /// The nodes that the query finds.
+        #[serde(default, skip_serializing_if = "Option::is_none")]
+        pub nodes: Option<Vec<u64>>,
+        /// Whether the next push belongs to this reply.
+        #[serde(default, skip_serializing_if = "is_false")]
+        pub more: bool,
+    }
+
+    /// Of `status`.
+    Status {
+        /// All pages.
+        pub pages: u64,
+        /// Those that a write may take.
+        pub free: u64,
+        /// Those of older snapshots.
+        pub retired: u64,
+        /// How many entries the journal has.
+        pub entries: u64,
+        /// How many it may have.
+        pub commits: u64,
+        /// The oldest active reader.
+        pub oldest: Option<HeldBy>,
+        /// How many clients are connected.
+        pub clients: u64,
+        /// How many live queries they have.
+        pub watches: u64,
+    }
+
+    /// The oldest active reader of a store.
+    HeldBy {
+        /// The snapshot that it may read.
+        pub snapshot: u64,
+        /// The number of its pass.
+        pub pass: u64,
+    }
+
+    /// Of `journal`.
+    Journal {
+        /// How many entries the journal has.
+        pub length: u64,
+        /// The entries of this page.
+        pub entries: Vec<JournalEntry>,
+        /// Where the next page begins.
+        #[serde(default, skip_serializing_if = "Option::is_none")]
+        pub more: Option<u64>,
+    }
+
+    /// An entry of the journal.
+    JournalEntry {
+        /// The commit number.
+        pub commit: u64,
+        /// The pass that wrote it.
+        pub pass: u64,
+        /// The operations, in which each new node has its number.
+        pub operations: Operations,
+    }
+
+    /// Of `state`.
+    State {
+        /// The snapshot.
+        pub commit: u64,
+        /// The number that the next node will have.
+        pub next: u64,
+        /// The batches of this page.
+        pub batches: Vec<Operations>,
+        /// Where the next page begins.
+        #[serde(default, skip_serializing_if = "Option::is_none")]
+        pub more: Option<u64>,
+    }
+
+    /// A snapshot.
+    Commit {
+        /// Its number.
+        pub commit: u64,
+    }
+
+    /// A line that the server pushes for a watch.
+    Push {
+        /// The number of the watch.
+        pub watch: u64,
+        /// The snapshot to which the changes lead.
+        pub commit: u64,
+        /// The nodes that came into the answer.
+        #[serde(default)]
+        pub created: Vec<u64>,
+        /// The nodes that left it.
+        #[serde(default)]
+        pub removed: Vec<u64>,
+        /// Whether the next push of this watch belongs to the same snapshot.
+        #[serde(default, skip_serializing_if = "is_false")]
+        pub more: bool,
+        /// Why the watch has ended.
+        #[serde(default, skip_serializing_if = "Option::is_none")]
+        pub error: Option<Refusal>,
+    }
+
+    /// Why a request did nothing, with what is known of it.
+    Refusal {
+        /// The name of the error.
+        pub name: String,
+        /// Its number in `bestore.h`, if it has one.
+        #[serde(default, skip_serializing_if = "Option::is_none")]
+        pub number: Option<u32>,
+        /// A text for people.
+        pub message: String,
+        /// What goes with it, by names.
+        #[serde(flatten)]
+        pub details: BTreeMap<String, serde_json::Value>,
+    }
+}
+
+fn is_false(value: &bool) -> bool {
+    !value
+}
+
+impl Refusal {
+    /// A number that goes with the error.
+    #[must_use]
+    pub fn number_of(&self, detail: &str) -> Option<u64> {
+        self.details.get(detail)?.as_u64()
+    }
+}
+
+impl fmt::Display for Refusal {
+    fn fmt(&self, f: &mut fmt::Formatter<'_>) -> fmt::Result {
+        write!(f, "{}: {}", self.name, self.message)
+    }
+}

@@ -1,0 +1,376 @@
+//! Requests: an `id` and one command.
+
+use super::Operations;
+use serde::de::{self, Deserialize, Deserializer, IgnoredAny, MapAccess, Visitor};
+use serde::ser::{Serialize, SerializeMap, Serializer};
+use std::borrow::Cow;
+use std::fmt;
+
+macro_rules! parameters {
+    ($($(#[$meta:meta])* $name:ident { $($body:tt)* })*) => {$(
+        $(#[$meta])*
+        #[derive(Clone, Debug, Default, PartialEq, Eq, serde::Serialize, serde::Deserialize)]
+        #[serde(deny_unknown_fields)]
+        pub struct $name { $($body)* }
+    )*};
+}
+
+macro_rules! parameters_with_texts {
+    ($($(#[$meta:meta])* $name:ident { $($body:tt)* })*) => {$(
+        $(#[$meta])*
+        #[derive(Clone, Debug, Default, PartialEq, Eq, serde::Serialize, serde::Deserialize)]
+        #[serde(deny_unknown_fields)]
+        pub struct $name<'a> { $($body)* }
+    )*};
+}
+
+parameters! {
+    /// The parameters of a command that has none.
+    Nothing {}
+
+    /// Of `hello`.
+    Greeting {
+        /// The version of the protocol that the client speaks.
+        #[serde(default, skip_serializing_if = "Option::is_none")]
+        pub protocol: Option<u64>,
+    }
+
+    /// Of `batch`.
+    Write {
+        /// The operations.
+        pub operations: Operations,
+        /// How many entries the journal has to have.
+        #[serde(default, skip_serializing_if = "Option::is_none")]
+        pub expected: Option<u64>,
+    }
+
+    /// Of `attributes`.
+    Node {
+        /// The node.
+        pub node: u64,
+    }
+
+    /// Of `nodes`.
+    NodesFrom {
+        /// The lowest node.
+        #[serde(default)]
+        pub from: u64,
+        /// The most nodes.
+        #[serde(default, skip_serializing_if = "Option::is_none")]
+        pub limit: Option<u64>,
+    }
+
+    /// Of `unwatch`.
+    Watching {
+        /// The number of the watch.
+        pub watch: u64,
+    }
+
+    /// Of `journal`.
+    JournalFrom {
+        /// The index of the first entry.
+        #[serde(default)]
+        pub from: u64,
+        /// The most entries.
+        #[serde(default, skip_serializing_if = "Option::is_none")]
+        pub limit: Option<u64>,
+    }
+
+    /// Of `state`.
+    From {
+        /// The index of the first batch.
+        #[serde(default)]
+        pub from: u64,
+    }
+}
+
+parameters_with_texts! {
+    /// Of `query`.
+    Query {
+        /// The query.
+        #[serde(borrow)]
+        pub query: Cow<'a, str>,
+        /// The attributes of each node that the reply has.
+        #[serde(borrow, default, skip_serializing_if = "Option::is_none")]
+        pub columns: Option<Columns<'a>>,
+        /// The most nodes.
+        #[serde(default, skip_serializing_if = "Option::is_none")]
+        pub limit: Option<u64>,
+        /// The lowest node.
+        #[serde(default)]
+        pub from: u64,
+        /// Whether only the number of nodes is asked for.
+        #[serde(default)]
+        pub count: bool,
+    }
+
+    /// Of `explain`.
+    QueryText {
+        /// The query.
+        #[serde(borrow)]
+        pub query: Cow<'a, str>,
+    }
+
+    /// Of `watch`.
+    Watch {
+        /// The query, if the nodes that it finds are watched.
+        #[serde(borrow, default, skip_serializing_if = "Option::is_none")]
+        pub query: Option<Cow<'a, str>>,
+    }
+
+    /// Of `get`.
+    Get {
+        /// The node.
+        pub node: u64,
+        /// The name of the attribute.
+        #[serde(borrow)]
+        pub name: Cow<'a, str>,
+    }
+}
+
+/// Names of attributes, 64 at most.
+#[derive(Clone, Debug, Default, PartialEq, Eq)]
+pub struct Columns<'a>(pub Vec<Cow<'a, str>>);
+
+impl Serialize for Columns<'_> {
+    fn serialize<S: Serializer>(&self, to: S) -> Result<S::Ok, S::Error> {
+        to.collect_seq(&self.0)
+    }
+}
+
+impl<'de: 'a, 'a> Deserialize<'de> for Columns<'a> {
+    fn deserialize<D: Deserializer<'de>>(from: D) -> Result<Self, D::Error> {
+        struct List;
+
+        impl<'de> Visitor<'de> for List {
+            type Value = Columns<'de>;
+
+            fn expecting(&self, f: &mut fmt::Formatter<'_>) -> fmt::Result {
+                f.write_str("a list of names")
+            }
+
+            fn visit_seq<A: de::SeqAccess<'de>>(self, mut list: A) -> Result<Columns<'de>, A::Error> {
+                let mut names = Vec::new();
+                while let Some(name) = list.next_element::<super::value::Text<'de>>()? {
+                    if names.len() == 64 {
+                        return Err(de::Error::custom("there are more than 64 columns"));
+                    }
+                    names.push(name.0);
+                }
+                Ok(Columns(names))
+            }
+        }
+
+        from.deserialize_seq(List)
+    }
+}
+
+macro_rules! commands {
+    ($($(#[$meta:meta])* $variant:ident($parameters:ty) = $name:literal;)*) => {
+        /// A command with its parameters.
+        #[derive(Clone, Debug, PartialEq, Eq)]
+        pub enum Command<'a> {
+            $($(#[$meta])* $variant($parameters),)*
+        }
+
+        impl<'a> Command<'a> {
+            /// Reads the parameters of the command with this name.
+            fn read<A: MapAccess<'a>>(name: &str, map: &mut A) -> Result<Self, A::Error> {
+                match name {
+                    $($name => Ok(Command::$variant(map.next_value()?)),)*
+                    _ => Err(de::Error::custom("there is no such command")),
+                }
+            }
+
+            fn write<M: SerializeMap>(&self, to: &mut M) -> Result<(), M::Error> {
+                match self {
+                    $(Command::$variant(parameters) => to.serialize_entry($name, parameters),)*
+                }
+            }
+        }
+    };
+}
+
+commands! {
+    /// Versions and limits.
+    Hello(Greeting) = "hello";
+    /// Writes.
+    Batch(Write) = "batch";
+    /// Keeps a snapshot.
+    Pin(Nothing) = "pin";
+    /// Gives it back.
+    Unpin(Nothing) = "unpin";
+    /// Asks a query.
+    Query(Query<'a>) = "query";
+    /// Reads an attribute.
+    Get(Get<'a>) = "get";
+    /// Reads all attributes of a node.
+    Attributes(Node) = "attributes";
+    /// Lists the indices.
+    Indices(Nothing) = "indices";
+    /// Lists nodes.
+    Nodes(NodesFrom) = "nodes";
+    /// The number of the next node.
+    Next(Nothing) = "next";
+    /// Which indices a query uses.
+    Explain(QueryText<'a>) = "explain";
+    /// Begins a live query.
+    Watch(Watch<'a>) = "watch";
+    /// Ends it.
+    Unwatch(Watching) = "unwatch";
+    /// How full the store is.
+    Status(Nothing) = "status";
+    /// Entries of the journal.
+    Journal(JournalFrom) = "journal";
+    /// The batches that make the snapshot again.
+    State(From) = "state";
+    /// Waits for the file.
+    Flush(Nothing) = "flush";
+    /// Writes the state into the file anew.
+    Compact(Nothing) = "compact";
+}
+
+/// A request.
+#[derive(Clone, Debug, PartialEq, Eq)]
+pub struct Request<'a> {
+    /// Its number, which the reply has too.
+    pub id: u64,
+    /// What is asked for.
+    pub command: Command<'a>,
+}
+
+impl Serialize for Request<'_> {
+    fn serialize<S: Serializer>(&self, to: S) -> Result<S::Ok, S::Error> {
+        let mut map = to.serialize_map(Some(2))?;
+        map.serialize_entry("id", &self.id)?;
+        self.command.write(&mut map)?;
+        map.end()
+    }
+}
+
+impl<'de: 'a, 'a> Deserialize<'de> for Request<'a> {
+    fn deserialize<D: Deserializer<'de>>(from: D) -> Result<Self, D::Error> {
+        from.deserialize_map(RequestVisitor)
+    }
+}
+
+struct RequestVisitor;
+
+impl<'de> Visitor<'de> for RequestVisitor {
+    type Value = Request<'de>;
+
+    fn expecting(&self, f: &mut fmt::Formatter<'_>) -> fmt::Result {
+        f.write_str("an object of an id and a command")
+    }
+
+    fn visit_map<A: MapAccess<'de>>(self, mut map: A) -> Result<Request<'de>, A::Error> {
+        let (mut id, mut command) = (None, None);
+        while let Some(key) = map.next_key::<super::value::Text<'_>>()? {
+            if key.0 == "id" {
+                let number: u64 = map.next_value()?;
+                if number > super::EXACT {
+                    return Err(de::Error::custom("the id is too great"));
+                }
+                if id.replace(number).is_some() {
+                    return Err(de::Error::custom("there are two ids"));
+                }
+            } else {
+                let read = Command::read(&key.0, &mut map)?;
+                if command.replace(read).is_some() {
+                    return Err(de::Error::custom("there are two commands"));
+                }
+            }
+        }
+        Ok(Request {
+            id: id.ok_or_else(|| de::Error::custom("the id is missing"))?,
+            command: command.ok_or_else(|| de::Error::custom("a command is missing"))?,
+        })
+    }
+}
+
+/// The `id` of a line that is no request, if it can be read.
+#[must_use]
+pub fn id_of(line: &[u8]) -> Option<u64> {
+    struct Id;
+
+    impl<'de> Visitor<'de> for Id {
+        type Value = Option<u64>;
+
+        fn expecting(&self, f: &mut fmt::Formatter<'_>) -> fmt::Result {
+            f.write_str("an object with an id")
+        }
+
+        fn visit_map<A: MapAccess<'de>>(self, mut map: A) -> Result<Option<u64>, A::Error> {
+            let mut id = None;
+            while let Some(key) = map.next_key::<super::value::Text<'_>>()? {
+                if key.0 == "id" {
+                    id = Some(map.next_value()?);
+                } else {
+                    map.next_value::<IgnoredAny>()?;
+                }
+            }
+            Ok(id)
+        }
+    }
+
+    let mut from = serde_json::Deserializer::from_slice(line);
+    let id = from.deserialize_map(Id).ok().flatten();
+    id.filter(|id| *id <= super::EXACT)
+}
+
+#[cfg(test)]
+mod tests {
+    use super::*;
+
+    #[test]
+    fn requests_go_there_and_back() {
+        for line in [
+            r#"{"id":1,"hello":{}}"#,
+            r#"{"id":0,"batch":{"operations":[["new"]],"expected":3}}"#,
+            r#"{"id":2,"query":{"query":"size>=5","columns":["size"],"limit":3,"from":0,"count":false}}"#,
+            r#"{"id":3,"watch":{}}"#,
+            r#"{"id":3,"get":{"node":1,"name":"a\"b"}}"#,
+        ] {
+            let request: Request<'_> = serde_json::from_str(line).unwrap();
+            assert_eq!(serde_json::to_string(&request).unwrap(), line);
+        }
+    }
+
+    #[test]
+    fn the_command_may_come_first() {
+        let request: Request<'_> = serde_json::from_str(r#"{"pin":{},"id":7}"#).unwrap();
+        assert_eq!(request.id, 7);
+    }
+
+    #[test]
+    fn what_is_no_request_is_refused_and_its_id_found() {
+        for (line, id) in [
+            (r#"{"id":1}"#, Some(1)),
+            (r#"{"pin":{}}"#, None),
+            (r#"{"id":1,"pin":{},"unpin":{}}"#, Some(1)),
+            (r#"{"id":1,"id":2,"pin":{}}"#, Some(2)),
+            (r#"{"id":1,"drop":{}}"#, Some(1)),
+            (r#"{"id":1,"pin":{"at":5}}"#, Some(1)),
+            (r#"{"id":1,"pin":null}"#, Some(1)),
+            (r#"{"id":-1,"pin":{}}"#, None),
+            (r#"{"id":9007199254740992,"pin":{}}"#, None),
+            (r#"{"id":"a","pin":{}}"#, None),
+            (r#"{"get":{"node":1},"id":4}"#, Some(4)),
+            (r#"[1]"#, None),
+            ("", None),
+        ] {
+            assert!(serde_json::from_str::<Request<'_>>(line).is_err(), "{line}");
+            assert_eq!(id_of(line.as_bytes()), id, "{line}");
+        }
+    }
+
+    #[test]
+    fn columns_are_limited() {
+        let line = |count| {
+            let columns = vec!["\"a\""; count].join(",");
+            format!(r#"{{"id":1,"query":{{"query":"a==1","columns":[{columns}]}}}}"#)
+        };
+        assert!(serde_json::from_str::<Request<'_>>(&line(64)).is_ok());
+        assert!(serde_json::from_str::<Request<'_>>(&line(65)).is_err());
+    }
+}

@@ -1,0 +1,338 @@
+//! The answers to requests.
+
+use crate::failure::Failure;
+use crate::outbox::Outbox;
+use crate::page::{self, rows_of, Room};
+use crate::server::Shared;
+use crate::watcher::{self, Watch, Watches};
+use bestore::{Live, Pass, Snapshot, State, Updates};
+use bestore_client::wire::{self, Command};
+use serde::Serialize;
+use std::io::{self, Write};
+use std::sync::Arc;
+use std::time::Instant;
+
+/// The most live queries of one connection.
+pub const WATCHES: usize = 32;
+
+/// How many bytes of replies are collected before they are sent.
+const COLLECTED: usize = 1 << 16;
+
+/// What the reads of a connection see.
+#[derive(Debug)]
+pub enum View<'v, 'p> {
+    /// For each read the current snapshot.
+    Current(&'v mut Pass),
+    /// One snapshot, since this time.
+    Kept {
+        snapshot: &'v Snapshot<'p>,
+        since: Instant,
+        /// How far `state` has been read, by the index of its next batch.
+        state: Option<(u64, State<'v>)>,
+    },
+    /// Nothing, as the snapshot was taken back.
+    Expired(&'v Pass),
+}
+
+impl<'v, 'p> View<'v, 'p> {
+    pub fn kept(snapshot: &'v Snapshot<'p>) -> Self {
+        View::Kept {
+            snapshot,
+            since: Instant::now(),
+            state: None,
+        }
+    }
+
+    /// Since when a snapshot is kept, if one is.
+    pub fn since(&self) -> Option<Instant> {
+        match self {
+            View::Kept { since, .. } => Some(*since),
+            View::Current(_) | View::Expired(_) => None,
+        }
+    }
+
+    fn pass(&self) -> &Pass {
+        match self {
+            View::Current(pass) => pass,
+            View::Kept { snapshot, .. } => snapshot.pass(),
+            View::Expired(pass) => pass,
+        }
+    }
+
+    /// Reads in the snapshot that is kept, otherwise in the current one.
+    fn read<T>(&mut self, read: impl FnOnce(&Snapshot<'_>) -> Result<T, Failure>) -> Result<T, Failure> {
+        match self {
+            View::Current(pass) => read(&pass.pin()?),
+            View::Kept { snapshot, .. } => read(snapshot),
+            View::Expired(_) => Err(Failure::expired()),
+        }
+    }
+}
+
+/// Answers the requests of one client, and collects the replies.
+#[derive(Debug)]
+pub struct Desk<'a> {
+    pub shared: &'a Shared,
+    outbox: Arc<Outbox>,
+    out: Vec<u8>,
+    watches: Option<Arc<Watches>>,
+    last_watch: u64,
+}
+
+impl Drop for Desk<'_> {
+    fn drop(&mut self) {
+        if let Some(watches) = &self.watches {
+            self.shared.watcher.leave(watches);
+        }
+    }
+}
+
+impl<'a> Desk<'a> {
+    pub fn new(shared: &'a Shared, outbox: Arc<Outbox>) -> Self {
+        Self {
+            shared,
+            outbox,
+            out: Vec::new(),
+            watches: None,
+            last_watch: 0,
+        }
+    }
+
+    /// Sends the replies that were collected.
+    pub fn send(&mut self) -> io::Result<()> {
+        if !self.out.is_empty() {
+            self.outbox.send(&self.out)?;
+            self.out.clear();
+            self.out.shrink_to(COLLECTED);
+        }
+        Ok(())
+    }
+
+    /// Adds a reply.
+    pub fn reply(&mut self, id: u64, ok: &impl Serialize) {
+        self.add(Some(id), "ok", ok);
+    }
+
+    /// Adds the reply of a request that did nothing.
+    pub fn refuse(&mut self, id: Option<u64>, failure: Failure) {
+        self.add(id, "error", &failure.0);
+    }
+
+    fn add(&mut self, id: Option<u64>, what: &str, body: &impl Serialize) {
+        let length = self.out.len();
+        let written = match id {
+            Some(id) => write!(self.out, "{{\"id\":{id},\"{what}\":"),
+            None => write!(self.out, "{{\"id\":null,\"{what}\":"),
+        };
+        let written = written.and_then(|()| Ok(serde_json::to_writer(&mut self.out, body)?));
+        match written {
+            Ok(()) => self.out.extend_from_slice(b"}\n"),
+            // Writing to memory doesn't fail.
+            Err(_) => self.out.truncate(length),
+        }
+    }
+
+    /// Answers a command other than `pin` and `unpin`.
+    pub fn answer(&mut self, id: u64, command: Command<'_>, view: &mut View<'_, '_>) -> io::Result<()> {
+        let answered = match command {
+            Command::Batch(write) => self.write(id, &write, view),
+            Command::Watch(watch) => match self.watch(watch, view) {
+                Ok((reply, watch)) => return self.begin(id, &reply, watch),
+                Err(failure) => Err(failure),
+            },
+            Command::Unwatch(watching) => self.unwatch(id, &watching),
+            Command::Hello(greeting) => self.hello(id, &greeting, view),
+            Command::Status(_) => self.status(id, view),
+            Command::Journal(journal) => page::journal(view.pass(), &journal).map(|page| self.reply(id, &page)),
+            Command::State(from) => state(view, from.from).map(|page| self.reply(id, &page)),
+            Command::Flush(_) => self.shared.kept.flush().map(|()| self.reply(id, &wire::Nothing {})),
+            Command::Compact(_) => self.shared.kept.compact().map(|()| self.reply(id, &wire::Nothing {})),
+            command => view.read(|snapshot| self.read(id, command, snapshot)),
+        };
+        if let Err(failure) = answered {
+            self.refuse(Some(id), failure);
+        }
+        match self.out.len() {
+            0..=COLLECTED => Ok(()),
+            _ => self.send(),
+        }
+    }
+
+    fn write(&mut self, id: u64, write: &wire::Write, view: &View<'_, '_>) -> Result<(), Failure> {
+        let wire::Operations { batch, count } = &write.operations;
+        if *count > batch.len() {
+            return Err(bestore::Error::BadCount { count: *count }.into());
+        }
+        let written = self.shared.pressure.write(view.pass(), write.expected, batch)?;
+        self.shared.watcher.written();
+        let reply = wire::Written {
+            commit: written.number,
+            nodes: written.nodes,
+        };
+        self.reply(id, &reply);
+        Ok(())
+    }
+
+    /// Answers a command that reads in one snapshot.
+    fn read(&mut self, id: u64, command: Command<'_>, snapshot: &Snapshot<'_>) -> Result<(), Failure> {
+        let commit = snapshot.number();
+        match command {
+            Command::Query(query) => self.reply(id, &hits(snapshot, &query)?),
+            Command::Get(wire::Get { node, name }) => {
+                let value = snapshot.get(node, &name)?.map(wire::Json);
+                self.reply(id, &wire::Value { commit, value })
+            }
+            Command::Attributes(wire::Node { node }) => {
+                let attributes = snapshot.attributes(node)?.into_iter();
+                let attributes = attributes.map(|(name, value)| (name, wire::Json(value))).collect();
+                self.reply(id, &wire::Attributes { commit, attributes })
+            }
+            Command::Indices(_) => {
+                let indices = snapshot.indices()?.into_iter();
+                let indices = indices
+                    .map(|(name, kind)| (name, wire::kind_name(kind).into()))
+                    .collect();
+                self.reply(id, &wire::Indices { commit, indices })
+            }
+            Command::Nodes(from) => self.reply(id, &page::nodes(snapshot, &from)?),
+            Command::Next(_) => {
+                let next = snapshot.next_node()?;
+                self.reply(id, &wire::Next { commit, next })
+            }
+            Command::Explain(wire::QueryText { query }) => {
+                let text = snapshot.explain(&query)?;
+                self.reply(id, &wire::Explained { commit, text })
+            }
+            _ => return Err(Failure::new("BadRequest", "the command reads nothing")),
+        }
+        Ok(())
+    }
+
+    fn hello(&mut self, id: u64, greeting: &wire::Greeting, view: &View<'_, '_>) -> Result<(), Failure> {
+        if greeting.protocol.map_or(false, |protocol| protocol != wire::PROTOCOL) {
+            let failure = Failure::new("Protocol", "the server doesn't speak this version of the protocol");
+            return Err(failure.with("known", vec![wire::PROTOCOL]));
+        }
+        let (major, minor, patch) = bestore::library_version();
+        let options = &self.shared.options;
+        let hello = wire::Hello {
+            protocol: wire::PROTOCOL,
+            server: env!("CARGO_PKG_VERSION").into(),
+            library: format!("{major}.{minor}.{patch}"),
+            run: self.shared.run.clone(),
+            pass: view.pass().number()?,
+            kept: self.shared.kept.when().into(),
+            limits: wire::Limits {
+                pages: options.pages,
+                passes: options.passes,
+                commits: options.commits,
+                operations: 64,
+                line: wire::LINE as u64,
+                watches: WATCHES as u64,
+            },
+        };
+        self.reply(id, &hello);
+        Ok(())
+    }
+
+    fn status(&mut self, id: u64, view: &View<'_, '_>) -> Result<(), Failure> {
+        let status = view.pass().status()?;
+        let status = wire::Status {
+            pages: status.pages,
+            free: status.free,
+            retired: status.retired,
+            entries: status.entries,
+            commits: status.commits,
+            oldest: status.oldest.map(|oldest| wire::HeldBy {
+                snapshot: oldest.snapshot,
+                pass: oldest.pass,
+            }),
+            clients: self.shared.clients.count() as u64,
+            watches: self.shared.watcher.count() as u64,
+        };
+        self.reply(id, &status);
+        Ok(())
+    }
+
+    /// Asks a live query for the first time.
+    fn watch(&mut self, watch: wire::Watch<'_>, view: &mut View<'_, '_>) -> Result<(wire::Watched, Watch), Failure> {
+        if self.watches.as_ref().map_or(0, |watches| watches.count()) >= WATCHES {
+            let message = format!("the connection has {WATCHES} live queries");
+            return Err(Failure::new("TooManyWatches", message));
+        }
+        let number = self.last_watch + 1;
+        let mut live = watch.query.map(|query| Live::new(&query)).transpose()?;
+        let (commit, mut found) = view.read(|snapshot| {
+            let found = match &mut live {
+                Some(live) => live.refresh(snapshot)?,
+                None => Updates::default(),
+            };
+            Ok((snapshot.number(), found))
+        })?;
+        self.last_watch = number;
+        let nodes = watcher::take(&mut found.created, watcher::NODES);
+        let reply = wire::Watched {
+            watch: number,
+            commit,
+            nodes: live.is_some().then_some(nodes),
+            more: !found.created.is_empty(),
+        };
+        Ok((reply, Watch::new(number, live, commit, found)))
+    }
+
+    /// Sends the reply before anything can be pushed.
+    fn begin(&mut self, id: u64, reply: &wire::Watched, watch: Watch) -> io::Result<()> {
+        self.reply(id, reply);
+        self.send()?;
+        let outbox = &self.outbox;
+        let watches = self
+            .watches
+            .get_or_insert_with(|| Arc::new(Watches::new(outbox.clone())));
+        self.shared.watcher.add(watches, watch);
+        Ok(())
+    }
+
+    fn unwatch(&mut self, id: u64, watching: &wire::Watching) -> Result<(), Failure> {
+        match &self.watches {
+            Some(watches) if self.shared.watcher.remove(watches, watching.watch) => {
+                self.reply(id, &wire::Nothing {});
+                Ok(())
+            }
+            _ => Err(Failure::new("NoWatch", "the connection has no such live query")),
+        }
+    }
+}
+
+fn hits(snapshot: &Snapshot<'_>, query: &wire::Query<'_>) -> Result<wire::Hits, Failure> {
+    let mut found = snapshot.query(&query.query)?;
+    let before = found.partition_point(|node| *node < query.from);
+    found.drain(..before);
+    let mut hits = wire::Hits {
+        commit: snapshot.number(),
+        count: found.len() as u64,
+        ..wire::Hits::default()
+    };
+    if query.count {
+        return Ok(hits);
+    }
+    let mut room = Room::new(query.limit);
+    let mut more = found.split_off(room.nodes.min(found.len())).first().copied();
+    if let Some(columns) = &query.columns {
+        let rows = rows_of(snapshot, &found, columns, &mut room)?;
+        more = found.get(rows.len()).copied().or(more);
+        found.truncate(rows.len());
+        hits.rows = Some(rows);
+    }
+    hits.nodes = Some(found);
+    hits.more = more;
+    Ok(hits)
+}
+
+/// A page of the batches that make the kept snapshot again.
+fn state(view: &mut View<'_, '_>, from: u64) -> Result<wire::State, Failure> {
+    match view {
+        View::Kept { snapshot, state, .. } => page::state(snapshot, state, from),
+        View::Current(_) => Err(Failure::not_pinned()),
+        View::Expired(_) => Err(Failure::expired()),
+    }
+}

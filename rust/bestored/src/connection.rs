@@ -1,0 +1,135 @@
+//! The connection of one client: its requests in their order, and the snapshot that it keeps.
+
+use crate::answer::{Desk, View};
+use crate::failure::Failure;
+use crate::lines::{Lines, Received};
+use crate::outbox::Outbox;
+use crate::pressure;
+use crate::server::Shared;
+use bestore::Pass;
+use bestore_client::wire::{id_of, Command, Next, Nothing, Request};
+use std::io;
+use std::os::unix::net::UnixStream;
+use std::sync::Arc;
+use std::time::Instant;
+
+/// Why reads see another state from now on.
+#[derive(Clone, Copy, Debug, PartialEq, Eq)]
+enum Turn {
+    Pin { id: u64 },
+    Unpin { id: u64 },
+    Expire,
+    Close,
+}
+
+/// A connection.
+#[derive(Debug)]
+pub struct Connection<'a> {
+    lines: Lines,
+    desk: Desk<'a>,
+}
+
+impl<'a> Connection<'a> {
+    pub fn new(shared: &'a Shared, stream: Arc<UnixStream>) -> io::Result<Self> {
+        let outbox = Arc::new(Outbox::new(stream.clone())?);
+        Ok(Self {
+            lines: Lines::new(stream),
+            desk: Desk::new(shared, outbox),
+        })
+    }
+
+    /// Answers the client's requests until it closes the connection.
+    pub fn run(&mut self, mut pass: Pass) -> io::Result<()> {
+        let mut is_expired = false;
+        loop {
+            let turn = match is_expired {
+                false => self.serve(&mut View::Current(&mut pass))?,
+                true => self.serve(&mut View::Expired(&pass))?,
+            };
+            let turn = match turn {
+                Turn::Pin { id } => self.keep(id, &mut pass)?,
+                turn => turn,
+            };
+            match turn {
+                Turn::Unpin { id } => self.desk.reply(id, &Nothing {}),
+                Turn::Expire => {}
+                Turn::Pin { .. } | Turn::Close => return Ok(()),
+            }
+            is_expired = turn == Turn::Expire;
+        }
+    }
+
+    /// Keeps a snapshot, and answers requests until the client gives it back or it has to.
+    fn keep(&mut self, id: u64, pass: &mut Pass) -> io::Result<Turn> {
+        let snapshot = match pass.pin() {
+            Ok(snapshot) => snapshot,
+            Err(error) => {
+                self.desk.refuse(Some(id), error.into());
+                return Ok(Turn::Close);
+            }
+        };
+        let commit = snapshot.number();
+        match snapshot.next_node() {
+            Ok(next) => self.desk.reply(id, &Next { commit, next }),
+            Err(error) => self.desk.refuse(Some(id), error.into()),
+        }
+        self.serve(&mut View::kept(&snapshot))
+    }
+
+    /// Answers requests until reads have to see another state.
+    fn serve(&mut self, view: &mut View<'_, '_>) -> io::Result<Turn> {
+        loop {
+            let line = match self.lines.take() {
+                Some(line) => line,
+                None => match self.receive(view.since())? {
+                    None => continue,
+                    Some(turn) => return Ok(turn),
+                },
+            };
+            let line = self.lines.bytes(line);
+            let request: Request<'_> = match serde_json::from_slice(line) {
+                Ok(request) => request,
+                Err(error) => {
+                    self.desk.refuse(id_of(line), bad_request(&error));
+                    continue;
+                }
+            };
+            let id = request.id;
+            match (request.command, &*view) {
+                (Command::Pin(_), View::Kept { .. }) => self.desk.refuse(Some(id), Failure::pinned()),
+                (Command::Pin(_), _) => return Ok(Turn::Pin { id }),
+                (Command::Unpin(_), View::Current(_)) => self.desk.refuse(Some(id), Failure::not_pinned()),
+                (Command::Unpin(_), _) => return Ok(Turn::Unpin { id }),
+                (command, _) => self.desk.answer(id, command, view)?,
+            }
+        }
+    }
+
+    /// Sends the replies that were made, and waits for more requests. `since`: when the snapshot was pinned, if one is.
+    fn receive(&mut self, since: Option<Instant>) -> io::Result<Option<Turn>> {
+        self.desk.send()?;
+        let mut until = None;
+        if let Some(since) = since {
+            let pressure = &self.desk.shared.pressure;
+            if pressure.is_over(since) {
+                return Ok(Some(Turn::Expire));
+            }
+            until = Some(Instant::now() + pressure::LOOK);
+        }
+        let (name, message) = match self.lines.read(until)? {
+            Received::Some | Received::Late => return Ok(None),
+            Received::End => return Ok(Some(Turn::Close)),
+            Received::Half => ("Timeout", "the rest of the request didn't come"),
+            Received::TooLong => ("LineTooLong", "the request has more than 1 MiB"),
+        };
+        self.desk.refuse(None, Failure::new(name, message));
+        self.desk.send()?;
+        Ok(Some(Turn::Close))
+    }
+}
+
+fn bad_request(error: &serde_json::Error) -> Failure {
+    let message = error.to_string();
+    let why = message.split(" at line ").next().unwrap_or_default();
+    Failure::new("BadRequest", why).with("offset", error.column().saturating_sub(1))
+}

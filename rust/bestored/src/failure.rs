@@ -1,0 +1,124 @@
+//! Errors as the protocol has them.
+
+use bestore::{saved, Error, QueryError, QueryFault};
+use bestore_client::wire::Refusal;
+use serde_json::Value;
+
+/// Why a request did nothing.
+#[derive(Debug)]
+pub struct Failure(pub Refusal);
+
+impl Failure {
+    /// An error of the server itself.
+    pub fn new(name: &str, message: impl Into<String>) -> Self {
+        Self(Refusal {
+            name: name.into(),
+            message: message.into(),
+            ..Refusal::default()
+        })
+    }
+
+    /// Adds the number that `bestore.h` has for the error.
+    pub fn numbered(mut self, number: u32) -> Self {
+        self.0.number = Some(number);
+        self
+    }
+
+    /// Adds what goes with the error.
+    pub fn with(mut self, name: &str, detail: impl Into<Value>) -> Self {
+        self.0.details.insert(name.into(), detail.into());
+        self
+    }
+
+    fn with_some(self, name: &str, detail: Option<impl Into<Value>>) -> Self {
+        match detail {
+            Some(detail) => self.with(name, detail),
+            None => self,
+        }
+    }
+
+    pub fn pinned() -> Self {
+        Self::new("Pinned", "a snapshot is pinned already").numbered(67)
+    }
+
+    pub fn not_pinned() -> Self {
+        Self::new("NotPinned", "no snapshot is pinned").numbered(66)
+    }
+
+    pub fn expired() -> Self {
+        Self::new("Expired", "the snapshot was kept too long, and the server took it back")
+    }
+
+    fn of_query(error: &QueryError) -> Self {
+        let name = match error.fault() {
+            QueryFault::Syntax => "Syntax",
+            QueryFault::BadPattern => "BadPattern",
+            QueryFault::TooLong => "TooLong",
+            QueryFault::TooDeep => "TooDeep",
+            QueryFault::TooMany => "TooMany",
+            QueryFault::NotCovered => "NotCovered",
+            _ => "Query",
+        };
+        Self::new(name, error.fault().to_string())
+            .with_some("offset", error.offset())
+            .with_some("missing", error.missing())
+    }
+}
+
+impl From<Error> for Failure {
+    fn from(error: Error) -> Self {
+        let failure = match &error {
+            Error::Query(query) => Failure::of_query(query),
+            _ => Failure::new(name(&error), error.to_string()),
+        };
+        let failure = Failure(Refusal {
+            number: error.code(),
+            ..failure.0
+        });
+        match error {
+            Error::Busy { pass } => failure.with("pass", pass),
+            Error::Full { oldest } => failure.with("oldest", oldest),
+            Error::NameLength { operation } | Error::DataLength { operation } | Error::HasNul { operation } => {
+                failure.with_some("operation", operation)
+            }
+            Error::BadCount { count } => failure.with("count", count),
+            Error::Conflict { expected, found } => failure.with("expected", expected).with("found", found),
+            _ => failure,
+        }
+    }
+}
+
+fn name(error: &Error) -> &'static str {
+    match error {
+        Error::Busy { .. } => "Busy",
+        Error::NoNode => "NoNode",
+        Error::NoAttribute => "NoAttribute",
+        Error::TooManyAttributes => "TooManyAttributes",
+        Error::IndexExists => "IndexExists",
+        Error::NoIndex => "NoIndex",
+        Error::TooManyIndices => "TooManyIndices",
+        Error::NotIndexable => "NotIndexable",
+        Error::CommitsSpent => "CommitsSpent",
+        Error::OutOfMemory => "OutOfMemory",
+        Error::Full { .. } => "Full",
+        Error::NameLength { .. } => "NameLength",
+        Error::DataLength { .. } => "DataLength",
+        Error::HasNul { .. } => "HasNul",
+        Error::NoPass => "NoPass",
+        Error::BadCount { .. } => "BadCount",
+        Error::Conflict { .. } => "Conflict",
+        Error::NotSaved(_) => "NotSaved",
+        Error::Stopped(_) => "Stopped",
+        _ => "Unexpected",
+    }
+}
+
+impl From<saved::Error> for Failure {
+    fn from(error: saved::Error) -> Self {
+        match error {
+            saved::Error::Store(error) => error.into(),
+            saved::Error::Stopped(_) | saved::Error::Closed => Failure::new("Stopped", error.to_string()),
+            error => Failure::new("NotSaved", error.to_string()),
+        }
+    }
+}

@@ -1,0 +1,109 @@
+//! The options of the command line.
+
+use crate::socket;
+use bestore::Limits;
+use clap::{value_parser, Arg, Command};
+use std::path::PathBuf;
+use std::time::Duration;
+
+/// Passes of the store that are the server's own.
+const OWN_PASSES: u64 = 1;
+
+/// How the server runs.
+#[derive(Clone, Debug)]
+pub struct Options {
+    /// Where the socket is to be, if it was said.
+    pub socket: Option<PathBuf>,
+    pub keep: Option<PathBuf>,
+    pub every: Option<Duration>,
+    pub pages: u64,
+    pub passes: u64,
+    pub commits: u64,
+    pub hold: Duration,
+}
+
+fn command() -> Command {
+    let number = |name, shown, range: std::ops::RangeInclusive<u64>, default| {
+        let parser = value_parser!(u64).range(range);
+        Arg::new(name)
+            .long(name)
+            .value_name(shown)
+            .value_parser(parser)
+            .default_value(default)
+    };
+    let path = |name, shown| {
+        Arg::new(name)
+            .long(name)
+            .value_name(shown)
+            .value_parser(value_parser!(PathBuf))
+    };
+    Command::new("bestored")
+        .version(env!("CARGO_PKG_VERSION"))
+        .about("Shares a store of attributes between the programs of a user")
+        .arg(
+            path("socket", "PATH")
+                .help("The socket; otherwise bestore/socket in $XDG_RUNTIME_DIR, or in /tmp/bestore-UID"),
+        )
+        .arg(path("keep", "FILE").help("The file in which the writes are kept"))
+        .arg(
+            Arg::new("every")
+                .long("every")
+                .value_name("MS")
+                .value_parser(value_parser!(u64).range(1..=3_600_000))
+                .requires("keep")
+                .help("Replies to writes don't wait for the file, which has them after this time"),
+        )
+        .arg(number("pages", "N", 8..=16_384, "4096").help("Pages of 4 KiB"))
+        .arg(number("passes", "N", 1..=62, "62").help("Clients at the same time"))
+        .arg(number("commits", "N", 1..=u32::MAX.into(), "4294967295").help("Entries of the journal"))
+        .arg(number("hold", "SECONDS", 1..=86_400, "60").help("How long a client may keep a snapshot"))
+}
+
+impl Options {
+    /// Reads the command line. Ends the program at `--help`, `--version` and at errors.
+    pub fn read() -> Self {
+        let read = command().get_matches();
+        let number = |name| read.get_one(name).copied().unwrap_or_default();
+        Self {
+            socket: read.get_one("socket").cloned(),
+            keep: read.get_one("keep").cloned(),
+            every: read.get_one("every").copied().map(Duration::from_millis),
+            pages: number("pages"),
+            passes: number("passes"),
+            commits: number("commits"),
+            hold: Duration::from_secs(number("hold")),
+        }
+    }
+
+    /// The limits of the store.
+    pub fn limits(&self) -> Limits {
+        Limits {
+            pages: self.pages,
+            passes: self.passes + OWN_PASSES,
+            commits: self.commits,
+        }
+    }
+
+    /// Where the socket is.
+    pub fn socket(&self) -> PathBuf {
+        self.socket.clone().unwrap_or_else(socket::default_path)
+    }
+}
+
+#[cfg(test)]
+mod tests {
+    use super::*;
+
+    #[test]
+    fn the_command_is_well_made() {
+        command().debug_assert();
+    }
+
+    #[test]
+    fn numbers_out_of_range_are_refused() {
+        for arguments in [["--pages", "7"], ["--passes", "63"], ["--every", "5"], ["--hold", "0"]] {
+            let read = command().try_get_matches_from([&["bestored"][..], &arguments[..]].concat());
+            assert!(read.is_err(), "{arguments:?}");
+        }
+    }
+}

@@ -1,0 +1,142 @@
+//! Calls of the system that the standard library doesn't have. All unsafe code of the program is here.
+#![allow(unsafe_code)]
+#![deny(unsafe_op_in_unsafe_fn)]
+
+use std::fs::File;
+use std::io;
+use std::mem::{self, MaybeUninit};
+use std::os::unix::io::{AsRawFd, FromRawFd, RawFd};
+use std::os::unix::net::{UnixListener, UnixStream};
+use std::ptr;
+use std::time::Duration;
+
+/// The first descriptor that systemd passes.
+const PASSED: RawFd = 3;
+
+fn check(answer: libc::c_int) -> io::Result<libc::c_int> {
+    if answer < 0 {
+        Err(io::Error::last_os_error())
+    } else {
+        Ok(answer)
+    }
+}
+
+/// The user as whom this process acts.
+pub fn user() -> u32 {
+    // SAFETY: the call takes nothing and always succeeds.
+    unsafe { libc::geteuid() }
+}
+
+/// The user who made the other end of the connection.
+pub fn peer_user(stream: &UnixStream) -> io::Result<u32> {
+    let mut credentials = libc::ucred { pid: 0, uid: 0, gid: 0 };
+    let mut length = mem::size_of::<libc::ucred>() as libc::socklen_t;
+    // SAFETY: the option writes a `ucred`, and `length` has its size.
+    check(unsafe {
+        libc::getsockopt(
+            stream.as_raw_fd(),
+            libc::SOL_SOCKET,
+            libc::SO_PEERCRED,
+            ptr::addr_of_mut!(credentials).cast(),
+            &mut length,
+        )
+    })?;
+    Ok(credentials.uid)
+}
+
+/// Sends as many of the bytes as the socket takes at once.
+pub fn send_now(stream: &UnixStream, bytes: &[u8]) -> io::Result<usize> {
+    let flags = libc::MSG_DONTWAIT | libc::MSG_NOSIGNAL;
+    // SAFETY: the pointer and the length are those of the slice.
+    let sent = unsafe { libc::send(stream.as_raw_fd(), bytes.as_ptr().cast(), bytes.len(), flags) };
+    usize::try_from(sent).map_err(|_| io::Error::last_os_error())
+}
+
+/// Waits until one of the descriptors can be read, and says of each whether it can.
+pub fn wait_readable<const N: usize>(descriptors: [RawFd; N], time: Option<Duration>) -> io::Result<[bool; N]> {
+    let mut polled = descriptors.map(|fd| libc::pollfd {
+        fd,
+        events: libc::POLLIN,
+        revents: 0,
+    });
+    let milliseconds = time.map_or(-1, |time| {
+        let rounded_up = time.as_millis() + u128::from(time.subsec_nanos() % 1_000_000 > 0);
+        libc::c_int::try_from(rounded_up).unwrap_or(libc::c_int::MAX)
+    });
+    // SAFETY: the array has N entries.
+    match check(unsafe { libc::poll(polled.as_mut_ptr(), N as libc::nfds_t, milliseconds) }) {
+        Err(error) if error.kind() == io::ErrorKind::Interrupted => Ok([false; N]),
+        Err(error) => Err(error),
+        Ok(_) => Ok(polled.map(|one| one.revents != 0)),
+    }
+}
+
+/// A descriptor that can be read once one of the signals that end the program has come. Threads that are made later don't get
+/// these signals.
+pub fn ending_signals() -> io::Result<File> {
+    let mut signals = MaybeUninit::uninit();
+    // SAFETY: `sigemptyset` initialises the set, which the others change or read.
+    unsafe {
+        check(libc::sigemptyset(signals.as_mut_ptr()))?;
+        for signal in [libc::SIGTERM, libc::SIGINT, libc::SIGHUP] {
+            check(libc::sigaddset(signals.as_mut_ptr(), signal))?;
+        }
+        check(libc::sigprocmask(libc::SIG_BLOCK, signals.as_ptr(), ptr::null_mut()))?;
+        let fd = check(libc::signalfd(-1, signals.as_ptr(), libc::SFD_CLOEXEC))?;
+        Ok(File::from_raw_fd(fd))
+    }
+}
+
+/// Runs `make` so that the files that it makes have no rights in this mask. To be called while there is one thread.
+pub fn with_mask<T>(mask: libc::mode_t, make: impl FnOnce() -> T) -> T {
+    // SAFETY: the call always succeeds.
+    let before = unsafe { libc::umask(mask) };
+    let made = make();
+    // SAFETY: as above.
+    unsafe { libc::umask(before) };
+    made
+}
+
+/// Takes the lock of a file or folder, if nobody has it. It is given back when the file is closed.
+pub fn try_lock(file: &File) -> io::Result<()> {
+    // SAFETY: the descriptor is open.
+    check(unsafe { libc::flock(file.as_raw_fd(), libc::LOCK_EX | libc::LOCK_NB) }).map(drop)
+}
+
+/// The socket that systemd has passed to the process with this number, as its variables say. To be called once.
+pub fn passed_socket() -> io::Result<Option<UnixListener>> {
+    let number = |name| std::env::var(name).ok().and_then(|text| text.parse::<u32>().ok());
+    if number("LISTEN_PID") != Some(std::process::id()) {
+        return Ok(None);
+    }
+    let wrong = |why| Err(io::Error::new(io::ErrorKind::InvalidInput, why));
+    match number("LISTEN_FDS") {
+        None | Some(0) => return Ok(None),
+        Some(1) => {}
+        Some(_) => return wrong("systemd has passed more than one socket"),
+    }
+    if option(PASSED, libc::SO_DOMAIN)? != libc::AF_UNIX || option(PASSED, libc::SO_ACCEPTCONN)? != 1 {
+        return wrong("systemd has passed what is no listening Unix socket");
+    }
+    // SAFETY: the descriptor is open, and nothing else in the program has it.
+    unsafe {
+        check(libc::fcntl(PASSED, libc::F_SETFD, libc::FD_CLOEXEC))?;
+        Ok(Some(UnixListener::from_raw_fd(PASSED)))
+    }
+}
+
+fn option(fd: RawFd, option: libc::c_int) -> io::Result<libc::c_int> {
+    let mut value: libc::c_int = 0;
+    let mut length = mem::size_of::<libc::c_int>() as libc::socklen_t;
+    // SAFETY: these options write an int, and `length` has its size.
+    check(unsafe {
+        libc::getsockopt(
+            fd,
+            libc::SOL_SOCKET,
+            option,
+            ptr::addr_of_mut!(value).cast(),
+            &mut length,
+        )
+    })?;
+    Ok(value)
+}

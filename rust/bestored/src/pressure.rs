@@ -1,0 +1,85 @@
+//! Snapshots that keep pages while writes need them.
+
+use bestore::{Batch, Error, Pass, Result, Retry, Written};
+use std::sync::atomic::{AtomicU64, Ordering};
+use std::thread;
+use std::time::{Duration, Instant};
+
+/// How often a connection with a snapshot looks whether it has to give it back.
+pub const LOOK: Duration = Duration::from_millis(50);
+
+/// How long a snapshot is kept although a write waits for its pages.
+const AT_LEAST: Duration = Duration::from_secs(1);
+
+/// How long a write waits for pages, and how often it tries.
+const WAIT: Duration = Duration::from_secs(3);
+const TRY: Duration = Duration::from_millis(10);
+
+/// Whether writes wait for pages that snapshots keep.
+#[derive(Debug)]
+pub struct Pressure {
+    /// How long a snapshot is kept if no write waits.
+    hold: Duration,
+    begin: Instant,
+    /// When a write last waited, in milliseconds since the beginning. 0 if none did.
+    last: AtomicU64,
+}
+
+impl Pressure {
+    pub fn new(hold: Duration) -> Self {
+        Self {
+            hold,
+            begin: Instant::now(),
+            last: AtomicU64::new(0),
+        }
+    }
+
+    fn now(&self) -> u64 {
+        u64::try_from(self.begin.elapsed().as_millis())
+            .unwrap_or(u64::MAX)
+            .max(1)
+    }
+
+    /// Whether a snapshot that was pinned at this time has to be given back.
+    pub fn is_over(&self, since: Instant) -> bool {
+        let age = since.elapsed();
+        let last = self.last.load(Ordering::Relaxed);
+        let is_waited_for = last != 0 && self.now() - last <= 2 * LOOK.as_millis() as u64;
+        age >= self.hold || age >= AT_LEAST && is_waited_for
+    }
+
+    /// Writes the batch. While snapshots of others keep the pages that it needs, it waits for them.
+    pub fn write(&self, pass: &Pass, expected: Option<u64>, batch: &Batch) -> Result<Written> {
+        let mut until = None;
+        loop {
+            let written = match expected {
+                None => pass.apply(batch),
+                Some(expected) => pass.apply_if(expected, batch),
+            };
+            match written {
+                Err(Error::Full { oldest }) if is_kept_by_another(pass)? => {
+                    let until = *until.get_or_insert_with(|| Instant::now() + WAIT);
+                    if Instant::now() > until {
+                        return Err(Error::Full { oldest });
+                    }
+                    self.last.store(self.now(), Ordering::Relaxed);
+                    thread::sleep(TRY);
+                }
+                written => return written,
+            }
+        }
+    }
+}
+
+/// How often calls of a connection's pass are tried again by the library: at busy alone.
+pub fn retry() -> Retry {
+    Retry {
+        full: 0,
+        ..Retry::default()
+    }
+}
+
+fn is_kept_by_another(pass: &Pass) -> Result<bool> {
+    let own = pass.number()?;
+    Ok(pass.status()?.oldest.map_or(false, |oldest| oldest.pass != own))
+}

@@ -1,0 +1,206 @@
+//! The server: a thread and a pass for each client.
+
+use crate::connection::Connection;
+use crate::failure::Failure;
+use crate::kept::Kept;
+use crate::options::Options;
+use crate::os;
+use crate::pressure::{self, Pressure};
+use crate::socket::Socket;
+use crate::watcher::Watcher;
+use bestore::{Error, Pass};
+use std::collections::BTreeMap;
+use std::fs::File;
+use std::io::{self, ErrorKind};
+use std::net::Shutdown;
+use std::os::unix::io::AsRawFd;
+use std::os::unix::net::{UnixListener, UnixStream};
+use std::sync::{Arc, Condvar, Mutex, MutexGuard, PoisonError};
+use std::thread;
+use std::time::{Duration, Instant, SystemTime};
+
+/// How many connections there may be beyond those that have a pass: they wait a moment for one.
+const WAITING: usize = 16;
+
+/// How long a connection waits for a pass, since a client that has just gone may leave one.
+const FOR_PASS: Duration = Duration::from_millis(200);
+
+/// How long at the end clients may take to read their last replies.
+const LAST: Duration = Duration::from_secs(5);
+
+/// What all connections share.
+#[derive(Debug)]
+pub struct Shared {
+    pub options: Options,
+    pub kept: Kept,
+    pub watcher: Watcher,
+    pub pressure: Pressure,
+    pub clients: Clients,
+    /// Another text for each run.
+    pub run: String,
+}
+
+/// The connections by their numbers.
+#[derive(Debug, Default)]
+pub struct Clients {
+    connected: Mutex<(u64, BTreeMap<u64, Arc<UnixStream>>)>,
+    left: Condvar,
+}
+
+impl Clients {
+    fn lock(&self) -> MutexGuard<'_, (u64, BTreeMap<u64, Arc<UnixStream>>)> {
+        self.connected.lock().unwrap_or_else(PoisonError::into_inner)
+    }
+
+    pub fn count(&self) -> usize {
+        self.lock().1.len()
+    }
+
+    fn enter(&self, stream: Arc<UnixStream>) -> u64 {
+        let mut connected = self.lock();
+        connected.0 += 1;
+        let number = connected.0;
+        connected.1.insert(number, stream);
+        number
+    }
+
+    fn leave(&self, number: u64) {
+        self.lock().1.remove(&number);
+        self.left.notify_all();
+    }
+
+    /// Lets the clients end: what they have sent is answered, and they get some time to read it.
+    fn end(&self) {
+        for how in [Shutdown::Read, Shutdown::Both] {
+            for stream in self.lock().1.values() {
+                // A client that has gone needs no end.
+                let _ = stream.shutdown(how);
+            }
+            let until = Instant::now() + LAST;
+            let mut connected = self.lock();
+            while !connected.1.is_empty() && Instant::now() < until {
+                let left = until.saturating_duration_since(Instant::now());
+                let waited = self.left.wait_timeout(connected, left);
+                connected = waited.unwrap_or_else(PoisonError::into_inner).0;
+            }
+        }
+    }
+}
+
+/// Serves clients until a signal ends the program.
+pub fn run(socket: Socket, signals: &File, shared: Shared, own: Pass) -> bestore::saved::Result<()> {
+    let shared = Arc::new(shared);
+    let watching = {
+        let shared = shared.clone();
+        thread::spawn(move || shared.watcher.run(own, &shared.kept))
+    };
+    accept(&socket.listener, signals, &shared);
+    drop(socket);
+    shared.clients.end();
+    shared.watcher.end();
+    if watching.join().is_err() {
+        eprintln!("bestored: the thread of the live queries has ended by a fault");
+    }
+    shared.kept.finish()
+}
+
+fn accept(listener: &UnixListener, signals: &File, shared: &Arc<Shared>) {
+    let waited_for = [listener.as_raw_fd(), signals.as_raw_fd()];
+    loop {
+        match os::wait_readable(waited_for, None) {
+            Ok([_, true]) => return,
+            Ok([true, _]) => {}
+            Ok(_) => continue,
+            Err(error) => eprintln!("bestored: waiting for clients: {error}"),
+        }
+        match listener.accept() {
+            Ok((stream, _)) => welcome(shared, Arc::new(stream)),
+            Err(error) if matches!(error.kind(), ErrorKind::WouldBlock | ErrorKind::Interrupted) => {}
+            Err(error) => {
+                eprintln!("bestored: a client could not connect: {error}");
+                thread::sleep(Duration::from_millis(100));
+            }
+        }
+    }
+}
+
+/// Starts the thread of a client, or refuses the client.
+fn welcome(shared: &Arc<Shared>, stream: Arc<UnixStream>) {
+    match os::peer_user(&stream) {
+        Ok(user) if user == os::user() || user == 0 => {}
+        _ => return refuse(&stream, &Failure::new("NotAllowed", "the server is another user's")),
+    }
+    let clients = shared.clients.count();
+    if clients >= shared.options.passes as usize + WAITING {
+        return refuse(&stream, &no_pass(clients));
+    }
+    let number = shared.clients.enter(stream.clone());
+    let of_thread = shared.clone();
+    let started = thread::Builder::new().name(format!("client-{number}")).spawn(move || {
+        let _leaving = Leaving {
+            shared: &of_thread,
+            number,
+        };
+        serve(&of_thread, stream);
+    });
+    if let Err(error) = started {
+        eprintln!("bestored: no thread for a client: {error}");
+        shared.clients.leave(number);
+    }
+}
+
+/// The end of a connection, also by a panic.
+struct Leaving<'a> {
+    shared: &'a Shared,
+    number: u64,
+}
+
+impl Drop for Leaving<'_> {
+    fn drop(&mut self) {
+        self.shared.clients.leave(self.number);
+    }
+}
+
+fn serve(shared: &Shared, stream: Arc<UnixStream>) {
+    let pass = match take_pass(shared) {
+        Ok(pass) => pass,
+        Err(Error::NoPass) => return refuse(&stream, &no_pass(shared.options.passes as usize)),
+        Err(error) => return refuse(&stream, &error.into()),
+    };
+    // An error of the connection is its end, and nobody is left to be told.
+    let _ = Connection::new(shared, stream).and_then(|mut connection| connection.run(pass));
+}
+
+fn take_pass(shared: &Shared) -> bestore::Result<Pass> {
+    let until = Instant::now() + FOR_PASS;
+    loop {
+        match shared.kept.pass() {
+            Err(Error::NoPass) if Instant::now() < until => thread::sleep(Duration::from_millis(5)),
+            answer => {
+                let mut pass = answer?;
+                pass.set_retry(pressure::retry());
+                return Ok(pass);
+            }
+        }
+    }
+}
+
+fn no_pass(clients: usize) -> Failure {
+    let message = format!("{clients} clients are connected");
+    Failure::new("NoPass", message).numbered(68).with("clients", clients)
+}
+
+/// Says why there is no connection, if the client takes it at once.
+fn refuse(stream: &UnixStream, failure: &Failure) {
+    if let Ok(body) = serde_json::to_string(&failure.0) {
+        // Whoever doesn't read it isn't waited for.
+        let _ = os::send_now(stream, format!("{{\"id\":null,\"error\":{body}}}\n").as_bytes());
+    }
+}
+
+/// A text that no other run has.
+pub fn run_text() -> io::Result<String> {
+    let time = SystemTime::now().duration_since(SystemTime::UNIX_EPOCH);
+    let time = time.map_err(|_| io::Error::new(ErrorKind::Other, "the clock is wrong"))?;
+    Ok(format!("{:x}-{:x}", time.as_nanos(), std::process::id()))
+}

@@ -1,0 +1,255 @@
+//! Live queries: one thread asks them after writes, and pushes what changed.
+
+use crate::failure::Failure;
+use crate::kept::Kept;
+use crate::outbox::{Outbox, Pusher};
+use bestore::{Error, Live, Pass, Snapshot, Updates};
+use bestore_client::wire::{Push, Refusal};
+use std::sync::atomic::{fence, AtomicUsize, Ordering};
+use std::sync::{Arc, Condvar, Mutex, MutexGuard, PoisonError};
+use std::thread;
+use std::time::{Duration, Instant};
+
+/// The most nodes of a line.
+pub const NODES: usize = 50_000;
+
+/// How often lines that a client doesn't take are tried again.
+const AGAIN: Duration = Duration::from_millis(20);
+
+/// How long the thread rests after a round: as long as the round took, within these.
+const REST: (Duration, Duration) = (Duration::from_millis(1), Duration::from_millis(200));
+
+fn lock<T>(mutex: &Mutex<T>) -> MutexGuard<'_, T> {
+    mutex.lock().unwrap_or_else(PoisonError::into_inner)
+}
+
+/// A watch of a client. It asks again once all that it found has been pushed.
+#[derive(Debug)]
+pub struct Watch {
+    pub number: u64,
+    /// The query, or `None` if each commit is pushed.
+    pub live: Option<Live>,
+    /// The snapshot to which all that was found leads.
+    pub commit: u64,
+    /// What wasn't pushed yet.
+    pub rest: Updates,
+    is_told: bool,
+    failed: Option<Refusal>,
+    is_over: bool,
+}
+
+impl Watch {
+    /// A watch whose answer in the snapshot with this number was returned, except for the rest.
+    pub fn new(number: u64, live: Option<Live>, commit: u64, rest: Updates) -> Self {
+        Self {
+            number,
+            live,
+            commit,
+            is_told: rest.created.is_empty(),
+            rest,
+            failed: None,
+            is_over: false,
+        }
+    }
+
+    fn ask(&mut self, snapshot: &Snapshot<'_>) {
+        if !self.is_told || self.is_over || self.commit >= snapshot.number() {
+            return;
+        }
+        match self.live.as_mut().map(|live| live.refresh(snapshot)) {
+            None => self.is_told = false,
+            Some(Ok(updates)) => {
+                self.is_told = updates == Updates::default();
+                self.rest = updates;
+            }
+            // It may go better next time.
+            Some(Err(Error::OutOfMemory)) => return,
+            Some(Err(error)) => self.failed = Some(Failure::from(error).0),
+        }
+        self.commit = snapshot.number();
+    }
+
+    /// The next line to push.
+    fn next_push(&mut self) -> Option<Push> {
+        let error = self.failed.take();
+        if self.is_told && error.is_none() {
+            return None;
+        }
+        self.is_over = error.is_some();
+        let created = take(&mut self.rest.created, NODES);
+        let removed = take(&mut self.rest.removed, NODES - created.len());
+        let more = self.rest != Updates::default();
+        self.is_told = !more;
+        Some(Push {
+            watch: self.number,
+            commit: self.commit,
+            created,
+            removed,
+            more,
+            error,
+        })
+    }
+}
+
+/// Takes the first `most` of the list.
+pub fn take(list: &mut Vec<u64>, most: usize) -> Vec<u64> {
+    let rest = list.split_off(most.min(list.len()));
+    std::mem::replace(list, rest)
+}
+
+/// The watches of one client.
+#[derive(Debug)]
+pub struct Watches {
+    outbox: Arc<Outbox>,
+    list: Mutex<Vec<Watch>>,
+}
+
+impl Watches {
+    pub fn new(outbox: Arc<Outbox>) -> Self {
+        Self {
+            outbox,
+            list: Mutex::default(),
+        }
+    }
+
+    pub fn count(&self) -> usize {
+        lock(&self.list).len()
+    }
+
+    /// Asks the queries, and pushes what changed. Returns whether something is left to be pushed.
+    fn go_on(&self, snapshot: &Snapshot<'_>) -> bool {
+        let mut list = lock(&self.list);
+        list.iter_mut().for_each(|watch| watch.ask(snapshot));
+        let pusher = self.outbox.pusher();
+        let is_sent = pusher.map_or(false, |pusher| push_all(&mut list, pusher));
+        list.retain(|watch| !watch.is_over);
+        !is_sent
+    }
+}
+
+/// Pushes lines until there are none, or until the client takes no more. Returns whether there are none.
+fn push_all(list: &mut [Watch], mut pusher: Pusher<'_>) -> bool {
+    for watch in list {
+        while let Some(push) = watch.next_push() {
+            let mut line = match serde_json::to_vec(&push) {
+                Ok(line) => line,
+                Err(_) => continue,
+            };
+            line.push(b'\n');
+            if !pusher.push(line) {
+                return false;
+            }
+        }
+    }
+    true
+}
+
+#[derive(Debug, Default)]
+struct State {
+    clients: Vec<Arc<Watches>>,
+    is_due: bool,
+    is_ending: bool,
+}
+
+/// All watches, and the thread that serves them.
+#[derive(Debug, Default)]
+pub struct Watcher {
+    state: Mutex<State>,
+    wake: Condvar,
+    /// How many clients have watches.
+    clients: AtomicUsize,
+}
+
+impl Watcher {
+    /// Something was written.
+    pub fn written(&self) {
+        // Either the count here has the client, or the round that its watch begins sees the write.
+        fence(Ordering::SeqCst);
+        if self.clients.load(Ordering::Relaxed) > 0 {
+            lock(&self.state).is_due = true;
+            self.wake.notify_one();
+        }
+    }
+
+    /// Adds a watch to those of the client, and the client if it is new.
+    pub fn add(&self, watches: &Arc<Watches>, watch: Watch) {
+        lock(&watches.list).push(watch);
+        let mut state = lock(&self.state);
+        if !state.clients.iter().any(|client| Arc::ptr_eq(client, watches)) {
+            state.clients.push(watches.clone());
+        }
+        self.clients.store(state.clients.len(), Ordering::Relaxed);
+        fence(Ordering::SeqCst);
+        state.is_due = true;
+        self.wake.notify_one();
+    }
+
+    /// Ends a watch. Nothing of it is pushed after the call. Returns whether there was one.
+    pub fn remove(&self, watches: &Watches, number: u64) -> bool {
+        let mut list = lock(&watches.list);
+        let before = list.len();
+        list.retain(|watch| watch.number != number);
+        list.len() < before
+    }
+
+    /// Ends all watches of a client.
+    pub fn leave(&self, watches: &Arc<Watches>) {
+        let mut state = lock(&self.state);
+        state.clients.retain(|client| !Arc::ptr_eq(client, watches));
+        self.clients.store(state.clients.len(), Ordering::Relaxed);
+    }
+
+    /// How many watches there are.
+    pub fn count(&self) -> usize {
+        let clients = lock(&self.state).clients.clone();
+        clients.iter().map(|client| client.count()).sum()
+    }
+
+    /// Serves the watches until the end.
+    pub fn run(&self, mut pass: Pass, kept: &Kept) {
+        let mut is_left = false;
+        while let Some(clients) = self.wait(is_left) {
+            let started = Instant::now();
+            is_left = round(&clients, &mut pass, kept);
+            thread::sleep(started.elapsed().clamp(REST.0, REST.1));
+        }
+    }
+
+    /// Ends [`run`](Self::run).
+    pub fn end(&self) {
+        lock(&self.state).is_ending = true;
+        self.wake.notify_one();
+    }
+
+    /// Waits until there is something to do, and returns the clients. `None` at the end.
+    fn wait(&self, is_left: bool) -> Option<Vec<Arc<Watches>>> {
+        let mut state = lock(&self.state);
+        while !state.is_due && !state.is_ending {
+            if is_left {
+                let waited = self.wake.wait_timeout(state, AGAIN);
+                state = waited.unwrap_or_else(PoisonError::into_inner).0;
+                break;
+            }
+            state = self.wake.wait(state).unwrap_or_else(PoisonError::into_inner);
+        }
+        state.is_due = false;
+        (!state.is_ending).then(|| state.clients.clone())
+    }
+}
+
+/// Serves each client once, in one snapshot. Returns whether something is left to be pushed.
+fn round(clients: &[Arc<Watches>], pass: &mut Pass, kept: &Kept) -> bool {
+    let snapshot = match pass.pin() {
+        Ok(snapshot) => snapshot,
+        Err(error) => {
+            eprintln!("bestored: no snapshot for the live queries: {error}");
+            return true;
+        }
+    };
+    if kept.flush_if_each().is_err() {
+        // Nothing is written any more, and what the file doesn't have isn't pushed.
+        return false;
+    }
+    let left = clients.iter().map(|client| client.go_on(&snapshot));
+    left.filter(|is_left| *is_left).count() > 0
+}

@@ -1,0 +1,202 @@
+//! A server of a test, in a folder of its own. Not every test uses all of it.
+#![allow(dead_code)]
+
+use bestore_client::Client;
+use std::fs::{self, DirBuilder};
+use std::io::{BufRead, BufReader, Write};
+use std::os::unix::fs::DirBuilderExt;
+use std::os::unix::net::UnixStream;
+use std::path::{Path, PathBuf};
+use std::process::{Child, Command, ExitStatus, Stdio};
+use std::sync::atomic::{AtomicU32, Ordering};
+use std::thread;
+use std::time::{Duration, Instant};
+
+/// How long a server may take for anything.
+pub const PATIENCE: Duration = Duration::from_secs(20);
+
+/// A folder that is removed at the end.
+#[derive(Debug)]
+pub struct Folder(PathBuf);
+
+impl Folder {
+    pub fn new() -> Self {
+        Self::new_in(&std::env::temp_dir())
+    }
+
+    /// A folder in memory, if there is such a place. What is in it outlives a process that is killed.
+    pub fn in_memory() -> Self {
+        match Path::new("/dev/shm") {
+            memory if memory.is_dir() => Self::new_in(memory),
+            _ => Self::new(),
+        }
+    }
+
+    fn new_in(parent: &Path) -> Self {
+        static LAST: AtomicU32 = AtomicU32::new(0);
+        let number = LAST.fetch_add(1, Ordering::Relaxed);
+        let path = parent.join(format!("bestored-{}-{number}", std::process::id()));
+        DirBuilder::new().mode(0o700).create(&path).unwrap();
+        Self(path)
+    }
+
+    pub fn path(&self) -> &Path {
+        &self.0
+    }
+
+    pub fn join(&self, name: &str) -> PathBuf {
+        self.0.join(name)
+    }
+}
+
+impl Drop for Folder {
+    fn drop(&mut self) {
+        let _ = fs::remove_dir_all(&self.0);
+    }
+}
+
+/// The command that starts a server at this socket.
+pub fn command(socket: &Path, options: &[&str]) -> Command {
+    let mut command = Command::new(env!("CARGO_BIN_EXE_bestored"));
+    command.arg("--socket").arg(socket).args(options);
+    command
+}
+
+/// Waits until it is so.
+pub fn wait_until(what: &str, mut is_so: impl FnMut() -> bool) {
+    let until = Instant::now() + PATIENCE;
+    while !is_so() {
+        assert!(Instant::now() < until, "waited too long: {what}");
+        thread::sleep(Duration::from_millis(2));
+    }
+}
+
+/// A server, which is killed at the end.
+#[derive(Debug)]
+pub struct Server {
+    child: Child,
+    socket: PathBuf,
+}
+
+impl Drop for Server {
+    fn drop(&mut self) {
+        self.kill();
+    }
+}
+
+impl Server {
+    /// Starts a server in the folder, and waits until it listens.
+    pub fn start(folder: &Folder, options: &[&str]) -> Self {
+        let server = Self::start_only(folder, options);
+        wait_until("the server listens", || UnixStream::connect(&server.socket).is_ok());
+        server
+    }
+
+    /// Starts a server in the folder.
+    pub fn start_only(folder: &Folder, options: &[&str]) -> Self {
+        let socket = folder.join("socket");
+        let child = command(&socket, options).stdin(Stdio::null()).spawn().unwrap();
+        Self { child, socket }
+    }
+
+    pub fn socket(&self) -> &Path {
+        &self.socket
+    }
+
+    pub fn client(&self) -> Client {
+        Client::connect(&self.socket).unwrap()
+    }
+
+    /// A client that tries again while there is no pass.
+    pub fn patient_client(&self) -> Client {
+        let mut client = self.client();
+        wait_until("there is a pass", || match client.hello() {
+            Ok(_) => true,
+            Err(_) => {
+                client = self.client();
+                false
+            }
+        });
+        client
+    }
+
+    pub fn talk(&self) -> Talk {
+        Talk::new(UnixStream::connect(&self.socket).unwrap())
+    }
+
+    /// Kills the server while others use it.
+    pub fn kill_only(&self) {
+        let number = self.child.id().to_string();
+        assert!(Command::new("kill")
+            .args(["-s", "KILL", &number])
+            .status()
+            .unwrap()
+            .success());
+    }
+
+    pub fn kill(&mut self) {
+        let _ = self.child.kill();
+        let _ = self.child.wait();
+    }
+
+    /// Sends a signal, and waits for the end.
+    pub fn end_by(mut self, signal: &str) -> ExitStatus {
+        let number = self.child.id().to_string();
+        assert!(Command::new("kill")
+            .args(["-s", signal, &number])
+            .status()
+            .unwrap()
+            .success());
+        wait_until("the server ends", || self.child.try_wait().unwrap().is_some());
+        self.child.wait().unwrap()
+    }
+
+    /// The most memory that the server has had, in KiB.
+    pub fn most_memory(&self) -> u64 {
+        let status = fs::read_to_string(format!("/proc/{}/status", self.child.id())).unwrap();
+        let line = status.lines().find(|line| line.starts_with("VmHWM:")).unwrap();
+        line.split_whitespace().nth(1).unwrap().parse().unwrap()
+    }
+}
+
+/// A connection by lines.
+#[derive(Debug)]
+pub struct Talk {
+    pub stream: UnixStream,
+    reader: BufReader<UnixStream>,
+}
+
+impl Talk {
+    pub fn new(stream: UnixStream) -> Self {
+        stream.set_read_timeout(Some(PATIENCE)).unwrap();
+        let reader = BufReader::new(stream.try_clone().unwrap());
+        Self { stream, reader }
+    }
+
+    pub fn send(&mut self, bytes: &[u8]) {
+        self.stream.write_all(bytes).unwrap();
+    }
+
+    /// The next line, without its end. Empty at the end.
+    pub fn line(&mut self) -> String {
+        let mut line = String::new();
+        match self.reader.read_line(&mut line) {
+            Ok(_) => line.trim_end().to_owned(),
+            Err(error) if error.kind() == std::io::ErrorKind::ConnectionReset => String::new(),
+            Err(error) => panic!("{error}"),
+        }
+    }
+
+    /// Sends a line, and returns the next one.
+    pub fn ask(&mut self, line: &str) -> String {
+        self.send(format!("{line}\n").as_bytes());
+        self.line()
+    }
+
+    /// Sends a request without its `{"id":1,` and `}`, and checks what comes after the `id`.
+    #[track_caller]
+    pub fn check(&mut self, request: &str, reply: &str) {
+        let said = self.ask(&format!("{{\"id\":1,{request}}}"));
+        assert_eq!(said, format!("{{\"id\":1,{reply}}}"), "{request}");
+    }
+}

@@ -1,0 +1,213 @@
+//! Live queries.
+
+mod common;
+
+use bestore::{Batch, Kind};
+use bestore_client::wire::Push;
+use bestore_client::Client;
+use common::{wait_until, Folder, Server, PATIENCE};
+use std::collections::BTreeSet;
+use std::io::{BufRead, BufReader, Write};
+use std::time::Duration;
+
+fn start() -> (Folder, Server) {
+    let folder = Folder::new();
+    let server = Server::start(&folder, &[]);
+    server
+        .client()
+        .apply(Batch::new().make_index("size", Kind::Int64))
+        .unwrap();
+    (folder, server)
+}
+
+/// Makes a node of this size.
+fn sized(client: &mut Client, size: i64) -> u64 {
+    let made = client.change(|change| {
+        let node = change.new_node();
+        change.batch().set(node, "size", size);
+        Ok(node)
+    });
+    made.unwrap()
+}
+
+fn next(client: &mut Client) -> Push {
+    client.next_push(PATIENCE).unwrap().expect("a push comes")
+}
+
+#[test]
+fn what_changes_is_pushed() {
+    let (_folder, server) = start();
+    let (mut watching, mut writing) = (server.client(), server.client());
+    let first = sized(&mut writing, 5);
+    let watched = watching.watch(Some("size>=5")).unwrap();
+    assert_eq!((watched.watch, watched.commit), (1, 2));
+    assert_eq!(watched.nodes, Some(vec![first]));
+    let second = sized(&mut writing, 6);
+    let push = next(&mut watching);
+    assert_eq!((push.watch, push.commit), (1, 3));
+    assert_eq!((push.created, push.removed), (vec![second], vec![]));
+    writing.apply(Batch::new().set(first, "size", 4_i64)).unwrap();
+    let push = next(&mut watching);
+    assert_eq!((push.created, push.removed), (vec![], vec![first]));
+    // What isn't found changes nothing, and nothing is pushed.
+    sized(&mut writing, 1);
+    assert_eq!(watching.next_push(Duration::from_millis(200)).unwrap(), None);
+    watching.unwatch(1).unwrap();
+    sized(&mut writing, 9);
+    assert_eq!(watching.next_push(Duration::from_millis(200)).unwrap(), None);
+    assert!(watching.unwatch(1).unwrap_err().is("NoWatch"));
+    assert_eq!(watching.watch(Some("size>=9")).unwrap().watch, 2);
+}
+
+#[test]
+fn commits_are_pushed_without_a_query() {
+    let (_folder, server) = start();
+    let (mut watching, mut writing) = (server.client(), server.client());
+    let watched = watching.watch(None).unwrap();
+    assert_eq!((watched.commit, watched.nodes), (1, None));
+    let mut last = 0;
+    for _ in 0..50 {
+        last = writing.apply(Batch::new().new_node()).unwrap().number;
+    }
+    let mut before = 1;
+    while before < last {
+        let push = next(&mut watching);
+        assert!(push.commit > before && push.commit <= last);
+        before = push.commit;
+    }
+}
+
+#[test]
+fn a_watch_in_a_snapshot_goes_on_from_it() {
+    let (_folder, server) = start();
+    let (mut watching, mut writing) = (server.client(), server.client());
+    watching.pin().unwrap();
+    let node = sized(&mut writing, 5);
+    let watched = watching.watch(Some("size>=5")).unwrap();
+    assert_eq!((watched.commit, watched.nodes), (1, Some(vec![])));
+    assert_eq!(next(&mut watching).created, [node]);
+    assert!(watching.query("size>=5").unwrap().is_empty());
+}
+
+#[test]
+fn a_query_that_cant_be_asked_any_more_ends() {
+    let (_folder, server) = start();
+    let (mut watching, mut writing) = (server.client(), server.client());
+    watching.watch(Some("size>=5")).unwrap();
+    writing.apply(Batch::new().remove_index("size")).unwrap();
+    let push = next(&mut watching);
+    assert_eq!(push.error.unwrap().name, "NotCovered");
+    assert_eq!(watching.status().unwrap().watches, 0);
+    writing.apply(Batch::new().make_index("size", Kind::Int64)).unwrap();
+    sized(&mut writing, 9);
+    assert_eq!(watching.next_push(Duration::from_millis(200)).unwrap(), None);
+}
+
+#[test]
+fn a_connection_has_32_watches() {
+    let (_folder, server) = start();
+    let mut client = server.client();
+    for _ in 0..32 {
+        client.watch(Some("size>=5")).unwrap();
+    }
+    assert!(client.watch(None).unwrap_err().is("TooManyWatches"));
+    assert_eq!(client.status().unwrap().watches, 32);
+    drop(client);
+    wait_until("the watches are gone", || {
+        server.client().status().unwrap().watches == 0
+    });
+}
+
+/// Adds up what is pushed, and compares it with the answer at the end. The client writes by itself meanwhile.
+#[test]
+fn changes_add_up_to_the_answer_while_clients_write() {
+    let (_folder, server) = start();
+    let server = &server;
+    std::thread::scope(|scope| {
+        for writer in 0..4_i64 {
+            scope.spawn(move || {
+                let mut client = server.client();
+                for round in 0..100 {
+                    let node = sized(&mut client, (writer + round) % 10);
+                    client.apply(Batch::new().set(node, "size", round % 7)).unwrap();
+                }
+            });
+        }
+        let mut client = server.client();
+        let watched = client.watch(Some("size>=5")).unwrap();
+        let mut found: BTreeSet<u64> = watched.nodes.unwrap().into_iter().collect();
+        let mut commit = watched.commit;
+        while commit < 801 {
+            if let Some(push) = client.next_push(Duration::from_millis(50)).unwrap() {
+                assert!(push.commit > commit);
+                commit = push.commit;
+                for node in push.removed {
+                    assert!(found.remove(&node));
+                }
+                for node in push.created {
+                    assert!(found.insert(node));
+                }
+            }
+            let snapshot = client.pin().unwrap();
+            let answer = client.query("size>=5").unwrap();
+            client.unpin().unwrap();
+            if snapshot.commit == commit {
+                assert_eq!(answer, found.iter().copied().collect::<Vec<_>>());
+            }
+            if snapshot.commit == 801 && answer == found.iter().copied().collect::<Vec<_>>() {
+                break;
+            }
+        }
+    });
+}
+
+/// A client that reads nothing gets fewer and larger pushes, and the others theirs in time.
+#[test]
+fn a_slow_reader_gets_changes_together() {
+    let (_folder, server) = start();
+    let mut slow = server.talk();
+    slow.check(
+        r#""watch":{"query":"size>=0"}"#,
+        r#""ok":{"watch":1,"commit":1,"nodes":[]}"#,
+    );
+    let (mut quick, mut writing) = (server.client(), server.client());
+    quick.watch(Some("size>=0")).unwrap();
+    let mut made = 0;
+    for _ in 0..120 {
+        let snapshot = writing.pin().unwrap();
+        let mut batch = Batch::new();
+        for at in 0..32 {
+            batch.new_node().set(snapshot.next + at, "size", 1_i64);
+        }
+        writing.apply_if(snapshot.commit, &batch).unwrap();
+        writing.unpin().unwrap();
+        made += 32;
+        let mut seen = 0;
+        while seen < 32 {
+            seen += next(&mut quick).created.len();
+        }
+        let mut remove = Batch::new();
+        for at in 0..32 {
+            remove.remove_node(snapshot.next + at);
+        }
+        writing.apply(&remove).unwrap();
+        while seen > 0 {
+            seen -= next(&mut quick).removed.len();
+        }
+    }
+    assert!(server.most_memory() < 100 << 10);
+    slow.stream
+        .write_all(b"{\"id\":2,\"unwatch\":{\"watch\":1}}\n")
+        .unwrap();
+    let (mut created, mut removed) = (0, 0);
+    for line in BufReader::new(&slow.stream).lines() {
+        let line = line.unwrap();
+        if line == r#"{"id":2,"ok":{}}"# {
+            break;
+        }
+        let push: Push = serde_json::from_str(&line).unwrap();
+        created += push.created.len();
+        removed += push.removed.len();
+    }
+    assert!(created >= removed && created <= made, "{created} {removed} {made}");
+}

@@ -1,0 +1,352 @@
+//! Each command, and each way to ask for what can't be.
+
+mod common;
+
+use common::{Folder, Server, Talk};
+
+fn start(options: &[&str]) -> (Folder, Server) {
+    let folder = Folder::new();
+    let server = Server::start(&folder, options);
+    (folder, server)
+}
+
+/// An index `size`, and nodes 1 to 3 of the sizes 1 to 3.
+fn three(talk: &mut Talk) {
+    talk.check(
+        concat!(
+            r#""batch":{"operations":[["index","size","int64"],["new"],["set",1,"size",1],"#,
+            r#"["new"],["set",2,"size",2],["new"],["set",3,"size",3]]}"#
+        ),
+        r#""ok":{"commit":1,"nodes":[1,2,3]}"#,
+    );
+}
+
+#[test]
+fn the_example_of_the_protocol() {
+    let (_folder, server) = start(&[]);
+    let mut talk = server.talk();
+    for (request, reply) in [
+        (
+            r#"{"id":1,"batch":{"operations":[["index","size","int64"],["new"],["set",1,"size",5]]}}"#,
+            r#"{"id":1,"ok":{"commit":1,"nodes":[1]}}"#,
+        ),
+        (
+            r#"{"id":2,"query":{"query":"size>=5","columns":["size","name"]}}"#,
+            r#"{"id":2,"ok":{"commit":1,"count":1,"nodes":[1],"rows":[[5,null]]}}"#,
+        ),
+        (
+            r#"{"id":3,"query":{"query":"name==a"}}"#,
+            concat!(
+                r#"{"id":3,"error":{"name":"NotCovered","number":17,"message":"no index serves the query","#,
+                r#""missing":"name","offset":0}}"#
+            ),
+        ),
+    ] {
+        assert_eq!(talk.ask(request), reply);
+    }
+}
+
+#[test]
+fn reads() {
+    let (_folder, server) = start(&[]);
+    let mut talk = server.talk();
+    three(&mut talk);
+    for (request, reply) in [
+        (
+            r#""query":{"query":"size>1"}"#,
+            r#""ok":{"commit":1,"count":2,"nodes":[2,3]}"#,
+        ),
+        (
+            r#""query":{"query":"size>0","limit":1}"#,
+            r#""ok":{"commit":1,"count":3,"nodes":[1],"more":2}"#,
+        ),
+        (
+            r#""query":{"query":"size>0","from":2,"limit":1,"columns":["size"]}"#,
+            r#""ok":{"commit":1,"count":2,"nodes":[2],"rows":[[2]],"more":3}"#,
+        ),
+        (
+            r#""query":{"query":"size>0","limit":0}"#,
+            r#""ok":{"commit":1,"count":3,"nodes":[],"more":1}"#,
+        ),
+        (
+            r#""query":{"query":"size>0","count":true}"#,
+            r#""ok":{"commit":1,"count":3}"#,
+        ),
+        (r#""get":{"node":2,"name":"size"}"#, r#""ok":{"commit":1,"value":2}"#),
+        (r#""get":{"node":9,"name":"size"}"#, r#""ok":{"commit":1,"value":null}"#),
+        (
+            r#""attributes":{"node":2}"#,
+            r#""ok":{"commit":1,"attributes":{"size":2}}"#,
+        ),
+        (r#""indices":{}"#, r#""ok":{"commit":1,"indices":{"size":"int64"}}"#),
+        (r#""nodes":{}"#, r#""ok":{"commit":1,"nodes":[1,2,3]}"#),
+        (
+            r#""nodes":{"from":2,"limit":1}"#,
+            r#""ok":{"commit":1,"nodes":[2],"more":3}"#,
+        ),
+        (r#""next":{}"#, r#""ok":{"commit":1,"next":4}"#),
+        (
+            r#""explain":{"query":"size<0"}"#,
+            r#""ok":{"commit":1,"text":"\"size\"<\"0\" score 3"}"#,
+        ),
+    ] {
+        talk.check(request, reply);
+    }
+    let status = talk.ask(r#"{"id":1,"status":{}}"#);
+    assert!(
+        status.contains(r#""pages":4096"#) && status.contains(r#""clients":1,"watches":0"#),
+        "{status}"
+    );
+    let hello = talk.ask(r#"{"id":1,"hello":{"protocol":1}}"#);
+    assert!(
+        hello.starts_with(r#"{"id":1,"ok":{"protocol":1,"server":"0.2.0","#),
+        "{hello}"
+    );
+}
+
+#[test]
+fn values_lose_nothing() {
+    let (_folder, server) = start(&[]);
+    let mut talk = server.talk();
+    talk.check(
+        r#""batch":{"operations":[["new"]]}"#,
+        r#""ok":{"commit":1,"nodes":[1]}"#,
+    );
+    let values = concat!(
+        r#"{"a":"é\"\u0001","b":-5,"c":{"int64":"9223372036854775807"},"d":{"int32":-2147483648},"e":{"uint32":4294967295},"#,
+        r#""f":{"uint64":"18446744073709551615"},"g":{"mime":"text/plain"},"h":{"raw":"AP8="},"i":9007199254740991}"#
+    );
+    let read: serde_json::Map<String, serde_json::Value> = serde_json::from_str(values).unwrap();
+    for (index, (name, value)) in read.iter().enumerate() {
+        talk.check(
+            &format!(r#""batch":{{"operations":[["set",1,"{name}",{value}]]}}"#),
+            &format!(r#""ok":{{"commit":{},"nodes":[]}}"#, index + 2),
+        );
+    }
+    talk.check(
+        r#""attributes":{"node":1}"#,
+        &format!(r#""ok":{{"commit":10,"attributes":{values}}}"#),
+    );
+}
+
+#[test]
+fn errors_of_the_store() {
+    let (_folder, server) = start(&["--commits", "3"]);
+    let mut talk = server.talk();
+    three(&mut talk);
+    let long = "a".repeat(64);
+    for (request, error) in [
+        (
+            r#""batch":{"operations":[["remove",9]]}"#.to_owned(),
+            r#""NoNode","number":2"#,
+        ),
+        (r#""batch":{"operations":[]}"#.into(), r#""BadCount","number":69"#),
+        (
+            r#""batch":{"operations":[["new"],["set",1,"","a"]]}"#.into(),
+            r#""NameLength","number":18"#,
+        ),
+        (
+            format!(r#""batch":{{"operations":[["unset",1,"{long}"]]}}"#),
+            r#""NameLength","number":18"#,
+        ),
+        (
+            r#""batch":{"operations":[["set",1,"a\u0000","a"]]}"#.into(),
+            r#""HasNul","number":20"#,
+        ),
+        (
+            r#""batch":{"operations":[["index","size","int64"]]}"#.into(),
+            r#""IndexExists","number":5"#,
+        ),
+        (
+            r#""batch":{"operations":[["index","a","raw"]]}"#.into(),
+            r#""NotIndexable","number":8"#,
+        ),
+        (r#""query":{"query":"size=>1"}"#.into(), r#""Syntax","number":12"#),
+        (
+            r#""explain":{"query":"size==[a"}"#.into(),
+            r#""BadPattern","number":13"#,
+        ),
+        (r#""watch":{"query":"name==a"}"#.into(), r#""NotCovered","number":17"#),
+        (r#""attributes":{"node":9}"#.into(), r#""NoNode","number":2"#),
+        (r#""unwatch":{"watch":1}"#.into(), r#""NoWatch""#),
+        (r#""flush":{}"#.into(), r#""NotKept""#),
+        (r#""state":{}"#.into(), r#""NotPinned","number":66"#),
+        (r#""unpin":{}"#.into(), r#""NotPinned","number":66"#),
+        (r#""hello":{"protocol":2}"#.into(), r#""Protocol""#),
+    ] {
+        let said = talk.ask(&format!("{{\"id\":1,{request}}}"));
+        assert!(
+            said.starts_with(&format!(r#"{{"id":1,"error":{{"name":{error}"#)),
+            "{request}: {said}"
+        );
+    }
+    talk.check(
+        r#""batch":{"operations":[["new"]],"expected":7}"#,
+        concat!(
+            r#""error":{"name":"Conflict","number":76,"message":"the journal has 1 entries, and the write expected 7","#,
+            r#""expected":7,"found":1}"#
+        ),
+    );
+    let many = vec![r#"["new"]"#; 65].join(",");
+    let said = talk.ask(&format!("{{\"id\":1,\"batch\":{{\"operations\":[{many}]}}}}"));
+    assert!(
+        said.contains(r#""name":"BadCount","number":69"#) && said.contains(r#""count":65"#),
+        "{said}"
+    );
+    talk.check(
+        r#""batch":{"operations":[["new"]],"expected":1}"#,
+        r#""ok":{"commit":2,"nodes":[4]}"#,
+    );
+    talk.check(
+        r#""batch":{"operations":[["new"]]}"#,
+        r#""ok":{"commit":3,"nodes":[5]}"#,
+    );
+    let said = talk.ask(r#"{"id":1,"batch":{"operations":[["new"]]}}"#);
+    assert!(said.contains(r#""name":"CommitsSpent","number":9"#), "{said}");
+}
+
+#[test]
+fn what_is_no_request() {
+    let (_folder, server) = start(&[]);
+    let mut talk = server.talk();
+    for (line, id) in [
+        ("", "null"),
+        ("{", "null"),
+        ("[]", "null"),
+        ("null", "null"),
+        (r#"{"id":7}"#, "7"),
+        (r#"{"id":7,"drop":{}}"#, "7"),
+        (r#"{"id":7,"get":{"node":1}}"#, "7"),
+        (r#"{"id":7,"get":{"node":1,"name":"a","more":1}}"#, "7"),
+        (r#"{"get":{"node":1,"name":"a"}}"#, "null"),
+        (r#"{"id":7,"batch":{"operations":[["set",1,"a",1.5]]}}"#, "7"),
+        (r#"{"id":7,"pin":{}} {"id":8,"pin":{}}"#, "7"),
+        ("\u{1}\u{2}\u{3}", "null"),
+    ] {
+        let said = talk.ask(line);
+        let expected = format!(r#"{{"id":{id},"error":{{"name":"BadRequest","message":""#);
+        assert!(said.starts_with(&expected), "{line}: {said}");
+    }
+    talk.send(b"\xff\xfe{\"id\":1}\n");
+    assert!(talk.line().contains("BadRequest"));
+    let nested = talk.ask(&"[".repeat(100_000));
+    assert!(nested.contains("BadRequest"), "{nested}");
+    let said = talk.ask(r#"{"id":7,"gett":{}}"#);
+    assert!(said.ends_with(r#""offset":13}}"#), "{said}");
+    talk.check(r#""next":{}"#, r#""ok":{"commit":0,"next":1}"#);
+}
+
+#[test]
+fn a_line_that_is_too_long_ends_the_connection() {
+    let (_folder, server) = start(&[]);
+    let mut talk = server.talk();
+    talk.send(&vec![b' '; 1 << 20]);
+    let said = talk.line();
+    assert!(
+        said.starts_with(r#"{"id":null,"error":{"name":"LineTooLong","#),
+        "{said}"
+    );
+    assert_eq!(talk.line(), "");
+}
+
+#[test]
+fn replies_come_in_the_order_of_requests() {
+    let (_folder, server) = start(&[]);
+    let mut talk = server.talk();
+    let mut sent = String::new();
+    for id in 0..2000 {
+        sent += &format!("{{\"id\":{id},\"batch\":{{\"operations\":[[\"new\"]]}}}}\n");
+    }
+    talk.send(sent.as_bytes());
+    for id in 0..2000 {
+        let node = id + 1;
+        assert_eq!(
+            talk.line(),
+            format!("{{\"id\":{id},\"ok\":{{\"commit\":{node},\"nodes\":[{node}]}}}}")
+        );
+    }
+}
+
+#[test]
+fn a_snapshot_stays_as_it_is() {
+    let (_folder, server) = start(&[]);
+    let (mut talk, mut other) = (server.talk(), server.talk());
+    three(&mut talk);
+    talk.check(r#""pin":{}"#, r#""ok":{"commit":1,"next":4}"#);
+    other.check(
+        r#""batch":{"operations":[["remove",3]]}"#,
+        r#""ok":{"commit":2,"nodes":[]}"#,
+    );
+    talk.check(
+        r#""query":{"query":"size>1"}"#,
+        r#""ok":{"commit":1,"count":2,"nodes":[2,3]}"#,
+    );
+    let said = talk.ask(r#"{"id":1,"pin":{}}"#);
+    assert!(said.contains(r#""name":"Pinned","number":67"#), "{said}");
+    let said = talk.ask(r#"{"id":1,"batch":{"operations":[["new"]],"expected":1}}"#);
+    assert!(said.contains(r#""expected":1,"found":2"#), "{said}");
+    talk.check(
+        r#""batch":{"operations":[["remove",2]]}"#,
+        r#""ok":{"commit":3,"nodes":[]}"#,
+    );
+    talk.check(r#""nodes":{}"#, r#""ok":{"commit":1,"nodes":[1,2,3]}"#);
+    talk.check(r#""unpin":{}"#, r#""ok":{}"#);
+    talk.check(r#""nodes":{}"#, r#""ok":{"commit":3,"nodes":[1]}"#);
+    talk.check(r#""pin":{}"#, r#""ok":{"commit":3,"next":4}"#);
+}
+
+#[test]
+fn a_snapshot_that_is_kept_too_long_is_taken_back() {
+    let (_folder, server) = start(&["--hold", "1"]);
+    let mut talk = server.talk();
+    three(&mut talk);
+    talk.check(r#""pin":{}"#, r#""ok":{"commit":1,"next":4}"#);
+    std::thread::sleep(std::time::Duration::from_millis(1200));
+    let status = server.talk().ask(r#"{"id":1,"status":{}}"#);
+    assert!(status.contains(r#""oldest":null"#), "{status}");
+    let said = talk.ask(r#"{"id":1,"nodes":{}}"#);
+    assert!(said.starts_with(r#"{"id":1,"error":{"name":"Expired","#), "{said}");
+    let said = talk.ask(r#"{"id":1,"state":{}}"#);
+    assert!(said.starts_with(r#"{"id":1,"error":{"name":"Expired","#), "{said}");
+    talk.check(
+        r#""batch":{"operations":[["new"]]}"#,
+        r#""ok":{"commit":2,"nodes":[4]}"#,
+    );
+    talk.check(r#""pin":{}"#, r#""ok":{"commit":2,"next":5}"#);
+    talk.check(r#""unpin":{}"#, r#""ok":{}"#);
+}
+
+#[test]
+fn the_journal_and_the_state() {
+    let (_folder, server) = start(&[]);
+    let mut talk = server.talk();
+    three(&mut talk);
+    talk.check(
+        r#""batch":{"operations":[["remove",3],["new"],["unset",2,"size"]]}"#,
+        r#""ok":{"commit":2,"nodes":[4]}"#,
+    );
+    let pass: String = talk.ask(r#"{"id":1,"hello":{}}"#);
+    let pass = pass
+        .split("\"pass\":")
+        .nth(1)
+        .unwrap()
+        .split(',')
+        .next()
+        .unwrap()
+        .to_owned();
+    talk.check(
+        r#""journal":{"from":1}"#,
+        &format!(
+            r#""ok":{{"length":2,"entries":[{{"commit":2,"pass":{pass},"operations":[["remove",3],["new",4],["unset",2,"size"]]}}]}}"#
+        ),
+    );
+    talk.check(r#""journal":{"from":2}"#, r#""ok":{"length":2,"entries":[]}"#);
+    let said = talk.ask(r#"{"id":1,"journal":{"limit":1}}"#);
+    assert!(said.ends_with(r#""more":1}}"#), "{said}");
+    talk.check(r#""pin":{}"#, r#""ok":{"commit":2,"next":5}"#);
+    let said = talk.ask(r#"{"id":1,"state":{}}"#);
+    assert!(
+        said.starts_with(r#"{"id":1,"ok":{"commit":2,"next":5,"batches":[["#),
+        "{said}"
+    );
+}

@@ -1,0 +1,262 @@
+//! The socket, who may connect, and how the server ends.
+
+mod common;
+
+use bestore::Batch;
+use common::{command, wait_until, Folder, Server, Talk, PATIENCE};
+use std::fs::{self, Permissions};
+use std::io::Read;
+use std::os::unix::fs::PermissionsExt;
+use std::os::unix::net::{UnixListener, UnixStream};
+use std::process::{Command, Output, Stdio};
+use std::time::Duration;
+
+/// Runs the server to its end, which has to come by itself.
+fn said(mut command: Command) -> Output {
+    let mut child = command.stdout(Stdio::piped()).stderr(Stdio::piped()).spawn().unwrap();
+    wait_until("the server ends", || child.try_wait().unwrap().is_some());
+    child.wait_with_output().unwrap()
+}
+
+#[track_caller]
+fn refused(command: Command, why: &str) {
+    let output = said(command);
+    let text = String::from_utf8(output.stderr).unwrap();
+    assert!(!output.status.success() && text.contains(why), "{text}");
+}
+
+#[test]
+fn help_and_version_are_shown() {
+    let folder = Folder::new();
+    let shown = |option| {
+        let output = said(command(&folder.join("socket"), &[option]));
+        assert!(output.status.success());
+        String::from_utf8(output.stdout).unwrap()
+    };
+    assert_eq!(shown("--version"), "bestored 0.2.0\n");
+    let help = shown("--help");
+    for option in [
+        "--socket",
+        "--keep",
+        "--every",
+        "--pages",
+        "--passes",
+        "--commits",
+        "--hold",
+    ] {
+        assert!(help.contains(option), "{help}");
+    }
+}
+
+#[test]
+fn the_socket_is_of_the_user_alone_and_goes_with_the_server() {
+    for signal in ["TERM", "INT", "HUP"] {
+        let folder = Folder::new();
+        let server = Server::start(&folder, &[]);
+        let socket = folder.join("socket");
+        let mode = fs::metadata(&socket).unwrap().permissions().mode();
+        assert_eq!(mode & 0o777, 0o600);
+        let mut idle = server.talk();
+        idle.check(r#""pin":{}"#, r#""ok":{"commit":0,"next":1}"#);
+        assert!(server.end_by(signal).success());
+        assert!(!socket.exists());
+        assert_eq!(idle.line(), "");
+    }
+}
+
+#[test]
+fn a_dead_server_is_replaced_and_a_living_one_isnt() {
+    let folder = Folder::new();
+    let mut dead = Server::start(&folder, &[]);
+    refused(command(dead.socket(), &[]), "a server is listening there");
+    dead.kill();
+    assert!(folder.join("socket").exists());
+    let server = Server::start(&folder, &[]);
+    assert_eq!(server.client().apply(Batch::new().new_node()).unwrap().nodes, [1]);
+    refused(command(server.socket(), &[]), "a server is listening there");
+    assert_eq!(server.client().apply(Batch::new().new_node()).unwrap().nodes, [2]);
+}
+
+#[test]
+fn of_many_servers_at_once_one_starts() {
+    let folder = Folder::new();
+    drop(UnixListener::bind(folder.join("socket")).unwrap());
+    let mut servers: Vec<_> = (0..8)
+        .map(|_| {
+            command(&folder.join("socket"), &[])
+                .stderr(Stdio::null())
+                .spawn()
+                .unwrap()
+        })
+        .collect();
+    wait_until("seven have ended", || {
+        let ended = servers.iter_mut().filter_map(|server| server.try_wait().unwrap());
+        ended.count() == 7
+    });
+    UnixStream::connect(folder.join("socket")).unwrap();
+    for mut server in servers {
+        server.kill().unwrap();
+        server.wait().unwrap();
+    }
+}
+
+#[test]
+fn other_files_and_folders_are_left_alone() {
+    let folder = Folder::new();
+    fs::write(folder.join("file"), "text").unwrap();
+    refused(command(&folder.join("file"), &[]), "no socket");
+    assert_eq!(fs::read(folder.join("file")).unwrap(), b"text");
+    refused(command(&folder.join("none/none/socket"), &[]), "No such file");
+    refused(command(&folder.join(&"a".repeat(200)), &[]), "");
+    let open = folder.join("open");
+    fs::create_dir(&open).unwrap();
+    fs::set_permissions(&open, Permissions::from_mode(0o777)).unwrap();
+    refused(command(&open.join("socket"), &[]), "others may write");
+    fs::set_permissions(&open, Permissions::from_mode(0o1777)).unwrap();
+    drop(Server::start(&folder, &[]));
+}
+
+#[test]
+fn a_socket_that_was_replaced_stays() {
+    let folder = Folder::new();
+    let server = Server::start(&folder, &[]);
+    fs::remove_file(folder.join("socket")).unwrap();
+    let _other = UnixListener::bind(folder.join("socket")).unwrap();
+    assert!(server.end_by("TERM").success());
+    assert!(folder.join("socket").exists());
+}
+
+#[test]
+fn another_user_cant_connect() {
+    let who = Command::new("id").arg("-u").output().unwrap();
+    if who.stdout != b"0\n" {
+        println!("skipped: only root can act as another user");
+        return;
+    }
+    let folder = Folder::new();
+    let server = Server::start(&folder, &[]);
+    let connect = r#"$s = IO::Socket::UNIX->new(Peer => $ARGV[0]) or die "$!\n"; print scalar <$s>"#;
+    let as_nobody = || {
+        let nobody = [
+            "--reuid=65534",
+            "--regid=65534",
+            "--clear-groups",
+            "perl",
+            "-MIO::Socket::UNIX",
+            "-e",
+            connect,
+        ];
+        let output = Command::new("setpriv")
+            .args(nobody)
+            .arg(server.socket())
+            .output()
+            .unwrap();
+        String::from_utf8(output.stdout).unwrap() + &String::from_utf8(output.stderr).unwrap()
+    };
+    assert!(as_nobody().contains("Permission denied"), "{}", as_nobody());
+    // If the rights of the files were lost, the server still refuses.
+    fs::set_permissions(folder.path(), Permissions::from_mode(0o755)).unwrap();
+    fs::set_permissions(folder.join("socket"), Permissions::from_mode(0o777)).unwrap();
+    assert!(as_nobody().contains("NotAllowed"), "{}", as_nobody());
+    server.client().hello().unwrap();
+}
+
+#[test]
+fn systemd_passes_the_socket() {
+    let activate = Command::new("systemd-socket-activate").arg("--version").output();
+    if !activate.map_or(false, |output| output.status.success()) {
+        println!("skipped: there is no systemd-socket-activate");
+        return;
+    }
+    let folder = Folder::new();
+    let socket = folder.join("socket");
+    let library_path = std::env::var_os("LD_LIBRARY_PATH").unwrap_or_default();
+    let mut server = Command::new("systemd-socket-activate")
+        .arg("-l")
+        .arg(&socket)
+        .arg(env!("CARGO_BIN_EXE_bestored"))
+        .env(
+            "LD_LIBRARY_PATH",
+            std::env::var_os("LD_LIBRARY_PATH").unwrap_or_default(),
+        )
+        .spawn()
+        .unwrap();
+    wait_until("the socket is there", || UnixStream::connect(&socket).is_ok());
+    let mut talk = Talk::new(UnixStream::connect(&socket).unwrap());
+    talk.check(r#""next":{}"#, r#""ok":{"commit":0,"next":1}"#);
+    let number = server.id().to_string();
+    assert!(Command::new("kill")
+        .args(["-s", "TERM", &number])
+        .status()
+        .unwrap()
+        .success());
+    wait_until("the server ends", || server.try_wait().unwrap().is_some());
+    assert!(server.wait().unwrap().success());
+    assert!(socket.exists());
+}
+
+#[test]
+fn a_client_without_a_pass_is_told_so() {
+    let folder = Folder::new();
+    let server = Server::start(&folder, &["--passes", "2"]);
+    let (mut one, mut two) = (server.talk(), server.talk());
+    one.check(r#""next":{}"#, r#""ok":{"commit":0,"next":1}"#);
+    two.check(r#""next":{}"#, r#""ok":{"commit":0,"next":1}"#);
+    let mut three = server.talk();
+    let said = three.line();
+    let expected =
+        r#"{"id":null,"error":{"name":"NoPass","number":68,"message":"2 clients are connected","clients":2}}"#;
+    assert_eq!(said, expected);
+    assert_eq!(three.line(), "");
+    let mut client = server.client();
+    assert!(client.hello().unwrap_err().is("NoPass"));
+    drop(one);
+    server.client().hello().unwrap();
+    two.check(r#""next":{}"#, r#""ok":{"commit":0,"next":1}"#);
+}
+
+#[test]
+fn what_was_sent_before_the_end_is_answered() {
+    let folder = Folder::in_memory();
+    let keep = folder.join("file");
+    let options = ["--keep", keep.to_str().unwrap()];
+    let server = Server::start(&folder, &options);
+    let mut talk = server.talk();
+    for id in 0..500 {
+        talk.send(format!("{{\"id\":{id},\"batch\":{{\"operations\":[[\"new\"]]}}}}\n").as_bytes());
+    }
+    assert!(server.end_by("TERM").success());
+    let mut replies = String::new();
+    talk.stream.set_read_timeout(Some(PATIENCE)).unwrap();
+    talk.stream.read_to_string(&mut replies).unwrap();
+    assert_eq!(replies.lines().count(), 500, "{replies}");
+    let server = Server::start(&folder, &options);
+    assert_eq!(server.client().pin().unwrap().next, 501);
+}
+
+#[test]
+fn a_kept_store_is_written_every_so_often_or_by_flush() {
+    let folder = Folder::new();
+    let keep = folder.join("file");
+    let options = ["--keep", keep.to_str().unwrap(), "--every", "3600000"];
+    let mut server = Server::start(&folder, &options);
+    let mut talk = server.talk();
+    talk.check(
+        r#""batch":{"operations":[["new"]]}"#,
+        r#""ok":{"commit":1,"nodes":[1]}"#,
+    );
+    talk.check(r#""flush":{}"#, r#""ok":{}"#);
+    talk.check(r#""compact":{}"#, r#""ok":{}"#);
+    talk.check(
+        r#""batch":{"operations":[["new"]]}"#,
+        r#""ok":{"commit":2,"nodes":[2]}"#,
+    );
+    server.kill();
+    let server = Server::start(&folder, &options);
+    let mut talk = server.talk();
+    let said = talk.ask(r#"{"id":1,"nodes":{}}"#);
+    assert!(said.ends_with(r#""nodes":[1]}}"#), "{said}");
+    std::thread::sleep(Duration::from_millis(1));
+    let other = Folder::new();
+    refused(command(&other.join("socket"), &options), "the file is in use");
+}
