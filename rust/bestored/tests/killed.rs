@@ -79,7 +79,7 @@ fn no_answered_write_is_lost_and_none_is_made_twice() {
         .unwrap_or(KILLS);
     let folder = Folder::in_memory();
     let keep = folder.join("file");
-    let options = ["--keep", keep.to_str().unwrap(), "--pages", "16384"];
+    let options = ["--keep", keep.to_str().unwrap(), "--pages", "1024"];
     let known: [Known; WRITERS] = Default::default();
     {
         let server = Server::start(&folder, &options);
