@@ -3,7 +3,7 @@
 mod common;
 
 use bestore::{Batch, Kind};
-use bestore_client::wire::{Command, From, Journal, JournalFrom, Nodes, NodesFrom, Nothing, State};
+use bestore_client::wire::{Command, From, Journal, JournalFrom, Nodes, NodesFrom, State};
 use bestore_client::{Client, Query};
 use common::{Folder, Server, PATIENCE};
 
@@ -108,52 +108,61 @@ fn long_rows_come_in_pages() {
     assert!((3..10).contains(&pages), "{pages} pages");
 }
 
+/// Carries the pinned snapshot to an empty store. Returns the index of the first batch of the last page.
+fn carry_state(from: &mut Client, to: &mut Client) -> u64 {
+    let mut index = 0;
+    loop {
+        let page: State = from.call(Command::State(From { from: index })).unwrap();
+        for batch in page.batches {
+            to.apply(&batch.batch).unwrap();
+        }
+        match page.more {
+            Some(more) => index = more,
+            None => return index,
+        }
+    }
+}
+
+/// Makes each entry of the journal again in an empty store, and compares what comes of it.
+fn carry_journal(from: &mut Client, to: &mut Client) {
+    let mut index = 0;
+    loop {
+        let journal = JournalFrom {
+            from: index,
+            limit: None,
+        };
+        let page: Journal = from.call(Command::Journal(journal)).unwrap();
+        for entry in page.entries {
+            let written = to.apply(&entry.operations.batch).unwrap();
+            let mut made = entry.operations.batch.clone();
+            made.set_nodes(&written.nodes);
+            assert_eq!((written.number, made), (entry.commit, entry.operations.batch));
+        }
+        match page.more {
+            Some(more) => index = more,
+            None => return,
+        }
+    }
+}
+
 #[test]
 fn the_state_and_the_journal_make_the_store_again() {
     let (_folder, server) = start();
     let mut client = server.client();
     fill(&mut client, 20_000);
     client.apply(Batch::new().remove_node(7)).unwrap();
-    let mut by_state = Server::start(&Folder::new(), &["--pages", "16384"]).client_of_its_own();
-    let snapshot = client.pin().unwrap();
-    let (mut from, mut pages) = (0, 0);
-    loop {
-        let page: State = client.call(Command::State(From { from })).unwrap();
-        assert_eq!((page.commit, page.next), (snapshot.commit, snapshot.next));
-        for batch in page.batches {
-            by_state.0.apply(&batch.batch).unwrap();
-        }
-        pages += 1;
-        match page.more {
-            Some(more) => from = more,
-            None => break,
-        }
-    }
-    assert!(pages > 1);
-    let again: State = client.call(Command::State(From { from })).unwrap();
-    assert_eq!(again.more, None);
+    let (_folder, by_state) = start();
+    client.pin().unwrap();
+    let last = carry_state(&mut client, &mut by_state.client());
+    assert!(last > 0);
+    let again: State = client.call(Command::State(From { from: last })).unwrap();
+    assert_eq!((again.more, again.next), (None, 20_001));
     client.unpin().unwrap();
-
-    let mut by_journal = Server::start(&Folder::new(), &["--pages", "16384"]).client_of_its_own();
-    from = 0;
-    loop {
-        let page: Journal = client
-            .call(Command::Journal(JournalFrom { from, limit: None }))
-            .unwrap();
-        for entry in page.entries {
-            let written = by_journal.0.apply(&entry.operations.batch).unwrap();
-            let mut made = entry.operations.batch.clone();
-            made.set_nodes(&written.nodes);
-            assert_eq!((written.number, made), (entry.commit, entry.operations.batch));
-        }
-        match page.more {
-            Some(more) => from = more,
-            None => break,
-        }
-    }
-    for other in [&mut by_state.0, &mut by_journal.0] {
+    let (_folder, by_journal) = start();
+    carry_journal(&mut client, &mut by_journal.client());
+    for other in [&by_state, &by_journal] {
+        let mut other = other.client();
         assert!(other.query("size>0").unwrap() == client.query("size>0").unwrap());
-        let next: bestore_client::wire::Next = other.call(Command::Next(Nothing {})).unwrap();
-        assert_eq!(next.next, 20_001);
+        assert_eq!(other.pin().unwrap().next, 20_001);
     }
 }

@@ -134,11 +134,6 @@ impl Server {
             .success());
     }
 
-    /// A client, with the server that ends with it.
-    pub fn client_of_its_own(self) -> (Client, Self) {
-        (self.client(), self)
-    }
-
     pub fn kill(&mut self) {
         let _ = self.child.kill();
         let _ = self.child.wait();
