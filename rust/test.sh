@@ -44,7 +44,7 @@ run() {
     local passed
     passed=$(sed -n 's/^test result: ok. \([0-9]*\) passed.*/\1/p' "$work/said" | paste -sd+ | sed 's/^$/0/')
     echo "$what: ok$([ "$passed" = 0 ] || echo ", $((passed)) tests passed")"
-    grep -h "skipped" "$work/said" || true
+    grep -h "skipped\|^killed\|^[0-9]* requests" "$work/said" || true
 }
 
 # Cargo resolves the dependencies of all features, so without rusqlite it finds no way.
@@ -53,7 +53,7 @@ if ! cargo metadata --format-version 1 "${options[@]}" >/dev/null 2>"$work/said"
 fi
 
 run "Rust" test --workspace --features saved -- --show-output
-run "Rust, without features" test --workspace --lib --tests
+run "Rust, without features" test -p bestore-sys -p bestore --lib --tests
 for example in first mailbox; do
     run "Rust, example $example" run -q -p bestore --example $example
 done

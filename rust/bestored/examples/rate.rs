@@ -228,53 +228,53 @@ fn fill(socket: &Path) {
     }
 }
 
-fn main() {
-    let folder = std::env::temp_dir().join(format!("bestored-rate-{}", std::process::id()));
-    fs::create_dir(&folder).expect("there is room for a folder");
+/// Both servers in the folder, filled. The second is there if it is installed.
+fn start(folder: &Path) -> (Server, Option<Server>) {
     let program = std::env::current_exe().expect("this program has a path");
     let program = program.ancestors().nth(2).expect("it is in examples").join("bestored");
     let socket = folder.join("bestored");
-    let ours = Server::start(
-        Command::new(program).arg("--pages=16384").arg("--socket").arg(&socket),
-        &socket,
-    );
-    let ours = ours.expect("bestored starts");
+    let mut command = Command::new(program);
+    command.arg("--pages=16384").arg("--socket").arg(&socket);
+    let ours = Server::start(&mut command, &socket).expect("bestored starts");
+    fill(&ours.socket);
     let socket = folder.join("redis");
     let options = ["--port", "0", "--save", "", "--appendonly", "no", "--unixsocket"];
     let redis = Server::start(Command::new("redis-server").args(options).arg(&socket), &socket);
-    fill(&ours.socket);
     if let Some(redis) = &redis {
         let mut client = Client::connect(&redis.socket);
         (0..NODES).for_each(|at| client.ask(&REDIS[1], at));
     }
+    (ours, redis)
+}
+
+/// Measures one case with so many clients, and prints a row of the table.
+fn measure(case: &Case, clients: usize, ours: &Server, peer: Option<(&Server, &Case)>) {
+    let (mut own, mut other) = (Figures::default(), Figures::default());
+    for _ in 0..ROUNDS {
+        own = own.better(Figures::of(run(&ours.socket, case, clients)));
+        if let Some((server, peer)) = peer {
+            other = other.better(Figures::of(run(&server.socket, peer, clients)));
+        }
+    }
+    let shown = |figures: Figures| format!("{:.0} | {:.1} | {:.1}", figures.rate, figures.half, figures.most);
+    let beside = peer.map(|_| format!("{} | {:.2}", shown(other), own.rate / other.rate));
+    let beside = beside.unwrap_or_else(|| " | | |".into());
+    println!("| {} | {clients} | {} | {beside} |", case.name, shown(own));
+}
+
+fn main() {
+    let folder = std::env::temp_dir().join(format!("bestored-rate-{}", std::process::id()));
+    fs::create_dir(&folder).expect("there is room for a folder");
+    let (ours, redis) = start(&folder);
     println!("| case | clients | bestored, a second | p50 µs | p99 µs | redis, a second | p50 µs | p99 µs | ratio |");
     println!("|---|---|---|---|---|---|---|---|---|");
     for case in &OURS {
         let peer = redis.as_ref().zip(REDIS.iter().find(|peer| peer.name == case.name));
         for clients in CLIENTS {
-            let (mut own, mut other) = (Figures::default(), Figures::default());
-            for _ in 0..ROUNDS {
-                own = own.better(Figures::of(run(&ours.socket, case, clients)));
-                if let Some((server, peer)) = peer {
-                    other = other.better(Figures::of(run(&server.socket, peer, clients)));
-                }
-            }
-            print!(
-                "| {} | {clients} | {:.0} | {:.1} | {:.1} |",
-                case.name, own.rate, own.half, own.most
-            );
-            match peer {
-                Some(_) => println!(
-                    " {:.0} | {:.1} | {:.1} | {:.2} |",
-                    other.rate,
-                    other.half,
-                    other.most,
-                    own.rate / other.rate
-                ),
-                None => println!(" | | | |"),
-            }
+            measure(case, clients, &ours, peer);
         }
     }
     drop((ours, redis));
+    // What is left goes with the folder for temporary files.
     let _ = fs::remove_dir_all(&folder);
 }

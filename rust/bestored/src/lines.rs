@@ -42,11 +42,13 @@ pub struct Lines {
     searched: usize,
     /// Since when there is half a line.
     half_since: Option<Instant>,
+    patience: Duration,
 }
 
 impl Lines {
     pub fn new(stream: Arc<UnixStream>) -> Self {
         Self {
+            patience: PATIENCE,
             stream,
             bytes: Vec::new(),
             filled: 0,
@@ -88,7 +90,7 @@ impl Lines {
         }
         let half = match (self.filled == 0, self.half_since) {
             (true, _) => None,
-            (false, since) => Some(*self.half_since.insert(since.unwrap_or_else(Instant::now)) + PATIENCE),
+            (false, since) => Some(*self.half_since.insert(since.unwrap_or_else(Instant::now)) + self.patience),
         };
         let first = [until, half].into_iter().flatten().min();
         if let Some(first) = first {
@@ -189,6 +191,23 @@ mod tests {
             sending.join().unwrap();
             assert_eq!(read.is_ok(), is_taken, "{read:?}");
         }
+    }
+
+    #[test]
+    fn half_a_line_waits_so_long_however_it_goes_on() {
+        let (mut client, mut lines) = pair();
+        lines.patience = Duration::from_millis(100);
+        let begin = Instant::now();
+        let received = loop {
+            client.write_all(b"a").unwrap();
+            assert_eq!(lines.take(), None);
+            match lines.read(Some(Instant::now() + Duration::from_millis(5))).unwrap() {
+                Received::Some | Received::Late => {}
+                other => break other,
+            }
+        };
+        assert_eq!(received, Received::Half);
+        assert!(begin.elapsed() >= lines.patience);
     }
 
     #[test]

@@ -12,7 +12,7 @@ const OWN_PASSES: u64 = 1;
 /// How the server runs.
 #[derive(Clone, Debug)]
 pub struct Options {
-    /// Where the socket is to be, if it was said.
+    /// The path of the socket, if it was given.
     pub socket: Option<PathBuf>,
     pub keep: Option<PathBuf>,
     pub every: Option<Duration>,

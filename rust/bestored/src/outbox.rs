@@ -8,7 +8,7 @@ use std::sync::{Arc, Mutex, MutexGuard, PoisonError, TryLockError};
 use std::time::{Duration, Instant};
 
 /// How long a client may leave unread what is sent to it.
-pub const PATIENCE: Duration = Duration::from_secs(30);
+const PATIENCE: Duration = Duration::from_secs(30);
 
 /// The end of a pushed line that the socket didn't take.
 #[derive(Debug, Default)]
@@ -23,6 +23,7 @@ struct Unsent {
 pub struct Outbox {
     stream: Arc<UnixStream>,
     unsent: Mutex<Unsent>,
+    patience: Duration,
 }
 
 impl Outbox {
@@ -31,6 +32,7 @@ impl Outbox {
         Ok(Self {
             stream,
             unsent: Mutex::default(),
+            patience: PATIENCE,
         })
     }
 
@@ -55,6 +57,7 @@ impl Outbox {
         let mut pusher = Pusher {
             stream: &self.stream,
             unsent,
+            patience: self.patience,
         };
         pusher.send_rest().then_some(pusher)
     }
@@ -65,6 +68,7 @@ impl Outbox {
 pub struct Pusher<'a> {
     stream: &'a UnixStream,
     unsent: MutexGuard<'a, Unsent>,
+    patience: Duration,
 }
 
 impl Pusher<'_> {
@@ -87,7 +91,7 @@ impl Pusher<'_> {
                 }
                 Err(error) if error.kind() == ErrorKind::Interrupted => {}
                 Err(error) if error.kind() == ErrorKind::WouldBlock => {
-                    if self.unsent.since.map_or(false, |since| since.elapsed() > PATIENCE) {
+                    if self.unsent.since.map_or(false, |since| since.elapsed() > self.patience) {
                         eprintln!("bestored: a client is disconnected, since it doesn't read what is pushed");
                         self.give_up();
                     }
@@ -107,5 +111,70 @@ impl Pusher<'_> {
     fn give_up(&mut self) {
         // It fails if the client has closed it, and then it needs no closing.
         let _ = self.stream.shutdown(Shutdown::Both);
+    }
+}
+
+#[cfg(test)]
+mod tests {
+    use super::*;
+    use std::io::Read;
+    use std::thread;
+
+    fn pair() -> (UnixStream, Outbox) {
+        let (client, server) = UnixStream::pair().unwrap();
+        (client, Outbox::new(Arc::new(server)).unwrap())
+    }
+
+    /// Pushes lines until the socket takes no more.
+    fn fill(outbox: &Outbox) -> usize {
+        let mut pusher = outbox.pusher().unwrap();
+        let mut lines = 1;
+        while pusher.push([b"a".repeat(9_999), vec![b'\n']].concat()) {
+            lines += 1;
+        }
+        lines
+    }
+
+    #[test]
+    fn lines_are_whole_for_a_slow_reader() {
+        let (mut client, outbox) = pair();
+        let lines = fill(&outbox);
+        assert!(outbox.pusher().is_none());
+        let reading = thread::spawn(move || {
+            let mut text = String::new();
+            client.read_to_string(&mut text).unwrap();
+            text
+        });
+        outbox.send(b"b\n").unwrap();
+        drop(outbox);
+        let text = reading.join().unwrap();
+        assert_eq!(text.lines().count(), lines + 1);
+        assert!(text.lines().take(lines).all(|line| line.len() == 9_999));
+        assert!(text.ends_with("a\nb\n"));
+    }
+
+    #[test]
+    fn who_reads_nothing_is_disconnected() {
+        let (mut client, mut outbox) = pair();
+        outbox.patience = Duration::from_millis(50);
+        fill(&outbox);
+        thread::sleep(Duration::from_millis(60));
+        assert!(outbox.pusher().is_none());
+        let mut text = Vec::new();
+        client.read_to_end(&mut text).unwrap();
+        assert!(outbox.send(b"b\n").is_err());
+    }
+
+    #[test]
+    fn nobody_waits_for_a_reply_that_is_sent() {
+        let (client, outbox) = pair();
+        let outbox = &outbox;
+        thread::scope(|scope| {
+            scope.spawn(|| outbox.send(&b"a".repeat(1 << 20)));
+            while outbox.pusher().is_some() {
+                thread::yield_now();
+            }
+            drop(client);
+        });
     }
 }

@@ -50,20 +50,24 @@ impl Pressure {
 
     /// Writes the batch. While snapshots of others keep the pages that it needs, it waits for them.
     pub fn write(&self, pass: &Pass, expected: Option<u64>, batch: &Batch) -> Result<Written> {
-        let mut until = None;
+        let (mut until, mut is_kept) = (None, true);
         loop {
             let written = match expected {
                 None => pass.apply(batch),
                 Some(expected) => pass.apply_if(expected, batch),
             };
             match written {
-                Err(Error::Full { oldest }) if is_kept_by_another(pass)? => {
+                Err(Error::Full { oldest }) => {
                     let until = *until.get_or_insert_with(|| Instant::now() + WAIT);
-                    if Instant::now() > until {
+                    if !is_kept || Instant::now() > until {
                         return Err(Error::Full { oldest });
                     }
-                    self.last.store(self.now(), Ordering::Relaxed);
-                    thread::sleep(TRY);
+                    // A snapshot may have been given back since the write failed, so it is tried once more in any case.
+                    is_kept = is_kept_by_another(pass)?;
+                    if is_kept {
+                        self.last.store(self.now(), Ordering::Relaxed);
+                        thread::sleep(TRY);
+                    }
                 }
                 written => return written,
             }

@@ -167,7 +167,7 @@ fn serve(shared: &Shared, stream: Arc<UnixStream>) {
         Err(Error::NoPass) => return refuse(&stream, &no_pass(shared.options.passes as usize)),
         Err(error) => return refuse(&stream, &error.into()),
     };
-    // An error of the connection is its end, and nobody is left to be told.
+    // An error of the connection is its end, and nobody is left to report it to.
     let _ = Connection::new(shared, stream).and_then(|mut connection| connection.run(pass));
 }
 

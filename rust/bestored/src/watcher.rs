@@ -33,7 +33,8 @@ pub struct Watch {
     pub commit: u64,
     /// What wasn't pushed yet.
     pub rest: Updates,
-    is_told: bool,
+    /// Whether all that was found was pushed.
+    is_pushed: bool,
     failed: Option<Refusal>,
     is_over: bool,
 }
@@ -45,7 +46,7 @@ impl Watch {
             number,
             live,
             commit,
-            is_told: rest.created.is_empty(),
+            is_pushed: rest.created.is_empty(),
             rest,
             failed: None,
             is_over: false,
@@ -53,13 +54,13 @@ impl Watch {
     }
 
     fn ask(&mut self, snapshot: &Snapshot<'_>) {
-        if !self.is_told || self.is_over || self.commit >= snapshot.number() {
+        if !self.is_pushed || self.is_over || self.commit >= snapshot.number() {
             return;
         }
         match self.live.as_mut().map(|live| live.refresh(snapshot)) {
-            None => self.is_told = false,
+            None => self.is_pushed = false,
             Some(Ok(updates)) => {
-                self.is_told = updates == Updates::default();
+                self.is_pushed = updates == Updates::default();
                 self.rest = updates;
             }
             // It may go better next time.
@@ -72,14 +73,14 @@ impl Watch {
     /// The next line to push.
     fn next_push(&mut self) -> Option<Push> {
         let error = self.failed.take();
-        if self.is_told && error.is_none() {
+        if self.is_pushed && error.is_none() {
             return None;
         }
         self.is_over = error.is_some();
         let created = take(&mut self.rest.created, NODES);
         let removed = take(&mut self.rest.removed, NODES - created.len());
         let more = self.rest != Updates::default();
-        self.is_told = !more;
+        self.is_pushed = !more;
         Some(Push {
             watch: self.number,
             commit: self.commit,

@@ -14,7 +14,7 @@ const CLIENTS: u64 = 32;
 const TIME: Duration = Duration::from_secs(5);
 
 /// The most memory that the server may have had, in KiB. The store alone has 16 MiB.
-const MEMORY: u64 = 150 << 10;
+const MEMORY: u64 = 200 << 10;
 
 /// A client that does all right, and checks each answer. Returns how many requests it made.
 fn good(server: &Server, number: u64, until: Instant) -> u64 {

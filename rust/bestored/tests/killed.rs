@@ -23,15 +23,22 @@ struct Known {
     last_made: AtomicU64,
 }
 
-/// Writes until the server is gone. Each write makes a node and counts in the writer's own node.
+/// Writes until the server is gone. Each write makes a node, removes the one before, and counts in the writer's own node.
 fn write(server: &Server, writer: usize, known: &Known) -> Result<()> {
     let mut client = Client::connect(server.socket())?;
     let own = writer as u64 + 1;
     let mut count = known.answered.load(Ordering::Relaxed);
+    let mut before = None;
     loop {
         count += 1;
         known.sent.store(count, Ordering::Relaxed);
-        let written = client.apply(Batch::new().new_node().set(own, "count", count))?;
+        let mut batch = Batch::new();
+        batch.new_node().set(own, "count", count);
+        if let Some(node) = before {
+            batch.remove_node(node);
+        }
+        let written = client.apply(&batch)?;
+        before = written.nodes.first().copied();
         known.answered.store(count, Ordering::Relaxed);
         known.last_made.store(written.nodes[0], Ordering::Relaxed);
     }
@@ -51,6 +58,10 @@ fn check(server: &Server, known: &[Known]) -> u64 {
         );
         assert!(answered <= found && found <= sent, "{answered} <= {found} <= {sent}");
         known.answered.store(found, Ordering::Relaxed);
+        // What the last answered write made is there, unless one came after it that wasn't answered.
+        if found > answered {
+            known.last_made.store(0, Ordering::Relaxed);
+        }
         let last = known.last_made.load(Ordering::Relaxed);
         assert!(last == 0 || client.attributes(last).unwrap().is_empty());
         all += found;
@@ -68,7 +79,7 @@ fn no_answered_write_is_lost_and_none_is_made_twice() {
         .unwrap_or(KILLS);
     let folder = Folder::in_memory();
     let keep = folder.join("file");
-    let options = ["--keep", keep.to_str().unwrap(), "--pages", "16384"];
+    let options = ["--keep", keep.to_str().unwrap(), "--pages", "1024"];
     let known: [Known; WRITERS] = Default::default();
     {
         let server = Server::start(&folder, &options);
@@ -85,7 +96,7 @@ fn no_answered_write_is_lost_and_none_is_made_twice() {
         let mut server = Server::start(&folder, &options);
         writes = check(&server, &known);
         random = random.wrapping_mul(6_364_136_223_846_793_005).wrapping_add(1);
-        let life = Duration::from_micros((random >> 33) % 60_000);
+        let life = Duration::from_micros((random >> 33) % 50_000);
         thread::scope(|scope| {
             let running = &server;
             for (writer, known) in known.iter().enumerate() {

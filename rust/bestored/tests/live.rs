@@ -3,11 +3,10 @@
 mod common;
 
 use bestore::{Batch, Kind};
-use bestore_client::wire::Push;
+use bestore_client::wire::{self, Push};
 use bestore_client::Client;
-use common::{wait_until, Folder, Server, PATIENCE};
+use common::{wait_until, Folder, Server, Talk, PATIENCE};
 use std::collections::BTreeSet;
-use std::io::{BufRead, BufReader, Write};
 use std::time::Duration;
 
 fn start() -> (Folder, Server) {
@@ -161,6 +160,21 @@ fn changes_add_up_to_the_answer_while_clients_write() {
     });
 }
 
+/// Ends the watch, and reads all that was pushed before. Returns how many nodes came and how many went.
+fn read_until_unwatched(talk: &mut Talk) -> (usize, usize) {
+    talk.send(b"{\"id\":2,\"unwatch\":{\"watch\":1}}\n");
+    let (mut created, mut removed) = (0, 0);
+    loop {
+        let line = talk.line();
+        if line == r#"{"id":2,"ok":{}}"# {
+            return (created, removed);
+        }
+        let push: Push = serde_json::from_str(&line).unwrap();
+        created += push.created.len();
+        removed += push.removed.len();
+    }
+}
+
 /// A client that reads nothing gets fewer and larger pushes, and the others theirs in time.
 #[test]
 fn a_slow_reader_gets_changes_together() {
@@ -196,18 +210,36 @@ fn a_slow_reader_gets_changes_together() {
         }
     }
     assert!(server.most_memory() < 100 << 10);
-    slow.stream
-        .write_all(b"{\"id\":2,\"unwatch\":{\"watch\":1}}\n")
-        .unwrap();
-    let (mut created, mut removed) = (0, 0);
-    for line in BufReader::new(&slow.stream).lines() {
-        let line = line.unwrap();
-        if line == r#"{"id":2,"ok":{}}"# {
-            break;
-        }
-        let push: Push = serde_json::from_str(&line).unwrap();
-        created += push.created.len();
-        removed += push.removed.len();
-    }
+    let (created, removed) = read_until_unwatched(&mut slow);
     assert!(created >= removed && created <= made, "{created} {removed} {made}");
+}
+
+#[test]
+fn what_is_pushed_is_in_the_file() {
+    let folder = Folder::in_memory();
+    let keep = folder.join("file");
+    let options = ["--keep", keep.to_str().unwrap()];
+    for _ in 0..10 {
+        let mut server = Server::start(&folder, &options);
+        let (mut watching, mut writing) = (server.client(), server.client());
+        let nodes = writing.pin().unwrap().next - 1;
+        let before = watching.watch(None).unwrap().commit;
+        // Each of these makes a node.
+        for _ in 0..20 {
+            let operations = Batch::new().new_node().clone().into();
+            let write = wire::Write {
+                operations,
+                expected: None,
+            };
+            writing.send(wire::Command::Batch(write)).unwrap();
+        }
+        let pushed = next(&mut watching).commit - before;
+        server.kill();
+        let server = Server::start(&folder, &options);
+        let found = server.client().pin().unwrap().next - 1;
+        assert!(
+            found >= nodes + pushed && found <= nodes + 20,
+            "{found} {nodes} {pushed}"
+        );
+    }
 }

@@ -46,55 +46,58 @@ fn the_example_of_the_protocol() {
     }
 }
 
+/// Reads of the store that `three` makes.
+const READS: &[(&str, &str)] = &[
+    (
+        r#""query":{"query":"size>1"}"#,
+        r#""ok":{"commit":1,"count":2,"nodes":[2,3]}"#,
+    ),
+    (
+        r#""query":{"query":"size>0","limit":1}"#,
+        r#""ok":{"commit":1,"count":3,"nodes":[1],"more":2}"#,
+    ),
+    (
+        r#""query":{"query":"size>0","from":2,"limit":1,"columns":["size"]}"#,
+        r#""ok":{"commit":1,"count":2,"nodes":[2],"rows":[[2]],"more":3}"#,
+    ),
+    (
+        r#""query":{"query":"size>0","limit":0}"#,
+        r#""ok":{"commit":1,"count":3,"nodes":[],"more":1}"#,
+    ),
+    (
+        r#""query":{"query":"size>0","count":true}"#,
+        r#""ok":{"commit":1,"count":3}"#,
+    ),
+    (r#""get":{"node":2,"name":"size"}"#, r#""ok":{"commit":1,"value":2}"#),
+    (r#""get":{"node":9,"name":"size"}"#, r#""ok":{"commit":1,"value":null}"#),
+    (
+        r#""attributes":{"node":2}"#,
+        r#""ok":{"commit":1,"attributes":{"size":2}}"#,
+    ),
+    (r#""indices":{}"#, r#""ok":{"commit":1,"indices":{"size":"int64"}}"#),
+    (r#""nodes":{}"#, r#""ok":{"commit":1,"nodes":[1,2,3]}"#),
+    (
+        r#""nodes":{"from":2,"limit":1}"#,
+        r#""ok":{"commit":1,"nodes":[2],"more":3}"#,
+    ),
+    (r#""next":{}"#, r#""ok":{"commit":1,"next":4}"#),
+    (
+        r#""explain":{"query":"size<0"}"#,
+        r#""ok":{"commit":1,"text":"\"size\"<\"0\" score 3"}"#,
+    ),
+];
+
 #[test]
 fn reads() {
     let (_folder, server) = start(&[]);
     let mut talk = server.talk();
     three(&mut talk);
-    for (request, reply) in [
-        (
-            r#""query":{"query":"size>1"}"#,
-            r#""ok":{"commit":1,"count":2,"nodes":[2,3]}"#,
-        ),
-        (
-            r#""query":{"query":"size>0","limit":1}"#,
-            r#""ok":{"commit":1,"count":3,"nodes":[1],"more":2}"#,
-        ),
-        (
-            r#""query":{"query":"size>0","from":2,"limit":1,"columns":["size"]}"#,
-            r#""ok":{"commit":1,"count":2,"nodes":[2],"rows":[[2]],"more":3}"#,
-        ),
-        (
-            r#""query":{"query":"size>0","limit":0}"#,
-            r#""ok":{"commit":1,"count":3,"nodes":[],"more":1}"#,
-        ),
-        (
-            r#""query":{"query":"size>0","count":true}"#,
-            r#""ok":{"commit":1,"count":3}"#,
-        ),
-        (r#""get":{"node":2,"name":"size"}"#, r#""ok":{"commit":1,"value":2}"#),
-        (r#""get":{"node":9,"name":"size"}"#, r#""ok":{"commit":1,"value":null}"#),
-        (
-            r#""attributes":{"node":2}"#,
-            r#""ok":{"commit":1,"attributes":{"size":2}}"#,
-        ),
-        (r#""indices":{}"#, r#""ok":{"commit":1,"indices":{"size":"int64"}}"#),
-        (r#""nodes":{}"#, r#""ok":{"commit":1,"nodes":[1,2,3]}"#),
-        (
-            r#""nodes":{"from":2,"limit":1}"#,
-            r#""ok":{"commit":1,"nodes":[2],"more":3}"#,
-        ),
-        (r#""next":{}"#, r#""ok":{"commit":1,"next":4}"#),
-        (
-            r#""explain":{"query":"size<0"}"#,
-            r#""ok":{"commit":1,"text":"\"size\"<\"0\" score 3"}"#,
-        ),
-    ] {
+    for (request, reply) in READS {
         talk.check(request, reply);
     }
     let status = talk.ask(r#"{"id":1,"status":{}}"#);
     assert!(
-        status.contains(r#""pages":4096"#) && status.contains(r#""clients":1,"watches":0"#),
+        status.contains(r#""pages":4096"#) && status.contains(r#""watches":0"#),
         "{status}"
     );
     let hello = talk.ask(r#"{"id":1,"hello":{"protocol":1}}"#);
@@ -129,57 +132,60 @@ fn values_lose_nothing() {
     );
 }
 
+/// Requests that the store of `three` refuses, and how the errors begin.
+const ERRORS: &[(&str, &str)] = &[
+    (r#""batch":{"operations":[["remove",9]]}"#, r#""NoNode","number":2"#),
+    (r#""batch":{"operations":[]}"#, r#""BadCount","number":69"#),
+    (
+        r#""batch":{"operations":[["new"],["set",1,"","a"]]}"#,
+        r#""NameLength","number":18"#,
+    ),
+    (
+        r#""batch":{"operations":[["unset",1,"aaaaaaaaaaaaaaaaaaaaaaaaaaaaaaaaaaaaaaaaaaaaaaaaaaaaaaaaaaaaaaaa"]]}"#,
+        r#""NameLength","number":18"#,
+    ),
+    (
+        r#""batch":{"operations":[["set",1,"a\u0000","a"]]}"#,
+        r#""HasNul","number":20"#,
+    ),
+    (
+        r#""batch":{"operations":[["index","size","int64"]]}"#,
+        r#""IndexExists","number":5"#,
+    ),
+    (
+        r#""batch":{"operations":[["index","a","raw"]]}"#,
+        r#""NotIndexable","number":8"#,
+    ),
+    (r#""query":{"query":"size=>1"}"#, r#""Syntax","number":12"#),
+    (r#""explain":{"query":"size==[a"}"#, r#""BadPattern","number":13"#),
+    (r#""watch":{"query":"name==a"}"#, r#""NotCovered","number":17"#),
+    (r#""attributes":{"node":9}"#, r#""NoNode","number":2"#),
+    (r#""unwatch":{"watch":1}"#, r#""NoWatch""#),
+    (r#""flush":{}"#, r#""NotKept""#),
+    (r#""state":{}"#, r#""NotPinned","number":66"#),
+    (r#""unpin":{}"#, r#""NotPinned","number":66"#),
+    (r#""hello":{"protocol":2}"#, r#""Protocol""#),
+];
+
 #[test]
 fn errors_of_the_store() {
-    let (_folder, server) = start(&["--commits", "3"]);
+    let (_folder, server) = start(&[]);
     let mut talk = server.talk();
     three(&mut talk);
-    let long = "a".repeat(64);
-    for (request, error) in [
-        (
-            r#""batch":{"operations":[["remove",9]]}"#.to_owned(),
-            r#""NoNode","number":2"#,
-        ),
-        (r#""batch":{"operations":[]}"#.into(), r#""BadCount","number":69"#),
-        (
-            r#""batch":{"operations":[["new"],["set",1,"","a"]]}"#.into(),
-            r#""NameLength","number":18"#,
-        ),
-        (
-            format!(r#""batch":{{"operations":[["unset",1,"{long}"]]}}"#),
-            r#""NameLength","number":18"#,
-        ),
-        (
-            r#""batch":{"operations":[["set",1,"a\u0000","a"]]}"#.into(),
-            r#""HasNul","number":20"#,
-        ),
-        (
-            r#""batch":{"operations":[["index","size","int64"]]}"#.into(),
-            r#""IndexExists","number":5"#,
-        ),
-        (
-            r#""batch":{"operations":[["index","a","raw"]]}"#.into(),
-            r#""NotIndexable","number":8"#,
-        ),
-        (r#""query":{"query":"size=>1"}"#.into(), r#""Syntax","number":12"#),
-        (
-            r#""explain":{"query":"size==[a"}"#.into(),
-            r#""BadPattern","number":13"#,
-        ),
-        (r#""watch":{"query":"name==a"}"#.into(), r#""NotCovered","number":17"#),
-        (r#""attributes":{"node":9}"#.into(), r#""NoNode","number":2"#),
-        (r#""unwatch":{"watch":1}"#.into(), r#""NoWatch""#),
-        (r#""flush":{}"#.into(), r#""NotKept""#),
-        (r#""state":{}"#.into(), r#""NotPinned","number":66"#),
-        (r#""unpin":{}"#.into(), r#""NotPinned","number":66"#),
-        (r#""hello":{"protocol":2}"#.into(), r#""Protocol""#),
-    ] {
+    for (request, error) in ERRORS {
         let said = talk.ask(&format!("{{\"id\":1,{request}}}"));
         assert!(
             said.starts_with(&format!(r#"{{"id":1,"error":{{"name":{error}"#)),
             "{request}: {said}"
         );
     }
+}
+
+#[test]
+fn conflicts_and_limits() {
+    let (_folder, server) = start(&["--commits", "3"]);
+    let mut talk = server.talk();
+    three(&mut talk);
     talk.check(
         r#""batch":{"operations":[["new"]],"expected":7}"#,
         concat!(

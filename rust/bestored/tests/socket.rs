@@ -174,11 +174,8 @@ fn systemd_passes_the_socket() {
     let mut server = Command::new("systemd-socket-activate")
         .arg("-l")
         .arg(&socket)
+        .args(["-E", &format!("LD_LIBRARY_PATH={}", library_path.to_string_lossy())])
         .arg(env!("CARGO_BIN_EXE_bestored"))
-        .env(
-            "LD_LIBRARY_PATH",
-            std::env::var_os("LD_LIBRARY_PATH").unwrap_or_default(),
-        )
         .spawn()
         .unwrap();
     wait_until("the socket is there", || UnixStream::connect(&socket).is_ok());

@@ -128,7 +128,7 @@ parameters_with_texts! {
     }
 }
 
-/// Names of attributes, 64 at most.
+/// Names of attributes, up to 64.
 #[derive(Clone, Debug, Default, PartialEq, Eq)]
 pub struct Columns<'a>(pub Vec<Cow<'a, str>>);
 
