@@ -287,8 +287,8 @@ static inline size_t bes_put_escaped_(char *out, size_t room, size_t at, char c)
     return bes_put_char_(out, room, at, c);
 }
 
-/* Writes a text so that it stands for itself in a query: as a name, a value or a part of a pattern, in quotes or not. So
- * [draft].txt becomes \[draft].txt. An empty text needs quotes.
+/* Writes a text so that it stands for itself in a query: as a name, a value or a part of a pattern, in quotes or not. Quotes
+ * are right for every text, also an empty one. So [draft].txt becomes \[draft].txt.
  * [out] out      the text and a zero byte, cut to `room` bytes; twice the text's length and 1 suffice
  * Returns how many bytes it has with enough room, without the zero byte. */
 static inline size_t bes_escape(const char *text, char *out, size_t room)

@@ -29,7 +29,7 @@ impl Retry {
 }
 
 impl Default for Retry {
-    /// 10,000 times at busy, which takes some seconds; 10 times at full, which takes .5 seconds; 1,000 times at a conflict.
+    /// 10,000 times at busy, which takes some seconds; 10 times at full, which takes some .3 seconds; 1,000 times at a conflict.
     fn default() -> Self {
         Self {
             busy: 10_000,
