@@ -272,8 +272,8 @@ uint32_t bes_unpin(bes_pass *pass);
  * first operation that the store refuses refuses the batch.
  * BES_COMMITS_SPENT, BES_NO_MEMORY.
  * BES_FULL: no page is free, and number is the oldest version that a pass may still read; bes_status names the pass that holds it.
- * If that is an older snapshot, the write succeeds once it is unpinned; bes_apply_or_retry tries again for a time. Otherwise the store has
- * no room for the batch: write a smaller one, remove nodes a few at a time, or carry the state on to a larger store.
+ * If that is an older snapshot, the write succeeds once it is unpinned; bes_apply_or_retry tries again for a time. Otherwise the
+ * store has no room for the batch: write a smaller one, remove nodes a few at a time, or carry the state on to a larger store.
  * Cost: memory for the operations and for their entry in the journal, and new pages on the way to each change of a tree. If no page
  * is free, or 32 pages were retired since the last scan, it scans: a look at each pass, and work for each page that becomes free. At
  * BES_BUSY it is one step, and the memory for the operations. */
