@@ -185,11 +185,11 @@ TakesMemory s abort = ⊥
 abbrev pub IsWanting : Session → Request → Reply → Session → Type 0
 IsWanting s request reply after = (after ≡ unwritten s request) × (((reply ≡ refused OutOfMemory) × TakesMemory s request) ⊎ IsHeldUpAt s s.batch request reply)
 
--- exactly this reply, and this session after it
+-- exactly this reply, and the session that it leaves
 abbrev pub Gives : Reply × Session → Reply → Session → Type 0
 Gives answer reply after = answer ≡ (reply, after)
 
--- this reply and this session after it, or a want
+-- the reply that is meant and the session that it leaves, or a want
 abbrev pub MayReply : Session → Request → Reply × Session → Reply → Session → Type 0
 MayReply s request answer reply after = Gives answer reply after ⊎ IsWanting s request reply after
 
@@ -197,7 +197,7 @@ MayReply s request answer reply after = Gives answer reply after ⊎ IsWanting s
 abbrev pub MayReplyTo : Session → Request → List ℕ → (Result Formula Refusal → Reply × Session) → Reply → Session → Type 0
 MayReplyTo s request text answer reply after = ((parsed : Result Formula Refusal) × IsQuery text parsed × Gives (answer parsed) reply after) ⊎ IsWanting s request reply after
 
--- A request may get this reply, and leave this session. Reads are of the pinned version, or else of the volume after all writes.
+-- What a request may be replied, and the session that it leaves. Reads are of the pinned version, or else of the volume after all writes.
 abbrev pub Replies : Session → Request → Reply → Session → Type 0
 Replies s silent reply after = Gives (none, s) reply after
 Replies s malformed reply after = MayReply s malformed (bad_line, s) reply after
@@ -216,16 +216,16 @@ Replies s begin reply after = MayReply s begin (beginning s s.batch) reply after
 Replies s commit reply after = MayReply s commit (committing s s.batch) reply after
 Replies s abort reply after = MayReply s abort (aborting s s.batch) reply after
 
--- A request may get this reply, and leave this session, where the store has other passes: the reply is to the store as they
+-- What a request may be replied, and the session that it leaves, if the store has other passes: the reply is to the store as they
 -- left it. A store of one pass has no others, and it is then the store as it was.
 abbrev pub Serves : Session → Request → Reply → Session → Type 0
 Serves s request reply after = Meanwhile s.store (λ now. Replies (with_store s now) request reply after)
 
--- a line may be answered by this text, and leave this session
+-- the text that a line may be replied, and the session that it leaves
 abbrev pub Answered : Session → List ℕ → Session → List ℕ → Type 0
 Answered s line after out = (reply : Reply) × Serves s (asked line) reply after × (out ≡ text_of reply)
 
--- the lines may be answered by this text, one after the other, and leave this session
+-- the text that lines may be replied, one after the other, and the session that they leave
 abbrev pub Outputs : Session → List (List ℕ) → Session → List ℕ → Type 0
 Outputs s [] last out = (last ≡ s) × (out ≡ [])
 Outputs s (line ∷ lines) last out =

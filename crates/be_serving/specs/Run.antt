@@ -99,7 +99,7 @@ IsNotLimits TooLong = Unit {0}
 IsNotLimits Write = Unit {0}
 IsNotLimits Memory = Unit {0}
 
--- The text is the replies to the lines of a script up to those of what is left, and leaves this session.
+-- The text is the replies to the lines of a script up to those of what is left, and `s` is the session that they leave.
 pub record HasReplied (store : Store) (script : List ℕ) (s : Session) (left out : List ℕ) : Type 0 where
   pub lines : List (List ℕ)
   pub is : lines_of script ≡ lines ++ lines_of left

@@ -38,7 +38,7 @@ abbrev pub asked_by : Heard → Request
 asked_by (short_line line) = asked line
 asked_by long_line = malformed
 
--- A line may be replied to by this text, and leave this session: of a short line this is what a script may be answered.
+-- The text that a line may be replied, and the session that it leaves: to a short line it is what a script may be replied.
 abbrev pub RepliedTo : Session → Heard → Session → List ℕ → Type 0
 RepliedTo s line after text = (reply : Reply) × Serves s (asked_by line) reply after × (text ≡ text_of reply)
 

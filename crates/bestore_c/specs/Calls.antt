@@ -100,7 +100,7 @@ WritesSpelled s t spelled bytes places filled number code =
     ⊎ ((e : Fault) × Refuses e number code × IsUnwritten s.knows t.knows ops e)))
 
 -- A conditional write, as such a write: what is spelled is misspelt, and then nothing has happened; or it means operations, which the session accepted on a
--- journal of as many entries as expected, or which it did not write. The number that is put out is then the length that it found, or what the refusal carries.
+-- journal of as many entries as expected, or which it did not write. The number is then the length that it found, or what the refusal carries.
 abbrev pub WritesSpelledIf : Sitting → Sitting → ℕ → List Operation → List ℕ → List ℕ → List ℕ → ℕ → ℕ → Type 0
 WritesSpelledIf s t expected spelled bytes places filled number code =
     ((e : Fault) × (code ≡ fault_code e) × IsMisspelt spelled bytes e number × (t ≡ s))
@@ -218,21 +218,24 @@ ShowsChanges None created_places created removed_places removed code = code ≡ 
 ShowsChanges (Some p) created_places created removed_places removed code =
     (code ≡ 0) × (created ≡ over p.came created_places) × (removed ≡ over p.went removed_places)
 
--- the canonical text of a prepared query is put out: how many bytes it has, and as many of them as there are places; or its handle is closed, or memory was refused
+-- The canonical text of a prepared query: how many bytes it has, and up to as many of them as there are places. Or its handle
+-- is closed, or memory was refused.
 abbrev pub PrintsPrepared : Option PreparedQuery → List ℕ → List ℕ → ℕ → ℕ → Type 0
 PrintsPrepared None places filled count code = IsClosed count code
 PrintsPrepared (Some p) places filled count code =
     Refuses (Refused OutOfMemory) count code ⊎ ((code ≡ 0) × (count ≡ length (or_text p.live.query)) × (filled ≡ over (or_text p.live.query) places))
 
--- An entry of the journal, if there is one: by which pass it is, and a spelling of its operations, in which each that made a node has that node; of both lists
--- how many there are, and as many of them as there are places. Where there is none, nothing is put out, and how many there are is 0.
+-- An entry of the journal, if there is one: its pass, and a spelling of its operations, in which each that made a node has that
+-- node. The lengths of the operations and of their bytes are returned, and up to as many of each as there are places. If there
+-- is no entry, the lists stay as they were, and all three numbers are 0.
 abbrev pub IsEntryPutOut : Option Entry → ℕ → Counts → List Operation → List Operation → List ℕ → List ℕ → Type 0
 IsEntryPutOut None by counts places filled byte_places bytes = (by ≡ 0) × (counts.operations ≡ 0) × (counts.bytes ≡ 0) × (filled ≡ places) × (bytes ≡ byte_places)
 IsEntryPutOut (Some entry) by counts places filled byte_places bytes =
     (by ≡ entry.by) × (os : List Operation) × (bs : List ℕ) × AreSpelled os bs entry.ops × TellNodes os entry.ops entry.dones
     × (counts.operations ≡ length os) × (filled ≡ over os places) × (counts.bytes ≡ length bs) × (bytes ≡ over bs byte_places)
 
--- An entry of the journal, of this index, as far as the pass has then seen the journal, is put out, and the journal's length; or why it isn't told, with what that carries.
+-- The entry with this index of the journal, as far as the pass has then seen it, and the journal's length; or an error, with what
+-- it carries.
 abbrev pub TellsEntry : Sitting → Sitting → ℕ → ℕ → Counts → List Operation → List Operation → List ℕ → List ℕ → ℕ → ℕ → Type 0
 TellsEntry s t from by counts places filled byte_places bytes number code =
     Learns s.knows t.knows

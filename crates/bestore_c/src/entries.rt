@@ -1,4 +1,4 @@
-//! One entry of the journal, put out.
+//! One entry of the journal, as C reads it.
 ghost use Rattle.std.specs.Option.{option_copied};
 ghost use Rattle.std.specs.Prelude.{◌≡◌, IfErr, IfOk, OnErr, OnOk, length, slice_get};
 ghost use Rattle.be_store.specs.History.{IsUntold, Learns};
@@ -14,8 +14,8 @@ use be_session::{Fault, Operation, Session, entry_spelled};
 use be_store::Entry;
 use std::alloc::Global;
 
-/// Puts out an entry, as far as there is room: by which pass it is, and its operations, each that made a node with that node; or
-/// that there is none.
+/// Writes an entry for the caller, as far as there is room: its pass, and its operations, each that made a node with that node;
+/// or that there is none.
 fn put_entry(
     alloc: Global,
     entry: Option<&Entry>,
@@ -42,7 +42,7 @@ fn put_entry(
     Ok(())
 }
 
-/// Puts out the journal's entry of an index, if there is one, as far as there is room. Answers the journal's length.
+/// Writes the journal's entry of an index for the caller, if there is one, as far as there is room. Returns the journal's length.
 pub(crate) fn tell_entry(
     alloc: Global,
     session: &mut Session,

@@ -323,7 +323,7 @@ pub extern "C" fn bes_next(pass: &mut Handle, node: &mut u64) -> u32
 }
 
 /// Tells one entry of the journal, that of an index from 0: by which pass it is, and its operations, each that made a node with
-/// that node, as much as there is room for. At the journal's end there are none. Puts out the journal's length.
+/// that node, as much as there is room for. At the journal's end there are none. Returns the journal's length in `number`.
 #[unsafe(no_mangle)]
 pub extern "C" fn bes_journal_from(
     alloc: Global,
