@@ -46,7 +46,7 @@ module _ (numbers others : List ℕ) (up : IsStrictlyIncreasing numbers) (up_oth
   below : (i : ℕ) → i < at → get_or others i 0 < get_or numbers k 0
   below i lt = elim (cases_lt i from) [ inl early ↦ before i k early (omega arith) inside | inr late ↦ between i late lt ]
 
-  -- so it goes on behind this number
+  -- the next number comes after it
   pub below_next : (i j : ℕ) → i < at → k + 1 ≤ j → j < length numbers → get_or others i 0 < get_or numbers j 0
   below_next i j lt le short =
       let first = below i lt in

@@ -1,21 +1,25 @@
 -- A whole write: the lock is taken, the write is published or not, and the lock is given back.
-use Rattle.std.proofs.Common.{◌≡◌, inr, ℕ, List, [], ◌∷◌, ◌++◌, length, refl, sym, ap, ◌∙◌, subst, arith, length-append}
+use Rattle.std.proofs.Common.{◌≡◌, false, append_assoc, inr, ℕ, List, [], ◌∷◌, ◌++◌, length, refl, sym, ap, ◌∙◌, subst, arith, length-append}
 use Rattle.std.specs.Prelude.{Result, Ok, Err, MatchResult, IfOk, IfErr}
 use Rattle.std.proofs.lemmas.List.{map-append}
 use Rattle.be_journal.specs.declared.entries.Entry.{Entry}
 use Rattle.be_journal.specs.Journal.{by_pass, replay}
 use Rattle.be_table.specs.declared.pass.Commit.{Commit}
 use Rattle.be_table.specs.declared.pass.Knowledge.{Knowledge}
+use Rattle.be_table.specs.declared.pass.Move.{Move}
+use Rattle.be_table.specs.declared.pass.Move.TheVariants.{Lock, Publish, Unlock}
 use Rattle.be_table.specs.Rule.{entries}
 use Rattle.be_table.specs.Steps.{IsPass, entry_by, without_lock}
-use Rattle.be_table.specs.Trace.{with_history}
-use Rattle.be_table.specs.Works.{TakesLock}
+use Rattle.be_table.specs.Trace.{AreWork, HasWorked, Makes, upto_lock, with_history}
+use Rattle.be_table.specs.Works.{Moves, TakesLock}
 use Rattle.be_table.proofs.Histories.{by_pass-append, by_pass-own}
+use Rattle.be_table.proofs.Traces.{makes_more}
+use Rattle.be_table.proofs.Worked.{upto_now}
 use Rattle.be_value.specs.declared.refusals.Refusal.{Refusal}
 use Rattle.be_volume.specs.Volume.{steps}
 use Rattle.be_volume.specs.declared.ops.Done.{Done}
 use Rattle.be_volume.specs.declared.ops.Op.{Op}
-use Rattle.be_store.specs.History.{Accepts, Learns, IsReason, text_seen}
+use Rattle.be_store.specs.History.{Accepts, Learns, LocksAndUnlocks, LocksOnly, IsReason, text_seen}
 use Rattle.be_store.specs.Writing.{Publishes, IsHeldBack, IsSame}
 
 pub entries_append : (log more : List Commit) → entries (log ++ more) ≡ entries log ++ entries more
@@ -47,8 +51,28 @@ module _ (a w : Knowledge) (t : TakesLock a w) where
       ∙ (ap (by_pass a.number) (sym (entries_append a.seen t.more.0))
       ∙ (ap (λ l. by_pass a.number (entries l)) (sym t.more.1) ∙ own))))
 
-  pub accepts : (v c : Knowledge) (ops : List Op) (n : ℕ) (dones : List Done) → Publishes w v ops n dones → c ≡ without_lock (with_history v c.history) → IsPass c → Accepts a c ops n dones
-  accepts v c ops n dones p is pass =
+  -- the history up to the lock is all that there was when the lock was taken
+  upto_here : upto_lock w.number w.history ≡ w.history
+  upto_here = ap (λ k. upto_lock k w.history) same_number ∙ upto_now a.number a.history w.history t.moves.made
+
+  -- the lock is given back at once
+  pub locks_and_unlocks : (c : Knowledge) → Moves w (Unlock w.number ∷ []) c → LocksAndUnlocks a c
+  locks_and_unlocks c unlocked =
+      makes_more a.number a.history (Lock a.number ∷ []) w.history (Unlock a.number ∷ []) c.history t.moves.made
+      (subst (λ k. Makes k w.history (Unlock k ∷ []) c.history) same_number unlocked.made)
+
+  -- from the lock to the unlock
+  locks_only : (v c : Knowledge) (work : List Move) → v.number ≡ w.number → AreWork w.number work → Makes w.number w.history work v.history → Moves v (Unlock v.number ∷ []) c → LocksOnly a c
+  locks_only v c work same is made unlocked = record {
+    work = work;
+    is_work = subst (λ k. AreWork k work) same_number is;
+    made = makes_more a.number a.history (Lock a.number ∷ []) w.history (work ++ Unlock a.number ∷ []) c.history t.moves.made
+        (makes_more a.number w.history work v.history (Unlock a.number ∷ []) c.history (subst (λ k. Makes k w.history work v.history) same_number made)
+        (subst (λ k. Makes k v.history (Unlock k ∷ []) c.history) (same ∙ same_number) unlocked.made));
+  }
+
+  pub accepts : (v c : Knowledge) (ops : List Op) (n : ℕ) (dones : List Done) → Publishes w v ops n dones → c ≡ without_lock (with_history v c.history) → IsPass c → Moves v (Unlock v.number ∷ []) c → Accepts a c ops n dones
+  accepts v c ops n dones p is pass unlocked =
       let seen : c.seen ≡ w.seen ++ p.commit ∷ [] = ap (λ (k : Knowledge). k.seen) is ∙ p.seen in
       let number : c.number ≡ a.number = ap (λ (k : Knowledge). k.number) is ∙ (p.same.pass ∙ same_number) in
       let entry : p.commit.entry ≡ entry_by a ops dones = p.entry ∙ ap (λ k. record { by = k; ops = ops; dones = dones }) same_number in record {
@@ -67,32 +91,49 @@ module _ (a w : Knowledge) (t : TakesLock a w) where
             ∙ (ap (λ l. l ++ p.commit.entry ∷ []) own ∙ ap (λ e. a.mine ++ e ∷ []) entry)))));
         pass = number;
         pin = ap (λ (k : Knowledge). k.phase) is ∙ (p.same.pin ∙ same_phase);
+        moves = record {
+          work = p.work;
+          is_work = subst (λ k. AreWork k p.work) same_number p.is_work;
+          given = p.given;
+          made = makes_more a.number a.history (Lock a.number ∷ []) w.history (p.work ++ Publish a.number p.commit.page p.given ∷ Unlock a.number ∷ []) c.history t.moves.made
+              (subst (λ (l : List Move). Makes a.number w.history l c.history) (append_assoc p.work (Publish a.number p.commit.page p.given ∷ []) (Unlock a.number ∷ []))
+              (makes_more a.number w.history (p.work ++ Publish a.number p.commit.page p.given ∷ []) v.history (Unlock a.number ∷ []) c.history
+              (subst (λ (x : ℕ × List Move). Makes x.0 x.1 (p.work ++ Publish x.0 p.commit.page p.given ∷ []) v.history) (λ i. (same_number i, upto_here i)) p.made)
+              (subst (λ k. Makes k v.history (Unlock k ∷ []) c.history) (p.same.pass ∙ same_number) unlocked.made)));
+        };
       }
 
   -- the lock is given back as it was taken
-  pub learns_only : (c : Knowledge) → c ≡ without_lock (with_history w c.history) → IsPass c → Learns a c
-  learns_only c is pass =
+  pub learns_only : (c : Knowledge) → c ≡ without_lock (with_history w c.history) → IsPass c → Moves w (Unlock w.number ∷ []) c → Learns a c
+  learns_only c is pass unlocked =
       let seen : c.seen ≡ w.seen = ap (λ (k : Knowledge). k.seen) is in
       let number : c.number ≡ a.number = ap (λ (k : Knowledge). k.number) is ∙ same_number in record {
         more = (t.more.0, seen ∙ t.more.1);
         mine = sym pass.mine ∙ (ap (λ k. by_pass k (entries c.seen)) number ∙ (ap (λ l. by_pass a.number (entries l)) seen ∙ own));
         pass = number;
         pin = ap (λ (k : Knowledge). k.phase) is ∙ same_phase;
+        moves = inr (locks_only w c [] refl tt refl unlocked);
       }
 
   -- so it is where the pass has only scanned
-  pub learns_same : (v c : Knowledge) → v.seen ≡ w.seen → IsSame w v → c ≡ without_lock (with_history v c.history) → IsPass c → Learns a c
-  learns_same v c unseen same is pass =
+  pub learns_same : (v c : Knowledge) (work : List Move) → v.seen ≡ w.seen → IsSame w v → c ≡ without_lock (with_history v c.history) → IsPass c
+      → AreWork w.number work → Makes w.number w.history work v.history → Moves v (Unlock v.number ∷ []) c → Learns a c
+  learns_same v c work unseen same is pass is_work made unlocked =
       let seen : c.seen ≡ w.seen = ap (λ (k : Knowledge). k.seen) is ∙ unseen in
       let number : c.number ≡ a.number = ap (λ (k : Knowledge). k.number) is ∙ (same.pass ∙ same_number) in record {
         more = (t.more.0, seen ∙ t.more.1);
         mine = sym pass.mine ∙ (ap (λ k. by_pass k (entries c.seen)) number ∙ (ap (λ l. by_pass a.number (entries l)) seen ∙ own));
         pass = number;
         pin = ap (λ (k : Knowledge). k.phase) is ∙ (same.pin ∙ same_phase);
+        moves = inr (locks_only v c work same.pass is_work made unlocked);
       }
 
-  pub learns : (v c : Knowledge) (ops : List Op) (e : Refusal) → IsHeldBack w v ops e → c ≡ without_lock (with_history v c.history) → IsPass c → Learns a c
-  learns v c ops e p is pass = learns_same v c p.seen p.same is pass
+  pub learns : (v c : Knowledge) (ops : List Op) (e : Refusal) → IsHeldBack w v ops e → c ≡ without_lock (with_history v c.history) → IsPass c
+      → (v.published ≡ false → HasWorked v.number v.history) → Moves v (Unlock v.number ∷ []) c → Learns a c
+  learns v c ops e p is pass worked unlocked =
+      let h = worked p.unpublished in
+      learns_same v c h.own p.seen p.same is pass (subst (λ k. AreWork k h.own) p.same.pass h.work)
+      (subst (λ (x : ℕ × List Move). Makes x.0 x.1 h.own v.history) (λ i. (p.same.pass i, (p.begun ∙ upto_here) i)) h.made) unlocked
 
 pub reasons : (a w v c : Knowledge) (ops : List Op) (e : Refusal) → IsHeldBack w v ops e → c ≡ without_lock (with_history v c.history) → IsReason a c ops e
 reasons a w v c ops e p is = subst (λ (k : Knowledge). IsReason a k ops e) (sym is) (inr p.reason)

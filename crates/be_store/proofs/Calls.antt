@@ -1,5 +1,5 @@
 -- What a pass has seen stays a beginning of the journal through all its calls.
-use Rattle.std.proofs.Common.{◌≡◌, ◌≤◌, ◌-◌, inl, inr, List, [], ◌∷◌, ◌++◌, length, take, Some, sym, ap, ◌∙◌, subst, arith, length-append}
+use Rattle.std.proofs.Common.{◌≡◌, ◌≤◌, ◌-◌, ◌⊎◌, inl, inr, List, [], ◌∷◌, ◌++◌, length, take, Some, sym, ap, ◌∙◌, subst, arith, length-append}
 use Rattle.std.specs.Prelude.{All, slice_get}
 use Rattle.std.proofs.Math.Seq.{get_or-append_seam}
 use Rattle.std.proofs.lemmas.List.{append_assoc, append-nil, length-map, take-append-le}
@@ -16,7 +16,13 @@ use Rattle.be_table.specs.History.{StartsWith}
 use Rattle.be_table.specs.Rule.{entries}
 use Rattle.be_table.specs.Steps.{KeepsSeen, entry_by}
 use Rattle.be_volume.specs.Volume.{empty}
-use Rattle.be_store.specs.Calls.{Call, Calls, HasWrites, ReadsFronts}
+use Rattle.be_table.specs.declared.limits.Limits.{Limits}
+use Rattle.be_table.specs.declared.pass.Move.{Move}
+use Rattle.be_table.specs.declared.pass.Move.TheVariants.{Look, Announce, LookAgain, Unpin, Lock, Publish, Unlock}
+use Rattle.be_table.specs.Trace.{AllRest, HasTrace}
+use Rattle.be_table.proofs.Scans.{makes_starts}
+use Rattle.be_store.specs.Calls.{AreInOneTrace, Call, Calls, HasFronts, HasWrites, ReadsFronts}
+use Rattle.be_store.specs.History.{LocksOnly}
 use Rattle.be_store.specs.Passes.{volume_pinned}
 use Rattle.be_store.proofs.Applied.{entries_append}
 use Rattle.be_store.proofs.Passes.{pinned_phase}
@@ -34,7 +40,7 @@ call_seen : (a c : Knowledge) → Call a c → StartsWith c.seen a.seen
 call_seen a c (inl (ops, n, dones, h)) = (h.others ++ h.commit ∷ [], h.seen ∙ append_assoc a.seen h.others (h.commit ∷ []))
 call_seen a c (inr (inl h)) = h.more
 call_seen a c (inr (inr (inl (n, h)))) = h.more
-call_seen a c (inr (inr (inr (inl h)))) = same_starts a c (ap (λ (k : Knowledge). k.seen) h)
+call_seen a c (inr (inr (inr (inl h)))) = same_starts a c (ap (λ (k : Knowledge). k.seen) h.0)
 call_seen a c (inr (inr (inr (inr (inl h))))) = same_starts a c (ap (λ (k : Knowledge). k.seen) h)
 call_seen a c (inr (inr (inr (inr (inr (log, more, h)))))) = subst (λ l. StartsWith l a.seen) (sym (ap (λ (k : Knowledge). k.seen) h)) more
 
@@ -86,3 +92,33 @@ all_writes log (a ∷ passes) kept = All-cons (HasWrites log) a passes (has_writ
 pub all_fronts : (log : List Entry) (passes : List Knowledge) → KeepsSeen log passes → All (ReadsFronts log) passes
 all_fronts log [] kept = All-nil (ReadsFronts log)
 all_fronts log (a ∷ passes) kept = All-cons (ReadsFronts log) a passes (reads_fronts log a kept.0) (all_fronts log passes kept.2)
+
+-- ## Moves
+
+same_history : (a c : Knowledge) → c.history ≡ a.history → StartsWith c.history a.history
+same_history a c same = subst (λ (l : List Move). StartsWith l a.history) (sym same) (starts_refl a.history)
+
+locks_start : (a c : Knowledge) → (c.history ≡ a.history) ⊎ LocksOnly a c → StartsWith c.history a.history
+locks_start a c (inl none) = same_history a c none
+locks_start a c (inr l) = makes_starts a.number a.history (Lock a.number ∷ (l.work ++ Unlock a.number ∷ [])) c.history l.made
+
+call_history : (a c : Knowledge) → Call a c → StartsWith c.history a.history
+call_history a c (inl (ops, n, dones, h)) =
+    makes_starts a.number a.history (Lock a.number ∷ (h.moves.work ++ Publish a.number h.commit.page h.moves.given ∷ Unlock a.number ∷ [])) c.history h.moves.made
+call_history a c (inr (inl h)) = locks_start a c h.moves
+call_history a c (inr (inr (inl (n, h)))) = makes_starts a.number a.history (Look a.number ∷ Announce a.number ∷ LookAgain a.number ∷ []) c.history h.moves.made
+call_history a c (inr (inr (inr (inl h)))) = makes_starts a.number a.history (Unpin a.number ∷ []) c.history h.1
+call_history a c (inr (inr (inr (inr (inl h))))) = same_history a c (ap (λ (k : Knowledge). k.history) h)
+call_history a c (inr (inr (inr (inr (inr (log, more, h)))))) = same_history a c (ap (λ (k : Knowledge). k.history) h)
+
+calls_history : (a : Knowledge) (cs : List Knowledge) (z : Knowledge) → Calls a cs z → StartsWith z.history a.history
+calls_history a [] z h = same_history a z (ap (λ (k : Knowledge). k.history) (sym h))
+calls_history a (c ∷ cs) z h = starts_trans a.history c.history z.history (calls_history c cs z h.1) (call_history a c h.0)
+
+all_traced : (trace : List Move) (passes : List Knowledge) → AllRest trace passes → All (HasFronts trace) passes
+all_traced trace [] rests = All-nil (HasFronts trace)
+all_traced trace (z ∷ passes) rests = All-cons (HasFronts trace) z passes
+    (λ c cs calls. starts_trans c.history z.history trace (rests.0.0, rests.0.2) (calls_history c cs z calls)) (all_traced trace passes rests.1)
+
+pub in_one_trace : (limits : Limits) (passes : List Knowledge) → HasTrace limits passes → AreInOneTrace limits passes
+in_one_trace limits passes h = record { has = h; fronts = all_traced h.trace passes h.rests }

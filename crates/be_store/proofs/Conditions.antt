@@ -12,7 +12,7 @@ use Rattle.be_table.specs.declared.pass.Knowledge.{Knowledge}
 use Rattle.be_table.specs.declared.pass.Move.TheVariants.{Unlock}
 use Rattle.be_table.specs.Rule.{entries}
 use Rattle.be_table.specs.Steps.{IsPass, without_lock}
-use Rattle.be_table.specs.Trace.{Makes, with_history}
+use Rattle.be_table.specs.Trace.{HasWorked, Makes, with_history}
 use Rattle.be_table.specs.Works.{FoundHeld, Moves, TakesLock}
 use Rattle.be_value.specs.declared.refusals.Refusal.{Refusal}
 use Rattle.be_volume.specs.Volume.{empty, steps}
@@ -43,11 +43,11 @@ module _ (a w : Knowledge) (t : TakesLock a w) (number : ℕ) where
       read ∙ ap replay (sym (take-append-le number (entries a.seen) (entries t.more.0) below) ∙ (ap (take number) (sym whole) ∙ take_all number (entries w.seen) (omega (arith, long, all))))
 
   pub accepts_at : (v c : Knowledge) (ops : List Op) (n : ℕ) (dones : List Done) → Publishes w v ops n dones × (length w.seen ≡ number)
-      → c ≡ without_lock (with_history v c.history) → IsPass c → AcceptsAt a c number ops n dones
-  accepts_at v c ops n dones p is pass =
+      → c ≡ without_lock (with_history v c.history) → IsPass c → Moves v (Unlock v.number ∷ []) c → AcceptsAt a c number ops n dones
+  accepts_at v c ops n dones p is pass unlocked =
       let seen = ap length p.0.seen in
       let parts = length-append w.seen (p.0.commit ∷ []) in record {
-        accepts = accepts a w t v c ops n dones p.0 is pass;
+        accepts = accepts a w t v c ops n dones p.0 is pass unlocked;
         next = omega (arith, p.0.number, seen, parts, p.1);
         read = λ pin. (p.0.answered.0, ap (λ s. steps s ops) (read_is_current p.1 pin) ∙ p.0.answered.1);
       }
@@ -57,7 +57,7 @@ module _ (a w : Knowledge) (t : TakesLock a w) (number : ℕ) where
   conflict found v c h is unlocked pass =
       let is_same : c ≡ without_lock (with_history w c.history) = subst (λ (k : Knowledge). c ≡ without_lock (with_history k c.history)) h.0 is in
       let moves : Moves w (Unlock w.number ∷ []) c = subst (λ (k : Knowledge). Moves k (Unlock k.number ∷ []) c) h.0 unlocked in record {
-        learns = learns_only a w t c is_same pass;
+        learns = learns_only a w t c is_same pass moves;
         found_is = h.1 ∙ sym (ap (λ (k : Knowledge). length k.seen) is_same);
         other = h.2;
         locked = w.history;
@@ -66,10 +66,10 @@ module _ (a w : Knowledge) (t : TakesLock a w) (number : ℕ) where
       }
 
   pub unapplied : (v c : Knowledge) (ops : List Op) (e : ApplyIfError) → IsHeldBackIf w v number ops e → c ≡ without_lock (with_history v c.history)
-      → Moves v (Unlock v.number ∷ []) c → IsPass c → IsUnapplied a c number ops e
-  unapplied v c ops (Conflict found) h is unlocked pass = conflict found v c h is unlocked pass
-  unapplied v c ops (Refused e) h is unlocked pass = (
-    learns a w t v c ops e h.0 is pass,
+      → Moves v (Unlock v.number ∷ []) c → IsPass c → (v.published ≡ false → HasWorked v.number v.history) → IsUnapplied a c number ops e
+  unapplied v c ops (Conflict found) h is unlocked pass worked = conflict found v c h is unlocked pass
+  unapplied v c ops (Refused e) h is unlocked pass worked = (
+    learns a w t v c ops e h.0 is pass worked unlocked,
     inr (
       subst (λ (k : Knowledge). IsRefusedAt k ops e) (sym is) h.0.reason,
       ap (λ (k : Knowledge). length k.seen) is ∙ (ap length h.0.seen ∙ h.1),

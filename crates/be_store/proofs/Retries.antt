@@ -1,5 +1,5 @@
 -- A write is tried again while another pass holds the lock.
-use Rattle.std.proofs.Common.{◌≡◌, ◌≢◌, ◌<◌, ◌+◌, ℕ, true, false, inl, inr, List, [], ◌∷◌, ◌++◌, length, refl, sym, ap, ◌∙◌, subst, arith}
+use Rattle.std.proofs.Common.{◌≡◌, ◌≢◌, ◌<◌, ◌+◌, ◌⊎◌, ℕ, true, false, inl, inr, List, [], ◌∷◌, ◌++◌, length, refl, sym, ap, ◌∙◌, subst, arith}
 use Rattle.std.specs.Prelude.{Result, Ok, Err, IfOk, IfErr}
 use Rattle.std.proofs.lemmas.Bool.{false≢true}
 use Rattle.be_table.specs.declared.pass.Knowledge.{Knowledge}
@@ -9,7 +9,7 @@ use Rattle.be_value.specs.declared.refusals.Refusal.{Refusal}
 use Rattle.be_value.specs.declared.refusals.Refusal.TheVariants.{Busy}
 use Rattle.be_volume.specs.declared.ops.Done.{Done}
 use Rattle.be_volume.specs.declared.ops.Op.{Op}
-use Rattle.be_store.specs.History.{Accepts, IsHeldThrough, Learns, IsReason, IsLastReason, is_busy, was_busy, tried}
+use Rattle.be_store.specs.History.{Accepts, IsHeldThrough, Learns, LocksOnly, IsReason, IsLastReason, is_busy, was_busy, tried}
 use Rattle.be_store.specs.Passes.{volume_seen}
 use Rattle.be_store.proofs.Refusals.{steps_refuse}
 
@@ -61,13 +61,18 @@ module _ (a : Knowledge) (holders : List ℕ) (m c : Knowledge) (is : m ≡ trie
         mine = h.mine;
         pass = h.pass;
         pin = h.pin;
+        moves = record { work = h.moves.work; is_work = h.moves.is_work; given = h.moves.given; made = h.moves.made };
       }
 
   pub learns_at_last : Learns m c → Learns a c
   learns_at_last h = by (subst (λ (k : Knowledge). Learns k c) is h)
     where
       by : Learns (tried a holders) c → Learns a c
-      by h = record { more = h.more; mine = h.mine; pass = h.pass; pin = h.pin }
+      by h = record { more = h.more; mine = h.mine; pass = h.pass; pin = h.pin; moves = moved h.moves }
+        where
+          moved : (c.history ≡ a.history) ⊎ LocksOnly (tried a holders) c → (c.history ≡ a.history) ⊎ LocksOnly a c
+          moved (inl none) = inl none
+          moved (inr l) = inr (record { work = l.work; is_work = l.is_work; made = l.made })
 
   -- the last try found a holder too
   pub held_at_last : (e : Refusal) → FoundHeld e m c → IsHeldThrough (length holders + 1) a c e

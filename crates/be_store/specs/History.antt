@@ -11,7 +11,9 @@ use Rattle.be_table.specs.declared.pass.Knowledge.{Knowledge}
 use Rattle.be_table.specs.History.{StartsWith}
 use Rattle.be_table.specs.Rule.{entries}
 use Rattle.be_table.specs.Steps.{entry_by}
-use Rattle.be_table.specs.declared.pass.Move.TheVariants.{Look, Announce, LookAgain}
+use Rattle.be_table.specs.Trace.{AreWork, Makes}
+use Rattle.be_table.specs.declared.pass.Move.{Move}
+use Rattle.be_table.specs.declared.pass.Move.TheVariants.{Look, Announce, LookAgain, Lock, Publish, Unlock}
 use Rattle.be_table.specs.Works.{MovesNow, FoundHeld, HasNoRoom, IsSpent}
 use Rattle.be_value.specs.declared.refusals.Refusal.{Refusal}
 use Rattle.be_value.specs.declared.refusals.Refusal.TheVariants.{Busy, OutOfMemory}
@@ -19,6 +21,23 @@ use Rattle.be_volume.specs.Volume.{steps}
 use Rattle.be_volume.specs.declared.ops.Done.{Done}
 use Rattle.be_volume.specs.declared.ops.Op.{Op}
 use Rattle.be_store.specs.Passes.{IsPinnedTo, volume_seen}
+
+-- The moves of an accepted write: the pass takes the lock, scans, fills and returns pages, publishes this version page by one move, and gives the lock back. Moves of other passes may lie between.
+pub record PublishesOnce (a c : Knowledge) (page : ℕ) : Type 0 where
+  pub work : List Move
+  pub is_work : AreWork a.number work
+  pub given : List ℕ
+  pub made : Makes a.number a.history (Lock a.number ∷ (work ++ Publish a.number page given ∷ Unlock a.number ∷ [])) c.history
+
+-- The moves of a call that took the lock and published nothing.
+pub record LocksOnly (a c : Knowledge) : Type 0 where
+  pub work : List Move
+  pub is_work : AreWork a.number work
+  pub made : Makes a.number a.history (Lock a.number ∷ (work ++ Unlock a.number ∷ [])) c.history
+
+-- The pass took the lock and gave it back, and made no other move.
+abbrev pub LocksAndUnlocks : Knowledge → Knowledge → Type 0
+LocksAndUnlocks a c = Makes a.number a.history (Lock a.number ∷ Unlock a.number ∷ []) c.history
 
 -- An accepted write of the pass: it has seen what it had seen, then entries of other passes, then its own, whose answers are those of the volume at that place.
 pub record Accepts (a c : Knowledge) (ops : List Op) (n : ℕ) (dones : List Done) : Type 0 where
@@ -32,13 +51,15 @@ pub record Accepts (a c : Knowledge) (ops : List Op) (n : ℕ) (dones : List Don
   pub mine : c.mine ≡ a.mine ++ entry_by a ops dones ∷ []
   pub pass : c.number ≡ a.number
   pub pin : c.phase ≡ a.phase
+  pub moves : PublishesOnce a c commit.page
 
--- The pass may have seen more, and has written nothing.
+-- The pass may have seen more, and has written nothing: it made no move, or took the lock and gave it back.
 pub record Learns (a c : Knowledge) : Type 0 where
   pub more : StartsWith c.seen a.seen
   pub mine : c.mine ≡ a.mine
   pub pass : c.number ≡ a.number
   pub pin : c.phase ≡ a.phase
+  pub moves : (c.history ≡ a.history) ⊎ LocksOnly a c
 
 -- Why a pass that has the lock is refused, when it has seen this much of the journal: the volume after that refuses the write; or it accepts it, and the journal has no room, or no page is left.
 abbrev pub IsRefusedAt : (c : Knowledge) (ops : List Op) → Refusal → Type 0

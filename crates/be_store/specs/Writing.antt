@@ -6,10 +6,13 @@ use Rattle.be_journal.specs.Journal.{Agrees}
 use Rattle.be_pages.specs.Place.{is_retired}
 use Rattle.be_table.specs.declared.pass.Knowledge.{Knowledge}
 use Rattle.be_table.specs.declared.pass.Commit.{Commit}
+use Rattle.be_table.specs.declared.pass.Move.{Move}
+use Rattle.be_table.specs.declared.pass.Move.TheVariants.{Publish}
 use Rattle.be_table.specs.Place.{Work}
 use Rattle.be_table.specs.Reading.{standing_among, word_of_page}
 use Rattle.be_table.specs.Rule.{page_at, reach_at}
 use Rattle.be_table.specs.Steps.{entry_by}
+use Rattle.be_table.specs.Trace.{AreWork, Makes, upto_lock}
 use Rattle.be_table.specs.Versions.{at_start, SpellsVolume}
 use Rattle.be_table.specs.Works.{MakesScan}
 use Rattle.be_value.specs.declared.refusals.Refusal.{Refusal}
@@ -36,7 +39,7 @@ pub record IsSame (a c : Knowledge) : Type 0 where
   pub pass : c.number ≡ a.number
   pub pin : c.phase ≡ a.phase
 
--- the write is the last entry that the pass has seen
+-- the write is the last entry that the pass has seen, and since its lock the pass has worked and then published it
 pub record Publishes (a c : Knowledge) (ops : List Op) (n : ℕ) (dones : List Done) : Type 0 where
   pub same : IsSame a c
   pub commit : Commit
@@ -44,12 +47,18 @@ pub record Publishes (a c : Knowledge) (ops : List Op) (n : ℕ) (dones : List D
   pub seen : c.seen ≡ a.seen ++ commit ∷ []
   pub answered : Agrees (volume_seen a) (entry_by a ops dones)
   pub number : n ≡ length c.seen
+  pub work : List Move
+  pub is_work : AreWork a.number work
+  pub given : List ℕ
+  pub made : Makes a.number (upto_lock a.number a.history) (work ++ Publish a.number commit.page given ∷ []) c.history
 
 -- why a write that has the lock is refused
 pub record IsHeldBack (a c : Knowledge) (ops : List Op) (e : Refusal) : Type 0 where
   pub same : IsSame a c
   pub seen : c.seen ≡ a.seen
   pub reason : IsRefusedAt c ops e
+  pub unpublished : c.published ≡ false
+  pub begun : upto_lock c.number c.history ≡ upto_lock a.number a.history
 
 -- what a write that has the lock answers: it publishes, or is held back
 abbrev pub Writes : Knowledge → Knowledge → List Op → List Done → Result ℕ Refusal → Type 0

@@ -50,7 +50,7 @@ impl Store {
     /// `number` writes on exactly what it read. A pin stays.
     ///
     /// Errors, in this order: Busy; Conflict with the length that was found; the others of `apply_into`. After an error
-    /// nothing is written and the list is empty. A Conflict costs the lock alone: three steps.
+    /// nothing is written and the list is empty. A Conflict costs a lock and its unlock: four atomic operations, and no memory.
     pub fn apply_if_into(
         &self,
         pass: &mut Pass,

@@ -1,6 +1,6 @@
 //! The store, and the calls of its passes.
-ghost use Rattle.std.specs.Prelude.{◌≡◌, ◌⊎◌, ◌≤◌, ◌<◌, ◌++◌, ℕ, true, false, [], ◌∷◌, None, Some, Ok, MatchResult, IsOk, IfOk, IfErr, IfNone, IfSome, OnErr, length, map, string_bytes};
-ghost use Rattle.be_store.specs.History.{Accepts, Learns, IsReason, IsLastReason, IsUntold, Pins, entries_from, text_seen};
+ghost use Rattle.std.specs.Prelude.{◌≡◌, ◌⊎◌, ◌≤◌, ◌<◌, ◌++◌, ℕ, true, false, [], ◌∷◌, None, Some, Ok, MatchResult, IsOk, IfOk, IfErr, IfNone, IfSome, OnErr, OnOk, length, map, string_bytes};
+ghost use Rattle.be_store.specs.History.{Accepts, Learns, IsReason, IsLastReason, IsUntold, LocksAndUnlocks, Pins, entries_from, text_seen};
 ghost use Rattle.be_store.specs.Passes.{IsPassOf, IsPinnedTo, HasRead, volume_pinned};
 
 use crate::answers::Answer;
@@ -58,7 +58,7 @@ impl Store {
     ghost use Rattle.be_table.specs.Versions.{CanSpellEach};
     ghost use Rattle.be_table.specs.Works.{AllAt, AreNew, FoundHeld, IsOpenRefused, Moves, TakesLock, knows_of};
     ghost use Rattle.be_table.specs.declared.pass.Move.TheVariants as moves;
-    ghost use Rattle.be_store.specs.Calls.{HasWrites, ReadsFronts};
+    ghost use Rattle.be_store.specs.Calls.{AreInOneTrace, HasWrites, ReadsFronts};
     ghost use Rattle.be_store.specs.Statuses.{TellsStatus};
 
     /// Opens an empty store. Returns it with its passes, in the order of their numbers from 0; they have seen nothing.
@@ -379,6 +379,7 @@ impl Store {
         ensures learns { Learns pass.old.knows pass.new.knows }
         ensures text { IfOk result (λ text. string_bytes text ≡ text_seen pass.new.knows) }
         ensures err { IfErr result (λ e. IsUntold pass.old.knows pass.new.knows e) }
+        ensures moves { OnOk result (LocksAndUnlocks pass.old.knows pass.new.knows) }
     {
         let held = self.lock(pass)?;
         let answer = held.journal_text();
@@ -407,6 +408,7 @@ impl Store {
         ensures learns { Learns pass.old.knows pass.new.knows }
         ensures list { IfOk result (λ list. list.items ≡ entries_from (entries pass.new.knows.seen) from most) }
         ensures err { IfErr result (λ e. IsUntold pass.old.knows pass.new.knows e) }
+        ensures moves { OnOk result (LocksAndUnlocks pass.old.knows pass.new.knows) }
     {
         let held = self.lock(pass)?;
         let answer = entries_from(alloc, &held, from, most);
@@ -459,7 +461,8 @@ impl Store {
     ///
     /// `writes` and `reads` are the promise of the whole, whatever calls were made on whatever threads. A write that was
     /// accepted with the number n is the journal's n-th entry, with its pass, its operations and its outcomes. What a pass
-    /// read at a pin n was the volume after the journal's first n entries. It costs a load and a join for each pass, and no
+    /// read at a pin n was the volume after the journal's first n entries. `moves` is the order of all steps: there is one list
+    /// of moves, and after each call its pass's history is a front of it. It costs a load and a join for each pass, and no
     /// memory.
     pub fn close(self, passes: Vec<Pass>) -> Journal
         requires passes { AllAt self.id passes.items }
@@ -471,6 +474,7 @@ impl Store {
         ensures reads { All (ReadsFronts result.entries) (map knows_of passes.items) }
         ensures volumes { CanSpellEach self.limits.pages result.entries }
         ensures limit { result.limit ≡ self.limits.commits }
+        ensures moves { AreInOneTrace self.limits (map knows_of passes.items) }
     {
         let Store { table } = self;
         table.close(passes)

@@ -5,7 +5,8 @@ use lib.ListN.{get_elem?}
 use Rattle.atomic_table.specs.Table.{step, Enters, Final, Seen}
 use Rattle.atomic_table.specs.Seated.{TableId}
 use Rattle.be_core.specs.Machine.{World, Holder}
-use Rattle.be_table.specs.Trace.{RunsTo, AllRest}
+use Rattle.be_table.specs.declared.pass.Move.{Move}
+use Rattle.be_table.specs.Trace.{RunsTo, AllRest, HasTrace}
 use Rattle.be_journal.specs.declared.entries.Entry.{Entry}
 use Rattle.be_table.specs.declared.ledger.Ledger.{Ledger}
 use Rattle.be_table.specs.declared.limits.Limits.{Limits}
@@ -38,9 +39,9 @@ all_kept limits b i (a ∷ v) f = (entries-start b.log a.seen f.0.seen, f.0.mine
 -- once all passes are in one seat, the slot has the journal
 pub ends : (limits : Limits) (i : ℕ) (v : List Knowledge) (words : List ℕ) (slots : List (Option Ledger)) → AllIdle v → ((k : ℕ) → k < limits.passes → Has v k) → Final (Seen (Shows limits) i v) words slots
     → (ledger : Ledger) × (get_elem? slots 0 ≡ some (Some ledger)) × IsLegal ledger.journal.entries × AreOfPasses limits.passes ledger.journal.entries × KeepsSeen ledger.journal.entries v
-    × CanSpellEach limits.pages ledger.journal.entries × (ledger.journal.limit ≡ limits.commits)
+    × CanSpellEach limits.pages ledger.journal.entries × (ledger.journal.limit ≡ limits.commits) × HasTrace limits v
 ends limits i v words slots idle all f =
-    let s = f.0 in let b = f.1.0.0 in let h = f.1.0.1 in
+    let s = f.0 in let b = f.1.0.0 in let h = f.1.0.1 in let t = f.1.0.2 in
     let fit = h.views i v f.1.1 in
     let none_is = nobody_holds b.world.holder limits.passes h.sound.holder (λ k lt. not_held limits b i v k fit idle (all k lt)) in
     let home : IsHome None b.world b.log s.homes = subst (λ (o : Option Holder). IsHome o b.world b.log s.homes) none_is h.table.home in
@@ -52,6 +53,7 @@ ends limits i v words slots idle all f =
       subst (λ l. KeepsSeen l v) is (all_kept limits b i v fit),
       subst (CanSpellEach limits.pages) is (log_spelt limits b h.sound),
       home.2.limit ∙ h.sound.commits,
+      record { trace = t.0; runs = (t.1.words, b.world, t.1.runs); rests = t.1.rests i v f.1.1 },
     )
 
 -- what a joined seat has of each
@@ -83,14 +85,23 @@ keeps_parts : (log : List Entry) (v w : List Knowledge) → KeepsSeen log (v ++ 
 keeps_parts log [] w h = (tt, h)
 keeps_parts log (a ∷ v) w h = let r = keeps_parts log v w h.2 in ((h.0, h.1, r.0), r.1)
 
+rests_counted : (trace : List Move) (v : List Knowledge) → AllRest trace (map one_step_on v) → AllRest trace v
+rests_counted trace [] h = tt
+rests_counted trace (a ∷ v) h = (h.0, rests_counted trace v h.1)
+
+rests_parts : (trace : List Move) (v w : List Knowledge) → AllRest trace (v ++ w) → AllRest trace v × AllRest trace w
+rests_parts trace [] w h = (tt, h)
+rests_parts trace (a ∷ v) w h = let r = rests_parts trace v w h.1 in ((h.0, r.0), r.1)
+
 pub gathered_none : Gathered [] []
-gathered_none = record { idle = tt; all = λ k h. h; keeps = λ log h. tt }
+gathered_none = record { idle = tt; all = λ k h. h; keeps = λ log h. tt; rests = λ trace h. tt }
 
 pub gathered_more : (known v : List Knowledge) (a : Knowledge) → a.writes ≡ false → Gathered known v → Gathered (a ∷ known) (seats_together v (a ∷ []))
 gathered_more known v a idle g = record {
   idle = idle_append (map one_step_on v) (one_step_on a ∷ []) (idle_counted v g.idle) (idle, tt);
   all = λ k h. ⊎_elim (λ e. has_right (map one_step_on v) (one_step_on a ∷ []) k (inl e)) (λ m. has_left (map one_step_on v) (one_step_on a ∷ []) k (has_counted v k (g.all k m))) h;
   keeps = λ log h. let p = keeps_parts log (map one_step_on v) (one_step_on a ∷ []) h in (p.1.0, p.1.1, g.keeps log (keeps_counted log v p.0));
+  rests = λ trace h. let p = rests_parts trace (map one_step_on v) (one_step_on a ∷ []) h in (p.1.0, g.rests trace (rests_counted trace v p.0));
 }
 
 pub AllAt-parts : (id : TableId) (ss : List SeatFacts) (s : SeatFacts) → AllAt id (ss ++ s ∷ []) → AllAt id ss × (s.blank ≡ false) × (s.table ≡ id)
@@ -103,6 +114,7 @@ pub record Closes (limits : Limits) (known : List Knowledge) (journal : Log) : T
   pub keeps : KeepsSeen journal.entries known
   pub volumes : CanSpellEach limits.pages journal.entries
   pub limit : journal.limit ≡ limits.commits
+  pub traced : HasTrace limits known
 
 -- the ledger that was found in the slot has the journal
 pub closes : (limits : Limits) (known : List Knowledge) (i : ℕ) (v : List Knowledge) (words : List ℕ) (slots : List (Option Ledger)) (ledger : Ledger) (journal : Log) → Gathered known v → ((k : ℕ) → k < limits.passes → Has known k)
@@ -111,7 +123,7 @@ closes limits known i v words slots ledger journal g all f at is =
     let e = ends limits i v words slots g.idle (λ k lt. g.all k (all k lt)) f in
     let same : Some e.0 ≡ Some ledger = some-injective (Some e.0) (Some ledger) (sym e.1 ∙ at) in
     let it : e.0 ≡ ledger = cc in
-    subst (Closes limits known) (ap (λ (l : Ledger). l.journal) it ∙ sym is) record { legal = e.2; by_passes = e.3; keeps = g.keeps e.0.journal.entries e.4; volumes = e.5; limit = e.6 }
+    subst (Closes limits known) (ap (λ (l : Ledger). l.journal) it ∙ sym is) record { legal = e.2; by_passes = e.3; keeps = g.keeps e.0.journal.entries e.4; volumes = e.5; limit = e.6; traced = record { trace = e.7.trace; runs = e.7.runs; rests = g.rests e.7.trace e.7.rests } }
 
 -- a seat with no pass may arrive
 pub arrive_by : (limits : Limits) → ArrivalIsNoEvent limits

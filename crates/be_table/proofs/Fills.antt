@@ -1,5 +1,5 @@
 -- A word of a page is filled, by one step or by two.
-use Rattle.std.proofs.Common.{◌≡◌, ◌≢◌, ℕ, ◌+◌, ◌<◌, ◌||◌, ◌==◌, if◌then◌else◌, List, [], ◌∷◌, length, Bool, slice_index, slice_set, subst, sym, ap, ◌∙◌, arith, eq-eqb, ne_eqb, length-set, get_or-set_same}
+use Rattle.std.proofs.Common.{◌≡◌, ◌≢◌, ℕ, ◌+◌, ◌<◌, ◌||◌, if◌then◌else◌, List, [], ◌∷◌, length, Bool, slice_index, slice_set, subst, sym, ap, ◌∙◌, arith, eq-eqb, ne_eqb, length-set, get_or-set_same}
 use Rattle.std.proofs.lemmas.List.{set-set}
 use Rattle.be_pages.specs.declared.page_pool.Place.{Place}
 use Rattle.be_pages.specs.declared.page_pool.Place.TheVariants.{Filled, Current}

@@ -24,3 +24,4 @@ pub mod Keeping
 pub mod Answers
 pub mod Readers
 pub mod Fills
+pub mod Worked

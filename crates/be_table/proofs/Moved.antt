@@ -1,7 +1,6 @@
 -- What is known of a pass after a scan, and after it published.
-use Rattle.std.proofs.Common.{◌≡◌, ℕ, List, [], ◌∷◌, Option, sym, ap, ◌∙◌, subst}
+use Rattle.std.proofs.Common.{◌≡◌, ℕ, [], ◌∷◌, sym, ap, ◌∙◌, subst}
 use Rattle.be_journal.specs.declared.entries.Entry.{Entry}
-use Rattle.be_table.specs.declared.ledger.Ledger.{Ledger}
 use Rattle.be_table.specs.declared.pass.Knowledge.{Knowledge}
 use Rattle.be_table.specs.declared.pass.Move.TheVariants.{Scan, Publish}
 use Rattle.be_table.specs.Rule.{Reaches, announce_word, pass_of}

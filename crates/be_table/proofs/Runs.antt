@@ -1,12 +1,11 @@
 -- The moves of a table, as the machine's events.
-use Rattle.std.proofs.Common.{◌≡◌, ℕ, ◌<◌, List, [], ◌∷◌, ◌++◌, refl, sym, subst, arith}
+use Rattle.std.proofs.Common.{List, [], ◌∷◌, ◌++◌, refl, sym, subst, arith}
 use Rattle.be_core.specs.declared.event.Event.TheVariants as events
 use Rattle.be_core.specs.Machine.{World, Sound, first_state}
 use Rattle.be_core.proofs.Schedules.{first-sound, fill-sound, sound-protected}
 use Rattle.be_core.proofs.Readers.{after_look-sound, after_announce-sound, after_look_again-sound, after_unpin-sound}
 use Rattle.be_core.proofs.Scans.{after_scan-sound}
 use Rattle.be_core.proofs.Writers.{after_lock-sound, after_unlock-sound, after_return-sound, after_publish-sound}
-use Rattle.be_table.specs.declared.limits.Limits.{Limits}
 use Rattle.be_table.specs.declared.pass.Move.{Move}
 use Rattle.be_table.specs.declared.pass.Move.TheVariants.{Look, Announce, LookAgain, Unpin, Lock, Scan, Fill, Publish, Unlock, Return}
 use Rattle.be_table.specs.Laws.{EventsAreMoves, RunsAreSound, FrontsRun}

@@ -1,5 +1,5 @@
 -- The trace goes on by the move of a step.
-use Rattle.std.proofs.Common.{◌≡◌, ◌≢◌, ℕ, zero, suc, ◌<◌, ◌≤◌, List, [], ◌∷◌, ◌++◌, map, length, set, true, Option, refl, sym, ap, ◌∙◌, subst, ⊎_elim, arith, append_assoc, slice_index}
+use Rattle.std.proofs.Common.{◌≡◌, ◌≢◌, ℕ, zero, suc, List, [], ◌∷◌, ◌++◌, map, set, Option, refl, sym, ap, ◌∙◌, subst, ⊎_elim, arith, append_assoc, slice_index}
 use Rattle.std.proofs.lemmas.List.{append-nil, set-set}
 use mathlib.Core.Option.{some, some-ne-none}
 use lib.ListN.{get_elem?}
@@ -11,7 +11,7 @@ use Rattle.be_table.specs.declared.limits.Limits.{Limits}
 use Rattle.be_table.specs.declared.pass.Knowledge.{Knowledge}
 use Rattle.be_table.specs.declared.pass.Move.{Move}
 use Rattle.be_table.specs.Laws.{AllowsBy}
-use Rattle.be_table.specs.Rule.{Board, Fits, AllFit, Stands, IsTrace, Shows, IsAt, Reaches, pass_of, one_step_on}
+use Rattle.be_table.specs.Rule.{Board, Fits, AllFit, Stands, Shows, IsAt, Reaches, pass_of, one_step_on}
 use Rattle.be_table.specs.Seats.{IsTold}
 use Rattle.be_table.specs.Steps.{IsPass}
 use Rattle.be_table.specs.Trace.{mover, after_move, Run, RunsTo, NoneBy, Makes, Rests, AllRest, with_history}

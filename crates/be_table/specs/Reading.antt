@@ -12,8 +12,10 @@ use Rattle.be_pages.specs.declared.page_pool.Place.{Place}
 use Rattle.be_pages.specs.declared.page_pool.Place.TheVariants.{Free, Reserved, Filled, Current, GivenUp, Retired}
 use Rattle.be_table.specs.declared.pass.Commit.{Commit}
 use Rattle.be_table.specs.declared.pass.Knowledge.{Knowledge}
+use Rattle.be_table.specs.declared.pass.Move.{Move}
 use Rattle.be_table.specs.Place.{Opened, Work, Pin}
 use Rattle.be_table.specs.Rule.{reach_at, word_place}
+use Rattle.be_table.specs.Trace.{upto_lock}
 
 abbrev pub standing_at : Place → Standing
 standing_at Free = Nowhere
@@ -45,9 +47,10 @@ pub record StaysOpen : Type 0 where
   pub phase : Phase
   pub seen : List Commit
   pub published : Bool
+  pub begun : List Move
 
 abbrev pub open_of : Work → StaysOpen
-open_of w = record { table = w.table; number = w.knows.number; phase = w.knows.phase; seen = w.knows.seen; published = w.knows.published }
+open_of w = record { table = w.table; number = w.knows.number; phase = w.knows.phase; seen = w.knows.seen; published = w.knows.published; begun = upto_lock w.knows.number w.knows.history }
 
 -- the pages of the pinned version
 abbrev pub reach_of : Phase → List Commit → List ℕ

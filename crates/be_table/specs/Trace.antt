@@ -1,5 +1,6 @@
 -- The trace of a table: the moves that its machine has made so far.
-use Rattle.std.specs.Prelude.{◌≡◌, ◌≢◌, ℕ, List, [], ◌∷◌, ◌++◌, Some, IsTrue}
+use Rattle.std.specs.Prelude.{◌≡◌, ◌≢◌, ◌==◌, if◌then◌else◌, ℕ, Bool, false, List, [], ◌∷◌, ◌++◌, Some, IsTrue}
+use Rattle.std.specs.List.{list_any}
 use Rattle.be_core.specs.Machine.{World, Holder, first_state, MayLook, MayAnnounce, MayLookAgain, MayUnpin, MayLock, MayScan, MayFill, MayPublish, MayUnlock, after_look, after_announce, after_look_again, after_unpin, after_lock, after_scan, after_fill, after_publish, after_unlock, after_return}
 use Rattle.be_table.specs.declared.limits.Limits.{Limits}
 use Rattle.be_table.specs.declared.pass.Knowledge.{Knowledge}
@@ -56,6 +57,10 @@ Run w (m ∷ ms) w' = MayMove w m × Run (after_move w m) ms w'
 abbrev pub RunsTo : Limits → (ℕ → ℕ → ℕ) → List Move → World → Type 0
 RunsTo limits words moves w = Run (first_state limits.pages limits.passes limits.commits words) moves w
 
+-- a list of moves that the machine makes from its first state, whatever words the pages then have
+abbrev pub IsRun : Limits → List Move → Type 0
+IsRun limits moves = (words : ℕ → ℕ → ℕ) × (w : World) × RunsTo limits words moves w
+
 -- none of the moves is by the pass k
 abbrev pub NoneBy : ℕ → List Move → Type 0
 NoneBy k [] = Unit {0}
@@ -75,6 +80,56 @@ abbrev pub AllRest : List Move → List Knowledge → Type 0
 AllRest trace [] = Unit {0}
 AllRest trace (a ∷ v) = Rests a.number a.history trace × AllRest trace v
 
+-- One list of moves, of which the history of each of these passes is a front with no move of that pass after it.
+pub record HasTrace (limits : Limits) (passes : List Knowledge) : Type 0 where
+  pub trace : List Move
+  pub runs : IsRun limits trace
+  pub rests : AllRest trace passes
+
 -- the pass with this history
 abbrev pub with_history : Knowledge → List Move → Knowledge
 with_history a history = record a { history = history }
+
+-- ## Between a lock and its unlock
+
+-- the move takes the lock for the pass k
+abbrev pub is_lock_of : ℕ → Move → Bool
+is_lock_of k (Look j) = false
+is_lock_of k (Announce j) = false
+is_lock_of k (LookAgain j) = false
+is_lock_of k (Unpin j) = false
+is_lock_of k (Lock j) = j == k
+is_lock_of k (Scan j i) = false
+is_lock_of k (Fill j p i word) = false
+is_lock_of k (Publish j page given) = false
+is_lock_of k (Unlock j) = false
+is_lock_of k (Return j p) = false
+
+-- the moves up to the last at which the pass k took the lock
+abbrev pub upto_lock : ℕ → List Move → List Move
+upto_lock k [] = []
+upto_lock k (m ∷ ms) = if list_any (is_lock_of k) (m ∷ ms) then m ∷ upto_lock k ms else []
+
+-- a scan, a fill or a return of a page, by the pass k
+abbrev pub IsWork : ℕ → Move → Type 0
+IsWork k (Look j) = ⊥
+IsWork k (Announce j) = ⊥
+IsWork k (LookAgain j) = ⊥
+IsWork k (Unpin j) = ⊥
+IsWork k (Lock j) = ⊥
+IsWork k (Scan j i) = j ≡ k
+IsWork k (Fill j p i word) = j ≡ k
+IsWork k (Publish j page given) = ⊥
+IsWork k (Unlock j) = ⊥
+IsWork k (Return j p) = j ≡ k
+
+-- each of the moves is a scan, a fill or a return by the pass k
+abbrev pub AreWork : ℕ → List Move → Type 0
+AreWork k [] = Unit {0}
+AreWork k (m ∷ ms) = IsWork k m × AreWork k ms
+
+-- since it took the lock, the pass k has only scanned, filled and returned pages
+pub record HasWorked (k : ℕ) (history : List Move) : Type 0 where
+  pub own : List Move
+  pub work : AreWork k own
+  pub made : Makes k (upto_lock k history) own history

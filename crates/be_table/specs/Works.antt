@@ -17,7 +17,7 @@ use Rattle.be_table.specs.Place.{SeatFacts, Opened, Work}
 use Rattle.be_table.specs.Reading.{standing_among, word_of_page}
 use Rattle.be_table.specs.Versions.{at_start, SpellsVolume}
 use Rattle.be_journal.specs.Journal.{replay}
-use Rattle.be_table.specs.Trace.{Makes, with_history}
+use Rattle.be_table.specs.Trace.{AllRest, Makes, with_history}
 use Rattle.be_table.specs.Rule.{Reaches, AreBad, IsWithin, entries, page_at, reach_at, newcomer}
 use Rattle.be_table.specs.Steps.{Has, AllIdle, KeepsSeen, IsPass, looks, finds_held, takes_lock, pins, takes_page, scans_all, IsLeastAnnounced, IsOwnLeast, pages_from, UnreachedAreFree, NoCommitReaches, AreFound, scans_of}
 
@@ -135,3 +135,4 @@ pub record Gathered (known v : List Knowledge) : Type 0 where
   pub idle : AllIdle v
   pub all : (k : ℕ) → Has known k → Has v k
   pub keeps : (log : List Entry) → KeepsSeen log v → KeepsSeen log known
+  pub rests : (trace : List Move) → AllRest trace v → AllRest trace known

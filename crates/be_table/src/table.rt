@@ -68,7 +68,7 @@ impl VersionTable {
     ghost use Rattle.be_table.specs.Reading.{pinned_standing, word_of_page};
     ghost use Rattle.be_table.specs.Rule.{IsWithin, entries};
     ghost use Rattle.be_table.specs.Steps.{announces, unpins, met, longer, Has, KeepsSeen};
-    ghost use Rattle.be_table.specs.Trace.{with_history};
+    ghost use Rattle.be_table.specs.Trace.{HasTrace, with_history};
     ghost use Rattle.be_table.specs.Versions.{at_start, CanSpellEach};
     ghost use Rattle.be_table.specs.Works.{IsSeatOf, SeesMore, TakesLock, FoundHeld, PinsCurrent, Moves, AreNew, IsOpenRefused, AllAt, knows_of};
     ghost use Rattle.be_table.specs.declared.pass.Move.TheVariants as moves;
@@ -281,6 +281,7 @@ impl VersionTable {
         ensures seats { KeepsSeen result.entries (map knows_of seats.items) }
         ensures volumes { CanSpellEach self.limits.pages result.entries }
         ensures limit { result.limit ≡ self.limits.commits }
+        ensures trace { HasTrace self.limits (map knows_of seats.items) }
     {
         let VersionTable { table, limits: _ } = self;
         // A seat with no pass takes in the others.

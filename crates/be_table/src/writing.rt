@@ -12,7 +12,7 @@ ghost use Rattle.be_table.specs.Rule.{Reaches, announce_word, pass_of, one_step_
 ghost use Rattle.be_table.specs.Statuses.{FindsOldest, LieAt, Tells};
 ghost use Rattle.be_table.specs.Steps.{AreFound, fill_moves, given_moves, given_of, scans_of, NoneRetiredLater, IsPass, IsFound, MayPublish, publishes, MayBeFilled, MayReadAnnouncement, IsPart, fills_word};
 ghost use Rattle.be_table.specs.Steps.{takes_page, gives_up, scans, scans_out, scans_all, least_found, IsLeastAnnounced, IsOwnLeast, UnreachedAreFree};
-ghost use Rattle.be_table.specs.Trace.{Makes, with_history};
+ghost use Rattle.be_table.specs.Trace.{HasWorked, Makes, upto_lock, with_history};
 ghost use Rattle.be_table.specs.Works.{Moves};
 ghost use Rattle.be_table.specs.declared.pass.Move.TheVariants as moves;
 
@@ -85,6 +85,7 @@ impl<'a> Writing<'a> {
         requires ledger { IsFound ledger (pass_of base.me.0) }
         requires turn { (pass_of base.me.0).scanned ≡ 0 }
         requires pin { marks.pin ≡ pin_of (pass_of base.me.0).phase (pass_of base.me.0).seen }
+        requires begun { upto_lock (pass_of base.me.0).number (pass_of base.me.0).history ≡ (pass_of base.me.0).history }
         ensures { (result.table ≡ table.now) × (result.knows ≡ pass_of base.me.0) × (result.reserved ≡ 0) }
     {
         Writing {
@@ -304,6 +305,7 @@ impl<'a> Writing<'a> {
           reserved = 0;
         } }
         ensures moves { Moves self.old.knows (moves.Publish self.old.knows.number page (given_of self.old.knows) ∷ []) self.new.knows }
+        ensures worked { HasWorked self.old.knows.number self.old.knows.history }
         ensures result { result ≡ length self.new.knows.seen }
     {
         all_valid(ops);
@@ -323,6 +325,7 @@ impl<'a> Writing<'a> {
         ensures seat { IsSeatOf self.entry.table result }
         ensures pass { result.knows ≡ without_lock (with_history self.entry.knows result.knows.history) }
         ensures moves { Moves self.entry.knows (moves.Unlock self.entry.knows.number ∷ []) result.knows }
+        ensures worked { self.entry.knows.published ≡ false → HasWorked self.entry.knows.number self.entry.knows.history }
     {
         let Writing {
             table,

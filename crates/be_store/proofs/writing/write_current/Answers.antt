@@ -54,14 +54,14 @@ pub returns-in_ok-reserve-in-Ok-clause-answer : goal.returns-in_ok-reserve-in-Ok
 returns-in_ok-reserve-in-Ok-clause-answer c =
     let ok = c.in-Ok.ensures.ok in
     published c.args.writing.now c.apply_to.new.writing c.reserve.new.self c.publish-number.new.self c.args.ops.now c.in-Ok.page c.publish-number.result c.apply_to.new.dones.items c.as_slice.result.now ok.made
-    ok.swaps.kept (ap (λ (w : Work). w.knows) c.in_ok-reserve-in-Ok.ensures.0) (ap (λ (w : Work). w.knows) c.publish-number.ensures.write) c.as_slice.ensures.value ok.stepped c.publish-number.ensures.result
+    ok.swaps.kept (ap (λ (w : Work). w.knows) c.in_ok-reserve-in-Ok.ensures.0) (ap (λ (w : Work). w.knows) c.publish-number.ensures.write) c.as_slice.ensures.value ok.stepped c.publish-number.ensures.result c.publish-number.ensures.worked c.publish-number.ensures.moves
 
 pub returns-in_err-reserve-in-Err-Full-clause-answer : goal.returns-in_err-reserve-in-Err-Full-clause-answer
 returns-in_err-reserve-in-Err-Full-clause-answer c =
     let none = c.in_err-reserve-in-Err-Full.ensures in
     let refused = c.in-Err-Full.ensures.err in
     passed_up c.from_residual-in_err-reserve-in-Err-Full.result c.in_err-reserve-in-Err-Full.field-0.0 _ _ c.from_residual-in_err-reserve-in-Err-Full.ensures.1
-    (full_unroomed c.args.writing.now c.apply_to.new.writing c.reserve-in-Err-Full.new.self (λ (w : Work) least. IsSpent w.knows least) c.args.ops.now c.in-Err-Full.least c.in-Err-Full.field-0 _ c.in-Err-Full.field-0-is refused none.0 none.1)
+    (full_unroomed c.args.writing.now c.apply_to.new.writing c.reserve-in-Err-Full.new.self (λ (w : Work) least. IsSpent w.knows least) c.args.ops.now c.in-Err-Full.least c.in-Err-Full.field-0 _ c.requires.begins.unpublished c.in-Err-Full.field-0-is refused none.0 none.1)
 
 pub returns-in_err-reserve-in-Err-Full-clause-room : goal.returns-in_err-reserve-in-Err-Full-clause-room
 returns-in_err-reserve-in-Err-Full-clause-room c =

@@ -1,4 +1,4 @@
-use Rattle.std.proofs.Common.{◌≡◌, ℕ, suc, true, length, ◌+◌, [], ◌∷◌, ◌++◌, refl, sym, ap, ◌∙◌, subst, arith, length-append}
+use Rattle.std.proofs.Common.{◌≡◌, ℕ, suc, true, ◌+◌, [], ◌∷◌, ◌++◌, refl, sym, ap, ◌∙◌, subst, arith, length-append}
 use Rattle.be_table.specs.declared.pass.Move.TheVariants.{Scan}
 use Rattle.be_table.specs.Rule.{Reaches, announce_word, pass_of}
 use Rattle.be_table.specs.Steps.{IsLeastAnnounced, IsPart, scans, scans_of}

@@ -3,7 +3,7 @@ use Rattle.be_store.proofs.store.Store.status.Goals as goal
 
 pub returns-clause-learns : goal.returns-clause-learns
 returns-clause-learns c =
-    scan_learns c.args.pass.now.knows c.in_ok-held.held c.status-status.new.self c.in_ok-held.ensures.held.2 c.status-status.ensures.scan c.unlock.result.knows c.unlock.ensures.pass c.is_pass.ensures
+    scan_learns c.args.pass.now.knows c.in_ok-held.held c.status-status.new.self c.in_ok-held.ensures.held.2 c.status-status.ensures.scan c.unlock.result.knows c.unlock.ensures.pass c.is_pass.ensures c.unlock.ensures.moves
 
 pub returns-clause-told : goal.returns-clause-told
 returns-clause-told c =

@@ -33,5 +33,8 @@ returns-clause-volumes c = (closed c).volumes
 pub returns-clause-limit : goal.returns-clause-limit
 returns-clause-limit c = (closed c).limit
 
+pub returns-clause-trace : goal.returns-clause-trace
+returns-clause-trace c = (closed c).traced
+
 pub load_new_seat-rest-requires : goal.load_new_seat-rest-requires
 load_new_seat-rest-requires c = (omega (arith, c.self.invariant.0), arrives _ _)

@@ -1,8 +1,11 @@
-use Rattle.std.proofs.Common.{◌+◌, ◌-◌, Some, sym, ap, ◌∙◌, arith}
+use Rattle.std.proofs.Common.{◌≡◌, ◌+◌, ◌-◌, Some, sym, ap, ◌∙◌, subst, arith}
+use Rattle.be_table.specs.declared.pass.Knowledge.{Knowledge}
+use Rattle.be_table.specs.Trace.{upto_lock}
 use Rattle.be_table.proofs.Locks.{locks_as, gained, late, is_out}
 use Rattle.be_table.specs.Rule.{pass_of}
 use Rattle.be_table.specs.Steps.{finds_held}
 use Rattle.be_table.proofs.Told.{told_as, late_pass}
+use Rattle.be_table.proofs.Worked.{upto_now}
 use Rattle.be_table.proofs.table.VersionTable.lock.Goals as goal
 
 pub compare_exchange-found-requires : goal.compare_exchange-found-requires
@@ -25,3 +28,10 @@ of-requires-else-found-eq0-clause-told c =
     told_as (finds_held c.args.seat.knows b) c.compare_exchange-found.new.seat.me c.into_base-base.result.1.number c.into_base-base.result.1.seen
     (ap (λ m. pass_of m.0) l.0 ∙ ap (λ m. finds_held (pass_of m.0) b) c.into_base-base.ensures.pass.1)
     (record { number_is = t.number_is; seen_is = t.seen_is; writes = t.writes; pass = late_pass c.args.seat.knows b t.pass })
+
+pub of-requires-clause-begun : goal.of-requires-clause-begun
+of-requires-clause-begun c =
+    let a = pass_of c.into_base-base.result.0.me.0 in
+    let g = gained c.into_base-base.result.0.me c.compare_exchange-found.result c.compare_exchange-found.new.seat.me _ c.compare_exchange-found.ensures.2 c.if-found-eq0.true in
+    subst (λ (x : Knowledge). upto_lock x.number x.history ≡ x.history) (sym (ap (λ m. pass_of m.0) c.exchange.ensures.3 ∙ ap (λ m. pass_of m.0) g.3.3.0))
+    (upto_now a.number a.history g.0 g.1)

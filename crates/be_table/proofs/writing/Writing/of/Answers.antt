@@ -1,4 +1,6 @@
 use Rattle.std.proofs.Common.{◌+◌, ◌*◌, ap, ◌∙◌, length, arith}
+use Rattle.be_table.specs.Rule.{pass_of}
+use Rattle.be_table.proofs.Worked.{worked_none}
 use Rattle.be_table.proofs.writing.Writing.of.Goals as goal
 
 pub invariant_of-result : goal.invariant_of-result
@@ -20,4 +22,5 @@ invariant_of-result c = let l = c.requires.ledger in let p = c.requires.pass in 
   pin = c.requires.pin;
   pass = p.4;
   room = λ e. absurd (omega arith);
+  worked = λ _. worked_none (pass_of c.args.base.me.0).number (pass_of c.args.base.me.0).history c.requires.begun;
 }

@@ -45,4 +45,4 @@ pub invariant_of-self : goal.invariant_of-self
 invariant_of-self c =
     let i = c.self.invariant in let w = c.self.inside in let a = pass_of w.base.me.0 in
     let s = c.load.ensures in
-    reopened w _ (one_step_on a) i refl refl refl refl refl s.0 (s.2.0 ∙ ap (λ l. (one_step_on a ∷ [], l)) (ap (λ m. m.1) i.me_is)) refl i.turn refl refl i.places i.left
+    reopened w _ (one_step_on a) i refl refl refl refl refl s.0 (s.2.0 ∙ ap (λ l. (one_step_on a ∷ [], l)) (ap (λ m. m.1) i.me_is)) refl i.turn refl refl i.places i.left i.worked

@@ -1,4 +1,4 @@
-use Rattle.std.proofs.Common.{◌≡◌, ◌≤◌, ◌<◌, [], ◌∷◌, ◌++◌, None, length, map, count_by, refl, sym, ap, ◌∙◌, subst, arith}
+use Rattle.std.proofs.Common.{◌≡◌, true≢false, ◌≤◌, ◌<◌, [], ◌∷◌, ◌++◌, None, length, map, count_by, refl, sym, ap, ◌∙◌, subst, arith}
 use Rattle.std.proofs.lemmas.List.{length-map}
 use Rattle.be_journal.specs.declared.entries.Entry.{Entry}
 use Rattle.be_journal.specs.Journal.{Agrees, replay}
@@ -9,8 +9,8 @@ use Rattle.be_table.specs.Rule.{entries, ledger_places, page_at, pass_of}
 use Rattle.be_table.specs.Seats.{pin_of}
 use Rattle.be_table.specs.Ledger.{is_of_next}
 use Rattle.be_table.specs.Reading.{word_of_page}
-use Rattle.be_table.specs.Steps.{IsPass, commit_of, pages_from, publishes}
-use Rattle.be_table.specs.Trace.{with_history}
+use Rattle.be_table.specs.Steps.{commit_of, pages_from, publishes}
+use Rattle.be_table.specs.Trace.{HasWorked, with_history}
 use Rattle.be_table.specs.Versions.{SpellsVolume}
 use Rattle.be_table.proofs.Keeping.{spells_kept}
 use Rattle.be_table.proofs.Ledgers.{left-publish}
@@ -74,6 +74,7 @@ invariant_of-self c =
       left = subst (λ n. n ≤ count_by is_retired (ledger_places c.append.new.self)) (sym c.append.ensures.left)
           (left-publish w.ledger.left (length w.ledger.journal.entries) (ledger_places w.ledger) (ledger_places c.append.new.self) places i.left);
       room = λ some. absurd (omega (arith, some));
+      worked = λ unpublished. absurd (true≢false (sym (ap (λ (x : Knowledge). x.published) k) ∙ unpublished));
     }
 
 pub append-requires-clause-room : goal.append-requires-clause-room
@@ -87,3 +88,8 @@ pub append-requires-clause-newest : goal.append-requires-clause-newest
 append-requires-clause-newest c =
     let i = c.self.invariant in let a = pass_of c.self.inside.base.me.0 in
     λ q. let n = c.store_version.ensures.newest q in let places = ap (λ l. retired_at l q) i.places in let long = ap length i.journal ∙ seen_length a.seen in omega arith
+
+pub returns-clause-worked : goal.returns-clause-worked
+returns-clause-worked c =
+    let w = c.self.inside in let k : pass_of w.base.me.0 ≡ c.args.self.now.knows = ap (λ (x : Work). x.knows) c.self.view_is in
+    subst (λ (x : Knowledge). HasWorked x.number x.history) k (c.self.invariant.worked (ap (λ (x : Knowledge). x.published) k ∙ c.requires.open))

@@ -1,9 +1,12 @@
-use Rattle.std.proofs.Common.{[], ◌∷◌, length, map, arith, refl, sym, ap, ◌∙◌}
+use Rattle.std.proofs.Common.{[], ◌∷◌, length, map, arith, refl, sym, ap, ◌∙◌, subst}
 use Rattle.std.proofs.lemmas.List.{length-map}
 use Rattle.be_pages.specs.Place.{swept_place}
 use Rattle.be_table.specs.declared.pass.Knowledge.{Knowledge}
 use Rattle.be_table.specs.Rule.{pass_of}
+use Rattle.be_table.specs.Steps.{scans_of}
+use Rattle.be_table.specs.Trace.{HasWorked}
 use Rattle.be_table.proofs.Opened.{reopened}
+use Rattle.be_table.proofs.Worked.{scans_work, worked_more}
 use Rattle.be_table.proofs.writing.Writing.survey.Goals as goal
 
 pub invariant_of-self : goal.invariant_of-self
@@ -16,6 +19,8 @@ invariant_of-self c =
     reopened w _ s i refl refl refl c.sweep.ensures.kept.0 c.sweep.ensures.kept.1 r.seat.0 (r.me.2 ∙ (λ k. (sym z k ∷ [], ap (λ m. m.1) i.me_is k)))
     (part.same ∙ ap (λ ws. record a { scanned = s.scanned; least = s.least; places = s.places; words = ws; held = s.held; steps = s.steps; history = s.history }) (sym words))
     whole.0 (ap length words) (ap length whole.1 ∙ length-map a.places (swept_place c.read_all-found.result.least)) (c.sweep.ensures.kept.2 ∙ ap (map (swept_place c.read_all-found.result.least)) i.places ∙ sym whole.1) (let left = c.sweep.ensures.left in omega (arith, left))
+    (λ unpublished. subst (λ n. HasWorked n s.history) (sym (ap (λ (x : Knowledge). x.number) part.same))
+    (worked_more a.number a.history (scans_of a.number w.table.now.limits.passes) s.history (scans_work a.number w.table.now.limits.passes) r.moves (i.worked (sym (ap (λ (x : Knowledge). x.published) part.same) ∙ unpublished))))
 
 pub read_all-found-requires-clause-number : goal.read_all-found-requires-clause-number
 read_all-found-requires-clause-number c = let i = c.self.invariant in let e = ap (λ l. l.passes) i.limits_are in let below = i.pass.number_below in omega arith

@@ -1,4 +1,4 @@
-use Rattle.std.proofs.Common.{◌≡◌, ◌+◌, ◌<◌, [], ◌∷◌, None, length, slice_set, sym, ap, ◌∙◌, subst}
+use Rattle.std.proofs.Common.{◌≡◌, false, ◌+◌, ◌<◌, [], ◌∷◌, None, length, slice_set, sym, ap, ◌∙◌, subst}
 use Rattle.std.proofs.Common.{length-set}
 use Rattle.be_pages.specs.declared.page_pool.Place.TheVariants.{Reserved}
 use Rattle.be_table.specs.declared.pass.Knowledge.{Knowledge}
@@ -6,6 +6,7 @@ use Rattle.be_pages.specs.Place.{is_retired}
 use Rattle.be_table.specs.Rule.{entries, ledger_places, page_at, pass_of}
 use Rattle.be_table.specs.Seats.{pin_of}
 use Rattle.be_table.specs.Steps.{IsPass, takes_page}
+use Rattle.be_table.specs.Trace.{HasWorked}
 use Rattle.be_table.proofs.Ledgers.{left-set}
 use Rattle.be_table.proofs.Opened.{going_pass}
 use Rattle.be_table.proofs.writing.Writing.take_free.Goals as goal
@@ -36,4 +37,5 @@ invariant_of-self-2 c =
       limit = i.limit;
       left = left-set w.ledger.left (ledger_places w.ledger) _ p Reserved taken c.in_ok-page.ensures.free.0 (ap is_retired c.in_ok-page.ensures.free.1) i.left;
       room = λ some. let r = i.room some in (r.0, subst (λ (x : Knowledge). length x.seen < w.table.now.limits.commits) (sym k) r.1);
+      worked = subst (λ (x : Knowledge). x.published ≡ false → HasWorked x.number x.history) (sym k) i.worked;
     }

@@ -1,10 +1,12 @@
-use Rattle.std.proofs.Common.{[], ◌∷◌, length, count_by, refl, Some, map, sym, ap, ◌∙◌, ◌≤◌, subst, arith}
+use Rattle.std.proofs.Common.{◌≡◌, false, [], ◌∷◌, length, count_by, refl, Some, map, sym, ap, ◌∙◌, ◌≤◌, subst, arith}
 use Rattle.atomic_table.specs.Table.{rest}
+use Rattle.be_table.specs.declared.pass.Knowledge.{Knowledge}
+use Rattle.be_table.specs.Place.{Work}
 use Rattle.be_table.specs.Rule.{ledger_places, pass_of}
 use Rattle.be_table.proofs.Frames.{Me1}
 use Rattle.be_pages.specs.Place.{is_retired, undone_place}
 use Rattle.be_table.specs.Steps.{without_lock}
-use Rattle.be_table.specs.Trace.{with_history}
+use Rattle.be_table.specs.Trace.{HasWorked, with_history}
 use Rattle.be_table.proofs.Traces.{pass_history}
 use Rattle.be_table.proofs.Ledgers.{left-undo}
 use Rattle.be_table.proofs.Locks.{unlocks_as}
@@ -29,3 +31,7 @@ of-requires-clause-told c =
     told_as (without_lock (with_history a t.0)) c.store.new.seat.me w.marks.number c.len.result
     (ap (λ m. pass_of m.0) t.3 ∙ ap (λ m. without_lock (with_history (pass_of m.0) t.0)) c.exchange.ensures.3)
     (record { number_is = i.number_is; seen_is = sym (seen_length a.seen) ∙ sym (ap length i.journal) ∙ sym c.len.ensures.len; writes = refl; pass = left_pass (with_history a t.0) (pass_history a t.0 i.pass) })
+
+pub returns-clause-worked : goal.returns-clause-worked
+returns-clause-worked c =
+    subst (λ (x : Knowledge). x.published ≡ false → HasWorked x.number x.history) (ap (λ (x : Work). x.knows) c.self.view_is) c.self.invariant.worked
