@@ -1,10 +1,15 @@
 -- The script of a pass's pinned version, over reads of that pass.
-use Rattle.std.proofs.Common.{◌≡◌, ◌⊎◌, ℕ, List, Option, Some, None, refl, sym, ap, ◌∙◌, subst}
+use Rattle.std.proofs.Common.{◌≡◌, ℕ, true, false, Option, Some, None, refl, ap, ◌∙◌, take}
+use Rattle.std.specs.Prelude.{IsSome}
 use Rattle.std.specs.Option.{option_map, option_map_or}
+use Rattle.be_journal.specs.Journal.{replay}
 use Rattle.be_table.specs.declared.pass.Knowledge.{Knowledge}
+use Rattle.be_table.specs.Rule.{entries}
 use Rattle.be_table.specs.Seats.{pinned_number}
-use Rattle.be_store.specs.Passes.{HasRead, IsPinnedTo, volume_pinned}
-use Rattle.be_volume.specs.Volume.{State}
+use Rattle.be_store.specs.Passes.{HasRead, IsPinnedTo, volume_pinned, volume_seen}
+use Rattle.be_serving.specs.Served.{known, pin_at}
+use Rattle.be_serving.specs.Store.{PinnedVolume, viewed}
+use Rattle.be_volume.specs.Volume.{State, empty}
 
 -- a read leaves the pinned version
 pub same_pinned : (a c : Knowledge) → HasRead a c → volume_pinned c ≡ volume_pinned a
@@ -20,3 +25,19 @@ read_twice a b c h g = g ∙ ap (λ (k : Knowledge). record k { steps = c.steps 
 
 pub read_none : (a : Knowledge) → HasRead a a
 read_none a = refl
+
+viewed_at : (a : Knowledge) (o : Option ℕ) → IsSome (option_map (pin_at a) o) →
+    option_map_or (λ n. replay (take n (entries a.seen))) o empty ≡ option_map_or (λ (p : PinnedVolume). p.volume) (option_map (pin_at a) o) (volume_seen a)
+viewed_at a None h = absurd (never h)
+  where
+    never : false ≡ true → ⊥
+    never e = cc
+viewed_at a (Some n) h = refl
+
+-- what a pinned pass reads is what is read of its store
+pub viewed_pinned : (a : Knowledge) → IsSome (known a).pin → volume_pinned a ≡ viewed (known a)
+viewed_pinned a h = viewed_at a (pinned_number a.phase) h
+
+-- a read leaves the store as it is shown
+pub same_known : (a c : Knowledge) → HasRead a c → known c ≡ known a
+same_known a c h = ap known h

@@ -207,6 +207,9 @@ pub output_front : (store new : Store) (script : List ℕ) (old held : Option (L
 output_front store new script old held w =
     record { out = w.out; appended = w.appended; is = ([], (new, subst (IsOutputTo store script new) (sym (append-nil w.out)) w.is)) }
 
+pub strict_front : (store new : Store) (script : List ℕ) (old held : Option (List ℕ)) → Wrote old held (IsStrictOutput store script None new) → Wrote old held (IsFrontOfOutput store script)
+strict_front store new script old held w = output_front store new script old held (wrote_as old held (strict_whole store new script) w)
+
 -- the store is closed behind a strict run
 pub strict_run : (limits : StoreLimits) (script : List ℕ) (found : Option (ℕ × List ℕ)) (first after c : Knowledge) (log : List Entry) (old new : Option (List ℕ)) → known first ≡ start limits.commits →
     c ≡ after → log ≡ entries c.seen → CanSpellEach limits.pages log → Wrote old new (IsStrictOutput (known first) script found (known after)) → Wrote old new (IsStrictRun limits script found log)

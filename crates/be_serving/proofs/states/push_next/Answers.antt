@@ -8,10 +8,10 @@ use Rattle.be_history.specs.History.{CanBeOp}
 use Rattle.be_history.proofs.CutLemmas.{can_step, fewer_left, lines_step}
 use Rattle.be_serving.proofs.states.push_next.Goals as goal
 
-pub returns-in_default-2-clause-text : goal.returns-in_default-2-clause-text
-returns-in_default-2-clause-text c =
+pub returns-in_default-list-clause-text : goal.returns-in_default-list-clause-text
+returns-in_default-list-clause-text c =
     let w = volume_pinned c.args.pass.now.knows in
-    let is : left w c.args.place.now ≡ left w c.state.new.place = rw c.in_default-2.is at c.in-Ok.ensures.list in
+    let is : left w c.args.place.now ≡ left w c.state.new.place = rw c.in_default-list.is at c.in-Ok.ensures.list in
     ap (λ (ops : List Op). string_bytes c.args.text.now ++ cut_lines ops) (sym is)
 
 pub returns-clause-text : goal.returns-clause-text
