@@ -100,7 +100,7 @@ fn run_command<'a>(alloc: Global) -> Result<Command<'a>, AllocError> {
     let strict = flag(
         alloc,
         STRICT,
-        "End with status 1 behind the first line that is refused",
+        "End with status 1 after the first line that is refused",
     );
     command(
         alloc,

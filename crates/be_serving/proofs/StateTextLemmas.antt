@@ -1,6 +1,6 @@
 -- The script of a pass's pinned version, over reads of that pass.
-use Rattle.std.proofs.Common.{◌≡◌, ℕ, true, false, Option, Some, None, refl, ap, ◌∙◌, take}
-use Rattle.std.specs.Prelude.{IsSome}
+use Rattle.std.proofs.Common.{◌≡◌, ℕ, Bool, true, false, Option, Some, None, refl, sym, ap, ◌∙◌, take}
+use Rattle.std.specs.Prelude.{IsSome, if◌then◌else◌}
 use Rattle.std.specs.Option.{option_map, option_map_or}
 use Rattle.be_journal.specs.Journal.{replay}
 use Rattle.be_table.specs.declared.pass.Knowledge.{Knowledge}
@@ -8,7 +8,7 @@ use Rattle.be_table.specs.Rule.{entries}
 use Rattle.be_table.specs.Seats.{pinned_number}
 use Rattle.be_store.specs.Passes.{HasRead, IsPinnedTo, volume_pinned, volume_seen}
 use Rattle.be_serving.specs.Served.{known, pin_at}
-use Rattle.be_serving.specs.Store.{PinnedVolume, viewed}
+use Rattle.be_serving.specs.Store.{PinnedVolume, Store, unpinned, viewed}
 use Rattle.be_volume.specs.Volume.{State, empty}
 
 -- a read leaves the pinned version
@@ -41,3 +41,11 @@ viewed_pinned a h = viewed_at a (pinned_number a.phase) h
 -- a read leaves the store as it is shown
 pub same_known : (a c : Knowledge) → HasRead a c → known c ≡ known a
 same_known a c h = ap known h
+
+-- what is read between a pin for one read and the end of that read is what is read of the store then
+pub pinned_view : (inside begun read ended : Knowledge) (made : Bool) → inside ≡ begun → IsSome (known begun).pin → HasRead inside read →
+    viewed (known begun) ≡ viewed (if made then unpinned (known begun) else known begun) → known ended ≡ (if made then unpinned (known read) else known read) →
+    volume_pinned inside ≡ viewed (known ended)
+pinned_view inside begun read ended made is pin reads view end =
+    let same : known read ≡ known begun = same_known inside read reads ∙ ap known is in
+    ap volume_pinned is ∙ (viewed_pinned begun pin ∙ (view ∙ (ap (λ (k : Store). viewed (if made then unpinned k else k)) (sym same) ∙ ap viewed (sym end))))
