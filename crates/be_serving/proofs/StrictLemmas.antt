@@ -1,7 +1,7 @@
 -- How the parts of a strict run join.
-use Rattle.std.proofs.Common.{◌≡◌, ◌⊎◌, ℕ, ◌≤◌, ◌+◌, ◌^◌, Bool, true, false, cond, IfOk, IfErr, IfSome, OnOk, OnErr, List, [], ◌∷◌, ◌++◌, length, refl, sym, ap, ◌∙◌, subst, append_assoc, append-nil, length-append, arith, inl, inr, Some, None}
+use Rattle.std.proofs.Common.{◌≡◌, ℕ, ◌+◌, Bool, true, false, IfOk, IfSome, List, [], ◌∷◌, ◌++◌, length, refl, sym, ap, ◌∙◌, subst, append_assoc, append-nil, length-append, arith, Some, None}
+use Rattle.std.specs.Prelude.{if◌then◌else◌}
 use Rattle.std.specs.declared.option.Option.{Option}
-use Rattle.std.specs.Io.KnownBytes.{Appends}
 use Rattle.std.specs.declared.result.Result.{Result}
 use Rattle.std.specs.declared.result.Result.TheVariants.{Ok, Err}
 use Rattle.be_journal.specs.declared.entries.Entry.{Entry}
@@ -16,7 +16,6 @@ use Rattle.be_serving.specs.Run.{Wrote, AreFirstReplies, HasReplied, IsFrontOfAn
 use Rattle.be_serving.specs.Served.{known}
 use Rattle.be_serving.specs.Store.{Store, start}
 use Rattle.be_serving.specs.Strict.{Accepts, HasAccepted, IsStrictOutput, IsStrictRun, Judged, StopsAt, is_refusal, numbered}
-use Rattle.be_serving.specs.declared.faults.RunFault.{RunFault}
 use Rattle.be_serving.proofs.EndLemmas.{nothing_asked}
 use Rattle.be_serving.proofs.ReplyLemmas.{serves_at_once}
 use Rattle.be_serving.proofs.RunLemmas.{all_read, none_written, stop, written_both}
@@ -49,12 +48,8 @@ outputs_both s mid last (line ∷ lines) behind out more h g =
 accepts_one : (s after : Session) (line reply : List ℕ) → Judged s line after None reply → Accepts s (line ∷ []) after reply
 accepts_one s after line reply j = (after, reply, [], j, (refl, refl), sym (append-nil reply))
 
--- a text that is known by another property
-pub wrote_as : {P Q : List ℕ → Type 0} (old new : Option (List ℕ)) → ((out : List ℕ) → P out → Q out) → Wrote old new P → Wrote old new Q
-wrote_as old new f w = record { out = w.out; appended = w.appended; is = f w.out w.is }
-
 -- a refused line's text is its reply
-refusal_is_reply : (b : Bool) (text out : List ℕ) → Some text ≡ cond b (Some out) None → text ≡ out
+refusal_is_reply : (b : Bool) (text out : List ℕ) → Some text ≡ (if b then Some out else None) → text ≡ out
 refusal_is_reply true text out e = cc
 refusal_is_reply false text out e = cc
 
@@ -171,15 +166,17 @@ strict_whole store new script out h = (h.0, accepts_outputs (opening store) h.0 
 
 pub strict_part : (store new : Store) (script text out : List ℕ) (number : ℕ) → IsStrictOutput store script (Some (number, text)) new out →
     (lines : List (List ℕ)) × (rest : List (List ℕ)) × (last : Session) × (lines_of script ≡ lines ++ rest) × (number ≡ length lines) × Outputs (opening store) lines last out × (last.store ≡ new)
-strict_part store new script text out number h = (
-  h.lines ++ (h.line ∷ []),
-  h.rest,
-  h.after,
-  h.is ∙ sym (append_assoc h.lines (h.line ∷ []) h.rest),
-  let long = length-append h.lines (h.line ∷ []) in omega (arith, long, h.number_is),
-  stopped_output store new script text out number h,
-  h.leaves,
-)
+strict_part store new script text out number h =
+    let long = length-append h.lines (h.line ∷ []) in
+    let count : number ≡ length (h.lines ++ (h.line ∷ [])) = omega (arith, long, h.number_is) in (
+      h.lines ++ (h.line ∷ []),
+      h.rest,
+      h.after,
+      h.is ∙ sym (append_assoc h.lines (h.line ∷ []) h.rest),
+      count,
+      stopped_output store new script text out number h,
+      h.leaves,
+    )
 
 -- what a strict run is answered is the replies to the first lines
 strict_first : (store new : Store) (script : List ℕ) (found : Option (ℕ × List ℕ)) (out : List ℕ) → IsStrictOutput store script found new out → AreFirstReplies store script out
@@ -200,7 +197,7 @@ strict_first store new script (Some found) out h = record {
 
 pub strict_replies : (store new : Store) (script : List ℕ) (found : Option (ℕ × List ℕ)) (old held : Option (List ℕ)) → Wrote old held (IsStrictOutput store script found new) →
     Wrote old held (AreFirstReplies store script)
-strict_replies store new script found old held w = wrote_as old held (strict_first store new script found) w
+strict_replies store new script found old held w = record { out = w.out; appended = w.appended; is = strict_first store new script found w.out w.is }
 
 -- an output is a front of one
 pub output_front : (store new : Store) (script : List ℕ) (old held : Option (List ℕ)) → Wrote old held (IsOutputTo store script new) → Wrote old held (IsFrontOfOutput store script)
@@ -208,7 +205,7 @@ output_front store new script old held w =
     record { out = w.out; appended = w.appended; is = ([], (new, subst (IsOutputTo store script new) (sym (append-nil w.out)) w.is)) }
 
 pub strict_front : (store new : Store) (script : List ℕ) (old held : Option (List ℕ)) → Wrote old held (IsStrictOutput store script None new) → Wrote old held (IsFrontOfOutput store script)
-strict_front store new script old held w = output_front store new script old held (wrote_as old held (strict_whole store new script) w)
+strict_front store new script old held w = output_front store new script old held (record { out = w.out; appended = w.appended; is = strict_whole store new script w.out w.is })
 
 -- the store is closed behind a strict run
 pub strict_run : (limits : StoreLimits) (script : List ℕ) (found : Option (ℕ × List ℕ)) (first after c : Knowledge) (log : List Entry) (old new : Option (List ℕ)) → known first ≡ start limits.commits →
