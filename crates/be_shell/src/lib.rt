@@ -6,6 +6,7 @@
 //! bottom up: a line as it is heard, the peer, conversations, a reader and a writer as a peer, a terminal, and the shell.
 #![tactic(auto)]
 
+mod closings;
 mod conversations;
 mod ends;
 pub mod laws;
@@ -14,6 +15,7 @@ mod peers;
 mod shells;
 mod terminals;
 
+pub use closings::shell_and_close;
 pub use conversations::converse;
 pub use ends::Ends;
 pub use lines::Line;
