@@ -1,4 +1,5 @@
+pub mod BreakLemmas
+pub mod EscapeLemmas
 pub mod LineLemmas
 pub mod TalkLemmas
-pub mod TerminalLemmas
 pub mod WholeLemmas

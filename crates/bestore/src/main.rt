@@ -9,8 +9,8 @@
 #![tactic(auto)]
 
 use be_script::{
-    Ends, Finding, Limits, OpenGate, Peer, RunFault, Task, Terminal, check, dump, dump_state,
-    journal_told, race, read_files, run, run_and_tell, shell, task,
+    Breaking, Ends, Finding, Limits, OpenGate, Peer, RunFault, Screen, Task, Terminal, check, dump,
+    dump_state, journal_told, race, read_files, run, run_and_tell, shell, task,
 };
 use clap::Error;
 use clap::error::ErrorKind;
@@ -145,23 +145,49 @@ fn race_files<R: Runtime + AllocGlobal + Threads + Wait + Sync>(
     }
 }
 
+/// Which sides of a shell are a terminal.
+#[derive(Clone, Copy)]
+struct Sides {
+    is_typed: bool,
+    is_shown: bool,
+}
+
+/// Greets and talks with a terminal, behind a first peer. Control characters are shown by their codes if replies go to a
+/// terminal too.
+fn talk_at_terminal<R: Runtime + AllocGlobal, F: Peer, I: Read + Drop>(
+    rt: &R,
+    first: &mut F,
+    reader: I,
+    limits: Limits,
+    is_shown: bool,
+) -> Result<(), RunFault> {
+    let _ = eprintln!(rt;
+        "bestore: a line is answered when it comes; the end of input ends it; help lists the commands"
+    );
+    let ends = Ends::new(Breaking::new(reader), io::writer(rt));
+    if is_shown {
+        let mut peer = Terminal::new(rt, rt.alloc(), Screen::new(ends));
+        shell(rt.alloc(), first, &mut peer, limits)
+    } else {
+        let mut peer = Terminal::new(rt, rt.alloc(), ends);
+        shell(rt.alloc(), first, &mut peer, limits)
+    }
+}
+
 /// Talks with standard input, behind a first peer. At a terminal it greets and prompts.
 fn talk<R: Runtime + AllocGlobal, F: Peer>(
     rt: &R,
     first: &mut F,
     limits: Limits,
-    is_terminal: bool,
+    sides: Sides,
 ) -> io::Result<ExitCode> {
     let Ok(reader) = BufReader::new(rt.alloc(), rt.reader()) else {
         return fail(rt, reason(RunFault::Memory));
     };
-    let mut ends = Ends::new(reader, io::writer(rt));
-    let talked = if is_terminal {
-        eprintln!(rt;
-            "bestore: a line is answered when it comes; the end of input ends it; help lists the commands"
-        )?;
-        shell(rt.alloc(), first, &mut Terminal::new(rt, ends), limits)
+    let talked = if sides.is_typed {
+        talk_at_terminal(rt, first, reader, limits, sides.is_shown)
     } else {
+        let mut ends = Ends::new(reader, io::writer(rt));
         shell(rt.alloc(), first, &mut ends, limits)
     };
     match talked {
@@ -176,11 +202,11 @@ fn open_shell<R: Runtime + AllocGlobal>(
     rt: &R,
     file: &Option<String>,
     limits: Limits,
-    is_terminal: bool,
+    sides: Sides,
 ) -> io::Result<ExitCode> {
     let Some(file) = file else {
         let mut nothing = Ends::new(b"".as_slice(), io::writer(rt));
-        return talk(rt, &mut nothing, limits, is_terminal);
+        return talk(rt, &mut nothing, limits, sides);
     };
     let Ok(opened) = fs::open(rt, file.as_str()) else {
         return fail_to_read(rt, file.as_str());
@@ -189,7 +215,10 @@ fn open_shell<R: Runtime + AllocGlobal>(
         return fail(rt, reason(RunFault::Memory));
     };
     let mut lines = Ends::new(reader, io::writer(rt));
-    talk(rt, &mut lines, limits, is_terminal)
+    if sides.is_typed && sides.is_shown {
+        return talk(rt, &mut Screen::new(lines), limits, sides);
+    }
+    talk(rt, &mut lines, limits, sides)
 }
 
 /// Reads all of a file.
@@ -291,13 +320,13 @@ fn tell_of_file<R: Runtime + AllocGlobal>(
 fn run_task<R: Runtime + AllocGlobal + Threads + Wait + Sync>(
     rt: &R,
     task: &Task,
-    is_terminal: bool,
+    sides: Sides,
 ) -> io::Result<ExitCode> {
     match task {
         Task::Run(file, limits) => run_file(rt, file.as_str(), *limits, false),
         Task::RunAndTell(file, limits) => run_file(rt, file.as_str(), *limits, true),
         Task::Race(files, limits) => race_files(rt, files.as_slice(), *limits),
-        Task::Shell(file, limits) => open_shell(rt, file, *limits, is_terminal),
+        Task::Shell(file, limits) => open_shell(rt, file, *limits, sides),
         Task::Check(file) => tell_of_file(rt, file.as_str(), Telling::Check),
         Task::Dump(file) => tell_of_file(rt, file.as_str(), Telling::Dump),
         Task::DumpState(file) => tell_of_file(rt, file.as_str(), Telling::DumpState),
@@ -315,7 +344,7 @@ fn tell<R: Print + Eprint>(rt: &R, error: &Error) -> io::Result<ExitCode> {
 fn obey<R: Runtime + AllocGlobal + Threads + Wait + Sync>(
     rt: &R,
     given: &[String],
-    is_terminal: bool,
+    sides: Sides,
 ) -> io::Result<ExitCode> {
     let alloc = rt.alloc();
     let mut words = Vec::new(alloc);
@@ -325,7 +354,7 @@ fn obey<R: Runtime + AllocGlobal + Threads + Wait + Sync>(
         }
     }
     match task(alloc, words.as_slice()) {
-        Ok(task) => run_task(rt, &task, is_terminal),
+        Ok(task) => run_task(rt, &task, sides),
         Err(error) if matches!(error.kind(), ErrorKind::OutOfMemory) => fail(rt, "out of memory"),
         Err(error) => tell(rt, &error),
     }
@@ -337,7 +366,13 @@ fn read_words(rt: &HostRuntime) -> io::Result<Vec<String>> {
 
 fn main(rt: HostRuntime) -> io::Result<ExitCode> {
     match read_words(&rt) {
-        Ok(given) => obey(&rt, &given, rt.stdin().is_terminal()),
+        Ok(given) => {
+            let sides = Sides {
+                is_typed: rt.stdin().is_terminal(),
+                is_shown: rt.stdout().is_terminal(),
+            };
+            obey(&rt, &given, sides)
+        }
         Err(error) if matches!(error.kind(), io::ErrorKind::InvalidData) => {
             eprintln!(rt; "bestore: a word of the command line isn't UTF-8")?;
             Ok(ExitCode::from(MISUSED))
