@@ -8,6 +8,4 @@
 pub use be_command_line::{Task, task};
 pub use be_history::{Finding, check, dump, dump_state, journal_told};
 pub use be_serving::{Gate, Limits, OpenGate, RunFault, laws, race, read_files, run, run_and_tell};
-pub use be_shell::{
-    Aside, Breaking, Ends, Line, Peer, Screen, Terminal, converse, shell,
-};
+pub use be_shell::{Aside, Breaking, Ends, Line, Peer, Screen, Terminal, converse, shell};

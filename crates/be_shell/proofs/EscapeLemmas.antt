@@ -1,5 +1,5 @@
 -- A text whose front is shown as it is.
-use Rattle.std.proofs.Common.{◌≡◌, ◌≤◌, ◌<◌, ℕ, suc, ◌+◌, List, [], ◌∷◌, ◌++◌, length, take, drop, get_or, add-one, append_assoc, refl, sym, ap, ◌∙◌, subst, arith}
+use Rattle.std.proofs.Common.{◌≡◌, ◌≤◌, ◌<◌, ℕ, suc, ◌+◌, List, [], ◌∷◌, ◌++◌, length, take, drop, get_or, add-one, append_assoc, refl, sym, ap, ◌∙◌, arith}
 use Rattle.std.proofs.Math.Seq.{take-suc, drop-cons}
 use Rattle.be_shell.specs.Escape.{shown, KeepsFirst}
 
@@ -15,7 +15,7 @@ one_more bytes n h front keeps =
     let more : shown (drop n bytes) ≡ x ∷ shown rest = keeps x rest (drop-cons bytes n 0 h) in
     let taken : take (suc n) bytes ≡ take n bytes ++ (x ∷ []) = take-suc bytes n 0 h in
     let whole : shown bytes ≡ take (suc n) bytes ++ shown rest =
-      front ∙ (ap (λ (z : List ℕ). take n bytes ++ z) more ∙ (sym (append_assoc (take n bytes) (x ∷ []) (shown rest)) ∙ ap (λ (z : List ℕ). z ++ shown rest) (sym taken))) in
+    front ∙ (ap (λ (z : List ℕ). take n bytes ++ z) more ∙ (sym (append_assoc (take n bytes) (x ∷ []) (shown rest)) ∙ ap (λ (z : List ℕ). z ++ shown rest) (sym taken))) in
     rw add-one whole
 
 -- the first byte

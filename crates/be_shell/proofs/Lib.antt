@@ -1,5 +1,6 @@
 pub mod BreakLemmas
 pub mod EscapeLemmas
 pub mod LineLemmas
+pub mod ScreenLemmas
 pub mod TalkLemmas
 pub mod WholeLemmas

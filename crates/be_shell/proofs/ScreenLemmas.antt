@@ -1,12 +1,18 @@
 -- How a text is said piece by piece.
-use Rattle.std.proofs.Common.{◌≡◌, ℕ, Bool, List, [], ◌∷◌, ◌++◌, map, append_assoc, Some, None, refl, sym, ap, ◌∙◌, subst}
+use Rattle.std.proofs.Common.{◌≡◌, ℕ, List, [], ◌∷◌, ◌++◌, length, map, append_assoc, refl, sym, ap, ◌∙◌, subst, arith}
 use Rattle.std.proofs.lemmas.List.{append-nil}
-use Rattle.std.specs.declared.option.Option.{Option}
 use Rattle.be_serving.specs.Run.{IsFrontOf}
-use Rattle.be_shell.specs.Conversation.{Event, hearing, says, Happens}
+use Rattle.be_shell.specs.Conversation.{Event, says, Happens}
 use Rattle.be_shell.specs.Escape.{shown}
-use Rattle.be_shell.specs.Screen.{SaysAll, joined, shows}
-use Rattle.be_shell.specs.declared.lines.Line.{Line}
+use Rattle.be_shell.specs.Screen.{SaysAll, joined}
+
+no_bytes : (xs : List ℕ) → length xs ≡ 0 → xs ≡ []
+no_bytes [] e = refl
+no_bytes (x ∷ xs) e = absurd (omega (arith, e))
+
+-- a front of the first part
+pub front_of_more : (whole piece tail front : List ℕ) → whole ≡ piece ++ tail → IsFrontOf piece front → IsFrontOf whole front
+front_of_more whole piece tail front e h = (h.0 ++ tail, e ∙ (ap (λ (z : List ℕ). z ++ tail) h.1 ∙ append_assoc front h.0 tail))
 
 joined_more : (pieces : List (List ℕ)) (piece : List ℕ) → joined (pieces ++ piece ∷ []) ≡ joined pieces ++ piece
 joined_more [] piece = append-nil piece
@@ -34,25 +40,20 @@ pub said_more : {P : Type 0} (does : P → Event → P → Type 0) (p m q : P) (
 said_more does p m q whole rest rest' h x =
     (h.0 ++ x.0, piece_said does p m q h.0 x.0 h.1 x.1, h.2 ∙ (ap (λ (z : List ℕ). h.0 ++ z) x.2 ∙ sym (append_assoc h.0 x.0 (shown rest'))))
 
-pub all_said : {P : Type 0} (does : P → Event → P → Type 0) (p q : P) (whole rest : List ℕ) → HasSaid does p q whole rest → rest ≡ [] → SaysAll does p (shown whole) q
-all_said does p q whole rest h e =
+pub all_said : {P : Type 0} (does : P → Event → P → Type 0) (p q : P) (whole rest : List ℕ) → HasSaid does p q whole rest → length rest ≡ 0 → SaysAll does p (shown whole) q
+all_said does p q whole rest h none =
+    let e : rest ≡ [] = no_bytes rest none in
     let same : h.0 ≡ shown whole = sym (h.2 ∙ (ap (λ (z : List ℕ). h.0 ++ shown z) e ∙ append-nil h.0)) in
     subst (λ (z : List ℕ). SaysAll does p z q) same h.1
 
 pub cut_said : {P : Type 0} (does : P → Event → P → Type 0) (p m q : P) (whole rest : List ℕ) → HasSaid does p m whole rest →
     (front : List ℕ) × IsFrontOf (shown rest) front × does m (says front) q → (front : List ℕ) × IsFrontOf (shown whole) front × SaysAll does p front q
-cut_said does p m q whole rest h x =
-    (
-      h.0 ++ x.0,
-      (x.1.0, h.2 ∙ (ap (λ (z : List ℕ). h.0 ++ z) x.1.1 ∙ sym (append_assoc h.0 x.0 x.1.0))),
-      piece_said does p m q h.0 x.0 h.1 x.2,
-    )
+cut_said does p m q whole rest h x = (
+  h.0 ++ x.0,
+  (x.1.0, h.2 ∙ (ap (λ (z : List ℕ). h.0 ++ z) x.1.1 ∙ sym (append_assoc h.0 x.0 x.1.0))),
+  piece_said does p m q h.0 x.0 h.1 x.2,
+)
 
--- a front of a front
+-- all of it is a front
 pub front_of_whole : (bytes : List ℕ) → IsFrontOf bytes bytes
 front_of_whole bytes = ([], sym (append-nil bytes))
-
--- hearing is passed on
-pub heard_shown : {P : Type 0} (does : P → Event → P → Type 0) (p q : P) (torn : Bool) (next : Option Line) → does p (hearing next) q → shows does p torn (hearing next) q torn
-heard_shown does p q torn None h = (h, refl)
-heard_shown does p q torn (Some line) h = (h, refl)

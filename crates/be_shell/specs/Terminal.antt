@@ -3,7 +3,7 @@ use Rattle.std.specs.Prelude.{◌≡◌, ◌⊎◌, Bool, true, []}
 use Rattle.be_shell.specs.Aside.{typed_of}
 use Rattle.be_shell.specs.Conversation.{Event, Heard, hears, ends, says, flushes, fails, short_line, long_line}
 use Rattle.be_shell.specs.declared.asides.Aside.{Aside}
-use Rattle.be_shell.specs.declared.asides.Aside.TheVariants.{Nothing, Cancelled, Cut, Help, Quit, Read, Save}
+use Rattle.be_shell.specs.declared.asides.Aside.TheVariants.{Nothing, Cut, Quit, Read}
 
 -- what a typed line asks of the terminal
 abbrev pub asks_of : Heard → Aside

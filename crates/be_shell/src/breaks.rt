@@ -45,7 +45,7 @@ impl<R: Read> Read for Breaking<R> {
     ghost remaining = { breaks_left R.remaining };
 
     fn read(&mut self, buf: &mut [u8]) -> io::Result<usize> {
-        if buf.is_empty() {
+        if buf.len() == 0 {
             return Ok(0);
         }
         if self.owes_lf {

@@ -48,7 +48,7 @@ pub(crate) fn plain_len(bytes: &[u8]) -> usize
 {
     let mut len = 1;
     while len < bytes.len() {
-        match control_at(&bytes[len..]) {
+        match control_at(bytes.split_at(len).1) {
             Some(_) => return len,
             None => len += 1,
         }

@@ -35,8 +35,11 @@ fn say_shown<P: Peer>(peer: &mut P, bytes: &[u8]) -> Result<(), RunFault>
     ensures fault { IfErr result (λ e. e ≡ RunFault.Write) }
 {
     let mut rest = bytes;
-    while !rest.is_empty() {
-        rest = say_front(peer, rest)?;
+    while rest.len() > 0 {
+        match say_front(peer, rest) {
+            Ok(next) => rest = next,
+            Err(fault) => return Err(fault),
+        }
     }
     Ok(())
 }
@@ -71,11 +74,13 @@ impl<P: Peer> Peer for Screen<P> {
     }
 
     fn say(&mut self, reply: &[u8]) -> Result<(), RunFault> {
-        let said = say_shown(&mut self.peer, reply);
-        if said.is_err() {
-            self.is_torn = true;
+        match say_shown(&mut self.peer, reply) {
+            Ok(()) => Ok(()),
+            Err(fault) => {
+                self.is_torn = true;
+                Err(fault)
+            }
         }
-        said
     }
 
     fn flush(&mut self) -> Result<(), RunFault> {

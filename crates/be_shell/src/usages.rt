@@ -67,7 +67,9 @@ fn number_at(text: &[u8]) -> usize {
         if *byte < b'0' || *byte > b'9' {
             return number;
         }
-        number = number.saturating_mul(10).saturating_add((*byte - b'0') as usize);
+        number = number
+            .saturating_mul(10)
+            .saturating_add((*byte - b'0') as usize);
     }
     number
 }
