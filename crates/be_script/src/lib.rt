@@ -11,4 +11,6 @@ pub use be_serving::{
     Gate, Journal, Limits, OpenGate, RefusedLine, RunFault, laws, put_result, race, read_files,
     run, run_and_tell, run_strictly,
 };
-pub use be_shell::{Ends, Line, Peer, Terminal, converse, shell, shell_and_close};
+pub use be_shell::{
+    Aside, Breaking, Ends, Line, Peer, Screen, Terminal, converse, shell, shell_and_close,
+};

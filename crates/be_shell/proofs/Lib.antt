@@ -1,4 +1,6 @@
+pub mod BreakLemmas
+pub mod EscapeLemmas
 pub mod LineLemmas
+pub mod ScreenLemmas
 pub mod TalkLemmas
-pub mod TerminalLemmas
 pub mod WholeLemmas

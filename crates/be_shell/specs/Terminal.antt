@@ -1,11 +1,48 @@
 -- A peer at a terminal.
-use Rattle.std.specs.Prelude.{◌≡◌, ◌≢◌, ◌⊎◌, [], codes}
-use Rattle.be_shell.specs.Conversation.{Event, Heard, hears, short_line}
+use Rattle.std.specs.Prelude.{◌≡◌, ◌⊎◌, Bool, true, []}
+use Rattle.be_shell.specs.Aside.{typed_of}
+use Rattle.be_shell.specs.Conversation.{Event, Heard, hears, ends, says, flushes, fails, short_line, long_line}
+use Rattle.be_shell.specs.declared.asides.Aside.{Aside}
+use Rattle.be_shell.specs.declared.asides.Aside.TheVariants.{Nothing, Cut, Quit, Read}
 
-abbrev pub help_line : Heard
-help_line = short_line (codes "help")
+-- what a typed line asks of the terminal
+abbrev pub asks_of : Heard → Aside
+asks_of (short_line line) = typed_of line
+asks_of long_line = Cut
 
--- What an event at a terminal is to the peer behind it: the same event, which isn't the line `help`; but what is heard as an
--- empty line may be that line there.
-abbrev pub asks : {P : Type 0} → (P → Event → P → Type 0) → P → Event → P → Type 0
-asks does old event new = ((event ≢ hears help_line) × does old event new) ⊎ ((event ≡ hears (short_line [])) × does old (hears help_line) new)
+-- A line as the shell hears it: where it is for the terminal, an empty line, or the end.
+abbrev pub passed_on : Heard → Aside → Event
+passed_on line Nothing = hears line
+passed_on line Quit = ends
+passed_on line aside = hears (short_line [])
+
+-- an event of the peer below, as the shell has it
+abbrev pub passes : Event → Event
+passes (hears line) = passed_on line (asks_of line)
+passes ends = ends
+passes (says bytes) = says bytes
+passes flushes = flushes
+passes fails = fails
+
+-- a file is to be read
+abbrev pub IsReading : Event → Type 0
+IsReading (hears line) = asks_of line ≡ Read
+IsReading ends = ⊥
+IsReading (says bytes) = ⊥
+IsReading flushes = ⊥
+IsReading fails = ⊥
+
+-- a line of a file, or that it ends the shell
+abbrev pub IsOfFile : Event → Type 0
+IsOfFile (hears line) = Unit {0}
+IsOfFile ends = Unit {0}
+IsOfFile (says bytes) = ⊥
+IsOfFile flushes = ⊥
+IsOfFile fails = ⊥
+
+-- What an event at a terminal is to the peer below it, and whether a file is being read before and after it. It is an event of
+-- that peer, as the shell has it, and only the line `read` makes that a file is read; or, while one is read, a line of it.
+abbrev pub asks : {P : Type 0} → (P → Event → P → Type 0) → P → Bool → Event → P → Bool → Type 0
+asks does p reads event q reads' =
+    ((below : Event) × (event ≡ passes below) × does p below q × (reads' ≡ true → (reads ≡ true) ⊎ IsReading below))
+    ⊎ ((reads ≡ true) × (q ≡ p) × IsOfFile event)

@@ -2,23 +2,34 @@
 //!
 //! [`shell`] opens a store, and answers each line of a peer before it hears the next. What a line may be answered is the
 //! definition that scripts have. [`Peer`] is a trait, so the order of hearing and saying stands in the contract and holds for
-//! whoever is talked with; [`Ends`] makes a peer of a reader and a writer, and [`Terminal`] one that is prompted. From the
-//! bottom up: a line as it is heard, the peer, conversations, a reader and a writer as a peer, a terminal, and the shell.
+//! whoever is talked with; [`Ends`] makes a peer of a reader and a writer, [`Screen`] one that shows control characters by
+//! their codes, and [`Terminal`] one that is prompted. [`Breaking`] is a reader in which Ctrl-C ends a line. From the bottom
+//! up: a line as it is heard, the peer, conversations, a reader and a writer as a peer, what is shown, a terminal, and the
+//! shell.
 #![tactic(auto)]
 
+mod asides;
+mod breaks;
 mod closings;
 mod conversations;
 mod ends;
+mod escapes;
 pub mod laws;
 mod lines;
 mod peers;
+mod screens;
+mod scripts;
 mod shells;
 mod terminals;
+mod usages;
 
+pub use asides::Aside;
+pub use breaks::Breaking;
 pub use closings::shell_and_close;
 pub use conversations::converse;
 pub use ends::Ends;
 pub use lines::Line;
 pub use peers::Peer;
+pub use screens::Screen;
 pub use shells::shell;
 pub use terminals::Terminal;

@@ -1,91 +1,223 @@
 //! A peer at a terminal.
-ghost use Rattle.std.specs.Prelude.{◌≡◌, ◌↔◌, [], true};
-ghost use Rattle.be_shell.specs.Conversation.{hearing, hears, short_line};
-ghost use Rattle.be_shell.specs.Terminal.{help_line};
+ghost use Rattle.std.specs.Prelude.{◌≡◌, true, false, is_some, IfSome, IfNone};
+ghost use Rattle.be_shell.specs.Conversation.{hearing, line_heard};
+ghost use Rattle.be_shell.specs.Terminal as spec;
 
 use crate::Line;
+use crate::asides::{Aside, aside_of, skip, split_word, typed_of};
 use crate::peers::Peer;
+use crate::scripts::{Script, next_line, open_script};
+use crate::usages::{hint, tell_help, tell_usage, wants_hint};
 use be_serving::RunFault;
 use std::alloc::Global;
+use std::io::Eprint;
+use std::rt::Files;
 
-/// What `help` tells at a terminal: each command with one line.
-const HELP: &str = "\
-new                       make a node
-drop N                    remove a node
-set N NAME KIND VALUE     set an attribute; KIND is CSTR, LONG, LLNG, ULNG, ULLG, MIMS or RAWT
-unset N NAME              remove an attribute
-mkindex NAME KIND         make an index, of what is set from then on
-rmindex NAME              remove an index
-query TEXT                the nodes of which a query is true
-explain TEXT              the comparisons that answer a query, and their score
-get N NAME                an attribute
-attrs N                   the attributes of a node
-indices                   the indices
-pin                       read from this version from now on
-unpin                     read from the last write again
-live TEXT                 take a live query
-refresh                   what changed in its answer
-begin                     open a batch
-commit                    write the batch as one
-abort                     drop the batch
-";
-
-/// Whether what was heard is the line `help`.
-fn is_help(heard: &Option<Line>) -> bool
-    ensures { (result ≡ true) ↔ (hearing heard.now ≡ hears help_line) }
+/// What a typed line asks of the terminal.
+fn typed_in(line: &Line) -> Aside
+    ensures { result ≡ spec.asks_of (line_heard line.now) }
 {
-    match heard {
-        Some(Line::Short(bytes)) => bytes.as_slice() == b"help".as_slice(),
-        Some(Line::Long) | None => false,
+    match line {
+        Line::Short(bytes) => typed_of(bytes.as_slice()),
+        Line::Long => Aside::Cut,
     }
 }
 
-/// A line that asks for nothing.
-fn empty_line(alloc: Global) -> Option<Line>
-    ensures { hearing result ≡ hears (short_line []) }
+/// What a line of a file asks of the terminal.
+fn aside_in(line: &Line) -> Aside {
+    match line {
+        Line::Short(bytes) => aside_of(bytes.as_slice()),
+        Line::Long => Aside::Nothing,
+    }
+}
+
+/// A line as the shell hears it: where it is for the terminal, an empty line, or the end.
+fn passed_on(alloc: Global, line: Line, aside: Aside) -> Option<Line>
+    ensures { hearing result ≡ spec.passed_on (line_heard line) aside }
 {
-    Some(Line::Short(Vec::new(alloc)))
+    match aside {
+        Aside::Nothing => Some(line),
+        Aside::Quit => None,
+        _ => Some(Line::Short(Vec::new(alloc))),
+    }
+}
+
+/// The name behind the command of a line.
+fn name_in(line: &[u8]) -> &[u8] {
+    let (_, behind) = split_word(skip(line));
+    skip(behind).trim_ascii_end()
+}
+
+/// Opens the file that a line `read` names.
+fn open_named<R: Files + Eprint>(rt: &R, alloc: Global, line: &[u8]) -> Option<Script> {
+    let name = name_in(line);
+    if name.is_empty() {
+        tell_usage(rt, b"read".as_slice());
+        return None;
+    }
+    open_script(rt, alloc, name)
+}
+
+/// Answers a line that is for the terminal, where an answer on standard error is all of it.
+fn answer_aside<R: Eprint>(rt: &R, line: &Line, aside: Aside) {
+    let _ = match (aside, line) {
+        (Aside::Cancelled, _) => eprintln!(rt;),
+        (Aside::Cut, _) => eprintln!(rt;
+            "not run: a terminal cuts a line of more than 4094 bytes; put it into a file, and: read FILE"
+        ),
+        (Aside::Help, Line::Short(bytes)) => {
+            tell_help(rt, bytes.as_slice());
+            Ok(())
+        }
+        _ => Ok(()),
+    };
+}
+
+/// Answers a typed line that is for the terminal, and returns the file that it opens.
+fn answer_typed<R: Files + Eprint>(
+    rt: &R,
+    alloc: Global,
+    line: &Line,
+    aside: Aside,
+) -> Option<Script>
+    ensures { IfSome result (λ _. aside ≡ Aside.Read) }
+{
+    match (aside, line) {
+        (Aside::Read, Line::Short(bytes)) => open_named(rt, alloc, bytes.as_slice()),
+        _ => {
+            answer_aside(rt, line, aside);
+            None
+        }
+    }
+}
+
+/// A line of a file as the shell hears it.
+fn answer_read<R: Eprint>(rt: &R, alloc: Global, line: Line) -> Option<Line> {
+    let aside = aside_in(&line);
+    if matches!(aside, Aside::Read) {
+        let _ = eprintln!(rt; "not run: a file that is read reads no other");
+    }
+    answer_aside(rt, &line, aside);
+    passed_on(alloc, line, aside)
+}
+
+/// What is heard of the file that is being read. None once it has no more lines, and no file is being read then.
+fn hear_script<R: Eprint>(
+    rt: &R,
+    alloc: Global,
+    script: &mut Option<Script>,
+) -> Option<Option<Line>>
+    ensures heard { IfSome result (λ _. is_some script.old ≡ true) }
+    ensures none { IfNone result (is_some script.new ≡ false) }
+{
+    let next = match script {
+        Some(open) => next_line(alloc, open),
+        None => return None,
+    };
+    match next {
+        Ok(Some(line)) => Some(answer_read(rt, alloc, line)),
+        Ok(None) => {
+            *script = None;
+            None
+        }
+        Err(_) => {
+            let _ = eprintln!(rt; "out of memory: the rest of the file isn't run");
+            *script = None;
+            None
+        }
+    }
+}
+
+/// A copy of a line, for hints; None too where there is no memory for it.
+fn remembered(alloc: Global, heard: &Option<Line>) -> Option<Vec<u8>> {
+    let Some(Line::Short(bytes)) = heard else {
+        return None;
+    };
+    let mut copy = Vec::new(alloc);
+    match copy.extend_from_slice(bytes.as_slice()) {
+        Ok(()) => Some(copy),
+        Err(_) => None,
+    }
+}
+
+/// Prompts.
+fn ask<R: Eprint>(rt: &R, is_batch_open: bool) {
+    let prompt = if is_batch_open {
+        "batch> "
+    } else {
+        "bestore> "
+    };
+    let _ = eprint!(rt; "{prompt}");
 }
 
 /// A peer at a terminal, who is asked for each line by a prompt on standard error: `batch> ` while a batch is open, and else
-/// `bestore> `. The line `help` is answered there with a list of the commands, and is heard as an empty line. What can't be
-/// written to standard error is left out.
+/// `bestore> `. Lines for the terminal itself ([`Aside`]) are answered there, and are heard as empty lines; `quit` and `exit`
+/// end the lines. The lines of a file that `read` names are heard in place of typed ones, up to its end. After a reply to a
+/// line that is bad or has a bad query, a hint is told. What can't be written to standard error is left out.
 #[derive(Drop)]
 pub struct Terminal<'a, R, P> {
     rt: &'a R,
+    alloc: Global,
     peer: P,
+    script: Option<Script>,
+    /// The last line that was heard, for hints.
+    heard: Option<Vec<u8>>,
 }
 
-impl<'a, R: Eprint, P: Peer> Terminal<'a, R, P> {
-    pub fn new(rt: &'a R, peer: P) -> Terminal<'a, R, P>
-        ensures { result.peer ≡ peer }
+impl<'a, R: Files + Eprint, P: Peer> Terminal<'a, R, P> {
+    pub fn new(rt: &'a R, alloc: Global, peer: P) -> Terminal<'a, R, P>
+        ensures { (result.peer ≡ peer) × (is_some result.script ≡ false) }
     {
-        Terminal { rt, peer }
+        Terminal {
+            rt,
+            alloc,
+            peer,
+            script: None,
+            heard: None,
+        }
+    }
+
+    /// Tells what a reply to the last line doesn't, after its place in a file.
+    fn tell_hint(&self, reply: &[u8]) {
+        let Some(heard) = &self.heard else {
+            return;
+        };
+        if let Some(script) = &self.script {
+            if wants_hint(reply) {
+                script.tell_place(self.rt);
+            }
+        }
+        hint(self.rt, self.alloc, heard.as_slice(), reply);
     }
 }
 
-impl<'a, R: Eprint, P: Peer> Peer for Terminal<'a, R, P> {
+impl<'a, R: Files + Eprint, P: Peer> Peer for Terminal<'a, R, P> {
+    ghost use Rattle.std.specs.Prelude.{is_some};
     ghost use Rattle.be_shell.specs.Terminal.{asks};
 
-    ghost does = { λ old event new. asks P.does old.peer event new.peer };
+    ghost does = { λ old event new. asks P.does old.peer (is_some old.script) event new.peer (is_some new.script) };
 
     fn hear(&mut self, alloc: Global, is_batch_open: bool) -> Result<Option<Line>, RunFault> {
-        let prompt = if is_batch_open {
-            "batch> "
-        } else {
-            "bestore> "
-        };
-        let _ = eprint!(self.rt; "{prompt}");
-        let heard = self.peer.hear(alloc, is_batch_open)?;
-        if is_help(&heard) {
-            let _ = eprint!(self.rt; "{HELP}");
-            return Ok(empty_line(alloc));
+        if let Some(heard) = hear_script(self.rt, alloc, &mut self.script) {
+            self.heard = remembered(alloc, &heard);
+            return Ok(heard);
         }
+        ask(self.rt, is_batch_open);
+        let Some(line) = self.peer.hear(alloc, is_batch_open)? else {
+            let _ = eprintln!(self.rt;);
+            return Ok(None);
+        };
+        let aside = typed_in(&line);
+        self.script = answer_typed(self.rt, alloc, &line, aside);
+        let heard = passed_on(alloc, line, aside);
+        self.heard = remembered(alloc, &heard);
         Ok(heard)
     }
 
     fn say(&mut self, reply: &[u8]) -> Result<(), RunFault> {
-        self.peer.say(reply)
+        self.peer.say(reply)?;
+        self.tell_hint(reply);
+        Ok(())
     }
 
     fn flush(&mut self) -> Result<(), RunFault> {

@@ -13,9 +13,9 @@ ghost use Rattle.std.specs.Prelude.{IfOk, IfSome};
 ghost use Rattle.be_journal.specs.Journal.{IsLegal};
 
 use be_script::{
-    Ends, Finding, Journal, Limits, OpenGate, Peer, RefusedLine, RunFault, Task, Terminal, check,
-    dump, dump_state, journal_told, put_result, race, read_files, run, run_and_tell, run_strictly,
-    shell_and_close, task,
+    Breaking, Ends, Finding, Journal, Limits, OpenGate, Peer, RefusedLine, RunFault, Screen, Task,
+    Terminal, check, dump, dump_state, journal_told, put_result, race, read_files, run,
+    run_and_tell, run_strictly, shell_and_close, task,
 };
 use clap::Error;
 use clap::error::ErrorKind;
@@ -281,26 +281,54 @@ fn open_for_journal<R: Files>(rt: &R, file: &str) -> Result<R::File, Unopened> {
 /// How a talk ended, and the journal of its store, where there is one.
 type Talk = (Result<(), RunFault>, Option<Journal>);
 
+/// Which sides of a shell are a terminal.
+#[derive(Clone, Copy)]
+struct Sides {
+    is_typed: bool,
+    is_shown: bool,
+}
+
+/// Greets and talks with a terminal, behind a first peer. Control characters are shown by their codes if replies go to a
+/// terminal too.
+fn talk_at_terminal<R: Runtime + AllocGlobal, F: Peer, I: Read + Drop>(
+    rt: &R,
+    first: &mut F,
+    reader: I,
+    limits: Limits,
+    is_shown: bool,
+) -> Talk
+    ensures { IfSome result.1 (λ journal. IsLegal journal.entries) }
+{
+    let _ = eprintln!(rt;
+        "bestore: a line is answered when it comes; the end of input ends it; help lists the commands"
+    );
+    let ends = Ends::new(Breaking::new(reader), io::writer(rt));
+    if is_shown {
+        let mut peer = Terminal::new(rt, rt.alloc(), Screen::new(ends));
+        shell_and_close(rt.alloc(), first, &mut peer, limits)
+    } else {
+        let mut peer = Terminal::new(rt, rt.alloc(), ends);
+        shell_and_close(rt.alloc(), first, &mut peer, limits)
+    }
+}
+
 /// Talks with standard input, behind a first peer. At a terminal it greets and prompts.
 fn talk<R: Runtime + AllocGlobal, F: Peer>(
     rt: &R,
     first: &mut F,
     limits: Limits,
-    is_terminal: bool,
+    sides: Sides,
 ) -> io::Result<Talk>
     ensures { IfOk result (λ talk. IfSome talk.1 (λ journal. IsLegal journal.entries)) }
 {
     let Ok(reader) = BufReader::new(rt.alloc(), rt.reader()) else {
         return Ok((Err(RunFault::Memory), None));
     };
-    let mut ends = Ends::new(reader, io::writer(rt));
-    if !is_terminal {
-        return Ok(shell_and_close(rt.alloc(), first, &mut ends, limits));
+    if sides.is_typed {
+        return Ok(talk_at_terminal(rt, first, reader, limits, sides.is_shown));
     }
-    eprintln!(rt;
-        "bestore: a line is answered when it comes; the end of input ends it; help lists the commands"
-    )?;
-    Ok(shell_and_close(rt.alloc(), first, &mut Terminal::new(rt, ends), limits))
+    let mut ends = Ends::new(reader, io::writer(rt));
+    Ok(shell_and_close(rt.alloc(), first, &mut ends, limits))
 }
 
 /// The status of a talk that ended so.
@@ -319,7 +347,7 @@ fn talk_for_journal<R: Runtime + AllocGlobal, F: Peer>(
     first: &mut F,
     file: &str,
     limits: Limits,
-    is_terminal: bool,
+    sides: Sides,
 ) -> io::Result<ExitCode> {
     let opened = match open_for_journal(rt, file) {
         Ok(opened) => opened,
@@ -329,7 +357,7 @@ fn talk_for_journal<R: Runtime + AllocGlobal, F: Peer>(
             return Ok(ExitCode::FAILURE);
         }
     };
-    let (talked, journal) = talk(rt, first, limits, is_terminal)?;
+    let (talked, journal) = talk(rt, first, limits, sides)?;
     let Some(journal) = journal else {
         return end_talk(rt, Err(RunFault::Memory));
     };
@@ -346,11 +374,11 @@ fn talk_behind<R: Runtime + AllocGlobal, F: Peer>(
     first: &mut F,
     journal: Option<&str>,
     limits: Limits,
-    is_terminal: bool,
+    sides: Sides,
 ) -> io::Result<ExitCode> {
     match journal {
-        Some(file) => talk_for_journal(rt, first, file, limits, is_terminal),
-        None => end_talk(rt, talk(rt, first, limits, is_terminal)?.0),
+        Some(file) => talk_for_journal(rt, first, file, limits, sides),
+        None => end_talk(rt, talk(rt, first, limits, sides)?.0),
     }
 }
 
@@ -360,11 +388,11 @@ fn open_shell<R: Runtime + AllocGlobal>(
     file: &Option<String>,
     journal: Option<&str>,
     limits: Limits,
-    is_terminal: bool,
+    sides: Sides,
 ) -> io::Result<ExitCode> {
     let Some(file) = file else {
         let mut nothing = Ends::new(b"".as_slice(), io::writer(rt));
-        return talk_behind(rt, &mut nothing, journal, limits, is_terminal);
+        return talk_behind(rt, &mut nothing, journal, limits, sides);
     };
     let Ok(opened) = fs::open(rt, file.as_str()) else {
         return fail_to_read(rt, file.as_str());
@@ -373,7 +401,10 @@ fn open_shell<R: Runtime + AllocGlobal>(
         return fail(rt, reason(RunFault::Memory));
     };
     let mut lines = Ends::new(reader, io::writer(rt));
-    talk_behind(rt, &mut lines, journal, limits, is_terminal)
+    if sides.is_typed && sides.is_shown {
+        return talk_behind(rt, &mut Screen::new(lines), journal, limits, sides);
+    }
+    talk_behind(rt, &mut lines, journal, limits, sides)
 }
 
 /// Reads all of a file.
@@ -492,7 +523,7 @@ fn tell_of_file<R: Runtime + AllocGlobal>(
 fn run_task<R: Runtime + AllocGlobal + Threads + Wait + Sync>(
     rt: &R,
     task: &Task,
-    is_terminal: bool,
+    sides: Sides,
 ) -> io::Result<ExitCode> {
     match task {
         Task::Run(file, limits) => run_file(rt, file.as_str(), *limits, Running::Plainly),
@@ -502,9 +533,9 @@ fn run_task<R: Runtime + AllocGlobal + Threads + Wait + Sync>(
             run_file(rt, file.as_str(), *limits, Running::StrictlyTelling)
         }
         Task::Race(files, limits) => race_files(rt, files.as_slice(), *limits),
-        Task::Shell(file, limits) => open_shell(rt, file, None, *limits, is_terminal),
+        Task::Shell(file, limits) => open_shell(rt, file, None, *limits, sides),
         Task::ShellAndTell(file, journal, limits) => {
-            open_shell(rt, file, Some(journal.as_str()), *limits, is_terminal)
+            open_shell(rt, file, Some(journal.as_str()), *limits, sides)
         }
         Task::Check(file) => tell_of_file(rt, file.as_str(), Telling::Check),
         Task::Dump(file) => tell_of_file(rt, file.as_str(), Telling::Dump),
@@ -523,7 +554,7 @@ fn tell<R: Print + Eprint>(rt: &R, error: &Error) -> io::Result<ExitCode> {
 fn obey<R: Runtime + AllocGlobal + Threads + Wait + Sync>(
     rt: &R,
     given: &[String],
-    is_terminal: bool,
+    sides: Sides,
 ) -> io::Result<ExitCode> {
     let alloc = rt.alloc();
     let mut words = Vec::new(alloc);
@@ -533,7 +564,7 @@ fn obey<R: Runtime + AllocGlobal + Threads + Wait + Sync>(
         }
     }
     match task(alloc, words.as_slice()) {
-        Ok(task) => run_task(rt, &task, is_terminal),
+        Ok(task) => run_task(rt, &task, sides),
         Err(error) if matches!(error.kind(), ErrorKind::OutOfMemory) => fail(rt, "out of memory"),
         Err(error) => tell(rt, &error),
     }
@@ -545,7 +576,13 @@ fn read_words(rt: &HostRuntime) -> io::Result<Vec<String>> {
 
 fn main(rt: HostRuntime) -> io::Result<ExitCode> {
     match read_words(&rt) {
-        Ok(given) => obey(&rt, &given, rt.stdin().is_terminal()),
+        Ok(given) => {
+            let sides = Sides {
+                is_typed: rt.stdin().is_terminal(),
+                is_shown: rt.stdout().is_terminal(),
+            };
+            obey(&rt, &given, sides)
+        }
         Err(error) if matches!(error.kind(), io::ErrorKind::InvalidData) => {
             eprintln!(rt; "bestore: a word of the command line isn't UTF-8")?;
             Ok(ExitCode::from(MISUSED))

@@ -1,0 +1,31 @@
+-- How bytes are shown on a screen: control characters by their codes, all else as it is.
+use Rattle.std.specs.Prelude.{◌≡◌, ℕ, ◌+◌, ◌/◌, ◌%◌, Bool, List, [], ◌∷◌, ◌++◌, nat_eq, nat_lt, nat_le, not, ◌&&◌, ◌||◌, if◌then◌else◌}
+
+-- The characters U+0000 to U+001F but LF, which ends a line of a reply, and U+007F.
+abbrev pub is_control : ℕ → Bool
+is_control c = (nat_lt c 32 && not (nat_eq c 10)) || nat_eq c 127
+
+-- These two bytes are one of the characters U+0080 to U+009F, whose code is the second byte.
+abbrev pub is_wide_control : ℕ → ℕ → Bool
+is_wide_control b c = nat_eq b 194 && (nat_le 128 c && nat_lt c 160)
+
+abbrev pub hex_digit : ℕ → ℕ
+hex_digit n = if nat_lt n 10 then 48 + n else 87 + n
+
+-- a code as `\x` and two digits
+abbrev pub mark : ℕ → List ℕ
+mark c = 92 ∷ 120 ∷ hex_digit (c / 16) ∷ hex_digit (c % 16) ∷ []
+
+-- one byte
+abbrev pub form : ℕ → List ℕ
+form c = if is_control c then mark c else c ∷ []
+
+-- all of a text
+abbrev pub shown : List ℕ → List ℕ
+shown [] = []
+shown (b ∷ []) = form b
+shown (b ∷ c ∷ bytes) = if is_wide_control b c then mark c ++ shown bytes else form b ++ shown (c ∷ bytes)
+
+-- the first byte of these is shown as it is
+abbrev pub KeepsFirst : List ℕ → Type 0
+KeepsFirst bytes = (c : ℕ) (more : List ℕ) → bytes ≡ c ∷ more → shown bytes ≡ c ∷ shown more

@@ -1,0 +1,108 @@
+//! Lines that are for the terminal itself.
+ghost use Rattle.std.specs.Prelude.{◌≡◌, position, take, drop};
+ghost use Rattle.std.specs.List.{list_all};
+ghost use Rattle.be_shell.specs.Aside as spec;
+
+/// The bytes of the longest line that a terminal gives, its LF not counted. It cuts a longer one there.
+pub(crate) const MAX_TYPED: usize = 4095;
+
+/// What a line asks of the terminal itself.
+#[derive(Clone, Copy, Debug, PartialEq, Eq)]
+pub enum Aside {
+    /// It is for the store.
+    Nothing,
+    /// Ctrl-C ended it.
+    Cancelled,
+    /// The terminal may have cut it.
+    Cut,
+    Help,
+    Quit,
+    Read,
+}
+
+pub(crate) fn is_blank(byte: u8) -> bool
+    ensures { result ≡ spec.is_blank byte }
+{
+    byte == b' ' || byte == b'\t' || byte == b'\r'
+}
+
+/// The line without the blanks at its front.
+pub(crate) fn skip(line: &[u8]) -> &[u8]
+    ensures { result.now ≡ spec.skip line.now }
+{
+    let mut rest = line;
+    while let Some((c, behind)) = rest.split_first() {
+        if !is_blank(*c) {
+            return rest;
+        }
+        rest = behind;
+    }
+    rest
+}
+
+fn is_all_blank(line: &[u8]) -> bool
+    ensures { result ≡ list_all spec.is_blank line.now }
+{
+    line.iter().all(|c| is_blank(*c))
+}
+
+/// Where the first blank is.
+fn first_blank(line: &[u8]) -> Option<usize>
+    ensures { result ≡ position spec.is_blank line.now }
+{
+    line.iter().position(|c| is_blank(*c))
+}
+
+/// The line up to its first blank, and what follows.
+pub(crate) fn split_word(line: &[u8]) -> (&[u8], &[u8])
+    ensures word { result.0.now ≡ take (spec.end_of_word line.now) line.now }
+    ensures rest { result.1.now ≡ drop (spec.end_of_word line.now) line.now }
+{
+    match first_blank(line) {
+        Some(end) if end <= line.len() => line.split_at(end),
+        _ => (line, &[]),
+    }
+}
+
+/// What a word asks for, which is the only one of its line or not.
+fn named(word: &[u8], is_alone: bool) -> Aside
+    ensures { result ≡ spec.named word.now is_alone }
+{
+    if word == b"help".as_slice() {
+        Aside::Help
+    } else if word == b"read".as_slice() {
+        Aside::Read
+    } else if (word == b"quit".as_slice() || word == b"exit".as_slice()) && is_alone {
+        Aside::Quit
+    } else {
+        Aside::Nothing
+    }
+}
+
+/// What a line of a file asks of the terminal itself.
+pub(crate) fn aside_of(line: &[u8]) -> Aside
+    ensures { result ≡ spec.aside_of line.now }
+{
+    let (word, rest) = split_word(skip(line));
+    named(word, is_all_blank(rest))
+}
+
+/// Whether Ctrl-C ended the line: its last byte is 3.
+fn is_cancelled(line: &[u8]) -> bool
+    ensures { result ≡ spec.is_cancelled line.now }
+{
+    line.ends_with(b"\x03".as_slice())
+}
+
+/// What a line that was typed asks of the terminal itself.
+pub(crate) fn typed_of(line: &[u8]) -> Aside
+    ensures { result ≡ spec.typed_of line.now }
+{
+    if is_cancelled(line) {
+        Aside::Cancelled
+    } else if line.len() >= MAX_TYPED {
+        Aside::Cut
+    } else {
+        aside_of(line)
+    }
+}

@@ -1,0 +1,89 @@
+//! A peer that shows control characters by their codes.
+ghost use Rattle.std.specs.Prelude.{◌≡◌, ◌<◌, ◌≤◌, ◌++◌, ℕ, List, length, IfOk, IfErr, OnOk, OnErr, false};
+ghost use Rattle.be_serving.specs.Run.{IsFrontOf};
+ghost use Rattle.be_shell.specs.Conversation.{says};
+ghost use Rattle.be_shell.specs.Escape.{shown};
+ghost use Rattle.be_shell.specs.Screen.{SaysAll};
+
+use crate::Line;
+use crate::escapes::{control_at, mark, plain_len};
+use crate::peers::Peer;
+use be_serving::RunFault;
+use std::alloc::Global;
+
+/// Says the front of a text as it is shown, and returns what follows.
+fn say_front<'a, P: Peer>(peer: &mut P, bytes: &'a [u8]) -> Result<&'a [u8], RunFault>
+    requires some { 1 ≤ length bytes.now }
+    ensures said { IfOk result (λ rest. (piece : List ℕ) × P.does peer.old (says piece) peer.new × (shown bytes.now ≡ piece ++ shown rest.now)) }
+    ensures shorter { IfOk result (λ rest. length rest.now < length bytes.now) }
+    ensures cut { OnErr result ((front : List ℕ) × IsFrontOf (shown bytes.now) front × P.does peer.old (says front) peer.new) }
+    ensures fault { IfErr result (λ e. e ≡ RunFault.Write) }
+{
+    if let Some((code, rest)) = control_at(bytes) {
+        peer.say(mark(code).as_slice())?;
+        return Ok(rest);
+    }
+    let (plain, rest) = bytes.split_at(plain_len(bytes));
+    peer.say(plain)?;
+    Ok(rest)
+}
+
+/// Says a text as it is shown.
+fn say_shown<P: Peer>(peer: &mut P, bytes: &[u8]) -> Result<(), RunFault>
+    ensures said { OnOk result (SaysAll P.does peer.old (shown bytes.now) peer.new) }
+    ensures cut { OnErr result ((front : List ℕ) × IsFrontOf (shown bytes.now) front × SaysAll P.does peer.old front peer.new) }
+    ensures fault { IfErr result (λ e. e ≡ RunFault.Write) }
+{
+    let mut rest = bytes;
+    while rest.len() > 0 {
+        match say_front(peer, rest) {
+            Ok(next) => rest = next,
+            Err(fault) => return Err(fault),
+        }
+    }
+    Ok(())
+}
+
+/// A peer to whom replies are said with control characters, but the LF, as `\x1b`, by two hexadecimal digits of their code, so
+/// that a terminal shows them and takes no orders from a value. It needs no memory. After a failed write a front of what is
+/// shown was said.
+#[derive(Drop)]
+pub struct Screen<P> {
+    peer: P,
+    is_torn: bool,
+}
+
+impl<P: Peer> Screen<P> {
+    pub fn new(peer: P) -> Screen<P>
+        ensures { (result.peer ≡ peer) × (result.is_torn ≡ false) }
+    {
+        Screen {
+            peer,
+            is_torn: false,
+        }
+    }
+}
+
+impl<P: Peer> Peer for Screen<P> {
+    ghost use Rattle.be_shell.specs.Screen.{shows};
+
+    ghost does = { λ old event new. shows P.does old.peer old.is_torn event new.peer new.is_torn };
+
+    fn hear(&mut self, alloc: Global, is_batch_open: bool) -> Result<Option<Line>, RunFault> {
+        self.peer.hear(alloc, is_batch_open)
+    }
+
+    fn say(&mut self, reply: &[u8]) -> Result<(), RunFault> {
+        match say_shown(&mut self.peer, reply) {
+            Ok(()) => Ok(()),
+            Err(fault) => {
+                self.is_torn = true;
+                Err(fault)
+            }
+        }
+    }
+
+    fn flush(&mut self) -> Result<(), RunFault> {
+        self.peer.flush()
+    }
+}
