@@ -1,0 +1,37 @@
+//! The manual page has what the command line has.
+
+use std::path::PathBuf;
+use std::process::Command;
+
+fn page() -> PathBuf {
+    PathBuf::from(concat!(env!("CARGO_MANIFEST_DIR"), "/../../docs/bestored.1"))
+}
+
+#[test]
+fn the_page_has_each_option() {
+    let output = Command::new(env!("CARGO_BIN_EXE_bestored"))
+        .arg("--help")
+        .output()
+        .unwrap();
+    let help = String::from_utf8(output.stdout).unwrap();
+    let page = std::fs::read_to_string(page()).unwrap();
+    let lines = help.lines().filter_map(|line| line.trim_start().split_once("--"));
+    let names: Vec<&str> = lines
+        .filter(|(before, _)| before.is_empty() || before.starts_with('-'))
+        .filter_map(|(_, option)| option.split_whitespace().next())
+        .collect();
+    assert!(names.len() > 8 && names.contains(&"keep"), "{names:?}");
+    for name in names {
+        assert!(page.contains(&format!(".It Fl -{name}")), "{name}");
+    }
+}
+
+#[test]
+fn the_page_has_no_fault() {
+    let mut command = Command::new("mandoc");
+    command.args(["-T", "lint", "-W", "warning"]).arg(page());
+    match command.output() {
+        Ok(output) => assert!(output.status.success(), "{}", String::from_utf8_lossy(&output.stdout)),
+        Err(_) => println!("the page of bestored: skipped, there is no mandoc"),
+    }
+}
