@@ -28,7 +28,7 @@ trap 'rm -rf "$work"' EXIT
 
 # What it is that is run, and the arguments of cargo; those after -- go to what cargo runs.
 run() {
-    local what=$1 all=()
+    local what=$1 all=() begin=$SECONDS
     shift
     all+=("$1")
     shift
@@ -43,8 +43,8 @@ run() {
     fi
     local passed
     passed=$(sed -n 's/^test result: ok. \([0-9]*\) passed.*/\1/p' "$work/said" | paste -sd+ | sed 's/^$/0/')
-    echo "$what: ok$([ "$passed" = 0 ] || echo ", $((passed)) tests passed")"
-    grep -h "skipped\|^killed\|^[0-9]* requests" "$work/said" || true
+    echo "$what: ok$([ "$passed" = 0 ] || echo ", $((passed)) tests passed"), in $((SECONDS - begin)) s"
+    grep -h "skipped\|^killed\|^[0-9]* requests\|^[0-9]* runs" "$work/said" || true
 }
 
 # Cargo resolves the dependencies of all features, so without rusqlite it finds no way.

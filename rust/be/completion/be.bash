@@ -61,7 +61,7 @@ _be() {
     *)
         case $command:$cur in
         *:-*) _be_offer < <(_be_options "$command") ;;
-        :*) _be_offer < <(printf '%s\n' query addattr catattr listattr rmattr mkindex lsindex rmindex status) ;;
+        :*) _be_offer < <(printf '%s\n' query addattr catattr listattr rmattr rmnode mkindex lsindex rmindex status) ;;
         query:* | addattr:* | catattr:* | rmattr:* | rmindex:*) _be_offer < <(_be_indices) ;;
         esac
         ;;

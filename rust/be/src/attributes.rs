@@ -1,6 +1,6 @@
-//! `addattr`, `catattr`, `listattr` and `rmattr`.
+//! `addattr`, `catattr`, `listattr`, `rmattr` and `rmnode`.
 
-use crate::command_line::{AddAttribute, ListAttributes, RemoveAttribute, ShowAttribute};
+use crate::command_line::{AddAttribute, ListAttributes, RemoveAttribute, RemoveNode, ShowAttribute};
 use crate::failure::{complain, Failure};
 use crate::kind::{kind_name, size};
 use crate::output::Output;
@@ -124,6 +124,12 @@ fn warn_of_index(client: &mut Client, name: &str, value: &Value) -> Result<(), F
 pub fn remove(client: &mut Client, line: &RemoveAttribute) -> Result<(), Failure> {
     server::apply_each(client, &line.nodes, |batch: &mut Batch, node| {
         batch.unset(node, &line.name);
+    })
+}
+
+pub fn remove_nodes(client: &mut Client, line: &RemoveNode) -> Result<(), Failure> {
+    server::apply_each(client, &line.nodes, |batch: &mut Batch, node| {
+        batch.remove_node(node);
     })
 }
 

@@ -23,6 +23,7 @@ pub enum Command {
     Catattr(ShowAttribute),
     Listattr(ListAttributes),
     Rmattr(RemoveAttribute),
+    Rmnode(RemoveNode),
     Mkindex(MakeIndex),
     Lsindex(ListIndices),
     Rmindex(RemoveIndex),
@@ -121,6 +122,14 @@ pub struct ListAttributes {
 pub struct RemoveAttribute {
     /// The name of the attribute
     pub name: String,
+    /// The nodes
+    #[arg(required = true, value_name = "NODE")]
+    pub nodes: Vec<u64>,
+}
+
+/// Remove nodes with their attributes
+#[derive(Debug, Args)]
+pub struct RemoveNode {
     /// The nodes
     #[arg(required = true, value_name = "NODE")]
     pub nodes: Vec<u64>,

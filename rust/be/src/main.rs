@@ -45,6 +45,7 @@ fn run(
         Command::Catattr(line) => attributes::show(&mut connect()?, &line, output),
         Command::Listattr(line) => attributes::list(&mut connect()?, &line, output),
         Command::Rmattr(line) => attributes::remove(&mut connect()?, &line),
+        Command::Rmnode(line) => attributes::remove_nodes(&mut connect()?, &line),
         Command::Mkindex(line) => indices::make(&mut connect()?, &line),
         Command::Lsindex(line) => indices::list(&mut connect()?, &line, output),
         Command::Rmindex(line) => indices::remove(&mut connect()?, &line),

@@ -1,9 +1,6 @@
 //! A server that sends what is no protocol, and output that can't be written.
 
-#[macro_use]
-mod common;
-
-use common::{Said, Server, BE};
+use crate::common::{Said, Server, BE};
 use std::fs::OpenOptions;
 use std::io::{Read, Write};
 use std::net::Shutdown;

@@ -1,13 +1,11 @@
 //! The manual page and the completion have what the command line has.
 
-mod common;
-
-use common::{Said, BE};
+use crate::common::{Said, BE};
 use std::path::PathBuf;
 use std::process::Command;
 
-const COMMANDS: [&str; 9] = [
-    "query", "addattr", "catattr", "listattr", "rmattr", "mkindex", "lsindex", "rmindex", "status",
+const COMMANDS: [&str; 10] = [
+    "query", "addattr", "catattr", "listattr", "rmattr", "rmnode", "mkindex", "lsindex", "rmindex", "status",
 ];
 
 fn page() -> PathBuf {

@@ -1,9 +1,6 @@
 //! Queries: once, counted, watched, refused, and on a terminal.
 
-#[macro_use]
-mod common;
-
-use common::{Said, Server};
+use crate::common::{Said, Server};
 use std::io::{BufRead, BufReader};
 use std::path::Path;
 use std::process::{Command, Stdio};
@@ -203,7 +200,7 @@ fn a_reader_that_has_gone_is_no_error() {
 /// What the tool prints on a terminal.
 fn on_terminal(server: &Server, words: &str) -> Option<String> {
     let mut command = Command::new("script");
-    command.args(["-qec", &format!("{} {words}", common::BE), "/dev/null"]);
+    command.args(["-qec", &format!("{} {words}", crate::common::BE), "/dev/null"]);
     command.env("BESTORE_SOCKET", server.socket()).stdin(Stdio::null());
     match command.output() {
         Ok(output) => Some(String::from_utf8(output.stdout).unwrap().replace("\r\n", "\n")),
@@ -269,7 +266,7 @@ fn words_are_completed() {
         env!("CARGO_MANIFEST_DIR")
     );
     let mut command = Command::new("bash");
-    let folder = Path::new(common::BE).parent().unwrap();
+    let folder = Path::new(crate::common::BE).parent().unwrap();
     let path = format!("{}:{}", folder.display(), std::env::var("PATH").unwrap());
     command
         .args(["-c", &script])

@@ -1,9 +1,6 @@
 //! Each command over a server of its own.
 
-#[macro_use]
-mod common;
-
-use common::{Said, Server, BE};
+use crate::common::{Said, Server, BE};
 use std::collections::BTreeSet;
 use std::os::unix::ffi::OsStrExt;
 use std::process::{Command, Stdio};
@@ -146,6 +143,34 @@ fn an_error_at_one_node_does_not_keep_the_others() {
 }
 
 #[test]
+fn nodes_are_removed_with_their_attributes() {
+    let server = server!(Server::with_three());
+    server.done(&["rmnode", "1"]);
+    assert_eq!(server.done(&["query", "name==*"]), "2\n3\n");
+    refused(&server, &["listattr", "1"], "be: node 1: no such node\n");
+    // One that is gone, or given twice, doesn't keep the others.
+    refused(
+        &server,
+        &["rmnode", "2", "1", "2"],
+        "be: node 1: no such node\nbe: node 2: no such node\n",
+    );
+    assert_eq!(server.done(&["query", "name==*"]), "3\n");
+    // Numbers are not used again.
+    assert_eq!(server.done(&["addattr", "--new", "name", "d"]), "4\n");
+}
+
+#[test]
+fn many_nodes_are_removed() {
+    let server = server!(Server::start());
+    server.done(&["mkindex", "mark"]);
+    server.make(150, "mark", "x");
+    let found = server.done(&["query", "mark==x"]);
+    let nodes: Vec<&str> = found.lines().collect();
+    server.done(&[&["rmnode"], &nodes[..]].concat());
+    assert_eq!(server.done(&["query", "--count", "mark==*"]), "0\n");
+}
+
+#[test]
 fn many_nodes_are_written() {
     let server = server!(Server::start());
     server.done(&["mkindex", "mark"]);
@@ -267,6 +292,8 @@ fn exit_statuses_are_those_of_the_page() {
         &["catattr", "name"],
         &["catattr", "name", "-1"],
         &["rmindex", "a", "b"],
+        &["rmnode"],
+        &["rmnode", "node"],
         &["status", "--table"],
     ] {
         let said = none(words);

@@ -56,6 +56,16 @@ fn bad(error: impl std::fmt::Display) -> Error {
     Error::BadLine(error.to_string())
 }
 
+/// Reads a line that is no reply to a request: a push, or why the server closes the connection.
+fn pushed(line: &[u8]) -> Result<Push> {
+    let read: Line<'_> = serde_json::from_slice(line).map_err(bad)?;
+    match (read.watch, read.id, read.error) {
+        (None, None, Some(refusal)) => Err(Error::Refused(refusal)),
+        (Some(_), ..) => serde_json::from_slice(line).map_err(bad),
+        _ => Err(bad("the reply is of no request")),
+    }
+}
+
 impl Client {
     /// Connects to the server at this socket.
     ///
@@ -91,7 +101,7 @@ impl Client {
         line.push(b'\n');
         match self.stream.write_all(&line) {
             // The server may have said why it closed the connection.
-            Err(error) if error.kind() == ErrorKind::BrokenPipe => Ok(self.last),
+            Err(error) if matches!(error.kind(), ErrorKind::BrokenPipe | ErrorKind::ConnectionReset) => Ok(self.last),
             answer => Ok(answer.map(|()| self.last)?),
         }
     }
@@ -174,7 +184,7 @@ impl Client {
     /// The next line that was pushed for a live query, if one comes within the time.
     ///
     /// # Errors
-    /// [`Error::Io`], [`Error::Closed`], [`Error::BadLine`].
+    /// [`Error::Refused`]: the server says why it closes the connection. [`Error::Io`], [`Error::Closed`], [`Error::BadLine`].
     pub fn next_push(&mut self, within: Duration) -> Result<Option<Push>> {
         if let Some(push) = self.pushes.pop_front() {
             return Ok(Some(push));
@@ -183,7 +193,7 @@ impl Client {
             Some(end) => end,
             None => return Ok(None),
         };
-        let push = serde_json::from_slice(&self.received[..end]).map_err(bad);
+        let push = pushed(&self.received[..end]);
         self.received.drain(..end);
         push.map(Some)
     }
@@ -339,5 +349,52 @@ impl Client {
     /// As `call`.
     pub fn journal_from(&mut self, from: u64) -> Result<wire::Journal> {
         self.call(Command::Journal(wire::JournalFrom { from, limit: None }))
+    }
+}
+
+#[cfg(test)]
+mod tests {
+    use super::*;
+
+    /// A client, whose server sends these lines.
+    fn client_of(lines: &str) -> (UnixStream, Client) {
+        let (stream, mut server) = UnixStream::pair().unwrap();
+        server.write_all(lines.as_bytes()).unwrap();
+        let client = Client {
+            stream,
+            last: 0,
+            received: Vec::new(),
+            searched: 0,
+            pushes: VecDeque::new(),
+        };
+        (server, client)
+    }
+
+    #[test]
+    fn why_the_server_closes_is_no_push() {
+        let ending = "{\"id\":null,\"error\":{\"name\":\"Timeout\",\"message\":\"\"}}\n";
+        let (server, mut client) = client_of(&format!("{{\"watch\":1,\"commit\":2}}\n{ending}"));
+        let push = client.next_push(Duration::from_secs(9)).unwrap().unwrap();
+        assert_eq!((push.watch, push.commit), (1, 2));
+        assert!(client.next_push(Duration::from_secs(9)).unwrap_err().is("Timeout"));
+        drop(server);
+        assert!(matches!(client.next_push(Duration::from_secs(9)), Err(Error::Closed)));
+    }
+
+    #[test]
+    fn a_reply_is_no_push() {
+        let (_server, mut client) = client_of("{\"id\":1,\"ok\":{}}\n");
+        assert!(matches!(
+            client.next_push(Duration::from_secs(9)),
+            Err(Error::BadLine(_))
+        ));
+    }
+
+    #[test]
+    fn a_watch_that_ends_is_a_push() {
+        let line = "{\"watch\":1,\"commit\":2,\"error\":{\"name\":\"NotCovered\",\"message\":\"\"}}\n";
+        let (_server, mut client) = client_of(line);
+        let push = client.next_push(Duration::from_secs(9)).unwrap().unwrap();
+        assert_eq!(push.error.unwrap().name, "NotCovered");
     }
 }

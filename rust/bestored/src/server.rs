@@ -108,20 +108,31 @@ fn accept(listener: &UnixListener, signals: &File, shared: &Arc<Shared>) {
     let waited_for = [listener.as_raw_fd(), signals.as_raw_fd()];
     loop {
         match os::wait_readable(waited_for, None) {
-            Ok([_, true]) => return,
+            Ok([_, true]) => break,
             Ok([true, _]) => {}
             Ok(_) => continue,
             Err(error) => eprintln!("bestored: waiting for clients: {error}"),
         }
-        match listener.accept() {
-            Ok((stream, _)) => welcome(shared, Arc::new(stream)),
-            Err(error) if matches!(error.kind(), ErrorKind::WouldBlock | ErrorKind::Interrupted) => {}
-            Err(error) => {
-                eprintln!("bestored: a client could not connect: {error}");
-                thread::sleep(Duration::from_millis(100));
-            }
+        take_client(listener, shared);
+    }
+    // Those who have connected before the signal are answered too.
+    let most = shared.options.passes as usize + WAITING;
+    (0..most).take_while(|_| take_client(listener, shared)).count();
+}
+
+/// Takes a client who has connected. Returns whether there was one.
+fn take_client(listener: &UnixListener, shared: &Arc<Shared>) -> bool {
+    match listener.accept() {
+        Ok((stream, _)) => welcome(shared, Arc::new(stream)),
+        Err(error) if error.kind() == ErrorKind::Interrupted => {}
+        Err(error) if error.kind() == ErrorKind::WouldBlock => return false,
+        Err(error) => {
+            eprintln!("bestored: a client could not connect: {error}");
+            thread::sleep(Duration::from_millis(100));
+            return false;
         }
     }
+    true
 }
 
 /// Starts the thread of a client, or refuses the client.

@@ -1,16 +1,22 @@
 //! Many clients at once, of which half do what they shouldn't.
 
-mod common;
-
+use crate::common::{Folder, Server, Talk};
 use bestore::{Batch, Kind};
-use common::{Folder, Server};
-use std::io::Write;
+use std::io::{self, Write};
 use std::os::unix::net::UnixStream;
-use std::sync::atomic::{AtomicBool, AtomicU64, Ordering};
+use std::sync::atomic::{AtomicBool, AtomicU64, Ordering::Relaxed};
 use std::thread;
 use std::time::{Duration, Instant};
 
-const CLIENTS: u64 = 32;
+/// Clients that do all right.
+const GOOD: u64 = 16;
+
+/// Clients that don't, beside one that does nothing and one that takes what passes there are.
+const BAD: u64 = 14;
+
+/// Passes of the server. There are more connections than these now and then.
+const PASSES: usize = 36;
+
 const TIME: Duration = Duration::from_secs(5);
 
 /// The most memory that the server may have had, in KiB. The store alone has 16 MiB.
@@ -48,73 +54,115 @@ fn good(server: &Server, number: u64, until: Instant) -> u64 {
 
 /// A client that does what it shouldn't, again and again.
 fn bad(server: &Server, number: u64, is_over: &AtomicBool) {
-    let long = vec![b'a'; 1 << 20];
-    while !is_over.load(Ordering::Relaxed) {
+    while !is_over.load(Relaxed) {
         let mut stream = match UnixStream::connect(server.socket()) {
             Ok(stream) => stream,
             Err(_) => continue,
         };
         stream.set_write_timeout(Some(TIME / 4)).unwrap();
-        // The server may close the connection at any of these, and what it says isn't looked at.
-        let _ = match number % 8 {
-            // Dies after half a line.
-            0 => stream.write_all(b"{\"id\":1,\"batch\":{\"oper"),
-            // Hangs after half a line.
-            1 => stream.write_all(b"{\"id\":1,\"ge").map(|()| rest(is_over)),
-            // Sends a line of 100 MB.
-            2 => (0..100).try_for_each(|_| stream.write_all(&long)),
-            // Sends binary.
-            3 => (0..1000_u32).try_for_each(|at| stream.write_all(&at.wrapping_mul(0x9e37_79b9).to_le_bytes())),
-            // Sends JSON that is no request, and reads no reply.
-            4 => (0..20_000).try_for_each(|at| stream.write_all(format!("{{\"id\":{at},\"set\":[]}}\n").as_bytes())),
-            // Asks for much, and reads nothing.
-            5 => {
-                let asking = (0..20_000).try_for_each(|_| stream.write_all(b"{\"id\":1,\"journal\":{}}\n"));
-                asking.map(|()| rest(is_over))
-            }
-            // Keeps a snapshot and a live query, and hangs.
-            6 => stream
-                .write_all(b"{\"id\":1,\"pin\":{}}\n{\"id\":2,\"watch\":{\"query\":\"client8>=0\"}}\n")
-                .map(|()| rest(is_over)),
-            // Comes and goes.
-            _ => Ok(()),
-        };
+        // The server may close the connection at any moment, and what it says isn't looked at.
+        let _ = misbehave(&mut stream, number, is_over);
     }
 }
 
-fn rest(is_over: &AtomicBool) {
-    let until = Instant::now() + TIME / 4;
-    while !is_over.load(Ordering::Relaxed) && Instant::now() < until {
+fn misbehave(stream: &mut UnixStream, number: u64, is_over: &AtomicBool) -> io::Result<()> {
+    match number % 10 {
+        // Dies within a line.
+        0 => return stream.write_all(b"{\"id\":1,\"batch\":{\"oper"),
+        // Hangs within a line.
+        1 => stream.write_all(b"{\"id\":1,\"ge")?,
+        // Sends a line of 100 MB.
+        2 => return (0..100).try_for_each(|_| stream.write_all(&[b'a'; 1 << 20])),
+        // Sends binary.
+        3 => return (0..1000_u32).try_for_each(|at| stream.write_all(&at.wrapping_mul(0x9e37_79b9).to_le_bytes())),
+        // Sends JSON that is no request, and reads no reply.
+        4 => return send(stream, 20_000, |at| format!("{{\"id\":{at},\"set\":[]}}\n")),
+        // Sends 10,000 requests, of which each has a long reply, and reads none.
+        5 => send(stream, 10_000, |at| format!("{{\"id\":{at},\"journal\":{{}}}}\n"))?,
+        // Sends 10,000 writes, and reads no reply.
+        6 => send(stream, 10_000, |at| {
+            format!("{{\"id\":{at},\"batch\":{{\"operations\":[[\"set\",1,\"a\",{at}]]}}}}\n")
+        })?,
+        // Begins as many live queries as there may be, and one more, and reads nothing.
+        7 => send(stream, 33, |at| {
+            format!("{{\"id\":{at},\"watch\":{{\"query\":\"client{}>=0\"}}}}\n", at % GOOD)
+        })?,
+        // Keeps a snapshot and a live query, and hangs.
+        8 => stream.write_all(b"{\"id\":1,\"pin\":{}}\n{\"id\":2,\"watch\":{\"query\":\"client8>=0\"}}\n")?,
+        // Comes and goes.
+        _ => return Ok(()),
+    }
+    rest(TIME / 4, is_over);
+    Ok(())
+}
+
+fn send(stream: &mut UnixStream, count: u64, line: impl Fn(u64) -> String) -> io::Result<()> {
+    (0..count).try_for_each(|at| stream.write_all(line(at).as_bytes()))
+}
+
+fn rest(time: Duration, is_over: &AtomicBool) {
+    let until = Instant::now() + time;
+    while !is_over.load(Relaxed) && Instant::now() < until {
         thread::sleep(Duration::from_millis(10));
     }
+}
+
+/// A client that does nothing all the time, and is answered at the end.
+fn idle(server: &Server, is_over: &AtomicBool) {
+    let mut client = server.patient_client();
+    rest(TIME * 100, is_over);
+    client.hello().unwrap();
+}
+
+/// Takes all passes that are left, and more, again and again. Each connection gets its answer, or `NoPass`. Returns how many got
+/// that.
+fn surplus(server: &Server, is_over: &AtomicBool) -> u64 {
+    let mut refused = 0;
+    while !is_over.load(Relaxed) {
+        let mut talks: Vec<Talk> = (0..PASSES).map(|_| server.talk()).collect();
+        for talk in &mut talks {
+            // It fails if the server has closed the connection, and then it has said why.
+            let _ = talk.stream.write_all(b"{\"id\":1,\"next\":{}}\n");
+            let line = talk.line();
+            let is_answered = line.starts_with("{\"id\":1,\"ok\":{\"commit\":");
+            let is_refused = line.starts_with("{\"id\":null,\"error\":{\"name\":\"NoPass\",\"number\":68,");
+            assert!(is_answered || is_refused, "{line}");
+            refused += u64::from(is_refused);
+        }
+        drop(talks);
+        rest(TIME / 10, is_over);
+    }
+    refused
 }
 
 #[test]
 fn bad_clients_disturb_nobody() {
     let folder = Folder::new();
-    let server = &Server::start(&folder, &["--hold", "1"]);
+    let server = &Server::start(&folder, &["--hold", "1", "--passes", &PASSES.to_string()]);
     let until = Instant::now() + TIME;
-    let (is_over, requests) = (&AtomicBool::new(false), &AtomicU64::new(0));
+    let (is_over, requests, refused) = (&AtomicBool::new(false), &AtomicU64::new(0), &AtomicU64::new(0));
     thread::scope(|scope| {
-        let good: Vec<_> = (0..CLIENTS / 2)
-            .map(|number| {
-                scope.spawn(move || {
-                    let made = good(server, number, until);
-                    requests.fetch_add(made, Ordering::Relaxed);
-                })
-            })
+        let good: Vec<_> = (0..GOOD)
+            .map(|number| scope.spawn(move || requests.fetch_add(good(server, number, until), Relaxed)))
             .collect();
-        for number in 0..CLIENTS / 2 {
+        for number in 0..BAD {
             scope.spawn(move || bad(server, number, is_over));
         }
+        scope.spawn(move || idle(server, is_over));
+        scope.spawn(move || refused.fetch_add(surplus(server, is_over), Relaxed));
         let answers: Vec<_> = good.into_iter().map(|client| client.join()).collect();
-        is_over.store(true, Ordering::Relaxed);
+        is_over.store(true, Relaxed);
         assert!(answers.iter().all(|answer| answer.is_ok()));
     });
+    let (requests, refused) = (requests.load(Relaxed), refused.load(Relaxed));
     let memory = server.most_memory();
-    println!("{} requests, {} MiB", requests.load(Ordering::Relaxed), memory >> 10);
+    println!(
+        "{requests} requests, {refused} clients without a pass, {} MiB",
+        memory >> 10
+    );
     assert!(memory < MEMORY, "{memory} KiB");
-    common::wait_until("the clients are gone", || {
+    assert!(refused > 0);
+    crate::common::wait_until("the clients are gone", || {
         let status = server.client().status();
         status.map_or(false, |status| status.clients == 1)
     });

@@ -1,114 +1,175 @@
-//! The server is killed at any moment, while clients write to a store that is kept.
+//! Servers are killed at any moment, while clients write to stores that are kept.
 
-mod common;
-
-use bestore::{Batch, Value};
-use bestore_client::{Client, Result};
-use common::{Folder, Server};
-use std::sync::atomic::{AtomicU64, Ordering};
+use crate::common::writers::{check_history, Writers};
+use crate::common::{Folder, Server};
+use std::sync::atomic::{AtomicU64, Ordering::Relaxed};
 use std::thread;
 use std::time::{Duration, Instant, SystemTime};
 
-const WRITERS: usize = 8;
-
-/// How long the test may take. `BESTORED_KILLS` says how often the server is killed within that time.
+/// How long servers are killed. `BESTORED_KILLS` says how often within that time.
 const TIME: Duration = Duration::from_secs(40);
 const KILLS: u64 = 300;
 
-/// What a writer knows of its writes: how many were answered and how many were sent.
-#[derive(Debug, Default)]
-struct Known {
-    answered: AtomicU64,
-    sent: AtomicU64,
-    last_made: AtomicU64,
+/// How many servers there are at the same time, each with its own file and clients. A round is mostly waiting.
+const SERVERS: u64 = 12;
+
+/// One kill of so many is while the server starts. The others are after it has answered a write.
+const STARTING: u64 = 8;
+
+/// One server of so many has its history repeated. Each compares the entries of the file when it starts.
+const REPEATED: u64 = 4;
+
+/// How many µs a server lives at most, after its start or after the first write.
+const LIFE: u64 = 15_000;
+
+/// Kills that are still to be made, and those that were.
+#[derive(Debug)]
+struct Tally {
+    begin: Instant,
+    left: AtomicU64,
+    killed: AtomicU64,
+    writing: AtomicU64,
+    writes: AtomicU64,
 }
 
-/// Writes until the server is gone. Each write makes a node, removes the one before, and counts in the writer's own node.
-fn write(server: &Server, writer: usize, known: &Known) -> Result<()> {
-    let mut client = Client::connect(server.socket())?;
-    let own = writer as u64 + 1;
-    let mut count = known.answered.load(Ordering::Relaxed);
-    let mut before = None;
-    loop {
-        count += 1;
-        known.sent.store(count, Ordering::Relaxed);
-        let mut batch = Batch::new();
-        batch.new_node().set(own, "count", count);
-        if let Some(node) = before {
-            batch.remove_node(node);
-        }
-        let written = client.apply(&batch)?;
-        before = written.nodes.first().copied();
-        known.answered.store(count, Ordering::Relaxed);
-        known.last_made.store(written.nodes[0], Ordering::Relaxed);
+impl Tally {
+    fn takes_another(&self) -> bool {
+        let take = |left: u64| left.checked_sub(1);
+        self.begin.elapsed() < TIME && self.left.fetch_update(Relaxed, Relaxed, take).is_ok()
     }
 }
 
-/// Compares what is there with what was answered. Returns how many writes there are.
-fn check(server: &Server, known: &[Known]) -> u64 {
-    let mut client = server.client();
-    let next = client.pin().unwrap().next;
-    let mut all = 0;
-    for (writer, known) in known.iter().enumerate() {
-        let found = client.get(writer as u64 + 1, "count").unwrap();
-        let found = found.as_ref().and_then(Value::as_u64).unwrap();
-        let (answered, sent) = (
-            known.answered.load(Ordering::Relaxed),
-            known.sent.load(Ordering::Relaxed),
-        );
-        assert!(answered <= found && found <= sent, "{answered} <= {found} <= {sent}");
-        known.answered.store(found, Ordering::Relaxed);
-        // What the last answered write made is there, unless one came after it that wasn't answered.
-        if found > answered {
-            known.last_made.store(0, Ordering::Relaxed);
-        }
-        let last = known.last_made.load(Ordering::Relaxed);
-        assert!(last == 0 || client.attributes(last).unwrap().is_empty());
-        all += found;
+/// Numbers that differ from run to run.
+struct Random(u64);
+
+impl Random {
+    fn new(number: u64) -> Self {
+        let now = SystemTime::UNIX_EPOCH.elapsed().unwrap();
+        Self((now.as_nanos() as u64).wrapping_mul(2 * number + 1))
     }
-    // Each write made one node: none is missing, and none was made twice.
-    assert_eq!(next, WRITERS as u64 + 1 + all);
-    all
+
+    fn below(&mut self, bound: u64) -> u64 {
+        self.0 = self
+            .0
+            .wrapping_mul(6_364_136_223_846_793_005)
+            .wrapping_add(1_442_695_040_888_963_407);
+        (self.0 >> 33) % bound
+    }
+
+    /// Up to `LIFE`, and more often short.
+    fn life(&mut self) -> Duration {
+        let most = self.below(LIFE) + 1;
+        Duration::from_micros(self.below(most))
+    }
+}
+
+/// A file, and the clients that write to its servers.
+struct Kept {
+    folder: Folder,
+    writers: Writers,
+    random: Random,
+}
+
+impl Kept {
+    fn new(number: u64) -> Self {
+        let kept = Self {
+            folder: Folder::in_memory(),
+            writers: Writers::default(),
+            random: Random::new(number),
+        };
+        kept.writers.begin(&mut kept.start().client(), 0);
+        kept
+    }
+
+    fn start_only(&self) -> Server {
+        let keep = self.folder.join("file");
+        let options = ["--pages", "256", "--passes", "16", "--keep", keep.to_str().unwrap()];
+        Server::start_only(&self.folder, &options)
+    }
+
+    /// Starts a server, which compares each entry of the file, and checks what it has.
+    fn start(&self) -> Server {
+        let server = self.start_only();
+        assert!(server.answers());
+        server
+    }
+
+    fn start_checked(&self) -> Server {
+        let server = self.start();
+        let mut client = server.client();
+        self.writers.go_on(&mut client);
+        check_history(&mut client);
+        server
+    }
+
+    /// Starts a server and kills it. Returns whether clients were writing.
+    fn kill(&mut self) -> bool {
+        let life = self.random.life();
+        if self.random.below(STARTING) == 0 {
+            let server = self.start_only();
+            thread::sleep(life);
+            server.kill();
+            return false;
+        }
+        let server = self.start();
+        let mut client = server.client();
+        self.writers.go_on(&mut client);
+        if self.random.below(REPEATED) == 0 {
+            check_history(&mut client);
+        }
+        let mut is_writing = false;
+        self.writers.write(server.socket(), || {
+            self.writers.wait_for(1);
+            thread::sleep(life);
+            is_writing = self.writers.are_writing();
+            server.kill();
+        });
+        is_writing
+    }
+
+    /// Checks the last server also while clients write, and the file after its regular end.
+    fn end(&self) {
+        let server = self.start_checked();
+        self.writers.write(server.socket(), || {
+            self.writers.wait_for(8);
+            check_history(&mut server.client());
+            assert!(server.end_by("TERM").success());
+        });
+        self.start_checked();
+    }
+}
+
+fn kill_servers(number: u64, tally: &Tally) {
+    let mut kept = Kept::new(number);
+    while tally.takes_another() {
+        let was_writing = kept.kill();
+        tally.killed.fetch_add(1, Relaxed);
+        tally.writing.fetch_add(was_writing.into(), Relaxed);
+    }
+    kept.end();
+    tally.writes.fetch_add(kept.writers.answered(), Relaxed);
 }
 
 #[test]
 fn no_answered_write_is_lost_and_none_is_made_twice() {
-    let kills = std::env::var("BESTORED_KILLS")
-        .ok()
-        .and_then(|text| text.parse().ok())
-        .unwrap_or(KILLS);
-    let folder = Folder::in_memory();
-    let keep = folder.join("file");
-    let options = ["--keep", keep.to_str().unwrap(), "--pages", "1024"];
-    let known: [Known; WRITERS] = Default::default();
-    {
-        let server = Server::start(&folder, &options);
-        let mut batch = Batch::new();
-        for own in 1..=WRITERS as u64 {
-            batch.new_node().set(own, "count", 0_u64);
+    let kills = std::env::var("BESTORED_KILLS").ok().and_then(|text| text.parse().ok());
+    let kills = kills.unwrap_or(KILLS);
+    let tally = &Tally {
+        begin: Instant::now(),
+        left: kills.into(),
+        killed: 0.into(),
+        writing: 0.into(),
+        writes: 0.into(),
+    };
+    thread::scope(|scope| {
+        for number in 0..SERVERS {
+            scope.spawn(move || kill_servers(number, tally));
         }
-        server.client().apply(&batch).unwrap();
-    }
-    let mut random = SystemTime::UNIX_EPOCH.elapsed().unwrap().subsec_nanos() as u64 | 1;
-    let until = Instant::now() + TIME;
-    let (mut killed, mut writes) = (0, 0);
-    while killed < kills && Instant::now() < until {
-        let mut server = Server::start(&folder, &options);
-        writes = check(&server, &known);
-        random = random.wrapping_mul(6_364_136_223_846_793_005).wrapping_add(1);
-        let life = Duration::from_micros((random >> 33) % 50_000);
-        thread::scope(|scope| {
-            let running = &server;
-            for (writer, known) in known.iter().enumerate() {
-                scope.spawn(move || write(running, writer, known).unwrap_err());
-            }
-            thread::sleep(life);
-            running.kill_only();
-        });
-        server.kill();
-        killed += 1;
-    }
-    writes = check(&Server::start(&folder, &options), &known).max(writes);
-    println!("killed {killed} times, {writes} writes");
-    assert!(writes > killed);
+    });
+    let [killed, writing, writes] = [&tally.killed, &tally.writing, &tally.writes].map(|count| count.load(Relaxed));
+    let seconds = tally.begin.elapsed().as_secs();
+    println!(
+        "killed {killed} of {kills} times in {seconds} s, {writing} times while clients were writing; {writes} writes"
+    );
+    assert!(writing * 2 >= killed && writes > killed);
 }

@@ -1,11 +1,9 @@
 //! Live queries.
 
-mod common;
-
+use crate::common::{wait_until, Folder, Server, Talk, PATIENCE};
 use bestore::{Batch, Kind};
 use bestore_client::wire::{self, Push};
 use bestore_client::Client;
-use common::{wait_until, Folder, Server, Talk, PATIENCE};
 use std::collections::BTreeSet;
 use std::time::Duration;
 
@@ -220,7 +218,7 @@ fn what_is_pushed_is_in_the_file() {
     let keep = folder.join("file");
     let options = ["--keep", keep.to_str().unwrap()];
     for _ in 0..10 {
-        let mut server = Server::start(&folder, &options);
+        let server = Server::start(&folder, &options);
         let (mut watching, mut writing) = (server.client(), server.client());
         let nodes = writing.pin().unwrap().next - 1;
         let before = watching.watch(None).unwrap().commit;

@@ -1,11 +1,9 @@
 //! What doesn't fit in one line comes in pages.
 
-mod common;
-
+use crate::common::{Folder, Server, PATIENCE};
 use bestore::{Batch, Kind};
 use bestore_client::wire::{Command, From, Journal, JournalFrom, Nodes, NodesFrom, State};
 use bestore_client::{Client, Query};
-use common::{Folder, Server, PATIENCE};
 
 /// More than the nodes of one line.
 const NODES: u64 = 60_000;

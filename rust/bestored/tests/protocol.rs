@@ -1,8 +1,6 @@
 //! Each command, and each way to ask for what can't be.
 
-mod common;
-
-use common::{Folder, Server, Talk};
+use crate::common::{wait_until, Folder, Server, Talk};
 
 fn start(options: &[&str]) -> (Folder, Server) {
     let folder = Folder::new();
@@ -307,9 +305,10 @@ fn a_snapshot_that_is_kept_too_long_is_taken_back() {
     let mut talk = server.talk();
     three(&mut talk);
     talk.check(r#""pin":{}"#, r#""ok":{"commit":1,"next":4}"#);
-    std::thread::sleep(std::time::Duration::from_millis(1200));
-    let status = server.talk().ask(r#"{"id":1,"status":{}}"#);
-    assert!(status.contains(r#""oldest":null"#), "{status}");
+    wait_until("the snapshot is taken back", || {
+        let status = server.talk().ask(r#"{"id":1,"status":{}}"#);
+        status.contains(r#""oldest":null"#)
+    });
     let said = talk.ask(r#"{"id":1,"nodes":{}}"#);
     assert!(said.starts_with(r#"{"id":1,"error":{"name":"Expired","#), "{said}");
     let said = talk.ask(r#"{"id":1,"state":{}}"#);

@@ -1,15 +1,17 @@
 //! The socket, who may connect, and how the server ends.
 
-mod common;
-
+use crate::common::{command, wait_until, Folder, Server, Talk, PATIENCE};
 use bestore::Batch;
-use common::{command, wait_until, Folder, Server, Talk, PATIENCE};
 use std::fs::{self, Permissions};
 use std::io::Read;
 use std::os::unix::fs::PermissionsExt;
 use std::os::unix::net::{UnixListener, UnixStream};
 use std::process::{Command, Output, Stdio};
-use std::time::Duration;
+use std::time::{Duration, Instant};
+
+/// For how long the server answers at its end, and how many requests have arrived by then.
+const LAST: Duration = Duration::from_secs(5);
+const SENT: u64 = 200;
 
 /// Runs the server to its end, which has to come by itself.
 fn said(mut command: Command) -> Output {
@@ -67,7 +69,7 @@ fn the_socket_is_of_the_user_alone_and_goes_with_the_server() {
 #[test]
 fn a_dead_server_is_replaced_and_a_living_one_isnt() {
     let folder = Folder::new();
-    let mut dead = Server::start(&folder, &[]);
+    let dead = Server::start(&folder, &[]);
     refused(command(dead.socket(), &[]), "a server is listening there");
     dead.kill();
     assert!(folder.join("socket").exists());
@@ -219,16 +221,21 @@ fn what_was_sent_before_the_end_is_answered() {
     let options = ["--keep", keep.to_str().unwrap()];
     let server = Server::start(&folder, &options);
     let mut talk = server.talk();
-    for id in 0..500 {
+    for id in 0..SENT {
         talk.send(format!("{{\"id\":{id},\"batch\":{{\"operations\":[[\"new\"]]}}}}\n").as_bytes());
     }
+    let begin = Instant::now();
     assert!(server.end_by("TERM").success());
-    let mut replies = String::new();
+    let is_in_time = begin.elapsed() < LAST;
+    let mut replies = Vec::new();
     talk.stream.set_read_timeout(Some(PATIENCE)).unwrap();
-    talk.stream.read_to_string(&mut replies).unwrap();
-    assert_eq!(replies.lines().count(), 500, "{replies}");
+    // It is an error if requests were left, and the replies before it are read.
+    let _ = talk.stream.read_to_end(&mut replies);
+    let answered = replies.iter().filter(|byte| **byte == b'\n').count() as u64;
+    assert!(answered == SENT || !is_in_time, "{answered}");
     let server = Server::start(&folder, &options);
-    assert_eq!(server.client().pin().unwrap().next, 501);
+    let made = server.client().pin().unwrap().next - 1;
+    assert!(answered <= made && made <= SENT, "{answered} {made}");
 }
 
 #[test]
@@ -236,7 +243,7 @@ fn a_kept_store_is_written_every_so_often_or_by_flush() {
     let folder = Folder::new();
     let keep = folder.join("file");
     let options = ["--keep", keep.to_str().unwrap(), "--every", "3600000"];
-    let mut server = Server::start(&folder, &options);
+    let server = Server::start(&folder, &options);
     let mut talk = server.talk();
     talk.check(
         r#""batch":{"operations":[["new"]]}"#,

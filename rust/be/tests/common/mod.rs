@@ -75,6 +75,7 @@ impl Server {
         let child = Command::new(program)
             .arg("--socket")
             .arg(folder.join("socket"))
+            .args(["--pages", "1024"])
             .spawn()
             .unwrap();
         let server = Self { child, folder };

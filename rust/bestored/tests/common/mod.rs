@@ -1,6 +1,9 @@
 //! A server of a test, in a folder of its own. Not every test uses all of it.
 #![allow(dead_code)]
 
+pub mod disk;
+pub mod writers;
+
 use bestore_client::Client;
 use std::fs::{self, DirBuilder};
 use std::io::{BufRead, BufReader, Write};
@@ -9,11 +12,12 @@ use std::os::unix::net::UnixStream;
 use std::path::{Path, PathBuf};
 use std::process::{Child, Command, ExitStatus, Stdio};
 use std::sync::atomic::{AtomicU32, Ordering};
+use std::sync::{Mutex, MutexGuard, PoisonError};
 use std::thread;
 use std::time::{Duration, Instant};
 
-/// How long a server may take for anything.
-pub const PATIENCE: Duration = Duration::from_secs(20);
+/// How long a server may take for anything. Under memcheck, and beside other work, it takes long.
+pub const PATIENCE: Duration = Duration::from_secs(300);
 
 /// A folder that is removed at the end.
 #[derive(Debug)]
@@ -74,7 +78,7 @@ pub fn wait_until(what: &str, mut is_so: impl FnMut() -> bool) {
 /// A server, which is killed at the end.
 #[derive(Debug)]
 pub struct Server {
-    child: Child,
+    child: Mutex<Child>,
     socket: PathBuf,
 }
 
@@ -95,8 +99,36 @@ impl Server {
     /// Starts a server in the folder.
     pub fn start_only(folder: &Folder, options: &[&str]) -> Self {
         let socket = folder.join("socket");
-        let child = command(&socket, options).stdin(Stdio::null()).spawn().unwrap();
-        Self { child, socket }
+        Self::run(command(&socket, options), &socket)
+    }
+
+    /// Runs the command, which starts a server at this socket.
+    pub fn run(mut command: Command, socket: &Path) -> Self {
+        let child = command.stdin(Stdio::null()).spawn().unwrap();
+        Self {
+            child: Mutex::new(child),
+            socket: socket.to_owned(),
+        }
+    }
+
+    fn child(&self) -> MutexGuard<'_, Child> {
+        self.child.lock().unwrap_or_else(PoisonError::into_inner)
+    }
+
+    /// Waits until the server answers. `false`: it has ended instead.
+    pub fn answers(&self) -> bool {
+        let mut is_there = false;
+        wait_until("the server answers or ends", || {
+            is_there = Client::connect(&self.socket)
+                .and_then(|mut client| client.hello())
+                .is_ok();
+            is_there || self.has_ended()
+        });
+        is_there
+    }
+
+    fn has_ended(&self) -> bool {
+        self.child().try_wait().unwrap().is_some()
     }
 
     pub fn socket(&self) -> &Path {
@@ -124,36 +156,31 @@ impl Server {
         Talk::new(UnixStream::connect(&self.socket).unwrap())
     }
 
-    /// Kills the server while others use it.
-    pub fn kill_only(&self) {
-        let number = self.child.id().to_string();
-        assert!(Command::new("kill")
-            .args(["-s", "KILL", &number])
-            .status()
-            .unwrap()
-            .success());
+    /// Kills the server, also while others use it, and waits for its end.
+    pub fn kill(&self) {
+        let mut child = self.child();
+        // It fails if the server has ended.
+        let _ = child.kill();
+        let _ = child.wait();
     }
 
-    pub fn kill(&mut self) {
-        let _ = self.child.kill();
-        let _ = self.child.wait();
+    /// Sends a signal.
+    pub fn signal(&self, signal: &str) {
+        let number = self.child().id().to_string();
+        let sent = Command::new("kill").args(["-s", signal, &number]).status();
+        assert!(sent.unwrap().success());
     }
 
     /// Sends a signal, and waits for the end.
-    pub fn end_by(mut self, signal: &str) -> ExitStatus {
-        let number = self.child.id().to_string();
-        assert!(Command::new("kill")
-            .args(["-s", signal, &number])
-            .status()
-            .unwrap()
-            .success());
-        wait_until("the server ends", || self.child.try_wait().unwrap().is_some());
-        self.child.wait().unwrap()
+    pub fn end_by(&self, signal: &str) -> ExitStatus {
+        self.signal(signal);
+        wait_until("the server ends", || self.has_ended());
+        self.child().wait().unwrap()
     }
 
     /// The most memory that the server has had, in KiB.
     pub fn most_memory(&self) -> u64 {
-        let status = fs::read_to_string(format!("/proc/{}/status", self.child.id())).unwrap();
+        let status = fs::read_to_string(format!("/proc/{}/status", self.child().id())).unwrap();
         let line = status.lines().find(|line| line.starts_with("VmHWM:")).unwrap();
         line.split_whitespace().nth(1).unwrap().parse().unwrap()
     }

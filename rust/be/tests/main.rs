@@ -1,0 +1,8 @@
+//! The tests of the tools. They are one program, so that it is linked once.
+
+#[macro_use]
+mod common;
+mod broken;
+mod page;
+mod queries;
+mod tools;

@@ -1,0 +1,173 @@
+//! The disk gets full at any moment, while clients write to a store that is kept.
+
+use crate::common::disk::Disk;
+use crate::common::writers::{check_history, Writers};
+use crate::common::{command, Folder, Server};
+use bestore_client::wire::{Command, Nothing};
+use bestore_client::{Client, Error};
+use std::process::Stdio;
+use std::sync::atomic::{AtomicU64, AtomicUsize, Ordering::Relaxed};
+use std::thread;
+
+/// How many KiB are left on the disk when the writers begin, in each run.
+const LEFT: [u64; 20] = [
+    0, 4, 8, 12, 16, 24, 32, 40, 48, 64, 80, 96, 128, 160, 192, 256, 320, 384, 512, 768,
+];
+
+/// Nodes of 200 bytes, so that the state takes several pages of the file.
+const OTHERS: u64 = 60;
+
+/// How many disks there are at the same time.
+const DISKS: usize = 4;
+
+/// The size at which a disk isn't full, in KiB.
+const LARGE: u64 = 8 << 10;
+
+/// How many answered writes were found, and how often there was no room to write the state anew.
+#[derive(Debug, Default)]
+struct Tally {
+    writes: AtomicU64,
+    compactions: AtomicU64,
+}
+
+/// A file on a disk, and the clients that write to its servers.
+struct Kept<'a> {
+    disk: &'a Disk,
+    folder: Folder,
+    writers: Writers,
+    tally: &'a Tally,
+}
+
+impl<'a> Kept<'a> {
+    fn new(disk: &'a Disk, tally: &'a Tally) -> Self {
+        let kept = Self {
+            disk,
+            folder: Folder::new(),
+            writers: Writers::default(),
+            tally,
+        };
+        disk.resize(LARGE);
+        disk.clear();
+        let server = kept.start().expect("there is room for the file");
+        kept.writers.begin(&mut server.client(), OTHERS);
+        assert!(server.end_by("TERM").success());
+        kept
+    }
+
+    /// Starts a server, if the file can be opened.
+    fn start(&self) -> Option<Server> {
+        let socket = self.folder.join("socket");
+        let keep = self.disk.join("file");
+        let options = ["--pages", "512", "--passes", "16", "--keep", keep.to_str().unwrap()];
+        let server = command(&socket, &options);
+        let mut running = self.disk.run(server.get_program().to_str().unwrap());
+        running.args(server.get_args()).stderr(Stdio::null());
+        let server = Server::run(running, &socket);
+        server.answers().then_some(server)
+    }
+
+    /// Lets the clients write until saving has failed, in some runs while the state is written anew. On a full disk the file can
+    /// be opened.
+    fn fill(&self, number: usize) {
+        let server = match (self.start(), self.disk) {
+            (Some(server), _) => server,
+            (None, Disk::Mounted { .. }) => panic!("run {number}: the file can't be opened on a full disk"),
+            // What isn't a full disk is an error.
+            (None, Disk::Limited { .. }) => return,
+        };
+        let mut client = server.client();
+        self.writers.go_on(&mut client);
+        let errors = self.writers.write(server.socket(), || {
+            if number % 2 == 1 {
+                self.tally.compactions.fetch_add(compact(&mut client), Relaxed);
+            }
+        });
+        let mut errors = errors.iter();
+        assert!(errors.all(is_of_saving), "run {number}: {errors:?}");
+        // Reads go on.
+        self.writers.check(&mut client);
+        match number % 3 {
+            0 => server.kill(),
+            _ => assert!(!server.end_by("TERM").success()),
+        }
+    }
+
+    /// Makes room, and checks what the file has.
+    fn end(&self) {
+        self.disk.resize(LARGE);
+        let server = self.start().expect("there is room");
+        let mut client = server.client();
+        self.writers.go_on(&mut client);
+        check_history(&mut client);
+        self.tally.writes.fetch_add(self.writers.answered(), Relaxed);
+        self.writers.write(server.socket(), || {
+            self.writers.wait_for(8);
+            assert!(server.end_by("TERM").success());
+        });
+        let server = self.start().expect("there is room");
+        self.writers.go_on(&mut server.client());
+    }
+}
+
+fn is_of_saving(error: &Error) -> bool {
+    error.is("NotSaved") || error.is("Stopped")
+}
+
+/// Writes the state anew again and again, until saving has failed. Returns how often there was no room for it.
+fn compact(client: &mut Client) -> u64 {
+    let mut failed = 0;
+    loop {
+        match client.call::<Nothing>(Command::Compact(Nothing {})) {
+            Ok(_) => {}
+            Err(error) if error.is("Stopped") => return failed,
+            Err(error) => {
+                assert!(error.is("NotSaved"), "{error}");
+                failed += 1;
+            }
+        }
+    }
+}
+
+/// A run: the disk gets full, and again after a start that may have had room for the state.
+fn run(disk: &Disk, number: usize, tally: &Tally) {
+    let kept = Kept::new(disk, tally);
+    disk.resize(disk.used() + LEFT[number]);
+    kept.fill(number);
+    disk.resize(disk.used() + 4 * (number as u64 % 7));
+    kept.fill(number + 1);
+    kept.end();
+}
+
+fn run_all(what: &str, disks: Vec<Disk>) {
+    let (next, tally) = (&AtomicUsize::new(0), &Tally::default());
+    thread::scope(|scope| {
+        for disk in disks {
+            scope.spawn(move || loop {
+                match next.fetch_add(1, Relaxed) {
+                    number if number < LEFT.len() => run(&disk, number, tally),
+                    _ => return,
+                }
+            });
+        }
+    });
+    let [writes, compactions] = [&tally.writes, &tally.compactions].map(|count| count.load(Relaxed));
+    println!(
+        "{} runs into {what}, {writes} writes, {compactions} compactions without room",
+        LEFT.len()
+    );
+}
+
+#[test]
+fn answered_writes_outlive_a_full_disk() {
+    let disks: Option<Vec<Disk>> = (0..DISKS).map(|_| Disk::mounted()).collect();
+    match disks {
+        Some(disks) => run_all("a full disk", disks),
+        None => println!("a full disk: skipped, this user can mount nothing"),
+    }
+}
+
+#[test]
+fn answered_writes_outlive_a_file_that_may_not_grow() {
+    let disks = (0..DISKS).map(|_| Disk::limited()).collect();
+    run_all("a file that may not grow", disks);
+}

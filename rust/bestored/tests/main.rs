@@ -1,0 +1,11 @@
+//! The tests of the server. They are one program, so that it is linked once, and so that tests that wait run beside others.
+
+mod common;
+mod crowd;
+mod full;
+mod killed;
+mod live;
+mod memory;
+mod pages;
+mod protocol;
+mod socket;
