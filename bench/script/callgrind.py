@@ -48,9 +48,9 @@ def count_cases(words: list[str]) -> dict[str, Counts]:
 
 
 def _run(words: list[str], folder: str) -> list[str]:
-    ended = subprocess.run(["valgrind", *OPTIONS, f"--callgrind-out-file={folder}/part", *words], stdout=subprocess.PIPE, text=True)
+    ended = subprocess.run(["valgrind", *OPTIONS, f"--callgrind-out-file={folder}/part", *words], capture_output=True, text=True)
     if ended.returncode != 0:
-        sys.exit(f"{' '.join(words)} has ended under callgrind with status {ended.returncode}")
+        sys.exit(f"{ended.stderr}{' '.join(words)} has ended under callgrind with status {ended.returncode}")
     return ended.stdout.splitlines()
 
 
