@@ -61,14 +61,14 @@ static void start_worker(struct worker *worker, struct pass *pass, const struct 
     *worker = (struct worker){pass, data, random, blocks, 0, 0, malloc(room), malloc(room)};
 }
 
-/* The times of all together, by size, in the first one's list, which has room for them. How many there are. */
+/* The median of some times, what 99 of 100 don't go beyond, and the longest. */
 static void say_spread(const char *what, double *times, size_t count) {
     char name[32];
     sort_times(times, count);
     snprintf(name, sizeof name, "mixed-%s-50", what);
     say_value(name, times[count / 2]);
     snprintf(name, sizeof name, "mixed-%s-99", what);
-    say_value(name, times[count - count / 100 - (count < 100)]);
+    say_value(name, times[count - (count < 200 ? 1 : count / 100)]);
     snprintf(name, sizeof name, "mixed-%s-max", what);
     say_value(name, times[count - 1]);
 }

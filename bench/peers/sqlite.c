@@ -251,7 +251,7 @@ static void bind_text(sqlite3_stmt *statement, int at, struct text text) {
     sqlite3_bind_text(statement, at, text.bytes, text.length, SQLITE_STATIC);
 }
 
-/* The text of a front, and the first after all that have it; or of an end, with a star. */
+/* The text of a front, and the first after all that have it. */
 static void bind_front(sqlite3_stmt *statement, struct text text, int *at) {
     char above[256];
     memcpy(above, text.bytes, text.length);
