@@ -40,7 +40,7 @@ CASES = {
     "contains": '`name=="*report*"`, over 10,000 names, a tenth of them found',
     "ends": '`name=="*.jpg"`, a sixth of them found',
     "unequal": '`name!="x"`, all but one found',
-    "any-three": '`name=="x" \|\| name=="y" \\|\\| name=="z"`',
+    "any-three": '`name=="x" \\|\\| name=="y" \\|\\| name=="z"`',
     "contains-from": '`name=="*report*" && size>=a`, `a` in the smaller half',
     "attributes": "`size>=a && size<b`, 100 nodes, and their five attributes",
     "first-50": "`size>=a`, 10,000 nodes: the first 50 of them, by their numbers",
