@@ -1,30 +1,61 @@
 #include "asked.h"
 
+#include <stdarg.h>
 #include <stdio.h>
+#include <stdlib.h>
+
+#include "files.h"
 
 typedef unsigned long long number;
 
-struct asked text_of(enum shape shape, uint64_t nodes, uint64_t width, uint64_t *state) {
+__attribute__((format(printf, 1, 2))) static struct asked told(const char *form, ...) {
     struct asked it;
-    number from = below(state, nodes - width), hundred = below(state, nodes / 100);
-    int length = 0;
-    switch (shape) {
-    case ONE_NAME:
-        length = snprintf(it.bytes, sizeof it.bytes, "name==\"%05llu-document.txt\"", (number)below(state, nodes));
-        break;
-    case SIZE_RANGE:
-        length = snprintf(it.bytes, sizeof it.bytes, "size>=%llu && size<%llu", 10 * from, 10 * (from + width));
-        break;
-    case SIZE_FROM:
-        length = snprintf(it.bytes, sizeof it.bytes, "size>=%llu", (number)(10 * (nodes - width)));
-        break;
-    case NAME_FRONT:
-        length = snprintf(it.bytes, sizeof it.bytes, "name==\"%03llu*\"", hundred);
-        break;
-    case FRONT_SIZE:
-        length = snprintf(it.bytes, sizeof it.bytes, "name==\"%03llu*\" && size>=%llu", hundred, (number)(5 * nodes));
-        break;
-    }
-    it.length = length;
+    va_list words;
+    va_start(words, form);
+    it.length = vsnprintf(it.bytes, sizeof it.bytes, form, words);
+    va_end(words);
+    if (it.length >= sizeof it.bytes) exit(1);
     return it;
+}
+
+static struct asked size_range(number from, number width) { return told("size>=%llu && size<%llu", 10 * from, 10 * (from + width)); }
+
+static struct asked front_size(uint64_t nodes, uint64_t *state) {
+    number hundred = below(state, nodes / 100), from = below(state, nodes);
+    return told("name==\"%03llu*\" && size>=%llu", hundred, 10 * from);
+}
+
+static struct asked unequal(uint64_t number) {
+    char name[NAME_MOST];
+    file_name(name, number);
+    return told("name!=\"%s\"", name);
+}
+
+static struct asked any_three(uint64_t nodes, uint64_t *state) {
+    char names[3][NAME_MOST];
+    for (int i = 0; i < 3; i++) file_name(names[i], below(state, nodes));
+    return told("name==\"%s\" || name==\"%s\" || name==\"%s\"", names[0], names[1], names[2]);
+}
+
+static struct asked contains_from(uint64_t nodes, uint64_t *state) {
+    const char *word = word_of(below(state, 10));
+    return told("name==\"*%s*\" && size>=%llu", word, 10 * (number)below(state, nodes / 2));
+}
+
+struct asked text_of(enum shape shape, uint64_t nodes, uint64_t width, uint64_t *state) {
+    switch (shape) {
+    case ONE_NAME: return told("name==\"%05llu-document.txt\"", (number)below(state, nodes));
+    case SIZE_RANGE: return size_range(below(state, nodes - width), width);
+    case SIZE_FROM: return told("size>=%llu", 10 * (number)(nodes - width - width / 20 + below(state, width / 10)));
+    case NAME_FRONT: return told("name==\"%03llu*\"", (number)below(state, nodes / 100));
+    case FRONT_SIZE: return front_size(nodes, state);
+    case SHARED: return told("name%llu==\"%s%05llu\"", (number)width, front_text(width), (number)below(state, nodes));
+    case CONTAINS: return told("name==\"*%s*\"", word_of(below(state, 10)));
+    case ENDS: return told("name==\"*.%s\"", end_of(below(state, 6)));
+    case UNEQUAL: return unequal(below(state, nodes));
+    case ANY_THREE: return any_three(nodes, state);
+    case CONTAINS_FROM: return contains_from(nodes, state);
+    case ALL_SIZES: return told("size>=-%llu", (number)below(state, 1000));
+    }
+    exit(1);
 }

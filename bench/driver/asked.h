@@ -4,19 +4,26 @@
 #include "data.h"
 
 enum shape {
-    ONE_NAME,   /* a name: one node */
-    SIZE_RANGE, /* sizes from and below */
-    SIZE_FROM,  /* the largest sizes */
-    NAME_FRONT, /* the names of a hundred nodes */
-    FRONT_SIZE, /* those of them with the larger sizes */
+    ONE_NAME,      /* a name: one node */
+    SIZE_RANGE,    /* sizes from and below */
+    SIZE_FROM,     /* the largest sizes, of `width` nodes or up to a twentieth more or fewer */
+    NAME_FRONT,    /* the names of a hundred nodes */
+    FRONT_SIZE,    /* those of them with sizes from a random one on */
+    SHARED,        /* a name that shares a front of `width` bytes with all others */
+    CONTAINS,      /* the names of files with a word in them */
+    ENDS,          /* those with an ending */
+    UNEQUAL,       /* all names of files but one */
+    ANY_THREE,     /* three names of files, joined by `||` */
+    CONTAINS_FROM, /* the names of files with a word in them, and sizes from one of the smaller half on */
+    ALL_SIZES,     /* all sizes */
 };
 
 struct asked {
-    char bytes[96];
+    char bytes[160];
     size_t length;
 };
 
-/* A random text of a shape, of `width` nodes where the shape leaves that open. */
+/* A random text of a shape, of `width` nodes or bytes where the shape leaves that open. */
 struct asked text_of(enum shape shape, uint64_t nodes, uint64_t width, uint64_t *state);
 
 static inline struct text asked_text(const struct asked *asked) { return (struct text){asked->bytes, asked->length}; }

@@ -1,8 +1,10 @@
-/* Time by the clock, and the lines that are printed: `CASE VALUE`, where the value is nanoseconds, bytes or a rate. */
+/* Time by the clock, and the lines that are printed: `CASE VALUE`, where the value is nanoseconds, bytes or a rate, and of a mean
+ * `CASE VALUE COUNT`. */
 #ifndef CLOCK_H
 #define CLOCK_H
 #include <stdint.h>
 #include <stdio.h>
+#include <stdlib.h>
 #include <time.h>
 
 /* Seconds. */
@@ -12,11 +14,23 @@ static inline double now(void) {
     return time.tv_sec + time.tv_nsec * 1e-9;
 }
 
-/* The nanoseconds of one of `count` since `start`. */
-static inline void say_each(const char *name, double start, uint64_t count) {
-    printf("%s %.3f\n", name, (now() - start) / count * 1e9);
+static inline void say_value(const char *name, double value) { printf("%s %.3f\n", name, value); }
+
+/* The nanoseconds of one of `count`, which have taken so many seconds. */
+static inline void say_spent(const char *name, double seconds, uint64_t count) {
+    printf("%s %.3f %llu\n", name, seconds / count * 1e9, (unsigned long long)count);
 }
 
+/* The nanoseconds of one of `count` since `start`. */
+static inline void say_each(const char *name, double start, uint64_t count) { say_spent(name, now() - start, count); }
+
 /* So many in a second, in `seconds`. */
-static inline void say_rate(const char *name, uint64_t count, double seconds) { printf("%s %.3f\n", name, count / seconds); }
+static inline void say_rate(const char *name, uint64_t count, double seconds) { say_value(name, count / seconds); }
+
+static inline int by_size(const void *left, const void *right) {
+    double a = *(const double *)left, b = *(const double *)right;
+    return (a > b) - (a < b);
+}
+
+static inline void sort_times(double *times, size_t count) { qsort(times, count, sizeof *times, by_size); }
 #endif

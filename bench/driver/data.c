@@ -2,6 +2,7 @@
 
 #include <stdio.h>
 #include <stdlib.h>
+#include <string.h>
 
 uint64_t next_random(uint64_t *state) {
     *state ^= *state << 13;
@@ -36,6 +37,13 @@ struct data make_data(uint64_t nodes) {
     return data;
 }
 
+uint64_t share(const struct data *data, uint64_t usual) {
+    uint64_t part = data->parts ? usual / data->parts : usual;
+    return part ? part : 1;
+}
+
+bool has_case(const struct data *data, const char *name) { return !data->only || !strcmp(data->only, name); }
+
 struct text kind_text(uint64_t number) {
     static const struct text kinds[8] = {
         {"text/x-source-code", 18}, {"text/plain", 10},     {"image/png", 9}, {"audio/mpeg", 10},
@@ -55,6 +63,13 @@ struct store *open_store(int passes) {
     must(make_index(store_pass(store, 0), NAME, IS_TEXT));
     must(make_index(store_pass(store, 0), SIZE, IS_NUMBER));
     return store;
+}
+
+void make_more_indices(struct pass *pass, uint64_t indices) {
+    for (uint64_t i = 2; i < indices; i++) {
+        char name[3] = {'i', '0' + i / 10, '0' + i % 10};
+        must(make_index(pass, (struct text){name, 3}, IS_NUMBER));
+    }
 }
 
 void fill(struct store *store, const struct data *data) {
@@ -79,4 +94,9 @@ enum outcome set_random_size(struct pass *pass, uint64_t nodes, uint64_t *state)
     uint64_t node = 1 + below(state, nodes);
     struct value value = number_value(below(state, 10 * nodes));
     return set(pass, node, SIZE, &value);
+}
+
+void set_sizes(struct pass *pass, const struct data *data, uint64_t sets) {
+    uint64_t state = data->random;
+    for (uint64_t i = 0; i < sets; i++) must(set_random_size(pass, data->nodes, &state));
 }

@@ -57,16 +57,11 @@ static void time_each(const struct data *data, double *least, uint64_t commits) 
     store_close(store);
 }
 
-static int by_size(const void *left, const void *right) {
-    double a = *(const double *)left, b = *(const double *)right;
-    return (a > b) - (a < b);
-}
-
 void run_pauses(const struct data *data, uint64_t commits) {
     double *least = malloc(commits * sizeof *least);
     for (uint64_t i = 0; i < commits; i++) least[i] = LONG_TIME;
     for (int run = 0; run < RUNS; run++) time_each(data, least, commits);
-    qsort(least, commits, sizeof *least, by_size);
+    sort_times(least, commits);
     printf("median %.3f\n", least[commits / 2] * 1e9);
     printf("worst %.3f\n", least[commits - 1] * 1e9);
     free(least);

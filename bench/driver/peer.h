@@ -18,7 +18,12 @@ struct store *store_open(uint64_t pages, int passes);
 struct pass *store_pass(struct store *store, int number);
 void store_close(struct store *store);
 
-/* Each write is a commit of its own; between begin and commit up to 64 sets are one. */
+/* How many bytes the store's pages have that aren't free. */
+uint64_t bytes_used(struct store *store);
+
+/* Each write is a commit of its own; between begin and commit up to 64 operations are one, or any number where
+ * `has_long_lists`. A node that is made there has the next number, and `node` may stay as it was. */
+extern const bool has_long_lists;
 enum outcome begin(struct pass *pass);
 enum outcome commit(struct pass *pass);
 enum outcome make_index(struct pass *pass, struct text name, enum kind kind);
@@ -30,8 +35,21 @@ enum outcome set(struct pass *pass, uint64_t node, struct text name, const struc
 void pin(struct pass *pass);
 void unpin(struct pass *pass);
 
+/* Makes ready what a query needs once, for a pass that asks it then. */
+void prepare(struct pass *pass, struct query *query);
+
 /* The nodes of a query, ascending: up to `most` of them. How many there are. */
 size_t ask(struct pass *pass, struct query *query, uint64_t *nodes, size_t most);
+
+/* Any `most` of a query's nodes, in any order, where there are so many. How many there are. */
+size_t ask_some(struct pass *pass, struct query *query, uint64_t *nodes, size_t most);
+
+/* All attributes of each of some nodes, or of those that a query finds where a peer is faster so: numbers, and the lengths of
+ * texts, summed up. */
+extern const bool has_attributes, has_joined_reads;
+uint64_t read_each(struct pass *pass, const uint64_t *nodes, size_t count);
+uint64_t ask_joined(struct pass *pass, struct query *query);
+
 bool get_number(struct pass *pass, uint64_t node, struct text name, int64_t *number);
 
 /* Lets go of what `ask` has prepared for a query. */

@@ -1,4 +1,4 @@
-/* The queries of the workloads: comparisons joined by `&&`, with a `*` at a text's end for its front. */
+/* The queries of the workloads: comparisons joined by `&&`, or all by `||`, with a `*` at an end of a text or at both. */
 #ifndef QUERY_H
 #define QUERY_H
 #include <stdbool.h>
@@ -7,18 +7,22 @@
 
 #include "text.h"
 
-enum comparing { EQUAL, FRONT, BELOW, UP_TO, ABOVE, FROM };
+/* FRONT, MIDDLE, END: what a text begins with, has in it, ends with. OTHER: `!=`. */
+enum comparing { EQUAL, FRONT, MIDDLE, END, OTHER, BELOW, UP_TO, ABOVE, FROM };
 
 struct comparison {
     enum comparing how;
     struct text name; /* in the query's text */
     struct text text; /* the same */
+    bool is_quoted;
     int64_t number;
 };
 
-/* `pick`: the comparison whose index is walked. `low`, `high`: those that bound its walk, or -1. */
+/* `pick`: the comparison whose index is walked; where they are joined by `||`, each is in turn. `low`, `high`: those that bound
+ * its walk, or -1. `prepared`: what a peer has prepared, which its pass keeps where `is_kept`. */
 struct query {
     int count, pick, low, high;
+    bool is_any, is_kept;
     struct comparison comparisons[8];
     void *prepared;
 };
@@ -32,6 +36,12 @@ bool text_holds(const struct comparison *comparison, struct text text);
 
 /* The numbers from and to which a walk over the picked index goes. */
 void number_bounds(const struct query *query, int64_t *low, int64_t *high);
+
+/* Whether each key of a walk is to be compared with the picked text, since they don't lie side by side. */
+static inline bool is_scan(const struct comparison *it) { return it->how == MIDDLE || it->how == END || it->how == OTHER; }
+
+/* Takes the doubles out of sorted nodes. How many are left. */
+size_t without_doubles(uint64_t *nodes, size_t count);
 
 /* Sorts nodes, all below 2^32: by digits, so that no peer is judged by a slow sort. */
 void sort_nodes(uint64_t *nodes, size_t count);

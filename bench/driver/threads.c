@@ -9,7 +9,7 @@
 #include "workloads.h"
 
 #define READERS 4
-#define TEXTS 64
+#define TEXTS 1024
 #define MOST 4096
 
 /* What a thread does until `end`, and how often it did so: on a line of the cache of its own. */
@@ -42,12 +42,13 @@ static void *write_on(void *argument) {
 /* Pins, asks for a hundred nodes, and unpins. */
 static void *ask_on(void *argument) {
     struct job *job = argument;
-    struct asked texts[TEXTS];
-    struct query queries[TEXTS];
+    struct asked *texts = malloc(TEXTS * sizeof *texts);
+    struct query *queries = malloc(TEXTS * sizeof *queries);
     uint64_t *nodes = malloc(MOST * sizeof *nodes);
     for (int i = 0; i < TEXTS; i++) {
         texts[i] = text_of(NAME_FRONT, job->data->nodes, 100, &job->random);
         parse(&queries[i], asked_text(&texts[i]));
+        prepare(job->pass, &queries[i]);
     }
     for (; now() < job->end; job->count += TEXTS)
         for (int i = 0; i < TEXTS; i++) {
@@ -57,6 +58,8 @@ static void *ask_on(void *argument) {
         }
     for (int i = 0; i < TEXTS; i++) forget(&queries[i]);
     free(nodes);
+    free(queries);
+    free(texts);
     return NULL;
 }
 

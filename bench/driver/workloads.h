@@ -6,6 +6,12 @@
 void run_writes(const struct data *data);
 void run_reads(const struct data *data);
 void run_indices(const struct data *data);
+void run_patterns(const struct data *data);
+void run_shared(const struct data *data);
+void run_mixed(const struct data *data);
+void run_import(const struct data *data);
+void run_sets(const struct data *data, uint64_t indices);
+void run_held(const struct data *data);
 void run_threads(const struct data *data, double seconds);
 void run_open(uint64_t pages);
 

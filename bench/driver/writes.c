@@ -5,43 +5,42 @@
 #include "clock.h"
 #include "workloads.h"
 
-#define SETS 20000
 #define LISTS 200
 
-static void set_sizes(struct pass *pass, const struct data *data) {
-    uint64_t state = data->random;
+static void time_sizes(struct pass *pass, const struct data *data) {
+    uint64_t sets = share(data, SETS);
     double start = now();
-    for (int i = 0; i < SETS; i++) must(set_random_size(pass, data->nodes, &state));
-    say_each("set-indexed", start, SETS);
+    set_sizes(pass, data, sets);
+    say_each("set-indexed", start, sets);
 }
 
 static void set_kinds(struct pass *pass, const struct data *data) {
-    uint64_t state = data->random;
+    uint64_t state = data->random, sets = share(data, SETS);
     double start = now();
-    for (int i = 0; i < SETS; i++) {
+    for (uint64_t i = 0; i < sets; i++) {
         struct value value = text_value(kind_text(below(&state, 8)));
         must(set(pass, 1 + below(&state, data->nodes), KIND, &value));
     }
-    say_each("set-unindexed", start, SETS);
+    say_each("set-unindexed", start, sets);
 }
 
 static void set_lists(struct pass *pass, const struct data *data) {
-    uint64_t state = data->random;
+    uint64_t state = data->random, lists = share(data, LISTS);
     double start = now();
-    for (int i = 0; i < LISTS; i++) {
+    for (uint64_t i = 0; i < lists; i++) {
         must(begin(pass));
         for (int j = 0; j < 64; j++) must(set_random_size(pass, data->nodes, &state));
         must(commit(pass));
     }
-    say_each("list", start, 64 * LISTS);
+    say_each("list", start, 64 * lists);
 }
 
 /* As many new names in each list as it has sets, on a node of its own each time. */
-static void set_new_names(struct pass *pass, const char *label, int names) {
-    uint64_t nodes[LISTS];
-    for (int i = 0; i < LISTS; i++) must(make_node(pass, &nodes[i]));
+static void set_new_names(struct pass *pass, const struct data *data, const char *label, int names) {
+    uint64_t nodes[LISTS], lists = share(data, LISTS);
+    for (uint64_t i = 0; i < lists; i++) must(make_node(pass, &nodes[i]));
     double start = now();
-    for (int i = 0; i < LISTS; i++) {
+    for (uint64_t i = 0; i < lists; i++) {
         must(begin(pass));
         for (int j = 0; j < names; j++) {
             char name[3] = {'n', '0' + j / 10, '0' + j % 10};
@@ -50,8 +49,8 @@ static void set_new_names(struct pass *pass, const char *label, int names) {
         }
         must(commit(pass));
     }
-    say_each(label, start, LISTS * names);
-    for (int i = 0; i < LISTS; i++) must(drop_node(pass, nodes[i]));
+    say_each(label, start, lists * names);
+    for (uint64_t i = 0; i < lists; i++) must(drop_node(pass, nodes[i]));
 }
 
 /* What the writes have made: each node's size, and the nodes by the index of sizes. */
@@ -87,12 +86,12 @@ void run_writes(const struct data *data) {
     double start = now();
     fill(store, data);
     say_each("create", start, 4 * data->nodes);
-    set_sizes(pass, data);
+    time_sizes(pass, data);
     set_kinds(pass, data);
     set_lists(pass, data);
     if (data->nodes <= 10000) {
-        set_new_names(pass, "names-8", 8);
-        set_new_names(pass, "names-64", 64);
+        set_new_names(pass, data, "names-8", 8);
+        set_new_names(pass, data, "names-64", 64);
     }
     look_at_all(pass, data);
     drop_nodes(pass, data);

@@ -52,6 +52,13 @@ void store_close(struct store *store) {
     free(store);
 }
 
+uint64_t bytes_used(struct store *store) {
+    bes_usage usage;
+    uint64_t number;
+    must_do(bes_status(&store->passes[0].held, &usage, &number));
+    return 4096 * (usage.pages - usage.free);
+}
+
 /* Writes */
 
 static uint32_t kind_code(enum kind kind) { return kind == IS_NUMBER ? BES_INT64_TYPE : BES_STRING_TYPE; }
@@ -88,6 +95,10 @@ enum outcome make_index(struct pass *pass, struct text name, enum kind kind) {
 }
 
 enum outcome make_node(struct pass *pass, uint64_t *node) {
+    if (pass->is_open) {
+        must_do(bes_batch_add(&pass->batch, BES_NEW_NODE, 0, "", 0, 0, NULL, 0));
+        return DONE;
+    }
     bes_operation it = operation_of(BES_NEW_NODE, 0, 0);
     return apply(pass, &it, (const uint8_t *)"", node);
 }
@@ -142,6 +153,21 @@ size_t ask(struct pass *pass, struct query *query, uint64_t *nodes, size_t most)
     uint64_t count;
     must_do(bes_query_prepared(&pass->held, query->prepared, nodes, most, &count));
     return count;
+}
+
+/* A number, or how long a text is. */
+static uint64_t weight_of(const bes_operation *it) { return it->code == BES_INT64_TYPE ? it->number : it->value_length; }
+
+uint64_t read_each(struct pass *pass, const uint64_t *nodes, size_t count) {
+    uint8_t bytes[64 * (63 + 255)];
+    bes_operation operations[64];
+    bes_counts counts;
+    uint64_t sum = 0;
+    for (size_t i = 0; i < count; i++) {
+        must_do(bes_attributes(&pass->held, nodes[i], &counts, operations, 64, bytes, sizeof bytes));
+        for (uint64_t j = 0; j < counts.operations; j++) sum += weight_of(&operations[j]);
+    }
+    return sum;
 }
 
 void forget(struct query *query) {

@@ -13,6 +13,11 @@ static inline bool value_holds(const struct comparison *it, const uint8_t *store
 /* Whether it is true of a node at the pin: each peer's own. */
 static bool holds(struct pass *pass, const struct comparison *it, uint64_t node);
 
+/* What a value of a sum of attributes counts: a number, or how long a text is. */
+static inline uint64_t weight_of(const uint8_t *stored, size_t length) {
+    return stored[0] == IS_NUMBER ? take_number(stored + 1) : length - 1;
+}
+
 static inline bool all_hold(struct pass *pass, const struct query *query, uint64_t node) {
     for (int i = 0; i < query->count; i++)
         if (is_asked(query, i) && !holds(pass, &query->comparisons[i], node)) return false;

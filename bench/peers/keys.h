@@ -18,7 +18,7 @@ static inline uint64_t take_number(const uint8_t *from) {
 /* The first key of a walk, and the bytes that no key of it goes beyond. How long both are. */
 static inline size_t walk_bounds(const struct query *query, enum kind kind, uint8_t *from, uint8_t *to) {
     const struct comparison *pick = &query->comparisons[query->pick];
-    size_t length = pick->text.length;
+    size_t length = is_scan(pick) ? 0 : pick->text.length;
     if (kind == IS_NUMBER) {
         int64_t low, high;
         number_bounds(query, &low, &high);
@@ -33,5 +33,10 @@ static inline size_t walk_bounds(const struct query *query, enum kind kind, uint
 }
 
 /* Whether a comparison is asked of each node that a walk finds: it isn't picked, and doesn't bound the walk. */
-static inline bool is_asked(const struct query *query, int i) { return i != query->pick && i != query->low && i != query->high; }
+static inline bool is_asked(const struct query *query, int i) {
+    return !query->is_any && i != query->pick && i != query->low && i != query->high;
+}
+
+/* The text in an index key, before a zero and the node. */
+static inline struct text key_text(const uint8_t *key, size_t length) { return (struct text){(const char *)key, length - 9}; }
 #endif

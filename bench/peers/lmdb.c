@@ -24,7 +24,7 @@ struct index {
 struct pass {
     struct store *store;
     MDB_txn *list, *reading; /* `list`: an open commit of several writes */
-    MDB_cursor *cursors[INDICES];
+    MDB_cursor *cursors[INDICES], *attributes;
 };
 
 struct store {
@@ -103,6 +103,7 @@ void store_close(struct store *store) {
     for (int i = 0; i < PASSES; i++) {
         for (int j = 0; j < INDICES; j++)
             if (store->passes[i].cursors[j]) mdb_cursor_close(store->passes[i].cursors[j]);
+        if (store->passes[i].attributes) mdb_cursor_close(store->passes[i].attributes);
         if (store->passes[i].reading) mdb_txn_abort(store->passes[i].reading);
     }
     mdb_env_close(store->environment);
@@ -114,7 +115,17 @@ void store_close(struct store *store) {
     free(store);
 }
 
+uint64_t bytes_used(struct store *store) {
+    MDB_envinfo info;
+    MDB_stat stat;
+    must_do(mdb_env_info(store->environment, &info));
+    must_do(mdb_env_stat(store->environment, &stat));
+    return (info.me_last_pgno + 1) * stat.ms_psize;
+}
+
 /* Writes */
+
+const bool has_long_lists = true;
 
 enum outcome begin(struct pass *pass) {
     must_do(mdb_txn_begin(pass->store->environment, NULL, 0, &pass->list));
@@ -231,11 +242,15 @@ void pin(struct pass *pass) {
 
 void unpin(struct pass *pass) { mdb_txn_reset(pass->reading); }
 
-static MDB_cursor *cursor_of(struct pass *pass, const struct index *index) {
-    MDB_cursor **cursor = &pass->cursors[index - pass->store->index];
+/* A cursor that the pass keeps, at the pin. */
+static MDB_cursor *renewed(struct pass *pass, MDB_cursor **cursor, MDB_dbi database) {
     if (*cursor) must_do(mdb_cursor_renew(pass->reading, *cursor));
-    else must_do(mdb_cursor_open(pass->reading, index->database, cursor));
+    else must_do(mdb_cursor_open(pass->reading, database, cursor));
     return *cursor;
+}
+
+static MDB_cursor *cursor_of(struct pass *pass, const struct index *index) {
+    return renewed(pass, &pass->cursors[index - pass->store->index], index->database);
 }
 
 static bool holds(struct pass *pass, const struct comparison *it, uint64_t node) {
@@ -245,19 +260,48 @@ static bool holds(struct pass *pass, const struct comparison *it, uint64_t node)
     return value_holds(it, value.mv_data, value.mv_size);
 }
 
-size_t ask(struct pass *pass, struct query *query, uint64_t *nodes, size_t most) {
-    struct index *index = index_of(pass->store, query->comparisons[query->pick].name);
+/* The nodes that a walk over the picked index finds, in its order, behind `count` of them; no more than `stop` in all. */
+static size_t walk(struct pass *pass, const struct query *query, uint64_t *nodes, size_t count, size_t most, size_t stop) {
+    const struct comparison *pick = &query->comparisons[query->pick];
+    const struct index *index = index_of(pass->store, pick->name);
     MDB_cursor *cursor = cursor_of(pass, index);
     uint8_t from[KEY_MOST], to[KEY_MOST];
-    size_t length = walk_bounds(query, index->kind, from, to), count = 0;
+    bool scans = is_scan(pick);
+    size_t length = walk_bounds(query, index->kind, from, to);
     MDB_val key = {length, from}, value;
-    int status = mdb_cursor_get(cursor, &key, &value, MDB_SET_RANGE);
-    for (; !status && memcmp(key.mv_data, to, length) <= 0; status = mdb_cursor_get(cursor, &key, &value, MDB_NEXT)) {
+    int status = mdb_cursor_get(cursor, &key, &value, length ? MDB_SET_RANGE : MDB_FIRST);
+    for (; !status && count < stop && memcmp(key.mv_data, to, length) <= 0; status = mdb_cursor_get(cursor, &key, &value, MDB_NEXT)) {
+        if (scans && !text_holds(pick, key_text(key.mv_data, key.mv_size))) continue;
         uint64_t node = take_number((uint8_t *)key.mv_data + key.mv_size - 8);
         if (count < most && all_hold(pass, query, node)) nodes[count++] = node;
     }
-    sort_nodes(nodes, count);
     return count;
+}
+
+size_t ask(struct pass *pass, struct query *query, uint64_t *nodes, size_t most) {
+    size_t count = 0;
+    if (!query->is_any) count = walk(pass, query, nodes, 0, most, SIZE_MAX);
+    else
+        for (query->pick = 0; query->pick < query->count; query->pick++) count = walk(pass, query, nodes, count, most, SIZE_MAX);
+    sort_nodes(nodes, count);
+    return query->is_any ? without_doubles(nodes, count) : count;
+}
+
+size_t ask_some(struct pass *pass, struct query *query, uint64_t *nodes, size_t most) { return walk(pass, query, nodes, 0, most, most); }
+
+/* By a cursor, which is set to each node. */
+uint64_t read_each(struct pass *pass, const uint64_t *nodes, size_t count) {
+    MDB_cursor *cursor = renewed(pass, &pass->attributes, pass->store->catalog);
+    uint64_t sum = 0;
+    for (size_t i = 0; i < count; i++) {
+        uint8_t number[8];
+        MDB_val key = {8, number}, value;
+        put_number(number, nodes[i]);
+        int status = mdb_cursor_get(cursor, &key, &value, MDB_SET);
+        while (!status && !(status = mdb_cursor_get(cursor, &key, &value, MDB_NEXT)) && !memcmp(key.mv_data, number, 8))
+            sum += weight_of(value.mv_data, value.mv_size);
+    }
+    return sum;
 }
 
 bool get_number(struct pass *pass, uint64_t node, struct text name, int64_t *number) {

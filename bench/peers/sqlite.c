@@ -2,6 +2,7 @@
  * By default one connection to a database in memory, so for one thread. With -DWAL a file in memory (/dev/shm) in WAL mode,
  * with a connection for each pass. A pin is a reading transaction. */
 #include <sqlite3.h>
+#include <stdarg.h>
 #include <stdio.h>
 #include <stdlib.h>
 #include <string.h>
@@ -10,6 +11,7 @@
 #include "../driver/peer.h"
 
 #define PASSES 64
+#define KEPT 32
 
 enum statement { BEGIN, COMMIT, MAKE_NODE, SET, DROP_ATTRIBUTES, DROP_NODE, PIN, LOOK, GET, STATEMENTS };
 
@@ -26,9 +28,17 @@ static const char *const texts[STATEMENTS] = {
     [GET] = "SELECT value FROM attribute WHERE node = ?1 AND name = ?2",
 };
 
+/* What a query needs once: a statement by its text. */
+struct kept {
+    char *text;
+    sqlite3_stmt *statement;
+};
+
 struct pass {
     sqlite3 *connection;
     sqlite3_stmt *statements[STATEMENTS];
+    int kept_count;
+    struct kept kept[KEPT];
 };
 
 struct store {
@@ -82,6 +92,10 @@ void store_close(struct store *store) {
     char file[80];
     for (int i = 0; i < store->count; i++) {
         for (int j = 0; j < STATEMENTS; j++) sqlite3_finalize(store->passes[i].statements[j]);
+        for (int j = 0; j < store->passes[i].kept_count; j++) {
+            sqlite3_finalize(store->passes[i].kept[j].statement);
+            free(store->passes[i].kept[j].text);
+        }
         sqlite3_close_v2(store->passes[i].connection);
     }
     unlink(store->file);
@@ -111,6 +125,8 @@ static enum outcome run_for(struct pass *pass, enum statement which, uint64_t no
 }
 
 /* Writes */
+
+const bool has_long_lists = true, has_joined_reads = true;
 
 enum outcome begin(struct pass *pass) { return run(pass, BEGIN); }
 
@@ -147,6 +163,18 @@ enum outcome drop_node(struct pass *pass, uint64_t node) {
     return alone ? commit(pass) : DONE;
 }
 
+static uint64_t pragma(struct store *store, const char *text) {
+    sqlite3 *connection = store->passes[0].connection;
+    sqlite3_stmt *statement;
+    must_do(connection, sqlite3_prepare_v2(connection, text, -1, &statement, NULL));
+    must_do(connection, sqlite3_step(statement));
+    uint64_t number = sqlite3_column_int64(statement, 0);
+    sqlite3_finalize(statement);
+    return number;
+}
+
+uint64_t bytes_used(struct store *store) { return pragma(store, "PRAGMA page_count") * pragma(store, "PRAGMA page_size"); }
+
 /* Reads */
 
 /* The snapshot is taken by the first read. */
@@ -162,64 +190,160 @@ struct words {
     int length, arguments;
 };
 
+static void add(struct words *words, const char *form, ...) {
+    va_list values;
+    va_start(values, form);
+    words->length += vsnprintf(words->text + words->length, sizeof words->text - words->length, form, values);
+    va_end(values);
+    if (words->length >= (int)sizeof words->text) exit(1);
+}
+
+/* Case matters in GLOB and in instr. */
 static void add_comparison(struct words *words, const struct comparison *it, char table) {
-    static const char *const signs[] = {[EQUAL] = "=", [BELOW] = "<", [UP_TO] = "<=", [ABOVE] = ">", [FROM] = ">="};
-    char *to = words->text + words->length;
-    size_t room = sizeof words->text - words->length;
-    int at = words->arguments + 1;
-    if (it->how == FRONT) words->length += snprintf(to, room, " AND %c.value >= ?%d AND %c.value < ?%d", table, at, table, at + 1);
-    else words->length += snprintf(to, room, " AND %c.value %s ?%d", table, signs[it->how], at);
-    words->arguments += it->how == FRONT ? 2 : 1;
+    static const char *const signs[] = {[EQUAL] = "=", [OTHER] = "<>", [BELOW] = "<", [UP_TO] = "<=", [ABOVE] = ">", [FROM] = ">="};
+    int at = ++words->arguments;
+    switch (it->how) {
+    case FRONT: add(words, "%c.value >= ?%d AND %c.value < ?%d", table, at, table, ++words->arguments); break;
+    case MIDDLE: add(words, "instr(%c.value, ?%d)", table, at); break;
+    case END: add(words, "%c.value GLOB ?%d", table, at); break;
+    default: add(words, "%c.value %s ?%d", table, signs[it->how], at); break;
+    }
 }
 
 static void add_other(struct words *words, const struct comparison *it) {
-    words->length += snprintf(words->text + words->length, sizeof words->text - words->length,
-                              " AND EXISTS(SELECT 1 FROM attribute b WHERE b.node = a.node AND b.name = '%.*s'", (int)it->name.length, it->name.bytes);
+    add(words, " AND EXISTS(SELECT 1 FROM attribute b WHERE b.node = a.node AND b.name = '%.*s' AND ", (int)it->name.length, it->name.bytes);
     add_comparison(words, it, 'b');
-    words->length += snprintf(words->text + words->length, sizeof words->text - words->length, ")");
+    add(words, ")");
+}
+
+/* All comparisons of one name, joined by OR. */
+static void add_any(struct words *words, const struct query *query) {
+    for (int i = 0; i < query->count; i++) {
+        add(words, i ? " OR " : " AND (");
+        add_comparison(words, &query->comparisons[i], 'a');
+    }
+    add(words, ")");
+}
+
+static void add_all(struct words *words, const struct query *query) {
+    const struct comparison *pick = &query->comparisons[query->pick];
+    for (int i = 0; i < query->count; i++) {
+        const struct comparison *it = &query->comparisons[i];
+        if (!same_text(it->name, pick->name)) {
+            add_other(words, it);
+            continue;
+        }
+        add(words, " AND ");
+        add_comparison(words, it, 'a');
+    }
+}
+
+static struct words words_of(const struct query *query, const char *selected) {
+    const struct text name = query->comparisons[query->pick].name;
+    struct words words = {.arguments = 0};
+    add(&words, "%s WHERE a.name = '%.*s'", selected, (int)name.length, name.bytes);
+    if (query->is_any) add_any(&words, query);
+    else add_all(&words, query);
+    return words;
+}
+
+static void bind_text(sqlite3_stmt *statement, int at, struct text text) {
+    sqlite3_bind_text(statement, at, text.bytes, text.length, SQLITE_STATIC);
+}
+
+/* The text of a front, and the first after all that have it. */
+static void bind_front(sqlite3_stmt *statement, struct text text, int *at) {
+    char above[256];
+    memcpy(above, text.bytes, text.length);
+    above[text.length - 1]++;
+    bind_text(statement, (*at)++, text);
+    sqlite3_bind_text(statement, (*at)++, above, text.length, SQLITE_TRANSIENT);
 }
 
 static void bind_comparison(sqlite3_stmt *statement, const struct comparison *it, int *at) {
-    char above[256];
-    size_t length = it->text.length;
-    if (same_text(it->name, TEXT("size"))) {
-        sqlite3_bind_int64(statement, (*at)++, it->number);
-        return;
-    }
-    sqlite3_bind_text(statement, (*at)++, it->text.bytes, length, SQLITE_TRANSIENT);
-    if (it->how != FRONT) return;
-    memcpy(above, it->text.bytes, length);
-    above[length - 1]++;
-    sqlite3_bind_text(statement, (*at)++, above, length, SQLITE_TRANSIENT);
+    if (!it->is_quoted) sqlite3_bind_int64(statement, (*at)++, it->number);
+    else if (it->how == FRONT) bind_front(statement, it->text, at);
+    else if (it->how == END) bind_text(statement, (*at)++, (struct text){it->text.bytes - 1, it->text.length + 1});
+    else bind_text(statement, (*at)++, it->text);
 }
 
-static sqlite3_stmt *prepare(struct pass *pass, const struct query *query) {
-    const struct comparison *pick = &query->comparisons[query->pick];
-    struct words words = {.arguments = 0};
+static sqlite3_stmt *compile(struct pass *pass, const struct words *words) {
     sqlite3_stmt *statement;
-    int at = 1;
-    words.length = snprintf(words.text, sizeof words.text, "SELECT a.node FROM attribute a WHERE a.name = '%.*s'", (int)pick->name.length, pick->name.bytes);
-    for (int i = 0; i < query->count; i++) {
-        const struct comparison *it = &query->comparisons[i];
-        if (same_text(it->name, pick->name)) add_comparison(&words, it, 'a');
-        else add_other(&words, it);
-    }
-    must_do(pass->connection, sqlite3_prepare_v2(pass->connection, words.text, -1, &statement, NULL));
-    for (int i = 0; i < query->count; i++) bind_comparison(statement, &query->comparisons[i], &at);
+    must_do(pass->connection, sqlite3_prepare_v2(pass->connection, words->text, words->length, &statement, NULL));
     return statement;
 }
 
-size_t ask(struct pass *pass, struct query *query, uint64_t *nodes, size_t most) {
-    if (!query->prepared) query->prepared = prepare(pass, query);
-    sqlite3_stmt *statement = query->prepared;
+/* The statement with such a text that the pass keeps. */
+static sqlite3_stmt *kept_statement(struct pass *pass, const struct words *words) {
+    for (int i = 0; i < pass->kept_count; i++)
+        if (!strcmp(pass->kept[i].text, words->text)) return pass->kept[i].statement;
+    if (pass->kept_count == KEPT) exit(1);
+    struct kept *kept = &pass->kept[pass->kept_count++];
+    *kept = (struct kept){strdup(words->text), compile(pass, words)};
+    return kept->statement;
+}
+
+static const char *const nodes_selected = "SELECT a.node FROM attribute a";
+static const char *const values_selected = "SELECT b.value FROM attribute a JOIN attribute b ON b.node = a.node";
+
+void prepare(struct pass *pass, struct query *query) {
+    struct words words = words_of(query, nodes_selected);
+    query->prepared = kept_statement(pass, &words);
+    query->is_kept = true;
+}
+
+/* The query's own statement, with its values. */
+static sqlite3_stmt *bound(struct pass *pass, struct query *query) {
+    int at = 1;
+    if (!query->prepared) {
+        struct words words = words_of(query, nodes_selected);
+        query->prepared = compile(pass, &words);
+    }
+    for (int i = 0; i < query->count; i++) bind_comparison(query->prepared, &query->comparisons[i], &at);
+    return query->prepared;
+}
+
+static size_t step_through(struct pass *pass, sqlite3_stmt *statement, uint64_t *nodes, size_t most, size_t stop) {
     size_t count = 0;
-    int status;
-    while ((status = sqlite3_step(statement)) == SQLITE_ROW)
+    int status = SQLITE_DONE;
+    while (count < stop && (status = sqlite3_step(statement)) == SQLITE_ROW)
         if (count < most) nodes[count++] = sqlite3_column_int64(statement, 0);
     must_do(pass->connection, status);
     sqlite3_reset(statement);
+    return count;
+}
+
+size_t ask(struct pass *pass, struct query *query, uint64_t *nodes, size_t most) {
+    size_t count = step_through(pass, bound(pass, query), nodes, most, SIZE_MAX);
     sort_nodes(nodes, count);
     return count;
+}
+
+size_t ask_some(struct pass *pass, struct query *query, uint64_t *nodes, size_t most) {
+    return step_through(pass, bound(pass, query), nodes, most, most);
+}
+
+/* One statement for the query and the attributes of what it finds: faster than one for each node. */
+uint64_t ask_joined(struct pass *pass, struct query *query) {
+    struct words words = words_of(query, values_selected);
+    sqlite3_stmt *statement = kept_statement(pass, &words);
+    uint64_t sum = 0;
+    int at = 1, status;
+    for (int i = 0; i < query->count; i++) bind_comparison(statement, &query->comparisons[i], &at);
+    while ((status = sqlite3_step(statement)) == SQLITE_ROW) {
+        bool is_number = sqlite3_column_type(statement, 0) == SQLITE_INTEGER;
+        sum += is_number ? sqlite3_column_int64(statement, 0) : sqlite3_column_bytes(statement, 0);
+    }
+    must_do(pass->connection, status);
+    sqlite3_reset(statement);
+    return sum;
+}
+
+uint64_t read_each(struct pass *pass, const uint64_t *nodes, size_t count) {
+    (void)pass;
+    (void)nodes;
+    (void)count;
+    return 0;
 }
 
 bool get_number(struct pass *pass, uint64_t node, struct text name, int64_t *number) {
@@ -232,4 +356,6 @@ bool get_number(struct pass *pass, uint64_t node, struct text name, int64_t *num
     return found;
 }
 
-void forget(struct query *query) { sqlite3_finalize(query->prepared); }
+void forget(struct query *query) {
+    if (!query->is_kept) sqlite3_finalize(query->prepared);
+}

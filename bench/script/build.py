@@ -1,23 +1,28 @@
 """Builds the peers by the C compiler, and bestore's program by the command rt in a copy of the repository."""
+from __future__ import annotations
+
 import glob
 import os
 import shlex
 import shutil
 import subprocess
 import sys
+from collections.abc import Iterable
 
-from peers import OURS, PEERS
+from peers import OURS, PEERS, TITLES, Peer
 
 BENCH = os.path.dirname(os.path.dirname(os.path.abspath(__file__)))
 REPOSITORY = os.path.dirname(BENCH)
-LINE = "bench_store tests_may=Threads+Wait: arrayvec be_value be_query be_volume be_core be_table be_store\n"
+LINE = "bench_store tests_may=Threads+Wait: arrayvec be_value be_query be_volume be_state be_core be_table be_store\n"
 
 
-def built_programs(folder):
-    """The path of each program that could be built, by its peer's name."""
+def built_programs(folder: str, given: dict[str, str], names: Iterable[str] = TITLES) -> dict[str, str]:
+    """The path of each of the named peers' programs that could be built. Those that are given are taken as they are."""
     os.makedirs(folder, exist_ok=True)
-    programs = {}
+    programs = dict(given)
     for peer in PEERS:
+        if peer.name in given or peer.name not in names:
+            continue
         program = build_ours(folder) if peer.name == OURS else build_peer(peer, folder)
         if program:
             programs[peer.name] = program
@@ -26,24 +31,24 @@ def built_programs(folder):
     return programs
 
 
-def built_peak(folder):
+def built_peak(folder: str) -> str:
     """The program that tells of another one's memory."""
     program = os.path.join(folder, "peak")
     compile_c(program, [f"{BENCH}/peak.c"])
     return program
 
 
-def compile_c(program, words):
+def compile_c(program: str, words: list[str]) -> None:
     subprocess.run(["cc", "-std=gnu11", "-O2", "-o", program, *words], check=True)
 
 
-def has_library(peer):
+def has_library(peer: Peer) -> bool:
     """Whether the compiler finds the peer's library."""
     words = ["cc", "-x", "c", "-", "-o", "/dev/null", f"-l{peer.library}"]
     return subprocess.run(words, input=b"int main(void) { return 0; }", stderr=subprocess.DEVNULL).returncode == 0
 
 
-def build_peer(peer, folder):
+def build_peer(peer: Peer, folder: str) -> str | None:
     archive = os.path.join(REPOSITORY, peer.archive)
     if not os.path.exists(archive) or peer.library and not has_library(peer):
         return None
@@ -54,7 +59,7 @@ def build_peer(peer, folder):
     return program
 
 
-def build_ours(folder):
+def build_ours(folder: str) -> str | None:
     """Proves and builds the program. RT may say how the command is called."""
     rt = shlex.split(os.environ.get("RT", "rt"))
     if not shutil.which(rt[0]):
@@ -64,7 +69,7 @@ def build_ours(folder):
     return os.path.join(crate, "out", "bench_store")
 
 
-def lay_copy(copy):
+def lay_copy(copy: str) -> str:
     """Lays the repository and the program into a folder of their own. The program's folder there."""
     names = needed_crates()
     for name in names:
@@ -79,7 +84,7 @@ def lay_copy(copy):
     return crate
 
 
-def lay_folder(source, target, ending=""):
+def lay_folder(source: str, target: str, ending: str = "") -> None:
     """Makes a folder the same as another one, whose names lose an ending. A folder out/ stays as it is."""
     os.makedirs(target, exist_ok=True)
     there = {name.removesuffix(ending): f"{source}/{name}" for name in os.listdir(source) if name != "out"}
@@ -92,48 +97,49 @@ def lay_folder(source, target, ending=""):
             lay_file(path, f"{target}/{name}")
 
 
-def remove(path):
+def remove(path: str) -> None:
     if os.path.isdir(path):
         shutil.rmtree(path)
     else:
         os.remove(path)
 
 
-def lay_proved(source, target):
+def lay_proved(source: str, target: str) -> None:
     """Copies what is proved of a crate, where the copy's is older."""
     if last_proved(source) > last_proved(target):
         shutil.rmtree(f"{target}/out", ignore_errors=True)
         shutil.copytree(f"{source}/out", f"{target}/out")
 
 
-def last_proved(crate):
+def last_proved(crate: str) -> float:
     """When a crate was checked last, or 0."""
     kept = glob.glob(f"{crate}/out/incremental/*") + glob.glob(f"{crate}/out/rlib/stamp")
     return max(map(os.path.getmtime, kept), default=0)
 
 
-def lay_file(source, target):
+def lay_file(source: str, target: str) -> None:
     if not os.path.exists(target) or open(source, "rb").read() != open(target, "rb").read():
         shutil.copy2(source, target)
 
 
-def crate_lines():
+def crate_lines() -> list[str]:
     with open(f"{REPOSITORY}/crates.txt") as lines:
         return [line for line in lines if ":" in line]
 
 
-def name_in(line):
+def name_in(line: str) -> str:
     return line.split(":")[0].split()[0]
 
 
-def libraries_in(line):
+def libraries_in(line: str) -> list[str]:
     return line.split(":")[1].split()
 
 
-def needed_crates():
+def needed_crates() -> set[str]:
     """The repository's crates that the program stands on."""
     below = {name_in(line): libraries_in(line) for line in crate_lines()}
-    needed, waiting = set(), libraries_in(LINE)
+    needed: set[str] = set()
+    waiting = libraries_in(LINE)
     while waiting:
         name = waiting.pop()
         if name in below and name not in needed:

@@ -1,10 +1,15 @@
 """Runs the programs in turn, round by round, and keeps what each printed."""
+from __future__ import annotations
+
 import os
 import subprocess
 import sys
 from collections import defaultdict
+from collections.abc import Iterable
 
-from peers import NODES, PEERS, SIZES, TITLES
+from peers import NODES, PEERS, SIZES, TITLES, Peer, Workload, single_workloads
+
+Said = list[tuple[str, float]]
 
 POOLS = (1_024, 16_384)
 LISTS = (1, 64)
@@ -15,33 +20,33 @@ COMMITS = 1_000_000
 class Results:
     """The values of each round, by peer, number of nodes and case; and how busy the machine was."""
 
-    def __init__(self, nodes):
-        self.values = defaultdict(list)
-        self.loads = []
+    def __init__(self, nodes: int) -> None:
+        self.values: defaultdict[tuple[str, int, str], list[float]] = defaultdict(list)
+        self.loads: list[float] = []
         self.nodes = nodes
 
-    def add(self, peer, nodes, case, value):
+    def add(self, peer: str, nodes: int, case: str, value: float) -> None:
         self.values[peer, nodes, case].append(value)
 
-    def of(self, peer, case, nodes=None):
+    def of(self, peer: str, case: str, nodes: int | None = None) -> list[float]:
         """The values of a case, for the number of nodes that the table is of, or for another one."""
         return self.values.get((peer, nodes or self.nodes, case), [])
 
-    def best(self, peer, case, nodes=None):
+    def best(self, peer: str, case: str, nodes: int | None = None) -> float | None:
         """The best of the rounds, or none."""
         values = self.of(peer, case, nodes)
         if not values:
             return None
         return max(values) if is_rate(case) else min(values)
 
-    def write(self, path):
+    def write(self, path: str) -> None:
         with open(path, "w") as file:
             print(self.nodes, *self.loads, file=file)
             for (peer, nodes, case), values in self.values.items():
                 print(peer, nodes, case, *values, file=file)
 
     @staticmethod
-    def read(path):
+    def read(path: str) -> "Results":
         with open(path) as file:
             nodes, *loads = file.readline().split()
             results = Results(int(nodes))
@@ -52,24 +57,29 @@ class Results:
         return results
 
 
-def is_rate(case):
+def is_rate(case: str) -> bool:
     """Whether a case's value is so many in a second, and not a time or a size."""
-    return case.startswith(("readers-", "commits-", "writers-"))
+    return case.startswith(("readers-", "commits-", "writers-", "mixed-rate"))
 
 
-def measure(programs, peak, rounds, milliseconds, most):
+def all_workloads(most: int, milliseconds: int) -> list[Workload]:
+    nodes = min(most, NODES)
+    workloads = [Workload(name, size) for size in SIZES if size <= most for name in ("writes", "reads")]
+    workloads += single_workloads(most)
+    workloads += [Workload("threads", nodes, milliseconds, needs_threads=True), Workload("mixed", nodes, needs_threads=True)]
+    return workloads
+
+
+def measure(programs: dict[str, str], peak: str, rounds: int, milliseconds: int, most: int) -> Results:
     """What the programs print, each workload by one peer after the other. `peak` tells of a program's memory."""
     results = Results(min(most, NODES))
-    workloads = [(name, nodes) for nodes in SIZES if nodes <= most for name in ("writes", "reads")]
-    workloads += [("indices", results.nodes), ("threads", results.nodes)]
     peers = [peer for peer in PEERS if peer.name in programs]
     for number in range(1, rounds + 1):
         results.loads.append(os.getloadavg()[0])
-        for workload, nodes in workloads:
+        for workload in all_workloads(most, milliseconds):
             for peer in peers:
-                if workload != "threads" or peer.has_threads:
-                    said = run([programs[peer.name], workload, str(nodes), str(milliseconds)])
-                    keep(results, peer.name, nodes, workload, said)
+                if peer.has_threads or not workload.needs_threads:
+                    keep_workload(results, peer, workload, run([programs[peer.name], *workload.words()]))
         stop_on_other_answers(results)
         for peer in peers:
             if peer.has_journal:
@@ -80,7 +90,15 @@ def measure(programs, peak, rounds, milliseconds, most):
     return results
 
 
-def measure_opening(results, name, program):
+def keep_workload(results: Results, peer: Peer, workload: Workload, said: Said) -> None:
+    """Cases of the sizes that the plot shows are kept by their number of nodes, all others as of that of the table."""
+    nodes = workload.nodes if workload.name in ("writes", "reads") else results.nodes
+    if workload.case:
+        said = [(workload.case, value) for _, value in said]
+    keep(results, peer.name, nodes, workload.name, said)
+
+
+def measure_opening(results: Results, name: str, program: list[str]) -> None:
     """The time that opening takes, and the process's memory at its peak."""
     for pages in POOLS:
         said = dict(run([*program, "open", str(pages)]))
@@ -88,7 +106,7 @@ def measure_opening(results, name, program):
         results.add(name, results.nodes, f"peak-{pages}", said["peak"])
 
 
-def measure_journal(results, name, program):
+def measure_journal(results: Results, name: str, program: str) -> None:
     """The memory that an operation leaves, by how many there are in a list, and the worst of many commits."""
     for count in LISTS:
         said = dict(run([program, "journal", str(OPERATIONS // count), str(count)]))
@@ -96,14 +114,14 @@ def measure_journal(results, name, program):
     keep(results, name, results.nodes, "pauses", run([program, "pauses", "1000", str(COMMITS)]))
 
 
-def keep(results, name, nodes, workload, said):
+def keep(results: Results, name: str, nodes: int, workload: str, said: Said) -> None:
     for case, value in said:
         results.add(name, nodes, f"{workload}-answers" if case == "answers" else case, value)
 
 
-def stop_on_other_answers(results):
+def stop_on_other_answers(results: Results) -> None:
     """Ends where a peer, or a round, has answered otherwise than the first one."""
-    first = {}
+    first: dict[tuple[int, str], tuple[str, float]] = {}
     for (peer, nodes, case), values in results.values.items():
         if case.endswith("-answers"):
             said, answers = first.setdefault((nodes, case), (peer, values[0]))
@@ -111,9 +129,14 @@ def stop_on_other_answers(results):
                 sys.exit(f"{TITLES[peer]} answers otherwise than {TITLES[said]}: {case.removesuffix('-answers')}, {nodes} nodes")
 
 
-def run(words):
+def run(words: list[str]) -> Said:
     """The cases and values that a program prints."""
     ended = subprocess.run(words, stdout=subprocess.PIPE, text=True)
     if ended.returncode != 0:
         sys.exit(f"{' '.join(words)} has ended with status {ended.returncode}")
-    return [(case, float(value)) for case, value in map(str.split, ended.stdout.splitlines())]
+    return values_in(ended.stdout.splitlines())
+
+
+def values_in(lines: Iterable[str]) -> Said:
+    """Of lines `CASE VALUE`, or `CASE VALUE COUNT`."""
+    return [(fields[0], float(fields[1])) for fields in map(str.split, lines)]

@@ -1,9 +1,11 @@
-"""The peers, and how each is built."""
+"""The peers, and how each is built; and the workloads."""
 from dataclasses import dataclass, field
 
 OURS = "bestore"
 NODES = 10_000
 SIZES = [1_000, 2_000, 5_000, NODES, 20_000]
+FILES = 17_000
+MANY = 26_000
 
 
 @dataclass
@@ -12,12 +14,41 @@ class Peer:
     title: str
     color: str
     sources: str = ""
-    flags: list = field(default_factory=list)
+    flags: list[str] = field(default_factory=list)
     library: str = ""
     archive: str = ""
     package: str = ""
     has_threads: bool = True
     has_journal: bool = False
+
+
+@dataclass(frozen=True)
+class Workload:
+    """What a program is called with. Where `case` has a text, it is the name of the only case that the program prints."""
+
+    name: str
+    nodes: int
+    other: int = 0
+    case: str = ""
+    needs_threads: bool = False
+
+    def words(self) -> list[str]:
+        return [self.name, str(self.nodes), str(self.other)]
+
+
+def single_workloads(most: int) -> list[Workload]:
+    """The workloads that run with one number of nodes: at most so many."""
+    nodes = min(NODES, most)
+    return [
+        Workload("indices", nodes),
+        Workload("patterns", nodes),
+        Workload("shared", nodes),
+        Workload("held", nodes, case="set-held", needs_threads=True),
+        Workload("sets", min(MANY, most), 2, case="set-many"),
+        Workload("sets", nodes, 8, case="set-8"),
+        Workload("sets", nodes, 32, case="set-32"),
+        Workload("import", min(FILES, most)),
+    ]
 
 
 PEERS = [

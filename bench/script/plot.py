@@ -1,6 +1,10 @@
 """A plot of speed by the number of nodes and by the number of readers, as SVG."""
-import math
+from __future__ import annotations
 
+import math
+from collections.abc import Iterator, Sequence
+
+from measure import Results
 from peers import COLORS, PEERS, SIZES, TITLES
 
 WIDTH, HEIGHT = 300, 240
@@ -11,26 +15,27 @@ READERS = [1, 2, 4]
 class Panel:
     """Lines over places on a line, both axes by logarithms. Values are thousands in a second."""
 
-    def __init__(self, title, below, places):
+    def __init__(self, title: str, below: str, places: Sequence[int]) -> None:
         self.title, self.below, self.places = title, below, places
-        self.lines = []
+        self.lines: list[tuple[str, list[float], bool]] = []
 
-    def add(self, peer, values, dashed=False):
-        if all(values):
-            self.lines.append((peer, values, dashed))
+    def add(self, peer: str, values: list[float | None], dashed: bool = False) -> None:
+        known = [value for value in values if value]
+        if len(known) == len(values):
+            self.lines.append((peer, known, dashed))
 
-    def bounds(self):
+    def bounds(self) -> tuple[float, float]:
         values = [value for _, line, _ in self.lines for value in line]
         return math.floor(math.log10(min(values)) * 3) / 3, math.ceil(math.log10(max(values)) * 3) / 3
 
-    def draw(self, left):
+    def draw(self, left: float) -> Iterator[str]:
         low, high = self.bounds()
         first, last = math.log(self.places[0]), math.log(self.places[-1])
 
-        def x(place):
+        def x(place: float) -> float:
             return left + WIDTH * (math.log(place) - first) / (last - first)
 
-        def y(value):
+        def y(value: float) -> float:
             return TOP + HEIGHT * (1 - (math.log10(value) - low) / (high - low))
 
         yield text(left + WIDTH / 2, TOP - 14, self.title, "middle", "bold")
@@ -47,7 +52,7 @@ class Panel:
             yield f'<polyline points="{points}" fill="none" stroke="{COLORS[peer]}" stroke-width="2"{dashes}/>'
 
 
-def ticks(low, high):
+def ticks(low: float, high: float) -> Iterator[float]:
     """1, 2, 5, 10 and so on, between two powers of ten."""
     for power in range(math.floor(low), math.ceil(high) + 1):
         for digit in (1, 2, 5):
@@ -55,11 +60,11 @@ def ticks(low, high):
                 yield digit * 10**power
 
 
-def text(x, y, words, anchor="start", weight="normal"):
+def text(x: float, y: float, words: str, anchor: str = "start", weight: str = "normal") -> str:
     return f'<text x="{x:.1f}" y="{y:.1f}" text-anchor="{anchor}" font-weight="{weight}">{words}</text>'
 
 
-def by_nodes(results, case, title):
+def by_nodes(results: Results, case: str, title: str) -> Panel:
     sizes = [nodes for nodes in SIZES if any(results.best(peer.name, case, nodes) for peer in PEERS)]
     panel = Panel(title, "nodes", sizes)
     for peer in PEERS:
@@ -68,7 +73,7 @@ def by_nodes(results, case, title):
     return panel
 
 
-def by_readers(results):
+def by_readers(results: Results) -> Panel:
     panel = Panel("Queries of 100 nodes, thousands in a second", "readers; dashed: beside a writer", READERS)
     for peer in PEERS:
         for beside in ("", "-beside"):
@@ -77,7 +82,7 @@ def by_readers(results):
     return panel
 
 
-def legend(shown):
+def legend(shown: list[str]) -> Iterator[str]:
     for i, peer in enumerate(shown):
         x = LEFT + 150 * i
         y = TOP + HEIGHT + 62
@@ -85,7 +90,7 @@ def legend(shown):
         yield text(x + 30, y, TITLES[peer])
 
 
-def write_plot(results, path):
+def write_plot(results: Results, path: str) -> None:
     panels = [
         by_nodes(results, "set-indexed", "Sets, indexed, thousands in a second"),
         by_nodes(results, "one-text", "Queries of one node, thousands in a second"),

@@ -1,17 +1,30 @@
 """The table: a row for each case, a column for each peer."""
-import sys
+from __future__ import annotations
 
-from measure import is_rate
+import sys
+from collections.abc import Iterator
+
+from measure import Results, is_rate
 from peers import OURS, PEERS
 
 CASES = {
     "create": "create: a node and three sets, an operation",
     "set-indexed": "set, indexed",
     "set-unindexed": "set, not indexed",
-    "list": "set, in lists of 64",
+    "list": "set, in batches of 64",
+    "set-held": "set, indexed, while another pass is pinned all the time",
+    "set-many": "set, indexed, in a store of 26,000 nodes",
+    "set-8": "set, indexed, with 8 indices in the store",
+    "set-32": "set, indexed, with 32 indices in the store",
     "drop": "drop",
-    "names-8": "set of a new name, in lists of 8 on a node",
-    "names-64": "the same, in lists of 64",
+    "names-8": "set of a new name, in batches of 8 on a node",
+    "names-64": "the same, in batches of 64",
+    "import-single": "import of 17,000 files of five attributes, three of them indexed: a file, each operation a commit",
+    "import-lists": "the same, ten files a commit",
+    "import-one": "the same, all in one commit",
+    "dump": "reading the operations that make these files again: a file",
+    "restore": "writing these to an empty store: a file",
+    "bytes-file": "bytes of pages in use, a file",
     "one-text": '`name=="x"`, 1 node',
     "one-text-32": "the same, with 32 indices in the store",
     "parsed": "the same, parsed each time",
@@ -21,8 +34,25 @@ CASES = {
     "front-100": '`name=="012*"`, 100 nodes',
     "filter": '`name=="012*" && size>=a`',
     "get": "get",
+    "shared-8": '`name=="x"`, 1 node, if all names have the same first 8 bytes',
+    "shared-16": "the same with 16 bytes",
+    "shared-24": "the same with 24 bytes",
+    "contains": '`name=="*report*"`, over 10,000 names, a tenth of them found',
+    "ends": '`name=="*.jpg"`, a sixth of them found',
+    "unequal": '`name!="x"`, all but one found',
+    "any-three": '`name=="x" \\|\\| name=="y" \\|\\| name=="z"`',
+    "contains-from": '`name=="*report*" && size>=a`, `a` in the smaller half',
+    "attributes": "`size>=a && size<b`, 100 nodes, and their five attributes",
+    "first-50": "`size>=a`, 10,000 nodes: the first 50 of them, by their numbers",
+    "any-50": "the same: any 50 of them",
     "any-4": "4 comparisons by `\\|\\|`, 32 indices",
     "any-256": "256 comparisons by `\\|\\|`, 32 indices",
+    "live-10": "refresh of a live query of 10 nodes after a write, with its pin",
+    "live-query-10": "the query itself after a write, with its pin",
+    "live-1000": "refresh of one of 1,000 nodes",
+    "live-query-1000": "the query itself",
+    "live-10000": "refresh of one of 10,000 nodes",
+    "live-query-10000": "the query itself",
     "pin": "pin and unpin",
     "pin-beside": "the same, beside a writer",
     "readers-1": "queries, 1 reader",
@@ -36,6 +66,13 @@ CASES = {
     "commits-2": "commits beside 2 readers",
     "commits-4": "commits beside 4 readers",
     "writers-2": "commits of 2 writers together",
+    "mixed-rate": "4 threads, each 19 queries of one node to a write",
+    "mixed-read-50": "of these: the median of the queries, with their pins",
+    "mixed-read-99": "99 of 100 take no longer",
+    "mixed-read-max": "the longest",
+    "mixed-write-50": "the median of the writes",
+    "mixed-write-99": "99 of 100 take no longer",
+    "mixed-write-max": "the longest",
     "open-1024": "opening 1,024 pages",
     "open-16384": "opening 16,384 pages",
     "peak-1024": "memory of the process for it, 1,024 pages",
@@ -47,18 +84,18 @@ CASES = {
 }
 
 
-def number(value):
+def number(value: float) -> str:
     """Three digits, or all before the point."""
     return f"{value:.0f}" if value >= 100 else f"{value:.3g}"
 
 
-def shown(case, value):
+def shown(case: str, value: float) -> str:
     """A value with its unit."""
     if is_rate(case):
         return f"{number(value / 1e3)} k/s"
     if case.startswith("peak-"):
         return f"{number(value / 1e6)} MB"
-    if case.startswith("journal-"):
+    if case.startswith(("journal-", "bytes-")):
         return f"{number(value)} B"
     for unit, size in (("ms", 1e6), ("µs", 1e3)):
         if value >= size:
@@ -66,12 +103,12 @@ def shown(case, value):
     return f"{number(value)} ns"
 
 
-def gain(case, ours, other):
+def gain(case: str, ours: float, other: float) -> float:
     """How many times as fast, or as small, bestore is."""
     return ours / other if is_rate(case) else other / ours
 
 
-def cell(results, peer, case):
+def cell(results: Results, peer: str, case: str) -> str:
     value, ours = results.best(peer, case), results.best(OURS, case)
     if value is None:
         return ""
@@ -80,13 +117,13 @@ def cell(results, peer, case):
     return f"{shown(case, value)} ({gain(case, ours, value):.2f})"
 
 
-def spread(results, case):
+def spread(results: Results, case: str) -> str:
     """The worst of bestore's rounds by the best."""
     values = results.of(OURS, case)
     return f"{max(values) / min(values):.2f}" if values and min(values) > 0 else ""
 
 
-def table_lines(results):
+def table_lines(results: Results) -> Iterator[str]:
     peers = [peer for peer in PEERS if any(results.of(peer.name, case) for case in CASES)]
     rounds = max((len(values) for values in results.values.values()), default=0)
     yield f"The best of {rounds} rounds in turn; load of the machine {min(results.loads):.1f} to {max(results.loads):.1f}."
@@ -100,7 +137,7 @@ def table_lines(results):
             yield f"| {title} | " + " | ".join(cells) + f" | {spread(results, case)} |"
 
 
-def write_table(results, path):
+def write_table(results: Results, path: str) -> None:
     """Puts the table in the place of what stands between the two marks of a document."""
     with open(path) as file:
         before, mark, rest = file.read().partition("<!-- table -->\n")

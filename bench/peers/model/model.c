@@ -54,6 +54,8 @@ void store_close(struct store *store) {
     free(store);
 }
 
+uint64_t bytes_used(struct store *store) { return 8 * PAGE_WORDS * (store->pool.pages - store->pool.free_count); }
+
 /* Writes */
 
 static void enter(struct store *store, const struct entry *entry) {
@@ -180,22 +182,53 @@ static bool holds(struct pass *pass, const struct comparison *it, uint64_t node)
     return value_holds(it, stored, length);
 }
 
-size_t ask(struct pass *pass, struct query *query, uint64_t *nodes, size_t most) {
+/* The nodes that a walk over the picked index finds, in its order, behind `count` of them. */
+static size_t walk(struct pass *pass, const struct query *query, uint64_t *nodes, size_t count, size_t most) {
+    const struct comparison *pick = &query->comparisons[query->pick];
     struct cursor cursor;
     uint8_t from[VALUE_MOST], to[VALUE_MOST], bytes[VALUE_MOST + 16];
-    size_t count = 0;
-    load_version(&pass->version, &pass->store->pool, pass->pinned);
-    const struct index *index = index_of(&pass->version, query->comparisons[query->pick].name);
+    bool scans = is_scan(pick);
+    const struct index *index = index_of(&pass->version, pick->name);
     uint32_t length = walk_bounds(query, index->kind, from, to);
     struct key key = key_of(from, length);
     for (bool more = seek(&cursor, &pass->store->pool, index->root, &key); more; more = step(&cursor)) {
         uint32_t found = key_at(&cursor, bytes);
         if (memcmp(bytes, to, length) > 0) break;
+        if (scans && !text_holds(pick, key_text(bytes, found))) continue;
         uint64_t node = take_number(bytes + found - 8);
         if (count < most && all_hold(pass, query, node)) nodes[count++] = node;
     }
-    sort_nodes(nodes, count);
     return count;
+}
+
+size_t ask(struct pass *pass, struct query *query, uint64_t *nodes, size_t most) {
+    size_t count = 0;
+    load_version(&pass->version, &pass->store->pool, pass->pinned);
+    if (!query->is_any) count = walk(pass, query, nodes, 0, most);
+    else
+        for (query->pick = 0; query->pick < query->count; query->pick++) count = walk(pass, query, nodes, count, most);
+    sort_nodes(nodes, count);
+    return query->is_any ? without_doubles(nodes, count) : count;
+}
+
+/* By a walk over each node's attributes. */
+uint64_t read_each(struct pass *pass, const uint64_t *nodes, size_t count) {
+    const struct pool *pool = &pass->store->pool;
+    uint64_t catalog = word_at(pool, pass->pinned, 3), sum = 0;
+    uint8_t number[8], bytes[VALUE_MOST + 16], stored[VALUE_MOST];
+    for (size_t i = 0; i < count; i++) {
+        struct cursor cursor;
+        put_number(number, nodes[i]);
+        struct key key = key_of(number, 8);
+        bool more = seek(&cursor, pool, catalog, &key);
+        for (more = more && step(&cursor); more; more = step(&cursor)) {
+            key_at(&cursor, bytes);
+            if (memcmp(bytes, number, 8)) break;
+            uint32_t length = payload_at(&cursor, stored);
+            sum += weight_of(stored, length);
+        }
+    }
+    return sum;
 }
 
 bool get_number(struct pass *pass, uint64_t node, struct text name, int64_t *number) {
