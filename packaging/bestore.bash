@@ -16,10 +16,17 @@ _bestore() {
     fi
     case $before in
         --pages | --commits) return ;; # a number
+        --journal)
+            if [ "${COMP_WORDS[1]}" = shell ]; then
+                _bestore_files "$word"
+                return
+            fi
+            ;;
     esac
     case ${COMP_WORDS[1]} in
-        run) options='--journal --pages --commits --help' ;;
-        race | shell) options='--pages --commits --help' ;;
+        run) options='--journal --strict --pages --commits --help' ;;
+        race) options='--pages --commits --help' ;;
+        shell) options='--journal --pages --commits --help' ;;
         dump) options='--state --help' ;;
         check) options='--help' ;;
         *) return ;;

@@ -3,7 +3,7 @@ use Rattle.std.specs.Prelude.{◌≡◌, ◌≤◌, ⊤, vec_len}
 use Rattle.be_table.specs.declared.limits.Limits.{Limits}
 use Rattle.be_table.specs.Rule.{IsWithin}
 use Rattle.be_command_line.specs.declared.tasks.Task.{Task}
-use Rattle.be_command_line.specs.declared.tasks.Task.TheVariants.{Run, RunAndTell, Race, Shell, Check, Dump, DumpState}
+use Rattle.be_command_line.specs.declared.tasks.Task.TheVariants.{Run, RunAndTell, RunStrictly, RunStrictlyAndTell, Race, Shell, ShellAndTell, Check, Dump, DumpState}
 
 -- the limits with one pass, whatever their own number of passes
 abbrev pub for_one : Limits → Limits
@@ -18,8 +18,11 @@ AreForOne limits = IsWithin limits × (limits.passes ≡ 1)
 abbrev pub IsTask : Task → Type 0
 IsTask (Run file limits) = AreForOne limits
 IsTask (RunAndTell file limits) = AreForOne limits
+IsTask (RunStrictly file limits) = AreForOne limits
+IsTask (RunStrictlyAndTell file limits) = AreForOne limits
 IsTask (Race files limits) = IsWithin (for_one limits) × (1 ≤ vec_len files) × (limits.passes ≡ vec_len files)
 IsTask (Shell file limits) = AreForOne limits
+IsTask (ShellAndTell file journal limits) = AreForOne limits
 IsTask (Check file) = ⊤
 IsTask (Dump file) = ⊤
 IsTask (DumpState file) = ⊤

@@ -1,8 +1,9 @@
 //! The command line.
 //!
-//! `bestore run [--journal] [--pages N] [--commits N] FILE`, `bestore race [--pages N] [--commits N] SCRIPT...`, `bestore
-//! shell [--pages N] [--commits N] [FILE]`, `bestore check FILE` and `bestore dump [--state] FILE`. `clap` reads the words,
-//! writes the help and the version, and tells what is wrong. How many scripts a race takes is for the program to look at.
+//! `bestore run [--journal] [--strict] [--pages N] [--commits N] FILE`, `bestore race [--pages N] [--commits N] SCRIPT...`,
+//! `bestore shell [--journal FILE] [--pages N] [--commits N] [FILE]`, `bestore check FILE` and `bestore dump [--state] FILE`.
+//! `clap` reads the words, writes the help and the version, and tells what is wrong. How many scripts a race takes is for the
+//! program to look at.
 ghost use Rattle.std.specs.Prelude.{IfOk, IfSome};
 ghost use Rattle.be_command_line.specs.Task.{AreForOne, IsTask};
 
@@ -18,8 +19,11 @@ const VERSION: &str = "0.2.0";
 /// The argument of all commands but `race`, as help shows it.
 const FILE: &str = "FILE";
 
-/// The option of `run`.
+/// The option of `run`, and that of `shell` with a file.
 const JOURNAL: &str = "journal";
+
+/// The other option of `run`.
+const STRICT: &str = "strict";
 
 /// The option of `dump`.
 const STATE: &str = "state";
@@ -93,13 +97,19 @@ fn run_command<'a>(alloc: Global) -> Result<Command<'a>, AllocError> {
         JOURNAL,
         "Print the journal and its check behind the replies",
     );
+    let strict = flag(
+        alloc,
+        STRICT,
+        "End with status 1 after the first line that is refused",
+    );
     command(
         alloc,
         "run",
         "Run a script and print the reply to each line",
         file,
     )?
-    .arg(journal)
+    .arg(journal)?
+    .arg(strict)
 }
 
 fn race_command<'a>(alloc: Global) -> Result<Command<'a>, AllocError> {
@@ -120,12 +130,18 @@ fn shell_command<'a>(alloc: Global) -> Result<Command<'a>, AllocError> {
     let file = Arg::new(alloc, FILE)
         .help("Lines that are run first")
         .action(ArgAction::Set);
+    let journal = Arg::new(alloc, JOURNAL)
+        .long(JOURNAL)
+        .value_name("FILE")
+        .help("Write the journal and its check into a new or empty file at the end")
+        .action(ArgAction::Set);
     command(
         alloc,
         "shell",
         "Answer each line of standard input when it comes",
         file,
-    )
+    )?
+    .arg(journal)
 }
 
 /// A command that takes the file of a journal alone.
@@ -207,12 +223,17 @@ fn limits_of(matches: &ArgMatches) -> Option<Limits>
     Some(limits)
 }
 
-/// The name of the one file, if there is one.
-fn file_of(alloc: Global, matches: &ArgMatches) -> Result<Option<String>, AllocError> {
-    match matches.get_strs(FILE).unwrap_or(&[]).first() {
-        Some(file) => Ok(Some(String::from_str(alloc, file)?)),
+/// The value of an option or an argument that takes one, if it is given.
+fn value_of(alloc: Global, matches: &ArgMatches, name: &str) -> Result<Option<String>, AllocError> {
+    match matches.get_strs(name).unwrap_or(&[]).first() {
+        Some(value) => Ok(Some(String::from_str(alloc, value)?)),
         None => Ok(None),
     }
+}
+
+/// The name of the one file, if there is one.
+fn file_of(alloc: Global, matches: &ArgMatches) -> Result<Option<String>, AllocError> {
+    value_of(alloc, matches, FILE)
 }
 
 /// The names of the files of a race.
@@ -230,10 +251,14 @@ fn run_task(alloc: Global, matches: &ArgMatches) -> Result<Option<Task>, AllocEr
     let Some(limits) = limits_of(matches) else {
         return Ok(None);
     };
-    match file_of(alloc, matches)? {
-        Some(file) if matches.get_flag(JOURNAL) => Ok(Some(Task::RunAndTell(file, limits))),
-        Some(file) => Ok(Some(Task::Run(file, limits))),
-        None => Ok(None),
+    let Some(file) = file_of(alloc, matches)? else {
+        return Ok(None);
+    };
+    match (matches.get_flag(STRICT), matches.get_flag(JOURNAL)) {
+        (false, false) => Ok(Some(Task::Run(file, limits))),
+        (false, true) => Ok(Some(Task::RunAndTell(file, limits))),
+        (true, false) => Ok(Some(Task::RunStrictly(file, limits))),
+        (true, true) => Ok(Some(Task::RunStrictlyAndTell(file, limits))),
     }
 }
 
@@ -260,7 +285,11 @@ fn shell_task(alloc: Global, matches: &ArgMatches) -> Result<Option<Task>, Alloc
     let Some(limits) = limits_of(matches) else {
         return Ok(None);
     };
-    Ok(Some(Task::Shell(file_of(alloc, matches)?, limits)))
+    let file = file_of(alloc, matches)?;
+    match value_of(alloc, matches, JOURNAL)? {
+        Some(journal) => Ok(Some(Task::ShellAndTell(file, journal, limits))),
+        None => Ok(Some(Task::Shell(file, limits))),
+    }
 }
 
 fn check_task(alloc: Global, matches: &ArgMatches) -> Result<Option<Task>, AllocError>

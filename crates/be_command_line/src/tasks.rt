@@ -8,10 +8,16 @@ pub enum Task {
     Run(String, Limits),
     /// The same, and to tell the journal behind the replies.
     RunAndTell(String, Limits),
+    /// To run it up to the first line that is refused.
+    RunStrictly(String, Limits),
+    /// The same, and to tell the journal behind the replies.
+    RunStrictlyAndTell(String, Limits),
     /// To race the scripts of these files against one another, on a store with a pass for each.
     Race(Vec<String>, Limits),
     /// To talk with standard input about a store of one pass, behind the lines of a file where one is named.
     Shell(Option<String>, Limits),
+    /// The same, and to write the journal into the second file at the end.
+    ShellAndTell(Option<String>, String, Limits),
     /// To check the journal that a file tells.
     Check(String),
     /// To print the script of the journal that a file tells.

@@ -11,7 +11,9 @@ use std::test::Fail;
 fn numbers(task: &Task) -> (u64, u64, u64) {
     let limits = match task {
         Task::Run(_, limits) | Task::RunAndTell(_, limits) => limits,
+        Task::RunStrictly(_, limits) | Task::RunStrictlyAndTell(_, limits) => limits,
         Task::Race(_, limits) | Task::Shell(_, limits) => limits,
+        Task::ShellAndTell(_, _, limits) => limits,
         Task::Check(_) | Task::Dump(_) | Task::DumpState(_) => return (0, 0, 0),
     };
     (limits.pages, limits.passes, limits.commits)
@@ -22,21 +24,29 @@ fn name_of(task: &Task) -> &'static str {
     match task {
         Task::Run(..) => "run",
         Task::RunAndTell(..) => "run --journal",
+        Task::RunStrictly(..) => "run --strict",
+        Task::RunStrictlyAndTell(..) => "run --strict --journal",
         Task::Check(..) => "check",
         Task::Dump(..) => "dump",
         Task::DumpState(..) => "dump --state",
         Task::Race(..) => "race",
         Task::Shell(..) => "shell",
+        Task::ShellAndTell(..) => "shell --journal",
     }
 }
 
-/// The file at a place of a task, if it has so many.
+/// The file at a place of a task, if it has so many. The journal's file of a shell is its first.
 fn file_at(task: &Task, place: usize) -> Option<&str> {
     match task {
         Task::Run(file, _) | Task::RunAndTell(file, _) if place == 0 => Some(file.as_str()),
+        Task::RunStrictly(file, _) | Task::RunStrictlyAndTell(file, _) if place == 0 => {
+            Some(file.as_str())
+        }
         Task::Check(file) | Task::Dump(file) if place == 0 => Some(file.as_str()),
         Task::DumpState(file) if place == 0 => Some(file.as_str()),
         Task::Shell(Some(file), _) if place == 0 => Some(file.as_str()),
+        Task::ShellAndTell(_, journal, _) if place == 0 => Some(journal.as_str()),
+        Task::ShellAndTell(Some(file), _, _) if place == 1 => Some(file.as_str()),
         Task::Race(files, _) => files.get(place).map(|file| file.as_str()),
         _ => None,
     }
@@ -113,6 +123,8 @@ run --pages 8 --commits 1 f => run 8 1 1 f
 run --pages 16384 --commits 4294967295 f => run 16384 1 4294967295 f
 run --journal f => run --journal 1024 1 1000000 f
 run f --pages 9 --journal => run --journal 9 1 1000000 f
+run --strict f => run --strict 1024 1 1000000 f
+run f --journal --commits 2 --strict => run --strict --journal 1024 1 2 f
 check f => check 0 0 0 f
 check - => check 0 0 0 -
 dump check => dump 0 0 0 check
@@ -120,6 +132,8 @@ dump --state f => dump --state 0 0 0 f
 dump - --state => dump --state 0 0 0 -
 shell => shell 1024 1 1000000
 shell --pages 8 --commits 1 f => shell 8 1 1 f
+shell --journal j => shell --journal 1024 1 1000000 j
+shell f --journal=j --pages 8 => shell --journal 8 1 1000000 j f
 race a => race 1024 1 1000000 a
 race a b c d e => race 1024 5 1000000 a b c d e
 race --commits 9 a b --pages 64 c => race 64 3 9 a b c
@@ -146,6 +160,9 @@ dump --state => MissingRequiredArgument
 check --state f => UnknownArgument
 check --pages 8 f => UnknownArgument
 race --journal f g => UnknownArgument
+race --strict f g => UnknownArgument
+shell --strict => UnknownArgument
+shell --journal => InvalidValue
 walk f => InvalidSubcommand
 race => MissingRequiredArgument
 race --pages 7 f g => ValueValidation

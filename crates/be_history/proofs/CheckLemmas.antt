@@ -12,5 +12,5 @@ written_checked entries are = (All-weaker CanBeEntry IsEntry (λ entry w. w.is) 
 pub finding_told : (text : List ℕ) (entries : List Entry) → CanBeJournal entries → TextTells text entries → (found : Found) → IsFound entries found →
     IsFinding text found
 finding_told text entries are tells no_journal is = absurd is
-finding_told text entries are tells right is = (entries, are, tells, is)
-finding_told text entries are tells (wrong line) is = (entries, are, tells, is)
+finding_told text entries are tells (right count) is = (entries, are, tells, is)
+finding_told text entries are tells (wrong count line) is = (entries, are, tells, is)

@@ -35,25 +35,27 @@ IsFromLastJ text (Some last) = IsFromJ text last × ((rest : List ℕ) → IsFro
 abbrev pub AreChecked : List Entry → Type 0
 AreChecked entries = All IsEntry entries × (length entries < 2 ^ 32)
 
--- what the check of a text finds: that it tells no journal, that its journal is right, or the line of the first wrong entry
+-- what the check of a text finds: that it tells no journal, that its journal of so many entries is right, or how many it has
+-- and the line of the first wrong one
 pub data Found : Type 0 where
   no_journal : Found
-  right : Found
-  wrong : List ℕ → Found
+  right : ℕ → Found
+  wrong : ℕ → List ℕ → Found
 
 abbrev pub found_of : Finding → Found
 found_of findings.NoJournal = no_journal
-found_of findings.Right = right
-found_of (findings.Wrong line) = wrong (string_bytes line)
+found_of (findings.Right count) = right count
+found_of (findings.Wrong line count) = wrong count (string_bytes line)
 
 -- what the check of entries finds
 abbrev pub IsFound : List Entry → Found → Type 0
 IsFound entries no_journal = ⊥
-IsFound entries right = IsFirstWrong entries None
-IsFound entries (wrong line) = (i : ℕ) × (entry : Entry) × IsFirstWrong entries (Some i) × (entry ≡ get_or entries i entry) × (line ≡ entry_line (i + 1) entry)
+IsFound entries (right count) = IsFirstWrong entries None × (count ≡ length entries)
+IsFound entries (wrong count line) =
+    (i : ℕ) × (entry : Entry) × IsFirstWrong entries (Some i) × (entry ≡ get_or entries i entry) × (line ≡ entry_line (i + 1) entry) × (count ≡ length entries)
 
 -- what the check of a text finds
 abbrev pub IsFinding : List ℕ → Found → Type 0
 IsFinding text no_journal = (entries : List Entry) → CanBeJournal entries → TextTells text entries → ⊥
-IsFinding text right = (entries : List Entry) × CanBeJournal entries × TextTells text entries × IsFound entries right
-IsFinding text (wrong line) = (entries : List Entry) × CanBeJournal entries × TextTells text entries × IsFound entries (wrong line)
+IsFinding text (right count) = (entries : List Entry) × CanBeJournal entries × TextTells text entries × IsFound entries (right count)
+IsFinding text (wrong count line) = (entries : List Entry) × CanBeJournal entries × TextTells text entries × IsFound entries (wrong count line)

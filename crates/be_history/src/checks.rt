@@ -11,25 +11,27 @@ use std::alloc::{AllocError, Global};
 pub enum Finding {
     /// The text tells no journal.
     NoJournal,
-    /// Each entry was answered as a volume answers it that ran those before it.
-    Right,
-    /// The line of the first entry that was not, with its LF.
-    Wrong(String),
+    /// Each of so many entries was answered as a volume answers it that ran those before it.
+    Right(u64),
+    /// The line of the first entry that was not, with its LF, and how many entries the journal has.
+    Wrong(String, u64),
 }
 
-/// The line of the first wrong entry, or that there is none.
+/// The line of the first wrong entry, or that there is none; and how many entries there are.
 fn finding_of(alloc: Global, entries: &[Entry]) -> Result<Finding, AllocError>
     requires { spec.AreChecked entries.now }
     ensures { IfOk result (λ found. spec.IsFound entries.now (spec.found_of found)) }
 {
-    match first_wrong(alloc, entries)? {
-        Some(place) => Ok(Finding::Wrong(entry_line(alloc, place + 1, &entries[place as usize])?)),
-        None => Ok(Finding::Right),
-    }
+    let count = entries.len() as u64;
+    let Some(place) = first_wrong(alloc, entries)? else {
+        return Ok(Finding::Right(count));
+    };
+    let line = entry_line(alloc, place + 1, &entries[place as usize])?;
+    Ok(Finding::Wrong(line, count))
 }
 
 /// Runs the journal that a text tells again, on an empty volume: whether each entry was answered the same, or the first that
-/// was not. It trusts nothing but the text. Only want of memory is an error.
+/// was not, and how many it has. It trusts nothing but the text. Only want of memory is an error.
 pub fn check(alloc: Global, text: &[u8]) -> Result<Finding, AllocError>
     ensures { IfOk result (λ found. spec.IsFinding text.now (spec.found_of found)) }
 {

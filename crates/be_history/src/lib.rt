@@ -19,5 +19,5 @@ mod told;
 pub use checks::{Finding, check};
 pub use dumps::dump;
 pub use journals::read_journal;
-pub use state_dumps::dump_state;
+pub use state_dumps::{dump_state, push_write, volume_text};
 pub use told::journal_told;

@@ -21,7 +21,7 @@ use be_volume::{Op, Volume};
 use std::alloc::{AllocError, Global};
 
 /// Appends the lines of one write, whose operations are such of the program.
-fn push_write(alloc: Global, text: &mut String, ops: &[Op]) -> Result<(), AllocError>
+pub fn push_write(alloc: Global, text: &mut String, ops: &[Op]) -> Result<(), AllocError>
     ensures text { OnOk result (string_bytes text.new ≡ string_bytes text.old ++ spec.write_lines ops.now) }
     ensures can { All CanBeOp ops.now }
 {
@@ -50,8 +50,9 @@ fn push_next(
     Ok(true)
 }
 
-/// The script that makes a volume.
-fn volume_text(alloc: Global, volume: &Volume) -> Result<String, AllocError>
+/// The script that makes a volume, and not its history: what `dump_state` gives of a journal that makes this volume. Only want
+/// of memory is an error.
+pub fn volume_text(alloc: Global, volume: &Volume) -> Result<String, AllocError>
     ensures text { IfOk result (λ text. string_bytes text ≡ spec.state_dump volume.now) }
     ensures can { OnOk result (All CanBeOp (state_ops volume.now)) }
 {

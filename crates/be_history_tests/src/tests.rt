@@ -193,34 +193,38 @@ fn results_are_told(rt: HostRuntime) -> Result<(), Fail> {
     Ok(())
 }
 
-/// What a finding prints.
-fn shown(found: &Finding) -> &str {
+/// What a finding prints, and how many entries it counts.
+fn shown(found: &Finding) -> (&str, u64) {
     match found {
-        Finding::NoJournal => "no journal",
-        Finding::Right => "right",
-        Finding::Wrong(line) => line.as_str(),
+        Finding::NoJournal => ("no journal", 0),
+        Finding::Right(count) => ("right", *count),
+        Finding::Wrong(line, count) => (line.as_str(), *count),
     }
 }
 
 #[test]
 fn journals_are_checked(rt: HostRuntime) -> Result<(), Fail> {
     let alloc = rt.alloc();
-    for (text, expected) in [
-        ("", "right"),
-        (EACH, "right"),
-        ("pass 0\n", "no journal"),
-        ("1 by 0 new -> node 2\n", "1 by 0 new -> node 2\n"),
+    for (text, expected, count) in [
+        ("", "right", 0),
+        (EACH, "right", 7),
+        ("pass 0\n", "no journal", 0),
+        ("1 by 0 new -> node 2\n", "1 by 0 new -> node 2\n", 1),
         (
             "1 by 0 new -> node 1\n2 by 1 new -> node 1\n3 by 0 new -> node 9\n",
             "2 by 1 new -> node 1\n",
+            3,
         ),
         (
             "journal 2\n1 by 0 new -> node 1\n2 by 0 drop 2 -> ok\nreplay ok\n",
             "2 by 0 drop 2 -> ok\n",
+            2,
         ),
     ] {
         let found = checked(alloc, text)?;
-        assert_eq!(rt; shown(&found), expected);
+        let (told, counted) = shown(&found);
+        assert_eq!(rt; told, expected);
+        assert_eq!(rt; counted, count);
     }
     Ok(())
 }

@@ -7,5 +7,10 @@
 
 pub use be_command_line::{Task, task};
 pub use be_history::{Finding, check, dump, dump_state, journal_told};
-pub use be_serving::{Gate, Limits, OpenGate, RunFault, laws, race, read_files, run, run_and_tell};
-pub use be_shell::{Aside, Breaking, Ends, Line, Peer, Screen, Terminal, converse, shell};
+pub use be_serving::{
+    Gate, Journal, Limits, OpenGate, RefusedLine, RunFault, laws, put_result, race, read_files,
+    run, run_and_tell, run_strictly,
+};
+pub use be_shell::{
+    Aside, Breaking, Ends, Line, Peer, Screen, Terminal, converse, shell, shell_and_close,
+};

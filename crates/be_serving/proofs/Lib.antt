@@ -14,4 +14,6 @@ pub mod ReplyLemmas
 pub mod RunLemmas
 pub mod ScanLemmas
 pub mod StateDumpLemmas
+pub mod StateTextLemmas
+pub mod StrictLemmas
 pub mod TellLemmas

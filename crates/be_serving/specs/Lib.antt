@@ -5,5 +5,6 @@ pub mod Race
 pub mod Run
 pub mod Served
 pub mod Store
+pub mod Strict
 pub mod Telling
 pub mod View

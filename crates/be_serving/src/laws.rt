@@ -1,13 +1,14 @@
 //! Laws of the definitions. Each does nothing; its contract is the law.
-ghost use Rattle.std.specs.Prelude.{◌≡◌, ◌≤◌, ℕ, All, List, length};
+ghost use Rattle.std.specs.Prelude.{◌≡◌, ◌≤◌, ◌∷◌, [], ◌++◌, ℕ, All, List, Some, None, length};
 ghost use Rattle.be_history.specs.Dump.{dump, state_dump};
 ghost use Rattle.be_history.specs.History.{CanBeJournal, CanBeOp};
 ghost use Rattle.be_journal.specs.Journal.{IsLegal, replay};
 ghost use Rattle.be_journal.specs.declared.entries.Entry.{Entry as AnyEntry};
-ghost use Rattle.be_serving.specs.Output.{IsOutputTo, Session, Replies, Serves};
+ghost use Rattle.be_serving.specs.Output.{IsOutputTo, Outputs, Session, Replies, Serves, opening};
 ghost use Rattle.be_language.specs.Reply.{Reply};
-ghost use Rattle.be_language.specs.Request.{Request};
+ghost use Rattle.be_language.specs.Request.{Request, lines_of};
 ghost use Rattle.be_serving.specs.Store.{Store, Joins, start};
+ghost use Rattle.be_serving.specs.Strict.{IsStrictOutput};
 ghost use Rattle.be_serving.specs.Telling.{MakesVolume, dump_output, made};
 ghost use Rattle.be_state.specs.Rebuilding.{state_ops};
 
@@ -36,4 +37,13 @@ pub fn dump_makes_journal()
 pub fn state_dump_makes_volume()
     ensures { (limit : ℕ) (entries : List AnyEntry) → CanBeJournal entries → All CanBeOp (state_ops (replay entries)) → length entries ≤ limit →
         MakesVolume limit (state_dump (replay entries)) (replay entries) (length entries) }
+{}
+
+/// What a strict run is answered is an output: of the whole script where no line is refused, and else of its first lines, the last
+/// of which is the one that was refused.
+pub fn strict_output_is_output()
+    ensures whole { (store new : Store) (script out : List ℕ) → IsStrictOutput store script None new out → IsOutputTo store script new out }
+    ensures first { (store new : Store) (script text out : List ℕ) (number : ℕ) → IsStrictOutput store script (Some (number, text)) new out →
+        (lines : List (List ℕ)) × (rest : List (List ℕ)) × (last : Session) × (lines_of script ≡ lines ++ rest) × (number ≡ length lines)
+        × Outputs (opening store) lines last out × (last.store ≡ new) }
 {}

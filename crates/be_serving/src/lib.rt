@@ -5,8 +5,9 @@
 //! nothing else. [`race`] runs several scripts at once, each on a thread of its own and from a pass of its own of one
 //! store, and writes their replies and the store's journal, which is proved to be legal and to have nothing that the
 //! scripts don't ask for. [`run_and_tell`] is a run that writes its journal too. [`read_files`] reads the scripts of a race.
-//! [`answer`] answers one line, for callers that have the lines from elsewhere. From the bottom up: what serves a line, the
-//! reply to it, the run, the race, the run that tells, and the files.
+//! [`run_strictly`] is a run that ends at the first line that is refused. [`answer`] answers one line, for callers that have the
+//! lines from elsewhere, and [`save_state`] writes the script of the version that is read. From the bottom up: the script of a
+//! version, what serves a line, the reply to it, the run, the race, the run that tells, the strict run, and the files.
 #![tactic(auto)]
 
 mod answers;
@@ -17,16 +18,22 @@ mod gates;
 pub mod laws;
 mod races;
 mod runs;
+mod saves;
+mod states;
 mod stores;
+mod strict_runs;
 mod tellings;
 
 pub use answers::answer;
+pub use be_journal::Journal;
 pub use be_store::Limits;
 pub use client::Client;
 pub use faults::RunFault;
 pub use files::read_files;
 pub use gates::{Gate, OpenGate};
-pub use races::race;
+pub use races::{put_result, race};
 pub use runs::{put, run, serve};
+pub use saves::save_state;
 pub use stores::{PassServer, Server, open_for_one};
-pub use tellings::run_and_tell;
+pub use strict_runs::{RefusedLine, run_strictly};
+pub use tellings::{close_alone, run_and_tell};

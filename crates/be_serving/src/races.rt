@@ -230,9 +230,9 @@ fn put_parts<W: Write>(
     put(writer, third)
 }
 
-/// Writes how many entries the journal has, their text, and the result of its check, which it answers. Nothing was written
-/// where memory is missing.
-pub(crate) fn put_result<W: Write>(
+/// Writes how many entries the journal has, their text, and the result of its check, which it answers: it is legal, and false is
+/// never answered. Nothing was written where memory is missing, and after a failed write a front.
+pub fn put_result<W: Write>(
     alloc: Global,
     writer: &mut W,
     journal: &Journal,

@@ -85,7 +85,7 @@ fn end_of_line(script: &[u8]) -> Option<usize>
 }
 
 /// The first line without its LF, and what follows it, where there is an LF.
-fn split_line(script: &[u8]) -> Option<(&[u8], &[u8])>
+pub(crate) fn split_line(script: &[u8]) -> Option<(&[u8], &[u8])>
     ensures first { IfSome result (λ parts. lines_of script.now ≡ parts.0.now ∷ lines_of parts.1.now) }
     ensures shorter { IfSome result (λ parts. length parts.1.now < length script.now) }
     ensures last { IfNone result (lines_of script.now ≡ script.now ∷ []) }

@@ -4,7 +4,10 @@
 //! journal, the volume that it stands for, the limit on its entries, and the pinned version. Other passes may write
 //! between two calls, and a call is answered from the store as they left it. What runs scripts is proved over that trait,
 //! so it holds for whatever serves. [`PassServer`] is a shared store with one of its passes.
-ghost use Rattle.std.specs.Prelude.{◌≡◌, ◌≤◌, true, List, Ok, None, IsSome, is_some, length, IfOk, IfErr, if◌then◌else◌};
+ghost use Rattle.std.specs.Prelude.{◌≡◌, ◌≤◌, true, All, List, Ok, None, IsSome, is_some, length, IfOk, IfErr, OnOk, if◌then◌else◌};
+ghost use Rattle.std.specs.String.{string_bytes};
+ghost use Rattle.be_history.specs.Dump.{state_dump};
+ghost use Rattle.be_history.specs.History.{CanBeOp};
 ghost use Rattle.be_plan.specs.Cover.{chosen};
 ghost use Rattle.be_plan.specs.Explain.{are_places};
 ghost use Rattle.be_store.specs.History.{IsLastReason};
@@ -16,17 +19,19 @@ ghost use Rattle.be_volume.specs.declared.ops.Op.{Op as AnyOp};
 ghost use Rattle.be_volume.specs.Query.{scan, has_index};
 ghost use Rattle.be_volume.specs.Reading.{attribute, attributes_at, index_kinds};
 ghost use Rattle.be_table.specs.Rule.{IsWithin};
+ghost use Rattle.be_state.specs.Rebuilding.{state_ops};
 ghost use Rattle.be_serving.specs.Served.{known, seat_of};
 ghost use Rattle.be_serving.specs.Store.{Store, Joins, Meanwhile, start, viewed, pinned, unpinned, MayWrite};
 
 use crate::Limits;
+use crate::states::pinned_text;
 use arrayvec::ArrayVec;
 use be_plan::Cover;
 use be_query::Query;
 use be_store::Pass;
 use be_value::{Kind, Name, Refusal, Value};
 use be_volume::{Done, Op};
-use std::alloc::Global;
+use std::alloc::{AllocError, Global};
 use std::marker::Model;
 
 /// How often a write is tried while another pass is writing.
@@ -99,6 +104,14 @@ pub trait Server {
         ensures stays { kept self.new ≡ kept self.old }
         ensures joins { Joins (shows self.old) (shows self.new) }
         ensures answers { Answers (λ list. list.items) result (Ok (index_kinds (viewed (shows self.new)))) };
+
+    /// The script that makes the version again that is read: the pinned one, or else that after all writes. It is what be_history's
+    /// `dump_state` gives of a journal that leaves this version.
+    fn state_text(&mut self) -> Result<String, AllocError>
+        ensures stays { kept self.new ≡ kept self.old }
+        ensures joins { Joins (shows self.old) (shows self.new) }
+        ensures text { IfOk result (λ text. string_bytes text ≡ state_dump (viewed (shows self.new))) }
+        ensures can { OnOk result (All CanBeOp (state_ops (viewed (shows self.new)))) };
 }
 
 /// Opens a store of one pass before its first write, with as many pages and commits as the limits say. Refused for want of
@@ -268,5 +281,12 @@ impl<'a> Server for PassServer<'a> {
         let list = self.store.indices(self.alloc, &mut self.pass);
         self.end_read(made);
         list
+    }
+
+    fn state_text(&mut self) -> Result<String, AllocError> {
+        let made = self.begin_read();
+        let text = pinned_text(self.alloc, self.store, &mut self.pass);
+        self.end_read(made);
+        text
     }
 }

@@ -31,8 +31,8 @@ fn only(alloc: Global, pass: Pass) -> Result<Vec<Pass>, RunFault>
     }
 }
 
-/// The journal of a store whose only pass is back: all that the pass has seen.
-fn close_alone(alloc: Global, store: be_store::Store, pass: Pass) -> Result<Journal, RunFault>
+/// The journal of a store whose only pass is back: all that the pass has seen. Memory is the only fault.
+pub fn close_alone(alloc: Global, store: be_store::Store, pass: Pass) -> Result<Journal, RunFault>
     requires pass { IsPassOf store pass }
     requires one { store.limits.passes ≡ 1 }
     ensures all { IfOk result (λ journal. journal.entries ≡ entries pass.knows.seen) }

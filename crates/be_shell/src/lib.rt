@@ -10,6 +10,7 @@
 
 mod asides;
 mod breaks;
+mod closings;
 mod conversations;
 mod ends;
 mod escapes;
@@ -24,6 +25,7 @@ mod usages;
 
 pub use asides::Aside;
 pub use breaks::Breaking;
+pub use closings::shell_and_close;
 pub use conversations::converse;
 pub use ends::Ends;
 pub use lines::Line;

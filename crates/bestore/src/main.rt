@@ -4,20 +4,26 @@
 //!
 //! The status is 0 for a run, a race or a shell to its end, for a journal that is right and for a request for help or for the
 //! version, 2 for a command line that says nothing that can be done, and 1, with one line on standard error, where it stopped
-//! before its end. It is 1 too where a journal is wrong; the line that is stands on standard output.
+//! before its end; so does a strict run at the first line that is refused. It is 1 too where a journal is wrong; the line that is
+//! stands on standard output.
 //! Replies go through a buffer, which is written before the program ends; a shell writes each reply when it has it.
 #![tactic(auto)]
 
+ghost use Rattle.std.specs.Prelude.{IfOk, IfSome};
+ghost use Rattle.be_journal.specs.Journal.{IsLegal};
+
 use be_script::{
-    Breaking, Ends, Finding, Limits, OpenGate, Peer, RunFault, Screen, Task, Terminal, check, dump,
-    dump_state, journal_told, race, read_files, run, run_and_tell, shell, task,
+    Breaking, Ends, Finding, Journal, Limits, OpenGate, Peer, RefusedLine, RunFault, Screen, Task,
+    Terminal, check, dump, dump_state, journal_told, put_result, race, read_files, run,
+    run_and_tell, run_strictly, shell_and_close, task,
 };
 use clap::Error;
 use clap::error::ErrorKind;
-use std::alloc::AllocGlobal;
+use std::alloc::{AllocGlobal, Global};
+use std::fs::{OpenFile, OpenOptions};
 use std::io::{BufReader, BufWriter, Eprint, IsTerminal, Print, Read, Write};
 use std::process::ExitCode;
-use std::rt::Runtime;
+use std::rt::{Files, Runtime};
 use std::sync::Wait;
 use std::thread::Threads;
 use std::{env, fs, io};
@@ -33,6 +39,11 @@ fn fail(rt: &impl Eprint, why: &str) -> io::Result<ExitCode> {
 
 fn fail_to_read(rt: &impl Eprint, file: &str) -> io::Result<ExitCode> {
     eprintln!(rt; "bestore: cannot read {file}")?;
+    Ok(ExitCode::FAILURE)
+}
+
+fn fail_to_write(rt: &impl Eprint, file: &str) -> io::Result<ExitCode> {
+    eprintln!(rt; "bestore: cannot write {file}")?;
     Ok(ExitCode::FAILURE)
 }
 
@@ -61,8 +72,71 @@ fn finish<W: Write + Drop>(
     }
 }
 
-/// Runs a script that comes from a reader, and tells its journal where that is asked for.
-fn run_from<R: Runtime + AllocGlobal, I: Read>(
+/// How a script is run.
+#[derive(Clone, Copy)]
+enum Running {
+    Plainly,
+    /// Its journal is told behind the replies.
+    Telling,
+    /// It ends at the first line that is refused.
+    Strictly,
+    /// Both.
+    StrictlyTelling,
+}
+
+/// Runs a script up to the first line that is refused, and tells its journal where that is asked for.
+fn run_strictly_into<I: Read, W: Write>(
+    alloc: Global,
+    script: &mut I,
+    writer: &mut W,
+    limits: Limits,
+    tells: bool,
+) -> Result<Option<RefusedLine>, RunFault> {
+    let (refused, journal) = run_strictly(alloc, script, writer, limits)?;
+    if tells {
+        put_result(alloc, writer, &journal)?;
+    }
+    Ok(refused)
+}
+
+/// The status of a strict run, and which line was refused, if one was.
+fn end_strictly(
+    rt: &impl Eprint,
+    file: &str,
+    refused: &Option<RefusedLine>,
+) -> io::Result<ExitCode> {
+    let Some(line) = refused else {
+        return Ok(ExitCode::SUCCESS);
+    };
+    let (number, reply) = (line.number, line.reply.as_str());
+    eprint!(rt; "bestore: line {number} of {file}: {reply}")?;
+    Ok(ExitCode::FAILURE)
+}
+
+/// Runs a script that comes from a reader up to the first line that is refused.
+fn run_strictly_from<R: Runtime + AllocGlobal, I: Read>(
+    rt: &R,
+    file: &str,
+    script: &mut I,
+    limits: Limits,
+    tells: bool,
+) -> io::Result<ExitCode> {
+    let Ok(mut writer) = BufWriter::new(rt.alloc(), io::writer(rt)) else {
+        return fail(rt, reason(RunFault::Memory));
+    };
+    let (refused, ran) = match run_strictly_into(rt.alloc(), script, &mut writer, limits, tells) {
+        Ok(refused) => (refused, Ok(())),
+        Err(fault) => (None, Err(fault)),
+    };
+    match finish(writer, ran) {
+        Ok(()) => end_strictly(rt, file, &refused),
+        Err(RunFault::Read) => fail_to_read(rt, file),
+        Err(fault) => fail(rt, reason(fault)),
+    }
+}
+
+/// Runs a script that comes from a reader to its end, and tells its journal where that is asked for.
+fn run_whole_from<R: Runtime + AllocGlobal, I: Read>(
     rt: &R,
     file: &str,
     script: &mut I,
@@ -88,17 +162,32 @@ fn run_from<R: Runtime + AllocGlobal, I: Read>(
     }
 }
 
+fn run_from<R: Runtime + AllocGlobal, I: Read>(
+    rt: &R,
+    file: &str,
+    script: &mut I,
+    limits: Limits,
+    running: Running,
+) -> io::Result<ExitCode> {
+    match running {
+        Running::Plainly => run_whole_from(rt, file, script, limits, false),
+        Running::Telling => run_whole_from(rt, file, script, limits, true),
+        Running::Strictly => run_strictly_from(rt, file, script, limits, false),
+        Running::StrictlyTelling => run_strictly_from(rt, file, script, limits, true),
+    }
+}
+
 fn run_file<R: Runtime + AllocGlobal>(
     rt: &R,
     file: &str,
     limits: Limits,
-    tells: bool,
+    running: Running,
 ) -> io::Result<ExitCode> {
     if file == STANDARD_INPUT {
-        return run_from(rt, file, &mut rt.reader(), limits, tells);
+        return run_from(rt, file, &mut rt.reader(), limits, running);
     }
     match fs::open(rt, file) {
-        Ok(mut script) => run_from(rt, file, &mut script, limits, tells),
+        Ok(mut script) => run_from(rt, file, &mut script, limits, running),
         Err(_) => fail_to_read(rt, file),
     }
 }
@@ -152,6 +241,53 @@ struct Sides {
     is_shown: bool,
 }
 
+/// Writes a journal and its check into a file. A file that can't be written keeps a front of them.
+fn write_journal<R: Runtime + AllocGlobal>(
+    rt: &R,
+    file: &str,
+    opened: R::File,
+    journal: &Journal,
+) -> io::Result<ExitCode>
+    requires { IsLegal journal.now.entries }
+{
+    let Ok(mut writer) = BufWriter::new(rt.alloc(), opened) else {
+        return fail(rt, reason(RunFault::Memory));
+    };
+    let put = match put_result(rt.alloc(), &mut writer, journal) {
+        Ok(_) => Ok(()),
+        Err(fault) => Err(fault),
+    };
+    match finish(writer, put) {
+        Ok(()) => Ok(ExitCode::SUCCESS),
+        Err(RunFault::Write) => fail_to_write(rt, file),
+        Err(fault) => fail(rt, reason(fault)),
+    }
+}
+
+/// Why a file isn't opened for a journal.
+enum Unopened {
+    Unwritable,
+    /// It has bytes already.
+    Filled,
+}
+
+/// Opens the file for a journal: a new one, or one without bytes.
+fn open_for_journal<R: Files>(rt: &R, file: &str) -> Result<R::File, Unopened> {
+    let mut options = OpenOptions::new();
+    options.write(true).create(true);
+    let Ok(opened) = options.open(rt, file) else {
+        return Err(Unopened::Unwritable);
+    };
+    match opened.metadata() {
+        Ok(found) if found.len() == 0 => Ok(opened),
+        Ok(_) => Err(Unopened::Filled),
+        Err(_) => Err(Unopened::Unwritable),
+    }
+}
+
+/// How a talk ended, and the journal of its store, where there is one.
+type Talk = (Result<(), RunFault>, Option<Journal>);
+
 /// Greets and talks with a terminal, behind a first peer. Control characters are shown by their codes if replies go to a
 /// terminal too.
 fn talk_at_terminal<R: Runtime + AllocGlobal, F: Peer, I: Read + Drop>(
@@ -160,17 +296,19 @@ fn talk_at_terminal<R: Runtime + AllocGlobal, F: Peer, I: Read + Drop>(
     reader: I,
     limits: Limits,
     is_shown: bool,
-) -> Result<(), RunFault> {
+) -> Talk
+    ensures { IfSome result.1 (λ journal. IsLegal journal.entries) }
+{
     let _ = eprintln!(rt;
         "bestore: a line is answered when it comes; the end of input ends it; help lists the commands"
     );
     let ends = Ends::new(Breaking::new(reader), io::writer(rt));
     if is_shown {
         let mut peer = Terminal::new(rt, rt.alloc(), Screen::new(ends));
-        shell(rt.alloc(), first, &mut peer, limits)
+        shell_and_close(rt.alloc(), first, &mut peer, limits)
     } else {
         let mut peer = Terminal::new(rt, rt.alloc(), ends);
-        shell(rt.alloc(), first, &mut peer, limits)
+        shell_and_close(rt.alloc(), first, &mut peer, limits)
     }
 }
 
@@ -180,16 +318,21 @@ fn talk<R: Runtime + AllocGlobal, F: Peer>(
     first: &mut F,
     limits: Limits,
     sides: Sides,
-) -> io::Result<ExitCode> {
+) -> io::Result<Talk>
+    ensures { IfOk result (λ talk. IfSome talk.1 (λ journal. IsLegal journal.entries)) }
+{
     let Ok(reader) = BufReader::new(rt.alloc(), rt.reader()) else {
-        return fail(rt, reason(RunFault::Memory));
+        return Ok((Err(RunFault::Memory), None));
     };
-    let talked = if sides.is_typed {
-        talk_at_terminal(rt, first, reader, limits, sides.is_shown)
-    } else {
-        let mut ends = Ends::new(reader, io::writer(rt));
-        shell(rt.alloc(), first, &mut ends, limits)
-    };
+    if sides.is_typed {
+        return Ok(talk_at_terminal(rt, first, reader, limits, sides.is_shown));
+    }
+    let mut ends = Ends::new(reader, io::writer(rt));
+    Ok(shell_and_close(rt.alloc(), first, &mut ends, limits))
+}
+
+/// The status of a talk that ended so.
+fn end_talk(rt: &impl Eprint, talked: Result<(), RunFault>) -> io::Result<ExitCode> {
     match talked {
         Ok(()) => Ok(ExitCode::SUCCESS),
         Err(RunFault::Read) => fail(rt, "cannot read a line"),
@@ -197,16 +340,59 @@ fn talk<R: Runtime + AllocGlobal, F: Peer>(
     }
 }
 
+/// Talks behind a first peer, and writes the journal into a file at the end, however the talk ended. A fault of the talk is
+/// the one that is told.
+fn talk_for_journal<R: Runtime + AllocGlobal, F: Peer>(
+    rt: &R,
+    first: &mut F,
+    file: &str,
+    limits: Limits,
+    sides: Sides,
+) -> io::Result<ExitCode> {
+    let opened = match open_for_journal(rt, file) {
+        Ok(opened) => opened,
+        Err(Unopened::Unwritable) => return fail_to_write(rt, file),
+        Err(Unopened::Filled) => {
+            eprintln!(rt; "bestore: {file} isn't empty")?;
+            return Ok(ExitCode::FAILURE);
+        }
+    };
+    let (talked, journal) = talk(rt, first, limits, sides)?;
+    let Some(journal) = journal else {
+        return end_talk(rt, Err(RunFault::Memory));
+    };
+    let written = write_journal(rt, file, opened, &journal)?;
+    match talked {
+        Ok(()) => Ok(written),
+        Err(fault) => end_talk(rt, Err(fault)),
+    }
+}
+
+/// Talks with standard input, behind a first peer, and writes the journal where a file for it is named.
+fn talk_behind<R: Runtime + AllocGlobal, F: Peer>(
+    rt: &R,
+    first: &mut F,
+    journal: Option<&str>,
+    limits: Limits,
+    sides: Sides,
+) -> io::Result<ExitCode> {
+    match journal {
+        Some(file) => talk_for_journal(rt, first, file, limits, sides),
+        None => end_talk(rt, talk(rt, first, limits, sides)?.0),
+    }
+}
+
 /// Talks with standard input, behind the lines of a file where one is named.
 fn open_shell<R: Runtime + AllocGlobal>(
     rt: &R,
     file: &Option<String>,
+    journal: Option<&str>,
     limits: Limits,
     sides: Sides,
 ) -> io::Result<ExitCode> {
     let Some(file) = file else {
         let mut nothing = Ends::new(b"".as_slice(), io::writer(rt));
-        return talk(rt, &mut nothing, limits, sides);
+        return talk_behind(rt, &mut nothing, journal, limits, sides);
     };
     let Ok(opened) = fs::open(rt, file.as_str()) else {
         return fail_to_read(rt, file.as_str());
@@ -216,9 +402,9 @@ fn open_shell<R: Runtime + AllocGlobal>(
     };
     let mut lines = Ends::new(reader, io::writer(rt));
     if sides.is_typed && sides.is_shown {
-        return talk(rt, &mut Screen::new(lines), limits, sides);
+        return talk_behind(rt, &mut Screen::new(lines), journal, limits, sides);
     }
-    talk(rt, &mut lines, limits, sides)
+    talk_behind(rt, &mut lines, journal, limits, sides)
 }
 
 /// Reads all of a file.
@@ -256,11 +442,28 @@ fn print_text<R: Runtime>(rt: &R, text: &str, status: ExitCode) -> io::Result<Ex
     }
 }
 
+/// Prints what a check found, and tells on standard error how many entries it read.
+fn print_finding<R: Runtime>(
+    rt: &R,
+    text: &str,
+    count: u64,
+    status: ExitCode,
+) -> io::Result<ExitCode> {
+    let mut writer = io::writer(rt);
+    if writer.write_all(text.as_bytes()).is_err() {
+        return fail(rt, reason(RunFault::Write));
+    }
+    let _ = eprintln!(rt; "bestore: entries read: {count}");
+    Ok(status)
+}
+
 /// Checks the journal that a text tells, and prints that it is right, or the first line that isn't.
 fn check_text<R: Runtime + AllocGlobal>(rt: &R, file: &str, text: &[u8]) -> io::Result<ExitCode> {
     match check(rt.alloc(), text) {
-        Ok(Finding::Right) => print_text(rt, "replay ok\n", ExitCode::SUCCESS),
-        Ok(Finding::Wrong(line)) => print_text(rt, line.as_str(), ExitCode::FAILURE),
+        Ok(Finding::Right(count)) => print_finding(rt, "replay ok\n", count, ExitCode::SUCCESS),
+        Ok(Finding::Wrong(line, count)) => {
+            print_finding(rt, line.as_str(), count, ExitCode::FAILURE)
+        }
         Ok(Finding::NoJournal) => fail_without_journal(rt, file),
         Err(_) => fail(rt, reason(RunFault::Memory)),
     }
@@ -323,10 +526,17 @@ fn run_task<R: Runtime + AllocGlobal + Threads + Wait + Sync>(
     sides: Sides,
 ) -> io::Result<ExitCode> {
     match task {
-        Task::Run(file, limits) => run_file(rt, file.as_str(), *limits, false),
-        Task::RunAndTell(file, limits) => run_file(rt, file.as_str(), *limits, true),
+        Task::Run(file, limits) => run_file(rt, file.as_str(), *limits, Running::Plainly),
+        Task::RunAndTell(file, limits) => run_file(rt, file.as_str(), *limits, Running::Telling),
+        Task::RunStrictly(file, limits) => run_file(rt, file.as_str(), *limits, Running::Strictly),
+        Task::RunStrictlyAndTell(file, limits) => {
+            run_file(rt, file.as_str(), *limits, Running::StrictlyTelling)
+        }
         Task::Race(files, limits) => race_files(rt, files.as_slice(), *limits),
-        Task::Shell(file, limits) => open_shell(rt, file, *limits, sides),
+        Task::Shell(file, limits) => open_shell(rt, file, None, *limits, sides),
+        Task::ShellAndTell(file, journal, limits) => {
+            open_shell(rt, file, Some(journal.as_str()), *limits, sides)
+        }
         Task::Check(file) => tell_of_file(rt, file.as_str(), Telling::Check),
         Task::Dump(file) => tell_of_file(rt, file.as_str(), Telling::Dump),
         Task::DumpState(file) => tell_of_file(rt, file.as_str(), Telling::DumpState),

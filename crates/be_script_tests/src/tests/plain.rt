@@ -4,13 +4,14 @@ ghost use Rattle.be_value.specs.declared.refusals.Refusal.TheVariants.{OutOfMemo
 ghost use Rattle.be_serving.specs.Store.{start, viewed, MayWrite};
 
 use arrayvec::ArrayVec;
+use be_history::volume_text;
 use be_journal::Journal;
 use be_plan::{Cover, choose_from, volume_source};
 use be_query::Query;
 use be_serving::Server;
 use be_value::{Kind, Name, Refusal, Value};
 use be_volume::{Done, Op, Volume};
-use std::alloc::Global;
+use std::alloc::{AllocError, Global};
 use std::marker::Model;
 
 /// A volume and its journal, on one thread.
@@ -149,5 +150,9 @@ impl Server for PlainStore {
 
     fn indices(&mut self) -> Result<Vec<(Name, Kind)>, Refusal> {
         self.viewed().indices()
+    }
+
+    fn state_text(&mut self) -> Result<String, AllocError> {
+        volume_text(self.alloc, self.viewed())
     }
 }

@@ -75,7 +75,7 @@ fn is_state(alloc: Global, told: &str) -> bool {
 }
 
 fn is_right(alloc: Global, told: &str) -> Result<bool, AllocError> {
-    Ok(matches!(&check(alloc, told.as_bytes())?, Finding::Right))
+    Ok(matches!(&check(alloc, told.as_bytes())?, Finding::Right(_)))
 }
 
 /// A script's journal is told behind its replies, and a run of the journal's script tells the same.

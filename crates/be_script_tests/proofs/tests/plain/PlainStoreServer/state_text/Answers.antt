@@ -1,0 +1,5 @@
+use Rattle.be_serving.proofs.JoinLemmas.{joins_itself}
+use Rattle.be_script_tests.proofs.tests.plain.PlainStoreServer.state_text.Goals as goal
+
+pub returns-clause-joins : goal.returns-clause-joins
+returns-clause-joins c = joins_itself c.args.self.now

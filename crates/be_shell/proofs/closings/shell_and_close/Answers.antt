@@ -1,0 +1,31 @@
+use Rattle.std.proofs.Common.{ap, ◌∙◌, subst, inl, inr, refl, rules, sym}
+use Rattle.std.specs.Prelude.{Err, IfErr}
+use Rattle.be_table.specs.Place.{Opened}
+use Rattle.be_table.specs.Rule.{entries}
+use Rattle.be_table.specs.Versions.{CanSpellEach}
+use Rattle.be_table.specs.declared.pass.Knowledge.{Knowledge}
+use Rattle.be_store.specs.Passes.{IsPassOf}
+use Rattle.be_serving.specs.Output.{Session, opening}
+use Rattle.be_serving.specs.Run.{IsNotLimits}
+use Rattle.be_serving.specs.Served.{known}
+use Rattle.be_serving.specs.Store.{Store, start}
+use Rattle.be_serving.specs.View.{session}
+use Rattle.be_serving.specs.declared.faults.RunFault.TheVariants.{Limits, Memory}
+use Rattle.be_serving.proofs.LimitLemmas.{no_fault, not_by}
+use Rattle.be_serving.proofs.RunLemmas.{on_ok}
+use Rattle.be_shell.specs.Conversation.{ShellLeaves, TalkedTo}
+use Rattle.be_shell.proofs.closings.shell_and_close.Goals as goal
+
+pub returns-then-not-are_within-clause-fault : goal.returns-then-not-are_within-clause-fault
+returns-then-not-are_within-clause-fault g c = inl (tt, refl, refl)
+
+pub returns-in_default-clause-fault : goal.returns-in_default-clause-fault
+returns-in_default-clause-fault g c = inl (tt, refl, refl)
+
+pub close_alone-requires-clause-pass : goal.close_alone-requires-clause-pass
+close_alone-requires-clause-pass g c =
+    subst (λ (store : Opened). IsPassOf store c.into_pass-pass.result) (ap (λ s. s.0) c.converse_with_both-talked.ensures.stays ∙ c.new-server.ensures.0) c.into_pass-pass.ensures.0
+
+pub close_alone-requires-clause-one : goal.close_alone-requires-clause-one
+close_alone-requires-clause-one g c =
+    ap (λ l. l.passes) (sym c.in-Ok.ensures.opened.0.0.2) ∙ ap (λ (s : Store). s.passes) c.in-Ok.ensures.opened.1

@@ -1,0 +1,70 @@
+//! A store that is talked with, and whose journal is given back at the end.
+ghost use Rattle.std.specs.Prelude.{◌≡◌, ◌≤◌, ◌↔◌, IfErr, IfSome, OnOk, Err, length};
+ghost use Rattle.be_journal.specs.Journal.{IsLegal};
+ghost use Rattle.be_serving.specs.Output.{Session, opening};
+ghost use Rattle.be_serving.specs.Run.{IsNotLimits};
+ghost use Rattle.be_serving.specs.Store.{start};
+ghost use Rattle.be_serving.specs.View.{session, queued_ops};
+ghost use Rattle.be_shell.specs.Conversation as spec;
+ghost use Rattle.be_table.specs.Rule.{AreBad};
+ghost use Rattle.be_table.specs.Versions.{CanSpellEach};
+
+use crate::conversations::converse;
+use crate::peers::Peer;
+use be_serving::{
+    Client, Journal, Limits, PassServer, RunFault, Server, close_alone, open_for_one,
+};
+use std::alloc::Global;
+
+/// Talks with one peer to its end, and then with the other. A fault ends both.
+fn converse_with_both<S: Server, F: Peer, P: Peer>(
+    alloc: Global,
+    server: &mut S,
+    client: &mut Client,
+    first: &mut F,
+    peer: &mut P,
+) -> Result<(), RunFault>
+    requires few { length (queued_ops client.old) ≤ 64 }
+    ensures talked { OnOk result ((mid : Session)
+        × spec.TalkedTo F.does (session (S.shows server.old) client.old) first.old mid first.new
+        × spec.TalkedTo P.does mid peer.old (session (S.shows server.new) client.new) peer.new) }
+    ensures fault { IfErr result (λ e.
+        spec.ShellLeaves F.does P.does e (session (S.shows server.old) client.old) first.old first.new peer.old peer.new) }
+    ensures other { IfErr result IsNotLimits }
+    ensures stays { S.kept server.new ≡ S.kept server.old }
+{
+    converse(alloc, server, client, first)?;
+    converse(alloc, server, client, peer)
+}
+
+/// Talks as [`crate::shell`] does, and gives the store's journal back, also where a fault has ended the talk: what was accepted
+/// by then. None where no store was opened, or memory was missing to close it.
+pub fn shell_and_close<F: Peer, P: Peer>(
+    alloc: Global,
+    first: &mut F,
+    peer: &mut P,
+    limits: Limits,
+) -> (Result<(), RunFault>, Option<Journal>)
+    ensures talked { OnOk result.0 ((mid : Session) × (last : Session)
+        × spec.TalkedTo F.does (opening (start limits.commits)) first.old mid first.new × spec.TalkedTo P.does mid peer.old last peer.new
+        × IfSome result.1 (λ journal. journal.entries ≡ last.store.journal)) }
+    ensures legal { IfSome result.1 (λ journal. IsLegal journal.entries) }
+    ensures volumes { IfSome result.1 (λ journal. CanSpellEach limits.pages journal.entries) }
+    ensures fault { IfErr result.0 (λ e. spec.ShellLeaves F.does P.does e (opening (start limits.commits)) first.old first.new peer.old peer.new) }
+    ensures limits { (result.0 ≡ Err RunFault.Limits) ↔ AreBad limits }
+{
+    if !limits.are_within() {
+        return (Err(RunFault::Limits), None);
+    }
+    let Ok((store, pass)) = open_for_one(alloc, limits) else {
+        return (Err(RunFault::Memory), None);
+    };
+    let mut server = PassServer::new(alloc, &store, pass);
+    let mut client = Client::new();
+    let talked = converse_with_both(alloc, &mut server, &mut client, first, peer);
+    let pass = server.into_pass();
+    match close_alone(alloc, store, pass) {
+        Ok(journal) => (talked, Some(journal)),
+        Err(_) => (talked, None),
+    }
+}
