@@ -2,7 +2,7 @@
 ghost use Rattle.std.specs.Prelude.{⊤};
 
 use be_serving::{Limits, RunFault};
-use be_shell::{Ends, Line, Peer, shell};
+use be_shell::{Breaking, Ends, Line, Peer, Screen, shell};
 use be_testing::longest_list;
 use std::alloc::{AllocError, Global};
 use std::io::{self, Write};
@@ -201,6 +201,48 @@ fn two_peers(rt: HostRuntime) -> Result<(), Fail> {
     check(alloc, b"new", b"new", "node 1\nnode 2\n")?;
     let replies = "ok\nqueued\ncommit 1\nnode 1\n";
     check(alloc, b"begin\nnew\n", b"commit\n", replies)
+}
+
+/// What is shown to the bytes of a reader in which Ctrl-C ends a line.
+fn shown_to(alloc: Global, bytes: &[u8]) -> Result<Vec<u8>, RunFault> {
+    let mut early: Vec<u8> = Vec::new(alloc);
+    let mut late: Vec<u8> = Vec::new(alloc);
+    let mut nothing = Ends::new(b"".as_slice(), &mut early);
+    let mut screen = Screen::new(Ends::new(Breaking::new(bytes), &mut late));
+    shell(alloc, &mut nothing, &mut screen, LIMITS)?;
+    Ok(late)
+}
+
+/// Fails unless this is shown, asked again where memory was wanted.
+fn check_shown(alloc: Global, bytes: &[u8], replies: &str) -> Result<(), Fail> {
+    for _ in 0..2 {
+        if let Ok(shown) = shown_to(alloc, bytes) {
+            if shown.as_slice() == replies.as_bytes() {
+                return Ok(());
+            }
+        }
+    }
+    Err(Fail::new(replies))
+}
+
+/// Control characters of one byte and of two, next to others that begin as these do.
+#[test]
+fn controls(rt: HostRuntime) -> Result<(), Fail> {
+    check_shown(
+        rt.alloc(),
+        b"new\nset 1 k CSTR \x1b\x07\x01\x7f\xc2\x80\xc2\x9f\xc2\xa0\xc3\x9b\nget 1 k\n",
+        "node 1\nok\nCSTR \"\\x1b\\x07\\x01\\x7f\\x80\\x9f\u{a0}\u{db}\"\n",
+    )
+}
+
+/// What Ctrl-C types ends a line, and is a byte of it.
+#[test]
+fn cancelled_lines(rt: HostRuntime) -> Result<(), Fail> {
+    check_shown(
+        rt.alloc(),
+        b"new\x03new\n\x03\x03new\x03",
+        "bad line\nnode 1\nbad line\nbad line\nbad line\n",
+    )
 }
 
 /// A comment of as many bytes as a line may have, and one of a byte more, before a line that is answered.
