@@ -1,5 +1,5 @@
 -- A store that was read between a line and its reply.
-use Rattle.std.proofs.Common.{◌≡◌, ℕ, fold, All, List, [], ◌∷◌, ◌++◌, append_assoc, refl, sym, ap, ◌∙◌, subst, inl, inr}
+use Rattle.std.proofs.Common.{◌≡◌, ℕ, fold, All, List, ◌∷◌, ◌++◌, append_assoc, sym, ap, ◌∙◌, subst}
 use Rattle.std.proofs.lemmas.List.Elements.{All-append}
 use Rattle.std.proofs.lemmas.List.Sums.{fold-append}
 use Rattle.be_volume.specs.Ahead.{state_after}
