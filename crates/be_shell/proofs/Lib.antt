@@ -1,6 +1,7 @@
 pub mod BreakLemmas
 pub mod EscapeLemmas
 pub mod LineLemmas
+pub mod SaveLemmas
 pub mod ScreenLemmas
 pub mod TalkLemmas
 pub mod WholeLemmas

@@ -3,7 +3,7 @@ use Rattle.std.specs.Prelude.{ℕ, Bool, List, [], ◌∷◌, length, nat_eq, na
 use Rattle.std.specs.List.{list_all, ends_with}
 use Rattle.std.specs.Str.{bytes_eq}
 use Rattle.be_shell.specs.declared.asides.Aside.{Aside}
-use Rattle.be_shell.specs.declared.asides.Aside.TheVariants.{Nothing, Cancelled, Cut, Help, Quit, Read}
+use Rattle.be_shell.specs.declared.asides.Aside.TheVariants.{Nothing, Cancelled, Cut, Help, Quit, Read, Save}
 
 -- space, tab and CR
 abbrev pub is_blank : ℕ → Bool
@@ -22,6 +22,7 @@ abbrev pub named : List ℕ → Bool → Aside
 named word alone =
     if bytes_eq word (codes "help") then Help
     else if bytes_eq word (codes "read") then Read
+    else if bytes_eq word (codes "save") then Save
     else if (bytes_eq word (codes "quit") || bytes_eq word (codes "exit")) && alone then Quit
     else Nothing
 

@@ -18,6 +18,7 @@ pub enum Aside {
     Help,
     Quit,
     Read,
+    Save,
 }
 
 pub(crate) fn is_blank(byte: u8) -> bool
@@ -72,6 +73,8 @@ fn named(word: &[u8], is_alone: bool) -> Aside
         Aside::Help
     } else if word == b"read".as_slice() {
         Aside::Read
+    } else if word == b"save".as_slice() {
+        Aside::Save
     } else if (word == b"quit".as_slice() || word == b"exit".as_slice()) && is_alone {
         Aside::Quit
     } else {

@@ -3,8 +3,10 @@ ghost use Rattle.std.specs.Prelude.{◌≡◌, ◌≤◌, ℕ, List, [], ◌∷�
 ghost use Rattle.std.specs.String.{string_bytes};
 ghost use Rattle.be_language.specs.View.{request_of};
 ghost use Rattle.be_serving.specs.Run.{IsNotLimits};
+ghost use Rattle.be_serving.specs.Store.{Joins};
 ghost use Rattle.be_serving.specs.View.{session, queued_ops};
 ghost use Rattle.be_shell.specs.Conversation as spec;
+ghost use Rattle.be_shell.specs.Conversation.{Event};
 
 use crate::Line;
 use crate::peers::Peer;
@@ -79,6 +81,21 @@ fn serve_line<S: Server, P: Peer>(
     Ok(())
 }
 
+/// Hands the state of the store to a peer that wants it.
+fn hand_state<S: Server, P: Peer>(server: &mut S, peer: &mut P)
+    ensures same { (event : Event) (before : P) → P.does before event peer.old → P.does before event peer.new }
+    ensures joins { Joins (S.shows server.old) (S.shows server.new) }
+    ensures stays { S.kept server.new ≡ S.kept server.old }
+{
+    if !peer.wants_state() {
+        return;
+    }
+    match server.state_text() {
+        Ok(script) => peer.take_state(Some(script.as_str())),
+        Err(_) => peer.take_state(None),
+    }
+}
+
 /// Hears a line, runs it, says its reply and sends it off. False where no more lines come.
 fn exchange<S: Server, P: Peer>(
     alloc: Global,
@@ -96,6 +113,7 @@ fn exchange<S: Server, P: Peer>(
     let Some(line) = peer.hear(alloc, client.batch.is_some())? else {
         return Ok(false);
     };
+    hand_state(server, peer);
     serve_line(alloc, server, client, peer, &line)?;
     Ok(true)
 }

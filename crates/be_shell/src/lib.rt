@@ -17,6 +17,7 @@ mod escapes;
 pub mod laws;
 mod lines;
 mod peers;
+mod saves;
 mod screens;
 mod scripts;
 mod shells;

@@ -20,6 +20,17 @@ pub trait Peer {
         ensures deaf { OnErr result (does self.old fails self.new) }
         ensures fault { IfErr result IsDeaf };
 
+    /// Whether the line that was heard last asks that the store be saved.
+    fn wants_state(&self) -> bool {
+        false
+    }
+
+    /// Takes the script that makes the store's state again, or that there is no memory for it. That is no event: what led to
+    /// the peer as it was leads to it as it is.
+    fn take_state(&mut self, _script: Option<&str>)
+        ensures stays { (event : Event) (before : Self) → does before event self.old → does before event self.new }
+    {}
+
     /// Says all of a reply, or after a failed write, which is `Write`, a front of it.
     fn say(&mut self, reply: &[u8]) -> Result<(), RunFault>
         ensures said { OnOk result (does self.old (says reply.now) self.new) }

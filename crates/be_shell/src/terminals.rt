@@ -6,12 +6,14 @@ ghost use Rattle.be_shell.specs.Terminal as spec;
 use crate::Line;
 use crate::asides::{Aside, aside_of, skip, split_word, typed_of};
 use crate::peers::Peer;
+use crate::saves::save;
 use crate::scripts::{Script, next_line, open_script};
 use crate::usages::{hint, tell_help, tell_usage, wants_hint};
 use be_serving::RunFault;
 use std::alloc::Global;
 use std::io::Eprint;
 use std::rt::Files;
+use std::str;
 
 /// What a typed line asks of the terminal.
 fn typed_in(line: &Line) -> Aside
@@ -91,11 +93,29 @@ fn answer_typed<R: Files + Eprint>(
     }
 }
 
+/// The name of the file that a line `save` names, if it is one.
+fn saved_name<R: Eprint>(rt: &R, alloc: Global, line: &Line, aside: Aside) -> Option<String> {
+    let (Aside::Save, Line::Short(bytes)) = (aside, line) else {
+        return None;
+    };
+    match str::from_utf8(name_in(bytes.as_slice())) {
+        Ok("") => {
+            tell_usage(rt, b"save".as_slice());
+            None
+        }
+        Ok(name) => String::from_str(alloc, name).ok(),
+        Err(_) => {
+            let _ = eprintln!(rt; "cannot save it: its name isn't UTF-8");
+            None
+        }
+    }
+}
+
 /// A line of a file as the shell hears it.
 fn answer_read<R: Eprint>(rt: &R, alloc: Global, line: Line) -> Option<Line> {
     let aside = aside_in(&line);
-    if matches!(aside, Aside::Read) {
-        let _ = eprintln!(rt; "not run: a file that is read reads no other");
+    if matches!(aside, Aside::Read | Aside::Save) {
+        let _ = eprintln!(rt; "not run: a file that is read neither reads nor saves another");
     }
     answer_aside(rt, &line, aside);
     passed_on(alloc, line, aside)
@@ -162,6 +182,8 @@ pub struct Terminal<'a, R, P> {
     script: Option<Script>,
     /// The last line that was heard, for hints.
     heard: Option<Vec<u8>>,
+    /// The file that the last line asks the store to be saved in.
+    saves_to: Option<String>,
 }
 
 impl<'a, R: Files + Eprint, P: Peer> Terminal<'a, R, P> {
@@ -174,6 +196,7 @@ impl<'a, R: Files + Eprint, P: Peer> Terminal<'a, R, P> {
             peer,
             script: None,
             heard: None,
+            saves_to: None,
         }
     }
 
@@ -198,6 +221,7 @@ impl<'a, R: Files + Eprint, P: Peer> Peer for Terminal<'a, R, P> {
     ghost does = { λ old event new. asks P.does old.peer (is_some old.script) event new.peer (is_some new.script) };
 
     fn hear(&mut self, alloc: Global, is_batch_open: bool) -> Result<Option<Line>, RunFault> {
+        self.saves_to = None;
         if let Some(heard) = hear_script(self.rt, alloc, &mut self.script) {
             self.heard = remembered(alloc, &heard);
             return Ok(heard);
@@ -209,9 +233,20 @@ impl<'a, R: Files + Eprint, P: Peer> Peer for Terminal<'a, R, P> {
         };
         let aside = typed_in(&line);
         self.script = answer_typed(self.rt, alloc, &line, aside);
+        self.saves_to = saved_name(self.rt, alloc, &line, aside);
         let heard = passed_on(alloc, line, aside);
         self.heard = remembered(alloc, &heard);
         Ok(heard)
+    }
+
+    fn wants_state(&self) -> bool {
+        self.saves_to.is_some()
+    }
+
+    fn take_state(&mut self, script: Option<&str>) {
+        if let Some(name) = &self.saves_to {
+            save(self.rt, self.alloc, name.as_str(), script);
+        }
     }
 
     fn say(&mut self, reply: &[u8]) -> Result<(), RunFault> {

@@ -26,6 +26,7 @@ begin                     open a batch
 commit                    write the batch as one
 abort                     drop the batch
 read FILE                 run the lines of a file
+save FILE                 write the state as a script into a new file
 help                      list the commands; help COMMAND, one of them
 quit                      end the shell, as exit and the end of input do
 ";

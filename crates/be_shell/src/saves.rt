@@ -1,0 +1,50 @@
+//! Files that a state is saved in.
+use std::alloc::Global;
+use std::fs::{self, File, OpenFile};
+use std::io::{self, Eprint, ErrorKind, Write};
+use std::rt::Files;
+
+/// Writes a text into a new file.
+fn write_new<R: Files>(rt: &R, name: &str, text: &str) -> io::Result<()> {
+    let mut file = File::create_new(rt, name)?;
+    file.write_all(text.as_bytes())?;
+    file.flush()?;
+    file.sync_all()
+}
+
+/// Gives a draft its name, which no file has. Where the file system has no links the draft is renamed.
+fn settle<R: Files>(rt: &R, draft: &str, name: &str) -> io::Result<()> {
+    match fs::hard_link(rt, draft, name) {
+        Ok(()) => fs::remove_file(rt, draft),
+        Err(error) if error.kind() == ErrorKind::AlreadyExists => Err(error),
+        Err(_) => fs::rename(rt, draft, name),
+    }
+}
+
+/// Writes a text under another name first, so that the file is whole or isn't there.
+fn save_as<R: Files>(rt: &R, draft: &str, name: &str, text: &str) -> io::Result<()> {
+    if fs::exists(rt, name)? {
+        return Err(io::Error::from(ErrorKind::AlreadyExists));
+    }
+    write_new(rt, draft, text)?;
+    let settled = settle(rt, draft, name);
+    if settled.is_err() {
+        let _ = fs::remove_file(rt, draft);
+    }
+    settled
+}
+
+/// Saves a script in a file of this name, and tells that it did or why not.
+pub(crate) fn save<R: Files + Eprint>(rt: &R, alloc: Global, name: &str, script: Option<&str>) {
+    let (Some(text), Ok(draft)) = (script, format!(in alloc; "{name}.part")) else {
+        let _ = eprintln!(rt; "not saved: out of memory");
+        return;
+    };
+    let _ = match save_as(rt, draft.as_str(), name, text) {
+        Ok(()) => eprintln!(rt; "saved {name}"),
+        Err(error) if error.kind() == ErrorKind::AlreadyExists => {
+            eprintln!(rt; "not saved: {name} or {draft} exists")
+        }
+        Err(_) => eprintln!(rt; "not saved: cannot write {name}"),
+    };
+}
