@@ -23,7 +23,12 @@ The package has its shared object inside. In the repository it is the one in c/,
 """
 
 from ._library import VERSION as __version__
+from ._connected_errors import (
+    Broken, Disconnected, Expired, LineTooLong, NoServer, NotAllowed, NotKept, NoWatch, ProtocolError, Refused, ServerError,
+    TimedOut, TooManyWatches, Unavailable,
+)
 from .changes import Change, ChangedAttributes
+from .connected import connect
 from .errors import (
     BadBytes, BadCount, BadItems, BadLimits, BadPart, BadPattern, Busy, Closed, CommitsSpent, Conflict, DataLength,
     Error, ErrorNumber, Forked, Full, HasNul, IndexExists, NameLength, Nested, NoAttribute, NoIndex, NoItem, NoKind,
@@ -32,11 +37,12 @@ from .errors import (
     TooManyIndices, WrongKind,
 )
 from .language import Comparison, Hint, any_case, escape
+from .local import open
 from .operations import (
     MOST_OPERATIONS, Batch, MakeIndex, NewNode, Operation, RemoveIndex, RemoveNode, SetAttribute, UnsetAttribute,
 )
 from .queries import Item, Name, Operator, Prepared, prepare, prepare_items
-from .store import Entry, Held, Pass, Status, open
+from .store import Entry, Held, Pass, Status
 from .values import Int32, Int64, Integer, Kind, Typed, UInt32, UInt64, Value
 from .versions import Attributes, Version
 
@@ -44,14 +50,16 @@ STRING, INT32, INT64, MIME, RAW, UINT32, UINT64 = (
     Kind.STRING, Kind.INT32, Kind.INT64, Kind.MIME, Kind.RAW, Kind.UINT32, Kind.UINT64)
 
 __all__ = [
-    "Attributes", "BadBytes", "BadCount", "BadItems", "BadLimits", "BadPart", "BadPattern", "Batch", "Busy", "Change",
-    "ChangedAttributes", "Closed", "CommitsSpent", "Comparison", "Conflict", "DataLength", "Entry", "Error",
-    "ErrorNumber", "Forked", "Full", "HasNul", "Held", "Hint", "INT32", "INT64", "IndexExists", "Int32", "Int64",
-    "Integer", "Item", "Kind", "MIME", "MOST_OPERATIONS", "MakeIndex", "Name", "NameLength", "Nested", "NewNode",
-    "NoAttribute", "NoIndex", "NoItem", "NoKind", "NoMemory", "NoNode", "NoOperation", "NoPass", "NoValue",
-    "NotCovered", "NotIndexable", "NotPinned", "NotUTF8", "Opened", "Operation", "Operator", "Pass", "Pinned",
-    "Prepared", "QueryError", "QueryNotUTF8", "QuerySyntax", "RAW", "Refusal", "RemoveIndex", "RemoveNode", "STRING",
-    "SetAttribute", "Status", "TooDeep", "TooLong", "TooMany", "TooManyAttempts", "TooManyAttributes", "TooManyIndices",
-    "Typed", "UINT32", "UINT64", "UInt32", "UInt64", "UnsetAttribute", "Value", "Version", "WrongKind", "any_case",
-    "escape", "open", "prepare", "prepare_items",
+    "Attributes", "BadBytes", "BadCount", "BadItems", "BadLimits", "BadPart", "BadPattern", "Batch", "Broken", "Busy",
+    "Change", "ChangedAttributes", "Closed", "CommitsSpent", "Comparison", "Conflict", "DataLength", "Disconnected",
+    "Entry", "Error", "ErrorNumber", "Expired", "Forked", "Full", "HasNul", "Held", "Hint", "INT32", "INT64",
+    "IndexExists", "Int32", "Int64", "Integer", "Item", "Kind", "LineTooLong", "MIME", "MOST_OPERATIONS", "MakeIndex",
+    "Name", "NameLength", "Nested", "NewNode", "NoAttribute", "NoIndex", "NoItem", "NoKind", "NoMemory", "NoNode",
+    "NoOperation", "NoPass", "NoServer", "NoValue", "NoWatch", "NotAllowed", "NotCovered", "NotIndexable", "NotKept",
+    "NotPinned", "NotUTF8", "Opened", "Operation", "Operator", "Pass", "Pinned", "Prepared", "ProtocolError",
+    "QueryError", "QueryNotUTF8", "QuerySyntax", "RAW", "Refusal", "Refused", "RemoveIndex", "RemoveNode", "STRING",
+    "ServerError", "SetAttribute", "Status", "TimedOut", "TooDeep", "TooLong", "TooMany", "TooManyAttempts",
+    "TooManyAttributes", "TooManyIndices", "TooManyWatches", "Typed", "UINT32", "UINT64", "UInt32", "UInt64",
+    "Unavailable", "UnsetAttribute", "Value", "Version", "WrongKind", "any_case", "connect", "escape", "open",
+    "prepare", "prepare_items",
 ]

@@ -1,0 +1,206 @@
+"""A connection to a server: requests and replies, each a line, and the lines that are pushed between them."""
+
+from __future__ import annotations
+
+import os
+import select
+import socket
+import struct
+import time
+from contextlib import suppress
+from typing import Callable, NoReturn, Optional, Type, TypeVar
+from weakref import WeakSet
+
+from ._connected_errors import Broken, Disconnected, LineTooLong, NoServer, ProtocolError, TimedOut, error_of
+from ._wire import JSON, MOST_BYTES, MOST_BYTES_OF_A_REPLY, decode_line, encode_request
+from .errors import Error
+
+_Result = TypeVar("_Result")
+
+_ROOM = 1 << 16  # how many bytes are received at a time
+_CLOSING = ("LineTooLong", "Timeout")  # errors after which the server closes the connection
+
+
+def _connected(path: str, timeout: Optional[float]) -> socket.socket:
+    """A socket that is connected. Its calls wait up to so many seconds, by the system's own clock for that."""
+    connected = socket.socket(socket.AF_UNIX, socket.SOCK_STREAM)
+    try:
+        connected.settimeout(timeout)
+        connected.connect(path)
+        connected.settimeout(None)
+        if timeout is not None:
+            time_of = struct.pack("@ll", int(timeout), max(int(timeout % 1 * 1e6), 1))
+            connected.setsockopt(socket.SOL_SOCKET, socket.SO_RCVTIMEO, time_of)
+            connected.setsockopt(socket.SOL_SOCKET, socket.SO_SNDTIMEO, time_of)
+    except OSError as error:
+        connected.close()
+        raise NoServer(path, error.strerror or str(error)) from error
+    return connected
+
+
+class Connection:
+    """A connection. Whoever uses it makes one call at a time.
+
+    Once a call was interrupted, or a line can't be read, nobody knows which reply comes next: the connection is closed."""
+
+    def __init__(self, path: str, timeout: Optional[float], take_push: Callable[[JSON], None]) -> None:
+        self.path, self._timeout, self._take_push = path, timeout, take_push
+        self._socket: Optional[socket.socket] = _connected(path, timeout)
+        self._reason = "the connection is closed"  # why there is no socket
+        self._last = 0  # the number of the last request
+        self._received, self._searched = bytearray(), 0  # bytes that were received, and how many of them have no end of a line
+        _open.add(self)
+
+    @property
+    def is_open(self) -> bool:
+        """Whether calls can be made."""
+        return self._socket is not None
+
+    def fileno(self) -> int:
+        """The descriptor of the socket."""
+        return self._connected().fileno()
+
+    def _connected(self) -> socket.socket:
+        if self._socket is None:
+            raise Disconnected(self.path, self._reason)
+        return self._socket
+
+    def close(self) -> None:
+        """Ends the connection, also if a forked child has a copy of the socket."""
+        if self._socket is not None:
+            with suppress(OSError):
+                self._socket.shutdown(socket.SHUT_RDWR)
+            self.drop("the connection is closed")
+
+    def drop(self, reason: str) -> None:
+        """Closes the socket of this process alone."""
+        dropped, self._socket, self._reason = self._socket, None, reason
+        if dropped is not None:
+            dropped.close()
+
+    def _fail(self, error: Exception, may_be_done: bool = False) -> NoReturn:
+        """Closes the connection, and raises why."""
+        failed: Type[Broken] = Disconnected
+        reason = f"the connection failed: {error}"
+        if isinstance(error, BlockingIOError):
+            failed, reason = TimedOut, f"no reply within {self._timeout:g} seconds"
+        elif isinstance(error, EOFError):
+            reason = str(error)
+        elif not isinstance(error, OSError):
+            failed, reason = ProtocolError, f"the server sent what is no line of the protocol: {error}"
+        self.drop(reason)
+        raise failed(self.path, reason, may_be_done) from (None if isinstance(error, EOFError) else error)
+
+    def ask(self, command: str, parameters: JSON, read: Callable[[JSON], _Result], is_write: bool = False,
+            query: Optional[str] = None) -> _Result:
+        """Sends a request, and returns what `read` finds in its reply. `query` is the text that errors show."""
+        connected = self._connected()
+        self._last += 1
+        line = encode_request(self._last, command, parameters)
+        if len(line) > MOST_BYTES:
+            raise LineTooLong(self.path, len(line))
+        is_sent = False
+        try:
+            with suppress(BrokenPipeError, ConnectionResetError):  # the server may have said why it closed the connection
+                connected.sendall(line)
+                is_sent = True
+            reply = self._reply(connected, query)
+            if "ok" in reply:
+                return read(reply["ok"])
+        except Error as error:  # which the server sends before it closes the connection
+            self.drop(str(error))
+            raise
+        except (OSError, EOFError, ArithmeticError, LookupError, TypeError, ValueError) as error:
+            self._fail(error, is_write and is_sent)
+        except BaseException:
+            self.drop("an earlier call was interrupted")
+            raise
+        raise error_of(self.path, reply["error"], query)
+
+    def _reply(self, connected: socket.socket, query: Optional[str]) -> JSON:
+        """The reply to the last request. What is pushed before it is taken."""
+        until = None if self._timeout is None else time.monotonic() + self._timeout
+        while True:
+            line = self._take_line()
+            while line is None:
+                line = self._receive(connected.recv(_ROOM))
+                if line is None and until is not None and time.monotonic() > until:
+                    raise BlockingIOError
+            reply = decode_line(line)
+            if reply.get("id") == self._last and ("ok" in reply or isinstance(reply.get("error"), dict)):
+                return reply
+            self._take_other(reply, query)
+
+    def _receive(self, received: bytes) -> Optional[bytes]:
+        """Keeps what was received, and returns a line if there is one."""
+        if not received:
+            end = " within a line" if self._received else ""
+            raise EOFError(f"the server closed the connection{end}")
+        if not self._received and received.find(b"\n") == len(received) - 1:
+            return received
+        self._received += received
+        return self._take_line()
+
+    def _take_line(self) -> Optional[bytes]:
+        """The next line, if it was received."""
+        if not self._received:
+            return None
+        end = self._received.find(b"\n", self._searched) + 1
+        if end == 0:
+            self._searched = len(self._received)
+            if self._searched > MOST_BYTES_OF_A_REPLY:
+                raise ValueError("it is too long")
+            return None
+        line = bytes(memoryview(self._received)[:end])
+        del self._received[:end]
+        self._searched = 0
+        return line
+
+    def _take_other(self, line: JSON, query: Optional[str]) -> None:
+        """Takes a line that is no reply to the last request: one that was pushed, or an error after which the server closes
+        the connection."""
+        if "id" not in line and isinstance(line.get("watch"), int):
+            self._take_push(line)
+            return
+        error = line.get("error")
+        if line.get("id", 0) is not None or not isinstance(error, dict):
+            raise ValueError("it is no reply to this request")
+        if error.get("name") in _CLOSING:
+            raise EOFError(f"the server closed the connection: {error.get('message')}")
+        raise error_of(self.path, error, query)
+
+    def receive_pushes(self, timeout: Optional[float]) -> bool:
+        """Takes what was pushed. If there is nothing, waits up to so many seconds, or without an end. Returns whether a line
+        came."""
+        connected = self._connected()
+        until = None if timeout is None else time.monotonic() + timeout
+        polled = select.poll()
+        polled.register(connected, select.POLLIN)
+        try:
+            line = self._take_line()
+            while line is None:
+                left = None if until is None else max(until - time.monotonic(), 0)
+                if not polled.poll(None if left is None else left * 1000):
+                    return False
+                line = self._receive(connected.recv(_ROOM))
+            while line is not None:
+                self._take_other(decode_line(line), None)
+                line = self._take_line()
+        except Error as error:
+            self.drop(str(error))
+            raise
+        except (OSError, EOFError, ArithmeticError, LookupError, TypeError, ValueError) as error:
+            self._fail(error)
+        return True
+
+
+_open: "WeakSet[Connection]" = WeakSet()
+
+
+def _drop_in_child() -> None:
+    """A forked child gives its copies of the sockets up, so that the server sees when the parent closes them."""
+    for connection in list(_open):
+        connection.drop("the connection belongs to the process that this one was forked from")
+
+
+os.register_at_fork(after_in_child=_drop_in_child)
