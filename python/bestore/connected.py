@@ -123,10 +123,9 @@ class ConnectedVersion(Version):
         try:
             return self._ask(command, {"query": text, **others}, read, asked if isinstance(asked, str) else None)
         except NotCovered:
-            error = self._not_covered(asked)
+            raise self._not_covered(asked) from None
         except LineTooLong:
-            error = TooLong(query=text)
-        raise error
+            raise TooLong(query=text) from None
 
     def _nodes_of(self, asked: Query) -> List[int]:
         text = _text_of(asked)
@@ -264,11 +263,16 @@ class ConnectedPass(Pass):
                 if self._is_left:
                     self._unpin_left()
 
+    @property
+    def _is_open(self) -> bool:
+        """Whether calls can be made."""
+        return self._connection is not None and self._connection.is_open
+
     def _pin(self) -> Tuple[int, int]:
         """Pins. Returns the commit number, and the next node."""
         self._check_process()
         with self._lock:
-            if self._has_pin:
+            if self._has_pin and self._is_open:
                 raise Pinned()
             pinned = self._ask("pin", {}, lambda ok: (int(ok["commit"]), int(ok["next"])))
             self._has_pin = True
@@ -277,8 +281,7 @@ class ConnectedPass(Pass):
     def _unpin(self) -> None:
         """Gives the pin up, as the end of the connection does too."""
         self._has_pin = False
-        connection = self._connection
-        if connection is not None and connection.is_open:
+        if self._is_open:
             with suppress(Broken):
                 self._ask("unpin", {}, lambda ok: None)
 
@@ -320,6 +323,7 @@ class ConnectedPass(Pass):
 
     def meet(self) -> int:
         """`Unavailable`: a pass of a server has seen what its replies have."""
+        self._check_process()
         raise Unavailable(self.path, "meet")
 
     def pin(self) -> ConnectedVersion:
@@ -538,10 +542,11 @@ class Watch:
     def close(self) -> None:
         """Ends the watch, if it is there."""
         user, number, self._number = self._user, self._number, None
-        if number is not None and not user._is_dead and user._connection is not None and user._connection.is_open:
-            user._ended.append(number)
+        if number is not None and not user._is_dead:
             with suppress(Broken), user._lock:
-                user._end_watches()
+                user._ended.append(number)
+                if user._is_open:
+                    user._end_watches()
 
 
 def default_path() -> str:
