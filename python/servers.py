@@ -33,7 +33,7 @@ class Server:
         while True:
             try:
                 return bestore.connect(self.path, **options)
-            except bestore.NoServer:
+            except (bestore.NoServer, bestore.TimedOut):
                 if time.monotonic() > until or self.process.poll() is not None:
                     raise
                 time.sleep(0.002)

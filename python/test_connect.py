@@ -286,10 +286,10 @@ class Dying(WithServer):
         self.assertIn("the write may have been made or not", str(fault))
 
     def test_stopped(self):
-        self.store = self.server.connect(timeout=0.3)
+        self.store = self.server.connect(timeout=0.5)
         fault = self.in_call(self.store.new_node, lambda: None, bestore.TimedOut)
         self.assertIsInstance(fault, TimeoutError)
-        self.assertEqual((fault.may_be_done, fault.reason), (True, "no reply within 0.3 seconds"))
+        self.assertEqual((fault.may_be_done, fault.reason), (True, "no reply within 0.5 seconds"))
 
     def test_interrupted(self):
         """A call that an exception ends leaves no half of a reply to the next one."""
@@ -388,8 +388,7 @@ class Following(WithServer):
         with self.store.another() as other, self.store.watch("size>=5") as watch:
             other.remove_index("size")
             with self.assertRaises(bestore.NotCovered) as fault:
-                while True:
-                    watch.wait(PATIENCE)
+                watch.wait(PATIENCE)
             self.assertEqual((fault.exception.missing, fault.exception.offset, fault.exception.query), ("size", 0, "size>=5"))
             with self.assertRaises(bestore.NotCovered):
                 watch.refresh()
@@ -427,9 +426,9 @@ class Following(WithServer):
                     if number % 3 == 0:
                         self.add_up(watched, watch.wait(0) or ([], []))
                     with self.store.pin() as version:
-                        answer = set(version.query("size>=5"))
                         self.add_up(watched, watch.refresh())
                         self.add_up(refreshed, version.refresh(live))
+                        answer = set(version.query("size>=5"))
                         self.assertEqual((watched, refreshed, watch.commit), (answer, answer, version.number))
                 self.store.set(self.sized(self.store, 1)[0], "size", 7)
                 self.add_up(watched, watch.refresh())

@@ -15,6 +15,9 @@ A `Pass` is a session: one thread's handle on the store. Each thread has one of 
 wait for one another: the thread that opened the store makes it by `another`, before that thread starts. What goes wrong
 is raised as an `Error`; each error number of the library has a class of its own, as `Busy` or `QuerySyntax`.
 
+`connect` takes the place of `open` for a store of the server bestored, which programs share: `help(bestore.connected)`. A
+function that takes a `Pass` or a `Version` takes that of either store. The module `bestore.saved` keeps a store in a file.
+
 A store belongs to the process that opened it. In a forked child its passes, versions and prepared queries are dead:
 their calls raise `Forked`, closing them does nothing, and the parent's stay as they were. The child may open stores of
 its own.

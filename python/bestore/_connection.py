@@ -18,6 +18,7 @@ from .errors import Error
 _Result = TypeVar("_Result")
 
 _ROOM = 1 << 16  # how many bytes are received at a time
+_CLOSED = "the server closed the connection"
 _CLOSING = ("LineTooLong", "Timeout")  # errors after which the server closes the connection
 
 
@@ -81,15 +82,18 @@ class Connection:
     def _fail(self, error: Exception, may_be_done: bool = False) -> NoReturn:
         """Closes the connection, and raises why."""
         failed: Type[Broken] = Disconnected
-        reason = f"the connection failed: {error}"
         if isinstance(error, BlockingIOError):
             failed, reason = TimedOut, f"no reply within {self._timeout:g} seconds"
         elif isinstance(error, EOFError):
             reason = str(error)
-        elif not isinstance(error, OSError):
+        elif isinstance(error, (BrokenPipeError, ConnectionResetError)):
+            reason = _CLOSED
+        elif isinstance(error, OSError):
+            reason = f"the connection failed: {error}"
+        else:
             failed, reason = ProtocolError, f"the server sent what is no line of the protocol: {error}"
         self.drop(reason)
-        raise failed(self.path, reason, may_be_done) from (None if isinstance(error, EOFError) else error)
+        raise failed(self.path, reason, may_be_done) from (None if reason == _CLOSED or failed is TimedOut else error)
 
     def ask(self, command: str, parameters: JSON, read: Callable[[JSON], _Result], is_write: bool = False,
             query: Optional[str] = None) -> _Result:
@@ -134,8 +138,7 @@ class Connection:
     def _receive(self, received: bytes) -> Optional[bytes]:
         """Keeps what was received, and returns a line if there is one."""
         if not received:
-            end = " within a line" if self._received else ""
-            raise EOFError(f"the server closed the connection{end}")
+            raise EOFError(f"{_CLOSED} within a line" if self._received else _CLOSED)
         if not self._received and received.find(b"\n") == len(received) - 1:
             return received
         self._received += received
@@ -166,7 +169,7 @@ class Connection:
         if line.get("id", 0) is not None or not isinstance(error, dict):
             raise ValueError("it is no reply to this request")
         if error.get("name") in _CLOSING:
-            raise EOFError(f"the server closed the connection: {error.get('message')}")
+            raise EOFError(f"{_CLOSED}: {error.get('message')}")
         raise error_of(self.path, error, query)
 
     def receive_pushes(self, timeout: Optional[float]) -> bool:

@@ -40,7 +40,7 @@ from .operations import MOST_OPERATIONS, NEW, Batch
 from .queries import Prepared, prepare_items
 from .store import TRIES, Entry, Held, Pass, Status
 from .values import RANGES, Kind, Typed, node_number
-from .versions import Query, Version
+from .versions import Query, Version, not_covered
 
 __all__ = [
     "Broken", "Changes", "ConnectedPass", "ConnectedVersion", "Disconnected", "Expired", "LineTooLong", "NoServer",
@@ -431,6 +431,7 @@ class Watch:
         self._created: Set[int] = set()
         self._removed: Set[int] = set()
         self._is_partial = self._is_new = False  # whether a push of the same commit is missing, and something is to be returned
+        self._last = 0  # the commit to which all that was received leads
         self._error: Optional[Error] = None  # what has ended the watch
         self._number: Optional[int] = None
         parameters = {} if query is None else {"query": query}
@@ -440,11 +441,11 @@ class Watch:
         with user._lock:
             user._end_watches()
             try:
-                number, self.commit = user._ask("watch", parameters, self._read_first, query=query)
-                """The snapshot to which all changes that were received lead, by its commit number."""
-            except NotCovered as error:
-                raise self._not_covered(error) from None
-            self._number = number
+                number = user._ask("watch", parameters, self._read_first, query=query)
+            except NotCovered:
+                raise self._not_covered() from None
+            self._number, self.commit = number, self._last
+            """The commit number of the snapshot to which what was returned leads, and at first that of the first answer."""
             user._watches[number] = self
 
     def __repr__(self) -> str:
@@ -467,12 +468,12 @@ class Watch:
             assert changes is not None
             yield changes
 
-    def _read_first(self, ok: JSON) -> Tuple[int, int]:
+    def _read_first(self, ok: JSON) -> int:
         nodes = ok.get("nodes")
         if nodes is not None:
             self._created.update(read_nodes(nodes))
-        self._is_new, self._is_partial = bool(nodes), bool(ok.get("more"))
-        return ok["watch"], ok["commit"]
+        self._last, self._is_new, self._is_partial = int(ok["commit"]), bool(nodes), bool(ok.get("more"))
+        return int(ok["watch"])
 
     def _take(self, push: JSON) -> bool:
         """Takes changes in. Returns whether more belong to them."""
@@ -482,24 +483,22 @@ class Watch:
         created, removed = set(read_nodes(push["created"])), set(read_nodes(push["removed"]))
         self._created, self._removed = (
             self._created - removed | created - self._removed, self._removed - created | removed - self._created)
-        self.commit, self._is_new, self._is_partial = push["commit"], True, bool(push.get("more"))
+        self._last, self._is_new, self._is_partial = int(push["commit"]), True, bool(push.get("more"))
         return self._is_partial
 
     def _returned(self) -> Changes:
         changes = Changes(sorted(self._created), sorted(self._removed))
-        self._created, self._removed, self._is_new = set(), set(), False
+        self._created, self._removed, self._is_new, self.commit = set(), set(), False, self._last
         return changes
 
-    def _not_covered(self, error: NotCovered) -> NotCovered:
-        """The error, with the indices that there are."""
-        with suppress(Error):
-            error.indices = tuple(self._user._ask("indices", {}, _read_indices))
-        return error
+    def _not_covered(self) -> NotCovered:
+        """The error of a query that needs another index."""
+        return not_covered(self.query or "", self._user._ask("indices", {}, _read_indices))
 
     def _check(self) -> int:
         """The number of the watch. Raises the error that has ended it, or `Closed`."""
-        if isinstance(self._error, NotCovered) and not self._error.indices:
-            self._not_covered(self._error)
+        if isinstance(self._error, NotCovered):
+            raise self._not_covered()
         if self._error is not None:
             raise self._error
         if self._number is None:
@@ -516,8 +515,8 @@ class Watch:
             try:
                 while user._ask("refresh", {"watch": number}, self._take, query=self.query):
                     pass
-            except NotCovered as error:
-                raise self._not_covered(error) from None
+            except NotCovered:
+                raise self._not_covered() from None
             except NoWatch:
                 self._check()
                 raise

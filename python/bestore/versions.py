@@ -5,7 +5,7 @@ from __future__ import annotations
 import operator
 from abc import ABC, abstractmethod
 from types import TracebackType
-from typing import ClassVar, Dict, Iterator, List, Literal, Mapping, Optional, Tuple, Type, TypeVar, Union, overload
+from typing import ClassVar, Dict, Iterable, Iterator, List, Literal, Mapping, Optional, Tuple, Type, TypeVar, Union, overload
 
 from .errors import NoAttribute, NoIndex, NoNode, NotCovered
 from .language import Hint, comparisons, hint
@@ -15,6 +15,24 @@ from .values import RANGES, Kind, Typed, Value
 
 _Self = TypeVar("_Self", bound="Version")
 Query = Union[str, Prepared, Tuple[Item, ...]]  # as it was asked
+
+
+def not_covered(asked: Query, indices: Iterable[str]) -> NotCovered:
+    """The error of a query that needs another index than these, with the place of the first name that has none."""
+    if isinstance(asked, Prepared):
+        asked = asked.source or asked.text
+    if isinstance(asked, str):
+        error, field = NotCovered(query=asked), "offset"
+        names = [(comparison.offset, comparison.name) for comparison in comparisons(asked)]
+    else:
+        error, field = NotCovered(), "item"
+        names = [(place, str(item)) for place, item in enumerate(asked) if isinstance(item, Name)]
+    error.indices = tuple(indices)
+    missing = [(place, name) for place, name in names if name not in error.indices]
+    if missing:
+        setattr(error, field, missing[0][0])
+        error.missing = missing[0][1]
+    return error
 
 
 class Version(ABC):
@@ -69,21 +87,8 @@ class Version(ABC):
         """Up to so many nodes from a number on: fewer only if there are no more."""
 
     def _not_covered(self, asked: Query) -> NotCovered:
-        """The error of a query that needs another index, with the place of the first name that has none."""
-        if isinstance(asked, Prepared):
-            asked = asked.source or asked.text
-        if isinstance(asked, str):
-            error, field = NotCovered(query=asked), "offset"
-            names = [(comparison.offset, comparison.name) for comparison in comparisons(asked)]
-        else:
-            error, field = NotCovered(), "item"
-            names = [(place, str(item)) for place, item in enumerate(asked) if isinstance(item, Name)]
-        error.indices = tuple(self.indices())
-        missing = [(place, name) for place, name in names if name not in error.indices]
-        if missing:
-            setattr(error, field, missing[0][0])
-            error.missing = missing[0][1]
-        return error
+        """The error of a query that needs another index."""
+        return not_covered(asked, self.indices())
 
     def query(self, text: str) -> List[int]:
         """The nodes that meet the query, ascending. A `QueryError` if the text is no query, or `NotCovered` if it
