@@ -113,7 +113,7 @@ class Broken(unittest.TestCase):
 
     def test_junk(self):
         for junk in (b"hello\n", b"\n", b"[1]\n", b"\xff\xfe\n", b"[" * 100_000 + b"\n", b'{"id":7,"ok":{}}\n', b'{"ok":{}}\n',
-                     b'{"id":2}\n', b'{"id":2,"ok":{"commit":1}}\n', b'{"id":2,"ok":[]}\n', b'{"id":2,"error":5}\n',
+                     b'{"id":2}\n', b'{"id":2,"ok":{"commit":1,"nodes":[]}}\n', b'{"id":2,"ok":[]}\n', b'{"id":2,"error":5}\n',
                      b'{"id":2,"ok":{"commit":1e999,"nodes":[1]}}\n', b'{"watch":"a"}\n', b'{"id":null}\n', b"{" * (3 << 20)):
             fault = self.fault(bestore.Pass.new_node, [junk])
             self.assertEqual((type(fault), fault.may_be_done), (bestore.ProtocolError, True), junk[:40])
@@ -137,7 +137,9 @@ class Broken(unittest.TestCase):
             with Fake(hello=[json.dumps({"id": None, "error": refused}).encode() + b"\n", None]) as fake:
                 with self.assertRaises(error):
                     bestore.connect(fake.path)
-        for answer, error in [([None], bestore.Disconnected), ([line(1, {})], bestore.ProtocolError), ([], bestore.TimedOut)]:
+        unknown = b'{"id":1,"error":{"name":"Protocol","message":"why","known":[2]}}\n'
+        for answer, error in [([None], bestore.Disconnected), ([line(1, {})], bestore.ProtocolError), ([], bestore.TimedOut),
+                              ([unknown], bestore.ProtocolError)]:
             with Fake(hello=answer) as fake, self.assertRaises(error):
                 bestore.connect(fake.path, timeout=0.2)
 

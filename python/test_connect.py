@@ -291,6 +291,28 @@ class Dying(WithServer):
         self.assertIsInstance(fault, TimeoutError)
         self.assertEqual((fault.may_be_done, fault.reason), (True, "no reply within 0.5 seconds"))
 
+    def test_signals(self):
+        """The handler of a signal can't use a pass that is in a call."""
+        said = []
+
+        def call(*_):
+            try:
+                said.append(self.store.new_node())
+            except RuntimeError as error:
+                said.append(type(error))
+        self.addCleanup(signal.signal, signal.SIGALRM, signal.signal(signal.SIGALRM, call))
+        self.addCleanup(signal.setitimer, signal.ITIMER_REAL, 0)
+        with self.store.watch() as watch:
+            signal.setitimer(signal.ITIMER_REAL, 0.1)
+            self.assertEqual((watch.wait(0.3), said), (None, [RuntimeError]))
+        self.stop()
+        signal.setitimer(signal.ITIMER_REAL, 0.1)
+        timer = threading.Timer(0.5, self.server.process.send_signal, [signal.SIGCONT])
+        timer.start()
+        self.assertEqual(self.store.status().entries, 1)
+        timer.join()
+        self.assertEqual(said, 2 * [RuntimeError])
+
     def test_interrupted(self):
         """A call that an exception ends leaves no half of a reply to the next one."""
         def interrupt(*_):
@@ -339,6 +361,19 @@ class Following(WithServer):
                 for call in (version.refresh, version.query_prepared):
                     with self.assertRaises(bestore.Closed):
                         call(live)
+
+    def test_names_of_a_query(self):
+        """A query of many names that was refreshed in this process goes on at a server."""
+        names = [f"n{number}" for number in range(30)]
+        with _open(1024, 1, 200) as local, bestore.prepare(" || ".join(f"{name}==1" for name in names)) as live:
+            for store in (local, self.store):
+                for name in names:
+                    store.make_index(name, bestore.INT64)
+            local.change(lambda change: change.set(change.new(), "n29", 1))
+            with local.pin() as version:
+                self.assertEqual(version.refresh(live), ([1], []))
+            with self.store.pin() as version:
+                self.assertEqual((version.refresh(live), version.refresh(live)), (([], [1]), ([], [])))
 
     def test_watch(self):
         self.sized(self.store, 5, 1)

@@ -150,6 +150,8 @@ def error_of(path: str, details: Dict[str, object], query: Optional[str] = None)
     number, name, message = details.get("number"), str(details.get("name")), str(details.get("message"))
     if isinstance(number, int):
         return _of_library(number, details, query)
+    if name == "Protocol":
+        return ProtocolError(path, f"{message}; it knows {details.get('known')}")
     refused = Refused._classes.get(name, Refused)(path, name, message)
     if name not in ("NotSaved", "Stopped"):
         return refused

@@ -160,11 +160,11 @@ class ConnectedVersion(Version):
     def state(self) -> Iterator[Batch]:
         more: Optional[int] = 0
         while more is not None:
-            batches, more = self._ask("state", {"from": more}, lambda ok: (ok["batches"], ok.get("more")))
+            batches, more = self._ask("state", {"from": more}, _read_state)
             for batch in batches:
                 if not self._is_pinned:
                     raise NotPinned()
-                yield Batch(map(read_operation, batch))
+                yield batch
 
     def _read(self, node: int, name: str) -> Typed:
         encoded(name)
@@ -196,6 +196,10 @@ def _text_of(asked: Query) -> str:
 
 def _read_page(ok: JSON) -> Tuple[List[int], Optional[int]]:
     return read_nodes(ok["nodes"]), ok.get("more")
+
+
+def _read_state(ok: JSON) -> Tuple[List[Batch], Optional[int]]:
+    return [Batch(map(read_operation, batch)) for batch in ok["batches"]], ok.get("more")
 
 
 def _read_indices(ok: JSON) -> Dict[str, Kind]:
@@ -253,15 +257,25 @@ class ConnectedPass(Pass):
         if self._is_dead:
             raise Forked()
         with self._lock:
-            if self._connection is None:
-                raise Closed()
-            self._is_asking = True
+            connection = self._begin()
             try:
-                return self._connection.ask(command, parameters, read, is_write, query)
+                return connection.ask(command, parameters, read, is_write, query)
             finally:
-                self._is_asking = False
-                if self._is_left:
-                    self._unpin_left()
+                self._end()
+
+    def _begin(self) -> Connection:
+        """The connection, for one call."""
+        if self._connection is None:
+            raise Closed()
+        if self._is_asking:
+            raise RuntimeError("a call on this pass is made within another one, as by the handler of a signal")
+        self._is_asking = True
+        return self._connection
+
+    def _end(self) -> None:
+        self._is_asking = False
+        if self._is_left:
+            self._unpin_left()
 
     @property
     def _is_open(self) -> bool:
@@ -272,6 +286,7 @@ class ConnectedPass(Pass):
         """Pins. Returns the commit number, and the next node."""
         self._check_process()
         with self._lock:
+            self._unpin_left()
             if self._has_pin and self._is_open:
                 raise Pinned()
             pinned = self._ask("pin", {}, lambda ok: (int(ok["commit"]), int(ok["next"])))
@@ -337,9 +352,8 @@ class ConnectedPass(Pass):
             parameters["expected"] = expected if expected in RANGES[Kind.UINT64] else 2**64 - 1  # which no journal has
 
         def read(ok: JSON) -> Tuple[int, List[int]]:
-            nodes = iter(read_nodes(ok["nodes"]) + [0])
-            made = [next(nodes) if raw.kind == NEW else 0 for raw in batch._operations]
-            return int(ok["commit"]), made
+            nodes = read_nodes(ok["nodes"])[::-1]
+            return int(ok["commit"]), [nodes.pop() if raw.kind == NEW else 0 for raw in batch._operations]
         try:
             return self._ask("batch", parameters, read, is_write=True)
         except LineTooLong:
@@ -391,10 +405,12 @@ class ConnectedPass(Pass):
             watch._take(push)
 
     def _receive(self, timeout: Optional[float]) -> bool:
-        """Waits for a push."""
-        if self._connection is None:
-            raise Closed()
-        return self._connection.receive_pushes(timeout)
+        """Waits for a push. Returns whether one came."""
+        connection = self._begin()
+        try:
+            return connection.receive_pushes(timeout)
+        finally:
+            self._end()
 
     def _end_watches(self) -> None:
         """Ends the watches that nothing names any more."""
@@ -444,6 +460,8 @@ class Watch:
                 number = user._ask("watch", parameters, self._read_first, query=query)
             except NotCovered:
                 raise self._not_covered() from None
+            except LineTooLong:
+                raise TooLong(query=query) from None
             self._number, self.commit = number, self._last
             """The commit number of the snapshot to which what was returned leads, and at first that of the first answer."""
             user._watches[number] = self

@@ -8,7 +8,7 @@ import time
 from typing import Any, Callable, Dict, Iterator, List, Optional, Set, Tuple
 
 from ._library import Attribute, Counts, Operation as RawOperation, Updates, Usage, calls, check, words
-from .errors import BadLimits, ErrorNumber, NotPinned, Refusal, encoded, encoded_query, refusal
+from .errors import BadLimits, ErrorNumber, NotCovered, NotPinned, Refusal, encoded, encoded_query, refusal
 from .handles import HandleOwner
 from .operations import BYTES_OF_A_BATCH, MOST_OPERATIONS, Batch, batch_of
 from .queries import Prepared, encode_items
@@ -204,14 +204,16 @@ class LocalVersion(Version):
 def seen_in_library(prepared: Prepared) -> Set[int]:
     """The nodes that the library has from the last refresh of a query, of which it then has none. In an empty store with the
     indices that the query needs all of them are removed."""
-    names = prepared.names
-    batch = Batch()
-    for name in names:
-        batch.make_index(name, Kind.STRING)
-    with open(8 + len(names), 1, 1) as store:
-        store.apply(batch)
-        with store.pin() as version:
-            return set(version.refresh(prepared)[1])
+    with open(512, 1, 1024) as store:
+        while True:
+            with store.pin() as version:
+                try:
+                    return set(version.refresh(prepared)[1])
+                except NotCovered as error:
+                    if error.missing is None:
+                        raise
+                    missing = error.missing
+            store.make_index(missing, Kind.STRING)
 
 
 class LocalPass(HandleOwner, Pass):
