@@ -28,12 +28,12 @@ class Server:
         self.process = subprocess.Popen([BESTORED, "--socket", self.path, *self.options], stdin=subprocess.DEVNULL)
 
     def connect(self, **options):
-        """A pass, once the server listens."""
+        """A pass, once the server listens and has one."""
         until = time.monotonic() + PATIENCE
         while True:
             try:
                 return bestore.connect(self.path, **options)
-            except (bestore.NoServer, bestore.TimedOut):
+            except (bestore.NoServer, bestore.NoPass, bestore.TimedOut):
                 if time.monotonic() > until or self.process.poll() is not None:
                     raise
                 time.sleep(0.002)

@@ -112,6 +112,9 @@ class Connecting(WithServer):
         with self.store.another():
             with self.assertRaises(bestore.NoPass):
                 self.store.another()
+        other = self.store.another()
+        version, watch = other.pin(), other.watch()
+        del other, version, watch  # the pass goes with what names it
         self.server.connect().close()
 
     def test_no_server(self):
@@ -124,6 +127,13 @@ class Connecting(WithServer):
         for timeout in (0, -1, float("nan")):
             with self.assertRaises(ValueError):
                 bestore.connect(self.server.path, timeout)
+
+    def test_long_times(self):
+        self.store.close()
+        with self.server.connect(timeout=float("inf")) as store, store.watch() as watch:
+            self.assertIsNone(watch.wait(0))
+            store.new_node()
+            self.assertEqual(watch.wait(1e300), ([], []))
 
     def test_default_path(self):
         with mock.patch.dict(os.environ, XDG_RUNTIME_DIR="/run/user/5"):
@@ -284,6 +294,15 @@ class Dying(WithServer):
         fault = self.in_call(self.store.new_node, self.server.kill, bestore.Disconnected)
         self.assertTrue(fault.may_be_done)
         self.assertIn("the write may have been made or not", str(fault))
+
+    def test_killed_while_it_waits(self):
+        with self.store.watch() as watch:
+            timer = threading.Timer(0.1, self.server.kill)
+            timer.start()
+            with self.assertRaises(bestore.Disconnected) as fault:
+                watch.wait()
+            timer.join()
+        self.assertEqual((fault.exception.may_be_done, fault.exception.reason), (False, "the server closed the connection"))
 
     def test_stopped(self):
         self.store = self.server.connect(timeout=0.5)

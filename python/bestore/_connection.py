@@ -18,11 +18,17 @@ from .errors import Error
 _Result = TypeVar("_Result")
 
 _ROOM = 1 << 16  # how many bytes are received at a time
+_LONGEST = 2_000_000.0  # seconds; the system's clocks end after some more, and a longer time is without an end
 _CLOSED = "the server closed the connection"
 _CLOSING = ("LineTooLong", "Timeout")  # errors after which the server closes the connection
 
 
-def _connected(path: str, timeout: Optional[float]) -> socket.socket:
+def _limited(timeout: Optional[float]) -> Optional[float]:
+    """A time that the system's calls take."""
+    return None if timeout is None or timeout > _LONGEST else timeout
+
+
+def _socket_to(path: str, timeout: Optional[float]) -> socket.socket:
     """A socket that is connected. Its calls wait up to so many seconds, by the system's own clock for that."""
     connected = socket.socket(socket.AF_UNIX, socket.SOCK_STREAM)
     try:
@@ -45,8 +51,8 @@ class Connection:
     Once a call was interrupted, or a line can't be read, nobody knows which reply comes next: the connection is closed."""
 
     def __init__(self, path: str, timeout: Optional[float], take_push: Callable[[JSON], None]) -> None:
-        self.path, self._timeout, self._take_push = path, timeout, take_push
-        self._socket: Optional[socket.socket] = _connected(path, timeout)
+        self.path, self._timeout, self._take_push = path, _limited(timeout), take_push
+        self._socket: Optional[socket.socket] = _socket_to(path, self._timeout)
         self._reason = "the connection is closed"  # why there is no socket
         self._last = 0  # the number of the last request
         self._received, self._searched = bytearray(), 0  # bytes that were received, and how many of them have no end of a line
@@ -59,9 +65,9 @@ class Connection:
 
     def fileno(self) -> int:
         """The descriptor of the socket."""
-        return self._connected().fileno()
+        return self._live_socket().fileno()
 
-    def _connected(self) -> socket.socket:
+    def _live_socket(self) -> socket.socket:
         if self._socket is None:
             raise Disconnected(self.path, self._reason)
         return self._socket
@@ -98,7 +104,7 @@ class Connection:
     def ask(self, command: str, parameters: JSON, read: Callable[[JSON], _Result], is_write: bool = False,
             query: Optional[str] = None) -> _Result:
         """Sends a request, and returns what `read` finds in its reply. `query` is the text that errors show."""
-        connected = self._connected()
+        connected = self._live_socket()
         self._last += 1
         line = encode_request(self._last, command, parameters)
         if len(line) > MOST_BYTES:
@@ -175,7 +181,8 @@ class Connection:
     def receive_pushes(self, timeout: Optional[float]) -> bool:
         """Takes what was pushed. If there is nothing, waits up to so many seconds, or without an end. Returns whether a line
         came."""
-        connected = self._connected()
+        connected = self._live_socket()
+        timeout = _limited(timeout)
         until = None if timeout is None else time.monotonic() + timeout
         polled = select.poll()
         polled.register(connected, select.POLLIN)

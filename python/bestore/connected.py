@@ -23,6 +23,7 @@ import operator
 import os
 import time
 from contextlib import suppress
+from functools import partial
 from typing import Any, Callable, Dict, Iterator, List, NamedTuple, Optional, Set, Tuple, TypeVar, Union
 from weakref import WeakValueDictionary
 
@@ -225,6 +226,14 @@ def _read_journal(ok: JSON) -> Tuple[List[Entry], Optional[int]]:
     return [read_entry(entry) for entry in ok["entries"]], ok.get("more")
 
 
+def _take_push(watches: "WeakValueDictionary[int, Watch]", push: JSON) -> None:
+    """Gives what was pushed to its watch, if that is there. The connection has no reference to the pass, so that a pass that
+    nothing names goes at once."""
+    watch = watches.get(push["watch"])
+    if watch is not None:
+        watch._take(push)
+
+
 class ConnectedPass(Pass):
     """A pass of a server's store: a connection. The calls of several threads on it wait for one another, so each thread has a
     pass of its own."""
@@ -238,7 +247,7 @@ class ConnectedPass(Pass):
         self.path = path
         """The server's socket."""
         self._timeout = timeout
-        self._connection = Connection(path, timeout, self._take_push)
+        self._connection = Connection(path, timeout, partial(_take_push, self._watches))
         try:
             self.server, self._number = self._ask("hello", {"protocol": PROTOCOL}, _read_server)
         except BaseException:
@@ -398,11 +407,6 @@ class ConnectedPass(Pass):
             if self._connection is None:
                 raise Closed()
             return self._connection.fileno()
-
-    def _take_push(self, push: JSON) -> None:
-        watch = self._watches.get(push["watch"])
-        if watch is not None:
-            watch._take(push)
 
     def _receive(self, timeout: Optional[float]) -> bool:
         """Waits for a push. Returns whether one came."""

@@ -60,12 +60,13 @@ class Prepared(HandleOwner):
         super().__init__()
         self.source = source
         """The text that it was prepared from, or None if it was prepared from items."""
-        self._is_in_library = False  # whether the library has the nodes of a refresh
-        self._seen: Optional[Set[int]] = None  # those of the last refresh, if that was in a version of a server
+        self._is_in_library = False  # whether the library has the nodes of the last refresh
+        self._seen: Optional[Set[int]] = None  # these nodes, if the last refresh was in a version of a server
 
     def close(self) -> None:
         """Gives the query up, if it is still there."""
         self._give_up(calls.bes_release)
+        self._seen = None
 
     @property
     def text(self) -> str:
