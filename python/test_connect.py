@@ -332,6 +332,16 @@ class Dying(WithServer):
         timer.join()
         self.assertEqual(said, 2 * [RuntimeError])
 
+    def test_signals_again_and_again(self):
+        """They don't lengthen the time of a reply."""
+        self.store = self.server.connect(timeout=0.5)
+        self.addCleanup(signal.signal, signal.SIGALRM, signal.signal(signal.SIGALRM, lambda *_: None))
+        self.addCleanup(signal.setitimer, signal.ITIMER_REAL, 0)
+        self.stop()
+        signal.setitimer(signal.ITIMER_REAL, 0.1, 0.1)
+        with self.assertRaises(bestore.TimedOut):
+            self.store.status()
+
     def test_interrupted(self):
         """A call that an exception ends leaves no half of a reply to the next one."""
         def interrupt(*_):

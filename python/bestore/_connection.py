@@ -5,7 +5,6 @@ from __future__ import annotations
 import os
 import select
 import socket
-import struct
 import time
 from contextlib import suppress
 from typing import Callable, NoReturn, Optional, Type, TypeVar
@@ -29,20 +28,22 @@ def _limited(timeout: Optional[float]) -> Optional[float]:
 
 
 def _socket_to(path: str, timeout: Optional[float]) -> socket.socket:
-    """A socket that is connected. Its calls wait up to so many seconds, by the system's own clock for that."""
+    """A socket that is connected. Each of its calls waits up to so many seconds."""
     connected = socket.socket(socket.AF_UNIX, socket.SOCK_STREAM)
     try:
         connected.settimeout(timeout)
         connected.connect(path)
-        connected.settimeout(None)
-        if timeout is not None:
-            time_of = struct.pack("@ll", int(timeout), max(int(timeout % 1 * 1e6), 1))
-            connected.setsockopt(socket.SOL_SOCKET, socket.SO_RCVTIMEO, time_of)
-            connected.setsockopt(socket.SOL_SOCKET, socket.SO_SNDTIMEO, time_of)
     except OSError as error:
         connected.close()
         raise NoServer(path, error.strerror or str(error)) from error
     return connected
+
+
+def _can_receive(connected: socket.socket, until: Optional[float]) -> bool:
+    """Whether something can be received before this time, or at all."""
+    polled = select.poll()
+    polled.register(connected, select.POLLIN)
+    return bool(polled.poll(None if until is None else max(until - time.monotonic(), 0) * 1000))
 
 
 class Connection:
@@ -88,7 +89,7 @@ class Connection:
     def _fail(self, error: Exception, may_be_done: bool = False) -> NoReturn:
         """Closes the connection, and raises why."""
         failed: Type[Broken] = Disconnected
-        if isinstance(error, BlockingIOError):
+        if isinstance(error, socket.timeout):
             failed, reason = TimedOut, f"no reply within {self._timeout:g} seconds"
         elif isinstance(error, EOFError):
             reason = str(error)
@@ -129,13 +130,13 @@ class Connection:
 
     def _reply(self, connected: socket.socket, query: Optional[str]) -> JSON:
         """The reply to the last request. What is pushed before it is taken."""
-        until = None if self._timeout is None else time.monotonic() + self._timeout
+        until, is_late = None if self._timeout is None else time.monotonic() + self._timeout, False
         while True:
             line = self._take_line()
             while line is None:
-                line = self._receive(connected.recv(_ROOM))
-                if line is None and until is not None and time.monotonic() > until:
-                    raise BlockingIOError
+                if is_late and not _can_receive(connected, until):  # the first call waits by itself
+                    raise socket.timeout
+                line, is_late = self._receive(connected.recv(_ROOM)), True
             reply = decode_line(line)
             if reply.get("id") == self._last and ("ok" in reply or isinstance(reply.get("error"), dict)):
                 return reply
@@ -184,13 +185,10 @@ class Connection:
         connected = self._live_socket()
         timeout = _limited(timeout)
         until = None if timeout is None else time.monotonic() + timeout
-        polled = select.poll()
-        polled.register(connected, select.POLLIN)
         try:
             line = self._take_line()
             while line is None:
-                left = None if until is None else max(until - time.monotonic(), 0)
-                if not polled.poll(None if left is None else left * 1000):
+                if not _can_receive(connected, until):
                     return False
                 line = self._receive(connected.recv(_ROOM))
             while line is not None:
