@@ -146,7 +146,7 @@ class Broken(unittest.TestCase):
     def test_errors_of_the_server(self):
         for name, error, said in [
             ("NotSaved", saved.NotSaved, "the write is not saved: why"), ("Stopped", saved.Stopped, "saving has failed: why"),
-            ("NotKept", bestore.NotKept, "why"), ("Other", bestore.Refused, "why"),
+            ("NotKept", bestore.NotKept, "why"), ("Other", bestore.ServerRefusal, "why"),
         ]:
             answer = {"id": 2, "error": {"name": name, "message": "why"}}
             with Fake([json.dumps(answer).encode() + b"\n"], [line(3, {"commit": 1, "nodes": [1]})]) as fake:

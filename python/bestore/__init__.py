@@ -27,8 +27,8 @@ The package has its shared object inside. In the repository it is the one in c/,
 
 from ._library import VERSION as __version__
 from ._connected_errors import (
-    Broken, Disconnected, Expired, LineTooLong, NoServer, NotAllowed, NotKept, NoWatch, ProtocolError, Refused, ServerError,
-    TimedOut, TooManyWatches, Unavailable,
+    BrokenConnection, Disconnected, Expired, LineTooLong, NoServer, NotAllowed, NotKept, NoWatch, ProtocolError, ServerError,
+    ServerRefusal, TimedOut, TooManyWatches, Unavailable,
 )
 from .changes import Change, ChangedAttributes
 from .connected import connect
@@ -53,15 +53,15 @@ STRING, INT32, INT64, MIME, RAW, UINT32, UINT64 = (
     Kind.STRING, Kind.INT32, Kind.INT64, Kind.MIME, Kind.RAW, Kind.UINT32, Kind.UINT64)
 
 __all__ = [
-    "Attributes", "BadBytes", "BadCount", "BadItems", "BadLimits", "BadPart", "BadPattern", "Batch", "Broken", "Busy",
-    "Change", "ChangedAttributes", "Closed", "CommitsSpent", "Comparison", "Conflict", "DataLength", "Disconnected",
-    "Entry", "Error", "ErrorNumber", "Expired", "Forked", "Full", "HasNul", "Held", "Hint", "INT32", "INT64",
-    "IndexExists", "Int32", "Int64", "Integer", "Item", "Kind", "LineTooLong", "MIME", "MOST_OPERATIONS", "MakeIndex",
-    "Name", "NameLength", "Nested", "NewNode", "NoAttribute", "NoIndex", "NoItem", "NoKind", "NoMemory", "NoNode",
-    "NoOperation", "NoPass", "NoServer", "NoValue", "NoWatch", "NotAllowed", "NotCovered", "NotIndexable", "NotKept",
-    "NotPinned", "NotUTF8", "Opened", "Operation", "Operator", "Pass", "Pinned", "Prepared", "ProtocolError",
-    "QueryError", "QueryNotUTF8", "QuerySyntax", "RAW", "Refusal", "Refused", "RemoveIndex", "RemoveNode", "STRING",
-    "ServerError", "SetAttribute", "Status", "TimedOut", "TooDeep", "TooLong", "TooMany", "TooManyAttempts",
+    "Attributes", "BadBytes", "BadCount", "BadItems", "BadLimits", "BadPart", "BadPattern", "Batch", "BrokenConnection",
+    "Busy", "Change", "ChangedAttributes", "Closed", "CommitsSpent", "Comparison", "Conflict", "DataLength",
+    "Disconnected", "Entry", "Error", "ErrorNumber", "Expired", "Forked", "Full", "HasNul", "Held", "Hint", "INT32",
+    "INT64", "IndexExists", "Int32", "Int64", "Integer", "Item", "Kind", "LineTooLong", "MIME", "MOST_OPERATIONS",
+    "MakeIndex", "Name", "NameLength", "Nested", "NewNode", "NoAttribute", "NoIndex", "NoItem", "NoKind", "NoMemory",
+    "NoNode", "NoOperation", "NoPass", "NoServer", "NoValue", "NoWatch", "NotAllowed", "NotCovered", "NotIndexable",
+    "NotKept", "NotPinned", "NotUTF8", "Opened", "Operation", "Operator", "Pass", "Pinned", "Prepared", "ProtocolError",
+    "QueryError", "QueryNotUTF8", "QuerySyntax", "RAW", "Refusal", "RemoveIndex", "RemoveNode", "STRING", "ServerError",
+    "ServerRefusal", "SetAttribute", "Status", "TimedOut", "TooDeep", "TooLong", "TooMany", "TooManyAttempts",
     "TooManyAttributes", "TooManyIndices", "TooManyWatches", "Typed", "UINT32", "UINT64", "UInt32", "UInt64",
     "Unavailable", "UnsetAttribute", "Value", "Version", "WrongKind", "any_case", "connect", "escape", "open",
     "prepare", "prepare_items",

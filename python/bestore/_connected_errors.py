@@ -2,7 +2,7 @@
 
 from __future__ import annotations
 
-from typing import ClassVar, Dict, Optional, Tuple, Type
+from typing import Dict, Optional, Tuple
 
 from . import _saved_errors
 from .errors import Error, ErrorNumber, Refusal, refusal
@@ -37,7 +37,7 @@ class NoServer(ServerError, ConnectionError):
         return f"no server: {self.reason}"
 
 
-class Broken(ServerError):
+class BrokenConnection(ServerError):
     """The connection failed, and is closed. Each later call on its pass is `Disconnected`."""
 
     def __init__(self, path: str, reason: str, may_be_done: bool = False) -> None:
@@ -51,15 +51,15 @@ class Broken(ServerError):
         return f"{self.reason}; the write may have been made or not" if self.may_be_done else self.reason
 
 
-class Disconnected(Broken, ConnectionError):
+class Disconnected(BrokenConnection, ConnectionError):
     """The server closed the connection, or has ended, or an earlier call broke the connection."""
 
 
-class TimedOut(Broken, TimeoutError):
+class TimedOut(BrokenConnection, TimeoutError):
     """The server did not reply in time."""
 
 
-class ProtocolError(Broken):
+class ProtocolError(BrokenConnection):
     """The server sent what is no line of the protocol, or speaks another version of it."""
 
 
@@ -89,14 +89,8 @@ class Unavailable(ServerError):
         return f"`{self.call}` can't be called through a server"
 
 
-class Refused(ServerError):
+class ServerRefusal(ServerError):
     """The server refused a request for a reason of its own, and did nothing."""
-
-    _classes: ClassVar[Dict[str, Type[Refused]]] = {}
-
-    def __init_subclass__(cls) -> None:
-        super().__init_subclass__()
-        Refused._classes[cls.__name__] = cls
 
     def __init__(self, path: str, name: str, message: str) -> None:
         super().__init__(path, name, message)
@@ -109,25 +103,27 @@ class Refused(ServerError):
         return self.message
 
 
-class Expired(Refused):
+class Expired(ServerRefusal):
     """The snapshot was kept too long, and the server took it back. Pin again."""
 
 
-class NoWatch(Refused):
+class NoWatch(ServerRefusal):
     """The watch has ended."""
 
 
-class TooManyWatches(Refused):
+class TooManyWatches(ServerRefusal):
     """The connection has as many watches as it may have."""
 
 
-class NotKept(Refused):
+class NotKept(ServerRefusal):
     """The server keeps no file."""
 
 
-class NotAllowed(Refused):
+class NotAllowed(ServerRefusal):
     """The server is another user's."""
 
+
+_REFUSALS = {kind.__name__: kind for kind in (Expired, NoWatch, TooManyWatches, NotKept, NotAllowed)}
 
 # What goes with an error of the library, by its number, and what the call takes a list of.
 _CARRIED: Dict[int, Tuple[str, Optional[str]]] = {
@@ -152,7 +148,7 @@ def error_of(path: str, details: Dict[str, object], query: Optional[str] = None)
         return _of_library(number, details, query)
     if name == "Protocol":
         return ProtocolError(path, f"{message}; it knows {details.get('known')}")
-    refused = Refused._classes.get(name, Refused)(path, name, message)
+    refused = _REFUSALS.get(name, ServerRefusal)(path, name, message)
     if name not in ("NotSaved", "Stopped"):
         return refused
     error = _saved_errors.NotSaved(path, None) if name == "NotSaved" else _saved_errors.Stopped(path)

@@ -10,7 +10,7 @@ from contextlib import suppress
 from typing import Callable, NoReturn, Optional, Type, TypeVar
 from weakref import WeakSet
 
-from ._connected_errors import Broken, Disconnected, LineTooLong, NoServer, ProtocolError, TimedOut, error_of
+from ._connected_errors import BrokenConnection, Disconnected, LineTooLong, NoServer, ProtocolError, TimedOut, error_of
 from ._wire import JSON, MOST_BYTES, MOST_BYTES_OF_A_REPLY, decode_line, encode_request
 from .errors import Error
 
@@ -88,7 +88,7 @@ class Connection:
 
     def _fail(self, error: Exception, may_be_done: bool = False) -> NoReturn:
         """Closes the connection, and raises why."""
-        failed: Type[Broken] = Disconnected
+        failed: Type[BrokenConnection] = Disconnected
         if isinstance(error, socket.timeout):
             failed, reason = TimedOut, f"no reply within {self._timeout:g} seconds"
         elif isinstance(error, EOFError):

@@ -28,8 +28,8 @@ from typing import Any, Callable, Dict, Iterator, List, NamedTuple, Optional, Se
 from weakref import WeakValueDictionary
 
 from ._connected_errors import (
-    Broken, Disconnected, Expired, LineTooLong, NoServer, NotAllowed, NotKept, NoWatch, ProtocolError, Refused, ServerError,
-    TimedOut, TooManyWatches, Unavailable, error_of)
+    BrokenConnection, Disconnected, Expired, LineTooLong, NoServer, NotAllowed, NotKept, NoWatch, ProtocolError, ServerError,
+    ServerRefusal, TimedOut, TooManyWatches, Unavailable, error_of)
 from ._connection import Connection
 from ._journal import line_of
 from ._wire import (
@@ -44,9 +44,9 @@ from .values import RANGES, Kind, Typed, node_number
 from .versions import Query, Version, not_covered
 
 __all__ = [
-    "Broken", "Changes", "ConnectedPass", "ConnectedVersion", "Disconnected", "Expired", "LineTooLong", "NoServer",
-    "NoWatch", "NotAllowed", "NotKept", "ProtocolError", "Refused", "Server", "ServerError", "TimedOut", "TooManyWatches",
-    "Unavailable", "Watch", "connect", "default_path",
+    "BrokenConnection", "Changes", "ConnectedPass", "ConnectedVersion", "Disconnected", "Expired", "LineTooLong",
+    "NoServer", "NoWatch", "NotAllowed", "NotKept", "ProtocolError", "Server", "ServerError", "ServerRefusal",
+    "TimedOut", "TooManyWatches", "Unavailable", "Watch", "connect", "default_path",
 ]
 
 _Result = TypeVar("_Result")
@@ -306,7 +306,7 @@ class ConnectedPass(Pass):
         """Gives the pin up, as the end of the connection does too."""
         self._has_pin = False
         if self._is_open:
-            with suppress(Broken):
+            with suppress(BrokenConnection):
                 self._ask("unpin", {}, lambda ok: None)
 
     def _leave(self) -> None:
@@ -564,7 +564,7 @@ class Watch:
         """Ends the watch, if it is there."""
         user, number, self._number = self._user, self._number, None
         if number is not None and not user._is_dead:
-            with suppress(Broken), user._lock:
+            with suppress(BrokenConnection), user._lock:
                 user._ended.append(number)
                 if user._is_open:
                     user._end_watches()
