@@ -1,4 +1,4 @@
-"""Handles of the library: who owns one, and what becomes of it in a forked child."""
+"""Handles: who owns one, and what becomes of it in a forked child."""
 
 from __future__ import annotations
 
@@ -17,15 +17,12 @@ _Self = TypeVar("_Self", bound="Owner")
 class Owner:
     """Owns a handle, and gives it up by `close`, at the end of a `with`, or when it goes itself.
 
-    The library takes one call on a handle at a time, so the calls of several threads wait for one another. In a
-    forked child the handle is dead: each call raises `Forked`, and giving it up does nothing. The child may make
-    handles of its own."""
+    A handle takes one call at a time, so the calls of several threads wait for one another. In a forked child the handle
+    is dead: each call raises `Forked`, and giving it up does nothing. The child may make handles of its own."""
 
     _forks: ClassVar[int] = 0
 
     def __init__(self) -> None:
-        self._handle = Handle()
-        self._pointer = ctypes.byref(self._handle)
         self._lock = threading.RLock()
         self._made_after = Owner._forks
 
@@ -40,17 +37,6 @@ class Owner:
         if self._made_after != Owner._forks:
             raise Forked()
 
-    def _call(self, call: Callable[..., int], *arguments: Any) -> int:
-        if self._made_after != Owner._forks:
-            raise Forked()
-        with self._lock:
-            return call(self._pointer, *arguments)
-
-    def _give_up(self, call: Callable[..., int]) -> None:
-        """Makes a call that ends the handle's use, which a forked child leaves to its parent."""
-        if not self._is_dead:
-            self._call(call)
-
     def close(self) -> None:
         raise NotImplementedError
 
@@ -63,6 +49,26 @@ class Owner:
 
     def __del__(self) -> None:
         self.close()
+
+
+class HandleOwner(Owner):
+    """Owns a handle of the library."""
+
+    def __init__(self) -> None:
+        super().__init__()
+        self._handle = Handle()
+        self._pointer = ctypes.byref(self._handle)
+
+    def _call(self, call: Callable[..., int], *arguments: Any) -> int:
+        if self._made_after != Owner._forks:
+            raise Forked()
+        with self._lock:
+            return call(self._pointer, *arguments)
+
+    def _give_up(self, call: Callable[..., int]) -> None:
+        """Makes a call that ends the handle's use, which a forked child leaves to its parent."""
+        if not self._is_dead:
+            self._call(call)
 
 
 def _count_fork() -> None:

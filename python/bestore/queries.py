@@ -4,11 +4,11 @@ from __future__ import annotations
 
 import ctypes
 import enum
-from typing import List, Optional, Sequence, Tuple, Union
+from typing import List, Optional, Sequence, Set, Tuple, Union
 
 from ._library import Item as RawItem, calls, check
-from .errors import encoded, encoded_query
-from .handles import Owner
+from .errors import Closed, encoded, encoded_query
+from .handles import HandleOwner
 from .language import Comparison, comparisons
 from .values import Kind, encode_value
 
@@ -52,7 +52,7 @@ def encode_items(items: Sequence[Item]) -> EncodedItems:
     return taken, len(items), texts, len(texts)
 
 
-class Prepared(Owner):
+class Prepared(HandleOwner):
     """A query that is parsed once and kept, by `prepare` or `prepare_items`. It belongs to no store.
     `Version.query_prepared` asks it, and `Version.refresh` returns what changed since it was refreshed last."""
 
@@ -60,10 +60,13 @@ class Prepared(Owner):
         super().__init__()
         self.source = source
         """The text that it was prepared from, or None if it was prepared from items."""
+        self._is_in_library = False  # whether the library has the nodes of the last refresh
+        self._seen: Optional[Set[int]] = None  # these nodes, if the last refresh was in a version of a server
 
     def close(self) -> None:
         """Gives the query up, if it is still there."""
         self._give_up(calls.bes_release)
+        self._seen = None
 
     @property
     def text(self) -> str:
@@ -75,6 +78,15 @@ class Prepared(Owner):
             if count.value <= room:
                 return written.raw[:count.value].decode()
             room = count.value
+
+    def _asked_text(self) -> str:
+        """The text by which a server is asked. `Closed` if the query is closed."""
+        if self.source is None:
+            return self.text
+        self._check_process()
+        if not self._handle.live:
+            raise Closed()
+        return self.source
 
     @property
     def comparisons(self) -> List[Comparison]:

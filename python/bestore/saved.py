@@ -28,9 +28,9 @@ import os
 import threading
 from contextlib import ExitStack, contextmanager, suppress
 from types import TracebackType
-from typing import Any, Callable, Iterator, List, Optional, Tuple, Type, Union
+from typing import Any, Iterator, List, Optional, Tuple, Type, Union
 
-from . import store as _store
+from . import local as _local
 from ._library import Counts, Operation as RawOperation, calls, check
 from ._saved_errors import (
     Differs, DiskFull, Foreign, Held, Newer, NotSaved, SavedError, SqliteError, Stopped, TooLarge, refused)
@@ -50,7 +50,7 @@ _TRIES = 2**63 - 1  # for as long as other passes write: an entry that can't be 
 class _Reader:
     """Reads entries of the journal as bytes, by a pass that nobody else uses."""
 
-    def __init__(self, user: _store.Pass) -> None:
+    def __init__(self, user: _local.LocalPass) -> None:
         self._user, self._operations = user, (RawOperation * MOST_OPERATIONS)()
         self._texts = ctypes.create_string_buffer(BYTES_OF_A_BATCH)
         self._by, self._length, self._counts = ctypes.c_uint64(), ctypes.c_uint64(), Counts()
@@ -71,7 +71,7 @@ class _Saver:
     """Saves the entries of the journal. A writer waits for its turn, and then saves all entries that are there. The writers
     whose entries it has saved go on."""
 
-    def __init__(self, file: File, own: _store.Pass, last: int, every: Optional[float]) -> None:
+    def __init__(self, file: File, own: _local.LocalPass, last: int, every: Optional[float]) -> None:
         self.own = own
         """A pass that nobody else uses. It reads what is saved, and makes the other passes."""
         self.path, self._reader = file.path, _Reader(own)
@@ -216,7 +216,7 @@ class _Saver:
         atexit.unregister(self.close)
 
 
-class SavedPass(_store.Pass):
+class SavedPass(_local.LocalPass):
     """A pass whose writes are saved. Each call that writes may also raise `Stopped`, if nothing is saved any more, and
     `NotSaved`, if the write couldn't be saved."""
 
@@ -224,11 +224,12 @@ class SavedPass(_store.Pass):
         super().__init__()
         self._saver, self._first = saver, first  # which stays, so that the file isn't closed
 
-    def _written(self, tries: int, call: Callable[..., int], batch: Batch, *before: int) -> Tuple[int, List[int]]:
+    def _write(self, batch: Batch, tries: int, expected: Optional[int]) -> Tuple[int, List[int]]:
         self._check_process()
         self._saver.check()
-        written = super()._written(tries, call, batch, *before)
-        self._saver.keep(written[0])
+        written = super()._write(batch, tries, expected)
+        self.committed = written[0]
+        self._saver.keep(self.committed)
         return written
 
     def another(self) -> SavedPass:
@@ -306,7 +307,7 @@ def open(path: Union[str, bytes, "os.PathLike[Any]"], pages: int = 4096, passes:
     if every is not None and not every >= 0:
         raise ValueError(f"every {every} seconds")
     with ExitStack() as opened:
-        own = opened.enter_context(_store.open(pages, passes + 1, commits))
+        own = opened.enter_context(_local.open(pages, passes + 1, commits))
         file = File(os.fsdecode(path))
         opened.callback(file.close)
         last = _load(file, own)
@@ -321,7 +322,7 @@ def open(path: Union[str, bytes, "os.PathLike[Any]"], pages: int = 4096, passes:
     return store
 
 
-def _load(file: File, own: _store.Pass) -> int:
+def _load(file: File, own: _local.LocalPass) -> int:
     """Applies what the file has to an empty store. Returns the number of the last entry."""
     about = file.about()
     for place, data in file.state():
@@ -340,7 +341,7 @@ def _load(file: File, own: _store.Pass) -> int:
     return last
 
 
-def _repeat(path: str, own: _store.Pass, data: bytes, entry: Optional[int] = None,
+def _repeat(path: str, own: _local.LocalPass, data: bytes, entry: Optional[int] = None,
             batch: Optional[int] = None) -> Tuple[List[int], List[int]]:
     """Applies a batch of the file. Returns for each operation the node that it made, or 0: by the file, and now."""
     try:
