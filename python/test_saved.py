@@ -235,12 +235,12 @@ class Kept(Files):
             running = [threading.Thread(target=other.new_node), threading.Thread(target=store.compact, name="compact")]
             with mock.patch.object(File, "append", recorded(append)), \
                     mock.patch.object(File, "write_state", recorded(write_state)):
-                with store._saver._turn():
+                with store._saver._line.turn():
                     running[0].start()
                     while store.status().entries == 0:
                         time.sleep(0.001)
                     running[1].start()
-                    while store._saver._asked < 2:
+                    while store._saver._line.askers < 1:
                         time.sleep(0.001)
                 for thread in running:
                     thread.join()
@@ -305,10 +305,10 @@ class Timed(Files):
                 store.new_node()
                 time.sleep(0.001)
             for _ in range(2000):
-                if store._saver._saved == 10:
+                if store._saver._line.saved == 10:
                     break
                 time.sleep(0.005)
-            self.assertEqual(store._saver._saved, 10)
+            self.assertEqual(store._saver._line.saved, 10)
         self.assertEqual(self.count(), 10)
 
     def test_write_beside_close(self):
@@ -510,7 +510,7 @@ class Failures(Files):
             with self.assertRaises(saved.Stopped):
                 store.flush()
             self.assertEqual(store.status().entries, made)
-        self.assertEqual(len(sql(self.path, "SELECT number FROM entry")), store._saver._saved)
+        self.assertEqual(len(sql(self.path, "SELECT number FROM entry")), store._saver._line.saved)
 
     def test_interrupted(self):
         """A write whose wait is interrupted is saved by the next one, also if it was in the file already."""
