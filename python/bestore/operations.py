@@ -5,7 +5,7 @@ from __future__ import annotations
 import ctypes
 import struct
 from dataclasses import dataclass
-from typing import Iterable, Iterator, List, Optional, Tuple, Union
+from typing import Iterable, Iterator, List, Optional, Sequence, Tuple, Union
 
 from ._library import Counts, Operation as RawOperation
 from .errors import BadBytes, BadCount, DataLength, NameLength, NoKind, decoded, encoded
@@ -148,10 +148,38 @@ class Batch:
     def to_bytes(self) -> bytes:
         """The batch as bytes, which `from_bytes` and the libraries for C, C++ and Rust read. `BadCount` if it has
         not 1 to 64 operations, `NameLength`, `DataLength` and `NoKind` for what no write takes."""
+        return self._packed()
+
+    def _packed(self, nodes: Optional[Sequence[int]] = None) -> bytes:
+        """The batch as bytes. If the nodes are given that each operation made, they are what the operations that make nodes
+        have, as in the journal."""
         if not 1 <= len(self) <= MOST_OPERATIONS:
             raise BadCount()
-        packed = [_packed(place, *parts) for place, parts in enumerate(self._parts())]
-        return b"".join([BEGINNING, bytes([len(self)]), *packed])
+        texts, parts = self._bytes, [BEGINNING, _BYTES[len(self)]]
+        for place, raw in enumerate(self._operations):
+            kind, code, node, number, name_at, name_length, value_at, value_length = _RAW.unpack(raw)
+            if kind == NEW:
+                parts.append(_KIND_NODE.pack(NEW, node if nodes is None else nodes[place]))
+                continue
+            parts.append(_KIND_NODE.pack(kind, node) if kind in _WITH_NODE else _BYTES[kind])
+            if kind == REMOVE:
+                continue
+            if name_length > 63:
+                raise NameLength(place, listed="operation")
+            parts += _BYTES[name_length], texts[name_at:name_at + name_length]
+            if kind not in _WITH_CODE:
+                continue
+            if code not in KIND_OF:
+                raise NoKind(place, listed="operation")
+            if kind == MAKE_INDEX:
+                parts.append(_CODE.pack(code))
+            elif value_length > 255:
+                raise DataLength(place, listed="operation")
+            elif code in RANGES:
+                parts.append(_CODE_NUMBER.pack(code, number))
+            else:
+                parts += _CODE.pack(code), _BYTES[value_length], texts[value_at:value_at + value_length]
+        return b"".join(parts)
 
     @classmethod
     def from_bytes(cls, data: bytes) -> Batch:
@@ -193,26 +221,9 @@ def _read_back(raw: RawOperation, name: str, value: bytes) -> Operation:
 # the name in one, and the name; the type code in 4; and the value, a number in 8 bytes, or a length in one and the bytes.
 BEGINNING = b"BEB\x01"
 _WITH_NODE, _WITH_NAME, _WITH_CODE = (NEW, REMOVE, SET, UNSET), (SET, UNSET, MAKE_INDEX, REMOVE_INDEX), (SET, MAKE_INDEX)
-
-
-def _packed(place: int, raw: RawOperation, name: bytes, value: bytes) -> bytes:
-    """The bytes of an operation."""
-    parts = [bytes([raw.kind])]
-    if raw.kind in _WITH_NODE:
-        parts.append(struct.pack("<Q", raw.node))
-    if raw.kind in _WITH_NAME:
-        if len(name) > 63:
-            raise NameLength(place, listed="operation")
-        parts += [bytes([len(name)]), name]
-    if raw.kind in _WITH_CODE:
-        if raw.code not in KIND_OF:
-            raise NoKind(place, listed="operation")
-        parts.append(struct.pack("<I", raw.code))
-    if raw.kind == SET:
-        if len(value) > 255:
-            raise DataLength(place, listed="operation")
-        parts.append(struct.pack("<Q", raw.number) if raw.code in RANGES else bytes([len(value)]) + value)
-    return b"".join(parts)
+_KIND_NODE, _CODE, _CODE_NUMBER = struct.Struct("<BQ"), struct.Struct("<I"), struct.Struct("<IQ")
+_BYTES = [bytes([byte]) for byte in range(256)]
+_RAW = struct.Struct("=2I2Q4I")  # an operation as the library has it
 
 
 class _Reader:
