@@ -178,6 +178,12 @@ if ! command -v python3 >/dev/null; then
     echo "Python: skipped, there is no python3"
     exit
 fi
+header=$(python3 -c 'import sysconfig; print(sysconfig.get_path("include"))')/Python.h
+if [ ! -f "$header" ]; then
+    echo "Python: skipped, there is no $header"
+    exit
+fi
+make -s -C ../python
 export PYTHONDONTWRITEBYTECODE=1
 python=(env BESTORE_LIBRARY="$PWD/libbestore.so" PYTHONPATH=../python python3 -W error)
 run Python "${python[@]}" -m unittest discover -q -s ../python

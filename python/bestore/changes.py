@@ -2,9 +2,9 @@
 
 from __future__ import annotations
 
-from typing import TYPE_CHECKING, Dict, MutableMapping, Optional, Set
+from typing import TYPE_CHECKING, Dict, Iterable, List, Literal, MutableMapping, Optional, Set, Union, overload
 
-from .errors import BadCount, NoAttribute, NoNode, NotPinned, WrongKind
+from .errors import BadCount, NoAttribute, NoNode, NotPinned, WrongKind, encoded
 from .operations import MOST_OPERATIONS, SET, Batch
 from .values import KIND_OF, RANGES, Encoded, Kind, Typed, Value, encode_value, typed_value
 from .versions import Attributes, Version
@@ -67,7 +67,7 @@ class Change(Version):
         code, number, taken = encode_value(value, kind)
         batch = self._collecting()
         self._check_kind(name, code)
-        batch._add(SET, node, name, code, number, taken)
+        batch._add_encoded(SET, node, encoded(name), code, number, taken)
         self._set.setdefault(node, {})[name] = code, number, taken
 
     def _check_kind(self, name: str, kind: Kind) -> None:
@@ -112,10 +112,46 @@ class Change(Version):
             raise NoAttribute()
         return super()._read(node, name)
 
+    def _value(self, node: int, name: str) -> Value:
+        return self._read(node, name).value
+
+    def typed(self, node: int, name: str) -> Optional[Typed]:
+        try:
+            return self._read(node, name)
+        except (NoAttribute, NoNode):
+            return None
+
+    def get(self, node: int, name: str) -> Optional[Value]:
+        typed = self.typed(node, name)
+        return None if typed is None else typed.value
+
+    def kind(self, node: int, name: str) -> Optional[Kind]:
+        typed = self.typed(node, name)
+        return None if typed is None else typed.kind
+
+    def column(self, nodes: Iterable[int], name: str) -> List[Optional[Value]]:
+        return [self.get(node, name) for node in nodes]
+
+    @overload
+    def attributes(self, node: int) -> Dict[str, Value]: ...
+
+    @overload
+    def attributes(self, node: int, kinds: Literal[False]) -> Dict[str, Value]: ...
+
+    @overload
+    def attributes(self, node: int, kinds: Literal[True]) -> Dict[str, Typed]: ...
+
+    def attributes(self, node: int, kinds: bool = False) -> Union[Dict[str, Value], Dict[str, Typed]]:
+        listed = self._listed(node)
+        if kinds:
+            return listed
+        return {name: typed.value for name, typed in listed.items()}
+
     def _listed(self, node: int) -> Dict[str, Typed]:
+        """A node's attributes, the collected operations done."""
         if node in self._removed:
             raise NoNode()
-        listed = {} if node in self._made else super()._listed(node)
+        listed = {} if node in self._made else super().attributes(node, True)
         for name, encoded in self._set.get(node, {}).items():
             listed.pop(name, None)
             if encoded is not None:

@@ -4,47 +4,29 @@ from __future__ import annotations
 
 import ctypes
 import os
-import threading
 from types import TracebackType
-from typing import Any, Callable, ClassVar, Optional, Type, TypeVar
+from typing import Any, Callable, Optional, Type, TypeVar
 
+from . import _native
 from ._library import Handle
-from .errors import Forked
 
 _Self = TypeVar("_Self", bound="Owner")
 
+PASS, PREPARED, CURSOR = 1, 2, 3
+"""What a handle is of."""
 
-class Owner:
+
+class Owner(_native.Handle):
     """Owns a handle, and gives it up by `close`, at the end of a `with`, or when it goes itself.
 
     The library takes one call on a handle at a time, so the calls of several threads wait for one another. In a
     forked child the handle is dead: each call raises `Forked`, and giving it up does nothing. The child may make
     handles of its own."""
 
-    _forks: ClassVar[int] = 0
-
-    def __init__(self) -> None:
-        self._handle = Handle()
-        self._pointer = ctypes.byref(self._handle)
-        self._lock = threading.RLock()
-        self._made_after = Owner._forks
-
     @property
-    def _is_dead(self) -> bool:
-        """Whether this process was forked since the handle was made."""
-        return self._made_after != Owner._forks
-
-    def _check_process(self) -> None:
-        """Raises `Forked` if the handle is dead. It comes before each wait for the lock, whose owner may not be in
-        this process."""
-        if self._made_after != Owner._forks:
-            raise Forked()
-
-    def _call(self, call: Callable[..., int], *arguments: Any) -> int:
-        if self._made_after != Owner._forks:
-            raise Forked()
-        with self._lock:
-            return call(self._pointer, *arguments)
+    def _pointer(self) -> Any:
+        """The handle, as calls of ctypes take it."""
+        return ctypes.byref(Handle.from_address(self._address))
 
     def _give_up(self, call: Callable[..., int]) -> None:
         """Makes a call that ends the handle's use, which a forked child leaves to its parent."""
@@ -65,8 +47,4 @@ class Owner:
         self.close()
 
 
-def _count_fork() -> None:
-    Owner._forks += 1
-
-
-os.register_at_fork(after_in_child=_count_fork)
+os.register_at_fork(after_in_child=_native.after_fork)

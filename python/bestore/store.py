@@ -10,15 +10,16 @@ import time
 from functools import partial
 from typing import Any, Callable, Iterator, List, NamedTuple, Optional, Tuple, TypeVar
 
-from ._library import Attribute, Counts, Operation as RawOperation, Usage, calls, check, words
+from ._library import Usage, calls, check
 from .changes import Change
 from .errors import BadLimits, Conflict, ErrorNumber, Nested, NoIndex, Refusal, TooManyAttempts, refusal
-from .handles import Owner
-from .operations import BYTES_OF_A_BATCH, MOST_OPERATIONS, Batch, Operation, batch_of
+from .handles import PASS, Owner
+from .operations import MOST_OPERATIONS, Batch, Operation
 from .values import RANGES, Kind, Value
 from .versions import Version
 
 _Result = TypeVar("_Result")
+_Answered = TypeVar("_Answered", bound=Tuple[Any, ...])
 
 TRIES = 10_000
 """How often a call is tried at most while another pass is writing, if nothing else is said: for some seconds at
@@ -28,7 +29,6 @@ PAUSES = 100
 in all."""
 ATTEMPTS = 1_000
 """How often the function of a change is run at most, if nothing else is said."""
-_ROOM = 4096  # how many nodes a query may find before it is asked again with more room
 _BUSY, _FULL = int(ErrorNumber.BUSY), int(ErrorNumber.FULL)
 
 
@@ -90,39 +90,10 @@ class Pass(Owner):
     Each thread has a pass of its own, since the calls on one pass wait for one another."""
 
     def __init__(self) -> None:
-        super().__init__()
-        self._is_left = False
-        self._pinned: Optional[int] = None  # the commit number of the snapshot, while there is one
+        super().__init__(PASS)
         self._changing: Optional[int] = None  # the thread that runs the function of a change
-        self._nodes = words(_ROOM)  # what the reads of its versions are written into
-        self._attribute, self._value = Attribute(), bytearray(255)
-        self._attribute_pointer = ctypes.byref(self._attribute)
-        self._value_pointer = (ctypes.c_char * 255).from_buffer(self._value)
         self.committed = 0
         """The commit number of the last write that this pass made, or 0 before the first."""
-
-    def _call(self, call: Callable[..., int], *arguments: Any) -> int:
-        try:
-            return super()._call(call, *arguments)
-        finally:
-            if self._is_left:
-                self._unpin_left()
-
-    def _leave(self) -> None:
-        """Takes over the pin of a version that goes. Python may collect that one anywhere, also while this thread is
-        at another pass, so a thread that is at this one isn't waited for: it gives the pin up after its call."""
-        if not self._is_dead:
-            self._is_left = True
-            self._unpin_left()
-
-    def _unpin_left(self) -> None:
-        while self._is_left and self._lock.acquire(blocking=False):
-            try:
-                if self._is_left:
-                    self._is_left, self._pinned = False, None
-                    calls.bes_unpin(self._pointer)
-            finally:
-                self._lock.release()
 
     def _tried(self, tries: int, call: Callable[..., int], *arguments: Any) -> int:
         """Makes a call, up to so many times while another pass is writing, and once at least."""
@@ -134,23 +105,42 @@ class Pass(Owner):
                 tries, answer = tries - 1, self._call(call, *arguments)
         return answer
 
+    def _repeated(self, tries: int, call: Callable[..., _Answered], *arguments: Any) -> _Answered:
+        """The same of a call of the extension, which also returns what goes with the library's number."""
+        answered = call(*arguments)
+        if answered[0] == _BUSY:
+            back = _StandingBack()
+            while answered[0] == _BUSY and tries > 1:
+                back.wait()
+                tries, answered = tries - 1, call(*arguments)
+        return answered
+
     def _written(self, tries: int, call: Callable[..., int], batch: Batch, *before: int) -> Tuple[int, List[int]]:
-        """Makes a call that writes a batch: up to so many times while another pass is writing. With more than one
-        try it also waits, when no page is free, for other passes to give older snapshots up. Returns the commit
-        number, and the nodes that were made."""
-        if self._changing == threading.get_ident():
+        """Writes a batch, with what bes_apply_if has before it: up to so many times while another pass is writing. With
+        more than one try it also waits, when no page is free, for other passes to give older snapshots up. Returns the
+        commit number, and the nodes that were made."""
+        if self._changing is not None and self._changing == threading.get_ident():
             raise Nested()
-        count, made, number, pauses = len(batch), words(len(batch)), ctypes.c_uint64(), 0
-        operations = (RawOperation * max(count, 1))(*batch._operations)
-        arguments = (*before, operations, count, batch._bytes, len(batch._bytes), made, count, ctypes.byref(number))
-        answer = self._tried(tries, call, *arguments)
-        while answer == _FULL and tries > 1 and pauses < PAUSES and self._may_be_given_pages(number.value):
-            time.sleep(min(0.001 * 2**pauses, 0.05))
-            pauses, answer = pauses + 1, self._tried(tries, call, *arguments)
+        answer, number, made = self._apply(batch, *before)
         if answer != 0:
-            raise refusal(answer, number.value, listed="operation")
-        self.committed = number.value
-        return self.committed, made[:count]
+            answer, number, made = self._written_at_last(tries, answer, number, batch, *before)
+        self.committed = number
+        return number, made
+
+    def _written_at_last(self, tries: int, answer: int, number: int, batch: Batch, *before: int) -> Tuple[int, int, List[int]]:
+        """The same, once the first try has failed by this."""
+        pauses = 0
+        made: List[int] = []
+        if answer == _BUSY and tries > 1:
+            _StandingBack().wait()
+            answer, number, made = self._repeated(tries - 1, self._apply, batch, *before)
+        while answer == _FULL and tries > 1 and pauses < PAUSES and self._may_be_given_pages(number):
+            time.sleep(min(0.001 * 2**pauses, 0.05))
+            pauses += 1
+            answer, number, made = self._repeated(tries, self._apply, batch, *before)
+        if answer != 0:
+            raise refusal(answer, number, listed="operation")
+        return answer, number, made
 
     def _may_be_given_pages(self, least: int) -> bool:
         """Whether pages may come free that a write didn't find, as those of the commit number `least` and later were
@@ -324,17 +314,14 @@ class Pass(Owner):
         """The entries of the journal after the first `number`, until there are no more. So
         `store.journal_from(version.number)` has what was written after a snapshot. Each entry is read by a call of
         its own, which is tried up to so many times while another pass is writing, and then is `Busy`."""
-        operations, texts = (RawOperation * MOST_OPERATIONS)(), ctypes.create_string_buffer(BYTES_OF_A_BATCH)
-        by, length, counts = ctypes.c_uint64(), ctypes.c_uint64(), Counts()
-        room = operations, MOST_OPERATIONS, texts, BYTES_OF_A_BATCH
-        arguments = (ctypes.byref(by), ctypes.byref(counts), *room, ctypes.byref(length))
         number = max(operator.index(number), 0)
         while number < 2**64:
-            check(self._tried(tries, calls.bes_journal_from, number, *arguments), length.value)
-            if counts.operations == 0:
+            answer, carried, by, batch = self._repeated(tries, self._journal_entry, number)
+            check(answer, carried)
+            if batch is None:
                 return
             number += 1
-            yield Entry(number, by.value, tuple(batch_of(counts, operations, texts)))
+            yield Entry(number, by, tuple(batch))
 
     def status(self, tries: int = TRIES) -> Status:
         """How full the store is, and who is the oldest active reader, with up to so many tries while another pass is
