@@ -75,6 +75,8 @@ class Batch(_native.Batch):
 
     `for operation in batch` goes over them, `len(batch)` is how many there are, and `Batch(operations)` has these."""
 
+    __slots__ = ()
+
     def __iter__(self) -> Iterator[Operation]:
         for parts in self._parts():
             yield _read_back(*parts)

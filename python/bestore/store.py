@@ -121,7 +121,7 @@ class Pass(Owner):
         commit number, and the nodes that were made."""
         if self._changing is not None and self._changing == threading.get_ident():
             raise Nested()
-        answer, number, made = self._apply(batch, *before)
+        answer, number, made = self._apply(batch, *before) if before else self._apply(batch)
         if answer != 0:
             answer, number, made = self._written_at_last(tries, answer, number, batch, *before)
         self.committed = number
@@ -269,7 +269,7 @@ class Pass(Owner):
 
     def set(self, node: int, name: str, value: Value, kind: Optional[int] = None) -> None:
         """Sets an attribute, as `Batch.set`. The kind isn't compared with that of an index, as in a change."""
-        self.apply(Batch().set(node, name, value, kind))
+        self._written(TRIES, calls.bes_apply, Batch().set(node, name, value, kind))
 
     def unset(self, node: int, name: str) -> None:
         """Removes an attribute."""

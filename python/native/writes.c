@@ -3,7 +3,9 @@
 
 #include <string.h>
 
-enum { SHORT_BYTES = 1024 }; /* a batch of no more is copied to the stack */
+/* A batch of no more is written with the GIL: that takes microseconds, and the wait for the GIL beside a thread that computes takes
+ * milliseconds. */
+enum { SHORT_OPERATIONS = 8, SHORT_BYTES = 2048 };
 
 /* What a write is called with, and what it returns. */
 typedef struct Write {
@@ -26,60 +28,61 @@ static uint32_t write_now(Write *it)
     return library.apply(pass, it->operations, it->count, it->bytes, it->length, it->made, room, &it->number);
 }
 
-/* Puts the operations and their bytes into this memory: another thread may add to the batch while this one waits or writes. */
-static void copy_batch(Write *it, uint8_t *copy)
+/* Writes without the GIL. Another thread may add to the batch meanwhile, so what is written is a copy. */
+static bool write_copied(Write *it, uint32_t *answer)
 {
     size_t size = it->count * sizeof(bes_operation);
+    uint8_t *copy = malloc(size + it->length + 1);
+    if (copy == NULL) {
+        PyErr_NoMemory();
+        return false;
+    }
     if (it->count != 0)
         memcpy(copy, it->operations, size);
     memcpy(copy + size, it->bytes, it->length);
     it->operations = (const bes_operation *)(void *)copy;
     it->bytes = copy + size;
+    Py_BEGIN_ALLOW_THREADS
+    *answer = write_now(it);
+    Py_END_ALLOW_THREADS
+    free(copy);
+    return true;
 }
 
-static bool write_batch(Write *it, uint32_t *answer)
+static bool write_batch(Write *it, const Batch *batch, uint32_t *answer)
 {
-    _Alignas(bes_operation) uint8_t stack[SHORT_BYTES];
-    size_t size = it->count * sizeof(bes_operation) + it->length;
-    uint8_t *copy = size < SHORT_BYTES ? stack : malloc(size);
-    bool is_entered;
-    if (copy == NULL) {
-        PyErr_NoMemory();
+    bool is_written = true;
+    if (!enter(it->handle))
         return false;
-    }
-    copy_batch(it, copy);
-    is_entered = enter(it->handle);
-    if (is_entered) {
-        Py_BEGIN_ALLOW_THREADS
+    it->operations = batch->operations; /* only now, since another thread may have added to it while this one waited */
+    it->count = batch->count;
+    it->bytes = batch->length == 0 ? (const uint8_t *)"" : batch->bytes;
+    it->length = batch->length;
+    if (it->count != 0 && it->count <= SHORT_OPERATIONS && it->length <= SHORT_BYTES)
         *answer = write_now(it);
-        Py_END_ALLOW_THREADS
-        leave(it->handle);
-    }
-    if (copy != stack)
-        free(copy);
-    return is_entered;
+    else
+        is_written = write_copied(it, answer);
+    leave(it->handle);
+    return is_written;
 }
 
 PyObject *handle_apply(PyObject *self, PyObject *const *given, Py_ssize_t count)
 {
-    Write it = { .handle = handle_of(self, OF_PASS), .bytes = (const uint8_t *)"" };
+    Write it;
     uint32_t answer = 0;
     PyObject *made;
+    it.handle = handle_of(self, OF_PASS);
+    it.number = 0;
+    it.has_expected = count == 2;
     if (it.handle == NULL)
         return NULL;
     if (count < 1 || count > 2 || !PyObject_TypeCheck(given[0], batch_type)) {
         PyErr_SetString(PyExc_TypeError, "a write takes a batch");
         return NULL;
     }
-    it.has_expected = count == 2;
     if (it.has_expected && !read_number(given[1], &it.expected))
         return NULL;
-    it.operations = ((Batch *)given[0])->operations;
-    it.count = ((Batch *)given[0])->count;
-    it.length = ((Batch *)given[0])->length;
-    if (it.length != 0)
-        it.bytes = ((Batch *)given[0])->bytes;
-    if (!write_batch(&it, &answer))
+    if (!write_batch(&it, (Batch *)given[0], &answer))
         return NULL;
     made = list_of(it.made, answer == BES_OK ? it.count : 0);
     return made == NULL ? NULL : Py_BuildValue("(IKN)", answer, (unsigned long long)it.number, made);
