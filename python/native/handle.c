@@ -15,40 +15,76 @@ PyObject *after_fork(PyObject *module, PyObject *nothing)
     Py_RETURN_NONE;
 }
 
-/* The lock that threads wait for, which is taken. NULL, and an error, if there is no memory. */
-static void *lock_to_wait_for(Handle *handle)
+/* A thread that waits for its turn. */
+struct Waiter {
+    PyThread_type_lock lock; /* which is taken, until the turn is given to the thread */
+    bool has_turn;
+    struct Waiter *next;
+};
+
+/* Whether this thread may be at the handle now. Those who wait come first, or a thread that calls again and again kept them out. */
+static bool may_enter(const Handle *handle, unsigned long self)
 {
-    if (handle->wake == NULL) {
-        handle->wake = PyThread_allocate_lock();
-        if (handle->wake == NULL)
-            return PyErr_NoMemory();
-        PyThread_acquire_lock(handle->wake, WAIT_LOCK);
-    }
-    return handle->wake;
+    if (handle->depth != 0)
+        return handle->owner == self;
+    return handle->first == NULL && !handle->is_given;
 }
 
-/* Waits until a thread that leaves has awakened this one, or a signal came. */
-static bool wait_once(Handle *handle, void *wake)
+static void line_up(Handle *handle, Waiter *waiter)
 {
-    PyLockStatus status;
+    Waiter **last = &handle->first;
+    while (*last != NULL)
+        last = &(*last)->next;
+    waiter->next = NULL;
+    *last = waiter;
+}
+
+static void step_out(Handle *handle, const Waiter *waiter)
+{
+    Waiter **at = &handle->first;
+    while (*at != waiter)
+        at = &(*at)->next;
+    *at = waiter->next;
+}
+
+/* Gives the turn to the first thread that waits. */
+static void give_turn(Handle *handle)
+{
+    Waiter *waiter = handle->first;
+    if (waiter == NULL)
+        return;
+    handle->first = waiter->next;
+    handle->is_given = waiter->has_turn = true;
+    PyThread_release_lock(waiter->lock);
+}
+
+/* Waits in the line until the turn comes, or a signal. */
+static void wait_in_line(Handle *handle, Waiter *waiter)
+{
+    line_up(handle, waiter);
     Py_BEGIN_ALLOW_THREADS
-    status = PyThread_acquire_lock_timed(wake, -1, 1);
+    PyThread_acquire_lock_timed(waiter->lock, -1, 1);
     Py_END_ALLOW_THREADS
-    if (status == PY_LOCK_ACQUIRED) {
-        handle->is_awakened = false;
-        return true;
-    }
-    return PyErr_CheckSignals() == 0;
+    if (waiter->has_turn)
+        handle->is_given = false;
+    else
+        step_out(handle, waiter); /* what handles the signal may call for the same handle */
 }
 
-static bool wait_for_turn(Handle *handle)
+static bool wait_for_turn(Handle *handle, unsigned long self)
 {
-    void *wake = lock_to_wait_for(handle);
-    bool goes_on = wake != NULL;
-    handle->waiting++;
-    while (goes_on && handle->depth != 0)
-        goes_on = wait_once(handle, wake);
-    handle->waiting--;
+    Waiter waiter = { .lock = PyThread_allocate_lock() };
+    bool goes_on = true;
+    if (waiter.lock == NULL) {
+        PyErr_NoMemory();
+        return false;
+    }
+    PyThread_acquire_lock(waiter.lock, WAIT_LOCK);
+    while (goes_on && !waiter.has_turn && !may_enter(handle, self)) {
+        wait_in_line(handle, &waiter);
+        goes_on = waiter.has_turn || PyErr_CheckSignals() == 0;
+    }
+    PyThread_free_lock(waiter.lock);
     return goes_on;
 }
 
@@ -59,7 +95,7 @@ bool enter(Handle *handle)
         PyErr_SetNone(known.forked);
         return false;
     }
-    if (handle->depth != 0 && handle->owner != self && !wait_for_turn(handle))
+    if (!may_enter(handle, self) && !wait_for_turn(handle, self))
         return false;
     handle->owner = self;
     handle->depth++;
@@ -80,10 +116,7 @@ void leave(Handle *handle)
         handle->is_left = false;
         unpin(handle);
     }
-    if (handle->waiting != 0 && !handle->is_awakened) {
-        handle->is_awakened = true;
-        PyThread_release_lock(handle->wake);
-    }
+    give_turn(handle);
 }
 
 /* The handle that an object is, if it is of this sort. */
@@ -187,8 +220,6 @@ static void handle_dealloc(PyObject *self)
     PyTypeObject *type = Py_TYPE(self);
     end_handle(handle);
     free(handle->nodes);
-    if (handle->wake != NULL && !is_dead(handle))
-        PyThread_free_lock(handle->wake);
     ((freefunc)PyType_GetSlot(type, Py_tp_free))(self);
     Py_DECREF(type);
 }

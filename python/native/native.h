@@ -60,6 +60,8 @@ typedef struct Known {
 
 extern Known known;
 
+typedef struct Waiter Waiter;
+
 /* What a handle is of. */
 enum Sort { NO_SORT, OF_PASS, OF_PREPARED, OF_CURSOR };
 
@@ -75,9 +77,8 @@ typedef struct Handle {
     unsigned long forks; /* how many forks there were when it was made */
     unsigned long owner; /* the thread that is at it, if depth isn't 0 */
     unsigned depth;
-    unsigned waiting;  /* how many threads wait */
-    bool is_awakened;  /* whether one of them was awakened, and hasn't run since */
-    void *wake;        /* what they wait for: a lock that is taken, made when it is first needed */
+    Waiter *first;     /* the first of the threads that wait */
+    bool is_given;     /* whether the turn was given to one that hasn't run since */
     bool is_pinned;    /* of a pass: whether a version has it pinned */
     bool is_left;      /* whether that version is gone, and the thread that is at the pass gives the pin up */
     uint64_t snapshot; /* the commit number of the snapshot, if it is pinned */
