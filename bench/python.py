@@ -3,6 +3,7 @@
 
     /usr/bin/python3 bench/python.py                    measures in five rounds, one peer after the other in each
     /usr/bin/python3 bench/python.py --rounds 1 --nodes 1000 --seconds 0.05     a trial
+    /usr/bin/python3 bench/python.py --processor        the processor's time: on a machine on which something else runs
     /usr/bin/python3 bench/python.py --instructions     instructions a call instead of times, by perf or valgrind
 
 It needs the package (PYTHONPATH=python, or BESTORE_LIBRARY too), and for LMDB Debian's python3-lmdb. A peer that isn't there is skipped,
@@ -307,15 +308,15 @@ def asked_of(peer: Peer, case: str, nodes: int, count: int, chance: random.Rando
     return [(peer.size(number % sizes),) for number in numbers]
 
 
-def timed(peer: Peer, case: str, asked: List[Tuple[Any, ...]]) -> Any:
+def timed(peer: Peer, case: str, asked: List[Tuple[Any, ...]], now: Callable[[], float] = time.perf_counter) -> Any:
     """The seconds that these calls take, and what the last found."""
     call, found = getattr(peer, case), None
     if not case.startswith("set"):
         peer.begin()
-    begun = time.perf_counter()
+    begun = now()
     for arguments in asked:
         found = call(*arguments)
-    taken = time.perf_counter() - begun
+    taken = now() - begun
     if not case.startswith("set"):
         peer.end()
     return taken, found
@@ -323,6 +324,7 @@ def timed(peer: Peer, case: str, asked: List[Tuple[Any, ...]]) -> Any:
 
 def measured(peers: List[Peer], options: argparse.Namespace) -> Dict[str, Dict[str, List[float]]]:
     """For each case and peer the seconds a call takes in each round."""
+    now = time.process_time if options.processor else time.perf_counter
     taken: Dict[str, Dict[str, List[float]]] = {case: {peer.title: [] for peer in peers} for case in CASES}
     counts: Dict[str, Dict[str, int]] = {case: {} for case in CASES}
     for number in range(-1, options.rounds):  # the first one finds how many calls take so long
@@ -330,7 +332,7 @@ def measured(peers: List[Peer], options: argparse.Namespace) -> Dict[str, Dict[s
             for peer in peers:
                 count = counts[case].get(peer.title, 20)
                 asked = asked_of(peer, case, options.nodes, count, random.Random(number))
-                seconds = timed(peer, case, asked)[0]
+                seconds = timed(peer, case, asked, now)[0]
                 if number >= 0:
                     taken[case][peer.title].append(seconds / count)
                 else:
@@ -408,6 +410,7 @@ def main() -> None:
     parser.add_argument("--rounds", type=int, default=5, help="how many rounds (5)")
     parser.add_argument("--nodes", type=int, default=10_000, help="how many nodes (10,000), at least 100")
     parser.add_argument("--seconds", type=float, default=0.2, help="how long a case takes in a round (0.2)")
+    parser.add_argument("--processor", action="store_true", help="take the processor's time instead of the clock's")
     parser.add_argument("--instructions", action="store_true", help="count instructions instead")
     parser.add_argument("--one", nargs=3, metavar=("PEER", "CASE", "COUNT"), help=argparse.SUPPRESS)
     options = parser.parse_args()

@@ -94,6 +94,7 @@ def prepare(text: str) -> Prepared:
     prepared, taken, place = Prepared(text), encoded_query(text), ctypes.c_uint64()
     answer = calls.bes_prepare(taken, len(taken), prepared._pointer, ctypes.byref(place))
     check(answer, place.value, text)
+    prepared._expect(text)
     return prepared
 
 

@@ -115,19 +115,20 @@ class Pass(Owner):
                 tries, answered = tries - 1, call(*arguments)
         return answered
 
-    def _written(self, tries: int, call: Callable[..., int], batch: Batch, *before: int) -> Tuple[int, List[int]]:
-        """Writes a batch, with what bes_apply_if has before it: up to so many times while another pass is writing. With
-        more than one try it also waits, when no page is free, for other passes to give older snapshots up. Returns the
-        commit number, and the nodes that were made."""
+    def _written(self, tries: int, call: Callable[..., int], batch: Batch, __expected: int = -1) -> Tuple[int, List[int]]:
+        """Writes a batch, by bes_apply_if with the expected number: up to so many times while another pass is writing.
+        With more than one try it also waits, when no page is free, for other passes to give older snapshots up. Returns
+        the commit number, and the nodes that were made."""
         if self._changing is not None and self._changing == threading.get_ident():
             raise Nested()
-        answer, number, made = self._apply(batch, *before) if before else self._apply(batch)
+        answer, number, made = self._apply(batch) if __expected < 0 else self._apply(batch, __expected)
         if answer != 0:
-            answer, number, made = self._written_at_last(tries, answer, number, batch, *before)
+            before = () if __expected < 0 else (__expected,)
+            number, made = self._written_at_last(tries, answer, number, batch, *before)
         self.committed = number
         return number, made
 
-    def _written_at_last(self, tries: int, answer: int, number: int, batch: Batch, *before: int) -> Tuple[int, int, List[int]]:
+    def _written_at_last(self, tries: int, answer: int, number: int, batch: Batch, *before: int) -> Tuple[int, List[int]]:
         """The same, once the first try has failed by this."""
         pauses = 0
         made: List[int] = []
@@ -140,7 +141,7 @@ class Pass(Owner):
             answer, number, made = self._repeated(tries, self._apply, batch, *before)
         if answer != 0:
             raise refusal(answer, number, listed="operation")
-        return answer, number, made
+        return number, made
 
     def _may_be_given_pages(self, least: int) -> bool:
         """Whether pages may come free that a write didn't find, as those of the commit number `least` and later were

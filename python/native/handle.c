@@ -252,6 +252,7 @@ static PyMethodDef methods[] = {
     { "_apply", (PyCFunction)(void (*)(void))handle_apply, METH_FASTCALL,
       "Writes a batch, with an expected number if the journal has so many entries: what the library returned, the commit\n"
       "number or what goes with the error, and the nodes that were made." },
+    { "_expect", handle_expect, METH_O, "Keeps whether a prepared query may take long, by its text, until it is asked." },
     { "_journal_entry", handle_journal_entry, METH_O,
       "Reads an entry of the journal: what the library returned, what goes with the error or the journal's length, the pass\n"
       "that wrote it, and its batch, or None if there is none." },

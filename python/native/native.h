@@ -84,7 +84,8 @@ typedef struct Handle {
     uint64_t snapshot; /* the commit number of the snapshot, if it is pinned */
     uint64_t *nodes;   /* of a pass: what queries are written into, or NULL */
     size_t room;
-    bool is_long; /* of a prepared query: whether the GIL is let go while it is asked */
+    bool is_long;   /* of a prepared query: whether the GIL is let go while it is asked */
+    unsigned asked; /* how often it was asked with the GIL */
 } Handle;
 
 extern PyTypeObject *handle_type;
@@ -154,5 +155,6 @@ extern PyType_Spec handle_spec, batch_spec, reader_spec;
 PyObject *after_fork(PyObject *module, PyObject *nothing);
 PyObject *handle_apply(PyObject *self, PyObject *const *given, Py_ssize_t count);
 PyObject *handle_journal_entry(PyObject *self, PyObject *number);
+PyObject *handle_expect(PyObject *self, PyObject *text);
 
 #endif

@@ -9,6 +9,7 @@ enum {
     MANY_NODES = 256,       /* a list of more nodes is read without the GIL */
     LONG_TIME = 50000,      /* a prepared query that took more nanoseconds is asked without the GIL the next time */
     SHORT_TIME = 20000,     /* one that took less is asked with it */
+    TIMED = 8,              /* of so many askings with the GIL one is timed, and not the first */
 };
 static const uint64_t MOST_NODES = 8u << 20; /* no store has more nodes with attributes: its pages have 64 MiB */
 
@@ -45,24 +46,60 @@ static int64_t nanoseconds(void)
     return (int64_t)now.tv_sec * 1000000000 + now.tv_nsec;
 }
 
-/* Asks without the GIL what is parsed, or took long the last time. */
-static uint32_t ask_once(bes_pass *pass, const Asked *asked, Result *it)
+/* Whether a query may take long: one that has a wildcard, an inequality or a negation may read a whole index. */
+static bool may_take_long(const uint8_t *text, size_t length)
+{
+    for (size_t at = 0; at < length; at++)
+        if (text[at] < 128 && strchr("*?[<>!", text[at]) != NULL)
+            return true;
+    return false;
+}
+
+/* Keeps whether a prepared query may take long, by its text, until it is asked. */
+PyObject *handle_expect(PyObject *self, PyObject *text)
+{
+    const uint8_t *bytes;
+    size_t length;
+    if (!read_text(text, &bytes, &length))
+        return NULL;
+    ((Handle *)self)->is_long = may_take_long(bytes, length);
+    Py_RETURN_NONE;
+}
+
+/* Asks with the GIL, and takes the time now and then. */
+static uint32_t ask_short(bes_pass *pass, const Asked *asked, Result *it)
 {
     Handle *prepared = asked->prepared;
-    int64_t begun = nanoseconds(), taken;
+    int64_t begun;
     uint32_t answer;
-    if (prepared != NULL && !prepared->is_long) {
-        answer = ask_now(pass, asked, it);
-        prepared->is_long = nanoseconds() - begun > LONG_TIME;
-        return answer;
-    }
+    if (prepared == NULL || prepared->asked++ % TIMED != 1)
+        return ask_now(pass, asked, it);
+    begun = nanoseconds();
+    answer = ask_now(pass, asked, it);
+    prepared->is_long = nanoseconds() - begun > LONG_TIME;
+    return answer;
+}
+
+static uint32_t ask_long(bes_pass *pass, const Asked *asked, Result *it)
+{
+    int64_t begun, taken;
+    uint32_t answer;
     Py_BEGIN_ALLOW_THREADS
+    begun = nanoseconds();
     answer = ask_now(pass, asked, it);
     taken = nanoseconds() - begun;
     Py_END_ALLOW_THREADS
-    if (prepared != NULL)
-        prepared->is_long = taken > SHORT_TIME;
+    if (asked->prepared != NULL)
+        asked->prepared->is_long = taken > SHORT_TIME;
     return answer;
+}
+
+/* Asks without the GIL what may take long, or did the last time. */
+static uint32_t ask_once(bes_pass *pass, const Asked *asked, Result *it)
+{
+    bool is_long = asked->prepared != NULL ? asked->prepared->is_long
+                                           : asked->items != NULL || may_take_long(asked->bytes, asked->length);
+    return is_long ? ask_long(pass, asked, it) : ask_short(pass, asked, it);
 }
 
 /* Takes what the pass has for the nodes that are found, or more: as many as there can be. So no query is asked twice. Memory that
