@@ -5,11 +5,11 @@ from __future__ import annotations
 import ctypes
 import operator
 import random
-import threading
 import time
 from functools import partial
 from typing import Any, Callable, Iterator, List, NamedTuple, Optional, Tuple, TypeVar
 
+from . import _native
 from ._library import Usage, calls, check
 from .changes import Change
 from .errors import BadLimits, Conflict, ErrorNumber, Nested, NoIndex, Refusal, TooManyAttempts, refusal
@@ -91,9 +91,11 @@ class Pass(Owner):
 
     def __init__(self) -> None:
         super().__init__(PASS)
-        self._changing: Optional[int] = None  # the thread that runs the function of a change
-        self.committed = 0
+
+    @property
+    def committed(self) -> int:
         """The commit number of the last write that this pass made, or 0 before the first."""
+        return self._committed
 
     def _tried(self, tries: int, call: Callable[..., int], *arguments: Any) -> int:
         """Makes a call, up to so many times while another pass is writing, and once at least."""
@@ -119,13 +121,13 @@ class Pass(Owner):
         """Writes a batch, by bes_apply_if with the expected number: up to so many times while another pass is writing.
         With more than one try it also waits, when no page is free, for other passes to give older snapshots up. Returns
         the commit number, and the nodes that were made."""
-        if self._changing is not None and self._changing == threading.get_ident():
+        if self._is_changing:
             raise Nested()
         answer, number, made = self._apply(batch) if __expected < 0 else self._apply(batch, __expected)
         if answer != 0:
             before = () if __expected < 0 else (__expected,)
             number, made = self._written_at_last(tries, answer, number, batch, *before)
-        self.committed = number
+        self._committed = number
         return number, made
 
     def _written_at_last(self, tries: int, answer: int, number: int, batch: Batch, *before: int) -> Tuple[int, List[int]]:
@@ -219,11 +221,11 @@ class Pass(Owner):
     def _run(self, function: Callable[[Change], _Result], change: Change) -> _Result:
         """Runs the function of a change, and gives the snapshot up."""
         with change:
-            self._changing = threading.get_ident()
+            self._is_changing = True
             try:
                 return function(change)
             finally:
-                self._changing = None
+                self._is_changing = False
 
     def apply(self, batch: Batch, tries: int = TRIES) -> Tuple[int, List[int]]:
         """Applies a batch, all or none, whatever other passes have written meanwhile. Returns the commit number, and
@@ -270,7 +272,8 @@ class Pass(Owner):
 
     def set(self, node: int, name: str, value: Value, kind: Optional[int] = None) -> None:
         """Sets an attribute, as `Batch.set`. The kind isn't compared with that of an index, as in a change."""
-        self._written(TRIES, calls.bes_apply, Batch().set(node, name, value, kind))
+        if not self._set(node, name, value, kind):
+            self._written(TRIES, calls.bes_apply, Batch().set(node, name, value, kind))
 
     def unset(self, node: int, name: str) -> None:
         """Removes an attribute."""
@@ -336,6 +339,9 @@ class Pass(Owner):
         """Pins the current version: `with store.pin() as version:` reads it, and gives the pin up at the end.
         `Pinned` if the pass is pinned. Takes constant time."""
         return Version(self)
+
+
+_native.know(user=Pass)
 
 
 def _set_again(name: str, kind: Kind, nodes: List[int], change: Change) -> int:

@@ -74,15 +74,6 @@ static PyObject *added(PyObject *self, bes_operation operation, PyObject *name, 
     return add_operation((Batch *)self, operation, bytes, length, value, value_length) ? Py_NewRef(self) : NULL;
 }
 
-/* A value as the library takes it. Its bytes are those of `keeper`. */
-typedef struct Encoded {
-    uint32_t code;
-    uint64_t number;
-    const uint8_t *bytes;
-    size_t length;
-    PyObject *keeper;
-} Encoded;
-
 static bool keep_bytes(Encoded *encoded, PyObject *bytes)
 {
     char *at;
@@ -113,7 +104,7 @@ static bool encode_slowly(PyObject *value, PyObject *kind, Encoded *encoded)
 }
 
 /* Encodes a value: of the common types here, with the kinds that encode_value gives them too. */
-static bool encode(PyObject *value, PyObject *kind, Encoded *encoded)
+bool encode(PyObject *value, PyObject *kind, Encoded *encoded)
 {
     PyTypeObject *type = Py_TYPE(value);
     *encoded = (Encoded){ .bytes = (const uint8_t *)"" };

@@ -245,6 +245,35 @@ static PyObject *get_pinned(PyObject *self, void *nothing)
     Py_RETURN_NONE;
 }
 
+bool is_changing(const Handle *handle) { return handle->changing != 0 && handle->changing == PyThread_get_thread_ident(); }
+
+static PyObject *get_is_changing(PyObject *self, void *nothing)
+{
+    (void)nothing;
+    return PyBool_FromLong(is_changing((Handle *)self));
+}
+
+static int set_is_changing(PyObject *self, PyObject *value, void *nothing)
+{
+    int is_changing = value == NULL ? 0 : PyObject_IsTrue(value);
+    (void)nothing;
+    if (is_changing >= 0)
+        ((Handle *)self)->changing = is_changing ? PyThread_get_thread_ident() : 0;
+    return is_changing < 0 ? -1 : 0;
+}
+
+static PyObject *get_committed(PyObject *self, void *nothing)
+{
+    (void)nothing;
+    return PyLong_FromUnsignedLongLong(((Handle *)self)->committed);
+}
+
+static int set_committed(PyObject *self, PyObject *value, void *nothing)
+{
+    (void)nothing;
+    return value != NULL && read_number(value, &((Handle *)self)->committed) ? 0 : -1;
+}
+
 static PyMethodDef methods[] = {
     { "_call", (PyCFunction)(void (*)(void))handle_call, METH_FASTCALL,
       "Makes a call on the handle, when no other thread is at it. Raises Forked if the handle is dead." },
@@ -252,6 +281,9 @@ static PyMethodDef methods[] = {
     { "_apply", (PyCFunction)(void (*)(void))handle_apply, METH_FASTCALL,
       "Writes a batch, with an expected number if the journal has so many entries: what the library returned, the commit\n"
       "number or what goes with the error, and the nodes that were made." },
+    { "_set", (PyCFunction)(void (*)(void))handle_set, METH_FASTCALL,
+      "Sets an attribute by one try: a node, a name, a value, and a kind or None. False if nothing is written, because the\n"
+      "library refuses it, or the pass has more to do at a write." },
     { "_expect", handle_expect, METH_O, "Keeps whether a prepared query may take long, by its text, until it is asked." },
     { "_journal_entry", handle_journal_entry, METH_O,
       "Reads an entry of the journal: what the library returned, what goes with the error or the journal's length, the pass\n"
@@ -263,6 +295,8 @@ static PyGetSetDef fields[] = {
     { "_address", get_address, NULL, "Where the library's handle is.", NULL },
     { "_is_dead", get_is_dead, NULL, "Whether this process was forked since the handle was made.", NULL },
     { "_pinned", get_pinned, NULL, "The commit number of the snapshot, while there is one.", NULL },
+    { "_committed", get_committed, set_committed, "The commit number of the last write, or 0.", NULL },
+    { "_is_changing", get_is_changing, set_is_changing, "Whether this thread runs the function of a change.", NULL },
     { NULL, NULL, NULL, NULL, NULL },
 };
 

@@ -46,18 +46,20 @@ static void keep(PyObject **place, PyObject *object)
 /* Takes what the module knows of the package: some of it at a time, as the package's modules are imported. */
 static PyObject *know(PyObject *module, PyObject *arguments, PyObject *names)
 {
-    static char *parameters[] = { "refusal", "forked", "encoded_query", "encode_value", "typed", "batch", "kinds", NULL };
-    PyObject **places[] = { &known.refusal, &known.forked, &known.encoded_query, &known.encode_value, &known.typed, &known.batch };
-    PyObject *given[7] = { NULL };
+    static char *parameters[] = { "refusal", "forked", "encoded_query", "encode_value", "typed", "batch", "user", "kinds", NULL };
+    PyObject **places[] = {
+        &known.refusal, &known.forked, &known.encoded_query, &known.encode_value, &known.typed, &known.batch, &known.user,
+    };
+    PyObject *given[8] = { NULL };
     (void)module;
-    if (!PyArg_ParseTupleAndKeywords(arguments, names, "|$OOOOOOO:know", parameters, &given[0], &given[1], &given[2], &given[3],
-                                     &given[4], &given[5], &given[6]))
+    if (!PyArg_ParseTupleAndKeywords(arguments, names, "|$OOOOOOOO:know", parameters, &given[0], &given[1], &given[2], &given[3],
+                                     &given[4], &given[5], &given[6], &given[7]))
         return NULL;
     for (size_t at = 0; at < sizeof places / sizeof *places; at++)
         if (given[at] != NULL)
             keep(places[at], given[at]);
-    for (Py_ssize_t at = 0; given[6] != NULL && at < 7; at++) {
-        PyObject *kind = PySequence_GetItem(given[6], at);
+    for (Py_ssize_t at = 0; given[7] != NULL && at < 7; at++) {
+        PyObject *kind = PySequence_GetItem(given[7], at);
         if (kind == NULL)
             return NULL;
         keep(&known.kinds[at], kind);

@@ -55,6 +55,7 @@ typedef struct Known {
     PyObject *encode_value;  /* encodes what isn't of a common type */
     PyObject *typed;         /* a class of pairs */
     PyObject *batch;         /* the class */
+    PyObject *user;          /* the class of passes whose writes need nothing besides */
     PyObject *kinds[7];      /* by the order of kind_index */
 } Known;
 
@@ -82,6 +83,8 @@ typedef struct Handle {
     bool is_pinned;    /* of a pass: whether a version has it pinned */
     bool is_left;      /* whether that version is gone, and the thread that is at the pass gives the pin up */
     uint64_t snapshot; /* the commit number of the snapshot, if it is pinned */
+    uint64_t committed;     /* of a pass: the commit number of its last write, or 0 */
+    unsigned long changing; /* the thread that runs the function of a change, or 0 */
     uint64_t *nodes;   /* of a pass: what queries are written into, or NULL */
     size_t room;
     bool is_long;   /* of a prepared query: whether the GIL is let go while it is asked */
@@ -119,6 +122,7 @@ typedef struct Listed {
 bool enter(Handle *handle);
 void leave(Handle *handle);
 bool is_dead(const Handle *handle);
+bool is_changing(const Handle *handle);
 void unpin(Handle *handle);
 PyObject *call_guarded(Handle *handle, PyObject *const *arguments, Py_ssize_t count);
 Handle *handle_of(PyObject *object, enum Sort sort);
@@ -145,7 +149,17 @@ typedef struct Signature {
 
 bool read_arguments(const Signature *signature, PyObject *const *given, Py_ssize_t count, PyObject *names, PyObject **read);
 
-/* Batches: batch.c, packed.c. */
+/* A value as the library takes it. Its bytes are those of `keeper`, if that isn't NULL, which is then to be given up. */
+typedef struct Encoded {
+    uint32_t code;
+    uint64_t number;
+    const uint8_t *bytes;
+    size_t length;
+    PyObject *keeper;
+} Encoded;
+
+/* Batches: batch.c. */
+bool encode(PyObject *value, PyObject *kind, Encoded *encoded);
 bool add_operation(Batch *batch, bes_operation operation, const uint8_t *name, size_t name_length, const uint8_t *value,
                    size_t value_length);
 PyObject *batch_of(const Listed *listed);
@@ -156,5 +170,6 @@ PyObject *after_fork(PyObject *module, PyObject *nothing);
 PyObject *handle_apply(PyObject *self, PyObject *const *given, Py_ssize_t count);
 PyObject *handle_journal_entry(PyObject *self, PyObject *number);
 PyObject *handle_expect(PyObject *self, PyObject *text);
+PyObject *handle_set(PyObject *self, PyObject *const *given, Py_ssize_t count);
 
 #endif

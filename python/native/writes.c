@@ -88,6 +88,47 @@ PyObject *handle_apply(PyObject *self, PyObject *const *given, Py_ssize_t count)
     return made == NULL ? NULL : Py_BuildValue("(IKN)", answer, (unsigned long long)it.number, made);
 }
 
+/* Writes an operation that sets an attribute, with the GIL. */
+static bool set_now(Handle *handle, bes_operation *operation, const uint8_t *name, const Encoded *value, uint32_t *answer)
+{
+    uint8_t bytes[SHORT_BYTES];
+    uint64_t made, number;
+    memcpy(bytes, name, operation->name_length);
+    memcpy(bytes + operation->name_length, value->bytes, value->length);
+    if (!enter(handle))
+        return false;
+    *answer = library.apply(&handle->held.pass, operation, 1, bytes, operation->name_length + value->length, &made, 1, &number);
+    leave(handle);
+    if (*answer == BES_OK)
+        handle->committed = number;
+    return true;
+}
+
+PyObject *handle_set(PyObject *self, PyObject *const *given, Py_ssize_t count)
+{
+    Handle *handle = handle_of(self, OF_PASS);
+    bes_operation operation = { .kind = BES_SET };
+    Encoded value;
+    const uint8_t *name;
+    size_t length;
+    uint32_t answer = BES_DATA_LENGTH;
+    bool is_done;
+    if (handle == NULL || count != 4 || (PyObject *)Py_TYPE(self) != known.user || is_changing(handle))
+        return handle == NULL ? NULL : Py_NewRef(Py_False);
+    if (!encode(given[2], given[3], &value))
+        return NULL;
+    is_done = read_node(given[0], &operation.node) && read_text(given[1], &name, &length);
+    if (is_done && length + value.length <= SHORT_BYTES) {
+        operation.code = value.code;
+        operation.number = value.number;
+        operation.name_length = operation.value_at = (uint32_t)length;
+        operation.value_length = (uint32_t)value.length;
+        is_done = set_now(handle, &operation, name, &value, &answer);
+    }
+    Py_XDECREF(value.keeper);
+    return is_done ? PyBool_FromLong(answer == BES_OK) : NULL;
+}
+
 PyObject *handle_journal_entry(PyObject *self, PyObject *from)
 {
     Handle *handle = handle_of(self, OF_PASS);
