@@ -1,5 +1,6 @@
 """Tests of the extension: columns, arguments, and what threads do to one handle."""
 
+import ctypes
 import gc
 import os
 import signal
@@ -9,6 +10,11 @@ import threading
 import unittest
 
 import bestore
+
+try:
+    import _testcapi
+except ImportError:
+    _testcapi = None
 
 
 def filled(store, nodes):
@@ -224,8 +230,8 @@ import bestore, resource
 with bestore.open(64, 1, 100) as store:
     store.apply(bestore.Batch().new_node().set(1, "k", 5))
     with store.pin() as version:
-        resource.setrlimit(resource.RLIMIT_AS, (256 << 20, resource.RLIM_INFINITY))
-        for call in (lambda: version._nodes_from(0, 2**28), lambda: version._nodes_from(0, 2**62)):
+        resource.setrlimit(resource.RLIMIT_AS, (2 << 30, resource.RLIM_INFINITY))
+        for call in (lambda: version._nodes_from(0, 2**30), lambda: version._nodes_from(0, 2**62)):
             try:
                 call()
             except MemoryError:
@@ -235,6 +241,35 @@ with bestore.open(64, 1, 100) as store:
         environment = dict(os.environ, PYTHONPATH=os.pathsep.join(sys.path))
         said = subprocess.run([sys.executable, "-c", program], env=environment, stdout=subprocess.PIPE, text=True, check=True)
         self.assertEqual(said.stdout.split(), ["refused", "refused", "5"])
+
+    @unittest.skipIf(_testcapi is None, "there is no _testcapi")
+    def test_each_request(self):
+        """Each request for memory that Python refuses is a MemoryError, and the next call is as before."""
+        with bestore.open(1024, 2) as store, store.another() as other, bestore.prepare("k > 0") as query:
+            filled(store, 60)
+            with store.pin() as version:
+                nodes, refused = list(range(1, 61)), 0
+                for call in (
+                    lambda: version.get(1, "name"), lambda: version.typed(1, "k"), lambda: version.attributes(1, kinds=True),
+                    lambda: version.column(nodes, "name"), lambda: version.query_prepared(query), lambda: version.query("k > 5"),
+                    lambda: version.indices(), lambda: version.refresh(query) and None, lambda: other.set(1, "name", "node 1"),
+                    lambda: other.apply(bestore.Batch().set(1, "k", 1).set(2, "k", 2))[1], lambda: version.nodes(),
+                    lambda: [list(batch) for batch in version.state()], lambda: next(other.journal_from(1)),
+                ):
+                    expected = call()
+                    for request in range(1, 80):
+                        try:
+                            _testcapi.set_nomemory(request, request + 1)
+                            try:
+                                found = call()
+                            finally:
+                                _testcapi.remove_mem_hooks()
+                        except (MemoryError, ctypes.ArgumentError):  # ctypes makes the second of the first
+                            refused += 1
+                        else:
+                            self.assertEqual(found, expected)
+                    self.assertEqual(call(), expected)
+                self.assertGreater(refused, 50)
 
     def test_nothing_is_left(self):
         """What a call makes is gone after it, also after an error."""
