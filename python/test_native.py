@@ -2,6 +2,7 @@
 
 import ctypes
 import gc
+import inspect
 import os
 import signal
 import subprocess
@@ -77,6 +78,14 @@ class Arguments(unittest.TestCase):
             store.apply(bestore.Batch().new_node().set(node=1, name="k", value=5, kind=bestore.INT32))
             with store.pin() as version:
                 self.assertEqual(version.get(node=1, name="k"), 5)
+                with bestore.prepare("k == 1") as query:
+                    for call in (
+                        lambda: version.query(text="k == 1"), lambda: version.query_prepared(prepared=query),
+                        lambda: version.count(query=query), lambda: version.refresh(prepared=query),
+                    ):
+                        with self.assertRaises(bestore.NotCovered):
+                            call()
+                self.assertEqual(str(inspect.signature(version.get)), "(node, name)")
                 self.assertEqual(version.typed(1, name="k"), (5, bestore.INT32))
                 self.assertIs(type(version.typed(1, "k")), bestore.Typed)
                 for wrong in (

@@ -240,10 +240,17 @@ static bool read_items(PyObject *arguments, Asked *asked)
     return true;
 }
 
-PyObject *reader_query(PyObject *self, PyObject *text)
+static const Signature of_text = { "query", { "text" }, 1, 1 };
+static const Signature of_prepared = { "query_prepared", { "prepared" }, 1, 1 };
+static const Signature of_count = { "count", { "query" }, 1, 1 };
+static const Signature of_refresh = { "refresh", { "prepared" }, 1, 1 };
+
+PyObject *reader_query(PyObject *self, PyObject *const *given, Py_ssize_t count, PyObject *names)
 {
+    PyObject *text;
     Asked asked;
-    return read_query(text, &asked) ? answered((Reader *)self, &asked, true) : NULL;
+    bool is_read = read_arguments(&of_text, given, count, names, &text) && read_query(text, &asked);
+    return is_read ? answered((Reader *)self, &asked, true) : NULL;
 }
 
 PyObject *reader_query_items(PyObject *self, PyObject *arguments)
@@ -252,16 +259,20 @@ PyObject *reader_query_items(PyObject *self, PyObject *arguments)
     return read_items(arguments, &asked) ? answered((Reader *)self, &asked, true) : NULL;
 }
 
-PyObject *reader_query_prepared(PyObject *self, PyObject *prepared)
+PyObject *reader_query_prepared(PyObject *self, PyObject *const *given, Py_ssize_t count, PyObject *names)
 {
+    PyObject *prepared;
     Asked asked;
-    return read_prepared(prepared, &asked) ? answered((Reader *)self, &asked, true) : NULL;
+    bool is_read = read_arguments(&of_prepared, given, count, names, &prepared) && read_prepared(prepared, &asked);
+    return is_read ? answered((Reader *)self, &asked, true) : NULL;
 }
 
-PyObject *reader_count(PyObject *self, PyObject *query)
+PyObject *reader_count(PyObject *self, PyObject *const *given, Py_ssize_t count, PyObject *names)
 {
+    PyObject *query;
     Asked asked;
-    bool is_read = PyObject_TypeCheck(query, handle_type) ? read_prepared(query, &asked) : read_query(query, &asked);
+    bool is_read = read_arguments(&of_count, given, count, names, &query) &&
+                   (PyObject_TypeCheck(query, handle_type) ? read_prepared(query, &asked) : read_query(query, &asked));
     return is_read ? answered((Reader *)self, &asked, false) : NULL;
 }
 
@@ -288,14 +299,26 @@ static uint32_t refresh_now(bes_pass *pass, bes_prepared *prepared, Changes *it)
     return library.changes(prepared, it->nodes, it->updates.created, it->nodes + it->updates.created, it->updates.removed);
 }
 
-PyObject *reader_refresh(PyObject *self, PyObject *prepared)
+/* What a refresh found, as two lists. */
+static PyObject *changes_of(const Changes *it)
 {
+    PyObject *came = list_of(it->nodes, it->updates.created), *result = NULL;
+    PyObject *went = list_of(it->nodes + it->updates.created, it->updates.removed);
+    if (came != NULL && went != NULL)
+        result = PyTuple_Pack(2, came, went);
+    Py_XDECREF(came);
+    Py_XDECREF(went);
+    return result;
+}
+
+PyObject *reader_refresh(PyObject *self, PyObject *const *given, Py_ssize_t count, PyObject *names)
+{
+    PyObject *prepared, *result;
     Asked asked;
     Changes it = { { 0, 0 }, NULL };
     uint32_t answer = 0;
-    PyObject *came, *went, *result = NULL;
     Handle *user;
-    if (!read_prepared(prepared, &asked) || !enter(asked.prepared))
+    if (!read_arguments(&of_refresh, given, count, names, &prepared) || !read_prepared(prepared, &asked) || !enter(asked.prepared))
         return NULL;
     user = enter_pinned((Reader *)self);
     if (user != NULL) {
@@ -309,14 +332,7 @@ PyObject *reader_refresh(PyObject *self, PyObject *prepared)
         return NULL;
     if (answer != BES_OK)
         return query_refused((Reader *)self, answer, 0, &asked);
-    if (it.nodes == NULL)
-        return PyErr_NoMemory();
-    came = list_of(it.nodes, it.updates.created);
-    went = list_of(it.nodes + it.updates.created, it.updates.removed);
-    if (came != NULL && went != NULL)
-        result = PyTuple_Pack(2, came, went);
-    Py_XDECREF(came);
-    Py_XDECREF(went);
+    result = it.nodes == NULL ? PyErr_NoMemory() : changes_of(&it);
     free(it.nodes);
     return result;
 }

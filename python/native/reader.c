@@ -318,18 +318,18 @@ static PyMethodDef methods[] = {
       "kinds, by ascending names. `NoNode` if it isn't there." },
     { "indices", reader_indices, METH_NOARGS,
       "indices($self, /)\n--\n\nThe indices: a dict of names and kinds, by ascending names." },
-    { "query", reader_query, METH_O,
-      "query($self, text, /)\n--\n\n"
+    { "query", METHOD(reader_query),
+      "query($self, /, text)\n--\n\n"
       "The nodes that meet the query, ascending. A `QueryError` if the text is no query, or `NotCovered` if it\n"
       "needs another index. Takes the time to parse the text, and to read the part of the indices that it needs." },
-    { "query_prepared", reader_query_prepared, METH_O,
-      "query_prepared($self, prepared, /)\n--\n\n"
+    { "query_prepared", METHOD(reader_query_prepared),
+      "query_prepared($self, /, prepared)\n--\n\n"
       "The nodes that meet a prepared query, ascending. What its last refresh returned stays." },
-    { "count", reader_count, METH_O,
-      "count($self, query, /)\n--\n\n"
+    { "count", METHOD(reader_count),
+      "count($self, /, query)\n--\n\n"
       "How many nodes meet the query, by its text or prepared. Takes what the query takes, but no list." },
-    { "refresh", reader_refresh, METH_O,
-      "refresh($self, prepared, /)\n--\n\n"
+    { "refresh", METHOD(reader_refresh),
+      "refresh($self, /, prepared)\n--\n\n"
       "Which nodes came and which went since the prepared query was refreshed last: two lists, ascending. At\n"
       "first all of its nodes come. Refresh a query in versions of one store, or of another that its state was\n"
       "carried on to: nodes are compared by their numbers. After an error the query is as it was." },

@@ -16,12 +16,12 @@ typedef struct Reader {
  * returns NULL. */
 Handle *enter_pinned(Reader *reader);
 
-PyObject *reader_query(PyObject *self, PyObject *text);
+PyObject *reader_query(PyObject *self, PyObject *const *given, Py_ssize_t count, PyObject *names);
 PyObject *reader_query_items(PyObject *self, PyObject *arguments);
-PyObject *reader_query_prepared(PyObject *self, PyObject *prepared);
-PyObject *reader_count(PyObject *self, PyObject *query);
+PyObject *reader_query_prepared(PyObject *self, PyObject *const *given, Py_ssize_t count, PyObject *names);
+PyObject *reader_count(PyObject *self, PyObject *const *given, Py_ssize_t count, PyObject *names);
 PyObject *reader_count_items(PyObject *self, PyObject *arguments);
-PyObject *reader_refresh(PyObject *self, PyObject *prepared);
+PyObject *reader_refresh(PyObject *self, PyObject *const *given, Py_ssize_t count, PyObject *names);
 PyObject *reader_nodes_from(PyObject *self, PyObject *arguments);
 
 PyObject *reader_column(PyObject *self, PyObject *const *given, Py_ssize_t count, PyObject *names);
