@@ -18,14 +18,19 @@ except ImportError:
     _testcapi = None
 
 
-def filled(store, nodes):
-    """Makes nodes with an indexed number and a text each."""
-    store.make_index("k", bestore.INT64)
-    for first in range(1, nodes + 1, 20):
+def fill(store, first, last):
+    """Makes the nodes from one to another, with an indexed number and a text each."""
+    for begin in range(first, last + 1, 20):
         batch = bestore.Batch()
-        for node in range(first, min(first + 20, nodes + 1)):
+        for node in range(begin, min(begin + 20, last + 1)):
             batch.new_node().set(node, "k", node).set(node, "name", f"node {node}")
         store.apply(batch)
+
+
+def filled(store, nodes):
+    """Makes an index, and so many nodes."""
+    store.make_index("k", bestore.INT64)
+    fill(store, 1, nodes)
 
 
 class Columns(unittest.TestCase):
@@ -123,6 +128,32 @@ class Arguments(unittest.TestCase):
             for thread in running:
                 thread.join()
             self.assertEqual((faults, len(batch)), ([], 4000))
+
+
+class Queries(unittest.TestCase):
+    def test_asked_once(self):
+        """A query is asked once, however many nodes it finds."""
+        addresses, rooms = bestore._library.addresses(), []
+        kind = ctypes.CFUNCTYPE(
+            ctypes.c_uint32, ctypes.c_void_p, ctypes.c_void_p, ctypes.c_void_p, ctypes.c_size_t, ctypes.c_void_p)
+        ask = kind(addresses["bes_query_prepared"])
+
+        def counted(user, prepared, nodes, room, count):
+            rooms.append(room)
+            return ask(user, prepared, nodes, room, count)
+        call = kind(counted)
+        with bestore.open(4096, 1) as store, bestore.prepare("k > 0") as query:
+            filled(store, 1500)
+            try:
+                bestore._native.use({**addresses, "bes_query_prepared": ctypes.cast(call, ctypes.c_void_p).value})
+                for many in (1500, 3500):
+                    with store.pin() as version:
+                        self.assertEqual(version.query_prepared(query), list(range(1, many + 1)))
+                        self.assertEqual(version.query_prepared(query), list(range(1, many + 1)))
+                    fill(store, many + 1, 3500)
+            finally:
+                bestore._native.use(addresses)
+        self.assertEqual((len(rooms), [room >= many for room, many in zip(rooms, (1500, 1500, 3500, 3500))]), (4, [True] * 4))
 
 
 class Guards(unittest.TestCase):

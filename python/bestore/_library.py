@@ -163,7 +163,14 @@ def _load() -> ctypes.CDLL:
 
 
 calls = _load()
-_native.use({name: ctypes.cast(getattr(calls, name), ctypes.c_void_p).value or 0 for name in _arguments()})
+
+
+def addresses() -> dict[str, int]:
+    """Where the calls of the library are."""
+    return {name: ctypes.cast(getattr(calls, name), ctypes.c_void_p).value or 0 for name in _arguments()}
+
+
+_native.use(addresses())
 _native.know(refusal=refusal, forked=Forked, encoded_query=encoded_query)
 
 
