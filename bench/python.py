@@ -136,8 +136,7 @@ class Bestore(Peer):
 
     def five(self, asked: Any) -> List[List[str]]:
         version = self._version
-        nodes = version.query_prepared(asked)
-        return [version.column(nodes, text) for text in TEXTS]
+        return version.columns(version.query_prepared(asked), TEXTS)  # type: ignore[no-any-return]
 
     def name(self, node: int) -> Any:
         return self._bestore.prepare(f"name=={name_of(node)}")

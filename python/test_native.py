@@ -62,6 +62,22 @@ class Columns(unittest.TestCase):
                     self.assertEqual(version.column(nodes, "name"), [version.get(node, "name") for node in nodes])
                 self.assertEqual(version.column(list(range(1, 3001)) * 3, "k"), list(range(1, 3001)) * 3)
 
+    def test_many_names(self):
+        with bestore.open(4096, 1) as store:
+            filled(store, 1500)
+            with store.pin() as version:
+                for count, names in [
+                    (0, ["k"]), (3, []), (7, ["k", "name", "none"]), (1, ["k"] * 40), (1500, ["k", "name"]), (2, ["k"] * 5000),
+                    (300, ("name", "k", "k")),
+                ]:
+                    nodes = list(range(1, count + 1))
+                    self.assertEqual(version.columns(nodes, names), [version.column(nodes, name) for name in names])
+                self.assertEqual(version.columns(iter([1]), names=iter(["k"])), [[1]])
+                for names, error in [(["k", 5], TypeError), (5, TypeError), (["k", ""], bestore.NameLength)]:
+                    with self.assertRaises(error):
+                        version.columns([1], names)
+            self.assertEqual(store.change(lambda change: change.columns([1, 2], ["k", "none"])), [[1, 2], [None, None]])
+
     def test_in_a_change(self):
         with bestore.open(64, 1, 100) as store:
             store.new_nodes(3)
@@ -291,7 +307,8 @@ with bestore.open(64, 1, 100) as store:
                 nodes, refused = list(range(1, 61)), 0
                 for call in (
                     lambda: version.get(1, "name"), lambda: version.typed(1, "k"), lambda: version.attributes(1, kinds=True),
-                    lambda: version.column(nodes, "name"), lambda: version.query_prepared(query), lambda: version.query("k > 5"),
+                    lambda: version.column(nodes, "name"), lambda: version.columns(nodes, ["k", "name"]),
+                    lambda: version.query_prepared(query), lambda: version.query("k > 5"),
                     lambda: version.indices(), lambda: version.refresh(query) and None, lambda: other.set(1, "name", "node 1"),
                     lambda: other.apply(bestore.Batch().set(1, "k", 1).set(2, "k", 2))[1], lambda: version.nodes(),
                     lambda: [list(batch) for batch in version.state()], lambda: next(other.journal_from(1)),

@@ -132,6 +132,10 @@ class Change(Version):
     def column(self, nodes: Iterable[int], name: str) -> List[Optional[Value]]:
         return [self.get(node, name) for node in nodes]
 
+    def columns(self, nodes: Iterable[int], names: Iterable[str]) -> List[List[Optional[Value]]]:
+        read = list(nodes)
+        return [self.column(read, name) for name in names]
+
     @overload
     def attributes(self, node: int) -> Dict[str, Value]: ...
 

@@ -312,6 +312,10 @@ static PyMethodDef methods[] = {
       "column($self, /, nodes, name)\n--\n\n"
       "The attributes of this name of many nodes: a list with the value of each node, or None if it has none. Takes a\n"
       "search in a tree for each node, and memory for the list." },
+    { "columns", METHOD(reader_columns),
+      "columns($self, /, nodes, names)\n--\n\n"
+      "The attributes of these names of many nodes: for each name a list, as `column` returns it. Takes less time than a\n"
+      "`column` for each name, since it reads node by node." },
     { "attributes", METHOD(reader_attributes),
       "attributes($self, /, node, kinds=False)\n--\n\n"
       "A node's attributes: a dict of names and values, or with `kinds` of names and `Typed` values with their\n"

@@ -25,5 +25,6 @@ PyObject *reader_refresh(PyObject *self, PyObject *const *given, Py_ssize_t coun
 PyObject *reader_nodes_from(PyObject *self, PyObject *arguments);
 
 PyObject *reader_column(PyObject *self, PyObject *const *given, Py_ssize_t count, PyObject *names);
+PyObject *reader_columns(PyObject *self, PyObject *const *given, Py_ssize_t count, PyObject *names);
 
 #endif
