@@ -1,9 +1,11 @@
 """Tests of the extension: columns, arguments, and what threads do to one handle."""
 
+import copy
 import ctypes
 import gc
 import inspect
 import os
+import pickle
 import signal
 import subprocess
 import sys
@@ -120,6 +122,12 @@ class Arguments(unittest.TestCase):
                     with self.assertRaises(TypeError):
                         wrong()
                 self.assertEqual((version.get(2**64, "k"), version.get(-1, "k"), version.kind(0, "k")), (None, None, None))
+
+    def test_copies_of_a_batch(self):
+        batch = bestore.Batch().new_node().set(1, "k", "v").make_index("k", bestore.INT32)
+        for made in (copy.copy(batch), copy.deepcopy(batch), pickle.loads(pickle.dumps(batch))):
+            made.unset(2, "x")
+            self.assertEqual((list(made)[:3], len(batch), len(made)), (list(batch), 3, 4))
 
     def test_batch_that_is_changed_at_once(self):
         """Calls of two threads on one batch, and a write of what it has, don't disturb one another."""

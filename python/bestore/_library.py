@@ -179,8 +179,3 @@ def check(answer: int, carried: Optional[int] = None, query: Optional[str] = Non
     query that was asked, and what the call takes a list of."""
     if answer != 0:
         raise refusal(answer, carried, query, listed)
-
-
-def words(count: int) -> "ctypes.Array[ctypes.c_uint64]":
-    """Room for so many numbers, and for one at least: the library wants a pointer also to nothing."""
-    return (ctypes.c_uint64 * max(count, 1))()

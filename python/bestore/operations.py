@@ -5,7 +5,7 @@ from __future__ import annotations
 import ctypes
 import struct
 from dataclasses import dataclass
-from typing import Iterable, Iterator, List, Optional, Tuple, Union
+from typing import Callable, Iterator, List, Optional, Tuple, Type, Union
 
 from . import _native
 from ._library import Counts, Operation as RawOperation
@@ -84,6 +84,9 @@ class Batch(_native.Batch):
     def __repr__(self) -> str:
         return f"<batch of {len(self)} operations>"
 
+    def __reduce__(self) -> Tuple[Callable[..., Batch], Tuple[Type[Batch], bytes, bytes]]:
+        return _copied, (type(self), self._raw, self._bytes)
+
     @property
     def _operations(self) -> List[RawOperation]:
         """The operations, as the library takes them."""
@@ -125,12 +128,17 @@ class Batch(_native.Batch):
 _native.know(batch=Batch)
 
 
+def _copied(kind: Type[Batch], operations: bytes, texts: bytes) -> Batch:
+    """A batch of this class with these operations, as the library takes them."""
+    batch = kind()
+    batch._put(operations, texts)
+    return batch
+
+
 def batch_of(counts: Counts, operations: "ctypes.Array[RawOperation]", texts: "ctypes.Array[ctypes.c_char]") -> Batch:
     """The batch that a call of the library wrote."""
-    batch = Batch()
     size = counts.operations * ctypes.sizeof(RawOperation)
-    batch._put(ctypes.string_at(operations, size), texts.raw[:counts.bytes])
-    return batch
+    return _copied(Batch, ctypes.string_at(operations, size), texts.raw[:counts.bytes])
 
 
 def _read_back(kind: int, code: int, node: int, number: int, name: bytes, value: bytes) -> Operation:
