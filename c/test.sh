@@ -188,6 +188,8 @@ export PYTHONDONTWRITEBYTECODE=1
 python=(env BESTORE_LIBRARY="$PWD/libbestore.so" PYTHONPATH=../python python3 -W error)
 run Python "${python[@]}" -m unittest discover -q -s ../python
 "${python[@]}" ../examples/python/first.py | cmp - <(echo "1 ann")
+"${python[@]}" ../bench/python.py --rounds 1 --nodes 100 --seconds 0.001 >"$work/said" 2>&1 ||
+    { cat "$work/said" >&2; echo "bench/python.py: failed" >&2; exit 1; }
 if [ -x $program ]; then
     run "the library and the program" "${python[@]}" ../python/alike.py $program
 else
