@@ -419,6 +419,7 @@ def main() -> None:
         title, case, count = options.one
         asked = asked_of(peer := PEERS[title](options.nodes), case, options.nodes, MANY, random.Random(1))
         timed(peer, case, asked[:int(count)])
+        peer.close()
         return
     peers = made(options.nodes)
     compare(peers, options.nodes)
