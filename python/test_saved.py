@@ -365,7 +365,7 @@ class Timed(Files):
 
     def test_saving_that_ends(self):
         """After an error the thread that saves is gone, and writes are refused."""
-        with self.assertRaises(saved.Stopped), saved.open(self.path, 64, every=0) as store:
+        with self.assertRaises(saved.Stopped), saved.open(self.path, every=0) as store:
             with mock.patch.object(saved._Saver, "_save_all", side_effect=bestore.NoMemory()):
                 with self.assertRaises(saved.Stopped) as stopped:
                     while True:

@@ -6,7 +6,7 @@ import ctypes
 import struct
 from typing import List, Optional, Tuple
 
-from ._library import Operation as RawOperation, calls, words
+from ._library import Operation as RawOperation, calls
 from .errors import refusal
 from .local import LocalPass
 from .operations import BEGINNING, MAKE_INDEX, MOST_OPERATIONS, NEW, REMOVE, REMOVE_INDEX, SET, UNSET, Batch
@@ -22,7 +22,7 @@ class Repeater:
     """Applies batches to a store that nobody else uses. The names and values stay where they are in the batch's bytes."""
 
     def __init__(self, user: LocalPass) -> None:
-        self._user, self._made, self._number = user, words(MOST_OPERATIONS), ctypes.c_uint64()
+        self._user, self._made, self._number = user, (ctypes.c_uint64 * MOST_OPERATIONS)(), ctypes.c_uint64()
         self._room = bytearray(MOST_OPERATIONS * _RAW.size)
         self._operations = (RawOperation * MOST_OPERATIONS).from_buffer(self._room)
 

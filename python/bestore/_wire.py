@@ -6,7 +6,6 @@ import base64
 import json
 from typing import Any, Dict, List
 
-from ._library import Operation as RawOperation
 from .errors import NoKind, NotUTF8, NoValue, decoded
 from .operations import (
     MAKE_INDEX, NEW, REMOVE, SET, UNSET, Batch, MakeIndex, NewNode, Operation, RemoveIndex, RemoveNode, SetAttribute,
@@ -47,9 +46,9 @@ def decode_line(line: bytes) -> JSON:
     return found
 
 
-def _value(raw: RawOperation, value: bytes) -> object:
+def _value(code: int, number: int, value: bytes) -> object:
     """The value of an operation. `NoValue` if its kind doesn't hold it."""
-    kind, decoded_value = _kind(raw.code), decode_value(raw.code, raw.number, value)
+    kind, decoded_value = _kind(code), decode_value(code, number, value)
     if kind in RANGES and decoded_value not in RANGES[kind]:
         raise NoValue()
     if kind in (Kind.STRING, Kind.INT64):
@@ -65,17 +64,17 @@ def _kind(code: int) -> Kind:
     return KIND_OF[code]
 
 
-def _operation(raw: RawOperation, name: bytes, value: bytes) -> List[object]:
-    if raw.kind == NEW:
+def _operation(kind: int, code: int, node: int, number: int, name: bytes, value: bytes) -> List[object]:
+    if kind == NEW:
         return ["new"]
-    if raw.kind == REMOVE:
-        return ["remove", raw.node]
-    if raw.kind == SET:
-        return ["set", raw.node, decoded(name), _value(raw, value)]
-    if raw.kind == UNSET:
-        return ["unset", raw.node, decoded(name)]
-    if raw.kind == MAKE_INDEX:
-        return ["index", decoded(name), _NAMES[_kind(raw.code)]]
+    if kind == REMOVE:
+        return ["remove", node]
+    if kind == SET:
+        return ["set", node, decoded(name), _value(code, number, value)]
+    if kind == UNSET:
+        return ["unset", node, decoded(name)]
+    if kind == MAKE_INDEX:
+        return ["index", decoded(name), _NAMES[_kind(code)]]
     return ["unindex", decoded(name)]
 
 

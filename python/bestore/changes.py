@@ -4,7 +4,7 @@ from __future__ import annotations
 
 from typing import TYPE_CHECKING, ClassVar, Dict, Iterator, List, MutableMapping, Optional, Set, Tuple
 
-from .errors import BadCount, NoAttribute, NoNode, NotPinned, WrongKind
+from .errors import BadCount, NoAttribute, NoNode, NotPinned, WrongKind, encoded
 from .operations import MOST_OPERATIONS, SET, Batch
 from .queries import Prepared
 from .values import KIND_OF, RANGES, Encoded, Kind, Typed, Value, encode_value, typed_value
@@ -27,7 +27,6 @@ class Change(Version):
 
     def __init__(self, user: Pass, check_kinds: bool = True) -> None:
         self._snapshot = user.pin()
-        self.number = self._snapshot.number
         self._batch, self._check_kinds = Batch(), check_kinds
         self._next: Optional[int] = None
         self._kinds: Optional[Dict[str, int]] = None
@@ -71,7 +70,7 @@ class Change(Version):
         code, number, taken = encode_value(value, kind)
         batch = self._collecting()
         self._check_kind(name, code)
-        batch._add(SET, node, name, code, number, taken)
+        batch._add_encoded(SET, node, encoded(name), code, number, taken)
         self._set.setdefault(node, {})[name] = code, number, taken
 
     def _check_kind(self, name: str, kind: Kind) -> None:
@@ -134,6 +133,14 @@ class Change(Version):
         return ChangedAttributes(self, node)
 
     # What reads the snapshot alone.
+
+    @property
+    def number(self) -> int:
+        return self._snapshot.number
+
+    @property
+    def _is_pinned(self) -> bool:
+        return self._snapshot._is_pinned
 
     def unpin(self) -> None:
         self._snapshot.unpin()

@@ -21,6 +21,7 @@ from __future__ import annotations
 
 import operator
 import os
+import threading
 import time
 from contextlib import suppress
 from functools import partial
@@ -35,12 +36,14 @@ from ._journal import line_of
 from ._wire import (
     JSON, PROTOCOL, operations_of, read_entry, read_kind, read_nodes, read_operation, read_value)
 from .errors import (
-    BadCount, Closed, Error, Forked, NameLength, NoAttribute, NotCovered, NotPinned, Pinned, TooLong, encoded, encoded_query)
+    BadCount, Closed, Error, Forked, NameLength, NoAttribute, NoNode, NotCovered, NotPinned, Pinned, TooLong, encoded,
+    encoded_query)
+from .handles import LockOwner
 from .local import seen_in_library
 from .operations import MOST_OPERATIONS, NEW, Batch
 from .queries import Prepared, prepare_items
 from .store import TRIES, Entry, Held, Pass, Status
-from .values import RANGES, Kind, Typed, node_number
+from .values import RANGES, Kind, Typed, plain
 from .versions import Query, Version, not_covered
 
 __all__ = [
@@ -86,10 +89,16 @@ def _read_server(hello: JSON) -> Tuple[Server, int]:
 class ConnectedVersion(Version):
     """A version of a server's store. Each read is a round trip, and more than one if the reply has several pages."""
 
+    _is_pinned = False
+
     def __init__(self, user: ConnectedPass) -> None:
-        self._user, self._is_pinned = user, False
-        self.number, self._next = user._pin()
+        self._user = user
+        self._number, self._next = user._pin()
         self._is_pinned = True
+
+    @property
+    def number(self) -> int:
+        return self._number
 
     def __del__(self) -> None:
         if self._is_pinned:
@@ -147,7 +156,7 @@ class ConnectedVersion(Version):
         """As in a version of a store in this process, up to this version. All nodes of the query come through the socket,
         and the program's memory has them until the query is closed. By `ConnectedPass.watch` only the changes come."""
         prepared._check_process()
-        with prepared._lock:
+        with prepared._refreshing:
             found = set(self._nodes_of(prepared))
             seen = prepared._seen
             if seen is None:
@@ -170,7 +179,7 @@ class ConnectedVersion(Version):
     def _read(self, node: int, name: str) -> Typed:
         encoded(name)
         try:
-            value = self._ask("get", {"node": node_number(node), "name": name}, _read_attribute)
+            value = self._ask("get", {"node": _node_number(node), "name": name}, _read_attribute)
         except LineTooLong:
             raise NameLength() from None
         if value is None:
@@ -178,10 +187,18 @@ class ConnectedVersion(Version):
         return value
 
     def _listed(self, node: int) -> Dict[str, Typed]:
-        return self._ask("attributes", {"node": node_number(node)}, _read_attributes)
+        return self._ask("attributes", {"node": _node_number(node)}, _read_attributes)
 
     def _nodes_from(self, first: int, room: int) -> List[int]:
         return self._ask("nodes", {"from": first, "limit": room}, lambda ok: read_nodes(ok["nodes"]))
+
+
+def _node_number(node: int) -> int:
+    """A node's number, which 64 bits hold."""
+    number = plain(node)
+    if number not in RANGES[Kind.UINT64]:
+        raise NoNode()
+    return number
 
 
 def _text_of(asked: Query) -> str:
@@ -234,13 +251,15 @@ def _take_push(watches: "WeakValueDictionary[int, Watch]", push: JSON) -> None:
         watch._take(push)
 
 
-class ConnectedPass(Pass):
+class ConnectedPass(LockOwner, Pass):
     """A pass of a server's store: a connection. The calls of several threads on it wait for one another, so each thread has a
     pass of its own."""
 
     def __init__(self, path: str, timeout: Optional[float], run: Optional[str] = None) -> None:
         self._connection: Optional[Connection] = None
         super().__init__()
+        self._changing: Optional[int] = None  # the thread that runs the function of a change
+        self._committed = 0
         self._is_asking = self._has_pin = self._is_left = False
         self._watches: "WeakValueDictionary[int, Watch]" = WeakValueDictionary()
         self._ended: List[int] = []  # watches that went, and that the server still has
@@ -285,6 +304,14 @@ class ConnectedPass(Pass):
         self._is_asking = False
         if self._is_left:
             self._unpin_left()
+
+    @property
+    def _is_changing(self) -> bool:
+        return self._changing == threading.get_ident()
+
+    @_is_changing.setter
+    def _is_changing(self, is_changing: bool) -> None:
+        self._changing = threading.get_ident() if is_changing else None
 
     @property
     def _is_open(self) -> bool:

@@ -22,7 +22,6 @@ thinks there that the parent's handle is its own.
 from __future__ import annotations
 
 import atexit
-import ctypes
 import operator
 import os
 import threading
@@ -31,15 +30,14 @@ from types import TracebackType
 from typing import Any, Dict, List, Optional, Tuple, Type, Union
 
 from . import local as _local
-from ._library import Counts, Operation as RawOperation, calls, check, words
+from ._library import calls, check
 from ._saved_errors import (
     Differs, DiskFull, Foreign, Held, Newer, NotSaved, SavedError, SqliteError, Stopped, TooLarge, refused)
 from ._saved_file import File, Row
 from ._saved_line import Line, Turn
 from ._saved_rows import Repeater
 from .errors import BadLimits, Error
-from .operations import BYTES_OF_A_BATCH, MOST_OPERATIONS, Batch, batch_of
-from .values import RANGES, Kind
+from .operations import Batch
 
 __all__ = [
     "Differs", "DiskFull", "Foreign", "Held", "Newer", "NotSaved", "Saved", "SavedError", "SavedPass", "SqliteError",
@@ -47,31 +45,21 @@ __all__ = [
 ]
 
 _MOST_ROWS = 1024  # how many entries a commit has at most
-_SHORT = 8  # how many operations a write has at most that is made by a quick call
 _TRIES = 2**63 - 1  # for as long as other passes write: an entry that can't be read would end all saving
-
-
-# The calls that write, made without letting other threads run meanwhile: a short write is made before one of them is awake.
-_quick = ctypes.PyDLL(calls._name, handle=calls._handle)
-for _name in ("bes_apply", "bes_apply_if"):
-    getattr(_quick, _name).argtypes, getattr(_quick, _name).restype = getattr(calls, _name).argtypes, ctypes.c_uint32
 
 
 class _Reader:
     """Reads entries of the journal as bytes, by a pass that nobody else uses."""
 
     def __init__(self, user: _local.LocalPass) -> None:
-        self._user, self._operations = user, (RawOperation * MOST_OPERATIONS)()
-        self._texts = ctypes.create_string_buffer(BYTES_OF_A_BATCH)
-        self._by, self._length, self._counts = ctypes.c_uint64(), ctypes.c_uint64(), Counts()
-        self._arguments = (
-            ctypes.byref(self._by), ctypes.byref(self._counts), self._operations, MOST_OPERATIONS, self._texts,
-            BYTES_OF_A_BATCH, ctypes.byref(self._length))
+        self._user = user
 
     def read(self, number: int) -> Tuple[int, bytes]:
         """The pass and the batch of the entry with this commit number."""
-        check(self._user._tried(_TRIES, calls.bes_journal_from, number - 1, *self._arguments), self._length.value)
-        return self._by.value, batch_of(self._counts, self._operations, self._texts).to_bytes()
+        answer, carried, by, batch = self._user._repeated(_TRIES, self._user._journal_entry, number - 1)
+        check(answer, carried)
+        assert batch is not None
+        return by, batch.to_bytes()
 
 
 class _Saver:
@@ -235,8 +223,6 @@ class SavedPass(_local.LocalPass):
         super().__init__()
         self._saver, self._first = saver, first  # which stays, so that the file isn't closed
         self._own_number: Optional[int] = None
-        self._operations, self._made, self._committed = (RawOperation * _SHORT)(), words(_SHORT), ctypes.c_uint64()
-        self._committed_pointer = ctypes.byref(self._committed)
 
     def _write(self, batch: Batch, tries: int, expected: Optional[int]) -> Tuple[int, List[int]]:
         self._check_process()
@@ -244,30 +230,9 @@ class SavedPass(_local.LocalPass):
         saver.check()
         if self._own_number is None:
             self._own_number = self.number
-        written = self._written_at_once(batch, expected) if len(batch._operations) <= _SHORT else None
-        if written is None:
-            written = super()._write(batch, tries, expected)
-        self.committed = written[0]
+        written = super()._write(batch, tries, expected)
+        self._committed = written[0]
         saver.keep(written[0], self._own_number, batch, written[1])
-        return written
-
-    def _written_at_once(self, batch: Batch, expected: Optional[int]) -> Optional[Tuple[int, List[int]]]:
-        """Writes a short batch by one call, without letting other threads run. Returns None if it isn't accepted, and nothing
-        is written then."""
-        operations, taken, made, count = self._operations, batch._bytes, self._made, len(batch._operations)
-        before = () if expected is None else (expected,)
-        if before and expected not in RANGES[Kind.UINT64]:
-            return None
-        call = _quick.bes_apply_if if before else _quick.bes_apply
-        with self._lock:
-            operations[:count] = batch._operations
-            answer = call(
-                self._pointer, *before, operations, count, taken, len(taken), made, count, self._committed_pointer)
-            if answer != 0:
-                return None
-            written = self._committed.value, made[:count]
-        if self._is_left:
-            self._unpin_left()
         return written
 
     def another(self) -> SavedPass:

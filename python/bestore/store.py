@@ -3,7 +3,6 @@
 from __future__ import annotations
 
 import random
-import threading
 import time
 from abc import ABC, abstractmethod
 from functools import partial
@@ -86,13 +85,13 @@ class Pass(Owner, ABC):
 
     Each thread has a pass of its own, since the calls on one pass wait for one another."""
 
-    committed: int
-    """The commit number of the last write that this pass made, or 0 before the first."""
+    _committed: int
+    _is_changing: bool  # whether this thread runs the function of a change
 
-    def __init__(self) -> None:
-        super().__init__()
-        self._changing: Optional[int] = None  # the thread that runs the function of a change
-        self.committed = 0
+    @property
+    def committed(self) -> int:
+        """The commit number of the last write that this pass made, or 0 before the first."""
+        return self._committed
 
     @property
     @abstractmethod
@@ -179,11 +178,11 @@ class Pass(Owner, ABC):
     def _run(self, function: Callable[[Change], _Result], change: Change) -> _Result:
         """Runs the function of a change, and gives the snapshot up."""
         with change:
-            self._changing = threading.get_ident()
+            self._is_changing = True
             try:
                 return function(change)
             finally:
-                self._changing = None
+                self._is_changing = False
 
     def apply(self, batch: Batch, tries: int = TRIES) -> Tuple[int, List[int]]:
         """Applies a batch, all or none, whatever other passes have written meanwhile. Returns the commit number, and
@@ -208,10 +207,10 @@ class Pass(Owner, ABC):
             raise
 
     def _written(self, batch: Batch, tries: int, expected: Optional[int] = None) -> Tuple[int, List[int]]:
-        if self._changing == threading.get_ident():
+        if self._is_changing:
             raise Nested()
         written = self._write(batch, tries, expected)
-        self.committed = written[0]
+        self._committed = written[0]
         return written
 
     def new_node(self) -> int:
