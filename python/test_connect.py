@@ -20,6 +20,7 @@ import test_bestore
 import test_changes
 import test_fork
 import test_language
+import test_native
 from bestore import connected
 from servers import BESTORED, PATIENCE, OverServer, Server
 
@@ -33,7 +34,8 @@ UNFIT = {
     "test_limits": "the limits are the server's",
     "test_closed_is_given_again": "it meets a pass",
     "test_numbers": "it meets a pass",
-    "test_more_than_the_first_room": "it counts calls of the library",
+    "test_long": "each attribute is a round trip",
+    "test_many_names": "each attribute is a round trip",
     "test_gone_beside_a_call": "it makes calls of the library",
     "test_lock_of_a_thread_that_is_not_there": "it makes calls of the library",
     "test_store_of_the_child": "nobody would end the child's server",
@@ -57,6 +59,7 @@ for _module, _names in [
     (test_batches, "Operations Entries"),
     (test_language, "Patterns Covered Counts Hints NoTexts"),
     (test_fork, "Forks"),
+    (test_native, "Columns"),
 ]:
     for _name in _names.split():
         _made = over_server(getattr(_module, _name))
@@ -193,6 +196,18 @@ class Reading(WithServer):
         with self.store.pin() as version:
             operations = [operation for batch in version.state() for operation in batch]
             self.assertEqual(sum(isinstance(it, bestore.SetAttribute) for it in operations), 24 * 64)
+
+    def test_columns(self):
+        """They are the same as in a store of this process."""
+        def columns(store):
+            store.apply(bestore.Batch().new_node().new_node().set(1, "a", "x").set(2, "a", 2).set(2, "b", b"\0"))
+            nodes, names = [2, 1, 3, 2], ["b", "a", "none"]
+            with store.pin() as version:
+                found = version.columns(iter(nodes), names=iter(names)), version.column(iter(nodes), "a"), version.columns([], names)
+                self.assertEqual(found[0], [version.column(nodes, name) for name in names])
+            return found, store.change(lambda change: (change.set(1, "b", 5), change.columns(nodes, names))[1])
+        with _open(64, 1, 100) as store:
+            self.assertEqual(columns(self.store), columns(store))
 
     def test_the_journal_is_the_same_text(self):
         batches = [

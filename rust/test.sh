@@ -76,7 +76,10 @@ RUSTDOCFLAGS="-D warnings" run "Rust, documentation" doc --workspace --no-deps -
 # The client for Python, by the server that was built above.
 if ! command -v python3 >/dev/null; then
     echo "Python, over the server: skipped, there is no python3"
+elif [ ! -f "$(python3 -c 'import sysconfig; print(sysconfig.get_path("include"))')/Python.h" ]; then
+    echo "Python, over the server: skipped, there is no Python.h"
 else
+    make -s -C ../python
     BESTORED=$(realpath "$CARGO_TARGET_DIR/debug/bestored")
     export BESTORED
     if ! (cd ../python && timeout -k 10 600 env BESTORE_LIBRARY="$BESTORE_LIB_DIR/libbestore.so" PYTHONDONTWRITEBYTECODE=1 \

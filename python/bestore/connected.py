@@ -8,7 +8,8 @@ versions, changes, batches and prepared queries of `bestore.open` it does with t
 
 **What differs.** A call takes a round trip. The server tries again at `Busy` and at `Full`, so `tries` changes nothing. It
 takes back a snapshot that is kept too long, and reads of it then are `Expired`. `another` may be called in any thread.
-`meet` is `Unavailable`. `flush` and `compact` are there, and `watch` waits for what others write.
+`column` and `columns` take a round trip for each attribute. `meet` is `Unavailable`. `flush` and `compact` are there, and
+`watch` waits for what others write.
 
 **Errors** are those of the library. Those of the connection are a `ServerError`. Once a connection is broken all later calls
 on its pass are `Disconnected`; the program connects again. If the broken call was a write, `may_be_done` says whether it may
@@ -177,6 +178,8 @@ class ConnectedVersion(Version):
                 yield batch
 
     def _read(self, node: int, name: str) -> Typed:
+        if not isinstance(name, str):
+            raise TypeError(f"{name!r} is no name")
         encoded(name)
         try:
             value = self._ask("get", {"node": _node_number(node), "name": name}, _read_attribute)
